@@ -1,0 +1,12 @@
+pub mod Attributes
+pub mod RenditionByte
+pub mod Table
+pub mod Cells
+pub mod Picture
+pub mod Moves
+pub mod Scrolls
+pub mod Puts
+pub mod Erasures
+pub mod Lines
+pub mod Tabs
+pub mod Places
