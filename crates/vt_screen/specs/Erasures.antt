@@ -3,6 +3,7 @@ use Rattle.std.specs.Prelude.{ℕ, zero, suc, Bool, true, false, not, List, nat_
 use Rattle.std.specs.List.{list_all, range_with_len}
 use Rattle.vt_screen.specs.declared.cell.Size.{Size}
 use Rattle.vt_screen.specs.declared.cell.Size.TheVariants.{Single}
+use Rattle.vt_screen.specs.declared.cell.Row.{Row}
 use Rattle.vt_screen.specs.Cells.{blank, cell_at, row_at, is_single, rows_by, row_by}
 use Rattle.vt_screen.specs.Picture.{Picture, right_margin}
 use Rattle.vt_screen.specs.Puts.{with_row}
@@ -41,10 +42,13 @@ display_erased part p = record p {
   wrap = p.wrap && (is_single (row_at p.rows p.line).size || not (erased_whole part p p.line));
 }
 
+-- a row whose cells of a part are blank
+abbrev pub part_erased : ℕ → ℕ → Row → Row
+part_erased part cursor row =
+    row_by row.size (λ column. if in_line_part part cursor column then blank else cell_at row column)
+
 -- EL: the cells of the part on the cursor's line are blank, and sizes stay
 abbrev pub line_erased : ℕ → Picture → Picture
-line_erased part p =
-    let row = row_at p.rows p.line in
-    record p {
-      rows = with_row p.line (row_by row.size (λ column. if in_line_part part p.column column then blank else cell_at row column)) p.rows;
-    }
+line_erased part p = record p {
+  rows = with_row p.line (part_erased part p.column (row_at p.rows p.line)) p.rows;
+}

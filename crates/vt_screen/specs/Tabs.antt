@@ -8,13 +8,14 @@ use Rattle.vt_screen.specs.Picture.{Picture, right_margin}
 abbrev pub stop_at : List Bool → ℕ → Bool
 stop_at tabs column = nth false tabs column
 
--- HT: to the first stop right of the cursor and up to the right margin, or to the right margin where
--- there is none (EK-VT100-UG chapter 3; at most to the margin: profile)
+-- the first stop right of a column and up to the margin, or the margin where there is none
+abbrev pub stop_after : List Bool → ℕ → ℕ → ℕ
+stop_after tabs column margin =
+    unwrap_or (find (stop_at tabs) (range_with_len (column + 1) (margin - column))) margin
+
+-- HT (EK-VT100-UG chapter 3; at most to the right margin: profile)
 abbrev pub tabbed : Picture → Picture
-tabbed p =
-    let margin = right_margin p p.line in
-    let right = range_with_len (p.column + 1) (margin - p.column) in
-    record p { column = unwrap_or (find (stop_at p.tabs) right) margin; wrap = false }
+tabbed p = record p { column = stop_after p.tabs p.column (right_margin p p.line); wrap = false }
 
 -- HTS, or TBC at the cursor's column: whether a tab stops there
 abbrev pub tab_made : Bool → Picture → Picture

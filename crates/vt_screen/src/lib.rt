@@ -4,7 +4,11 @@
 #![tactic(auto)]
 
 mod cell;
+mod grid;
+pub mod laws;
 mod rendition;
+mod screen;
 
 pub use cell::{Cell, Row, Size};
 pub use rendition::Rendition;
+pub use screen::Screen;
