@@ -1,0 +1,21 @@
+//! Terminal recordings of script(1): a typescript and its timing file, read into a [`Recording`].
+#![tactic(auto)]
+
+mod bytes;
+mod chunk;
+pub mod devices;
+mod digits;
+pub mod fault;
+mod fields;
+mod reading;
+mod recording;
+mod seconds;
+mod timing;
+
+pub use bytes::Bytes;
+pub use chunk::Chunk;
+pub use devices::{Watched, slurp};
+pub use fault::Fault;
+
+pub use recording::Recording;
+pub use seconds::read_seconds;
