@@ -8,7 +8,6 @@ use Rattle.std.proofs.lemmas.List.{get_or_default, get_or_past, get_or-append-ad
 use Rattle.std.proofs.Math.ListN.{get_or-append}
 use Rattle.std.proofs.lemmas.Bool.Decides.{nat_tests}
 use Rattle.std.proofs.Math.Nat.{pow-suc}
-use Rattle.std.proofs.lemmas.Grind.{common_steps}
 use Rattle.std.proofs.lemmas.Int.Digits.{digits_value_more}
 use Rattle.std.proofs.lemmas.Str.{digit_value_digit}
 
@@ -31,17 +30,17 @@ capped_more ds i most n d all lt here is =
 pub filled_at : (ds : List ℕ) (i : ℕ) → i < 6 → get_or (ds ++ replicate 6 48) i 0 ≡ get_or ds i 48
 filled_at ds i h =
     elim (cases_lt i (length ds)) [
-      inl lt ↦ get_or-append ds (replicate 6 48) 0 i lt ∙ get_or_default ds i 0 48 lt
-    | inr ge ↦ let at : length ds + (i - length ds) ≡ i = omega arith in
-        ap (λ k. get_or (ds ++ replicate 6 48) k 0) (sym at) ∙ get_or-append-add ds (replicate 6 48) (i - length ds) 0 ∙ get_or-replicate 6 (i - length ds) 48 0 (omega arith)
-        ∙ sym (get_or_past ds i 48 ge)
+      | inl lt ↦ get_or-append ds (replicate 6 48) 0 i lt ∙ get_or_default ds i 0 48 lt
+      | inr ge ↦ let at : length ds + (i - length ds) ≡ i = omega arith in
+          ap (λ k. get_or (ds ++ replicate 6 48) k 0) (sym at) ∙ get_or-append-add ds (replicate 6 48) (i - length ds) 0 ∙ get_or-replicate 6 (i - length ds) 48 0 (omega arith)
+          ∙ sym (get_or_past ds i 48 ge)
     ]
 
 pub digit_filled : (ds : List ℕ) (i : ℕ) → AllPass is_ascii_digit ds → is_ascii_digit (get_or ds i 48) ≡ true
 digit_filled ds i all =
     elim (cases_lt i (length ds)) [
-      inl lt ↦ all i 48 lt
-    | inr ge ↦ rw (get_or_past ds i 48 ge) refl
+      | inl lt ↦ all i 48 lt
+      | inr ge ↦ rw (get_or_past ds i 48 ge) refl
     ]
 
 -- one more of the first six decimals

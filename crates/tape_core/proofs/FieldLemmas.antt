@@ -1,6 +1,6 @@
 -- Fields and lines of a text, cut off at the front.
-use Rattle.std.proofs.Common.{◌≡◌, ℕ, suc, ◌+◌, ◌-◌, ◌<◌, ◌≤◌, ◌==◌, Bool, true, false, not, cond, List, [], ◌∷◌, ◌++◌, length, get_or, take, drop, filter, nat_lt, nat_eq, refl, ap, sym, ◌∙◌, arith, one-add, add-one, length-take, drop-cons, inl, inr, ◌⊎◌}
-use Rattle.std.specs.List.{slice_split, onto_first, prefix_len, position_or_len, before_first, after_first, All}
+use Rattle.std.proofs.Common.{◌≡◌, ℕ, suc, ◌+◌, ◌-◌, ◌<◌, ◌≤◌, ◌==◌, Bool, true, false, not, cond, List, [], ◌∷◌, length, get_or, take, drop, filter, nat_lt, nat_eq, refl, ap, sym, ◌∙◌, arith, one-add, add-one, length-take, drop-cons, inl, inr, ◌⊎◌}
+use Rattle.std.specs.List.{slice_split, prefix_len, position_or_len, before_first, after_first, All}
 use Rattle.std.proofs.Math.ListN.{drop_of_length-le}
 use Rattle.std.proofs.lemmas.Bool.{cases_lt, lt-ltb}
 use Rattle.std.proofs.lemmas.Bool.Decides.{nat_tests}

@@ -1,3 +1,5 @@
 pub mod DeviceLemmas
 pub mod DigitLemmas
+pub mod DueLemmas
 pub mod FieldLemmas
+pub mod TimingLemmas

@@ -1,5 +1,5 @@
 -- Moments and delays as decimal seconds, read as whole microseconds.
-use Rattle.std.specs.Prelude.{◌≡◌, ℕ, ◌+◌, ◌*◌, ◌^◌, ◌<◌, ◌⊎◌, Bool, ◌&&◌, List, [], ◌∷◌, ◌++◌, length, take, replicate, Option, Some, None, ◌==◌, nat_lt, if◌then◌else◌, min}
+use Rattle.std.specs.Prelude.{◌≡◌, ℕ, ◌+◌, ◌*◌, ◌<◌, ◌⊎◌, ◌&&◌, List, [], ◌∷◌, ◌++◌, length, take, replicate, Option, Some, None, ◌==◌, nat_lt, if◌then◌else◌, min}
 use Rattle.std.specs.Char.{is_ascii_digit}
 use Rattle.std.specs.List.{AllPass, before_first, after_first, list_all}
 use Rattle.std.specs.Option.{option_map}

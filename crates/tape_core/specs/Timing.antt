@@ -1,10 +1,9 @@
 -- The timing file, line by line: what a line says, and which fault it has.
-use Rattle.std.specs.Prelude.{◌≡◌, ℕ, ◌+◌, ◌<◌, ◌⊎◌, Bool, false, ◌||◌, ◌&&◌, List, [], ◌∷◌, ◌++◌, length, filter, Option, Some, None, Result, Ok, Err, ◌==◌, nat_lt, nat_le, if◌then◌else◌, sum_by}
+use Rattle.std.specs.Prelude.{◌≡◌, ℕ, ◌+◌, ◌<◌, ◌≤◌, ◌⊎◌, All, Bool, false, ◌||◌, ◌&&◌, List, [], ◌∷◌, ◌++◌, length, filter, Option, Some, None, Result, Ok, Err, ◌==◌, nat_lt, nat_le, if◌then◌else◌, sum_by}
 use Rattle.std.specs.Char.{is_ascii_digit}
 use Rattle.std.specs.List.{AllPass, list_all, slice_split, filter_map}
 use Rattle.std.specs.Option.{option_map, option_or}
 use Rattle.std.specs.Str.Parse.{digits_value}
-use Rattle.tape_core.specs.declared.chunk.Chunk.{Chunk}
 use Rattle.tape_core.specs.declared.timing.Entry.{Entry}
 use Rattle.tape_core.specs.declared.timing.LineFault.{LineFault}
 use Rattle.tape_core.specs.declared.timing.LineFault.TheVariants as line
@@ -139,3 +138,13 @@ first_fault before (text ∷ rest) = option_or (fault_after before text) (first_
 
 abbrev pub timing_fault : List ℕ → Option Fault
 timing_fault timing = first_fault [] (lines_of timing)
+
+-- The limits of one entry, and of all together. Profile.
+pub record IsWithin (entry : Entry) : Type 0 where
+  pub delay : entry.delay ≤ longest_delay
+  pub count : entry.count ≤ longest_chunk
+
+pub record AreWithin (entries : List Entry) : Type 0 where
+  pub few : length entries ≤ most_chunks
+  pub each : All IsWithin entries
+  pub bytes : counted_bytes entries ≤ longest_body

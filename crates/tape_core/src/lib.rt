@@ -16,6 +16,5 @@ pub use bytes::Bytes;
 pub use chunk::Chunk;
 pub use devices::{Watched, slurp};
 pub use fault::Fault;
-
 pub use recording::Recording;
 pub use seconds::read_seconds;

@@ -1,5 +1,6 @@
 //! A recording, and when its chunks are due.
-ghost use Rattle.std.specs.Prelude.{◌≡◌, ◌<◌, IfOk, length};
+ghost use Rattle.std.specs.Prelude.{◌≡◌, ◌<◌, ◌≤◌, length};
+ghost use Rattle.std.specs.List.Sorted.{IsNonDecreasing, IsPartitionPoint};
 ghost use Rattle.tape_core.specs.Tape.{body_len};
 ghost use Rattle.tape_core.specs.Due.{due_count, due_time, play_length};
 
@@ -78,6 +79,15 @@ impl Recording {
     pub fn due_count(&self, moment: u64) -> usize
         ensures { result ≡ due_count self.now.chunks moment }
     {
-        self.dues.as_slice().partition_point(|due| *due <= moment)
+        up_to(self.dues.as_slice(), moment)
     }
+}
+
+/// How many of the due times, which rise, are at most the moment.
+fn up_to(dues: &[u64], moment: u64) -> usize
+    requires { IsNonDecreasing dues.now }
+    ensures within { result ≤ length dues.now }
+    ensures point { IsPartitionPoint (λ due. due ≤ moment) (λ due. moment < due) dues.now result }
+{
+    dues.partition_point(|due| *due <= moment)
 }

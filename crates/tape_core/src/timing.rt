@@ -1,16 +1,15 @@
 //! The classic timing format: a line for each output, with its delay and its count.
-ghost use Rattle.std.specs.Prelude.{◌≡◌, ◌≤◌, ◌≢◌, None, Some, All, IfOk, IfErr, length, min};
+ghost use Rattle.std.specs.Prelude.{◌≡◌, ◌≤◌, ◌≢◌, None, Some, All, IfOk, IfErr, IfSome, length, min};
 ghost use Rattle.std.specs.Option.{option_map};
 ghost use Rattle.tape_core.specs.Seconds.{last_moment};
-ghost use Rattle.tape_core.specs.Timing.{at_line, begins_with_letter, count_of, counted_bytes, delay_of, entries_of, entry_of, fields, lines_of, only_count, timing_fault};
-ghost use Rattle.tape_core.specs.Tape.{longest_body, longest_chunk, longest_delay, most_chunks};
+ghost use Rattle.tape_core.specs.Timing.{AreWithin, IsWithin, at_line, begins_with_letter, count_of, delay_of, entries_of, entry_of, fields, lines_of, only_count, timing_fault};
 ghost use Rattle.tape_core.specs.declared.fault.Fault.TheVariants as fault;
 
 use crate::digits::{are_digits, number};
 use crate::fault::Fault;
 use crate::fields::{next_field, next_line};
 use crate::seconds::read_seconds;
-use std::alloc::Global;
+use std::alloc::{AllocError, Global};
 
 /// What a timing line says of its chunk: the delay in microseconds, and how many bytes it has.
 #[derive(Clone, Copy, Debug)]
@@ -88,7 +87,8 @@ fn has_letter_first(field: &[u8]) -> bool
 
 /// What a line says: None where it is blank, its entry, or its first fault.
 fn read_entry(text: &[u8]) -> Result<Option<Entry>, LineFault>
-    ensures { result ≡ entry_of text.now }
+    ensures said { result ≡ entry_of text.now }
+    ensures within { IfOk result (λ entry. IfSome entry IsWithin) }
 {
     let Some((first, rest)) = next_field(text) else {
         return Ok(None);
@@ -111,6 +111,7 @@ fn read_entry(text: &[u8]) -> Result<Option<Entry>, LineFault>
 pub fn read_timing(alloc: Global, timing: &[u8]) -> Result<Vec<Entry>, Fault>
     ensures entries { IfOk result (λ v. v.items ≡ entries_of (lines_of timing.now)) }
     ensures faultless { IfOk result (λ v. timing_fault timing.now ≡ None) }
+    ensures within { IfOk result (λ v. AreWithin v.items) }
     ensures fault { IfErr result (λ f. f ≢ fault.OutOfMemory → timing_fault timing.now ≡ Some f) }
 {
     let mut entries = Vec::new(alloc);
@@ -121,15 +122,17 @@ pub fn read_timing(alloc: Global, timing: &[u8]) -> Result<Vec<Entry>, Fault>
         let (text, after) = next_line(rest);
         rest = after;
         line += 1;
-        if let Some(entry) = read_entry(text).map_err(|f| f.at(line))? {
-            if entries.len() >= 1_000_000 {
-                return Err(Fault::TooManyChunks(line));
+        match read_entry(text) {
+            Err(fault) => return Err(fault.at(line)),
+            Ok(None) => {}
+            Ok(Some(_)) if entries.len() >= 1_000_000 => return Err(Fault::TooManyChunks(line)),
+            Ok(Some(entry)) => {
+                bytes += entry.count;
+                if bytes > 1_073_741_824 {
+                    return Err(Fault::TooManyBytes(line));
+                }
+                entries.push(entry).map_err(AllocError::from)?;
             }
-            bytes += entry.count;
-            if bytes > 1_073_741_824 {
-                return Err(Fault::TooManyBytes(line));
-            }
-            entries.push(entry).map_err(|_| Fault::OutOfMemory)?;
         }
     }
     Ok(entries)

@@ -1,8 +1,7 @@
-use Rattle.std.proofs.Common.{◌≡◌, ◌<◌, ◌≤◌, ◌∷◌, [], ℕ, length, drop, take, refl, ap, sym, ◌∙◌, arith}
-use Rattle.std.specs.List.{prefix_len, position_or_len, before_first}
+use Rattle.std.proofs.Common.{◌≡◌, ◌<◌, ◌≤◌, length, drop, refl, ap, sym, ◌∙◌, arith}
+use Rattle.std.specs.List.{prefix_len}
 use Rattle.std.proofs.lemmas.Bool.Decides.{nat_tests}
 use Rattle.std.proofs.Math.ListN.{drop_of_length-le}
-use Rattle.std.proofs.lemmas.Grind.{common_steps}
 use Rattle.tape_core.specs.Timing.{fields, is_blank}
 use Rattle.tape_core.proofs.FieldLemmas.{fields_trimmed, fields_word, trimmed_front}
 use Rattle.tape_core.proofs.fields.next_field.Goals as goal

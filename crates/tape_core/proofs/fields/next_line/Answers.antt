@@ -1,8 +1,6 @@
-use Rattle.std.proofs.Common.{◌≡◌, ◌-◌, ◌+◌, ◌<◌, ◌≤◌, ◌==◌, ◌∷◌, ℕ, length, drop, take, refl, ap, sym, ◌∙◌, arith}
-use Rattle.std.specs.List.{position_or_len, before_first, after_first}
+use Rattle.std.proofs.Common.{◌≡◌, ◌<◌, ◌≤◌, ◌==◌, length, refl, ◌∙◌, arith}
+use Rattle.std.specs.List.{position_or_len}
 use Rattle.std.proofs.Math.ListN.{drop_of_length-le}
-use Rattle.std.proofs.lemmas.Grind.{common_steps}
-use Rattle.tape_core.specs.Timing.{lines_of}
 use Rattle.tape_core.proofs.FieldLemmas.{behind, lines_first, lines_last}
 use Rattle.tape_core.proofs.fields.next_line.Goals as goal
 
