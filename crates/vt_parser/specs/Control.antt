@@ -33,7 +33,7 @@ class_of byte =
 
 -- one row of the table: on ground, inside a sequence, inside a string
 abbrev pub row : Turn → Turn → Turn → Turns
-row ground sequence text = record { ground = ground; sequence = sequence; text = text }
+row on_ground in_sequence in_string = record { on_ground = on_ground; in_sequence = in_sequence; in_string = in_string }
 
 -- The table of the control syntax (EK-VT100-UG chapter 3; BEL in a string, CAN and SUB, and the bytes from 128 on: profile).
 --                   on ground  in a sequence  in a string
@@ -48,9 +48,9 @@ turns_of High    = row Marks    Nothing        Nothing
 
 -- the cell of a row for a place
 abbrev pub turn_at : Turns → Place → Turn
-turn_at turns Ground = turns.ground
-turn_at turns Sequence = turns.sequence
-turn_at turns Text = turns.text
+turn_at turns Ground = turns.on_ground
+turn_at turns Sequence = turns.in_sequence
+turn_at turns Text = turns.in_string
 
 -- what is done with a byte that comes at a place
 abbrev pub turn_of : Place → ℕ → Turn

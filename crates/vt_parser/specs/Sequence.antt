@@ -187,5 +187,5 @@ meaning Ansi bytes =
     if is_control_begun (front bytes) then control_meaning (drop 2 (front bytes)) (final bytes)
     else escape_meaning (drop 1 (front bytes)) (final bytes)
 meaning Vt52Mode bytes =
-    if is_line_begun (front bytes) then address_meaning (slice_index bytes 2) (final bytes)
+    if is_line_begun (front bytes) then address_meaning (slice_index (front bytes) 2) (final bytes)
     else Some (Vt52 (final bytes))

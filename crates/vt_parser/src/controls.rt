@@ -53,9 +53,9 @@ pub enum Turn {
 /// A row of the table.
 #[derive(Clone, Copy)]
 pub struct Turns {
-    pub ground: Turn,
-    pub sequence: Turn,
-    pub text: Turn,
+    pub on_ground: Turn,
+    pub in_sequence: Turn,
+    pub in_string: Turn,
 }
 
 #[inline]
@@ -74,13 +74,13 @@ fn class_of(byte: u8) -> ByteClass
 }
 
 #[inline]
-fn row(ground: Turn, sequence: Turn, text: Turn) -> Turns
-    ensures { result ≡ row ground sequence text }
+fn row(on_ground: Turn, in_sequence: Turn, in_string: Turn) -> Turns
+    ensures { result ≡ row on_ground in_sequence in_string }
 {
     Turns {
-        ground,
-        sequence,
-        text,
+        on_ground,
+        in_sequence,
+        in_string,
     }
 }
 
@@ -105,9 +105,9 @@ fn turn_at(turns: Turns, place: Place) -> Turn
     ensures { result ≡ turn_at turns place }
 {
     match place {
-        Place::Ground => turns.ground,
-        Place::Sequence => turns.sequence,
-        Place::Text => turns.text,
+        Place::Ground => turns.on_ground,
+        Place::Sequence => turns.in_sequence,
+        Place::Text => turns.in_string,
     }
 }
 
