@@ -1,5 +1,5 @@
 -- The machine does with every byte what the raw bytes of the pending sequence say.
-use Rattle.std.proofs.Common.{◌≡◌, ℕ, Bool, true, false, ◌==◌, ◌||◌, cond, ltb, eqb, List, [], ◌∷◌, Option, Some, None, refl, sym, ap, ◌∙◌, subst, inl, inr, arith}
+use Rattle.std.proofs.Common.{◌≡◌, ℕ, Bool, true, false, ◌==◌, ◌||◌, cond, ltb, List, [], ◌∷◌, Some, refl, ap, ◌∙◌, inl, inr, arith}
 use Rattle.std.specs.List.{list_all}
 use Rattle.std.proofs.lemmas.Bool.{cases_Bool, and_parts}
 use Rattle.std.proofs.lemmas.Bool.Decides.{nat_tests}
@@ -11,7 +11,7 @@ use Rattle.vt_parser.specs.declared.controls.Place.{Place}
 use Rattle.vt_parser.specs.declared.controls.Place.TheVariants as place
 use Rattle.vt_parser.specs.declared.controls.Turn.{Turn}
 use Rattle.vt_parser.specs.declared.states.ParserState.{ParserState}
-use Rattle.vt_parser.specs.declared.states.ParserState.TheVariants.{Ground, Escape, EscapeOne, EscapeMany, CsiStart, Csi, CsiIgnored, Text, Vt52Escape, Vt52Line, Vt52Column}
+use Rattle.vt_parser.specs.declared.states.ParserState.TheVariants.{Ground, Text}
 use Rattle.vt_parser.specs.Control.{escape, is_graphic, class_of, turns_of, turn_at}
 use Rattle.vt_parser.specs.Sequence.{is_intermediate, is_control_text, begins_string, is_well_formed}
 use Rattle.vt_parser.specs.View.{escape_view, control_view, parser_view}

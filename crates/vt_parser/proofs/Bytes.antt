@@ -1,8 +1,8 @@
 -- The classes of bytes, one against the other.
-use Rattle.std.proofs.Common.{◌≡◌, ℕ, Bool, true, false, not, arith}
+use Rattle.std.proofs.Common.{◌≡◌, ℕ, true, false, arith}
 use Rattle.std.proofs.lemmas.Bool.Decides.{nat_tests}
 use Rattle.vt_parser.specs.Control.{is_graphic}
-use Rattle.vt_parser.specs.Sequence.{is_intermediate, is_escape_final, is_control_text, is_control_final, begins_control, begins_string, begins_address, is_digit, is_semicolon}
+use Rattle.vt_parser.specs.Sequence.{is_intermediate, is_escape_final, is_control_text, is_control_final, begins_control, begins_string, is_digit, is_semicolon}
 
 pub intermediate_no_control : (byte : ℕ) → is_intermediate byte ≡ true → begins_control byte ≡ false
 intermediate_no_control byte is = grind (arith, nat_tests)

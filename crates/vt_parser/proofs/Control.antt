@@ -1,12 +1,11 @@
 -- The view of a control sequence's text that grows by one byte.
-use Rattle.std.proofs.Common.{◌≡◌, ℕ, ◌+◌, ◌-◌, ◌*◌, ◌<◌, ◌≤◌, min, Bool, true, false, not, ◌==◌, ◌&&◌, ◌||◌, cond, ltb, List, [], ◌∷◌, ◌++◌, take, length, refl, sym, ap, ap₂, ◌∙◌, inl, inr, Option, Some, None, arith}
+use Rattle.std.proofs.Common.{◌≡◌, ℕ, ◌+◌, ◌-◌, ◌*◌, min, Bool, true, false, ◌==◌, ◌&&◌, ◌||◌, cond, ltb, List, [], ◌∷◌, ◌++◌, take, length, refl, sym, ap, ap₂, ◌∙◌, inl, inr, None, arith}
 use Rattle.std.specs.List.{list_all}
-use Rattle.std.proofs.lemmas.Bool.{cases_Bool, cases_lt, lt-ltb, le-ltb, leb-true}
+use Rattle.std.proofs.lemmas.Bool.{cases_Bool, cases_lt, lt-ltb, le-ltb}
 use Rattle.std.proofs.lemmas.Bool.Decides.{nat_tests}
-use Rattle.arrayvec.specs.ArrayVec.{ArrayVec}
 use Rattle.vt_parser.specs.declared.states.ParserState.{ParserState}
-use Rattle.vt_parser.specs.declared.states.ParserState.TheVariants.{Ground, CsiStart, Csi, CsiIgnored}
-use Rattle.vt_parser.specs.Sequence.{is_control_final, is_digit, is_semicolon, is_private, after_mark, is_well_formed, numbers, params, has_more, held, control_meaning}
+use Rattle.vt_parser.specs.declared.states.ParserState.TheVariants.{Ground, Csi, CsiIgnored}
+use Rattle.vt_parser.specs.Sequence.{is_control_final, is_digit, is_semicolon, after_mark, is_well_formed, numbers, params, has_more, held, control_meaning}
 use Rattle.vt_parser.specs.View.{control_view}
 use Rattle.vt_parser.specs.Machine.{joined, start_joined, digit_joined, semicolon_joined, with_last_digit}
 use Rattle.vt_parser.proofs.Lists.{list_all_push}

@@ -1,23 +1,22 @@
 -- A byte that joins a pending sequence: the machine against the raw bytes, form by form.
-use Rattle.std.proofs.Common.{◌≡◌, ℕ, ◌-◌, Bool, true, false, not, ◌&&◌, ◌||◌, cond, List, [], ◌∷◌, ◌++◌, drop, take, length, get_or, ltb, Option, Some, None, refl, sym, ap, ap₂, ◌∙◌, subst, inl, inr, ⊎_elim, arith}
+use Rattle.std.proofs.Common.{◌≡◌, ℕ, Bool, true, false, ◌&&◌, ◌||◌, cond, List, [], ◌∷◌, ◌++◌, drop, get_or, Option, Some, None, refl, sym, ap, ap₂, ◌∙◌, inl, inr}
 use Rattle.std.specs.List.{list_all}
-use Rattle.std.proofs.lemmas.Bool.{cases_Bool, and_parts, false≢true, ltb-true, ltb-false, le-ltb, lt-ltb, cond-true, cond-false}
-use Rattle.arrayvec.specs.ArrayVec.{ArrayVec}
+use Rattle.std.proofs.lemmas.Bool.{cases_Bool, and_parts}
 use Rattle.vt_parser.specs.declared.commands.Mode.{Mode}
 use Rattle.vt_parser.specs.declared.commands.Mode.TheVariants.{Ansi, Vt52 as Vt52Mode}
 use Rattle.vt_parser.specs.declared.commands.Command.{Command}
-use Rattle.vt_parser.specs.declared.commands.Command.TheVariants.{Esc, Csi as CsiCommand, Vt52, Vt52Address}
+use Rattle.vt_parser.specs.declared.commands.Command.TheVariants.{Vt52}
 use Rattle.vt_parser.specs.declared.controls.Turn.TheVariants.{Joins}
 use Rattle.vt_parser.specs.declared.states.ParserState.{ParserState}
-use Rattle.vt_parser.specs.declared.states.ParserState.TheVariants.{Ground, Escape, EscapeOne, EscapeMany, CsiStart, Csi, CsiIgnored, Text, Vt52Escape, Vt52Line, Vt52Column}
+use Rattle.vt_parser.specs.declared.states.ParserState.TheVariants.{Ground, Escape, EscapeOne, EscapeMany, Vt52Escape, Vt52Line, Vt52Column}
 use Rattle.vt_parser.specs.Control.{escape, is_graphic}
-use Rattle.vt_parser.specs.Sequence.{front, final, is_intermediate, is_escape_final, is_control_text, is_control_final, begins_control, begins_string, begins_address, is_lone_escape, is_escape_begun, is_control_begun, is_line_begun, ends_escape, ends_control, ends_vt52, ends_address, is_whole, is_digit, is_semicolon, is_private, after_mark, is_well_formed, numbers, params, has_more, held, escape_meaning, control_meaning, address_meaning, meaning}
-use Rattle.vt_parser.specs.View.{escape_view, control_view, ansi_view, vt52_view, parser_view}
+use Rattle.vt_parser.specs.Sequence.{is_intermediate, is_escape_final, is_control_text, is_control_final, begins_control, begins_string, begins_address, is_control_begun, is_line_begun, ends_escape, ends_control, ends_vt52, ends_address, is_whole, escape_meaning, control_meaning, address_meaning, meaning}
+use Rattle.vt_parser.specs.View.{escape_view, control_view, parser_view}
 use Rattle.vt_parser.specs.Step.{command_by, pending_by}
 use Rattle.vt_parser.specs.Machine.{joined}
 use Rattle.vt_parser.proofs.Lists.{front_push, final_push, list_all_push}
 use Rattle.vt_parser.proofs.Control.{view_push, no_command, final_command, final_state}
-use Rattle.vt_parser.proofs.Bytes.{intermediate_no_control, intermediate_no_string, intermediate_no_final, graphic_final, string_no_control, string_no_intermediate, graphic_text}
+use Rattle.vt_parser.proofs.Bytes.{intermediate_no_control, intermediate_no_string, intermediate_no_final, graphic_final, graphic_text}
 
 -- the machine does what the bytes say
 pub record JoinAgrees (mode : Mode) (pending : List ℕ) (byte : ℕ) (state : ParserState) : Type 0 where

@@ -1,24 +1,23 @@
 -- The crate's laws, for proofs of the layers above.
-use Rattle.std.proofs.Common.{◌≡◌, ℕ, ◌+◌, ◌-◌, ◌≤◌, min, Bool, true, false, not, ◌==◌, ◌||◌, ◌&&◌, cond, ltb, List, [], ◌∷◌, ◌++◌, map, take, drop, length, get_or, Option, Some, None, IfSome, refl, sym, ap, ap₂, ◌∙◌, subst, inl, inr, arith}
-use Rattle.std.specs.List.{list_all, slice_split, AllByRecursion}
-use Rattle.std.proofs.lemmas.Bool.{cases_Bool, and_parts, or_from, false≢true, and_left}
-use Rattle.std.proofs.lemmas.Bool.Decides.{nat_tests}
+use Rattle.std.proofs.Common.{◌≡◌, ℕ, ◌+◌, ◌≤◌, Bool, true, false, ◌==◌, cond, List, [], ◌∷◌, ◌++◌, drop, length, Some, None, refl, sym, ap, ◌∙◌, inl, inr, arith}
+use Rattle.std.specs.List.{list_all}
+use Rattle.std.proofs.lemmas.Bool.{cases_Bool, and_parts, false≢true}
 use Rattle.std.proofs.lemmas.List.{length_push}
 use Rattle.std.proofs.lemmas.Option.{cond_some, none-some}
 use Rattle.vt_parser.specs.declared.commands.Mode.{Mode}
 use Rattle.vt_parser.specs.declared.commands.Mode.TheVariants.{Ansi, Vt52 as Vt52Mode}
 use Rattle.vt_parser.specs.declared.commands.Command.{Command}
-use Rattle.vt_parser.specs.declared.commands.Command.TheVariants.{Show, Error, Control, Esc, Csi, Vt52, Vt52Address}
+use Rattle.vt_parser.specs.declared.commands.Command.TheVariants.{Show, Error, Control}
 use Rattle.vt_parser.specs.declared.controls.Turn.{Turn}
 use Rattle.vt_parser.specs.declared.controls.Turn.TheVariants.{Nothing, Acts, Shows, Marks, Begins, Joins, Ends, Cancels}
 use Rattle.vt_parser.specs.declared.states.ParserState.{ParserState}
-use Rattle.vt_parser.specs.declared.states.ParserState.TheVariants.{Ground, Escape, EscapeOne, EscapeMany, CsiStart, Csi as CsiState, CsiIgnored, Text, Vt52Escape, Vt52Line, Vt52Column}
+use Rattle.vt_parser.specs.declared.states.ParserState.TheVariants.{Ground, Csi as CsiState, CsiIgnored, Text, Vt52Escape, Vt52Line, Vt52Column}
 use Rattle.vt_parser.specs.Control.{escape, is_within, is_graphic, turn_of}
-use Rattle.vt_parser.specs.Sequence.{is_intermediate, is_escape_final, is_control_text, is_control_final, is_lone_escape, is_escape_begun, is_control_begun, is_line_begun, ends_escape, ends_control, ends_vt52, ends_address, is_whole, is_well_formed, escape_meaning, control_meaning, meaning}
-use Rattle.vt_parser.specs.View.{escape_view, control_view, parser_view, IsShown}
+use Rattle.vt_parser.specs.Sequence.{is_intermediate, is_escape_final, is_control_text, is_lone_escape, is_escape_begun, is_control_begun, is_line_begun, ends_escape, ends_vt52, is_whole, is_well_formed, escape_meaning, control_meaning, meaning}
+use Rattle.vt_parser.specs.View.{escape_view, control_view, parser_view}
 use Rattle.vt_parser.specs.Step.{place_of, control_of, command_by, pending_by, command_of, pending_after, mode_after}
 use Rattle.vt_parser.specs.Machine.{stepped}
-use Rattle.vt_parser.specs.Law.{is_sequence, fewest_bytes, fewest_of, StateDecides, StaysShown, GroundIsEmpty, FinishedLeavesNothing, PendingPays}
+use Rattle.vt_parser.specs.Law.{is_sequence, fewest_of, StateDecides, StaysShown, GroundIsEmpty, FinishedLeavesNothing, PendingPays}
 use Rattle.vt_parser.proofs.Shapes.{by_form}
 use Rattle.vt_parser.proofs.Joins.{whole_with, meaning_with, is_whole_push, meaning_push}
 use Rattle.vt_parser.proofs.Agrees.{same_command, same_view}

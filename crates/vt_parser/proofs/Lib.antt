@@ -7,3 +7,4 @@ pub mod Joins
 pub mod Agrees
 pub mod LawLemmas
 pub mod ProperLemmas
+pub mod Lanes

@@ -1,10 +1,10 @@
 -- The parameters of a text that grows by one byte.
-use Rattle.std.proofs.Common.{◌≡◌, ℕ, zero, suc, ◌+◌, ◌-◌, ◌*◌, ◌<◌, ◌≤◌, min, Bool, true, false, cond, ltb, List, [], ◌∷◌, ◌++◌, map, take, length, get_or, set, refl, sym, ap, ◌∙◌, arith}
-use Rattle.std.specs.List.{slice_split, onto_first, fold}
-use Rattle.std.proofs.lemmas.Bool.{lt-ltb, le-ltb, ltb-true, ltb-false}
+use Rattle.std.proofs.Common.{◌≡◌, ℕ, suc, ◌+◌, ◌-◌, ◌*◌, ◌<◌, ◌≤◌, min, Bool, true, false, cond, ltb, List, [], ◌∷◌, ◌++◌, map, take, length, get_or, set, refl, sym, ap, ◌∙◌, arith}
+use Rattle.std.specs.List.{slice_split, onto_first}
+use Rattle.std.proofs.lemmas.Bool.{lt-ltb, le-ltb}
 use Rattle.std.proofs.lemmas.List.{map-append, length-append, length-set, length-take, take_all, take-append-le, take-set-le}
 use Rattle.std.proofs.lemmas.List.Sums.{fold-append}
-use Rattle.vt_parser.specs.Sequence.{is_semicolon, decimal, parameter, numbers, params, has_more}
+use Rattle.vt_parser.specs.Sequence.{is_semicolon, decimal, parameter, numbers}
 use Rattle.vt_parser.specs.Machine.{with_digit, with_last_digit}
 
 -- ---- the pieces

@@ -1,8 +1,7 @@
 -- The numbers of every command are in their ranges, and graphic characters are shown on ground.
-use Rattle.std.proofs.Common.{◌≡◌, ℕ, zero, suc, ◌+◌, ◌-◌, ◌<◌, ◌≤◌, min, Bool, true, false, not, ◌==◌, ◌||◌, ◌&&◌, cond, ltb, List, [], ◌∷◌, ◌++◌, map, take, drop, length, get_or, Option, Some, None, IfSome, refl, sym, ap, ap₂, ◌∙◌, subst, inl, inr, arith}
-use Rattle.std.specs.List.{list_all, slice_split, onto_first, All, AllByRecursion}
-use Rattle.std.specs.Option.{MatchOption}
-use Rattle.std.proofs.lemmas.Bool.{cases_Bool, and_parts, false≢true}
+use Rattle.std.proofs.Common.{◌≡◌, ℕ, zero, suc, ◌-◌, ◌≤◌, true, false, ◌==◌, ◌||◌, ◌&&◌, cond, ltb, List, [], ◌∷◌, ◌++◌, map, take, drop, length, get_or, Option, Some, None, IfSome, refl, sym, ◌∙◌, subst, inl, inr, arith}
+use Rattle.std.specs.List.{list_all, slice_split, All, AllByRecursion}
+use Rattle.std.proofs.lemmas.Bool.{cases_Bool, and_parts, eqb-false, not-true, false≢true}
 use Rattle.std.proofs.lemmas.Bool.Decides.{nat_tests}
 use Rattle.std.proofs.lemmas.List.{length-take, length-map}
 use Rattle.std.proofs.lemmas.List.Elements.{All-from_recursion}
@@ -10,14 +9,14 @@ use Rattle.std.proofs.lemmas.List.Splits.{length-slice_split}
 use Rattle.vt_parser.specs.declared.commands.Mode.{Mode}
 use Rattle.vt_parser.specs.declared.commands.Mode.TheVariants.{Ansi, Vt52 as Vt52Mode}
 use Rattle.vt_parser.specs.declared.commands.Command.{Command}
-use Rattle.vt_parser.specs.declared.commands.Command.TheVariants.{Show, Error, Control, Esc, Csi, Vt52, Vt52Address}
+use Rattle.vt_parser.specs.declared.commands.Command.TheVariants.{Csi}
 use Rattle.vt_parser.specs.declared.controls.ByteClass.{ByteClass}
 use Rattle.vt_parser.specs.declared.controls.ByteClass.TheVariants as class
 use Rattle.vt_parser.specs.declared.controls.Place.{Place}
 use Rattle.vt_parser.specs.declared.controls.Place.TheVariants as place
 use Rattle.vt_parser.specs.declared.controls.Turn.TheVariants.{Joins}
 use Rattle.vt_parser.specs.Control.{escape, is_within, is_graphic, class_of, turns_of, turn_at}
-use Rattle.vt_parser.specs.Sequence.{is_intermediate, is_escape_final, is_control_final, begins_control, begins_string, begins_address, is_lone_escape, is_escape_begun, is_control_begun, is_line_begun, ends_escape, ends_control, ends_vt52, ends_address, is_whole, is_semicolon, is_private, after_mark, is_well_formed, parameter, numbers, params, held, escape_meaning, control_meaning, address_meaning, meaning}
+use Rattle.vt_parser.specs.Sequence.{is_intermediate, is_escape_final, is_control_final, begins_control, begins_address, is_lone_escape, is_escape_begun, is_control_begun, is_line_begun, ends_escape, ends_vt52, is_whole, is_semicolon, is_private, after_mark, is_well_formed, parameter, numbers, params, held, escape_meaning, control_meaning, address_meaning}
 use Rattle.vt_parser.specs.Step.{place_of, control_of, command_by, command_of, pending_after}
 use Rattle.vt_parser.specs.Law.{IsFrom, IsProper, CommandsAreProper, GraphicIsShown}
 use Rattle.vt_parser.proofs.Joins.{whole_with, meaning_with, is_whole_push, meaning_push}
@@ -119,8 +118,9 @@ meaning_proper Vt52Mode pending byte whole =
         ]
     | inr other ↦
         let ends : ends_vt52 pending byte ≡ true = simp other at whole in
-        let parts = and_parts (is_lone_escape pending) (is_graphic byte) (and_parts _ _ ends).0 in
-        simp other (within 32 126 byte parts.1)
+        let ended = and_parts _ (not (begins_address byte)) ends in
+        let parts = and_parts (is_lone_escape pending) (is_graphic byte) ended.0 in
+        simp other (within 32 126 byte parts.1, eqb-false byte 89 (not-true (begins_address byte) ended.1))
     ]
 
 join_proper : (mode : Mode) (pending : List ℕ) (byte : ℕ) → IfSome (command_by Joins mode pending byte) IsProper

@@ -1,5 +1,5 @@
 -- The forms of pending bytes that a state shows: what holds of each form holds wherever there is a view.
-use Rattle.std.proofs.Common.{◌≡◌, ℕ, Bool, true, false, ◌==◌, ◌&&◌, cond, List, [], ◌∷◌, drop, get_or, Option, Some, None, refl, sym, ap, ap₂, subst}
+use Rattle.std.proofs.Common.{◌≡◌, ℕ, Bool, true, false, ◌==◌, ◌&&◌, cond, List, [], ◌∷◌, drop, get_or, Some, None, refl, sym, ap, ap₂, subst}
 use Rattle.std.specs.List.{list_all}
 use Rattle.std.proofs.lemmas.Bool.{and_parts, eqb-true, false≢true}
 use Rattle.vt_parser.specs.declared.commands.Mode.{Mode}
@@ -8,7 +8,7 @@ use Rattle.vt_parser.specs.declared.states.ParserState.{ParserState}
 use Rattle.vt_parser.specs.declared.states.ParserState.TheVariants.{Ground, Text, Vt52Escape, Vt52Line, Vt52Column}
 use Rattle.vt_parser.specs.Control.{escape, is_graphic}
 use Rattle.vt_parser.specs.Sequence.{is_intermediate, is_control_text, begins_control, begins_string, begins_address, is_lone_escape, is_escape_begun, is_control_begun, is_string_begun, is_address_begun, is_line_begun}
-use Rattle.vt_parser.specs.View.{escape_view, control_view, ansi_view, vt52_view, parser_view}
+use Rattle.vt_parser.specs.View.{escape_view, control_view, parser_view}
 
 -- which of three tests chose a view
 chosen : (P : Type 0) (a b c : Bool) (x y z state : ParserState) → (a ≡ true → x ≡ state → P) → (b ≡ true → y ≡ state → P) → (c ≡ true → z ≡ state → P)

@@ -1,5 +1,5 @@
 -- What holds of every step: the statements of the crate's laws.
-use Rattle.std.specs.Prelude.{◌≡◌, ℕ, ◌+◌, ◌≤◌, Bool, true, false, IsTrue, List, [], ◌∷◌, ◌++◌, length, Option, Some, None, IfSome, All}
+use Rattle.std.specs.Prelude.{◌≡◌, ◌≢◌, ℕ, ◌+◌, ◌≤◌, Bool, true, false, List, [], length, Option, Some, None, IfSome, All}
 use Rattle.std.specs.Option.{MatchOption}
 use Rattle.vt_parser.specs.declared.commands.Mode.{Mode}
 use Rattle.vt_parser.specs.declared.commands.Command.{Command}
@@ -23,7 +23,7 @@ IsProper Error = Unit {0}
 IsProper (Control byte) = IsFrom 8 15 byte
 IsProper (Esc inter last) = MatchOption inter (Unit {0}) (IsFrom 32 47) × IsFrom 48 126 last
 IsProper (Csi private params last) = IsFrom 1 16 (length params.items) × All (λ param. param ≤ 9999) params.items × IsFrom 64 126 last
-IsProper (Vt52 last) = IsFrom 32 126 last
+IsProper (Vt52 last) = IsFrom 32 126 last × (last ≢ 89)
 IsProper (Vt52Address line column) = IsFrom 1 95 line × IsFrom 1 95 column
 
 -- the command of a whole sequence, and not of one byte

@@ -1,5 +1,5 @@
 -- What one byte does to the pending bytes, and the command that it gives.
-use Rattle.std.specs.Prelude.{ℕ, Bool, ◌==◌, if◌then◌else◌, List, [], ◌∷◌, ◌++◌, Option, Some, None}
+use Rattle.std.specs.Prelude.{ℕ, ◌==◌, if◌then◌else◌, List, [], ◌∷◌, ◌++◌, Option, Some, None}
 use Rattle.vt_parser.specs.declared.commands.Mode.{Mode}
 use Rattle.vt_parser.specs.declared.commands.Mode.TheVariants.{Ansi, Vt52}
 use Rattle.vt_parser.specs.declared.commands.Command.{Command}
