@@ -3,3 +3,5 @@ pub mod DigitLemmas
 pub mod DueLemmas
 pub mod FieldLemmas
 pub mod TimingLemmas
+pub mod LineLemmas
+pub mod ReadingLemmas

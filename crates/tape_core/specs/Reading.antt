@@ -1,5 +1,5 @@
 -- What the two files together say: the fault of a pair, or its recording.
-use Rattle.std.specs.Prelude.{◌≡◌, ℕ, ◌+◌, Bool, List, [], ◌∷◌, ◌++◌, length, take, filter, Option, Some, None, ◌==◌, nat_lt, if◌then◌else◌}
+use Rattle.std.specs.Prelude.{◌≡◌, ℕ, ◌+◌, ◌-◌, Bool, List, [], ◌∷◌, ◌++◌, length, take, filter, Option, Some, None, ◌==◌, nat_lt, if◌then◌else◌}
 use Rattle.std.specs.List.{position, position_or_len, range_with_len}
 use Rattle.std.specs.Option.{option_map, option_or}
 use Rattle.tape_core.specs.declared.chunk.Chunk.{Chunk}
@@ -16,18 +16,21 @@ header_len script = position_or_len (λ b. b == 10) script + 1
 abbrev pub has_header : List ℕ → Bool
 has_header script = nat_lt (position_or_len (λ b. b == 10) script) (length script)
 
--- The first chunk that ends past the script's end.
-abbrev pub short_chunk : List ℕ → List Entry → Option ℕ
-short_chunk script entries =
-    position (λ i. nat_lt (length script) (header_len script + counted_bytes (take (i + 1) entries))) (range_with_len 0 (length entries))
+-- The first chunk that needs more bytes, with those of the chunks before it, than stand behind the header.
+abbrev pub first_short : ℕ → List Entry → Option ℕ
+first_short bytes entries = position (λ i. nat_lt bytes (counted_bytes (take (i + 1) entries))) (range_with_len 0 (length entries))
 
 -- The script's fault, where the timing has these entries.
 abbrev pub script_fault : List ℕ → List Entry → Option Fault
-script_fault script entries = if has_header script then option_map fault.ScriptShort (short_chunk script entries) else Some fault.NoHeader
+script_fault script entries = if has_header script then option_map fault.ScriptShort (first_short (length script - header_len script) entries) else Some fault.NoHeader
 
 -- The fault of a pair of files: the timing is judged first. Profile.
 abbrev pub fault_of : List ℕ → List ℕ → Option Fault
 fault_of script timing = option_or (timing_fault timing) (script_fault script (entries_of (lines_of timing)))
+
+-- The entry that times a chunk.
+abbrev pub entry_for : Chunk → Entry
+entry_for c = record { delay = c.delay; count = length c.bytes }
 
 -- The lines that are not blank are the chunks' delays and byte lengths, in order.
 abbrev pub AreTimed : List (List ℕ) → List Chunk → Type 0

@@ -16,5 +16,6 @@ pub use bytes::Bytes;
 pub use chunk::Chunk;
 pub use devices::{Watched, slurp};
 pub use fault::Fault;
+pub use reading::read_recording;
 pub use recording::Recording;
 pub use seconds::read_seconds;

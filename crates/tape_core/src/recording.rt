@@ -1,11 +1,13 @@
 //! A recording, and when its chunks are due.
-ghost use Rattle.std.specs.Prelude.{◌≡◌, ◌<◌, ◌≤◌, length};
+ghost use Rattle.std.specs.Prelude.{◌≡◌, ◌<◌, ◌≤◌, All, IfOk, length};
 ghost use Rattle.std.specs.List.Sorted.{IsNonDecreasing, IsPartitionPoint};
-ghost use Rattle.tape_core.specs.Tape.{body_len};
+ghost use Rattle.tape_core.specs.Tape.{body_len, fits, longest_body, longest_delay, most_chunks};
+ghost use Rattle.tape_core.specs.Kept.{AreDueTimes};
 ghost use Rattle.tape_core.specs.Due.{due_count, due_time, play_length};
 
 use crate::bytes::Bytes;
 use crate::chunk::Chunk;
+use std::alloc::{AllocError, Global};
 use std::marker::Model;
 
 /// A recording: the header (the typescript's first line with its LF), the chunks that the timing
@@ -32,6 +34,27 @@ impl Model for Recording {
 }
 
 impl Recording {
+    /// A recording of these parts, with its due times added up once.
+    pub(crate) fn from_parts(
+        alloc: Global,
+        header: Bytes,
+        chunks: Vec<Chunk>,
+        trailer: Bytes,
+    ) -> Result<Self, AllocError>
+        requires { fits (record { header = header; chunks = chunks.items; trailer = trailer }) }
+        ensures { IfOk result (λ r. r ≡ record { header = header; chunks = chunks.items; trailer = trailer }) }
+    {
+        let dues = due_times(alloc, chunks.as_slice())?;
+        let bytes = chunk_bytes(chunks.as_slice());
+        Ok(Recording {
+            header,
+            chunks,
+            trailer,
+            dues,
+            bytes,
+        })
+    }
+
     /// The typescript's first line with its LF, whatever it says.
     pub fn header(&self) -> &[u8]
         ensures { result.now ≡ self.now.header }
@@ -90,4 +113,31 @@ fn up_to(dues: &[u64], moment: u64) -> usize
     ensures point { IsPartitionPoint (λ due. due ≤ moment) (λ due. moment < due) dues.now result }
 {
     dues.partition_point(|due| *due <= moment)
+}
+
+/// When each chunk is due.
+fn due_times(alloc: Global, chunks: &[Chunk]) -> Result<Vec<u64>, AllocError>
+    requires few { length chunks.now ≤ most_chunks }
+    requires delays { All (λ c. c.delay ≤ longest_delay) chunks.now }
+    ensures { IfOk result (λ dues. AreDueTimes chunks.now dues.items) }
+{
+    let mut dues = Vec::with_capacity(alloc, chunks.len())?;
+    let mut due: u64 = 0;
+    for chunk in chunks {
+        due += chunk.delay;
+        dues.push(due)?;
+    }
+    Ok(dues)
+}
+
+/// How many bytes the chunks hold together.
+fn chunk_bytes(chunks: &[Chunk]) -> u64
+    requires { body_len chunks.now ≤ longest_body }
+    ensures { result ≡ body_len chunks.now }
+{
+    let mut bytes: u64 = 0;
+    for chunk in chunks {
+        bytes += chunk.bytes.len() as u64;
+    }
+    bytes
 }
