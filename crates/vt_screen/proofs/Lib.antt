@@ -1,0 +1,5 @@
+pub mod Index
+pub mod Rows
+pub mod SoundRows
+pub mod Tables
+pub mod Turns

@@ -104,11 +104,13 @@ impl Row {
     pub(crate) fn fill(&mut self, from: u8, to: u8, cell: Cell)
         requires whole { length self.old.cells ≡ 132 }
         requires low { 1 ≤ from }
+        requires some { from ≤ to }
         requires high { to ≤ 132 }
         ensures { self.new ≡ filled from to cell self.old }
     {
+        let Cell { glyph, rendition } = cell;
         for i in from as usize - 1..to as usize {
-            self.cells[i] = cell;
+            self.cells[i] = Cell { glyph, rendition };
         }
     }
 
@@ -131,14 +133,17 @@ impl Row {
         requires high { column ≤ 132 }
         ensures { self.new ≡ part_erased part column self.old }
     {
-        let from = if part == 0 { column } else { 1 };
-        let to = if part == 1 { column } else { 132 };
-        self.fill(from, to, Cell::blank());
+        match part {
+            0 => self.fill(column, 132, Cell::blank()),
+            1 => self.fill(1, column, Cell::blank()),
+            _ => self.fill(1, 132, Cell::blank()),
+        }
     }
 
     /// Fills the row to a column with the letter E, single width.
     pub(crate) fn align(&mut self, to: u8)
         requires whole { length self.old.cells ≡ 132 }
+        requires low { 1 ≤ to }
         requires high { to ≤ 132 }
         ensures { self.new ≡ patterned to self.old }
     {

@@ -1,9 +1,9 @@
 //! The 24 rows behind an index, so that a scroll moves no cells.
 
-ghost use Rattle.std.specs.Prelude.{◌≡◌, ℕ, ◌+◌, ◌<◌, ◌≤◌, length, slice_set};
+ghost use Rattle.std.specs.Prelude.{◌≡◌, ◌==◌, ℕ, ◌+◌, ◌<◌, ◌≤◌, ◌&&◌, not, length, slice_set};
 ghost use Rattle.vt_screen.specs.Cells.{blank_row, cell_at, row_at, row_by, rows_by};
-ghost use Rattle.vt_screen.specs.Erasures.{part_erased};
-ghost use Rattle.vt_screen.specs.Lines.{resized};
+ghost use Rattle.vt_screen.specs.Erasures.{in_other_lines, part_erased};
+ghost use Rattle.vt_screen.specs.Lines.{patterned, resized};
 
 ghost use Rattle.vt_screen.specs.Places.{place_at, row_in, rows_of, first_order, turned_up, turned_down};
 ghost use Rattle.vt_screen.specs.Puts.{with_row, with_cell};
@@ -47,7 +47,7 @@ impl Grid {
     pub fn copy_from(&mut self, other: &Grid)
         ensures { self.new ≡ other.now }
     {
-        self.places = other.places;
+        self.places.copy_from_slice(&other.places);
         self.order = other.order;
     }
 
@@ -110,8 +110,8 @@ impl Grid {
 
     /// Gives a line another size. From single to double the cells right of the middle become blank.
     pub fn resize(&mut self, line: u8, size: Size, wide: bool)
-        requires low { 1 ≤ line }
-        requires high { line ≤ 24 }
+        requires line_low { 1 ≤ line }
+        requires line_high { line ≤ 24 }
         ensures rows { rows_of self.new ≡ with_row line (resized wide size (row_at (rows_of self.old) line)) (rows_of self.old) }
         ensures order { self.new.order ≡ self.old.order }
     {
@@ -136,39 +136,47 @@ impl Grid {
     }
 
     /// Blanks the lines of a part of the display but the cursor's.
-    pub fn erase_others(&mut self, part: u8, line: u8)
+    pub fn erase_others(&mut self, part: u8, cursor: u8)
         requires part { part ≤ 2 }
-        requires low { 1 ≤ line }
-        requires high { line ≤ 24 }
-        ensures rows { rows_of self.new ≡ others_erased part line (rows_of self.old) }
+        ensures rows { rows_of self.new ≡ others_erased part cursor (rows_of self.old) }
         ensures order { self.new.order ≡ self.old.order }
     {
-        let from = if part == 0 { line } else { 1 };
-        let to = if part == 1 { line } else { 24 };
-        for other in from..to + 1 {
-            if other != line {
-                self.clear(other);
+        for line in 1..25 {
+            if is_other_line(part, cursor, line) {
+                self.clear(line);
             }
         }
     }
 
     /// Fills every line to a column with the alignment pattern, single width.
     pub fn align(&mut self, to: u8)
-        requires { to ≤ 132 }
+        requires low { 1 ≤ to }
+        requires high { to ≤ 132 }
         ensures rows { rows_of self.new ≡ all_patterned to (rows_of self.old) }
         ensures order { self.new.order ≡ self.old.order }
     {
         for line in 1..25 {
-            let place = self.order[line - 1] as usize;
-            let row = &mut self.places[place];
-            row.align(to);
+            self.align_line(line, to);
         }
+    }
+
+    fn align_line(&mut self, line: u8, to: u8)
+        requires line_low { 1 ≤ line }
+        requires line_high { line ≤ 24 }
+        requires low { 1 ≤ to }
+        requires high { to ≤ 132 }
+        ensures rows { rows_of self.new ≡ with_row line (patterned to (row_at (rows_of self.old) line)) (rows_of self.old) }
+        ensures order { self.new.order ≡ self.old.order }
+    {
+        let place = self.order[line as usize - 1] as usize;
+        let row = &mut self.places[place];
+        row.align(to);
     }
 
     /// Makes a line blank and single.
     pub fn clear(&mut self, line: u8)
-        requires low { 1 ≤ line }
-        requires high { line ≤ 24 }
+        requires line_low { 1 ≤ line }
+        requires line_high { line ≤ 24 }
         ensures rows { rows_of self.new ≡ with_row line blank_row (rows_of self.old) }
         ensures order { self.new.order ≡ self.old.order }
     {
@@ -181,7 +189,9 @@ impl Grid {
         ensures rows { rows_of self.new ≡ rows_by (λ _. blank_row) }
         ensures order { self.new.order ≡ self.old.order }
     {
-        self.places = [Row::blank(); 24];
+        for line in 1..25 {
+            self.clear(line);
+        }
     }
 
     /// Turns the names up by one from the top line to the bottom one, and blanks the place that comes
@@ -194,12 +204,9 @@ impl Grid {
         ensures order { self.new.order ≡ turned_up top bottom self.old.order }
         ensures places { self.new.places ≡ slice_set self.old.places (place_at self.old.order top) blank_row }
     {
-        let leaving = self.order[top as usize - 1];
-        for line in top as usize..bottom as usize {
-            self.order[line - 1] = self.order[line];
-        }
-        self.order[bottom as usize - 1] = leaving;
-        self.places[leaving as usize] = Row::blank();
+        let leaving = self.order[top as usize - 1] as usize;
+        turn_up(&mut self.order, top as usize, bottom as usize);
+        self.places[leaving] = Row::blank();
     }
 
     /// Turns the names down by one, and blanks the place that comes in above.
@@ -211,11 +218,49 @@ impl Grid {
         ensures order { self.new.order ≡ turned_down top bottom self.old.order }
         ensures places { self.new.places ≡ slice_set self.old.places (place_at self.old.order bottom) blank_row }
     {
-        let leaving = self.order[bottom as usize - 1];
-        for line in (top as usize..bottom as usize).rev() {
-            self.order[line] = self.order[line - 1];
-        }
-        self.order[top as usize - 1] = leaving;
-        self.places[leaving as usize] = Row::blank();
+        let leaving = self.order[bottom as usize - 1] as usize;
+        turn_down(&mut self.order, top as usize, bottom as usize);
+        self.places[leaving] = Row::blank();
+    }
+}
+
+/// Whether a part of the display has a line that is not the cursor's.
+fn is_other_line(part: u8, cursor: u8, line: u8) -> bool
+    requires { part ≤ 2 }
+    ensures { result ≡ not (line == cursor) && in_other_lines part cursor line }
+{
+    match part {
+        0 => cursor < line,
+        1 => line < cursor,
+        _ => line != cursor,
+    }
+}
+
+/// Each line from top to bottom takes the name of the one below it, the last that of the first.
+fn turn_up(order: &mut [u8; 24], top: usize, bottom: usize)
+    requires low { 1 ≤ top }
+    requires apart { top < bottom }
+    requires high { bottom ≤ 24 }
+    ensures { order.new ≡ turned_up top bottom order.old }
+{
+    let leaving = order[top - 1];
+    for line in top..bottom {
+        order[line - 1] = order[line];
+    }
+    order[bottom - 1] = leaving;
+}
+
+/// Each line from top to bottom takes the name of the one above it, the first that of the last.
+fn turn_down(order: &mut [u8; 24], top: usize, bottom: usize)
+    requires low { 1 ≤ top }
+    requires apart { top < bottom }
+    requires high { bottom ≤ 24 }
+    ensures { order.new ≡ turned_down top bottom order.old }
+{
+    let mut carried = order[bottom - 1];
+    for line in top..bottom + 1 {
+        let next = order[line - 1];
+        order[line - 1] = carried;
+        carried = next;
     }
 }
