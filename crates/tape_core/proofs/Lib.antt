@@ -1,5 +1,6 @@
 pub mod DeviceLemmas
 pub mod DigitLemmas
+pub mod SecondsLemmas
 pub mod DueLemmas
 pub mod FieldLemmas
 pub mod TimingLemmas

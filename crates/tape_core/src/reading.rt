@@ -1,6 +1,7 @@
 //! Both files together: the script is cut into the chunks that the timing counts.
 ghost use Rattle.std.specs.Prelude.{◌≡◌, ◌≢◌, ◌++◌, ℕ, true, false, Some, IfErr, IfNone, IfOk, IfSome, drop, length, map, take};
 ghost use Rattle.tape_core.specs.Tape.{body};
+ghost use Rattle.tape_core.specs.Faults.{is_stop};
 ghost use Rattle.tape_core.specs.Reading.{entry_for, fault_of, first_short, has_header, header_len, reads};
 ghost use Rattle.tape_core.specs.declared.fault.Fault.TheVariants as fault;
 
@@ -62,9 +63,12 @@ fn cut_chunks<'a>(
 pub fn read_recording(alloc: Global, script: &[u8], timing: &[u8]) -> Result<Recording, Fault>
     ensures ok { IfOk result (λ recording. reads script.now timing.now recording) }
     ensures fault { IfErr result (λ f. f ≢ fault.OutOfMemory → fault_of script.now timing.now ≡ Some f) }
+    ensures named { IfErr result (λ f. f ≢ fault.OutOfMemory → is_stop f ≡ false) }
 {
     let entries = read_timing(alloc, timing)?;
-    let (header, rest) = split_header(script).ok_or(Fault::NoHeader)?;
+    let Some((header, rest)) = split_header(script) else {
+        return Err(Fault::NoHeader);
+    };
     let (chunks, trailer) = cut_chunks(alloc, rest, entries.as_slice())?;
     let header = Bytes::copy_of(alloc, header)?;
     let trailer = Bytes::copy_of(alloc, trailer)?;

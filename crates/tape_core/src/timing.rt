@@ -1,6 +1,7 @@
 //! The classic timing format: a line for each output, with its delay and its count.
-ghost use Rattle.std.specs.Prelude.{◌≡◌, ◌≤◌, ◌≢◌, None, Some, All, IfOk, IfErr, IfSome, length, min};
+ghost use Rattle.std.specs.Prelude.{◌≡◌, ◌≤◌, ◌≢◌, false, None, Some, All, IfOk, IfErr, IfSome, length, min};
 ghost use Rattle.std.specs.Option.{option_map};
+ghost use Rattle.tape_core.specs.Faults.{is_stop};
 ghost use Rattle.tape_core.specs.Seconds.{last_moment};
 ghost use Rattle.tape_core.specs.Timing.{AreWithin, IsWithin, at_line, begins_with_letter, count_of, delay_of, entries_of, entry_of, fields, lines_of, only_count, timing_fault};
 ghost use Rattle.tape_core.specs.declared.fault.Fault.TheVariants as fault;
@@ -31,7 +32,8 @@ pub enum LineFault {
 impl LineFault {
     /// The fault with the number of its line, counted from 1.
     fn at(self, line: u64) -> Fault
-        ensures { result ≡ at_line self line }
+        ensures fault { result ≡ at_line self line }
+        ensures named { is_stop result ≡ false }
     {
         match self {
             LineFault::MultiStream => Fault::MultiStream(line),
@@ -113,6 +115,7 @@ pub fn read_timing(alloc: Global, timing: &[u8]) -> Result<Vec<Entry>, Fault>
     ensures faultless { IfOk result (λ v. timing_fault timing.now ≡ None) }
     ensures within { IfOk result (λ v. AreWithin v.items) }
     ensures fault { IfErr result (λ f. f ≢ fault.OutOfMemory → timing_fault timing.now ≡ Some f) }
+    ensures named { IfErr result (λ f. f ≢ fault.OutOfMemory → is_stop f ≡ false) }
 {
     let mut entries = Vec::new(alloc);
     let mut bytes: u64 = 0;
