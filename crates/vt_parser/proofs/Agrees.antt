@@ -72,10 +72,11 @@ joins_alike = by_form JoinsAlike
     (λ byte graphic inside. join_address byte graphic)
     (λ line shown byte graphic inside. join_line line byte shown graphic)
   where
-  off : place.Ground ≡ place.Sequence → ⊥
-  off e = cc
-  off_text : place.Text ≡ place.Sequence → ⊥
-  off_text e = cc
+    off : place.Ground ≡ place.Sequence → ⊥
+    off e = cc
+
+    off_text : place.Text ≡ place.Sequence → ⊥
+    off_text e = cc
 
 -- ---- the table
 

@@ -32,16 +32,16 @@ numbers_semicolon byte is = simp is
 pub view_of_one : (byte : ℕ) → is_control_final byte ≡ false → control_view (byte ∷ []) ≡ (start_joined byte).state
 view_of_one byte no_final =
     elim (cases_Bool (byte == 63)) [
-      inl marked ↦ simp (no_final, marked, numbers_none)
-    | inr unmarked ↦
-        elim (cases_Bool (is_digit byte)) [
-          inl digit ↦ simp (no_final, unmarked, digit, numbers_digit byte digit)
-        | inr other ↦
-            elim (cases_Bool (is_semicolon byte)) [
-              inl parts ↦ simp (no_final, unmarked, other, parts, numbers_semicolon byte parts)
-            | inr none ↦ simp (no_final, unmarked, other, none)
-            ]
-        ]
+      | inl marked ↦ simp (no_final, marked, numbers_none)
+      | inr unmarked ↦
+          elim (cases_Bool (is_digit byte)) [
+            | inl digit ↦ simp (no_final, unmarked, digit, numbers_digit byte digit)
+            | inr other ↦
+                elim (cases_Bool (is_semicolon byte)) [
+                  | inl parts ↦ simp (no_final, unmarked, other, parts, numbers_semicolon byte parts)
+                  | inr none ↦ simp (no_final, unmarked, other, none)
+                ]
+          ]
     ]
 
 -- ---- a further byte
@@ -50,28 +50,28 @@ digit_added : (private : Bool) (numbers : List ℕ) (digit : ℕ)
     → Csi private (held (take 16 (with_last_digit numbers digit))) (ltb 16 (length (with_last_digit numbers digit))) ≡ digit_joined private (held (take 16 numbers)) (ltb 16 (length numbers)) digit
 digit_added private numbers digit =
     elim (cases_lt 16 (length numbers)) [
-      inl over ↦
-        let both = capped_digit_over 16 numbers digit over in
-        ap₂ (λ kept more. Csi private (held kept) more) both.0 both.1
-        ∙ sym (ap (λ more. digit_joined private (held (take 16 numbers)) more digit) (lt-ltb 16 (length numbers) over))
-    | inr within ↦
-        let both = capped_digit 16 numbers digit within in
-        ap₂ (λ kept more. Csi private (held kept) more) both.0 both.1
-        ∙ sym (ap (λ more. digit_joined private (held (take 16 numbers)) more digit) (le-ltb 16 (length numbers) within))
+      | inl over ↦
+          let both = capped_digit_over 16 numbers digit over in
+          ap₂ (λ kept more. Csi private (held kept) more) both.0 both.1
+          ∙ sym (ap (λ more. digit_joined private (held (take 16 numbers)) more digit) (lt-ltb 16 (length numbers) over))
+      | inr within ↦
+          let both = capped_digit 16 numbers digit within in
+          ap₂ (λ kept more. Csi private (held kept) more) both.0 both.1
+          ∙ sym (ap (λ more. digit_joined private (held (take 16 numbers)) more digit) (le-ltb 16 (length numbers) within))
     ]
 
 number_added : (private : Bool) (numbers : List ℕ)
     → Csi private (held (take 16 (numbers ++ 0 ∷ []))) (ltb 16 (length (numbers ++ 0 ∷ []))) ≡ semicolon_joined private (held (take 16 numbers)) (ltb 16 (length numbers))
 number_added private numbers =
     elim (cases_lt (length numbers) 16) [
-      inl room ↦
-        let all = capped_number 16 numbers room in
-        ap₂ (λ kept more. Csi private (held kept) more) all.0 all.1
-        ∙ sym (ap (λ some. cond some (Csi private (held (take 16 numbers ++ 0 ∷ [])) (ltb 16 (length numbers))) (Csi private (held (take 16 numbers)) true)) all.2)
-    | inr full ↦
-        let all = capped_number_over 16 numbers full in
-        ap₂ (λ kept more. Csi private (held kept) more) all.0 all.1
-        ∙ sym (ap (λ some. cond some (Csi private (held (take 16 numbers ++ 0 ∷ [])) (ltb 16 (length numbers))) (Csi private (held (take 16 numbers)) true)) all.2)
+      | inl room ↦
+          let all = capped_number 16 numbers room in
+          ap₂ (λ kept more. Csi private (held kept) more) all.0 all.1
+          ∙ sym (ap (λ some. cond some (Csi private (held (take 16 numbers ++ 0 ∷ [])) (ltb 16 (length numbers))) (Csi private (held (take 16 numbers)) true)) all.2)
+      | inr full ↦
+          let all = capped_number_over 16 numbers full in
+          ap₂ (λ kept more. Csi private (held kept) more) all.0 all.1
+          ∙ sym (ap (λ some. cond some (Csi private (held (take 16 numbers ++ 0 ∷ [])) (ltb 16 (length numbers))) (Csi private (held (take 16 numbers)) true)) all.2)
     ]
 
 -- a byte of a text that is well formed
@@ -99,16 +99,16 @@ unfolding joined
 view_by_push private text byte no_final =
     let pushed : list_all is_plain (text ++ byte ∷ []) ≡ (list_all is_plain text && is_plain byte) = list_all_push is_plain text byte in
     elim (cases_Bool (list_all is_plain text)) [
-      inr bad ↦ simp (pushed, bad, no_final)
-    | inl good ↦
-        elim (cases_Bool (is_digit byte)) [
-          inl digit ↦ simp (pushed, good, no_final, digit) (digit_view private text byte digit)
-        | inr other ↦
-            elim (cases_Bool (is_semicolon byte)) [
-              inl parts ↦ simp (pushed, good, no_final, other, parts) (semicolon_view private text byte parts)
-            | inr none ↦ simp (pushed, good, no_final, other, none)
-            ]
-        ]
+      | inr bad ↦ simp (pushed, bad, no_final)
+      | inl good ↦
+          elim (cases_Bool (is_digit byte)) [
+            | inl digit ↦ simp (pushed, good, no_final, digit) (digit_view private text byte digit)
+            | inr other ↦
+                elim (cases_Bool (is_semicolon byte)) [
+                  | inl parts ↦ simp (pushed, good, no_final, other, parts) (semicolon_view private text byte parts)
+                  | inr none ↦ simp (pushed, good, no_final, other, none)
+                ]
+          ]
     ]
 
 after_mark_push : (first : ℕ) (rest : List ℕ) (byte : ℕ) → after_mark (first ∷ (rest ++ byte ∷ [])) ≡ after_mark (first ∷ rest) ++ byte ∷ []
@@ -130,21 +130,21 @@ pub no_command : (text : List ℕ) (byte : ℕ) → is_control_final byte ≡ fa
 unfolding joined
 no_command [] byte no_final =
     elim (cases_Bool (byte == 63)) [
-      inl marked ↦ simp (no_final, marked)
-    | inr unmarked ↦
-        elim (cases_Bool (is_digit byte)) [
-          inl digit ↦ simp (no_final, unmarked, digit)
-        | inr other ↦ elim (cases_Bool (is_semicolon byte)) [ inl parts ↦ simp (no_final, unmarked, other, parts) | inr none ↦ simp (no_final, unmarked, other, none) ]
-        ]
+      | inl marked ↦ simp (no_final, marked)
+      | inr unmarked ↦
+          elim (cases_Bool (is_digit byte)) [
+            | inl digit ↦ simp (no_final, unmarked, digit)
+            | inr other ↦ elim (cases_Bool (is_semicolon byte)) [ inl parts ↦ simp (no_final, unmarked, other, parts) | inr none ↦ simp (no_final, unmarked, other, none) ]
+          ]
     ]
 no_command (first ∷ rest) byte no_final =
     elim (cases_Bool (is_well_formed (first ∷ rest))) [
-      inr bad ↦ simp (bad, no_final)
-    | inl good ↦
-        elim (cases_Bool (is_digit byte)) [
-          inl digit ↦ simp (good, no_final, digit)
-        | inr other ↦ elim (cases_Bool (is_semicolon byte)) [ inl parts ↦ simp (good, no_final, other, parts) | inr none ↦ simp (good, no_final, other, none) ]
-        ]
+      | inr bad ↦ simp (bad, no_final)
+      | inl good ↦
+          elim (cases_Bool (is_digit byte)) [
+            | inl digit ↦ simp (good, no_final, digit)
+            | inr other ↦ elim (cases_Bool (is_semicolon byte)) [ inl parts ↦ simp (good, no_final, other, parts) | inr none ↦ simp (good, no_final, other, none) ]
+          ]
     ]
 
 -- a final byte gives what the text means, and the state is Ground again

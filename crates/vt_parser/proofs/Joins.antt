@@ -77,8 +77,8 @@ pub join_vt52 : (byte : ℕ) → is_graphic byte ≡ true → JoinAgrees Vt52Mod
 unfolding parser_view joined
 join_vt52 byte graphic =
     elim (cases_Bool (begins_address byte)) [
-      inl is ↦ goes_on Vt52Mode (escape ∷ []) byte Vt52Escape (simp (graphic, is)) (simp is) (simp is)
-    | inr is ↦ finishes Vt52Mode (escape ∷ []) byte Vt52Escape (simp (graphic, is)) (simp is) (simp is)
+      | inl is ↦ goes_on Vt52Mode (escape ∷ []) byte Vt52Escape (simp (graphic, is)) (simp is) (simp is)
+      | inr is ↦ finishes Vt52Mode (escape ∷ []) byte Vt52Escape (simp (graphic, is)) (simp is) (simp is)
     ]
 
 pub join_address : (byte : ℕ) → is_graphic byte ≡ true → JoinAgrees Vt52Mode (escape ∷ 89 ∷ []) byte Vt52Line
@@ -95,32 +95,32 @@ pub join_escape : (text : List ℕ) (byte : ℕ) → list_all is_intermediate te
 unfolding parser_view joined
 join_escape [] byte all graphic =
     elim (cases_Bool (is_intermediate byte)) [
-      inl is ↦
-        let no_control : begins_control byte ≡ false = intermediate_no_control byte is in
-        let no_string : begins_string byte ≡ false = intermediate_no_string byte is in
-        let no_final : is_escape_final byte ≡ false = intermediate_no_final byte is in
-        goes_on Ansi (escape ∷ []) byte Escape (simp no_final) (simp is) (simp (no_control, no_string, is))
-    | inr is ↦
-        let final_byte : is_escape_final byte ≡ true = graphic_final byte graphic is in
-        elim (cases_Bool (begins_control byte)) [
-          inl opens ↦ goes_on Ansi (escape ∷ []) byte Escape (simp (final_byte, opens)) (simp (is, opens)) (simp (is, opens))
-        | inr closed ↦
-            elim (cases_Bool (begins_string byte)) [
-              inl opens ↦ goes_on Ansi (escape ∷ []) byte Escape (simp (final_byte, closed, opens)) (simp (is, closed, opens)) (simp (is, closed, opens))
-            | inr plain ↦ finishes Ansi (escape ∷ []) byte Escape (simp (final_byte, closed, plain)) (simp (is, closed, plain)) (simp (is, closed, plain))
-            ]
-        ]
+      | inl is ↦
+          let no_control : begins_control byte ≡ false = intermediate_no_control byte is in
+          let no_string : begins_string byte ≡ false = intermediate_no_string byte is in
+          let no_final : is_escape_final byte ≡ false = intermediate_no_final byte is in
+          goes_on Ansi (escape ∷ []) byte Escape (simp no_final) (simp is) (simp (no_control, no_string, is))
+      | inr is ↦
+          let final_byte : is_escape_final byte ≡ true = graphic_final byte graphic is in
+          elim (cases_Bool (begins_control byte)) [
+            | inl opens ↦ goes_on Ansi (escape ∷ []) byte Escape (simp (final_byte, opens)) (simp (is, opens)) (simp (is, opens))
+            | inr closed ↦
+                elim (cases_Bool (begins_string byte)) [
+                  | inl opens ↦ goes_on Ansi (escape ∷ []) byte Escape (simp (final_byte, closed, opens)) (simp (is, closed, opens)) (simp (is, closed, opens))
+                  | inr plain ↦ finishes Ansi (escape ∷ []) byte Escape (simp (final_byte, closed, plain)) (simp (is, closed, plain)) (simp (is, closed, plain))
+                ]
+          ]
     ]
 join_escape (inter ∷ []) byte all graphic =
     let first : is_intermediate inter ≡ true = (and_parts (is_intermediate inter) true all).0 in
     let no_control : begins_control inter ≡ false = intermediate_no_control inter first in
     elim (cases_Bool (is_intermediate byte)) [
-      inl is ↦
-        let no_final : is_escape_final byte ≡ false = intermediate_no_final byte is in
-        goes_on Ansi (escape ∷ inter ∷ []) byte (EscapeOne inter) (simp (no_control, first, no_final)) (simp is) (simp (no_control, first, is))
-    | inr is ↦
-        let final_byte : is_escape_final byte ≡ true = graphic_final byte graphic is in
-        finishes Ansi (escape ∷ inter ∷ []) byte (EscapeOne inter) (simp (no_control, first, final_byte)) (simp (no_control, is)) (simp is)
+      | inl is ↦
+          let no_final : is_escape_final byte ≡ false = intermediate_no_final byte is in
+          goes_on Ansi (escape ∷ inter ∷ []) byte (EscapeOne inter) (simp (no_control, first, no_final)) (simp is) (simp (no_control, first, is))
+      | inr is ↦
+          let final_byte : is_escape_final byte ≡ true = graphic_final byte graphic is in
+          finishes Ansi (escape ∷ inter ∷ []) byte (EscapeOne inter) (simp (no_control, first, final_byte)) (simp (no_control, is)) (simp is)
     ]
 join_escape (inter ∷ third ∷ rest) byte all graphic =
     let first : is_intermediate inter ≡ true = (and_parts (is_intermediate inter) (list_all is_intermediate (third ∷ rest)) all).0 in
@@ -130,12 +130,12 @@ join_escape (inter ∷ third ∷ rest) byte all graphic =
     let no_control : begins_control inter ≡ false = intermediate_no_control inter first in
     let pushed : list_all is_intermediate (rest ++ byte ∷ []) ≡ (list_all is_intermediate rest && is_intermediate byte) = list_all_push is_intermediate rest byte in
     elim (cases_Bool (is_intermediate byte)) [
-      inl is ↦
-        let no_final : is_escape_final byte ≡ false = intermediate_no_final byte is in
-        goes_on Ansi (escape ∷ inter ∷ third ∷ rest) byte EscapeMany (simp (no_control, first, second, more, no_final)) (simp is) (simp (no_control, first, second, pushed, more, is))
-    | inr is ↦
-        let final_byte : is_escape_final byte ≡ true = graphic_final byte graphic is in
-        finishes Ansi (escape ∷ inter ∷ third ∷ rest) byte EscapeMany (simp (no_control, first, second, more, final_byte)) (simp (no_control, is)) (simp is)
+      | inl is ↦
+          let no_final : is_escape_final byte ≡ false = intermediate_no_final byte is in
+          goes_on Ansi (escape ∷ inter ∷ third ∷ rest) byte EscapeMany (simp (no_control, first, second, more, no_final)) (simp is) (simp (no_control, first, second, pushed, more, is))
+      | inr is ↦
+          let final_byte : is_escape_final byte ≡ true = graphic_final byte graphic is in
+          finishes Ansi (escape ∷ inter ∷ third ∷ rest) byte EscapeMany (simp (no_control, first, second, more, final_byte)) (simp (no_control, is)) (simp is)
     ]
 
 -- ---- a control sequence
@@ -144,9 +144,9 @@ pub join_control : (text : List ℕ) (byte : ℕ) → list_all is_control_text t
 unfolding parser_view
 join_control text byte all graphic =
     elim (cases_Bool (is_control_final byte)) [
-      inl is ↦ finishes Ansi (escape ∷ 91 ∷ text) byte (control_view text) (simp (all, is)) (simp all (final_command text byte is)) (final_state text byte is)
-    | inr more ↦
-        let joins : is_control_text byte ≡ true = graphic_text byte graphic more in
-        let pushed : list_all is_control_text (text ++ byte ∷ []) ≡ (list_all is_control_text text && is_control_text byte) = list_all_push is_control_text text byte in
-        goes_on Ansi (escape ∷ 91 ∷ text) byte (control_view text) (simp (all, more)) (no_command text byte more) (simp (pushed, all, joins) (ap Some (view_push text byte more)))
+      | inl is ↦ finishes Ansi (escape ∷ 91 ∷ text) byte (control_view text) (simp (all, is)) (simp all (final_command text byte is)) (final_state text byte is)
+      | inr more ↦
+          let joins : is_control_text byte ≡ true = graphic_text byte graphic more in
+          let pushed : list_all is_control_text (text ++ byte ∷ []) ≡ (list_all is_control_text text && is_control_text byte) = list_all_push is_control_text text byte in
+          goes_on Ansi (escape ∷ 91 ∷ text) byte (control_view text) (simp (all, more)) (no_command text byte more) (simp (pushed, all, joins) (ap Some (view_push text byte more)))
     ]

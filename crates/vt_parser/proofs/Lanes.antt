@@ -32,8 +32,8 @@ pub others_mask : (lanes : List ℕ) → length lanes ≡ 32 → Each1 (Fits w8)
 others_mask lanes long fits =
     let shifted = zip2_splat less_wrapping lanes 32 32 long in
     let compared =
-      zip2_splat_left at_most 95 32 (map (λ byte. less_wrapping byte 32) lanes) (length-map lanes (λ byte. less_wrapping byte 32) ∙ long)
-      ∙ map-map (at_most 95) (λ byte. less_wrapping byte 32) lanes in
+    zip2_splat_left at_most 95 32 (map (λ byte. less_wrapping byte 32) lanes) (length-map lanes (λ byte. less_wrapping byte 32) ∙ long)
+    ∙ map-map (at_most 95) (λ byte. less_wrapping byte 32) lanes in
     let tested = map-map (top 7) (λ byte. at_most 95 (less_wrapping byte 32)) lanes ∙ each_byte lanes fits in
     ap (λ values. mask_l (map (top 7) (zip2 at_most (replicate 32 95) values)) % 2 ^ 64) shifted
     ∙ ap (λ values. mask_l (map (top 7) values) % 2 ^ 64) compared
@@ -49,9 +49,9 @@ same_run : (bytes : List ℕ) → prefix_len is_graphic bytes ≡ prefix_len (λ
 same_run [] = refl
 same_run (byte ∷ rest) = ap₂ (λ b n. cond b (1 + n) 0) (twice (is_graphic byte)) (same_run rest)
   where
-  twice : (b : Bool) → b ≡ not (not b)
-  twice true = refl
-  twice false = refl
+    twice : (b : Bool) → b ≡ not (not b)
+    twice true = refl
+    twice false = refl
 
 none_other : (b : Bool) (n len mask : ℕ) → n ≤ len → cond (not b) (1 + n) 0 ≡ 1 + len → (n ≡ len → mask ≡ 0) → cond b 1 0 + 2 * mask ≡ 0
 none_other true n len mask le is rest = let no : ⊥ = omega arith in absurd no
@@ -83,5 +83,5 @@ run_stops bytes from n room short some =
     let rest = prefix_len is_graphic (drop (from + n) bytes) in
     split bytes from n
     ∙ ap (λ b. cond b (length piece + rest) (prefix_len is_graphic piece))
-      (ne_eqb _ _ (λ (whole : prefix_len is_graphic piece ≡ length piece). omega (arith, all_graphic piece (sym (same_run piece) ∙ whole))))
+    (ne_eqb _ _ (λ (whole : prefix_len is_graphic piece ≡ length piece). omega (arith, all_graphic piece (sym (same_run piece) ∙ whole))))
     ∙ same_run piece ∙ sym (trailing_mask_l is_other 64 piece (omega (arith, length-chunk from n bytes room)) some)

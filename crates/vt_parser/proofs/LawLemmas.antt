@@ -27,9 +27,10 @@ pub mode_after_same : (mode : Mode) (byte : ℕ) → mode_after mode mode byte �
 mode_after_same mode byte = elim (byte == escape) as (λ b. cond b mode mode ≡ mode) [ true ↦ refl | false ↦ refl ]
 
 pub state_decides : StateDecides
-state_decides given m n p q state byte first second =
-    (same_command given m p byte state first ∙ sym (same_command given n q byte state second),
-    same_view given m p byte state first ∙ sym (same_view given n q byte state second))
+state_decides given m n p q state byte first second = (
+  same_command given m p byte state first ∙ sym (same_command given n q byte state second),
+  same_view given m p byte state first ∙ sym (same_view given n q byte state second),
+)
 
 pub stays_shown : StaysShown
 stays_shown given m p state byte shown = ((stepped state given byte).state, same_view given m p byte state shown)
@@ -53,28 +54,32 @@ none_control : (text : List ℕ) → list_all is_control_text text ≡ true → 
 none_control [] all is = absurd cc
 none_control (first ∷ rest) all is =
     elim (cases_Bool (is_well_formed (first ∷ rest))) [
-      inl good ↦ absurd (no_csi _ _ _ (simp good at is))
-    | inr bad ↦ absurd (no_ignored (simp bad at is))
+      | inl good ↦ absurd (no_csi _ _ _ (simp good at is))
+      | inr bad ↦ absurd (no_ignored (simp bad at is))
     ]
   where
-  no_csi : (private : Bool) (params : _) (over : Bool) → CsiState private params over ≡ Ground → ⊥
-  no_csi private params over e = cc
-  no_ignored : CsiIgnored ≡ Ground → ⊥
-  no_ignored e = cc
+    no_csi : (private : Bool) (params : _) (over : Bool) → CsiState private params over ≡ Ground → ⊥
+    no_csi private params over e = cc
+
+    no_ignored : CsiIgnored ≡ Ground → ⊥
+    no_ignored e = cc
 
 none_at_ground : (mode : Mode) (pending : List ℕ) (state : ParserState) → parser_view mode pending ≡ Some state → NoneAtGround mode pending state
 none_at_ground = by_form NoneAtGround
     (λ mode is. refl) none_escape none_control
     (λ opening opens is. absurd (no_text is)) (λ is. absurd (no_vt52 is)) (λ is. absurd (no_line is)) (λ line shown is. absurd (no_column line is))
   where
-  no_text : Text ≡ Ground → ⊥
-  no_text e = cc
-  no_vt52 : Vt52Escape ≡ Ground → ⊥
-  no_vt52 e = cc
-  no_line : Vt52Line ≡ Ground → ⊥
-  no_line e = cc
-  no_column : (line : ℕ) → Vt52Column line ≡ Ground → ⊥
-  no_column line e = cc
+    no_text : Text ≡ Ground → ⊥
+    no_text e = cc
+
+    no_vt52 : Vt52Escape ≡ Ground → ⊥
+    no_vt52 e = cc
+
+    no_line : Vt52Line ≡ Ground → ⊥
+    no_line e = cc
+
+    no_column : (line : ℕ) → Vt52Column line ≡ Ground → ⊥
+    no_column line e = cc
 
 pub ground_is_empty : GroundIsEmpty
 ground_is_empty = (shows_none, λ m p shown. none_at_ground m p Ground shown refl)
@@ -94,8 +99,8 @@ finished_by Marks mode pending byte command gives is = absurd (no_sequence Error
 finished_by Begins mode pending byte command gives is = absurd (none-some command gives)
 finished_by Joins mode pending byte command gives is =
     elim (cases_Bool (is_whole mode (pending ++ byte ∷ []))) [
-      inl whole ↦ simp whole
-    | inr more ↦ absurd (none-some command (simp more at gives))
+      | inl whole ↦ simp whole
+      | inr more ↦ absurd (none-some command (simp more at gives))
     ]
 finished_by Ends mode pending byte command gives is = refl
 finished_by Cancels mode pending byte command gives is = refl
@@ -136,25 +141,25 @@ fewest_escape (inter ∷ third ∷ rest) last = omega arith
 fewest_with : (mode : Mode) (pending : List ℕ) (byte : ℕ) → whole_with mode pending byte ≡ true → fewest_of (meaning_with mode pending byte) ≤ length pending + 1
 fewest_with Ansi pending byte whole =
     elim (cases_Bool (is_control_begun pending)) [
-      inl begun ↦
-        let long = control_long pending begun in
-        let few = fewest_control (drop 2 pending) byte in
-        simp begun (omega arith)
-    | inr other ↦
-        let ends : ends_escape pending byte ≡ true = simp other at whole in
-        let begun = (and_parts (is_escape_begun pending) (is_escape_final byte) (and_parts _ _ ends).0).0 in
-        let long = escape_long pending begun in
-        let few = fewest_escape (drop 1 pending) byte in
-        simp other (omega arith)
+      | inl begun ↦
+          let long = control_long pending begun in
+          let few = fewest_control (drop 2 pending) byte in
+          simp begun (omega arith)
+      | inr other ↦
+          let ends : ends_escape pending byte ≡ true = simp other at whole in
+          let begun = (and_parts (is_escape_begun pending) (is_escape_final byte) (and_parts _ _ ends).0).0 in
+          let long = escape_long pending begun in
+          let few = fewest_escape (drop 1 pending) byte in
+          simp other (omega arith)
     ]
 fewest_with Vt52Mode pending byte whole =
     elim (cases_Bool (is_line_begun pending)) [
-      inl begun ↦ let long = line_long pending begun in simp begun (omega arith)
-    | inr other ↦
-        let ends : ends_vt52 pending byte ≡ true = simp other at whole in
-        let begun = (and_parts (is_lone_escape pending) (is_graphic byte) (and_parts _ _ ends).0).0 in
-        let long = lone_long pending begun in
-        simp other (omega arith)
+      | inl begun ↦ let long = line_long pending begun in simp begun (omega arith)
+      | inr other ↦
+          let ends : ends_vt52 pending byte ≡ true = simp other at whole in
+          let begun = (and_parts (is_lone_escape pending) (is_graphic byte) (and_parts _ _ ends).0).0 in
+          let long = lone_long pending begun in
+          simp other (omega arith)
     ]
 
 fewest_of_control : (byte : ℕ) → fewest_of (control_of byte) ≤ 1
@@ -168,11 +173,11 @@ pays_by Marks mode pending byte = omega arith
 pays_by Begins mode pending byte = omega arith
 pays_by Joins mode pending byte =
     elim (cases_Bool (is_whole mode (pending ++ byte ∷ []))) [
-      inl whole ↦
-        let few = fewest_with mode pending byte (sym (is_whole_push mode pending byte) ∙ whole) in
-        let same : fewest_of (meaning mode (pending ++ byte ∷ [])) ≡ fewest_of (meaning_with mode pending byte) = ap fewest_of (meaning_push mode pending byte) in
-        simp whole (omega arith)
-    | inr more ↦ let long = length_push pending byte in simp more (omega arith)
+      | inl whole ↦
+          let few = fewest_with mode pending byte (sym (is_whole_push mode pending byte) ∙ whole) in
+          let same : fewest_of (meaning mode (pending ++ byte ∷ [])) ≡ fewest_of (meaning_with mode pending byte) = ap fewest_of (meaning_push mode pending byte) in
+          simp whole (omega arith)
+      | inr more ↦ let long = length_push pending byte in simp more (omega arith)
     ]
 pays_by Ends mode pending byte = omega arith
 pays_by Cancels mode pending byte = omega arith

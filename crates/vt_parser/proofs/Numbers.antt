@@ -14,10 +14,10 @@ split_some : (test : ℕ → Bool) (text : List ℕ) → (first : List ℕ) × (
 split_some test [] = ([], [], refl)
 split_some test (byte ∷ rest) = by (test byte) (slice_split test rest)
   where
-  by : (b : Bool) (pieces : List (List ℕ)) → (first : List ℕ) × (others : List (List ℕ)) × (cond b ([] ∷ pieces) (onto_first byte pieces) ≡ first ∷ others)
-  by true pieces = ([], pieces, refl)
-  by false [] = (byte ∷ [], [], refl)
-  by false (piece ∷ pieces) = (byte ∷ piece, pieces, refl)
+    by : (b : Bool) (pieces : List (List ℕ)) → (first : List ℕ) × (others : List (List ℕ)) × (cond b ([] ∷ pieces) (onto_first byte pieces) ≡ first ∷ others)
+    by true pieces = ([], pieces, refl)
+    by false [] = (byte ∷ [], [], refl)
+    by false (piece ∷ pieces) = (byte ∷ piece, pieces, refl)
 
 -- pieces with one more byte in the last of them
 abbrev grown : List (List ℕ) → ℕ → List (List ℕ)
@@ -36,8 +36,8 @@ split_push test (head ∷ rest) byte fails =
     let some = split_some test rest in
     let pushed = split_push test rest byte fails in
     elim (test head) as (λ b. cond b ([] ∷ slice_split test (rest ++ byte ∷ [])) (onto_first head (slice_split test (rest ++ byte ∷ []))) ≡ grown (cond b ([] ∷ slice_split test rest) (onto_first head (slice_split test rest))) byte) [
-      true ↦ ap (λ pieces. [] ∷ pieces) (pushed ∙ ap (λ pieces. grown pieces byte) some.2) ∙ ap (λ pieces. grown ([] ∷ pieces) byte) (sym some.2)
-    | false ↦ ap (onto_first head) pushed ∙ onto_grown head (slice_split test rest) byte
+      | true ↦ ap (λ pieces. [] ∷ pieces) (pushed ∙ ap (λ pieces. grown pieces byte) some.2) ∙ ap (λ pieces. grown ([] ∷ pieces) byte) (sym some.2)
+      | false ↦ ap (onto_first head) pushed ∙ onto_grown head (slice_split test rest) byte
     ]
 
 split_push_at : (test : ℕ → Bool) (text : List ℕ) (byte : ℕ) → test byte ≡ true → slice_split test (text ++ byte ∷ []) ≡ slice_split test text ++ [] ∷ []
@@ -46,8 +46,8 @@ split_push_at test (head ∷ rest) byte passes =
     let some = split_some test rest in
     let pushed = split_push_at test rest byte passes in
     elim (test head) as (λ b. cond b ([] ∷ slice_split test (rest ++ byte ∷ [])) (onto_first head (slice_split test (rest ++ byte ∷ []))) ≡ cond b ([] ∷ slice_split test rest) (onto_first head (slice_split test rest)) ++ [] ∷ []) [
-      true ↦ ap (λ pieces. [] ∷ pieces) pushed
-    | false ↦ ap (onto_first head) (pushed ∙ ap (λ pieces. pieces ++ [] ∷ []) some.2) ∙ ap (λ pieces. onto_first head pieces ++ [] ∷ []) (sym some.2)
+      | true ↦ ap (λ pieces. [] ∷ pieces) pushed
+      | false ↦ ap (onto_first head) (pushed ∙ ap (λ pieces. pieces ++ [] ∷ []) some.2) ∙ ap (λ pieces. onto_first head pieces ++ [] ∷ []) (sym some.2)
     ]
 
 -- ---- the numbers
@@ -109,10 +109,11 @@ capped_digit_over n numbers digit lt =
 pub capped_number : (n : ℕ) (numbers : List ℕ) → length numbers < n → (take n (numbers ++ 0 ∷ []) ≡ take n numbers ++ 0 ∷ []) × (ltb n (length (numbers ++ 0 ∷ [])) ≡ ltb n (length numbers)) × (ltb (length (take n numbers)) n ≡ true)
 capped_number n numbers lt =
     let more : length (numbers ++ 0 ∷ []) ≡ length numbers + 1 = length-append numbers (0 ∷ []) in
-    let kept : take n numbers ≡ numbers = take_all n numbers (omega arith) in
-    (take_all n (numbers ++ 0 ∷ []) (omega arith) ∙ ap (λ front. front ++ 0 ∷ []) (sym kept),
-    le-ltb n _ (omega arith) ∙ sym (le-ltb n _ (omega arith)),
-    ap (λ front. ltb (length front) n) kept ∙ lt-ltb _ n lt)
+    let kept : take n numbers ≡ numbers = take_all n numbers (omega arith) in (
+      take_all n (numbers ++ 0 ∷ []) (omega arith) ∙ ap (λ front. front ++ 0 ∷ []) (sym kept),
+      le-ltb n _ (omega arith) ∙ sym (le-ltb n _ (omega arith)),
+      ap (λ front. ltb (length front) n) kept ∙ lt-ltb _ n lt,
+    )
 
 pub capped_number_over : (n : ℕ) (numbers : List ℕ) → n ≤ length numbers → (take n (numbers ++ 0 ∷ []) ≡ take n numbers) × (ltb n (length (numbers ++ 0 ∷ [])) ≡ true) × (ltb (length (take n numbers)) n ≡ false)
 capped_number_over n numbers le =

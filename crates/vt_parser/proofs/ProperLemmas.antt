@@ -48,8 +48,8 @@ control_proper : (text : List ℕ) (last : ℕ) → is_control_final last ≡ tr
 control_proper text last is =
     let proper = params_proper (after_mark text) in
     elim (is_well_formed text) as (λ good. IfSome (cond good (Some (Csi (is_private text) (held (params (after_mark text))) last)) None) IsProper) [
-      true ↦ (proper.0, proper.1, within 64 126 last is)
-    | false ↦ tt
+      | true ↦ (proper.0, proper.1, within 64 126 last is)
+      | false ↦ tt
     ]
 
 escape_proper : (text : List ℕ) (last : ℕ) → list_all is_intermediate text ≡ true → is_escape_final last ≡ true → IfSome (escape_meaning text last) IsProper
@@ -95,42 +95,42 @@ line_no_lone (first ∷ second ∷ rest) is = refl
 meaning_proper : (mode : Mode) (pending : List ℕ) (byte : ℕ) → whole_with mode pending byte ≡ true → IfSome (meaning_with mode pending byte) IsProper
 meaning_proper Ansi pending byte whole =
     elim (cases_Bool (is_control_begun pending)) [
-      inl begun ↦
-        elim (cases_Bool (is_control_final byte)) [
-          inl is ↦ simp begun (control_proper (drop 2 pending) byte is)
-        | inr no_final ↦
-            let no_escape : is_escape_begun pending ≡ false = control_no_escape pending begun in
-            absurd (false≢true (simp (begun, no_final, no_escape) at whole))
-        ]
-    | inr other ↦
-        let ends : ends_escape pending byte ≡ true = simp other at whole in
-        let parts = and_parts (is_escape_begun pending) (is_escape_final byte) (and_parts _ _ ends).0 in
-        simp other (escape_proper_of pending byte parts.0 parts.1)
+      | inl begun ↦
+          elim (cases_Bool (is_control_final byte)) [
+            | inl is ↦ simp begun (control_proper (drop 2 pending) byte is)
+            | inr no_final ↦
+                let no_escape : is_escape_begun pending ≡ false = control_no_escape pending begun in
+                absurd (false≢true (simp (begun, no_final, no_escape) at whole))
+          ]
+      | inr other ↦
+          let ends : ends_escape pending byte ≡ true = simp other at whole in
+          let parts = and_parts (is_escape_begun pending) (is_escape_final byte) (and_parts _ _ ends).0 in
+          simp other (escape_proper_of pending byte parts.0 parts.1)
     ]
 meaning_proper Vt52Mode pending byte whole =
     elim (cases_Bool (is_line_begun pending)) [
-      inl begun ↦
-        elim (cases_Bool (is_graphic byte)) [
-          inl is ↦ simp begun (address_proper pending byte begun is)
-        | inr no_graphic ↦
-            let no_lone : is_lone_escape pending ≡ false = line_no_lone pending begun in
-            absurd (false≢true (simp (begun, no_graphic, no_lone) at whole))
-        ]
-    | inr other ↦
-        let ends : ends_vt52 pending byte ≡ true = simp other at whole in
-        let ended = and_parts _ (not (begins_address byte)) ends in
-        let parts = and_parts (is_lone_escape pending) (is_graphic byte) ended.0 in
-        simp other (within 32 126 byte parts.1, eqb-false byte 89 (not-true (begins_address byte) ended.1))
+      | inl begun ↦
+          elim (cases_Bool (is_graphic byte)) [
+            | inl is ↦ simp begun (address_proper pending byte begun is)
+            | inr no_graphic ↦
+                let no_lone : is_lone_escape pending ≡ false = line_no_lone pending begun in
+                absurd (false≢true (simp (begun, no_graphic, no_lone) at whole))
+          ]
+      | inr other ↦
+          let ends : ends_vt52 pending byte ≡ true = simp other at whole in
+          let ended = and_parts _ (not (begins_address byte)) ends in
+          let parts = and_parts (is_lone_escape pending) (is_graphic byte) ended.0 in
+          simp other (within 32 126 byte parts.1, eqb-false byte 89 (not-true (begins_address byte) ended.1))
     ]
 
 join_proper : (mode : Mode) (pending : List ℕ) (byte : ℕ) → IfSome (command_by Joins mode pending byte) IsProper
 join_proper mode pending byte =
     elim (cases_Bool (is_whole mode (pending ++ byte ∷ []))) [
-      inl whole ↦
-        let proper = meaning_proper mode pending byte (sym (is_whole_push mode pending byte) ∙ whole) in
-        let P : Option Command → Type 0 = λ command. IfSome command IsProper in
-        simp whole (subst P (sym (meaning_push mode pending byte)) proper)
-    | inr more ↦ simp more tt
+      | inl whole ↦
+          let proper = meaning_proper mode pending byte (sym (is_whole_push mode pending byte) ∙ whole) in
+          let P : Option Command → Type 0 = λ command. IfSome command IsProper in
+          simp whole (subst P (sym (meaning_push mode pending byte)) proper)
+      | inr more ↦ simp more tt
     ]
 
 -- ---- every byte

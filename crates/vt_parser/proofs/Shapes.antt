@@ -91,13 +91,13 @@ module _ (C : Mode → List ℕ → ParserState → Type 0) where
   by_form nothing escaped controlled stringed lone_one addressed lined Vt52 [] state is = carried Vt52 [] [] Ground state refl (cc) (nothing Vt52)
   by_form nothing escaped controlled stringed lone_one addressed lined Ansi (byte ∷ rest) state is =
       chosen (C Ansi (byte ∷ rest) state) _ _ _ _ _ _ state
-        (λ begun same. controls controlled byte rest _ state begun (λ next text form. ap (λ tail. control_view (drop 2 (byte ∷ tail))) form) same)
-        (λ begun same. strings stringed byte rest state begun same)
-        (λ begun same. escapes escaped byte rest state begun same)
-        is
+      (λ begun same. controls controlled byte rest _ state begun (λ next text form. ap (λ tail. control_view (drop 2 (byte ∷ tail))) form) same)
+      (λ begun same. strings stringed byte rest state begun same)
+      (λ begun same. escapes escaped byte rest state begun same)
+      is
   by_form nothing escaped controlled stringed lone_one addressed lined Vt52 (byte ∷ rest) state is =
       chosen (C Vt52 (byte ∷ rest) state) _ _ _ _ _ _ state
-        (λ begun same. lone byte rest Vt52Escape state begun same lone_one)
-        (λ begun same. addresses byte rest Vt52Line state begun same addressed)
-        (λ begun same. lines lined byte rest _ state begun (λ next line form. ap (λ tail. Vt52Column (get_or (byte ∷ tail) 2 0)) form) same)
-        is
+      (λ begun same. lone byte rest Vt52Escape state begun same lone_one)
+      (λ begun same. addresses byte rest Vt52Line state begun same addressed)
+      (λ begun same. lines lined byte rest _ state begun (λ next line form. ap (λ tail. Vt52Column (get_or (byte ∷ tail) 2 0)) form) same)
+      is

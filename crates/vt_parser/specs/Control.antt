@@ -38,13 +38,13 @@ row on_ground in_sequence in_string = record { on_ground = on_ground; in_sequenc
 -- The table of the control syntax (EK-VT100-UG chapter 3; BEL in a string, CAN and SUB, and the bytes from 128 on: profile).
 --                   on ground  in a sequence  in a string
 abbrev pub turns_of : ByteClass → Turns
-turns_of Control = row Acts     Acts           Nothing
-turns_of Bell    = row Nothing  Nothing        Ends
-turns_of Cancel  = row Nothing  Cancels        Cancels
-turns_of Escape  = row Begins   Begins         Begins
-turns_of Graphic = row Shows    Joins          Nothing
-turns_of Delete  = row Nothing  Nothing        Nothing
-turns_of High    = row Marks    Nothing        Nothing
+turns_of Control = row Acts Acts Nothing
+turns_of Bell = row Nothing Nothing Ends
+turns_of Cancel = row Nothing Cancels Cancels
+turns_of Escape = row Begins Begins Begins
+turns_of Graphic = row Shows Joins Nothing
+turns_of Delete = row Nothing Nothing Nothing
+turns_of High = row Marks Nothing Nothing
 
 -- the cell of a row for a place
 abbrev pub turn_at : Turns → Place → Turn

@@ -18,7 +18,10 @@ pub enum Command {
     /// A control character that has an effect, 8 (BS) to 15 (SI).
     Control(u8),
     /// An escape sequence: its intermediate, 32 to 47, if it has one, and its final byte, 48 to 126.
-    Esc { inter: Option<u8>, last: u8 },
+    Esc {
+        inter: Option<u8>,
+        last: u8,
+    },
     /// A control sequence: whether it began with `?`, its parameters (1 to 16 of them, each at most 9,999), and its final byte, 64 to 126.
     Csi {
         private: bool,
@@ -28,5 +31,8 @@ pub enum Command {
     /// A sequence of VT52 mode by its final byte, 32 to 126 without `Y`.
     Vt52(u8),
     /// A direct cursor address of VT52 mode, each number from 1 to 95.
-    Vt52Address { line: u8, column: u8 },
+    Vt52Address {
+        line: u8,
+        column: u8,
+    },
 }

@@ -11,19 +11,16 @@ ghost use Rattle.vt_parser.specs.Law.{IsProper};
 
 mod commands;
 mod controls;
+pub mod laws;
 mod machine;
 mod runs;
 mod states;
-
-pub mod laws;
-
 #[cfg(test)]
 mod tests;
 
 pub use commands::{Command, Mode};
 pub use runs::printable_run;
 pub use states::ParserState;
-
 use std::marker::Model;
 
 /// Where a reader of terminal output stands in the control syntax.

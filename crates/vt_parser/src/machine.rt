@@ -98,14 +98,30 @@ fn join_start(state: &mut ParserState, byte: u8) -> Option<Command>
     match byte {
         64..=126 => {
             *state = ParserState::Ground;
-            return Some(Command::Csi { private: false, params: one_param(0), last: byte });
+            return Some(Command::Csi {
+                private: false,
+                params: one_param(0),
+                last: byte,
+            });
         }
-        b'?' => *state = ParserState::Csi { private: true, params: one_param(0), over: false },
-        b'0'..=b'9' => *state = ParserState::Csi { private: false, params: one_param(u16::from(byte - b'0')), over: false },
+        b'?' => *state = ParserState::Csi {
+            private: true,
+            params: one_param(0),
+            over: false,
+        },
+        b'0'..=b'9' => *state = ParserState::Csi {
+            private: false,
+            params: one_param(u16::from(byte - b'0')),
+            over: false,
+        },
         b';' => {
             let mut params = one_param(0);
             params.push(0);
-            *state = ParserState::Csi { private: false, params, over: false };
+            *state = ParserState::Csi {
+                private: false,
+                params,
+                over: false,
+            };
         }
         _ => *state = ParserState::CsiIgnored,
     }
@@ -126,7 +142,10 @@ fn join_escape(state: &mut ParserState, byte: u8) -> Option<Command>
         *state = ParserState::Text;
     } else {
         *state = ParserState::Ground;
-        return Some(Command::Esc { inter: None, last: byte });
+        return Some(Command::Esc {
+            inter: None,
+            last: byte,
+        });
     }
     None
 }
@@ -160,7 +179,10 @@ fn join(state: &mut ParserState, byte: u8) -> Option<Command>
                 return None;
             }
             *state = ParserState::Ground;
-            Some(Command::Esc { inter: Some(inter), last: byte })
+            Some(Command::Esc {
+                inter: Some(inter),
+                last: byte,
+            })
         }
         ParserState::EscapeMany => {
             if !is_intermediate(byte) {
@@ -169,12 +191,20 @@ fn join(state: &mut ParserState, byte: u8) -> Option<Command>
             None
         }
         ParserState::CsiStart => join_start(state, byte),
-        ParserState::Csi { private, params, over } => {
+        ParserState::Csi {
+            private,
+            params,
+            over,
+        } => {
             if is_control_final(byte) {
                 let private = *private;
                 let params = params.take();
                 *state = ParserState::Ground;
-                return Some(Command::Csi { private, params, last: byte });
+                return Some(Command::Csi {
+                    private,
+                    params,
+                    last: byte,
+                });
             }
             if is_digit(byte) {
                 if !*over {
@@ -266,7 +296,11 @@ pub(crate) fn copy_state(state: &mut ParserState, other: &ParserState)
         ParserState::EscapeOne(inter) => ParserState::EscapeOne(*inter),
         ParserState::EscapeMany => ParserState::EscapeMany,
         ParserState::CsiStart => ParserState::CsiStart,
-        ParserState::Csi { private, params, over } => ParserState::Csi {
+        ParserState::Csi {
+            private,
+            params,
+            over,
+        } => ParserState::Csi {
             private: *private,
             params: copied(params),
             over: *over,

@@ -9,9 +9,11 @@ use Rattle.vt_parser.proofs.Parser.step.Goals as goal
 pub invariant_of-self : goal.invariant_of-self
 invariant_of-self c =
     let mode = c.self.invariant.0 in
-    let pending = c.self.invariant.1 in
-    (mode_after c.args.mode mode c.args.byte, pending_after mode pending c.args.byte,
-    same_view c.args.mode mode pending c.args.byte c.self.inside.state c.self.invariant.2 ∙ ap Some (sym c.advance.ensures.state))
+    let pending = c.self.invariant.1 in (
+      mode_after c.args.mode mode c.args.byte,
+      pending_after mode pending c.args.byte,
+      same_view c.args.mode mode pending c.args.byte c.self.inside.state c.self.invariant.2 ∙ ap Some (sym c.advance.ensures.state),
+    )
 
 pub returns-clause-command : goal.returns-clause-command
 returns-clause-command c = λ mode pending shown.
@@ -26,6 +28,6 @@ returns-clause-proper c =
     let mode = c.self.invariant.0 in
     let pending = c.self.invariant.1 in
     let is : command_of mode pending c.args.byte ≡ c.advance.result =
-      same_command c.args.mode mode pending c.args.byte c.self.inside.state c.self.invariant.2 ∙ sym c.advance.ensures.command in
+    same_command c.args.mode mode pending c.args.byte c.self.inside.state c.self.invariant.2 ∙ sym c.advance.ensures.command in
     let P : Option Command → Type 0 = λ command. IfSome command IsProper in
     subst P is (commands_are_proper mode pending c.args.byte)
