@@ -40,6 +40,7 @@ dues_rise chunks dues are = IsNonDecreasingBy-from_default (λ d. d) dues 0 (λ 
 -- the count that a search in the due times gives
 pub counted : (chunks : List Chunk) (dues : List ℕ) (t n : ℕ) → AreDueTimes chunks dues → n ≤ length dues
     → IsPartitionPoint (λ d. d ≤ t) (λ d. t < d) dues n → n ≡ due_count chunks t
+unfolding due_count
 counted chunks dues t n are le point =
     let here : filter (λ i. nat_le (due_time chunks i) t) (range_with_len 0 (length chunks)) ≡ range_with_len 0 n =
     filter_front (λ i. nat_le (due_time chunks i) t) 0 (length chunks) n (omega (arith, are.one_each))

@@ -12,7 +12,7 @@ use Rattle.tape_core.specs.declared.chunk.Chunk.{Chunk}
 use Rattle.tape_core.specs.declared.timing.Entry.{Entry}
 use Rattle.tape_core.specs.Tape.{IsHeader, body, body_len}
 use Rattle.tape_core.specs.Timing.{AreWithin, IsWithin, counted_bytes, entries_of, lines_of, timing_fault}
-use Rattle.tape_core.specs.Reading.{entry_for, first_short, has_header, header_len, reads}
+use Rattle.tape_core.specs.Reading.{entry_for, fault_of, first_short, has_header, header_len, reads}
 use Rattle.tape_core.proofs.DueLemmas.{length_range}
 use Rattle.tape_core.proofs.LineLemmas.{timed_chunks}
 
@@ -88,6 +88,7 @@ pub reads_parts : (script timing : List ℕ) (entries : List Entry) (header rest
     → entries ≡ entries_of (lines_of timing) → timing_fault timing ≡ None → AreWithin entries → has_header script ≡ true
     → header ≡ take (header_len script) script → rest ≡ drop (header_len script) script → rest ≡ body chunks ++ trailer → map entry_for chunks ≡ entries
     → reads script timing (record { header = header; chunks = chunks; trailer = trailer })
+unfolding fault_of
 reads_parts script timing entries header rest trailer chunks read faultless within found head behind joined timed =
     let each = each_within chunks entries timed within.each in
     let long : length (body chunks) + length trailer ≡ length script - header_len script =

@@ -17,7 +17,7 @@ abbrev pub places : List Chunk → List ℕ
 places chunks = range_with_len 0 (length chunks)
 
 -- How many chunks are due by the moment: those whose due time is at most t.
-abbrev pub due_count : List Chunk → ℕ → ℕ
+unfoldable pub due_count : List Chunk → ℕ → ℕ
 due_count chunks t = count_by (λ i. nat_le (due_time chunks i) t) (places chunks)
 
 -- The bytes of the chunk at a place, or none past the end.
@@ -25,7 +25,7 @@ abbrev pub bytes_at : List Chunk → ℕ → List ℕ
 bytes_at chunks i = flat_map (λ c. c.bytes) (take 1 (drop i chunks))
 
 -- The bytes due by the moment: those of the chunks whose due time is at most t, joined in order.
-abbrev pub due : List Chunk → ℕ → List ℕ
+unfoldable pub due : List Chunk → ℕ → List ℕ
 due chunks t = flat_map (bytes_at chunks) (filter (λ i. nat_le (due_time chunks i) t) (places chunks))
 
 -- The bytes of the first n chunks.

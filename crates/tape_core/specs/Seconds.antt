@@ -31,5 +31,5 @@ abbrev pub last_moment : ℕ
 last_moment = 1000000000000000000
 
 -- A moment or delay in an argument or a request line: a value above the greatest moment counts as it. Profile.
-abbrev pub seconds_of : List ℕ → Option ℕ
+unfoldable pub seconds_of : List ℕ → Option ℕ
 seconds_of text = option_map (λ us. min us last_moment) (micros_of text)

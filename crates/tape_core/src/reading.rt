@@ -60,6 +60,7 @@ fn cut_chunks<'a>(
 
 /// Reads a typescript and its timing file. The timing is judged first, line by line; then the header;
 /// then whether each chunk ends within the script. script(1).
+#[tactic(auto, unfolding(crate::specs::Reading::fault_of))]
 pub fn read_recording(alloc: Global, script: &[u8], timing: &[u8]) -> Result<Recording, Fault>
     ensures ok { IfOk result (λ recording. reads script.now timing.now recording) }
     ensures fault { IfErr result (λ f. f ≢ fault.OutOfMemory → fault_of script.now timing.now ≡ Some f) }

@@ -22,6 +22,7 @@ fn split_at_point(text: &[u8]) -> (&[u8], &[u8])
 /// Reads seconds as whole microseconds: one or more digits, optionally `.` and zero or more digits.
 /// Digits past the sixth decimal are dropped, and a value above 10^18 microseconds counts as 10^18.
 /// None for every other text. Profile.
+#[tactic(auto, unfolding(crate::specs::Seconds::seconds_of))]
 pub fn read_seconds(text: &[u8]) -> Option<u64>
     ensures { result ≡ seconds_of text.now }
 {

@@ -46,6 +46,7 @@ impl LineFault {
 }
 
 /// The delay that a field writes, at most the greatest moment: `-` makes it zero.
+#[tactic(auto, unfolding(crate::specs::Seconds::seconds_of))]
 fn read_delay(field: &[u8]) -> Option<u64>
     ensures { result ≡ option_map (λ us. min us last_moment) (delay_of field.now) }
 {
