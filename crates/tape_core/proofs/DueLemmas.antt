@@ -1,14 +1,14 @@
 -- Due times rise, so the chunks that are due are the first ones.
-use Rattle.std.proofs.Common.{◌≡◌, ℕ, zero, suc, ◌+◌, ◌<◌, ◌≤◌, Bool, true, false, List, [], ◌∷◌, ◌++◌, length, take, drop, filter, nat_le, refl, ap, sym, ◌∙◌, arith, append_assoc}
+use Rattle.std.proofs.Common.{◌≡◌, ℕ, zero, suc, ◌+◌, ◌<◌, ◌≤◌, Bool, true, false, cond, List, [], ◌∷◌, ◌++◌, length, take, drop, filter, nat_le, refl, ap, sym, ◌∙◌, arith, append_assoc}
 use Rattle.std.specs.List.{flat_map, range_with_len, sum_by}
 use Rattle.std.specs.List.Sorted.{IsNonDecreasing, IsPartitionPoint}
-use Rattle.std.proofs.lemmas.Bool.{le-leb, lt-leb}
+use Rattle.std.proofs.lemmas.Bool.{both_ways, le-leb, leb-true, lt-leb}
 use Rattle.std.proofs.lemmas.List.{drop-drop, take-take}
 use Rattle.std.proofs.lemmas.List.Sums.{sum_by-take-le, length-filter}
 use Rattle.std.proofs.lemmas.List.Sorted.{IsNonDecreasingBy-from_default}
 use Rattle.tape_core.specs.declared.chunk.Chunk.{Chunk}
 use Rattle.tape_core.specs.Tape.{body}
-use Rattle.tape_core.specs.Due.{due_time, due_count, places, bytes_at}
+use Rattle.tape_core.specs.Due.{due_time, due_count, due, first, places, bytes_at}
 use Rattle.tape_core.specs.Kept.{AreDueTimes}
 
 -- a test that passes up to a place and fails from there on keeps the front
@@ -60,3 +60,32 @@ pub front_bytes : (chunks : List Chunk) (a m : ℕ) → flat_map (bytes_at chunk
 front_bytes chunks a zero = refl
 front_bytes chunks a (suc m) =
     ap (λ bytes. bytes_at chunks a ++ bytes) (front_bytes chunks (a + 1) m ∙ ap (λ cs. body (take m cs)) (sym (drop-drop 1 a chunks))) ∙ first_more (drop a chunks) m
+
+module _ (p : ℕ → Bool) (rising : (i j : ℕ) → i ≤ j → p j ≡ true → p i ≡ true) where
+  rising_step : (a n : ℕ) (t : Bool) → p a ≡ t → filter p (range_with_len (a + 1) n) ≡ range_with_len (a + 1) (length (filter p (range_with_len (a + 1) n)))
+      → cond t (a ∷ filter p (range_with_len (a + 1) n)) (filter p (range_with_len (a + 1) n)) ≡ range_with_len a (length (cond t (a ∷ filter p (range_with_len (a + 1) n)) (filter p (range_with_len (a + 1) n))))
+  rising_step a n true is more = ap (λ ks. a ∷ ks) more
+  rising_step a n false is more =
+      let none : filter p (range_with_len (a + 1) n) ≡ [] =
+      filter_front p (a + 1) n 0 (omega arith) (λ k low high. absurd (omega arith)) (λ k low high. fails_from a k is (omega arith) (p k) refl) in
+      rw none refl
+    where
+      fails_from : (a k : ℕ) → p a ≡ false → a ≤ k → (t : Bool) → p k ≡ t → p k ≡ false
+      fails_from a k is low true here = absurd (both_ways (p a) is (rising a k low here))
+      fails_from a k is low false here = here
+
+  -- a test that passes before it fails keeps the front
+  pub rising_front : (a n : ℕ) → filter p (range_with_len a n) ≡ range_with_len a (length (filter p (range_with_len a n)))
+  rising_front a zero = refl
+  rising_front a (suc n) = rising_step a n (p a) refl (rising_front (a + 1) n)
+
+-- the bytes due are those of the first chunks
+pub due_first : (chunks : List Chunk) (t : ℕ) → due chunks t ≡ first chunks (due_count chunks t)
+unfolding due due_count
+due_first chunks t =
+    let is_due : ℕ → Bool = λ i. nat_le (due_time chunks i) t in
+    let rising : (i j : ℕ) → i ≤ j → is_due j ≡ true → is_due i ≡ true = λ i j le late.
+    le-leb (due_time chunks i) t (omega (arith, due_time_rises chunks i j le, leb-true (due_time chunks j) t late)) in
+    ap (flat_map (bytes_at chunks)) (rising_front is_due rising 0 (length chunks))
+    ∙ front_bytes chunks 0 (length (filter is_due (places chunks)))
+    ∙ ap (λ n. body (take n chunks)) (length-filter is_due (places chunks))

@@ -1,13 +1,14 @@
 -- The spelled form of seconds and the function that reads it.
-use Rattle.std.proofs.Common.{◌≡◌, ℕ, ◌+◌, ◌<◌, Bool, true, false, List, [], ◌∷◌, ◌++◌, length, get_or, drop, Some, nat_eq, refl, ap, sym, ◌∙◌, arith, ◌⊎◌, inl, inr, length-append, append-nil, add-zero}
+use Rattle.std.proofs.Common.{◌≡◌, ℕ, ◌+◌, ◌<◌, Bool, true, false, List, [], ◌∷◌, ◌++◌, length, get_or, drop, Option, Some, None, nat_eq, refl, ap, sym, ◌∙◌, arith, ◌⊎◌, inl, inr, length-append, append-nil, add-zero, min, MatchOption}
 use Rattle.std.specs.Char.{is_ascii_digit}
+use Rattle.std.specs.Option.{option_map}
 use Rattle.std.specs.List.{AllPass, before_first, after_first, position_or_len}
 use Rattle.std.proofs.lemmas.Bool.{cases_lt, lt-ltb, ltb-true, eqb-true, and_parts}
 use Rattle.std.proofs.lemmas.Bool.Decides.{nat_tests}
 use Rattle.std.proofs.lemmas.List.{take_at, drop_at, take_all, drop_all, drop-drop, get_or_append_left, get_or-append-add}
 use Rattle.std.proofs.lemmas.Option.{cond_some}
 use Rattle.std.proofs.lemmas.List.Sums.{AllPass-from_list_all, list_all-from_AllPass, position_or_len_is, split_at_first, passes_at_first}
-use Rattle.tape_core.specs.Seconds.{SecondsText, micros, micros_of}
+use Rattle.tape_core.specs.Seconds.{SecondsText, last_moment, micros, micros_of, seconds_of}
 
 abbrev pub is_point : ℕ → Bool
 is_point b = nat_eq b 46
@@ -68,3 +69,13 @@ read_seconds_text text us s =
           (rw (at, e) (sym (drop-drop 1 (length s.whole) (s.whole ++ 46 ∷ s.decimals)) ∙ ap (drop 1) (drop_at s.whole (46 ∷ s.decimals) (length s.whole) refl)))
           s.some s.whole_digits s.decimal_digits ∙ ap Some (sym s.value)
     ]
+
+-- a text is read where it is spelled so
+told : (text : List ℕ) (o : Option ℕ) → micros_of text ≡ o
+    → MatchOption (option_map (λ us. min us last_moment) o) ((us : ℕ) → SecondsText text us → ⊥) (λ us. (value : ℕ) × SecondsText text value × (us ≡ min value last_moment))
+told text None is = λ us s. let some = sym is ∙ read_seconds_text text us s in cc
+told text (Some value) is = (value, spelled_seconds text value is, refl)
+
+pub seconds_spelled : (text : List ℕ) → MatchOption (seconds_of text) ((us : ℕ) → SecondsText text us → ⊥) (λ us. (value : ℕ) × SecondsText text value × (us ≡ min value last_moment))
+unfolding seconds_of
+seconds_spelled text = told text (micros_of text) refl

@@ -7,6 +7,7 @@ pub mod devices;
 mod digits;
 pub mod fault;
 mod fields;
+pub mod laws;
 mod reading;
 mod recording;
 mod seconds;

@@ -64,7 +64,7 @@ fn cut_chunks<'a>(
 pub fn read_recording(alloc: Global, script: &[u8], timing: &[u8]) -> Result<Recording, Fault>
     ensures ok { IfOk result (λ recording. reads script.now timing.now recording) }
     ensures fault { IfErr result (λ f. f ≢ fault.OutOfMemory → fault_of script.now timing.now ≡ Some f) }
-    ensures named { IfErr result (λ f. f ≢ fault.OutOfMemory → is_stop f ≡ false) }
+    ensures kinds { IfErr result (λ f. f ≢ fault.OutOfMemory → is_stop f ≡ false) }
 {
     let entries = read_timing(alloc, timing)?;
     let Some((header, rest)) = split_header(script) else {

@@ -100,7 +100,8 @@ impl Recording {
 
     /// How many chunks are due by the moment, in microseconds. Logarithmic in their number. Profile.
     pub fn due_count(&self, moment: u64) -> usize
-        ensures { result ≡ due_count self.now.chunks moment }
+        ensures count { result ≡ due_count self.now.chunks moment }
+        ensures within { result ≤ length self.now.chunks }
     {
         up_to(self.dues.as_slice(), moment)
     }

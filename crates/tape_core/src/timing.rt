@@ -33,7 +33,7 @@ impl LineFault {
     /// The fault with the number of its line, counted from 1.
     fn at(self, line: u64) -> Fault
         ensures fault { result ≡ at_line self line }
-        ensures named { is_stop result ≡ false }
+        ensures kinds { is_stop result ≡ false }
     {
         match self {
             LineFault::MultiStream => Fault::MultiStream(line),
@@ -116,7 +116,7 @@ pub fn read_timing(alloc: Global, timing: &[u8]) -> Result<Vec<Entry>, Fault>
     ensures faultless { IfOk result (λ v. timing_fault timing.now ≡ None) }
     ensures within { IfOk result (λ v. AreWithin v.items) }
     ensures fault { IfErr result (λ f. f ≢ fault.OutOfMemory → timing_fault timing.now ≡ Some f) }
-    ensures named { IfErr result (λ f. f ≢ fault.OutOfMemory → is_stop f ≡ false) }
+    ensures kinds { IfErr result (λ f. f ≢ fault.OutOfMemory → is_stop f ≡ false) }
 {
     let mut entries = Vec::new(alloc);
     let mut bytes: u64 = 0;

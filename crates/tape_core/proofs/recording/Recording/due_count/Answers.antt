@@ -6,8 +6,8 @@ use Rattle.tape_core.proofs.recording.Recording.due_count.Goals as goal
 pub up_to-requires : goal.up_to-requires
 up_to-requires c = rw c.as_slice.ensures.value (dues_rise _ _ c.self.invariant.due)
 
-pub returns : goal.returns
-returns c =
+pub returns-clause-count : goal.returns-clause-count
+returns-clause-count c =
     let dues = c.as_slice.ensures.value in
     let e = c.up_to.ensures in
     let same = ap (λ tape. tape.chunks) c.self.view_is in
