@@ -33,3 +33,6 @@ pub fn read_seconds(text: &[u8]) -> Option<u64>
         None
     }
 }
+
+#[cfg(test)]
+mod tests;
