@@ -34,8 +34,7 @@ pub fn graphic_is_shown()
 /// No byte of a run is anything but a graphic character.
 pub fn runs_are_graphic()
     ensures { RunsAreGraphic }
-{
-}
+{}
 
 /// The numbers of every command are in their ranges.
 pub fn commands_are_proper()
