@@ -1,6 +1,7 @@
 pub mod Answers
 pub mod Erased
 pub mod Index
+pub mod Regions
 pub mod Rows
 pub mod Runs
 pub mod SoundRows

@@ -39,7 +39,7 @@ row_put at row rows low high = nth-table blank_row 24 (λ line. if line == at th
     itself k x y = grind (arith, nat_tests)
 
 -- the same, where each side may use the test
-by_test : (P : Picture → Type 0) (b : Bool) (x y : Picture) → (b ≡ true → P x) → (b ≡ false → P y) → P (if b then x else y)
+pub by_test : (P : Picture → Type 0) (b : Bool) (x y : Picture) → (b ≡ true → P x) → (b ≡ false → P y) → P (if b then x else y)
 by_test P true x y px py = px refl
 by_test P false x y px py = py refl
 
