@@ -1,0 +1,24 @@
+-- The texts of the faults, as the program prints them (profile).
+use Rattle.std.specs.Prelude.{ℕ, List, ◌++◌, codes}
+use Rattle.std.specs.Fmt.{decimal}
+use Rattle.tape_core.specs.declared.fault.Fault.{Fault}
+use Rattle.tape_core.specs.declared.fault.Fault.TheVariants.{NoHeader, BadDelay, BadCount, MultiStream, DelayTooLarge, ChunkTooLong, TooManyChunks, TooManyBytes, ScriptShort, OutOfMemory, ReadFault, WriteFault}
+
+-- a fault of a line of the timing file, told with its number (profile)
+abbrev pub line_text : ℕ → List ℕ → List ℕ
+line_text line what = codes "timing line " ++ decimal line ++ what
+
+-- the text of each fault (profile)
+abbrev pub fault_text : Fault → List ℕ
+fault_text NoHeader = codes "typescript has no header line"
+fault_text (BadDelay line) = line_text line (codes ": bad delay")
+fault_text (BadCount line) = line_text line (codes ": bad count")
+fault_text (MultiStream line) = line_text line (codes ": multi-stream format")
+fault_text (DelayTooLarge line) = line_text line (codes ": delay too large")
+fault_text (ChunkTooLong line) = line_text line (codes ": chunk too long")
+fault_text (TooManyChunks line) = line_text line (codes ": too many chunks")
+fault_text (TooManyBytes line) = line_text line (codes ": too many bytes")
+fault_text (ScriptShort chunk) = codes "typescript ends inside chunk " ++ decimal chunk
+fault_text OutOfMemory = codes "out of memory"
+fault_text ReadFault = codes "read fault"
+fault_text WriteFault = codes "write fault"

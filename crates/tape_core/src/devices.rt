@@ -1,0 +1,141 @@
+//! Readers and writers that are watched: whoever holds one can ask whether it has failed.
+//!
+//! No fault is retried. After a fault the device is left alone: each call here asks for one that hasn't failed.
+
+ghost use Rattle.std.specs.Prelude.{◌≡◌, ◌<◌, ◌≤◌, false, [], length, take, OnOk, IfOk, IfErr, is_ok, is_err};
+ghost use Rattle.tape_core.specs.Devices.{inner_of, has_failed, Told, ToldAll, StopsReading, Took, StoppedIn};
+
+use crate::fault::Fault;
+use std::alloc::Global;
+use std::io;
+use std::io::{Read, Write};
+
+/// How many bytes `slurp` asks a reader for at a time.
+const PIECE: usize = 65536;
+
+/// A reader or a writer, and whether it has failed.
+#[derive(Drop)]
+pub struct Watched<T> {
+    inner: T,
+    failed: bool,
+}
+
+impl<T> Watched<T> {
+    /// Stands round a reader or a writer that has yet to be used.
+    pub fn new(inner: T) -> Watched<T>
+        ensures inner { inner_of result ≡ inner }
+        ensures sound { has_failed result ≡ false }
+    {
+        Watched {
+            inner,
+            failed: false,
+        }
+    }
+
+    /// Whether a call of the inner one has failed, or a write of a nonempty piece has taken nothing.
+    pub fn failed(&self) -> bool
+        ensures { result ≡ has_failed self.now }
+    {
+        self.failed
+    }
+
+    /// The reader or the writer that stood inside.
+    pub fn into_inner(self) -> T
+        ensures { result ≡ inner_of self }
+    {
+        self.inner
+    }
+}
+
+impl<R: Read> Watched<R> {
+    /// Asks the reader once. No byte means the end.
+    fn read_some(&mut self, piece: &mut [u8]) -> Result<usize, Fault>
+        requires sound { has_failed self.old ≡ false }
+        requires room { 0 < length piece.old }
+        ensures ok { IfOk result (λ count. Told R.remaining self.old self.new piece.new count) }
+        ensures fault { IfErr result (λ fault. fault ≡ Fault.ReadFault) }
+        ensures failed { has_failed self.new ≡ is_err result }
+    {
+        match self.inner.read(piece) {
+            Ok(count) => Ok(count),
+            Err(_) => {
+                self.failed = true;
+                Err(Fault::ReadFault)
+            }
+        }
+    }
+}
+
+impl<W: Write> Watched<W> {
+    /// Writes all the bytes. After a write fault a beginning of them has gone out.
+    pub fn put(&mut self, bytes: &[u8]) -> Result<(), Fault>
+        requires { has_failed self.old ≡ false }
+        ensures ok { OnOk result (Took W.contents self.old self.new bytes.now) }
+        ensures fault { IfErr result (λ fault. (fault ≡ Fault.WriteFault) × StoppedIn W.contents self.old self.new bytes.now) }
+    {
+        let mut rest = bytes;
+        while !rest.is_empty() {
+            let taken = self.write_some(rest)?;
+            rest = &rest[taken..];
+        }
+        Ok(())
+    }
+
+    /// Flushes what the writer may hold back. It writes nothing of its own.
+    pub fn finish(&mut self) -> Result<(), Fault>
+        requires { has_failed self.old ≡ false }
+        ensures ok { OnOk result (Took W.contents self.old self.new []) }
+        ensures fault { IfErr result (λ fault. (fault ≡ Fault.WriteFault) × StoppedIn W.contents self.old self.new []) }
+    {
+        let flushed = flush_answer(self.inner.flush());
+        self.failed = flushed.is_err();
+        flushed
+    }
+
+    /// Offers the writer a nonempty piece once, and tells how many bytes it took.
+    fn write_some(&mut self, piece: &[u8]) -> Result<usize, Fault>
+        requires sound { has_failed self.old ≡ false }
+        requires nonempty { 0 < length piece.now }
+        ensures taken { IfOk result (λ count. (0 < count) × (count ≤ length piece.now)) }
+        ensures ok { IfOk result (λ count. Took W.contents self.old self.new (take count piece.now)) }
+        ensures fault { IfErr result (λ fault. (fault ≡ Fault.WriteFault) × StoppedIn W.contents self.old self.new []) }
+    {
+        match self.inner.write(piece) {
+            Ok(count) if count > 0 => Ok(count),
+            _ => {
+                self.failed = true;
+                Err(Fault::WriteFault)
+            }
+        }
+    }
+}
+
+/// The answer of a flush as an answer of the watched writer.
+fn flush_answer(answer: io::Result<()>) -> Result<(), Fault>
+    ensures ok { is_ok result ≡ is_ok answer }
+    ensures fault { IfErr result (λ fault. fault ≡ Fault.WriteFault) }
+{
+    match answer {
+        Ok(()) => Ok(()),
+        Err(_) => Err(Fault::WriteFault),
+    }
+}
+
+/// Reads to the end.
+///
+/// A reader that never ends is left where no longer text can be kept: that is want of memory.
+pub fn slurp<R: Read>(alloc: Global, reader: &mut Watched<R>) -> Result<Vec<u8>, Fault>
+    requires { has_failed reader.old ≡ false }
+    ensures ok { IfOk result (λ text. ToldAll R.remaining reader.old reader.new text.items) }
+    ensures fault { IfErr result (λ fault. StopsReading fault (has_failed reader.new)) }
+{
+    let mut text = Vec::new(alloc);
+    let mut piece = vec![in alloc; 0u8; PIECE]?;
+    loop {
+        let count = reader.read_some(&mut piece)?;
+        if count == 0 {
+            return Ok(text);
+        }
+        text.extend_from_slice(&piece[..count])?;
+    }
+}
