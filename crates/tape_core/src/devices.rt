@@ -2,11 +2,11 @@
 //!
 //! No fault is retried. After a fault the device is left alone: each call here asks for one that hasn't failed.
 
-ghost use Rattle.std.specs.Prelude.{◌≡◌, ◌<◌, ◌≤◌, false, [], length, take, OnOk, IfOk, IfErr, is_ok, is_err};
+ghost use Rattle.std.specs.Prelude.{◌≡◌, ◌<◌, ◌≤◌, false, [], length, take, vec_len, OnOk, IfOk, IfErr, is_ok, is_err};
 ghost use Rattle.tape_core.specs.Devices.{inner_of, has_failed, Told, ToldAll, StopsReading, Took, StoppedIn};
 
 use crate::fault::Fault;
-use std::alloc::Global;
+use std::alloc::{AllocError, Global};
 use std::io;
 use std::io::{Read, Write};
 
@@ -121,6 +121,13 @@ fn flush_answer(answer: io::Result<()>) -> Result<(), Fault>
     }
 }
 
+/// A vector of this many zeros.
+fn zeros(alloc: Global, len: usize) -> Result<Vec<u8>, AllocError>
+    ensures { IfOk result (λ zeros. vec_len zeros ≡ len) }
+{
+    vec![in alloc; 0; len]
+}
+
 /// Reads to the end.
 ///
 /// A reader that never ends is left where no longer text can be kept: that is want of memory.
@@ -130,7 +137,7 @@ pub fn slurp<R: Read>(alloc: Global, reader: &mut Watched<R>) -> Result<Vec<u8>,
     ensures fault { IfErr result (λ fault. StopsReading fault (has_failed reader.new)) }
 {
     let mut text = Vec::new(alloc);
-    let mut piece = vec![in alloc; 0u8; PIECE]?;
+    let mut piece = zeros(alloc, PIECE)?;
     loop {
         let count = reader.read_some(&mut piece)?;
         if count == 0 {
