@@ -13,6 +13,10 @@ inner_of watched = watched.inner
 abbrev pub has_failed : {T : Type 0} → Watched T → Bool
 has_failed watched = watched.failed
 
+-- whether the writer's last call was a flush that didn't fail (profile)
+abbrev pub is_flushed : {T : Type 0} → Watched T → Bool
+is_flushed watched = watched.flushed
+
 -- the reader is sound and has told the first `count` bytes of the piece, none only at the end (profile)
 pub record Told {T : Type 0} (remaining : T → Option (List ℕ)) (old new : Watched T) (piece : List ℕ) (count : ℕ) : Type 0 where
   pub sound : has_failed new ≡ false

@@ -2,8 +2,8 @@
 //!
 //! No fault is retried. After a fault the device is left alone: each call here asks for one that hasn't failed.
 
-ghost use Rattle.std.specs.Prelude.{◌≡◌, ◌<◌, ◌≤◌, false, [], length, take, vec_len, OnOk, IfOk, IfErr, is_ok, is_err};
-ghost use Rattle.tape_core.specs.Devices.{inner_of, has_failed, Told, ToldAll, StopsReading, Took, StoppedIn};
+ghost use Rattle.std.specs.Prelude.{◌≡◌, ◌<◌, ◌≤◌, true, false, [], length, take, vec_len, OnOk, IfOk, IfErr, is_ok, is_err};
+ghost use Rattle.tape_core.specs.Devices.{inner_of, has_failed, is_flushed, Told, ToldAll, StopsReading, Took, StoppedIn};
 
 use crate::fault::Fault;
 use std::alloc::{AllocError, Global};
@@ -13,11 +13,12 @@ use std::io::{Read, Write};
 /// How many bytes `slurp` asks a reader for at a time.
 const PIECE: usize = 65536;
 
-/// A reader or a writer, and whether it has failed.
+/// A reader or a writer, whether it has failed, and whether a writer's last call was a flush that didn't.
 #[derive(Drop)]
 pub struct Watched<T> {
     inner: T,
     failed: bool,
+    flushed: bool,
 }
 
 impl<T> Watched<T> {
@@ -29,6 +30,7 @@ impl<T> Watched<T> {
         Watched {
             inner,
             failed: false,
+            flushed: false,
         }
     }
 
@@ -72,12 +74,14 @@ impl<W: Write> Watched<W> {
         requires { has_failed self.old ≡ false }
         ensures ok { OnOk result (Took W.contents self.old self.new bytes.now) }
         ensures fault { IfErr result (λ fault. (fault ≡ Fault.WriteFault) × StoppedIn W.contents self.old self.new bytes.now) }
+        ensures unflushed { OnOk result (is_flushed self.new ≡ false) }
     {
         let mut rest = bytes;
         while !rest.is_empty() {
             let taken = self.write_some(rest)?;
             rest = &rest[taken..];
         }
+        self.flushed = false;
         Ok(())
     }
 
@@ -86,10 +90,12 @@ impl<W: Write> Watched<W> {
         requires { has_failed self.old ≡ false }
         ensures ok { OnOk result (Took W.contents self.old self.new []) }
         ensures fault { IfErr result (λ fault. (fault ≡ Fault.WriteFault) × StoppedIn W.contents self.old self.new []) }
+        ensures flushed { OnOk result (is_flushed self.new ≡ true) }
     {
-        let flushed = flush_answer(self.inner.flush());
-        self.failed = flushed.is_err();
-        flushed
+        let answer = flush_answer(self.inner.flush());
+        self.failed = answer.is_err();
+        self.flushed = answer.is_ok();
+        answer
     }
 
     /// Offers the writer a nonempty piece once, and tells how many bytes it took.
