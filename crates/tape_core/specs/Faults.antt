@@ -1,5 +1,5 @@
 -- The texts of the faults, as the program prints them (profile).
-use Rattle.std.specs.Prelude.{ℕ, List, ◌++◌, codes}
+use Rattle.std.specs.Prelude.{ℕ, Bool, true, false, List, ◌++◌, codes}
 use Rattle.std.specs.Fmt.{decimal}
 use Rattle.tape_core.specs.declared.fault.Fault.{Fault}
 use Rattle.tape_core.specs.declared.fault.Fault.TheVariants.{NoHeader, BadDelay, BadCount, MultiStream, DelayTooLarge, ChunkTooLong, TooManyChunks, TooManyBytes, ScriptShort, OutOfMemory, ReadFault, WriteFault}
@@ -22,3 +22,18 @@ fault_text (ScriptShort chunk) = codes "typescript ends inside chunk " ++ decima
 fault_text OutOfMemory = codes "out of memory"
 fault_text ReadFault = codes "read fault"
 fault_text WriteFault = codes "write fault"
+
+-- a device or want of memory, and nothing in the files (profile)
+abbrev pub is_stop : Fault → Bool
+is_stop OutOfMemory = true
+is_stop ReadFault = true
+is_stop WriteFault = true
+is_stop NoHeader = false
+is_stop (BadDelay line) = false
+is_stop (BadCount line) = false
+is_stop (MultiStream line) = false
+is_stop (DelayTooLarge line) = false
+is_stop (ChunkTooLong line) = false
+is_stop (TooManyChunks line) = false
+is_stop (TooManyBytes line) = false
+is_stop (ScriptShort chunk) = false

@@ -1,0 +1,6 @@
+-- Stand-in.
+use Rattle.std.specs.Prelude.{ℕ, List, Option, Some, None}
+
+-- stand-in
+unfoldable pub seconds_of : List ℕ → Option ℕ
+seconds_of text = None
