@@ -34,7 +34,8 @@ impl Recording {
     /// Stand-in.
     #[tactic(auto, unfolding(crate::specs::Due::due_count))]
     pub fn due_count(&self, _moment: u64) -> usize
-        ensures { result ≡ due_count self.now.chunks _moment }
+        ensures count { result ≡ due_count self.now.chunks _moment }
+        ensures within { result ≤ length self.now.chunks }
     {
         0
     }

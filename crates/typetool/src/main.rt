@@ -1,0 +1,6 @@
+//! Tells what a recording of a terminal shows by a moment.
+#![tactic(auto)]
+
+mod job;
+
+fn main(_rt: HostRuntime) {}
