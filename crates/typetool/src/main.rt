@@ -2,5 +2,7 @@
 #![tactic(auto)]
 
 mod job;
+mod words;
 
-fn main(_rt: HostRuntime) {}
+fn main(_rt: HostRuntime) {
+}
