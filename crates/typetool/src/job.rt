@@ -56,7 +56,7 @@ pub fn run<S: Read, T: Read, R: Read, O: Write, P: Write>(
 
     // An answer of any other kind: no device failed, and both texts went out whole.
     ensures sound { is_stopped result.fault ≡ false → (has_failed script.new ≡ false) × (has_failed timing.new ≡ false)
-        × (has_failed requests.new ≡ false) }
+        × (has_failed requests.new ≡ false) × (has_failed out.new ≡ false) × (has_failed out_timing.new ≡ false) }
     ensures answer { is_stopped result.fault ≡ false → (files : Files)
         → Tells S.remaining T.remaining R.remaining job script.old timing.old requests.old files
         → (done : Done) × Comes job files done × (result ≡ done.outcome)

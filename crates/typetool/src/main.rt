@@ -2,7 +2,11 @@
 #![tactic(auto)]
 
 mod job;
+mod program;
 mod words;
 
-fn main(_rt: HostRuntime) {
+use std::process::ExitCode;
+
+fn main(rt: HostRuntime) -> ExitCode {
+    ExitCode::from(program::start(&rt))
 }

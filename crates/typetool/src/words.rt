@@ -1,6 +1,6 @@
 //! The command line, read by clap.
 
-ghost use Rattle.std.specs.Prelude.{◌≡◌, ◌⊎◌, ◌≢◌, ◌∷◌, ◌++◌, [], true, false, None, Some, map, IfOk, IfErr, OnOk, string_bytes, codes};
+ghost use Rattle.std.specs.Prelude.{◌≡◌, ◌⊎◌, ◌≢◌, ◌∷◌, ◌++◌, ◌+◌, ◌≤◌, [], true, false, vec_len, None, Some, map, IfOk, IfErr, OnOk, string_bytes, codes};
 ghost use Rattle.std.specs.Option.{option_and_then};
 ghost use Rattle.clap.specs.Words.{app_of, found_of, rows_of, rule_of, subcommand_name_of, subcommand_rows_of};
 ghost use Rattle.clap.specs.declared.Command.TheViews.{out-Command as fields_of};
@@ -46,6 +46,7 @@ impl From<AllocError> for WordsFault {
 pub fn read_words(alloc: Global, words: &[String]) -> Result<Words, WordsFault>
     ensures taken { OnOk result (clap_faults (map string_bytes words.now) ≡ []) }
     ensures meaning { IfOk result (λ read. option_and_then meaning_of (subcommand_in (map string_bytes words.now)) ≡ Some (meaning_read read)) }
+    ensures paths { IfOk result (λ read. 2 ≤ vec_len read.paths) }
     ensures fault { IfErr result (FailsFor (map string_bytes words.now)) }
 {
     let matches = parse(alloc, words)?;
@@ -76,6 +77,7 @@ fn parse<'a>(alloc: Global, words: &'a [String]) -> Result<ArgMatches<'a>, Words
 /// The job and the paths of `due`, from its values.
 fn due_words(alloc: Global, values: &ArgMatches<'_>) -> Result<Words, WordsFault>
     ensures ok { IfOk result (λ read. due_meaning (rows_of (found_of values.now)) ≡ Some (meaning_read read)) }
+    ensures paths { IfOk result (λ read. vec_len read.paths ≡ 2) }
     ensures fault { IfErr result (λ fault. (fault ≡ WordsFault.Memory) ⊎ ((fault ≡ WordsFault.BadSeconds)
         × (seconds_of (value_of (codes "at") (rows_of (found_of values.now))) ≡ None))) }
 {
@@ -106,8 +108,9 @@ fn push_path(
     values: &ArgMatches<'_>,
     id: &str,
 ) -> Result<(), AllocError>
-    ensures { OnOk result (map string_bytes paths.new.items
+    ensures pushed { OnOk result (map string_bytes paths.new.items
         ≡ map string_bytes paths.old.items ++ value_of id.now (rows_of (found_of values.now)) ∷ []) }
+    ensures len { OnOk result (vec_len paths.new ≡ vec_len paths.old + 1) }
 {
     let path = String::from_str(alloc, value_text(values, id))?;
     paths.push(path)?;
@@ -173,9 +176,23 @@ fn due_command<'a>(alloc: Global) -> Result<Command<'a>, AllocError>
     ensures app { IfOk result (λ command. app_of command ≡ due_app) }
     ensures local { IfOk result (λ command. (fields_of command).has_globals ≡ false) }
 {
-    let at = seconds_flag(alloc, "at", "The moment, in seconds since the start, such as 12.5");
-    let script = path(alloc, "script", "SCRIPT", "The typescript that script(1) wrote");
-    let timing = path(alloc, "timing", "TIMING", "Its timing file, in the classic format");
+    let at = seconds_flag(
+        alloc,
+        "at",
+        "The moment, in seconds since the start, such as 12.5",
+    );
+    let script = path(
+        alloc,
+        "script",
+        "SCRIPT",
+        "The typescript that script(1) wrote",
+    );
+    let timing = path(
+        alloc,
+        "timing",
+        "TIMING",
+        "Its timing file, in the classic format",
+    );
     Command::new(alloc, "due")
         .about("Write the raw bytes of all chunks that are due by a moment")
         .arg(at)?
