@@ -1,5 +1,5 @@
 -- One piece after another, of what a reader tells or a writer takes.
-use Rattle.std.proofs.Common.{◌≡◌, ℕ, ◌<◌, ◌≤◌, Bool, true, false, List, [], ◌∷◌, ◌++◌, take, drop, length, refl, sym, ◌∙◌, ap, subst, append_assoc, append-nil, arith, rules, Option, Some, None, IfSome}
+use Rattle.std.proofs.Common.{◌≡◌, ℕ, false, List, [], ◌++◌, take, drop, refl, sym, ◌∙◌, ap, subst, append_assoc, append-nil, Option, Some, None, IfSome}
 use Rattle.std.specs.Io.KnownBytes.{Appends, Consumes, IsAtEnd}
 use Rattle.std.proofs.lemmas.List.{take-append-drop}
 use Rattle.tape_core.specs.declared.devices.Watched.{Watched}

@@ -1,5 +1,5 @@
 -- Stand-in.
-use Rattle.std.specs.Prelude.{ℕ, ◌+◌, List, [], take}
+use Rattle.std.specs.Prelude.{ℕ, List, [], take}
 use Rattle.tape_core.specs.declared.chunk.Chunk.{Chunk}
 use Rattle.tape_core.specs.Tape.{body}
 

@@ -1,5 +1,5 @@
 -- Stand-in.
-use Rattle.std.specs.Prelude.{ℕ, List, Option, Some, None}
+use Rattle.std.specs.Prelude.{ℕ, List, Option, None}
 
 -- stand-in
 unfoldable pub seconds_of : List ℕ → Option ℕ

@@ -58,13 +58,9 @@ impl<R: Read> Watched<R> {
         ensures fault { IfErr result (λ fault. fault ≡ Fault.ReadFault) }
         ensures failed { has_failed self.new ≡ is_err result }
     {
-        match self.inner.read(piece) {
-            Ok(count) => Ok(count),
-            Err(_) => {
-                self.failed = true;
-                Err(Fault::ReadFault)
-            }
-        }
+        let answer = self.inner.read(piece);
+        self.failed = answer.is_err();
+        answer.map_err(|_| Fault::ReadFault)
     }
 }
 
@@ -93,8 +89,8 @@ impl<W: Write> Watched<W> {
         ensures flushed { OnOk result (is_flushed self.new ≡ true) }
     {
         let answer = flush_answer(self.inner.flush());
-        self.failed = answer.is_err();
         self.flushed = answer.is_ok();
+        self.failed = !self.flushed;
         answer
     }
 
@@ -152,3 +148,6 @@ pub fn slurp<R: Read>(alloc: Global, reader: &mut Watched<R>) -> Result<Vec<u8>,
         text.extend_from_slice(&piece[..count])?;
     }
 }
+
+#[cfg(test)]
+mod tests;

@@ -1,7 +1,6 @@
-use Rattle.std.proofs.Common.{◌≡◌, arith, rules, [], sym}
+use Rattle.std.proofs.Common.{rules}
 use Rattle.std.proofs.lemmas.Slice.{between_to_end}
 use Rattle.std.proofs.lemmas.Result.{err_from_is_err_and}
-use Rattle.tape_core.specs.Devices.{Took, StoppedIn}
 use Rattle.tape_core.proofs.DeviceLemmas.{put_stopped, put_more}
 use Rattle.tape_core.proofs.devices.Watched.put.Goals as goal
 
