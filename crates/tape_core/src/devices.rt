@@ -70,14 +70,14 @@ impl<W: Write> Watched<W> {
         requires { has_failed self.old ≡ false }
         ensures ok { OnOk result (Took W.contents self.old self.new bytes.now) }
         ensures fault { IfErr result (λ fault. (fault ≡ Fault.WriteFault) × StoppedIn W.contents self.old self.new bytes.now) }
-        ensures unflushed { OnOk result (is_flushed self.new ≡ false) }
+        ensures unflushed { is_flushed self.new ≡ false }
     {
+        self.flushed = false;
         let mut rest = bytes;
         while !rest.is_empty() {
             let taken = self.write_some(rest)?;
             rest = &rest[taken..];
         }
-        self.flushed = false;
         Ok(())
     }
 
@@ -98,6 +98,7 @@ impl<W: Write> Watched<W> {
     fn write_some(&mut self, piece: &[u8]) -> Result<usize, Fault>
         requires sound { has_failed self.old ≡ false }
         requires nonempty { 0 < length piece.now }
+        ensures unflushed { is_flushed self.new ≡ is_flushed self.old }
         ensures taken { IfOk result (λ count. (0 < count) × (count ≤ length piece.now)) }
         ensures ok { IfOk result (λ count. Took W.contents self.old self.new (take count piece.now)) }
         ensures fault { IfErr result (λ fault. (fault ≡ Fault.WriteFault) × StoppedIn W.contents self.old self.new []) }
