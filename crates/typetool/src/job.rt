@@ -165,3 +165,6 @@ fn put_chunks<O: Write>(chunks: &[Chunk], out: &mut Watched<O>) -> Result<(), Fa
     }
     Ok(())
 }
+
+#[cfg(test)]
+mod tests;

@@ -199,3 +199,6 @@ fn due_command<'a>(alloc: Global) -> Result<Command<'a>, AllocError>
         .arg(script)?
         .arg(timing)
 }
+
+#[cfg(test)]
+mod tests;
