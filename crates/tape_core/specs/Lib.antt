@@ -1,6 +1,8 @@
-pub mod Devices
-pub mod Due
 pub mod Faults
-pub mod Reading
-pub mod Seconds
+pub mod Devices
 pub mod Tape
+pub mod Due
+pub mod Seconds
+pub mod Timing
+pub mod Reading
+pub mod Kept

@@ -1,18 +1,22 @@
-//! Recordings of a terminal, as `script` writes them in two files, and the devices that they come from and go to.
+//! Terminal recordings of script(1): a typescript and its timing file, read into a [`Recording`].
 #![tactic(auto)]
 
 mod bytes;
 mod chunk;
 pub mod devices;
+mod digits;
 pub mod fault;
+mod fields;
+pub mod laws;
 mod reading;
 mod recording;
 mod seconds;
+mod timing;
 
 pub use bytes::Bytes;
 pub use chunk::Chunk;
 pub use devices::{Watched, slurp};
 pub use fault::Fault;
 pub use reading::read_recording;
-pub use recording::{Recording, due_is_first};
+pub use recording::Recording;
 pub use seconds::read_seconds;

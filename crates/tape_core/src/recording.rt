@@ -1,18 +1,24 @@
-//! Stand-in.
-ghost use Rattle.std.specs.Prelude.{◌≡◌, ◌≤◌, List, ℕ, length};
-ghost use Rattle.tape_core.specs.Due.{due_count, due, first};
-ghost use Rattle.tape_core.specs.declared.chunk.Chunk.{Chunk};
+//! A recording, and when its chunks are due.
+ghost use Rattle.std.specs.Prelude.{◌≡◌, ◌<◌, ◌≤◌, All, IfOk, length};
+ghost use Rattle.std.specs.List.Sorted.{IsNonDecreasing, IsPartitionPoint};
+ghost use Rattle.tape_core.specs.Tape.{body_len, fits, longest_body, longest_delay, most_chunks};
+ghost use Rattle.tape_core.specs.Kept.{AreDueTimes};
+ghost use Rattle.tape_core.specs.Due.{due_count, due_time, play_length};
 
 use crate::bytes::Bytes;
 use crate::chunk::Chunk;
+use std::alloc::{AllocError, Global};
 use std::marker::Model;
 
-/// Stand-in.
+/// A recording: the header (the typescript's first line with its LF), the chunks that the timing
+/// counts, and the trailer (all bytes after them). script(1).
 #[derive(Debug, Drop)]
 pub struct Recording {
     header: Bytes,
     chunks: Vec<Chunk>,
     trailer: Bytes,
+    dues: Vec<u64>,
+    bytes: u64,
 }
 
 impl Model for Recording {
@@ -20,10 +26,42 @@ impl Model for Recording {
 
     ghost Value = { Tape };
 
+    ghost use Rattle.tape_core.specs.Kept.{IsKept};
+
     ghost view = { λ r. record { header = r.header; chunks = r.chunks.items; trailer = r.trailer } };
+
+    ghost invariant = { λ r. IsKept (record { header = r.header; chunks = r.chunks.items; trailer = r.trailer }) r.dues.items r.bytes };
 }
 
 impl Recording {
+    /// A recording of these parts, with its due times added up once.
+    pub(crate) fn from_parts(
+        alloc: Global,
+        header: Bytes,
+        chunks: Vec<Chunk>,
+        trailer: Bytes,
+    ) -> Result<Self, AllocError>
+        requires { fits (record { header = header; chunks = chunks.items; trailer = trailer }) }
+        ensures { IfOk result (λ r. r ≡ record { header = header; chunks = chunks.items; trailer = trailer }) }
+    {
+        let dues = due_times(alloc, chunks.as_slice())?;
+        let bytes = chunk_bytes(chunks.as_slice());
+        Ok(Recording {
+            header,
+            chunks,
+            trailer,
+            dues,
+            bytes,
+        })
+    }
+
+    /// The typescript's first line with its LF, whatever it says.
+    pub fn header(&self) -> &[u8]
+        ensures { result.now ≡ self.now.header }
+    {
+        self.header.as_slice()
+    }
+
     /// The chunks in order.
     pub fn chunks(&self) -> &[Chunk]
         ensures { result.now ≡ self.now.chunks }
@@ -31,18 +69,76 @@ impl Recording {
         self.chunks.as_slice()
     }
 
-    /// Stand-in.
-    #[tactic(auto, unfolding(crate::specs::Due::due_count))]
-    pub fn due_count(&self, _moment: u64) -> usize
-        ensures count { result ≡ due_count self.now.chunks _moment }
+    /// All bytes after the last chunk, such as the closing line that `script` writes.
+    pub fn trailer(&self) -> &[u8]
+        ensures { result.now ≡ self.now.trailer }
+    {
+        self.trailer.as_slice()
+    }
+
+    /// How many bytes the chunks hold together.
+    pub fn body_len(&self) -> u64
+        ensures { result ≡ body_len self.now.chunks }
+    {
+        self.bytes
+    }
+
+    /// The sum of all delays, in microseconds.
+    pub fn length(&self) -> u64
+        ensures { result ≡ play_length self.now.chunks }
+    {
+        self.dues.last().copied().unwrap_or(0)
+    }
+
+    /// The moment at which chunk `i` is due, in microseconds: the sum of delays 0 to `i`. Profile.
+    pub fn due_time(&self, i: usize) -> u64
+        requires { i < length self.now.chunks }
+        ensures { result ≡ due_time self.now.chunks i }
+    {
+        self.dues[i]
+    }
+
+    /// How many chunks are due by the moment, in microseconds. Logarithmic in their number. Profile.
+    pub fn due_count(&self, moment: u64) -> usize
+        ensures count { result ≡ due_count self.now.chunks moment }
         ensures within { result ≤ length self.now.chunks }
     {
-        0
+        up_to(self.dues.as_slice(), moment)
     }
 }
 
-/// Stand-in.
-#[tactic(auto, unfolding(crate::specs::Due::due_count, crate::specs::Due::due))]
-pub fn due_is_first()
-    ensures { (chunks : List Chunk) (t : ℕ) → due chunks t ≡ first chunks (due_count chunks t) }
-{}
+/// How many of the due times, which rise, are at most the moment.
+fn up_to(dues: &[u64], moment: u64) -> usize
+    requires { IsNonDecreasing dues.now }
+    ensures within { result ≤ length dues.now }
+    ensures point { IsPartitionPoint (λ due. due ≤ moment) (λ due. moment < due) dues.now result }
+{
+    dues.partition_point(|due| *due <= moment)
+}
+
+/// When each chunk is due.
+fn due_times(alloc: Global, chunks: &[Chunk]) -> Result<Vec<u64>, AllocError>
+    requires few { length chunks.now ≤ most_chunks }
+    requires delays { All (λ c. c.delay ≤ longest_delay) chunks.now }
+    ensures { IfOk result (λ dues. AreDueTimes chunks.now dues.items) }
+{
+    let mut dues = Vec::with_capacity(alloc, chunks.len())?;
+    let mut due: u64 = 0;
+    for chunk in chunks {
+        due += chunk.delay;
+        dues.push(due)?;
+    }
+    Ok(dues)
+}
+
+/// How many bytes the chunks hold together.
+fn chunk_bytes(chunks: &[Chunk]) -> u64
+    requires { body_len chunks.now ≤ longest_body }
+    ensures { result ≡ body_len chunks.now }
+{
+    let mut bytes: u64 = 0;
+    for chunk in chunks {
+        bytes += chunk.bytes.len() as u64;
+    }
+    bytes
+}

@@ -1,0 +1,110 @@
+-- Where the script ends inside a chunk.
+use Rattle.std.proofs.Common.{◌≡◌, ◌==◌, All, ℕ, ◌+◌, ◌-◌, ◌<◌, ◌≤◌, Bool, true, false, List, [], ◌++◌, length, get_or, take, drop, map, Some, None, nat_lt, refl, ap, sym, ◌∙◌, arith, length-append, zero-add, subst, append_assoc}
+use Rattle.std.specs.List.{position_or_len, range_with_len}
+use Rattle.std.proofs.lemmas.Bool.{lt-ltb, le-ltb, ltb-true}
+use Rattle.std.proofs.lemmas.List.{take-take, take_all, get_or-take, length-take, length-drop, length-map, take-append-drop}
+use Rattle.std.proofs.Math.ListN.{get_or-map}
+use Rattle.std.proofs.lemmas.List.Concat.{length-flat_map}
+use Rattle.std.proofs.lemmas.List.Folds.{fold-map}
+use Rattle.std.proofs.lemmas.List.FromFn.{get_or-range_with_len}
+use Rattle.std.proofs.lemmas.List.Sums.{position_or_len_is, sum_by-take-le, sum_by_more, fails_before_first, passes_at_first}
+use Rattle.tape_core.specs.declared.chunk.Chunk.{Chunk}
+use Rattle.tape_core.specs.declared.timing.Entry.{Entry}
+use Rattle.tape_core.specs.Tape.{IsHeader, body, body_len}
+use Rattle.tape_core.specs.Timing.{AreWithin, IsWithin, counted_bytes, entries_of, lines_of, timing_fault}
+use Rattle.tape_core.specs.Reading.{entry_for, fault_of, first_short, has_header, header_len, reads}
+use Rattle.tape_core.proofs.DueLemmas.{length_range}
+use Rattle.tape_core.proofs.LineLemmas.{timed_chunks}
+
+-- the chunks hold what their entries count
+pub counted_for : (chunks : List Chunk) → counted_bytes (map entry_for chunks) ≡ body_len chunks
+counted_for chunks = fold-map (λ n e. n + e.count) entry_for 0 chunks
+
+pub body_length : (chunks : List Chunk) → length (body chunks) ≡ body_len chunks
+body_length chunks = length-flat_map (λ c. c.bytes) chunks
+
+-- whether chunk i needs more bytes than there are
+abbrev is_short : ℕ → List Entry → ℕ → Bool
+is_short bytes entries i = nat_lt bytes (counted_bytes (take (i + 1) entries))
+
+module _ (bytes : ℕ) (entries : List Entry) where
+  fits_before : (k i : ℕ) → k < i → counted_bytes (take i entries) ≤ bytes → is_short bytes entries k ≡ false
+  fits_before k i lt le =
+      let front : take (k + 1) (take i entries) ≡ take (k + 1) entries = take-take (k + 1) i entries (omega arith) in
+      le-ltb bytes (counted_bytes (take (k + 1) entries)) (omega (arith, sum_by-take-le (λ e. e.count) (take i entries) (k + 1), ap counted_bytes front))
+
+  -- the first place at which a test on places passes
+  place_at : (i : ℕ) → i ≤ length entries → ((k : ℕ) → k < i → is_short bytes entries k ≡ false) → (i < length entries → is_short bytes entries i ≡ true)
+      → position_or_len (is_short bytes entries) (range_with_len 0 (length entries)) ≡ i
+  place_at i le before here =
+      position_or_len_is (is_short bytes entries) (range_with_len 0 (length entries)) i 0 (omega (arith, length_range 0 (length entries)))
+      (λ k lt. ap (is_short bytes entries) (get_or-range_with_len 0 (length entries) k 0 (omega arith) ∙ zero-add k) ∙ before k lt)
+      (λ lt. let in_range : i < length entries = omega (arith, length_range 0 (length entries)) in
+      ap (is_short bytes entries) (get_or-range_with_len 0 (length entries) i 0 in_range ∙ zero-add i) ∙ here in_range)
+
+  pub short_at : (i : ℕ) → i < length entries → counted_bytes (take i entries) ≤ bytes → bytes < counted_bytes (take (i + 1) entries) → first_short bytes entries ≡ Some i
+  short_at i lt le short =
+      let at = place_at i (omega arith) (λ k h. fits_before k i h le) (λ _. lt-ltb bytes (counted_bytes (take (i + 1) entries)) short) in
+      rw (at, length_range 0 (length entries), lt-ltb i (length entries) lt) refl
+
+  pub never_short : counted_bytes entries ≤ bytes → first_short bytes entries ≡ None
+  never_short le =
+      let all = take_all (length entries) entries (omega arith) in
+      let at = place_at (length entries) (omega arith) (λ k h. fits_before k (length entries) h (omega (arith, ap counted_bytes all))) (λ h. absurd (omega arith)) in
+      rw (at, length_range 0 (length entries), le-ltb (length entries) (length entries) (omega arith)) refl
+
+-- the chunks so far leave too few bytes for the next
+pub short_here : (bytes rest : List ℕ) (chunks : List Chunk) (entries : List Entry) (i : ℕ) (d : Entry) → map entry_for chunks ≡ take i entries → bytes ≡ body chunks ++ rest
+    → i < length entries → length rest < (get_or entries i d).count → first_short (length bytes) entries ≡ Some i
+short_here bytes rest chunks entries i d timed joined lt short =
+    let held = counted_for chunks in
+    let sum = ap counted_bytes timed in
+    let long = ap length joined ∙ length-append (body chunks) rest in
+    short_at (length bytes) entries i lt (omega (arith, body_length chunks, held, sum, long))
+    (omega (arith, body_length chunks, held, sum, long, sum_by_more (λ e. e.count) entries i d lt))
+
+module _ (script : List ℕ) (found : has_header script ≡ true) where
+  header_within : position_or_len (λ b. b == 10) script < length script
+  header_within = ltb-true _ _ found
+
+  -- the first line ends at its only LF
+  first_line : IsHeader (take (header_len script) script)
+  first_line =
+      let at = position_or_len (λ b. b == 10) script in
+      let long : length (take (header_len script) script) ≡ header_len script = omega (arith, length-take (header_len script) script, header_within) in
+      long ∙ ap (λ n. n + 1) (sym (position_or_len_is (λ b. b == 10) (take (header_len script) script) at 0 (omega (arith, long))
+      (λ k lt. ap (λ b. b == 10) (get_or-take (header_len script) script k 0 (omega arith)) ∙ fails_before_first (λ b. b == 10) script k 0 lt)
+      (λ lt. ap (λ b. b == 10) (get_or-take (header_len script) script at 0 (omega arith)) ∙ passes_at_first (λ b. b == 10) script 0 header_within)))
+
+-- chunks of entries within the limits are within them
+each_within : (chunks : List Chunk) (entries : List Entry) → map entry_for chunks ≡ entries → All IsWithin entries → All (λ c. IsWithin (entry_for c)) chunks
+each_within chunks entries are within k d lt =
+    let more : k < length entries = omega (arith, ap length are, length-map chunks entry_for) in
+    let at : get_or entries k (entry_for d) ≡ entry_for (get_or chunks k d) = ap (λ es. get_or es k (entry_for d)) (sym are) ∙ get_or-map entry_for chunks k d in
+    subst IsWithin at (within k (entry_for d) more)
+
+-- what is cut so is what the pair of files says
+pub reads_parts : (script timing : List ℕ) (entries : List Entry) (header rest trailer : List ℕ) (chunks : List Chunk)
+    → entries ≡ entries_of (lines_of timing) → timing_fault timing ≡ None → AreWithin entries → has_header script ≡ true
+    → header ≡ take (header_len script) script → rest ≡ drop (header_len script) script → rest ≡ body chunks ++ trailer → map entry_for chunks ≡ entries
+    → reads script timing (record { header = header; chunks = chunks; trailer = trailer })
+unfolding fault_of
+reads_parts script timing entries header rest trailer chunks read faultless within found head behind joined timed =
+    let each = each_within chunks entries timed within.each in
+    let long : length (body chunks) + length trailer ≡ length script - header_len script =
+    sym (length-append (body chunks) trailer) ∙ ap length (sym joined ∙ behind) ∙ length-drop (header_len script) script in
+    let sum : counted_bytes entries ≡ length (body chunks) = ap counted_bytes (sym timed) ∙ counted_for chunks ∙ sym (body_length chunks) in
+    let short = never_short (length script - header_len script) entries (omega arith) in
+    record {
+      faultless = rw (faultless, ← read, found, short) refl;
+      fitting = record {
+        header = rw head (first_line script found);
+        few = omega (arith, within.few, ap length timed, length-map chunks entry_for);
+        delays = λ k d lt. (each k d lt).delay;
+        lengths = λ k d lt. (each k d lt).count;
+        bytes = omega (arith, within.bytes, sum, body_length chunks);
+      };
+      timed = timed_chunks [] (lines_of timing) chunks faultless (timed ∙ read);
+      joined = sym (ap (λ h. h ++ body chunks ++ trailer) head ∙ append_assoc (take (header_len script) script) (body chunks) trailer
+          ∙ ap (λ x. take (header_len script) script ++ x) (sym joined ∙ behind) ∙ take-append-drop (header_len script) script);
+    }

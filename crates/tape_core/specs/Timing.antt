@@ -1,0 +1,150 @@
+-- The timing file, line by line: what a line says, and which fault it has.
+use Rattle.std.specs.Prelude.{◌≡◌, ℕ, ◌+◌, ◌<◌, ◌≤◌, ◌⊎◌, All, Bool, false, ◌||◌, ◌&&◌, List, [], ◌∷◌, ◌++◌, length, filter, Option, Some, None, Result, Ok, Err, ◌==◌, nat_lt, nat_le, if◌then◌else◌, sum_by}
+use Rattle.std.specs.Char.{is_ascii_digit}
+use Rattle.std.specs.List.{AllPass, list_all, slice_split, filter_map}
+use Rattle.std.specs.Option.{option_map, option_or}
+use Rattle.std.specs.Str.Parse.{digits_value}
+use Rattle.tape_core.specs.declared.timing.Entry.{Entry}
+use Rattle.tape_core.specs.declared.timing.LineFault.{LineFault}
+use Rattle.tape_core.specs.declared.timing.LineFault.TheVariants as line
+use Rattle.tape_core.specs.declared.fault.Fault.{Fault}
+use Rattle.tape_core.specs.declared.fault.Fault.TheVariants as fault
+use Rattle.tape_core.specs.Seconds.{SecondsText, micros_of}
+use Rattle.tape_core.specs.Tape.{longest_delay, longest_chunk, longest_body, most_chunks}
+
+-- Blanks are space and tab. Profile.
+abbrev pub is_blank : ℕ → Bool
+is_blank b = b == 32 || b == 9
+
+abbrev pub is_letter : ℕ → Bool
+is_letter b = (nat_le 65 b && nat_le b 90) || (nat_le 97 b && nat_le b 122)
+
+-- The text is a delay: decimal seconds, or `-` and decimal seconds, which is zero. script(1); `-`: profile.
+abbrev pub DelayText : List ℕ → ℕ → Type 0
+DelayText text delay = SecondsText text delay ⊎ ((seconds : List ℕ) × (us : ℕ) × (text ≡ 45 ∷ seconds) × SecondsText seconds us × (delay ≡ 0))
+
+-- The text is a count: one or more digits. script(1).
+pub record CountText (text : List ℕ) (count : ℕ) : Type 0 where
+  pub some : 0 < length text
+  pub digits : AllPass is_ascii_digit text
+  pub value : count ≡ digits_value 10 text
+
+-- A line of the classic timing format: blanks, a delay, at least one blank, a count, blanks. script(1); outer blanks: profile.
+pub record TimingLine (text : List ℕ) (delay count : ℕ) : Type 0 where
+  pub before : List ℕ
+  pub first : List ℕ
+  pub between : List ℕ
+  pub second : List ℕ
+  pub after : List ℕ
+  pub spelled : text ≡ before ++ first ++ between ++ second ++ after
+  pub blank_before : AllPass is_blank before
+  pub blank_between : AllPass is_blank between
+  pub blank_after : AllPass is_blank after
+  pub apart : 0 < length between
+  pub delayed : DelayText first delay
+  pub counted : CountText second count
+
+-- The fields of a line: its pieces between blanks that are not empty.
+abbrev pub fields : List ℕ → List (List ℕ)
+fields text = filter (λ piece. nat_lt 0 (length piece)) (slice_split is_blank text)
+
+-- The delay that a field writes, in microseconds.
+abbrev pub delay_of : List ℕ → Option ℕ
+delay_of [] = None
+delay_of (b ∷ bs) = if b == 45 then option_map (λ us. 0) (micros_of bs) else micros_of (b ∷ bs)
+
+-- The count that a field writes.
+abbrev pub count_of : List ℕ → Option ℕ
+count_of text = if nat_lt 0 (length text) && list_all is_ascii_digit text then Some (digits_value 10 text) else None
+
+-- The count where one field is left, and no other.
+abbrev pub only_count : List (List ℕ) → Option ℕ
+only_count [] = None
+only_count (text ∷ []) = count_of text
+only_count (text ∷ more ∷ rest) = None
+
+abbrev pub begins_with_letter : List ℕ → Bool
+begins_with_letter [] = false
+begins_with_letter (b ∷ bs) = is_letter b
+
+-- The faults of a line, in the order in which they are tried: multi-stream, bad delay, bad count, delay too large, chunk too long. Profile.
+abbrev pub within_limits : ℕ → ℕ → Result (Option Entry) LineFault
+within_limits delay count =
+    if nat_lt longest_delay delay then Err line.DelayTooLarge
+    else if nat_lt longest_chunk count then Err line.ChunkTooLong
+    else Ok (Some (record { delay = delay; count = count }))
+
+abbrev pub counted : ℕ → Option ℕ → Result (Option Entry) LineFault
+counted delay None = Err line.BadCount
+counted delay (Some count) = within_limits delay count
+
+abbrev pub delayed : Option ℕ → Option ℕ → Result (Option Entry) LineFault
+delayed None count = Err line.BadDelay
+delayed (Some delay) count = counted delay count
+
+abbrev pub entry_of_fields : List (List ℕ) → Result (Option Entry) LineFault
+entry_of_fields [] = Ok None
+entry_of_fields (first ∷ rest) = if begins_with_letter first then Err line.MultiStream else delayed (delay_of first) (only_count rest)
+
+-- What a line says: nothing where it is blank, an entry, or its first fault.
+abbrev pub entry_of : List ℕ → Result (Option Entry) LineFault
+entry_of text = entry_of_fields (fields text)
+
+-- The lines of a file: its pieces between LFs, without an empty last one.
+abbrev pub without_empty_last : List (List ℕ) → List (List ℕ)
+without_empty_last [] = []
+without_empty_last (piece ∷ []) = if length piece == 0 then [] else piece ∷ []
+without_empty_last (piece ∷ next ∷ more) = piece ∷ without_empty_last (next ∷ more)
+
+abbrev pub lines_of : List ℕ → List (List ℕ)
+lines_of text = without_empty_last (slice_split (λ b. b == 10) text)
+
+-- The entries of the lines that have one, in order.
+abbrev pub entry_in : Result (Option Entry) LineFault → Option Entry
+entry_in (Ok entry) = entry
+entry_in (Err f) = None
+
+abbrev pub entries_of : List (List ℕ) → List Entry
+entries_of lines = filter_map (λ text. entry_in (entry_of text)) lines
+
+abbrev pub counted_bytes : List Entry → ℕ
+counted_bytes entries = sum_by (λ e. e.count) entries
+
+-- A line's fault with the line's number, counted from 1.
+abbrev pub at_line : LineFault → ℕ → Fault
+at_line line.MultiStream n = fault.MultiStream n
+at_line line.BadDelay n = fault.BadDelay n
+at_line line.BadCount n = fault.BadCount n
+at_line line.DelayTooLarge n = fault.DelayTooLarge n
+at_line line.ChunkTooLong n = fault.ChunkTooLong n
+
+-- The fault of line n, after so many entries that count so many bytes: its own, or one entry or one byte too many. Profile.
+abbrev pub fault_on : ℕ → ℕ → ℕ → Result (Option Entry) LineFault → Option Fault
+fault_on n entries bytes (Err f) = Some (at_line f n)
+fault_on n entries bytes (Ok None) = None
+fault_on n entries bytes (Ok (Some e)) =
+    if nat_le most_chunks entries then Some (fault.TooManyChunks n)
+    else if nat_lt longest_body (bytes + e.count) then Some (fault.TooManyBytes n)
+    else None
+
+-- The fault of a line that stands after the others: blank lines count in its number, and not as entries.
+abbrev pub fault_after : List (List ℕ) → List ℕ → Option Fault
+fault_after before text = fault_on (length before + 1) (length (entries_of before)) (counted_bytes (entries_of before)) (entry_of text)
+
+-- The fault of the first line that has one, where the lines stand after those before.
+abbrev pub first_fault : List (List ℕ) → List (List ℕ) → Option Fault
+first_fault before [] = None
+first_fault before (text ∷ rest) = option_or (fault_after before text) (first_fault (before ++ text ∷ []) rest)
+
+abbrev pub timing_fault : List ℕ → Option Fault
+timing_fault timing = first_fault [] (lines_of timing)
+
+-- The limits of one entry, and of all together. Profile.
+pub record IsWithin (entry : Entry) : Type 0 where
+  pub delay : entry.delay ≤ longest_delay
+  pub count : entry.count ≤ longest_chunk
+
+pub record AreWithin (entries : List Entry) : Type 0 where
+  pub few : length entries ≤ most_chunks
+  pub each : All IsWithin entries
+  pub bytes : counted_bytes entries ≤ longest_body

@@ -1,0 +1,81 @@
+use super::*;
+use std::test::Fail;
+
+const EMPTY: &[u8] = b"Script started on X\n";
+const AB: &[u8] = b"Script started on X\nab";
+
+#[test]
+fn faults_of_pairs(rt: HostRuntime) {
+    let rows: [(&[u8], &[u8], Fault); 22] = [
+        (AB, b"0.5 3\n", Fault::ScriptShort(0)),
+        (AB, b"0 1\n0 1\n0 1\n", Fault::ScriptShort(2)),
+        (AB, b"0.1 1\nO 0.1 5\n", Fault::MultiStream(2)),
+        (b"", b"0.1 1\nO 0.1 5\n", Fault::MultiStream(2)),
+        (EMPTY, b"1000000.000001 0\n", Fault::DelayTooLarge(1)),
+        (EMPTY, b"0 1048576\n", Fault::ScriptShort(0)),
+        (EMPTY, b"0 1048577\n", Fault::ChunkTooLong(1)),
+        (b"no line", b".5 1\n", Fault::BadDelay(1)),
+        (b"no line", b"", Fault::NoHeader),
+        (AB, b"\n1 2 3\n", Fault::BadCount(2)),
+        (AB, b"1 1\r\n", Fault::BadCount(1)),
+        (AB, b"\r\n", Fault::BadDelay(1)),
+        (AB, b"1\n", Fault::BadCount(1)),
+        (AB, b"1 \n", Fault::BadCount(1)),
+        (AB, b"1 -1\n", Fault::BadCount(1)),
+        (AB, b"--1 1\n", Fault::BadDelay(1)),
+        (AB, b"- 1\n", Fault::BadDelay(1)),
+        (AB, b"1.2.3 1\n", Fault::BadDelay(1)),
+        (AB, b"1,5 1\n", Fault::BadDelay(1)),
+        (AB, b"z\n1,5 1\n", Fault::MultiStream(1)),
+        (AB, b"1000001 1048577\n", Fault::DelayTooLarge(1)),
+        (AB, b"1000001 x\n", Fault::BadCount(1)),
+    ];
+    for (script, timing, fault) in rows {
+        match read_recording(rt.alloc(), script, timing) {
+            Ok(_) => assert!(rt; false, "no fault in {timing:?}"),
+            Err(found) => assert_eq!(rt; found, fault, "in {timing:?}"),
+        }
+    }
+}
+
+#[test]
+fn chunks_of_a_pair(rt: HostRuntime) -> Result<(), Fail> {
+    let recording = read_recording(rt.alloc(), AB, b"0.000000 1\n0.500000 1\n")?;
+    assert_eq!(rt; recording.header(), EMPTY);
+    assert_eq!(rt; recording.trailer().len(), 0);
+    assert_eq!(rt; recording.chunks().len(), 2);
+    assert_eq!(rt; recording.body_len(), 2);
+    assert_eq!(rt; recording.length(), 500_000);
+    assert_eq!(rt; recording.due_time(0), 0);
+    assert_eq!(rt; recording.due_time(1), 500_000);
+    for (moment, count) in [(0, 1), (499_999, 1), (500_000, 2), (u64::MAX, 2)] {
+        assert_eq!(rt; recording.due_count(moment), count, "at {moment}");
+    }
+    for (chunk, text) in recording.chunks().iter().zip([b"a", b"b"]) {
+        assert_eq!(rt; chunk.bytes.as_slice(), text.as_slice());
+    }
+    Ok(())
+}
+
+#[test]
+fn lenient_lines(rt: HostRuntime) -> Result<(), Fail> {
+    let rows: [(&[u8], usize, u64); 8] = [
+        (b"0 1\n0 1\n", 2, 0),
+        (b" 0.1\t2 \n\n-0.5 0", 2, 100_000),
+        (b"-9999999 0\n", 1, 0),
+        (b"1000000 0\n", 1, 1_000_000_000_000),
+        (b"1000000.0000009 0\n", 1, 1_000_000_000_000),
+        (b"007.25 0000001\n", 1, 7_250_000),
+        (b" \t\n\n", 0, 0),
+        (b"1. 2\n2 0\n", 2, 3_000_000),
+    ];
+    for (timing, chunks, length) in rows {
+        let recording = read_recording(rt.alloc(), AB, timing)?;
+        assert_eq!(rt; recording.chunks().len(), chunks, "of {timing:?}");
+        assert_eq!(rt; recording.length(), length, "of {timing:?}");
+    }
+    let recording = read_recording(rt.alloc(), b"one line\nab and the rest\n", b"0 1\n")?;
+    assert_eq!(rt; recording.header(), b"one line\n".as_slice());
+    assert_eq!(rt; recording.trailer(), b"b and the rest\n".as_slice());
+    Ok(())
+}

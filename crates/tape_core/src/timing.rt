@@ -1,0 +1,143 @@
+//! The classic timing format: a line for each output, with its delay and its count.
+ghost use Rattle.std.specs.Prelude.{◌≡◌, ◌≤◌, ◌≢◌, false, None, Some, All, IfOk, IfErr, IfSome, length, min};
+ghost use Rattle.std.specs.Option.{option_map};
+ghost use Rattle.tape_core.specs.Faults.{is_stop};
+ghost use Rattle.tape_core.specs.Seconds.{last_moment};
+ghost use Rattle.tape_core.specs.Timing.{AreWithin, IsWithin, at_line, begins_with_letter, count_of, delay_of, entries_of, entry_of, fields, lines_of, only_count, timing_fault};
+ghost use Rattle.tape_core.specs.declared.fault.Fault.TheVariants as fault;
+
+use crate::digits::{are_digits, number};
+use crate::fault::Fault;
+use crate::fields::{next_field, next_line};
+use crate::seconds::read_seconds;
+use std::alloc::{AllocError, Global};
+
+/// What a timing line says of its chunk: the delay in microseconds, and how many bytes it has.
+#[derive(Clone, Copy, Debug)]
+pub struct Entry {
+    pub delay: u64,
+    pub count: u64,
+}
+
+/// What is wrong with one line by itself.
+#[derive(Clone, Copy, Debug)]
+pub enum LineFault {
+    MultiStream,
+    BadDelay,
+    BadCount,
+    DelayTooLarge,
+    ChunkTooLong,
+}
+
+impl LineFault {
+    /// The fault with the number of its line, counted from 1.
+    fn at(self, line: u64) -> Fault
+        ensures fault { result ≡ at_line self line }
+        ensures kinds { is_stop result ≡ false }
+    {
+        match self {
+            LineFault::MultiStream => Fault::MultiStream(line),
+            LineFault::BadDelay => Fault::BadDelay(line),
+            LineFault::BadCount => Fault::BadCount(line),
+            LineFault::DelayTooLarge => Fault::DelayTooLarge(line),
+            LineFault::ChunkTooLong => Fault::ChunkTooLong(line),
+        }
+    }
+}
+
+/// The delay that a field writes, at most the greatest moment: `-` makes it zero.
+#[tactic(auto, unfolding(crate::specs::Seconds::seconds_of))]
+fn read_delay(field: &[u8]) -> Option<u64>
+    ensures { result ≡ option_map (λ us. min us last_moment) (delay_of field.now) }
+{
+    match field {
+        [b'-', seconds @ ..] => read_seconds(seconds).map(|_| 0),
+        _ => read_seconds(field),
+    }
+}
+
+/// The count that a field writes, at most 10^18.
+fn read_count(field: &[u8]) -> Option<u64>
+    ensures { result ≡ option_map (λ n. min n last_moment) (count_of field.now) }
+{
+    if !field.is_empty() && are_digits(field) {
+        Some(number(field, 1_000_000_000_000_000_000))
+    } else {
+        None
+    }
+}
+
+/// The count where it is the only field of the text.
+fn read_only_count(text: &[u8]) -> Option<u64>
+    ensures { result ≡ option_map (λ n. min n last_moment) (only_count (fields text.now)) }
+{
+    let (field, rest) = next_field(text)?;
+    match next_field(rest) {
+        None => read_count(field),
+        Some(_) => None,
+    }
+}
+
+/// Whether the field begins with a letter.
+fn has_letter_first(field: &[u8]) -> bool
+    ensures { result ≡ begins_with_letter field.now }
+{
+    match field {
+        [first, ..] => first.is_ascii_alphabetic(),
+        [] => false,
+    }
+}
+
+/// What a line says: None where it is blank, its entry, or its first fault.
+fn read_entry(text: &[u8]) -> Result<Option<Entry>, LineFault>
+    ensures said { result ≡ entry_of text.now }
+    ensures within { IfOk result (λ entry. IfSome entry IsWithin) }
+{
+    let Some((first, rest)) = next_field(text) else {
+        return Ok(None);
+    };
+    if has_letter_first(first) {
+        return Err(LineFault::MultiStream);
+    }
+    let delay = read_delay(first).ok_or(LineFault::BadDelay)?;
+    let count = read_only_count(rest).ok_or(LineFault::BadCount)?;
+    if delay > 1_000_000_000_000 {
+        return Err(LineFault::DelayTooLarge);
+    }
+    if count > 1_048_576 {
+        return Err(LineFault::ChunkTooLong);
+    }
+    Ok(Some(Entry { delay, count }))
+}
+
+/// Reads the entries of all lines that aren't blank, or the fault of the first line that has one.
+pub fn read_timing(alloc: Global, timing: &[u8]) -> Result<Vec<Entry>, Fault>
+    ensures entries { IfOk result (λ v. v.items ≡ entries_of (lines_of timing.now)) }
+    ensures faultless { IfOk result (λ v. timing_fault timing.now ≡ None) }
+    ensures within { IfOk result (λ v. AreWithin v.items) }
+    ensures fault { IfErr result (λ f. f ≢ fault.OutOfMemory → timing_fault timing.now ≡ Some f) }
+    ensures kinds { IfErr result (λ f. f ≢ fault.OutOfMemory → is_stop f ≡ false) }
+{
+    let mut entries = Vec::new(alloc);
+    let mut bytes: u64 = 0;
+    let mut line: u64 = 0;
+    let mut rest = timing;
+    while !rest.is_empty() {
+        let (text, after) = next_line(rest);
+        rest = after;
+        line += 1;
+        match read_entry(text) {
+            Err(fault) => return Err(fault.at(line)),
+            Ok(None) => {}
+            Ok(Some(_)) if entries.len() >= 1_000_000 => return Err(Fault::TooManyChunks(line)),
+            Ok(Some(entry)) => {
+                bytes += entry.count;
+                if bytes > 1_073_741_824 {
+                    return Err(Fault::TooManyBytes(line));
+                }
+                entries.push(entry).map_err(AllocError::from)?;
+            }
+        }
+    }
+    Ok(entries)
+}

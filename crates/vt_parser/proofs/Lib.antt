@@ -1,0 +1,10 @@
+pub mod Lists
+pub mod Numbers
+pub mod Bytes
+pub mod Shapes
+pub mod Control
+pub mod Joins
+pub mod Agrees
+pub mod LawLemmas
+pub mod ProperLemmas
+pub mod Lanes

@@ -1,0 +1,6 @@
+use Rattle.std.proofs.Common.{◌≡◌, take}
+use Rattle.vt_parser.proofs.machine.copied.Given as goal
+
+-- the parameters that have been passed
+abbrev pub invariant-loop-param : goal.invariant-loop-param
+invariant-loop-param l = l.copy.items ≡ take l.param-index l.param-items

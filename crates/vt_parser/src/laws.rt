@@ -1,0 +1,43 @@
+//! What holds of every step, for the layers above. Each function's contract is the law, and its body is empty.
+ghost use Rattle.vt_parser.specs.Law.{StateDecides, StaysShown, GroundIsEmpty, FinishedLeavesNothing, PendingPays, GraphicIsShown, RunsAreGraphic, CommandsAreProper};
+
+/// Pending bytes that show one state give one command after any byte, and show one state again.
+pub fn state_decides()
+    ensures { StateDecides }
+{}
+
+/// What is pending after a byte is shown by a state again.
+pub fn stays_shown()
+    ensures { StaysShown }
+{}
+
+/// Nothing pending is Ground in each mode, and only nothing is.
+pub fn ground_is_empty()
+    ensures { GroundIsEmpty }
+{}
+
+/// A finished sequence leaves nothing pending, so that its effect may change the mode.
+pub fn finished_leaves_nothing()
+    ensures { FinishedLeavesNothing }
+{}
+
+/// The bytes that a command takes at least are paid by its byte and by what was pending.
+pub fn pending_pays()
+    ensures { PendingPays }
+{}
+
+/// On ground a graphic character is shown, and the parser stays on ground.
+pub fn graphic_is_shown()
+    ensures { GraphicIsShown }
+{}
+
+/// No byte of a run is anything but a graphic character.
+pub fn runs_are_graphic()
+    ensures { RunsAreGraphic }
+{
+}
+
+/// The numbers of every command are in their ranges.
+pub fn commands_are_proper()
+    ensures { CommandsAreProper }
+{}

@@ -1,0 +1,85 @@
+//! The control syntax of a VT100: bytes to commands, one byte at a time, in ANSI and in VT52 mode.
+//!
+//! The forms of sequences are those of ECMA-48, and of EK-VT100-UG chapter 3 in VT52 mode. Nothing here takes memory or
+//! refuses a byte.
+#![tactic(auto)]
+
+ghost use Rattle.std.specs.Prelude.{◌≡◌, ℕ, List, Some, IfSome};
+ghost use Rattle.vt_parser.specs.View.{parser_view, IsShown};
+ghost use Rattle.vt_parser.specs.Step.{command_of, pending_after, mode_after};
+ghost use Rattle.vt_parser.specs.Law.{IsProper};
+
+mod commands;
+mod controls;
+pub mod laws;
+mod machine;
+mod runs;
+mod states;
+#[cfg(test)]
+mod tests;
+
+pub use commands::{Command, Mode};
+pub use runs::printable_run;
+pub use states::ParserState;
+use std::marker::Model;
+
+/// Where a reader of terminal output stands in the control syntax.
+#[derive(Debug, Drop)]
+pub struct Parser {
+    state: ParserState,
+}
+
+impl Model for Parser {
+    ghost use Rattle.vt_parser.specs.declared.states.ParserState.{ParserState};
+
+    ghost Value = { ParserState };
+
+    ghost use Rattle.vt_parser.specs.View.{IsShown};
+
+    ghost view = { λ parser. parser.state };
+
+    ghost invariant = { λ parser. IsShown parser.state };
+}
+
+impl Parser {
+    /// A parser on ground.
+    pub fn new() -> Self
+        ensures { result ≡ ParserState.Ground }
+    {
+        Parser {
+            state: ParserState::Ground,
+        }
+    }
+
+    /// Takes one byte. The mode that is given matters only at an ESC: the mode at its ESC decides how a sequence is read
+    /// to its end. A finished sequence whose form has no effect gives no command.
+    #[inline]
+    pub fn step(&mut self, mode: Mode, byte: u8) -> Option<Command>
+        // Whatever pending bytes the state stands for, the command is theirs ..
+        ensures command { (m : Mode) (pending : List ℕ)
+            → parser_view m pending ≡ Some self.old → result ≡ command_of m pending byte }
+        // .. and the new state shows what is pending then.
+        ensures state { (m : Mode) (pending : List ℕ) → parser_view m pending ≡ Some self.old
+            → parser_view (mode_after mode m byte) (pending_after m pending byte) ≡ Some self.new }
+        ensures proper { IfSome result IsProper }
+    {
+        machine::advance(&mut self.state, mode, byte)
+    }
+
+    /// How far the pending sequence has come.
+    #[inline]
+    pub fn state(&self) -> &ParserState
+        ensures value { result.now ≡ self.now }
+        // Each parser stands for some pending bytes.
+        ensures shown { IsShown self.now }
+    {
+        &self.state
+    }
+
+    /// Makes this parser stand where the other one does.
+    pub fn copy_from(&mut self, other: &Parser)
+        ensures { self.new ≡ other.now }
+    {
+        machine::copy_state(&mut self.state, &other.state);
+    }
+}

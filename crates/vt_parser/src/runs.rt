@@ -1,0 +1,48 @@
+//! Runs of graphic characters, 32 bytes at a time.
+ghost use Rattle.std.specs.Prelude.{◌≡◌, ◌+◌, ◌≤◌, length, drop, map};
+ghost use Rattle.std.specs.List.{prefix_len};
+ghost use Rattle.std.specs.Simd.Lanes.{mask_l};
+ghost use Rattle.vt_parser.specs.Control.{is_graphic, is_other};
+
+use std::simd::prelude::*;
+
+const LANES: usize = 32;
+
+// A bit for each lane that is no graphic character. Less 32, those from 0 to 31 wrap round to the top.
+#[inline]
+fn others(lanes: u8x32) -> u64
+    ensures { result ≡ mask_l (map is_other lanes) }
+{
+    (lanes - u8x32::splat(32))
+        .simd_ge(u8x32::splat(95))
+        .to_bitmask()
+}
+
+// The run from `from` on, a byte at a time.
+#[inline]
+fn run_end_slowly(bytes: &[u8], from: usize) -> usize
+    requires { from ≤ length bytes.now }
+    ensures { result ≡ from + prefix_len is_graphic (drop from bytes.now) }
+{
+    let mut end = from;
+    while end < bytes.len() && matches!(bytes[end], 32..=126) {
+        end += 1;
+    }
+    end
+}
+
+/// The length of the longest front of bytes 32 to 126.
+pub fn printable_run(bytes: &[u8]) -> usize
+    ensures value { result ≡ prefix_len is_graphic bytes.now }
+    ensures within { result ≤ length bytes.now }
+{
+    let mut end = 0;
+    while bytes.len() - end >= LANES {
+        let found = others(u8x32::from_slice(&bytes[end..]));
+        if found != 0 {
+            return end + found.trailing_zeros() as usize;
+        }
+        end += LANES;
+    }
+    run_end_slowly(bytes, end)
+}

@@ -1,0 +1,33 @@
+//! What a parser shows of an unfinished sequence.
+use arrayvec::ArrayVec;
+
+/// How far the pending sequence has come.
+#[derive(Debug, PartialEq, Eq, Drop)]
+pub enum ParserState {
+    /// Nothing is pending.
+    Ground,
+    /// ESC in ANSI mode.
+    Escape,
+    /// ESC and one intermediate, 32 to 47.
+    EscapeOne(u8),
+    /// ESC and two or more intermediates, which will have no effect.
+    EscapeMany,
+    /// ESC and `[`.
+    CsiStart,
+    /// ESC, `[` and a well formed text: whether it begins with `?`, the first 16 parameters, each at most 9,999, and whether there are more than 16.
+    Csi {
+        private: bool,
+        params: ArrayVec<u16, 16>,
+        over: bool,
+    },
+    /// ESC, `[` and a text that isn't well formed, which will have no effect.
+    CsiIgnored,
+    /// A string (DCS, SOS, OSC, PM and APC alike), whose content is skipped.
+    Text,
+    /// ESC in VT52 mode.
+    Vt52Escape,
+    /// ESC and `Y` in VT52 mode.
+    Vt52Line,
+    /// ESC, `Y` and the byte of the line, 32 to 126.
+    Vt52Column(u8),
+}

@@ -1,0 +1,10 @@
+pub mod Answers
+pub mod Erased
+pub mod Index
+pub mod Rows
+pub mod Runs
+pub mod SoundRows
+pub mod Soundness
+pub mod Stops
+pub mod Tables
+pub mod Turns

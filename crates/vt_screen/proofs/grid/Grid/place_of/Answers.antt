@@ -1,0 +1,10 @@
+use Rattle.std.proofs.Common.{◌≡◌, ℕ, List, ◌∙◌, ap, arith}
+use Rattle.vt_screen.specs.Places.{Held, place_at}
+use Rattle.vt_screen.proofs.Index.{place_read, place_below}
+use Rattle.vt_screen.proofs.grid.Grid.place_of.Goals as goal
+
+pub returns-clause-value : goal.returns-clause-value
+returns-clause-value c = place_read c.self.inside.order c.args.line ∙ ap (λ (h : Held). place_at h.order c.args.line) c.self.view_is
+
+pub returns-clause-within : goal.returns-clause-within
+returns-clause-within c = place_below _ _ c.self.invariant c.self.view_is c.args.line c.requires.low c.requires.high

@@ -1,0 +1,14 @@
+pub mod Attributes
+pub mod Cells
+pub mod Erasures
+pub mod Lines
+pub mod Moves
+pub mod Picture
+pub mod Places
+pub mod Puts
+pub mod RenditionByte
+pub mod Scrolls
+pub mod Table
+pub mod Tabs
+pub mod View
+pub mod Written

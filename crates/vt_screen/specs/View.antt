@@ -1,0 +1,19 @@
+-- What the fields of a screen stand for.
+use Rattle.vt_screen.specs.declared.screen.Screen.TheInside.{Inside}
+use Rattle.vt_screen.specs.Picture.{Picture}
+use Rattle.vt_screen.specs.Places.{Shown, rows_of}
+
+abbrev pub picture_of : Inside → Picture
+picture_of s = record {
+  wide = s.wide;
+  rows = rows_of s.grid;
+  line = s.line;
+  column = s.column;
+  wrap = s.wrap;
+  top = s.top;
+  bottom = s.bottom;
+  tabs = s.tabs;
+}
+
+abbrev pub shown_of : Inside → Shown
+shown_of s = record { picture = picture_of s; order = s.grid.order; places = s.grid.places }

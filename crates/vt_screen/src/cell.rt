@@ -1,0 +1,178 @@
+//! Cells, and rows of 132 of them.
+
+ghost use Rattle.std.specs.Prelude.{◌≡◌, ℕ, ◌+◌, ◌-◌, ◌<◌, ◌≤◌, length, nat_le, nat_lt, ◌&&◌, if◌then◌else◌, slice_index};
+ghost use Rattle.vt_screen.specs.Cells.{blank, blank_row, cell_at, is_single, row_by};
+ghost use Rattle.vt_screen.specs.Erasures.{part_erased};
+ghost use Rattle.vt_screen.specs.Lines.{resized, patterned};
+ghost use Rattle.vt_screen.specs.Picture.{columns, margin_of};
+ghost use Rattle.vt_screen.specs.Puts.{with_cell};
+ghost use Rattle.vt_screen.specs.Written.{filled, written};
+
+use crate::rendition::Rendition;
+
+/// How many cells a row holds, whatever the number of columns.
+pub const CELLS: usize = 132;
+
+/// A glyph and its rendition. Glyphs 32 to 126 are the characters of ASCII, those below 32 the special
+/// graphics.
+#[derive(Clone, Copy, Debug, PartialEq, Eq)]
+pub struct Cell {
+    pub glyph: u8,
+    pub rendition: Rendition,
+}
+
+const _: () = prove!(size_of::<Cell>() == 2);
+
+/// The size of a line: single width, double width, or a half of double height.
+#[derive(Clone, Copy, Debug, PartialEq, Eq)]
+pub enum Size {
+    Single,
+    Double,
+    Top,
+    Bottom,
+}
+
+/// A line's size and its cells from column 1 on.
+#[derive(Clone, Copy, Debug, PartialEq, Eq)]
+pub struct Row {
+    pub size: Size,
+    pub cells: [Cell; 132],
+}
+
+impl Cell {
+    /// A space without rendition.
+    pub fn blank() -> Self
+        ensures { result ≡ blank }
+    {
+        Cell {
+            glyph: 32,
+            rendition: Rendition::plain(),
+        }
+    }
+}
+
+impl Size {
+    pub fn is_single(self) -> bool
+        ensures { result ≡ is_single self }
+    {
+        match self {
+            Size::Single => true,
+            Size::Double | Size::Top | Size::Bottom => false,
+        }
+    }
+}
+
+impl Row {
+    /// 132 blank cells, single width.
+    pub fn blank() -> Self
+        ensures { result ≡ blank_row }
+    {
+        Row {
+            size: Size::Single,
+            cells: [Cell::blank(); 132],
+        }
+    }
+
+    /// Writes one cell.
+    pub(crate) fn write(&mut self, column: u8, cell: Cell)
+        requires whole { length self.old.cells ≡ 132 }
+        requires low { 1 ≤ column }
+        requires high { column ≤ 132 }
+        ensures { self.new ≡ with_cell column cell self.old }
+    {
+        self.cells[column as usize - 1] = cell;
+    }
+
+    /// Writes glyphs from a column on, all with one rendition.
+    pub(crate) fn write_run(&mut self, column: u8, glyphs: &[u8], rendition: Rendition)
+        requires whole { length self.old.cells ≡ 132 }
+        requires low { 1 ≤ column }
+        requires high { column + length glyphs.now ≤ 133 }
+        ensures written { self.new ≡ written column glyphs.now rendition self.old }
+        ensures whole { length self.new.cells ≡ 132 }
+    {
+        let start = column as usize - 1;
+        for (i, glyph) in glyphs.iter().enumerate() {
+            self.cells[start + i] = Cell {
+                glyph: *glyph,
+                rendition,
+            };
+        }
+    }
+
+    /// Makes the cells from one column to another all the same.
+    pub(crate) fn fill(&mut self, from: u8, to: u8, cell: Cell)
+        requires whole { length self.old.cells ≡ 132 }
+        requires low { 1 ≤ from }
+        requires some { from ≤ to }
+        requires high { to ≤ 132 }
+        ensures { self.new ≡ filled from to cell self.old }
+    {
+        let Cell { glyph, rendition } = cell;
+        for i in from as usize - 1..to as usize {
+            self.cells[i] = Cell { glyph, rendition };
+        }
+    }
+
+    /// Gives the row another size. From single to double the cells right of the middle become blank.
+    pub(crate) fn resize(&mut self, size: Size, wide: bool)
+        requires whole { length self.old.cells ≡ 132 }
+        ensures { self.new ≡ resized wide size self.old }
+    {
+        if self.size.is_single() && !size.is_single() {
+            self.fill(margin_of(wide, size) + 1, 132, Cell::blank());
+        }
+        self.size = size;
+    }
+
+    /// Blanks the cells of a part, seen from the cursor's column.
+    pub(crate) fn erase_part(&mut self, part: u8, column: u8)
+        requires whole { length self.old.cells ≡ 132 }
+        requires part { part ≤ 2 }
+        requires low { 1 ≤ column }
+        requires high { column ≤ 132 }
+        ensures { self.new ≡ part_erased part column self.old }
+    {
+        match part {
+            0 => self.fill(column, 132, Cell::blank()),
+            1 => self.fill(1, column, Cell::blank()),
+            _ => self.fill(1, 132, Cell::blank()),
+        }
+    }
+
+    /// Fills the row to a column with the letter E, single width.
+    pub(crate) fn align(&mut self, to: u8)
+        requires whole { length self.old.cells ≡ 132 }
+        requires low { 1 ≤ to }
+        requires high { to ≤ 132 }
+        ensures { self.new ≡ patterned to self.old }
+    {
+        self.fill(
+            1,
+            to,
+            Cell {
+                glyph: b'E',
+                rendition: Rendition::plain(),
+            },
+        );
+        self.size = Size::Single;
+    }
+}
+
+/// How many columns a screen has.
+pub(crate) fn columns_of(wide: bool) -> u8
+    ensures { result ≡ columns wide }
+{
+    if wide { 132 } else { 80 }
+}
+
+/// The right margin of a line of a size.
+pub(crate) fn margin_of(wide: bool, size: Size) -> u8
+    ensures { result ≡ margin_of wide size }
+{
+    if size.is_single() {
+        columns_of(wide)
+    } else {
+        columns_of(wide) / 2
+    }
+}

@@ -1,0 +1,14 @@
+//! The screen of a terminal: cells told by line and column, a cursor, margins, tabs and line sizes.
+//!
+//! Fixed arrays: nothing here takes memory, and nothing is refused.
+#![tactic(auto)]
+
+mod cell;
+mod grid;
+pub mod laws;
+mod rendition;
+mod screen;
+
+pub use cell::{Cell, Row, Size};
+pub use rendition::Rendition;
+pub use screen::Screen;
