@@ -10,7 +10,8 @@ ghost use Rattle.typetool.specs.Output.{Files, Done, Comes, Tells, Wrote, Stoppe
 
 use std::alloc::Global;
 use std::io::{Read, Write};
-use tape_core::{Chunk, Fault, Recording, Watched, due_is_first, read_recording, slurp};
+use tape_core::laws::due_is_first;
+use tape_core::{Chunk, Fault, Recording, Watched, read_recording, slurp};
 use thiserror::Error;
 
 /// What is to be done with a recording. Moments are in microseconds.
