@@ -238,7 +238,7 @@ impl Screen {
         ensures picture { self.new.picture ≡ stepped_right n self.old.picture }
         ensures order { self.new.order ≡ self.old.order }
     {
-        let right = n.min(132) as u16;
+        let right = n.min(132);
         let margin = u16::from(self.margin());
         self.column = (u16::from(self.column) + right).min(margin) as u8;
         self.wrap = false;
