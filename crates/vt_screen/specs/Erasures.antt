@@ -1,7 +1,6 @@
 -- Erasing in the display and in a line (EK-VT100-UG chapter 3, ED and EL). The cursor stays.
-use Rattle.std.specs.Prelude.{ℕ, zero, suc, Bool, true, false, not, List, nat_lt, nat_le, ◌==◌, ◌&&◌, ◌||◌, if◌then◌else◌}
+use Rattle.std.specs.Prelude.{ℕ, zero, suc, Bool, true, not, nat_lt, nat_le, ◌==◌, ◌&&◌, ◌||◌, if◌then◌else◌}
 use Rattle.std.specs.List.{list_all, range_with_len}
-use Rattle.vt_screen.specs.declared.cell.Size.{Size}
 use Rattle.vt_screen.specs.declared.cell.Size.TheVariants.{Single}
 use Rattle.vt_screen.specs.declared.cell.Row.{Row}
 use Rattle.vt_screen.specs.Cells.{blank, cell_at, row_at, is_single, rows_by, row_by}

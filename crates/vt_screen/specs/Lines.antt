@@ -1,5 +1,5 @@
 -- Sizes of lines, the width of the screen, the margins, and the alignment pattern.
-use Rattle.std.specs.Prelude.{ℕ, Bool, false, not, List, nat_lt, nat_le, ◌&&◌, min, if◌then◌else◌}
+use Rattle.std.specs.Prelude.{ℕ, Bool, false, not, nat_lt, nat_le, ◌&&◌, min, if◌then◌else◌}
 use Rattle.vt_screen.specs.declared.cell.Cell.{Cell}
 use Rattle.vt_screen.specs.declared.cell.Size.{Size}
 use Rattle.vt_screen.specs.declared.cell.Size.TheVariants.{Single}

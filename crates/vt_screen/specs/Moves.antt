@@ -1,5 +1,5 @@
 -- Moves of the cursor. Each takes the pending wrap away (profile).
-use Rattle.std.specs.Prelude.{ℕ, ◌+◌, ◌-◌, Bool, true, false, nat_le, ◌==◌, ◌&&◌, min, max, if◌then◌else◌}
+use Rattle.std.specs.Prelude.{ℕ, ◌+◌, ◌-◌, Bool, false, nat_le, ◌==◌, ◌&&◌, min, max, if◌then◌else◌}
 use Rattle.vt_screen.specs.Picture.{Picture, right_margin}
 
 -- to a line, with the column cut to that line's right margin (EK-VT100-UG chapter 3; the cut: profile)

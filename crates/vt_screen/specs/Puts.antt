@@ -1,5 +1,5 @@
 -- Characters that are shown.
-use Rattle.std.specs.Prelude.{ℕ, ◌+◌, Bool, true, false, List, nat_le, ◌==◌, ◌&&◌, fold, if◌then◌else◌}
+use Rattle.std.specs.Prelude.{ℕ, ◌+◌, Bool, List, ◌==◌, fold, if◌then◌else◌}
 use Rattle.vt_screen.specs.declared.cell.Cell.{Cell}
 use Rattle.vt_screen.specs.declared.cell.Row.{Row}
 use Rattle.vt_screen.specs.Attributes.{Attributes}

@@ -1,5 +1,5 @@
 -- Tab stops at columns 1 to 132.
-use Rattle.std.specs.Prelude.{ℕ, ◌+◌, ◌-◌, Bool, true, false, List, ◌==◌, find, unwrap_or, if◌then◌else◌}
+use Rattle.std.specs.Prelude.{ℕ, ◌+◌, ◌-◌, Bool, false, List, ◌==◌, find, unwrap_or, if◌then◌else◌}
 use Rattle.std.specs.List.{range_with_len}
 use Rattle.vt_screen.specs.Table.{table, nth}
 use Rattle.vt_screen.specs.Picture.{Picture, right_margin}
