@@ -10,9 +10,6 @@ ghost use Rattle.vt_screen.specs.Written.{filled, written};
 
 use crate::rendition::Rendition;
 
-/// How many cells a row holds, whatever the number of columns.
-pub const CELLS: usize = 132;
-
 /// A glyph and its rendition. Glyphs 32 to 126 are the characters of ASCII, those below 32 the special
 /// graphics.
 #[derive(Clone, Copy, Debug, PartialEq, Eq)]
