@@ -4,5 +4,6 @@ pub mod SecondsLemmas
 pub mod DueLemmas
 pub mod FieldLemmas
 pub mod TimingLemmas
+pub mod ChangeLemmas
 pub mod LineLemmas
 pub mod ReadingLemmas
