@@ -5,5 +5,6 @@ pub mod DueLemmas
 pub mod FieldLemmas
 pub mod TimingLemmas
 pub mod ChangeLemmas
+pub mod WrittenLemmas
 pub mod LineLemmas
 pub mod ReadingLemmas

@@ -13,14 +13,14 @@ six_digits n = replicate (6 - length (decimal n)) 48 ++ decimal n
 unfoldable pub seconds_form : ℕ → List ℕ
 seconds_form us = decimal (us / 1000000) ++ 46 ∷ six_digits (us % 1000000)
 
--- A chunk's line of the timing file: its delay, a space, how many bytes it has. script(1).
+-- A chunk's line of the timing file, with its LF: its delay, a space, how many bytes it has. script(1).
 abbrev pub timing_line_of : Chunk → List ℕ
-timing_line_of c = seconds_form c.delay ++ 32 ∷ decimal (length c.bytes)
+timing_line_of c = seconds_form c.delay ++ 32 ∷ decimal (length c.bytes) ++ 10 ∷ []
 
 -- The typescript: header, chunk bytes and trailer joined. script(1).
 unfoldable pub script_text : Tape → List ℕ
 script_text tape = tape.header ++ body tape.chunks ++ tape.trailer
 
--- The timing file: a line for each chunk, each with its LF. script(1).
+-- The timing file: a line for each chunk. script(1).
 unfoldable pub timing_text : Tape → List ℕ
-timing_text tape = flat_map (λ c. timing_line_of c ++ 10 ∷ []) tape.chunks
+timing_text tape = flat_map timing_line_of tape.chunks
