@@ -35,6 +35,10 @@ consumes-all None b x h e = tt
 consumes-all (Some s) None x h e = absurd h
 consumes-all (Some s) (Some t) x h e = rw (h, e) (sym (append-nil x))
 
+-- a writer that is sound has taken nothing yet
+pub took_none : {T : Type 0} (contents : T → Option (List ℕ)) (a : Watched T) → has_failed a ≡ false → Took contents a a []
+took_none contents a sound = record { sound = sound; grown = appends-none (contents (inner_of a)) }
+
 -- one text after another
 pub took-append : {T : Type 0} {contents : T → Option (List ℕ)} {a b c : Watched T} {x y : List ℕ} → Took contents a b x → Took contents b c y → Took contents a c (x ++ y)
 took-append {contents = contents} {a = a} {b = b} {c = c} {x = x} {y = y} h k = record {
@@ -83,7 +87,7 @@ pub put_none : {T : Type 0} (contents : T → Option (List ℕ)) (a : Watched T)
 put_none contents a text sound = record {
   gone = [];
   cut = refl;
-  took = record { sound = sound; grown = appends-none (contents (inner_of a)) };
+  took = took_none contents a sound;
 }
 
 -- one more piece

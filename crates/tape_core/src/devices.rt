@@ -58,13 +58,9 @@ impl<R: Read> Watched<R> {
         ensures fault { IfErr result (λ fault. fault ≡ Fault.ReadFault) }
         ensures failed { has_failed self.new ≡ is_err result }
     {
-        match self.inner.read(piece) {
-            Ok(count) => Ok(count),
-            Err(_) => {
-                self.failed = true;
-                Err(Fault::ReadFault)
-            }
-        }
+        let answer = self.inner.read(piece);
+        self.failed = answer.is_err();
+        answer.map_err(|_| Fault::ReadFault)
     }
 }
 
@@ -74,14 +70,14 @@ impl<W: Write> Watched<W> {
         requires { has_failed self.old ≡ false }
         ensures ok { OnOk result (Took W.contents self.old self.new bytes.now) }
         ensures fault { IfErr result (λ fault. (fault ≡ Fault.WriteFault) × StoppedIn W.contents self.old self.new bytes.now) }
-        ensures unflushed { OnOk result (is_flushed self.new ≡ false) }
+        ensures unflushed { is_flushed self.new ≡ false }
     {
+        self.flushed = false;
         let mut rest = bytes;
         while !rest.is_empty() {
             let taken = self.write_some(rest)?;
             rest = &rest[taken..];
         }
-        self.flushed = false;
         Ok(())
     }
 
@@ -93,8 +89,8 @@ impl<W: Write> Watched<W> {
         ensures flushed { OnOk result (is_flushed self.new ≡ true) }
     {
         let answer = flush_answer(self.inner.flush());
-        self.failed = answer.is_err();
         self.flushed = answer.is_ok();
+        self.failed = !self.flushed;
         answer
     }
 
@@ -102,6 +98,7 @@ impl<W: Write> Watched<W> {
     fn write_some(&mut self, piece: &[u8]) -> Result<usize, Fault>
         requires sound { has_failed self.old ≡ false }
         requires nonempty { 0 < length piece.now }
+        ensures unflushed { is_flushed self.new ≡ is_flushed self.old }
         ensures taken { IfOk result (λ count. (0 < count) × (count ≤ length piece.now)) }
         ensures ok { IfOk result (λ count. Took W.contents self.old self.new (take count piece.now)) }
         ensures fault { IfErr result (λ fault. (fault ≡ Fault.WriteFault) × StoppedIn W.contents self.old self.new []) }
@@ -152,3 +149,6 @@ pub fn slurp<R: Read>(alloc: Global, reader: &mut Watched<R>) -> Result<Vec<u8>,
         text.extend_from_slice(&piece[..count])?;
     }
 }
+
+#[cfg(test)]
+mod tests;

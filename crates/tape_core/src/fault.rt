@@ -70,3 +70,6 @@ impl From<AllocError> for Fault {
         Fault::OutOfMemory
     }
 }
+
+#[cfg(test)]
+mod tests;

@@ -1,6 +1,6 @@
 -- The numbers of every command are in their ranges, and graphic characters are shown on ground.
-use Rattle.std.proofs.Common.{◌≡◌, ℕ, zero, suc, ◌-◌, ◌≤◌, true, false, not, ◌==◌, ◌||◌, ◌&&◌, cond, ltb, List, [], ◌∷◌, ◌++◌, map, take, drop, length, get_or, Option, Some, None, IfSome, refl, sym, ◌∙◌, subst, inl, inr, arith}
-use Rattle.std.specs.List.{list_all, slice_split, All, AllByRecursion}
+use Rattle.std.proofs.Common.{◌≡◌, ℕ, zero, suc, ◌+◌, ◌-◌, ◌≤◌, Bool, true, false, not, ◌==◌, ◌||◌, ◌&&◌, cond, ltb, List, [], ◌∷◌, ◌++◌, map, take, drop, length, get_or, Option, Some, None, IfSome, refl, sym, ◌∙◌, subst, inl, inr, arith}
+use Rattle.std.specs.List.{list_all, prefix_len, slice_split, All, AllByRecursion}
 use Rattle.std.proofs.lemmas.Bool.{cases_Bool, and_parts, eqb-false, not-true, false≢true}
 use Rattle.std.proofs.lemmas.Bool.Decides.{nat_tests}
 use Rattle.std.proofs.lemmas.List.{length-take, length-map}
@@ -18,7 +18,7 @@ use Rattle.vt_parser.specs.declared.controls.Turn.TheVariants.{Joins}
 use Rattle.vt_parser.specs.Control.{escape, is_within, is_graphic, class_of, turns_of, turn_at}
 use Rattle.vt_parser.specs.Sequence.{is_intermediate, is_escape_final, is_control_final, begins_control, begins_address, is_lone_escape, is_escape_begun, is_control_begun, is_line_begun, ends_escape, ends_vt52, is_whole, is_semicolon, is_private, after_mark, is_well_formed, parameter, numbers, params, held, escape_meaning, control_meaning, address_meaning}
 use Rattle.vt_parser.specs.Step.{place_of, control_of, command_by, command_of, pending_after}
-use Rattle.vt_parser.specs.Law.{IsFrom, IsProper, CommandsAreProper, GraphicIsShown}
+use Rattle.vt_parser.specs.Law.{IsFrom, IsProper, CommandsAreProper, GraphicIsShown, RunsAreGraphic}
 use Rattle.vt_parser.proofs.Joins.{whole_with, meaning_with, is_whole_push, meaning_push}
 use Rattle.vt_parser.proofs.Agrees.{graphic_class}
 
@@ -186,3 +186,15 @@ class_graphic byte is =
 pub graphic_is_shown : GraphicIsShown
 unfolding command_of pending_after
 graphic_is_shown m byte is = let kind = class_graphic byte is in let at = place_none m in (simp (kind, at), simp (kind, at))
+
+run_front : (first : Bool) (n len : ℕ) → suc n ≤ cond first (1 + len) 0 → (first ≡ true) × (n ≤ len)
+run_front true n len le = (refl, omega arith)
+run_front false n len le = let no : ⊥ = omega arith in absurd no
+
+pub runs_are_graphic : RunsAreGraphic
+runs_are_graphic bytes zero le = refl
+runs_are_graphic [] (suc n) le = refl
+runs_are_graphic (byte ∷ rest) (suc n) le =
+    let both = run_front (is_graphic byte) n (prefix_len is_graphic rest) le in
+    let first : is_graphic byte ≡ true = both.0 in
+    simp first (runs_are_graphic rest n both.1)

@@ -1,5 +1,6 @@
 -- What holds of every step: the statements of the crate's laws.
-use Rattle.std.specs.Prelude.{◌≡◌, ◌≢◌, ℕ, ◌+◌, ◌≤◌, Bool, true, false, List, [], length, Option, Some, None, IfSome, All}
+use Rattle.std.specs.Prelude.{◌≡◌, ◌≢◌, ℕ, ◌+◌, ◌≤◌, Bool, true, false, List, [], take, length, Option, Some, None, IfSome, All}
+use Rattle.std.specs.List.{list_all, prefix_len}
 use Rattle.std.specs.Option.{MatchOption}
 use Rattle.vt_parser.specs.declared.commands.Mode.{Mode}
 use Rattle.vt_parser.specs.declared.commands.Command.{Command}
@@ -91,6 +92,11 @@ abbrev pub GraphicIsShown : Type 0
 GraphicIsShown =
     (m : Mode) (byte : ℕ) → is_graphic byte ≡ true
     → (command_of m [] byte ≡ Some (Show byte)) × (pending_after m [] byte ≡ [])
+
+-- No byte of a run is anything but a graphic character.
+abbrev pub RunsAreGraphic : Type 0
+RunsAreGraphic =
+    (bytes : List ℕ) (n : ℕ) → n ≤ prefix_len is_graphic bytes → list_all is_graphic (take n bytes) ≡ true
 
 -- The numbers of every command are in their ranges.
 abbrev pub CommandsAreProper : Type 0

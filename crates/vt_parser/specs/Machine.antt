@@ -81,6 +81,20 @@ control_joined private params over byte =
     else (if is_semicolon byte then goes_on (semicolon_joined private params over)
     else goes_on CsiIgnored))
 
+-- the state of a control sequence with a well formed text
+abbrev pub IsCsi : ParserState → Type 0
+IsCsi Ground = ⊥
+IsCsi Escape = ⊥
+IsCsi (EscapeOne inter) = ⊥
+IsCsi EscapeMany = ⊥
+IsCsi CsiStart = ⊥
+IsCsi (Csi private params over) = Unit {0}
+IsCsi CsiIgnored = ⊥
+IsCsi Text = ⊥
+IsCsi Vt52Escape = ⊥
+IsCsi Vt52Line = ⊥
+IsCsi (Vt52Column line) = ⊥
+
 -- a byte that joins, 32 to 126
 unfoldable pub joined : ParserState → ℕ → Step
 joined Ground byte = goes_on Ground

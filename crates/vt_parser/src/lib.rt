@@ -80,6 +80,6 @@ impl Parser {
     pub fn copy_from(&mut self, other: &Parser)
         ensures { self.new ≡ other.now }
     {
-        machine::copy_state(&mut self.state, &other.state);
+        self.state = other.state.copy();
     }
 }

@@ -1,8 +1,8 @@
 //! One byte from a state to the next.
-ghost use Rattle.std.specs.Prelude.{◌≡◌, ◌≤◌, [], ◌∷◌};
+ghost use Rattle.std.specs.Prelude.{◌≡◌, ◌≤◌, [], ◌∷◌, None};
 ghost use Rattle.vt_parser.specs.Sequence.{is_intermediate, is_control_final, begins_string, is_digit};
 ghost use Rattle.vt_parser.specs.Step.{control_of};
-ghost use Rattle.vt_parser.specs.Machine.{place_in, with_digit, with_last_digit, begun, escape_joined, start_joined, joined, stepped};
+ghost use Rattle.vt_parser.specs.Machine.{place_in, with_digit, with_last_digit, begun, escape_joined, start_joined, joined, stepped, IsCsi};
 
 use crate::controls::{Place, Turn, turn_of};
 use crate::{Command, Mode, ParserState};
@@ -89,43 +89,22 @@ fn one_param(value: u16) -> ArrayVec<u16, 16>
     params
 }
 
-// A control sequence whose first byte after `ESC [` this is.
 #[inline]
-fn join_start(state: &mut ParserState, byte: u8) -> Option<Command>
-    ensures state { state.new ≡ (start_joined byte).state }
-    ensures command { result ≡ (start_joined byte).command }
+fn goes_on(state: &mut ParserState, next: ParserState) -> Option<Command>
+    ensures state { state.new ≡ next }
+    ensures command { result ≡ None }
 {
-    match byte {
-        64..=126 => {
-            *state = ParserState::Ground;
-            return Some(Command::Csi {
-                private: false,
-                params: one_param(0),
-                last: byte,
-            });
-        }
-        b'?' => *state = ParserState::Csi {
-            private: true,
-            params: one_param(0),
-            over: false,
-        },
-        b'0'..=b'9' => *state = ParserState::Csi {
-            private: false,
-            params: one_param(u16::from(byte - b'0')),
-            over: false,
-        },
-        b';' => {
-            let mut params = one_param(0);
-            params.push(0);
-            *state = ParserState::Csi {
-                private: false,
-                params,
-                over: false,
-            };
-        }
-        _ => *state = ParserState::CsiIgnored,
-    }
+    *state = next;
     None
+}
+
+#[inline]
+fn gives(state: &mut ParserState, command: Option<Command>) -> Option<Command>
+    ensures state { state.new ≡ ParserState.Ground }
+    ensures command { result ≡ command }
+{
+    *state = ParserState::Ground;
+    command
 }
 
 // ESC and this byte.
@@ -135,19 +114,50 @@ fn join_escape(state: &mut ParserState, byte: u8) -> Option<Command>
     ensures command { result ≡ (escape_joined byte).command }
 {
     if is_intermediate(byte) {
-        *state = ParserState::EscapeOne(byte);
+        goes_on(state, ParserState::EscapeOne(byte))
     } else if byte == b'[' {
-        *state = ParserState::CsiStart;
+        goes_on(state, ParserState::CsiStart)
     } else if begins_string(byte) {
-        *state = ParserState::Text;
+        goes_on(state, ParserState::Text)
     } else {
-        *state = ParserState::Ground;
-        return Some(Command::Esc {
-            inter: None,
-            last: byte,
-        });
+        let inter = None;
+        gives(state, Some(Command::Esc { inter, last: byte }))
     }
-    None
+}
+
+// ESC, `[` and this byte.
+#[inline]
+fn join_start(state: &mut ParserState, byte: u8) -> Option<Command>
+    ensures state { state.new ≡ (start_joined byte).state }
+    ensures command { result ≡ (start_joined byte).command }
+{
+    let (private, over) = (byte == b'?', false);
+    let mut params = one_param(0);
+    match byte {
+        64..=126 => {
+            let last = byte;
+            return gives(
+                state,
+                Some(Command::Csi {
+                    private,
+                    params,
+                    last,
+                }),
+            );
+        }
+        b'?' => {}
+        b'0'..=b'9' => push_digit(&mut params, byte),
+        b';' => params.push(0),
+        _ => return goes_on(state, ParserState::CsiIgnored),
+    }
+    goes_on(
+        state,
+        ParserState::Csi {
+            private,
+            params,
+            over,
+        },
+    )
 }
 
 // The digit joins the last parameter.
@@ -162,6 +172,50 @@ fn push_digit(params: &mut ArrayVec<u16, 16>, digit: u8)
     }
 }
 
+// ESC, `[`, a well formed text that isn't empty, and this byte.
+#[inline]
+#[tactic(auto, unfolding(crate::specs::Machine::joined))]
+fn join_text(state: &mut ParserState, byte: u8) -> Option<Command>
+    requires { IsCsi state.old }
+    ensures state { state.new ≡ (joined state.old byte).state }
+    ensures command { result ≡ (joined state.old byte).command }
+{
+    let ParserState::Csi {
+        private,
+        params,
+        over,
+    } = state
+    else {
+        unreachable!()
+    };
+    if is_control_final(byte) {
+        let (private, params) = (*private, params.take());
+        let last = byte;
+        return gives(
+            state,
+            Some(Command::Csi {
+                private,
+                params,
+                last,
+            }),
+        );
+    }
+    if is_digit(byte) {
+        if !*over {
+            push_digit(params, byte);
+        }
+    } else if byte == b';' {
+        if params.is_full() {
+            *over = true;
+        } else {
+            params.push(0);
+        }
+    } else {
+        *state = ParserState::CsiIgnored;
+    }
+    None
+}
+
 // A byte that joins a pending sequence.
 #[inline]
 #[tactic(auto, unfolding(crate::specs::Machine::joined))]
@@ -173,77 +227,26 @@ fn join(state: &mut ParserState, byte: u8) -> Option<Command>
         ParserState::Ground | ParserState::Text => None,
         ParserState::Escape => join_escape(state, byte),
         ParserState::EscapeOne(inter) => {
-            let inter = *inter;
+            let inter = Some(*inter);
             if is_intermediate(byte) {
-                *state = ParserState::EscapeMany;
-                return None;
-            }
-            *state = ParserState::Ground;
-            Some(Command::Esc {
-                inter: Some(inter),
-                last: byte,
-            })
-        }
-        ParserState::EscapeMany => {
-            if !is_intermediate(byte) {
-                *state = ParserState::Ground;
-            }
-            None
-        }
-        ParserState::CsiStart => join_start(state, byte),
-        ParserState::Csi {
-            private,
-            params,
-            over,
-        } => {
-            if is_control_final(byte) {
-                let private = *private;
-                let params = params.take();
-                *state = ParserState::Ground;
-                return Some(Command::Csi {
-                    private,
-                    params,
-                    last: byte,
-                });
-            }
-            if is_digit(byte) {
-                if !*over {
-                    push_digit(params, byte);
-                }
-            } else if byte == b';' {
-                if params.is_full() {
-                    *over = true;
-                } else {
-                    params.push(0);
-                }
+                goes_on(state, ParserState::EscapeMany)
             } else {
-                *state = ParserState::CsiIgnored;
+                gives(state, Some(Command::Esc { inter, last: byte }))
             }
-            None
         }
-        ParserState::CsiIgnored => {
-            if is_control_final(byte) {
-                *state = ParserState::Ground;
-            }
-            None
-        }
-        ParserState::Vt52Escape => {
-            if byte == b'Y' {
-                *state = ParserState::Vt52Line;
-                return None;
-            }
-            *state = ParserState::Ground;
-            Some(Command::Vt52(byte))
-        }
-        ParserState::Vt52Line => {
-            *state = ParserState::Vt52Column(byte);
-            None
-        }
+        ParserState::EscapeMany if is_intermediate(byte) => None,
+        ParserState::EscapeMany => gives(state, None),
+        ParserState::CsiStart => join_start(state, byte),
+        ParserState::Csi { .. } => join_text(state, byte),
+        ParserState::CsiIgnored if is_control_final(byte) => gives(state, None),
+        ParserState::CsiIgnored => None,
+        ParserState::Vt52Escape if byte == b'Y' => goes_on(state, ParserState::Vt52Line),
+        ParserState::Vt52Escape => gives(state, Some(Command::Vt52(byte))),
+        ParserState::Vt52Line => goes_on(state, ParserState::Vt52Column(byte)),
         ParserState::Vt52Column(line) => {
             let line = line.saturating_sub(ADDRESS_OFFSET);
             let column = byte.saturating_sub(ADDRESS_OFFSET);
-            *state = ParserState::Ground;
-            Some(Command::Vt52Address { line, column })
+            gives(state, Some(Command::Vt52Address { line, column }))
         }
     }
 }
@@ -260,55 +263,9 @@ pub(crate) fn advance(state: &mut ParserState, mode: Mode, byte: u8) -> Option<C
         Turn::Acts => control_of(byte),
         Turn::Shows => Some(Command::Show(byte)),
         Turn::Marks => Some(Command::Error),
-        Turn::Begins => {
-            *state = begun(mode);
-            None
-        }
+        Turn::Begins => goes_on(state, begun(mode)),
         Turn::Joins => join(state, byte),
-        Turn::Ends => {
-            *state = ParserState::Ground;
-            None
-        }
-        Turn::Cancels => {
-            *state = ParserState::Ground;
-            Some(Command::Error)
-        }
+        Turn::Ends => gives(state, None),
+        Turn::Cancels => gives(state, Some(Command::Error)),
     }
-}
-
-fn copied(params: &ArrayVec<u16, 16>) -> ArrayVec<u16, 16>
-    ensures { result ≡ params.now }
-{
-    let mut copy = ArrayVec::new();
-    for &param in params.as_slice() {
-        copy.push(param);
-    }
-    copy
-}
-
-/// Makes a state what another one is.
-pub(crate) fn copy_state(state: &mut ParserState, other: &ParserState)
-    ensures { state.new ≡ other.now }
-{
-    *state = match other {
-        ParserState::Ground => ParserState::Ground,
-        ParserState::Escape => ParserState::Escape,
-        ParserState::EscapeOne(inter) => ParserState::EscapeOne(*inter),
-        ParserState::EscapeMany => ParserState::EscapeMany,
-        ParserState::CsiStart => ParserState::CsiStart,
-        ParserState::Csi {
-            private,
-            params,
-            over,
-        } => ParserState::Csi {
-            private: *private,
-            params: copied(params),
-            over: *over,
-        },
-        ParserState::CsiIgnored => ParserState::CsiIgnored,
-        ParserState::Text => ParserState::Text,
-        ParserState::Vt52Escape => ParserState::Vt52Escape,
-        ParserState::Vt52Line => ParserState::Vt52Line,
-        ParserState::Vt52Column(line) => ParserState::Vt52Column(*line),
-    };
 }

@@ -1,4 +1,6 @@
 //! What a parser shows of an unfinished sequence.
+ghost use Rattle.std.specs.Prelude.{◌≡◌};
+
 use arrayvec::ArrayVec;
 
 /// How far the pending sequence has come.
@@ -30,4 +32,43 @@ pub enum ParserState {
     Vt52Line,
     /// ESC, `Y` and the byte of the line, 32 to 126.
     Vt52Column(u8),
+}
+
+fn copied(params: &ArrayVec<u16, 16>) -> ArrayVec<u16, 16>
+    ensures { result ≡ params.now }
+{
+    let mut copy = ArrayVec::new();
+    for &param in params.as_slice() {
+        copy.push(param);
+    }
+    copy
+}
+
+impl ParserState {
+    /// The same state again. It can't fail, as `clone` of a list may.
+    pub(crate) fn copy(&self) -> ParserState
+        ensures { result ≡ self.now }
+    {
+        match self {
+            ParserState::Ground => ParserState::Ground,
+            ParserState::Escape => ParserState::Escape,
+            ParserState::EscapeOne(inter) => ParserState::EscapeOne(*inter),
+            ParserState::EscapeMany => ParserState::EscapeMany,
+            ParserState::CsiStart => ParserState::CsiStart,
+            ParserState::Csi {
+                private,
+                params,
+                over,
+            } => ParserState::Csi {
+                private: *private,
+                params: copied(params),
+                over: *over,
+            },
+            ParserState::CsiIgnored => ParserState::CsiIgnored,
+            ParserState::Text => ParserState::Text,
+            ParserState::Vt52Escape => ParserState::Vt52Escape,
+            ParserState::Vt52Line => ParserState::Vt52Line,
+            ParserState::Vt52Column(line) => ParserState::Vt52Column(*line),
+        }
+    }
 }

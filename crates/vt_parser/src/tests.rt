@@ -304,5 +304,6 @@ fn laws_can_be_called() {
     laws::finished_leaves_nothing();
     laws::pending_pays();
     laws::graphic_is_shown();
+    laws::runs_are_graphic();
     laws::commands_are_proper();
 }

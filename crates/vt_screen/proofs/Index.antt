@@ -32,11 +32,11 @@ module _ (held : Held) (once : OncePerPlace held) where
       let new = get_or-set blank_row held.places place row (place_at held.order k) (omega (arith, once.named line, once.places)) in
       elim (cases_eq k line) [
         | inl same ↦
-          let e : place_at held.order k ≡ place = ap (place_at held.order) same in
-          grind (arith, nat_tests)
+            let e : place_at held.order k ≡ place = ap (place_at held.order) same in
+            grind (arith, nat_tests)
         | inr other ↦
-          let e : place_at held.order k ≢ place = λ f. other (once.once k line klow khigh low high f) in
-          grind (arith, nat_tests)
+            let e : place_at held.order k ≢ place = λ f. other (once.once k line klow khigh low high f) in
+            grind (arith, nat_tests)
       ]
 
   pub one_row : (line : ℕ) (row : Row) → 1 ≤ line → line ≤ 24 → rows_of (replaced line row) ≡ with_row line row (rows_of held)
@@ -49,9 +49,9 @@ module _ (held : Held) (once : OncePerPlace held) where
     named = once.named;
     once = once.once;
     cells = λ place.
-      let new = get_or-set blank_row held.places (place_at held.order line) row place (omega (arith, once.named line, once.places)) in
-      let old = once.cells place in
-      elim (cases_eq place (place_at held.order line)) [ inl same ↦ grind (arith, nat_tests) | inr other ↦ grind (arith, nat_tests) ];
+        let new = get_or-set blank_row held.places (place_at held.order line) row place (omega (arith, once.named line, once.places)) in
+        let old = once.cells place in
+        elim (cases_eq place (place_at held.order line)) [ inl same ↦ grind (arith, nat_tests) | inr other ↦ grind (arith, nat_tests) ];
   }
 
 -- The same as a body leaves it: the fields held, as the value old that contracts see.
@@ -69,7 +69,7 @@ module _ (held old : Held) (once : OncePerPlace held) (seen : held ≡ old) (lin
   pub read_whole : (d : Row) → length (get_or held.places (get_or held.order (line - 1) 0) d).cells ≡ 132
   read_whole d =
       ap (λ (r : Row). length r.cells) (ap (λ (p : ℕ). get_or held.places p d) (place_read held.order line)
-        ∙ get_or_default held.places (place_at held.order line) d blank_row (omega (arith, once.named line, once.places)))
+      ∙ get_or_default held.places (place_at held.order line) d blank_row (omega (arith, once.named line, once.places)))
       ∙ once.cells (place_at held.order line)
 
   pub row_changed : (op : Row → Row) (d new : Row) → new ≡ op (get_or held.places (get_or held.order (line - 1) 0) d) → rows_of (record { order = held.order; places = set held.places (get_or held.order (line - 1) 0) new }) ≡ with_row line (op (row_at (rows_of old) line)) (rows_of old)

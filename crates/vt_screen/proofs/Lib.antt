@@ -1,5 +1,9 @@
+pub mod Answers
+pub mod Erased
 pub mod Index
+pub mod Regions
 pub mod Rows
+pub mod Runs
 pub mod SoundRows
 pub mod Soundness
 pub mod Stops

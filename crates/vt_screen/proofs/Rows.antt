@@ -30,12 +30,12 @@ row_is size cells others same = ap (λ (x : List Cell). let r : Row = record { s
 pub cell_written : (row : Row) (column : ℕ) (cell : Cell) → length row.cells ≡ 132 → 1 ≤ column → column ≤ 132 → let r : Row = record { size = row.size; cells = set row.cells (column - 1) cell } in r ≡ with_cell column cell row
 cell_written row column cell whole low high =
     row_is row.size _ _ (set_is blank 132 row.cells (column - 1) cell whole (omega arith)
-      ∙ table_ext 132 _ _ (λ k klow khigh. ap (λ (j : ℕ). if k == j then cell else cell_at row k) (omega arith)))
+    ∙ table_ext 132 _ _ (λ k klow khigh. ap (λ (j : ℕ). if k == j then cell else cell_at row k) (omega arith)))
 
 pub cell_written_at : (row : Row) (column i : ℕ) (cell : Cell) → length row.cells ≡ 132 → 1 ≤ column → column + i ≤ 132 → let r : Row = record { size = row.size; cells = set row.cells (column - 1 + i) cell } in r ≡ with_cell (column + i) cell row
 cell_written_at row column i cell whole low high =
     row_is row.size _ _ (set_is blank 132 row.cells (column - 1 + i) cell whole (omega arith)
-      ∙ table_ext 132 _ _ (λ k klow khigh. ap (λ (j : ℕ). if k == j then cell else cell_at row k) (omega arith)))
+    ∙ table_ext 132 _ _ (λ k klow khigh. ap (λ (j : ℕ). if k == j then cell else cell_at row k) (omega arith)))
 
 -- what is left to write from place i on is one glyph, and what is left from the next
 pub written_more : (glyphs : List ℕ) (column i : ℕ) (rendition : Attributes) (row : Row) → i < length glyphs → written (column + i) (drop i glyphs) rendition row ≡ written (column + (i + 1)) (drop (i + 1) glyphs) rendition (with_cell (column + i) (record { glyph = get_or glyphs i 0; rendition = rendition }) row)
@@ -53,9 +53,9 @@ pub filled_more : (row : Row) (from i : ℕ) (cell : Cell) → from ≤ i + 1 �
 filled_more row from i cell low high =
     let old = λ (k : ℕ). if nat_le from k && nat_le k i then cell else cell_at row k in
     row_is row.size _ _ (set_is blank 132 (table 132 old) i cell (length-table 132 old) high
-      ∙ table_ext 132 _ _ (λ k klow khigh.
-          let was = nth-table blank 132 old k klow khigh in
-          elim (cases_eq k (i + 1)) [ inl e ↦ grind (arith, nat_tests) | inr ne ↦ grind (arith, nat_tests) ]))
+    ∙ table_ext 132 _ _ (λ k klow khigh.
+    let was = nth-table blank 132 old k klow khigh in
+    elim (cases_eq k (i + 1)) [ inl e ↦ grind (arith, nat_tests) | inr ne ↦ grind (arith, nat_tests) ]))
 
 -- the column 132 ends each part that goes to the end, and column 1 begins each that goes from the start
 to_the_end : (cursor k : ℕ) → k ≤ 132 → nat_le cursor k && nat_le k 132 ≡ nat_le cursor k
@@ -72,8 +72,8 @@ module _ (part cursor : ℕ) (row new : Row) (cell : Cell) where
   part_filled : (from to : ℕ) → cell ≡ blank → new ≡ filled from to cell row → ((k : ℕ) → 1 ≤ k → k ≤ 132 → nat_le from k && nat_le k to ≡ in_line_part part cursor k) → new ≡ part_erased part cursor row
   part_filled from to is_blank is_new same =
       is_new ∙ row_is row.size _ _ (table_ext 132 _ _ (λ k low high.
-        ap (λ (b : Bool). if b then cell else cell_at row k) (same k low high)
-        ∙ ap (λ (e : Cell). if in_line_part part cursor k then e else cell_at row k) is_blank))
+      ap (λ (b : Bool). if b then cell else cell_at row k) (same k low high)
+      ∙ ap (λ (e : Cell). if in_line_part part cursor k then e else cell_at row k) is_blank))
 
   pub erased_to_the_end : part ≡ 0 → cell ≡ blank → new ≡ filled cursor 132 cell row → new ≡ part_erased part cursor row
   erased_to_the_end is_part is_blank is_new =
@@ -99,14 +99,14 @@ right_of margin k high = grind (arith, nat_tests)
 pub resized_same : (row : Row) (wide : Bool) (size : Size) → length row.cells ≡ 132 → is_single row.size && not (is_single size) ≡ false → (let r : Row = record { size = size; cells = row.cells } in r) ≡ resized wide size row
 resized_same row wide size whole stays =
     row_is size _ _ (table_is blank 132 row.cells whole ∙ table_ext 132 _ _ (λ k low high.
-      ap (λ (b : Bool). if b && nat_lt (margin_of wide size) k then blank else cell_at row k) (sym stays)))
+    ap (λ (b : Bool). if b && nat_lt (margin_of wide size) k then blank else cell_at row k) (sym stays)))
 
 pub resized_cut : (row : Row) (wide : Bool) (size : Size) → is_single row.size && not (is_single size) ≡ true → (let r : Row = record { size = size; cells = (filled (margin_of wide size + 1) 132 blank row).cells } in r) ≡ resized wide size row
 resized_cut row wide size cuts =
     row_is size _ _ (table_ext 132 _ _ (λ k low high.
-      let right : nat_le (margin_of wide size + 1) k && nat_le k 132 ≡ nat_lt (margin_of wide size) k = right_of (margin_of wide size) k high in
-      ap (λ (b : Bool). if b then blank else cell_at row k) right
-      ∙ ap (λ (b : Bool). if b && nat_lt (margin_of wide size) k then blank else cell_at row k) (sym cuts)))
+    let right : nat_le (margin_of wide size + 1) k && nat_le k 132 ≡ nat_lt (margin_of wide size) k = right_of (margin_of wide size) k high in
+    ap (λ (b : Bool). if b then blank else cell_at row k) right
+    ∙ ap (λ (b : Bool). if b && nat_lt (margin_of wide size) k then blank else cell_at row k) (sym cuts)))
 
 not_yet : (x y : Row) (i : ℕ) → (if nat_lt i i then x else y) ≡ y
 not_yet x y i = grind (arith, nat_tests)
@@ -123,21 +123,21 @@ so_far_more op rows i low high =
     let f : ℕ → Row = λ k. if nat_lt k i then op k (row_at rows k) else row_at rows k in
     let here : row_at (so_far op i rows) i ≡ row_at rows i = nth-table blank_row 24 f i low high ∙ not_yet (op i (row_at rows i)) (row_at rows i) i in
     table_ext 24 _ _ (λ k klow khigh.
-      let was = nth-table blank_row 24 f k klow khigh in
-      let new = ap (op i) here in
-      elim (cases_eq k i) [
-        | inl e ↦ let same = ap (λ (j : ℕ). op j (row_at rows j)) e in grind (arith, nat_tests)
-        | inr ne ↦ grind (arith, nat_tests)
-      ])
+    let was = nth-table blank_row 24 f k klow khigh in
+    let new = ap (op i) here in
+    elim (cases_eq k i) [
+      | inl e ↦ let same = ap (λ (j : ℕ). op j (row_at rows j)) e in grind (arith, nat_tests)
+      | inr ne ↦ grind (arith, nat_tests)
+    ])
 
 -- a line that stays is done too
 pub so_far_same : (op : ℕ → Row → Row) (rows : List Row) (i : ℕ) → 1 ≤ i → i ≤ 24 → op i (row_at rows i) ≡ row_at rows i → so_far op i rows ≡ so_far op (i + 1) rows
 so_far_same op rows i low high stays =
     table_ext 24 _ _ (λ k klow khigh.
-      elim (cases_eq k i) [
-        | inl e ↦ let same = ap (λ (j : ℕ). op j (row_at rows j)) e in let here = ap (row_at rows) e in grind (arith, nat_tests)
-        | inr ne ↦ grind (arith, nat_tests)
-      ])
+    elim (cases_eq k i) [
+      | inl e ↦ let same = ap (λ (j : ℕ). op j (row_at rows j)) e in let here = ap (row_at rows) e in grind (arith, nat_tests)
+      | inr ne ↦ grind (arith, nat_tests)
+    ])
 
 pub so_far_all : (op : ℕ → Row → Row) (rows : List Row) → so_far op 25 rows ≡ rows_by (λ k. op k (row_at rows k))
 so_far_all op rows = table_ext 24 _ _ (λ k low high. grind (arith, nat_tests))

@@ -83,22 +83,22 @@ module _ (wide : Bool) (row : Row) (sound : SoundRow wide row) where
   pub sound_with_cell : (column : ℕ) (cell : Cell) → column ≤ margin_of wide row.size → cell.glyph ≤ 126 → SoundRow wide (with_cell column cell row)
   sound_with_cell column cell within glyph =
       sound_by wide row.size _
-        (λ k above. let same = sound.blank_right k above in grind (arith, nat_tests))
-        (λ k. either (λ e. e.glyph ≤ 126) (k == column) cell (cell_at row k) glyph (sound.glyphs k))
+      (λ k above. let same = sound.blank_right k above in grind (arith, nat_tests))
+      (λ k. either (λ e. e.glyph ≤ 126) (k == column) cell (cell_at row k) glyph (sound.glyphs k))
 
   pub sound_erased : (part cursor : ℕ) → SoundRow wide (part_erased part cursor row)
   sound_erased part cursor =
       sound_by wide row.size _
-        (λ k above. either (λ e. e ≡ blank) (in_line_part part cursor k) blank (cell_at row k) refl (sound.blank_right k above))
-        (λ k. either (λ e. e.glyph ≤ 126) (in_line_part part cursor k) blank (cell_at row k) (omega arith) (sound.glyphs k))
+      (λ k above. either (λ e. e ≡ blank) (in_line_part part cursor k) blank (cell_at row k) refl (sound.blank_right k above))
+      (λ k. either (λ e. e.glyph ≤ 126) (in_line_part part cursor k) blank (cell_at row k) (omega arith) (sound.glyphs k))
 
   pub sound_patterned : SoundRow wide (patterned (columns wide) row)
   sound_patterned =
       sound_by wide Single _
-        (λ k above.
-          let right = sound.blank_right k (omega (arith, margin_high wide row.size)) in
-          grind (arith, nat_tests))
-        (λ k. either (λ e. e.glyph ≤ 126) (nat_le k (columns wide)) pattern (cell_at row k) (omega arith) (sound.glyphs k))
+      (λ k above.
+      let right = sound.blank_right k (omega (arith, margin_high wide row.size)) in
+      grind (arith, nat_tests))
+      (λ k. either (λ e. e.glyph ≤ 126) (nat_le k (columns wide)) pattern (cell_at row k) (omega arith) (sound.glyphs k))
 
   resized_right : (size : Size) (k : ℕ) (was is : Bool) → is_single row.size ≡ was → is_single size ≡ is → margin_of wide size < k → (if was && not is && nat_lt (margin_of wide size) k then blank else cell_at row k) ≡ blank
   resized_right size k true true a b above = sound.blank_right k (omega (arith, single_margin wide row.size a, single_margin wide size b))
@@ -109,8 +109,8 @@ module _ (wide : Bool) (row : Row) (sound : SoundRow wide row) where
   pub sound_resized : (size : Size) → SoundRow wide (resized wide size row)
   sound_resized size =
       sound_by wide size _
-        (λ k above. resized_right size k (is_single row.size) (is_single size) refl refl above)
-        (λ k. either (λ e. e.glyph ≤ 126) (is_single row.size && not (is_single size) && nat_lt (margin_of wide size) k) blank (cell_at row k) (omega arith) (sound.glyphs k))
+      (λ k above. resized_right size k (is_single row.size) (is_single size) refl refl above)
+      (λ k. either (λ e. e.glyph ≤ 126) (is_single row.size && not (is_single size) && nat_lt (margin_of wide size) k) blank (cell_at row k) (omega arith) (sound.glyphs k))
 
 -- rows told by line
 pub sound_rows_by : (wide : Bool) (f : ℕ → Row) → ((line : ℕ) → 1 ≤ line → line ≤ 24 → SoundRow wide (f line)) → (line : ℕ) → SoundRow wide (row_at (rows_by f) line)

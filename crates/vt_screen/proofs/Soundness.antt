@@ -39,7 +39,7 @@ row_put at row rows low high = nth-table blank_row 24 (λ line. if line == at th
     itself k x y = grind (arith, nat_tests)
 
 -- the same, where each side may use the test
-by_test : (P : Picture → Type 0) (b : Bool) (x y : Picture) → (b ≡ true → P x) → (b ≡ false → P y) → P (if b then x else y)
+pub by_test : (P : Picture → Type 0) (b : Bool) (x y : Picture) → (b ≡ true → P x) → (b ≡ false → P y) → P (if b then x else y)
 by_test P true x y px py = px refl
 by_test P false x y px py = py refl
 
@@ -120,31 +120,31 @@ module _ (p : Picture) (sound : Sound p) where
 
   pub sound_scrolled_up : (line : ℕ) → SoundRow p.wide (row_at (scrolled_up p.top p.bottom p.rows) line)
   sound_scrolled_up = sound_rows_by p.wide _ (λ line low high.
-    either_row (SoundRow p.wide) (nat_le p.top line && nat_le line p.bottom) (if line == p.bottom then blank_row else row_at p.rows (line + 1)) (row_at p.rows line)
+      either_row (SoundRow p.wide) (nat_le p.top line && nat_le line p.bottom) (if line == p.bottom then blank_row else row_at p.rows (line + 1)) (row_at p.rows line)
       (either_row (SoundRow p.wide) (line == p.bottom) blank_row (row_at p.rows (line + 1)) (sound_blank p.wide) (sound.row (line + 1)))
       (sound.row line))
 
   pub sound_scrolled_down : (line : ℕ) → SoundRow p.wide (row_at (scrolled_down p.top p.bottom p.rows) line)
   sound_scrolled_down = sound_rows_by p.wide _ (λ line low high.
-    either_row (SoundRow p.wide) (nat_le p.top line && nat_le line p.bottom) (if line == p.top then blank_row else row_at p.rows (line - 1)) (row_at p.rows line)
+      either_row (SoundRow p.wide) (nat_le p.top line && nat_le line p.bottom) (if line == p.top then blank_row else row_at p.rows (line - 1)) (row_at p.rows line)
       (either_row (SoundRow p.wide) (line == p.top) blank_row (row_at p.rows (line - 1)) (sound_blank p.wide) (sound.row (line - 1)))
       (sound.row line))
 
   pub sound_indexed : Sound (indexed p)
   sound_indexed =
       either_picture Sound (p.line == p.bottom) (on_line p.line (record p { rows = scrolled_up p.top p.bottom p.rows })) (if p.line == 24 then on_line 24 p else on_line (p.line + 1) p)
-        (sound_rows_on_line (scrolled_up p.top p.bottom p.rows) p.line (length-table 24 _) sound_scrolled_up sound.line_low sound.line_high)
-        (by_test Sound (p.line == 24) (on_line 24 p) (on_line (p.line + 1) p)
-          (λ e. sound_on_line 24 (omega arith) (omega arith))
-          (λ e. sound_on_line (p.line + 1) (omega arith) (grind (arith, nat_tests, sound.line_high))))
+      (sound_rows_on_line (scrolled_up p.top p.bottom p.rows) p.line (length-table 24 _) sound_scrolled_up sound.line_low sound.line_high)
+      (by_test Sound (p.line == 24) (on_line 24 p) (on_line (p.line + 1) p)
+      (λ e. sound_on_line 24 (omega arith) (omega arith))
+      (λ e. sound_on_line (p.line + 1) (omega arith) (grind (arith, nat_tests, sound.line_high))))
 
   pub sound_reverse_indexed : Sound (reverse_indexed p)
   sound_reverse_indexed =
       either_picture Sound (p.line == p.top) (on_line p.line (record p { rows = scrolled_down p.top p.bottom p.rows })) (if p.line == 1 then on_line 1 p else on_line (p.line - 1) p)
-        (sound_rows_on_line (scrolled_down p.top p.bottom p.rows) p.line (length-table 24 _) sound_scrolled_down sound.line_low sound.line_high)
-        (by_test Sound (p.line == 1) (on_line 1 p) (on_line (p.line - 1) p)
-          (λ e. sound_on_line 1 (omega arith) (omega arith))
-          (λ e. sound_on_line (p.line - 1) (grind (arith, nat_tests, sound.line_low)) (omega (arith, sound.line_high))))
+      (sound_rows_on_line (scrolled_down p.top p.bottom p.rows) p.line (length-table 24 _) sound_scrolled_down sound.line_low sound.line_high)
+      (by_test Sound (p.line == 1) (on_line 1 p) (on_line (p.line - 1) p)
+      (λ e. sound_on_line 1 (omega arith) (omega arith))
+      (λ e. sound_on_line (p.line - 1) (grind (arith, nat_tests, sound.line_low)) (omega (arith, sound.line_high))))
 
   -- the right margin of the cursor's line, once it has another row
   margin_there : (row : Row) → margin_of p.wide (row_at (with_row p.line row p.rows) p.line).size ≡ margin_of p.wide row.size
@@ -154,7 +154,7 @@ module _ (p : Picture) (sound : Sound p) where
   pub sound_row_there : (row : Row) (column : ℕ) (wrap : Bool) → SoundRow p.wide row → 1 ≤ column → column ≤ margin_of p.wide row.size → Sound (record p { rows = with_row p.line row p.rows; column = column; wrap = wrap })
   sound_row_there row column wrap sound_row low high =
       sound_all (with_row p.line row p.rows) p.line column wrap (length-table 24 _) (sound_with_row p.wide p.line row p.rows sound_row sound.row)
-        sound.line_low sound.line_high low (omega (arith, margin_there row))
+      sound.line_low sound.line_high low (omega (arith, margin_there row))
 
   pub sound_put : (cell : Cell) (autowrap : Bool) → cell.glyph ≤ 126 → Sound (put cell autowrap p)
   sound_put cell autowrap glyph =
@@ -162,8 +162,8 @@ module _ (p : Picture) (sound : Sound p) where
       let sound_row = sound_with_cell p.wide (row_at p.rows p.line) (sound.row p.line) p.column cell sound.column_high glyph in
       let rows = with_row p.line row p.rows in
       by_test Sound (p.column == right_margin p p.line) (record p { rows = rows; wrap = autowrap }) (record p { rows = rows; column = p.column + 1 })
-        (λ e. sound_row_there row p.column autowrap sound_row sound.column_low sound.column_high)
-        (λ e. sound_row_there row (p.column + 1) p.wrap sound_row (omega arith) (grind (arith, nat_tests, sound.column_high)))
+      (λ e. sound_row_there row p.column autowrap sound_row sound.column_low sound.column_high)
+      (λ e. sound_row_there row (p.column + 1) p.wrap sound_row (omega arith) (grind (arith, nat_tests, sound.column_high)))
 
   pub sound_line_erased : (part : ℕ) → Sound (line_erased part p)
   sound_line_erased part =
@@ -188,13 +188,13 @@ module _ (p : Picture) (sound : Sound p) where
       let f : ℕ → Row = λ line. row_by (if erased_whole part p line then Single else (row_at p.rows line).size) (λ column. if in_part part p line column then blank else cell_at (row_at p.rows line) column) in
       let here = ap (λ (r : Row). margin_of p.wide r.size) (nth-table blank_row 24 f p.line sound.line_low sound.line_high) in
       sound_all (rows_by f) p.line p.column _ (length-table 24 f)
-        (sound_rows_by p.wide f (λ line low high.
-          sound_by p.wide _ _
-            (λ k above. either_cell (λ e. e ≡ blank) (in_part part p line k) blank (cell_at (row_at p.rows line) k) refl
-              ((sound.row line).blank_right k (omega (arith, wider line (erased_whole part p line)))))
-            (λ k. either_cell (λ e. e.glyph ≤ 126) (in_part part p line k) blank (cell_at (row_at p.rows line) k) (omega arith) ((sound.row line).glyphs k))))
-        sound.line_low sound.line_high sound.column_low
-        (omega (arith, here, wider p.line (erased_whole part p p.line), sound.column_high))
+      (sound_rows_by p.wide f (λ line low high.
+      sound_by p.wide _ _
+      (λ k above. either_cell (λ e. e ≡ blank) (in_part part p line k) blank (cell_at (row_at p.rows line) k) refl
+      ((sound.row line).blank_right k (omega (arith, wider line (erased_whole part p line)))))
+      (λ k. either_cell (λ e. e.glyph ≤ 126) (in_part part p line k) blank (cell_at (row_at p.rows line) k) (omega arith) ((sound.row line).glyphs k))))
+      sound.line_low sound.line_high sound.column_low
+      (omega (arith, here, wider p.line (erased_whole part p p.line), sound.column_high))
 
   pub sound_columns_set : (wide origin : Bool) → Sound (columns_set wide origin p)
   sound_columns_set wide origin =
@@ -213,6 +213,7 @@ module _ (p : Picture) (sound : Sound p) where
         bottom_high = omega arith;
         tabs = sound.tabs;
       }
+
       home : (o : Bool) → Sound (columns_set wide o p)
       home true = blanked
       home false = blanked
@@ -222,9 +223,9 @@ module _ (p : Picture) (sound : Sound p) where
       let f : ℕ → Row = λ line. patterned (columns p.wide) (row_at p.rows line) in
       let here = ap (λ (r : Row). margin_of p.wide r.size) (nth-table blank_row 24 f p.line sound.line_low sound.line_high) in
       sound_all (rows_by f) p.line p.column false (length-table 24 f)
-        (sound_rows_by p.wide f (λ line low high. sound_patterned p.wide (row_at p.rows line) (sound.row line)))
-        sound.line_low sound.line_high sound.column_low
-        (omega (arith, here, margin_high p.wide (row_at p.rows p.line).size, sound.column_high))
+      (sound_rows_by p.wide f (λ line low high. sound_patterned p.wide (row_at p.rows line) (sound.row line)))
+      sound.line_low sound.line_high sound.column_low
+      (omega (arith, here, margin_high p.wide (row_at p.rows p.line).size, sound.column_high))
 
   pub sound_margins : (top bottom : ℕ) → 1 ≤ top → top < bottom → bottom ≤ 24 → Sound (record p { top = top; bottom = bottom })
   sound_margins top bottom low apart high = record {
@@ -244,8 +245,8 @@ module _ (p : Picture) (sound : Sound p) where
   sound_tabbed =
       let margin = right_margin p p.line in
       sound_cursor p.line (stop_after p.tabs p.column margin) false sound.line_low sound.line_high
-        (omega (arith, stop_low p.tabs p.column margin sound.column_high, sound.column_low))
-        (stop_high p.tabs p.column margin sound.column_high)
+      (omega (arith, stop_low p.tabs p.column margin sound.column_high, sound.column_low))
+      (stop_high p.tabs p.column margin sound.column_high)
 
   -- other tab stops
   pub sound_tabs : (tabs : List Bool) → length tabs ≡ 132 → Sound (record p { tabs = tabs })
@@ -271,8 +272,8 @@ module _ (p : Picture) (sound : Sound p) where
 pub sound_margins_set : (top bottom : ℕ) (origin : Bool) (p : Picture) → Sound p → Sound (margins_set top bottom origin p)
 sound_margins_set top bottom origin p sound =
     by_test Sound (are_margins top bottom) (moved_home origin (record p { top = top; bottom = bottom })) p
-      (λ e. sound_moved_home (record p { top = top; bottom = bottom }) (sound_margins p sound top bottom (grind (arith, nat_tests)) (grind (arith, nat_tests)) (grind (arith, nat_tests))) origin)
-      (λ _. sound)
+    (λ e. sound_moved_home (record p { top = top; bottom = bottom }) (sound_margins p sound top bottom (grind (arith, nat_tests)) (grind (arith, nat_tests)) (grind (arith, nat_tests))) origin)
+    (λ _. sound)
 
 pub sound_wrap_taken : (p : Picture) → Sound p → Sound (wrap_taken p)
 sound_wrap_taken p sound = either_picture Sound p.wrap (indexed (moved_to_left p)) p (sound_indexed (moved_to_left p) (sound_moved_to_left p sound)) sound

@@ -1,7 +1,8 @@
 -- The next tab stop.
-use Rattle.std.proofs.Common.{◌≡◌, ℕ, zero, suc, ◌+◌, ◌-◌, ◌<◌, ◌≤◌, Bool, true, false, cond, List, [], ◌∷◌, length, refl, sym, ap, ◌∙◌, arith}
+use Rattle.std.proofs.Common.{◌≡◌, ℕ, zero, suc, ◌+◌, ◌-◌, ◌<◌, ◌≤◌, Bool, true, false, cond, List, [], ◌∷◌, length, get_or, refl, sym, ap, ◌∙◌, arith}
 use Rattle.std.specs.Prelude.{find, unwrap_or, Option, Some, None}
 use Rattle.std.specs.List.{range_with_len}
+use Rattle.vt_screen.proofs.Tables.{nth_is}
 use Rattle.vt_screen.specs.Tabs.{stop_at, stop_after}
 
 -- one more column without a stop
@@ -46,3 +47,20 @@ stop_found tabs column margin below there =
 
 pub stop_none : (tabs : List Bool) (margin : ℕ) → stop_after tabs margin margin ≡ margin
 stop_none tabs margin = ap (λ (n : ℕ). unwrap_or (find (stop_at tabs) (range_with_len (margin + 1) n)) margin) (let e : margin - margin ≡ 0 = omega arith in e)
+
+-- the same as the loop meets them, at the column stop
+pub stop_here : (tabs : List Bool) (column margin stop : ℕ) → 1 ≤ stop → stop ≤ margin → stop_after tabs (stop - 1) margin ≡ stop_after tabs column margin → get_or tabs (stop - 1) false ≡ true → stop ≡ stop_after tabs column margin
+stop_here tabs column margin stop low high so_far there =
+    let next : stop - 1 + 1 ≡ stop = omega arith in
+    sym (stop_found tabs (stop - 1) margin (omega arith) (ap (stop_at tabs) next ∙ nth_is false tabs stop ∙ there) ∙ next) ∙ so_far
+
+pub stop_not_here : (tabs : List Bool) (column margin stop : ℕ) → 1 ≤ stop → stop ≤ margin → stop_after tabs (stop - 1) margin ≡ stop_after tabs column margin → get_or tabs (stop - 1) false ≡ false → stop_after tabs (stop + 1 - 1) margin ≡ stop_after tabs column margin
+stop_not_here tabs column margin stop low high so_far free =
+    let next : stop - 1 + 1 ≡ stop = omega arith in
+    let same : stop + 1 - 1 ≡ stop - 1 + 1 = omega arith in
+    ap (λ (k : ℕ). stop_after tabs k margin) same
+    ∙ sym (stop_more tabs (stop - 1) margin (omega arith) (ap (stop_at tabs) next ∙ nth_is false tabs stop ∙ free)) ∙ so_far
+
+pub stop_nowhere : (tabs : List Bool) (column margin stop : ℕ) → stop - 1 ≡ margin → stop_after tabs (stop - 1) margin ≡ stop_after tabs column margin → margin ≡ stop_after tabs column margin
+stop_nowhere tabs column margin stop all so_far =
+    sym (ap (λ (k : ℕ). stop_after tabs k margin) all ∙ stop_none tabs margin) ∙ so_far

@@ -31,15 +31,15 @@ nth-table d n f k low high =
 pub table_ext : {X : Type 0} (n : ℕ) (f g : ℕ → X) → ((k : ℕ) → 1 ≤ k → k ≤ n → f k ≡ g k) → table n f ≡ table n g
 table_ext n f g same =
     same_lists (table n f) (table n g) (length-table n f ∙ sym (length-table n g)) (λ k d below.
-      let within : k < n = omega (arith, length-table n f) in
-      get_or-table n f k d within ∙ same (k + 1) (omega arith) (omega arith) ∙ sym (get_or-table n g k d within))
+    let within : k < n = omega (arith, length-table n f) in
+    get_or-table n f k d within ∙ same (k + 1) (omega arith) (omega arith) ∙ sym (get_or-table n g k d within))
 
 -- a list is the table g where g says what stands at each place
 pub is_table : {X : Type 0} (d : X) (n : ℕ) (xs : List X) (g : ℕ → X) → length xs ≡ n → ((k : ℕ) → k < n → get_or xs k d ≡ g (k + 1)) → xs ≡ table n g
 is_table d n xs g len each =
     same_lists xs (table n g) (len ∙ sym (length-table n g)) (λ k e below.
-      let within : k < n = omega arith in
-      get_or_default xs k e d below ∙ each k within ∙ sym (get_or-table n g k e within))
+    let within : k < n = omega arith in
+    get_or_default xs k e d below ∙ each k within ∙ sym (get_or-table n g k e within))
 
 -- a list is the table of what stands in it
 pub table_is : {X : Type 0} (d : X) (n : ℕ) (xs : List X) → length xs ≡ n → xs ≡ table n (nth d xs)
@@ -60,9 +60,9 @@ get_or-set d xs i x k below =
 pub set_is : {X : Type 0} (d : X) (n : ℕ) (xs : List X) (i : ℕ) (x : X) → length xs ≡ n → i < n → set xs i x ≡ table n (λ k. if k == i + 1 then x else nth d xs k)
 set_is d n xs i x len below =
     is_table d n (set xs i x) (λ k. if k == i + 1 then x else nth d xs k) (length-set xs i x ∙ len) (λ k within.
-      let old = nth_next d xs k in
-      let new = get_or-set d xs i x k (omega arith) in
-      elim (cases_eq k i) [ inl e ↦ grind (arith, nat_tests) | inr ne ↦ grind (arith, nat_tests) ])
+    let old = nth_next d xs k in
+    let new = get_or-set d xs i x k (omega arith) in
+    elim (cases_eq k i) [ inl e ↦ grind (arith, nat_tests) | inr ne ↦ grind (arith, nat_tests) ])
 
 -- what holds of each element and of the default holds at every place
 pub nth_keeps : {X : Type 0} (P : X → Type 0) (d : X) (n : ℕ) (f : ℕ → X) → P d → ((k : ℕ) → 1 ≤ k → k ≤ n → P (f k)) → (k : ℕ) → P (nth d (table n f) k)

@@ -5,7 +5,7 @@ use Rattle.std.proofs.lemmas.Bool.{cases_eq, cases_lt}
 use Rattle.std.proofs.lemmas.Bool.Decides.{nat_tests}
 use Rattle.vt_screen.specs.Table.{table, nth}
 use Rattle.vt_screen.specs.declared.cell.Row.{Row}
-use Rattle.vt_screen.specs.Cells.{blank_row, row_at}
+use Rattle.vt_screen.specs.Cells.{blank_row, row_at, rows_by}
 use Rattle.vt_screen.specs.Scrolls.{scrolled_up, scrolled_down}
 use Rattle.vt_screen.specs.Places.{Held, OncePerPlace, first_order, place_at, row_in, rows_of, turned_up, turned_down}
 use Rattle.vt_screen.proofs.Rows.{blank_whole}
@@ -27,8 +27,8 @@ half_up_more top line order from low high =
     let unmoved : f (line + 1) ≡ place_at order (line + 1) = grind (arith, nat_tests) in
     set_is 0 24 (half_up top line order) (line - 1) x (length-table 24 f) (omega arith)
     ∙ table_ext 24 _ _ (λ k klow khigh.
-        let was = nth-table 0 24 f k klow khigh in
-        elim (cases_eq k line) [ inl e ↦ grind (arith, nat_tests) | inr ne ↦ grind (arith, nat_tests) ])
+    let was = nth-table 0 24 f k klow khigh in
+    elim (cases_eq k line) [ inl e ↦ grind (arith, nat_tests) | inr ne ↦ grind (arith, nat_tests) ])
 
 pub half_up_all : (top bottom : ℕ) (order : List ℕ) → 1 ≤ top → top < bottom → bottom ≤ 24 → set (half_up top bottom order) (bottom - 1) (get_or order (top - 1) 0) ≡ turned_up top bottom order
 half_up_all top bottom order low apart high =
@@ -37,8 +37,8 @@ half_up_all top bottom order low apart high =
     let read : x ≡ place_at order top = place_read order top in
     set_is 0 24 (half_up top bottom order) (bottom - 1) x (length-table 24 f) (omega arith)
     ∙ table_ext 24 _ _ (λ k klow khigh.
-        let was = nth-table 0 24 f k klow khigh in
-        elim (cases_eq k bottom) [ inl e ↦ grind (arith, nat_tests) | inr ne ↦ grind (arith, nat_tests) ])
+    let was = nth-table 0 24 f k klow khigh in
+    elim (cases_eq k bottom) [ inl e ↦ grind (arith, nat_tests) | inr ne ↦ grind (arith, nat_tests) ])
 
 -- the name that a line takes as the names turn down: that of the line above it, the first that of the last
 abbrev pub name_above : ℕ → ℕ → ℕ → List ℕ → ℕ
@@ -56,11 +56,11 @@ half_down_more top bottom line order from low high =
     let f : ℕ → ℕ = λ k. if nat_le top k && nat_lt k line then name_above top bottom k order else place_at order k in
     set_is 0 24 (half_down top bottom line order) (line - 1) (name_above top bottom line order) (length-table 24 f) (omega arith)
     ∙ table_ext 24 _ _ (λ k klow khigh.
-        let was = nth-table 0 24 f k klow khigh in
-        elim (cases_eq k line) [
-          | inl e ↦ let same = ap (λ (j : ℕ). name_above top bottom j order) e in grind (arith, nat_tests)
-          | inr ne ↦ grind (arith, nat_tests)
-        ])
+    let was = nth-table 0 24 f k klow khigh in
+    elim (cases_eq k line) [
+      | inl e ↦ let same = ap (λ (j : ℕ). name_above top bottom j order) e in grind (arith, nat_tests)
+      | inr ne ↦ grind (arith, nat_tests)
+    ])
 
 pub half_down_next : (top bottom line : ℕ) (order : List ℕ) → top ≤ line → 1 ≤ top → line ≤ 24 → get_or (half_down top bottom line order) (line - 1) 0 ≡ name_above top bottom (line + 1) order
 half_down_next top bottom line order from low high =
@@ -68,7 +68,7 @@ half_down_next top bottom line order from low high =
     let read = place_read (table 24 f) line ∙ nth-table 0 24 f line (omega arith) high in
     let unmoved : f line ≡ place_at order line = grind (arith, nat_tests) in
     let next : name_above top bottom (line + 1) order ≡ place_at order line =
-      ap (place_at order) (grind (arith, nat_tests)) in
+    ap (place_at order) (grind (arith, nat_tests)) in
     read ∙ unmoved ∙ sym next
 
 pub half_down_all : (top bottom : ℕ) (order : List ℕ) → half_down top bottom (bottom + 1) order ≡ turned_down top bottom order
@@ -78,7 +78,7 @@ half_down_all top bottom order = table_ext 24 _ _ (λ k low high. grind (arith, 
 cells_in : (row : Row) → length row.cells ≡ 132 → (place : ℕ) → length (row_in (table 24 (λ _. row)) place).cells ≡ 132
 cells_in row whole place =
     subst (λ (r : Row). length r.cells ≡ 132) (nth_next blank_row (table 24 (λ _. row)) place)
-      (nth_keeps (λ r. length r.cells ≡ 132) blank_row 24 (λ _. row) blank_whole (λ k low high. whole) (place + 1))
+    (nth_keeps (λ r. length r.cells ≡ 132) blank_row 24 (λ _. row) blank_whole (λ k low high. whole) (place + 1))
 
 chosen : (b : Bool) (order : List ℕ) (j k : ℕ) → (if b then place_at order j else place_at order k) ≡ place_at order (if b then j else k)
 chosen true order j k = refl
@@ -121,13 +121,13 @@ module _ (top bottom : ℕ) (low : 1 ≤ top) (apart : top < bottom) (high : bot
 
     pub rows_up : rows_of rolled_up ≡ scrolled_up top bottom (rows_of held)
     rows_up = table_ext 24 _ _ (λ k klow khigh.
-      ap (row_in (set held.places (place_at held.order top) blank_row)) (place_below_at held.order k klow khigh)
-      ∙ one_row_at held once top blank_row (below top bottom k) low (omega arith) (below_low k klow) (below_high k khigh)
-      ∙ elim (cases_eq k bottom) [
-        | inl e ↦ grind (arith, nat_tests)
-        | inr ne ↦ elim (cases_lt k top) [
-          | inl before ↦ grind (arith, nat_tests)
-          | inr from ↦ elim (cases_lt bottom k) [ inl past ↦ grind (arith, nat_tests) | inr within ↦ grind (arith, nat_tests) ]
+        ap (row_in (set held.places (place_at held.order top) blank_row)) (place_below_at held.order k klow khigh)
+        ∙ one_row_at held once top blank_row (below top bottom k) low (omega arith) (below_low k klow) (below_high k khigh)
+        ∙ elim (cases_eq k bottom) [
+          | inl e ↦ grind (arith, nat_tests)
+          | inr ne ↦ elim (cases_lt k top) [
+            | inl before ↦ grind (arith, nat_tests)
+            | inr from ↦ elim (cases_lt bottom k) [ inl past ↦ grind (arith, nat_tests) | inr within ↦ grind (arith, nat_tests) ]
           ]
         ])
 
@@ -138,9 +138,9 @@ module _ (top bottom : ℕ) (low : 1 ≤ top) (apart : top < bottom) (high : bot
           order = length-table 24 _;
           places = written.places;
           named = nth_keeps (λ p. p < 24) 0 24 _ (omega arith) (λ k klow khigh.
-            subst (λ p. p < 24) (sym (chosen (nat_le top k && nat_le k bottom) held.order (if k == bottom then top else k + 1) k)) (once.named (below top bottom k)));
+              subst (λ p. p < 24) (sym (chosen (nat_le top k && nat_le k bottom) held.order (if k == bottom then top else k + 1) k)) (once.named (below top bottom k)));
           once = λ line other llow lhigh olow ohigh same. below_once line other
-            (once.once (below top bottom line) (below top bottom other) (below_low line llow) (below_high line lhigh) (below_low other olow) (below_high other ohigh)
+              (once.once (below top bottom line) (below top bottom other) (below_low line llow) (below_high line lhigh) (below_low other olow) (below_high other ohigh)
               (sym (place_below_at held.order line llow lhigh) ∙ same ∙ place_below_at held.order other olow ohigh));
           cells = written.cells;
         }
@@ -150,13 +150,13 @@ module _ (top bottom : ℕ) (low : 1 ≤ top) (apart : top < bottom) (high : bot
 
     pub rows_down : rows_of rolled_down ≡ scrolled_down top bottom (rows_of held)
     rows_down = table_ext 24 _ _ (λ k klow khigh.
-      ap (row_in (set held.places (place_at held.order bottom) blank_row)) (place_above_at held.order k klow khigh)
-      ∙ one_row_at held once bottom blank_row (above top bottom k) (omega arith) high (above_low k klow) (above_high k khigh)
-      ∙ elim (cases_eq k top) [
-        | inl e ↦ grind (arith, nat_tests)
-        | inr ne ↦ elim (cases_lt k top) [
-          | inl before ↦ grind (arith, nat_tests)
-          | inr from ↦ elim (cases_lt bottom k) [ inl past ↦ grind (arith, nat_tests) | inr within ↦ grind (arith, nat_tests) ]
+        ap (row_in (set held.places (place_at held.order bottom) blank_row)) (place_above_at held.order k klow khigh)
+        ∙ one_row_at held once bottom blank_row (above top bottom k) (omega arith) high (above_low k klow) (above_high k khigh)
+        ∙ elim (cases_eq k top) [
+          | inl e ↦ grind (arith, nat_tests)
+          | inr ne ↦ elim (cases_lt k top) [
+            | inl before ↦ grind (arith, nat_tests)
+            | inr from ↦ elim (cases_lt bottom k) [ inl past ↦ grind (arith, nat_tests) | inr within ↦ grind (arith, nat_tests) ]
           ]
         ])
 
@@ -167,9 +167,9 @@ module _ (top bottom : ℕ) (low : 1 ≤ top) (apart : top < bottom) (high : bot
           order = length-table 24 _;
           places = written.places;
           named = nth_keeps (λ p. p < 24) 0 24 _ (omega arith) (λ k klow khigh.
-            subst (λ p. p < 24) (sym (chosen (nat_le top k && nat_le k bottom) held.order (if k == top then bottom else k - 1) k)) (once.named (above top bottom k)));
+              subst (λ p. p < 24) (sym (chosen (nat_le top k && nat_le k bottom) held.order (if k == top then bottom else k - 1) k)) (once.named (above top bottom k)));
           once = λ line other llow lhigh olow ohigh same. above_once line other
-            (once.once (above top bottom line) (above top bottom other) (above_low line llow) (above_high line lhigh) (above_low other olow) (above_high other ohigh)
+              (once.once (above top bottom line) (above top bottom other) (above_low line llow) (above_high line lhigh) (above_low other olow) (above_high other ohigh)
               (sym (place_above_at held.order line llow lhigh) ∙ same ∙ place_above_at held.order other olow ohigh));
           cells = written.cells;
         }
@@ -178,7 +178,7 @@ module _ (top bottom : ℕ) (low : 1 ≤ top) (apart : top < bottom) (high : bot
     held_left : (turned : List ℕ) (line : ℕ) → order ≡ turned → (let a : Held = record { order = order; places = set held.places (get_or held.order (line - 1) 0) d } in a) ≡ record { order = turned; places = set held.places (place_at held.order line) blank_row }
     held_left turned line is_order =
         ap₂ (λ (o : List ℕ) (p : List Row). let h : Held = record { order = o; places = p } in h) is_order
-          (ap₂ (λ (p : ℕ) (r : Row). set held.places p r) (place_read held.order line) is_blank)
+        (ap₂ (λ (p : ℕ) (r : Row). set held.places p r) (place_read held.order line) is_blank)
 
   -- The same as a body leaves it: the fields held, as the value old that contracts see.
   module _ (held old : Held) (once : OncePerPlace held) (seen : held ≡ old) (order : List ℕ) (d : Row) (is_blank : d ≡ blank_row) where
@@ -209,8 +209,13 @@ first_once row whole =
       places = length-table 24 (λ _. row);
       named = nth_keeps (λ p. p < 24) 0 24 name (omega arith) (λ k low high. omega arith);
       once = λ line other llow lhigh olow ohigh same.
-        let a = nth-table 0 24 name line llow lhigh in
-        let b = nth-table 0 24 name other olow ohigh in
-        omega arith;
+          let a = nth-table 0 24 name line llow lhigh in
+          let b = nth-table 0 24 name other olow ohigh in
+          omega arith;
       cells = λ place. cells_in row whole place;
     }
+
+pub first_rows : rows_of (record { order = first_order; places = rows_by (λ _. blank_row) }) ≡ rows_by (λ _. blank_row)
+first_rows = table_ext 24 _ _ (λ k low high.
+    let place = place_at first_order k in
+    sym (nth_next blank_row (table 24 (λ _. blank_row)) place) ∙ nth_keeps (λ r. r ≡ blank_row) blank_row 24 (λ _. blank_row) refl (λ j jlow jhigh. refl) (place + 1))

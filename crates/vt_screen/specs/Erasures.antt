@@ -35,8 +35,8 @@ erased_whole part p line = list_all (in_part part p line) (range_with_len 1 (rig
 abbrev pub display_erased : ℕ → Picture → Picture
 display_erased part p = record p {
   rows = rows_by (λ line.
-    let row = row_at p.rows line in
-    row_by
+      let row = row_at p.rows line in
+      row_by
       (if erased_whole part p line then Single else row.size)
       (λ column. if in_part part p line column then blank else cell_at row column));
   wrap = p.wrap && (is_single (row_at p.rows p.line).size || not (erased_whole part p p.line));

@@ -64,6 +64,16 @@ pub record Inside (p : Picture) : Type 0 where
   pub below_top : p.top ≤ p.line
   pub above_bottom : p.line ≤ p.bottom
 
+-- what an operation keeps, and what it brings about
+abbrev pub KeepsSound : (Picture → Picture) → Type 0
+KeepsSound op = (p : Picture) → Sound p → Sound (op p)
+
+abbrev pub KeepsInside : (Picture → Picture) → Type 0
+KeepsInside op = (p : Picture) → Sound p → Inside p → Inside (op p)
+
+abbrev pub GoesInside : (Picture → Picture) → Type 0
+GoesInside op = (p : Picture) → Sound p → Inside (op p)
+
 -- a tab stops at every eighth column from 9 to 129 (profile)
 abbrev pub first_tabs : List Bool
 first_tabs = table 132 (λ column. nat_lt 1 column && (column % 8 == 1))

@@ -34,7 +34,7 @@ pub record OncePerPlace (held : Held) : Type 0 where
   pub places : length held.places ≡ 24
   pub named : (line : ℕ) → place_at held.order line < 24
   pub once : (line other : ℕ) → 1 ≤ line → line ≤ 24 → 1 ≤ other → other ≤ 24 →
-    place_at held.order line ≡ place_at held.order other → line ≡ other
+      place_at held.order line ≡ place_at held.order other → line ≡ other
   pub cells : (place : ℕ) → length (row_in held.places place).cells ≡ 132
 
 -- line r lies in place r - 1

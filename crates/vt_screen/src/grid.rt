@@ -4,7 +4,6 @@ ghost use Rattle.std.specs.Prelude.{◌≡◌, ◌==◌, ℕ, ◌+◌, ◌<◌, 
 ghost use Rattle.vt_screen.specs.Cells.{blank_row, cell_at, row_at, row_by, rows_by};
 ghost use Rattle.vt_screen.specs.Erasures.{in_other_lines, part_erased};
 ghost use Rattle.vt_screen.specs.Lines.{patterned, resized};
-
 ghost use Rattle.vt_screen.specs.Places.{place_at, row_in, rows_of, first_order, turned_up, turned_down};
 ghost use Rattle.vt_screen.specs.Puts.{with_row, with_cell};
 ghost use Rattle.vt_screen.specs.Scrolls.{scrolled_up, scrolled_down};
@@ -39,7 +38,8 @@ impl Grid {
         Grid {
             places: [Row::blank(); 24],
             order: [
-                0, 1, 2, 3, 4, 5, 6, 7, 8, 9, 10, 11, 12, 13, 14, 15, 16, 17, 18, 19, 20, 21, 22, 23,
+                0, 1, 2, 3, 4, 5, 6, 7, 8, 9, 10, 11, 12, 13, 14, 15, 16, 17, 18, 19, 20, 21, 22,
+                23,
             ],
         }
     }

@@ -1,1 +1,108 @@
-//! Laws of the definitions that contracts cite.
+//! Laws of the definitions that contracts cite, for the proofs of the crates above. Nothing runs.
+
+ghost use Rattle.std.specs.Prelude.{◌≡◌, ℕ, ◌≤◌, ◌++◌, [], ◌∷◌, All, Bool, true, List};
+ghost use Rattle.vt_screen.specs.Attributes.{Attributes};
+ghost use Rattle.vt_screen.specs.declared.cell.Size.{Size};
+ghost use Rattle.vt_screen.specs.Erasures.{display_erased, line_erased};
+ghost use Rattle.vt_screen.specs.Lines.{size_set, columns_set, aligned, margins_set};
+ghost use Rattle.vt_screen.specs.Moves.{stepped_up, stepped_down, stepped_right, stepped_left, moved_to_left, placed, moved_home, wrap_cleared, put_back};
+ghost use Rattle.vt_screen.specs.Picture.{Picture, Sound, Inside, KeepsSound, KeepsInside, GoesInside, reset, right_margin};
+ghost use Rattle.vt_screen.specs.Puts.{shown, run_shown};
+ghost use Rattle.vt_screen.specs.Scrolls.{indexed, reverse_indexed};
+ghost use Rattle.vt_screen.specs.Tabs.{tabbed, tab_made, tabs_cleared};
+
+use crate::screen::Screen;
+
+/// Every screen is sound: the cursor within the right margin of its line, blank cells right of it,
+/// glyphs at most 126, the top margin above the bottom one.
+pub fn screens_are_sound(screen: &Screen)
+    ensures { Sound screen.now.picture }
+{
+    let _ = screen.cursor();
+}
+
+/// A right margin is from 40 to 132.
+pub fn right_margins()
+    ensures low { (p : Picture) (line : ℕ) → 40 ≤ right_margin p line }
+    ensures high { (p : Picture) (line : ℕ) → right_margin p line ≤ 132 }
+{}
+
+/// The initial picture is sound, with its cursor inside the margins.
+pub fn reset_is_sound()
+    ensures sound { Sound reset }
+    ensures inside { Inside reset }
+{}
+
+/// Moves keep a picture sound.
+pub fn moves_keep_sound()
+    ensures up { (n : ℕ) → KeepsSound (stepped_up n) }
+    ensures down { (n : ℕ) → KeepsSound (stepped_down n) }
+    ensures right { (n : ℕ) → KeepsSound (stepped_right n) }
+    ensures left { (n : ℕ) → KeepsSound (stepped_left n) }
+    ensures to_left { KeepsSound moved_to_left }
+    ensures place { (line column : ℕ) (origin : Bool) → 1 ≤ line → 1 ≤ column → KeepsSound (placed line column origin) }
+    ensures home { (origin : Bool) → KeepsSound (moved_home origin) }
+    ensures clear_wrap { KeepsSound wrap_cleared }
+    ensures put_back { (line column : ℕ) (wrap origin autowrap : Bool) → 1 ≤ line → line ≤ 24 → 1 ≤ column →
+        KeepsSound (put_back line column wrap origin autowrap) }
+{}
+
+/// What shows characters and scrolls keeps a picture sound.
+pub fn shows_keep_sound()
+    ensures show { (glyph : ℕ) (rendition : Attributes) (autowrap : Bool) → glyph ≤ 126 →
+        KeepsSound (shown glyph rendition autowrap) }
+    ensures run { (glyphs : List ℕ) (rendition : Attributes) (autowrap : Bool) → All (λ glyph. glyph ≤ 126) glyphs →
+        KeepsSound (run_shown glyphs rendition autowrap) }
+    ensures index { KeepsSound indexed }
+    ensures reverse_index { KeepsSound reverse_indexed }
+{}
+
+/// What erases, sizes and sets keeps a picture sound.
+pub fn changes_keep_sound()
+    ensures erase_display { (part : ℕ) → KeepsSound (display_erased part) }
+    ensures erase_line { (part : ℕ) → KeepsSound (line_erased part) }
+    ensures size { (size : Size) → KeepsSound (size_set size) }
+    ensures columns { (wide origin : Bool) → KeepsSound (columns_set wide origin) }
+    ensures align { KeepsSound aligned }
+    ensures margins { (top bottom : ℕ) (origin : Bool) → KeepsSound (margins_set top bottom origin) }
+    ensures tab { KeepsSound tabbed }
+    ensures set_tab { (stops : Bool) → KeepsSound (tab_made stops) }
+    ensures clear_tabs { KeepsSound tabs_cleared }
+{}
+
+/// Where lines are counted from the top margin, the cursor goes inside the margins.
+pub fn origin_goes_inside()
+    ensures place { (line column : ℕ) → GoesInside (placed line column true) }
+    ensures home { GoesInside (moved_home true) }
+    ensures put_back { (line column : ℕ) (wrap autowrap : Bool) → GoesInside (put_back line column wrap true autowrap) }
+    ensures columns { (wide : Bool) → GoesInside (columns_set wide true) }
+    ensures margins { (top bottom : ℕ) → KeepsInside (margins_set top bottom true) }
+{}
+
+/// Each other operation leaves a cursor that is inside the margins there.
+pub fn cursors_stay_inside()
+    ensures up { (n : ℕ) → KeepsInside (stepped_up n) }
+    ensures down { (n : ℕ) → KeepsInside (stepped_down n) }
+    ensures right { (n : ℕ) → KeepsInside (stepped_right n) }
+    ensures left { (n : ℕ) → KeepsInside (stepped_left n) }
+    ensures to_left { KeepsInside moved_to_left }
+    ensures clear_wrap { KeepsInside wrap_cleared }
+    ensures show { (glyph : ℕ) (rendition : Attributes) (autowrap : Bool) → KeepsInside (shown glyph rendition autowrap) }
+    ensures index { KeepsInside indexed }
+    ensures reverse_index { KeepsInside reverse_indexed }
+    ensures erase_display { (part : ℕ) → KeepsInside (display_erased part) }
+    ensures erase_line { (part : ℕ) → KeepsInside (line_erased part) }
+    ensures size { (size : Size) → KeepsInside (size_set size) }
+    ensures align { KeepsInside aligned }
+    ensures tab { KeepsInside tabbed }
+    ensures set_tab { (stops : Bool) → KeepsInside (tab_made stops) }
+    ensures clear_tabs { KeepsInside tabs_cleared }
+{}
+
+/// A run of one glyph is its show, and a joined run is its parts one after another.
+pub fn runs()
+    ensures one { (glyph : ℕ) (rendition : Attributes) (autowrap : Bool) (p : Picture) →
+        run_shown (glyph ∷ []) rendition autowrap p ≡ shown glyph rendition autowrap p }
+    ensures joined { (xs ys : List ℕ) (rendition : Attributes) (autowrap : Bool) (p : Picture) →
+        run_shown (xs ++ ys) rendition autowrap p ≡ run_shown ys rendition autowrap (run_shown xs rendition autowrap p) }
+{}

@@ -187,7 +187,8 @@ impl Screen {
     {
         self.take_wrap();
         let margin = self.margin();
-        self.grid.write(self.line, self.column, Cell { glyph, rendition });
+        self.grid
+            .write(self.line, self.column, Cell { glyph, rendition });
         if self.column == margin {
             self.wrap = autowrap;
         } else {
@@ -223,7 +224,11 @@ impl Screen {
         ensures picture { self.new.picture ≡ stepped_down n self.old.picture }
         ensures order { self.new.order ≡ self.old.order }
     {
-        let stop = if self.line <= self.bottom { self.bottom } else { 24 };
+        let stop = if self.line <= self.bottom {
+            self.bottom
+        } else {
+            24
+        };
         let down = n.min(24) as u8;
         self.go_to_line((self.line + down).min(stop));
     }
@@ -233,7 +238,7 @@ impl Screen {
         ensures picture { self.new.picture ≡ stepped_right n self.old.picture }
         ensures order { self.new.order ≡ self.old.order }
     {
-        let right = n.min(132) as u16;
+        let right = n.min(132);
         let margin = u16::from(self.margin());
         self.column = (u16::from(self.column) + right).min(margin) as u8;
         self.wrap = false;
@@ -496,7 +501,8 @@ impl Screen {
         let margin = self.margin();
         let room = (margin - self.column) as usize + 1;
         let taken = glyphs.len().min(room);
-        self.grid.write_run(self.line, self.column, &glyphs[..taken], rendition);
+        self.grid
+            .write_run(self.line, self.column, &glyphs[..taken], rendition);
         if taken == room {
             self.column = margin;
             self.wrap = autowrap;
@@ -524,8 +530,8 @@ fn first_tabs() -> [bool; 132]
     ensures { result ≡ first_tabs }
 {
     let mut tabs = [false; 132];
-    for i in 0..132 {
-        tabs[i] = i > 0 && i % 8 == 0;
+    for column in 2..133 {
+        tabs[column - 1] = column % 8 == 1;
     }
     tabs
 }

@@ -8,18 +8,20 @@ use Rattle.vt_screen.proofs.grid.turn_down.Goals as goal
 
 pub loop-line-init : goal.loop-line-init
 loop-line-init c =
-    let first : c.args.bottom ≡ (if c.args.top == c.args.top then c.args.bottom else c.args.top - 1) = grind (arith, nat_tests) in
-    (half_down_none c.args.top c.args.bottom c.args.order.now c.told-order,
-     place_read c.args.order.now c.args.bottom ∙ ap (place_at c.args.order.now) first)
+    let first : c.args.bottom ≡ (if c.args.top == c.args.top then c.args.bottom else c.args.top - 1) = grind (arith, nat_tests) in (
+      half_down_none c.args.top c.args.bottom c.args.order.now c.told-order,
+      place_read c.args.order.now c.args.bottom ∙ ap (place_at c.args.order.now) first,
+    )
 
 pub loop-line-preserved : goal.loop-line-preserved
 loop-line-preserved c =
     let line = c.loop-line.line in
-    let order = c.args.order.now in
-    (ap₂ (λ (xs : List ℕ) (x : ℕ). set xs (line - 1) x) c.loop-line.invariant.0 c.loop-line.invariant.1
-     ∙ half_down_more c.args.top c.args.bottom line order (omega arith) c.requires.low (omega arith),
-     ap (λ (xs : List ℕ). get_or xs (line - 1) 0) c.loop-line.invariant.0
-     ∙ half_down_next c.args.top c.args.bottom line order (omega arith) c.requires.low (omega arith))
+    let order = c.args.order.now in (
+      ap₂ (λ (xs : List ℕ) (x : ℕ). set xs (line - 1) x) c.loop-line.invariant.0 c.loop-line.invariant.1
+          ∙ half_down_more c.args.top c.args.bottom line order (omega arith) c.requires.low (omega arith),
+      ap (λ (xs : List ℕ). get_or xs (line - 1) 0) c.loop-line.invariant.0
+          ∙ half_down_next c.args.top c.args.bottom line order (omega arith) c.requires.low (omega arith),
+    )
 
 pub returns : goal.returns
 returns c =

@@ -16,5 +16,5 @@ returns c =
     let all : c.loop-line.line ≡ c.args.bottom = omega arith in
     let leaving = get_or c.args.order.now (c.args.top - 1) 0 in
     ap (λ (order : List ℕ). set order (c.args.bottom - 1) leaving)
-      (c.loop-line.invariant ∙ ap (λ (line : ℕ). half_up c.args.top line c.args.order.now) all)
+    (c.loop-line.invariant ∙ ap (λ (line : ℕ). half_up c.args.top line c.args.order.now) all)
     ∙ half_up_all c.args.top c.args.bottom c.args.order.now c.requires.low c.requires.apart c.requires.high

@@ -16,16 +16,16 @@ returns c =
     let sized = λ (r : Row). let x : Row = record { size = size; cells = r.cells } in x in
     elim c.if-is_single.branch [
       | then-is_single+then-not-is_single w ↦
-        let cuts : is_single row.size && not (is_single size) ≡ true = grind arith in
-        ap sized (w.self-is ∙ w.fill.ensures
+          let cuts : is_single row.size && not (is_single size) ≡ true = grind arith in
+          ap sized (w.self-is ∙ w.fill.ensures
           ∙ ap (λ (n : ℕ). filled (n + 1) 132 w.blank.result row) w.margin_of.ensures
           ∙ ap (λ (e : Cell). filled (margin_of c.args.wide size + 1) 132 e row) w.blank.ensures)
-        ∙ resized_cut row c.args.wide size cuts
+          ∙ resized_cut row c.args.wide size cuts
       | else-is_single w ↦
-        let stays : is_single row.size && not (is_single size) ≡ false =
+          let stays : is_single row.size && not (is_single size) ≡ false =
           elim w.else-is_single.branch [
             | else-is_single-via-then-is_single+else-not-is_single w' ↦ grind arith
             | else-is_single-via-else-is_single w' ↦ grind arith
           ] in
-        ap sized w.self-is ∙ resized_same row c.args.wide size c.requires.whole stays
+          ap sized w.self-is ∙ resized_same row c.args.wide size c.requires.whole stays
     ]

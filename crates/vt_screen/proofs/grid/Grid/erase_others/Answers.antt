@@ -19,19 +19,19 @@ loop-line-preserved c =
     let op = other_erased c.args.part c.args.cursor in
     elim c.if-is_other_line.branch [
       | then-is_other_line w ↦
-        let is_other : not (line == c.args.cursor) && in_other_lines c.args.part c.args.cursor line ≡ true = sym c.is_other_line.ensures ∙ w.if-is_other_line.true in
-        record {
-          rows = so_far_step op rows was _ line (omega arith) (omega arith) c.loop-line.invariant.rows
-            (ap rows_of w.self-is ∙ w.clear.ensures.rows ∙ ap (λ (b : Bool). with_row line (if b then blank_row else row_at was line) was) (sym is_other));
-          order = ap (λ (h : Held). h.order) w.self-is ∙ w.clear.ensures.order ∙ c.loop-line.invariant.order;
-        }
+          let is_other : not (line == c.args.cursor) && in_other_lines c.args.part c.args.cursor line ≡ true = sym c.is_other_line.ensures ∙ w.if-is_other_line.true in
+          record {
+            rows = so_far_step op rows was _ line (omega arith) (omega arith) c.loop-line.invariant.rows
+                (ap rows_of w.self-is ∙ w.clear.ensures.rows ∙ ap (λ (b : Bool). with_row line (if b then blank_row else row_at was line) was) (sym is_other));
+            order = ap (λ (h : Held). h.order) w.self-is ∙ w.clear.ensures.order ∙ c.loop-line.invariant.order;
+          }
       | else-is_other_line w ↦
-        let stays : not (line == c.args.cursor) && in_other_lines c.args.part c.args.cursor line ≡ false = sym c.is_other_line.ensures ∙ w.if-is_other_line.false in
-        record {
-          rows = ap rows_of w.self-is ∙ c.loop-line.invariant.rows
-            ∙ so_far_same op rows line (omega arith) (omega arith) (ap (λ (b : Bool). if b then blank_row else row_at rows line) stays);
-          order = ap (λ (h : Held). h.order) w.self-is ∙ c.loop-line.invariant.order;
-        }
+          let stays : not (line == c.args.cursor) && in_other_lines c.args.part c.args.cursor line ≡ false = sym c.is_other_line.ensures ∙ w.if-is_other_line.false in
+          record {
+            rows = ap rows_of w.self-is ∙ c.loop-line.invariant.rows
+                ∙ so_far_same op rows line (omega arith) (omega arith) (ap (λ (b : Bool). if b then blank_row else row_at rows line) stays);
+            order = ap (λ (h : Held). h.order) w.self-is ∙ c.loop-line.invariant.order;
+          }
     ]
 
 pub returns-clause-rows : goal.returns-clause-rows

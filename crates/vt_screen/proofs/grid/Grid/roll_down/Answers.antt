@@ -13,14 +13,14 @@ bounds-self-inside-leaving c = place_below _ _ c.self.invariant c.self.view_is c
 pub invariant_of-self : goal.invariant_of-self
 invariant_of-self c =
     once_rolled_down c.args.top c.args.bottom c.requires.low c.requires.apart c.requires.high _ _ c.self.invariant c.self.view_is
-      c.turn_down.new.order c.blank.result c.blank.ensures c.turn_down.ensures
+    c.turn_down.new.order c.blank.result c.blank.ensures c.turn_down.ensures
 
 pub returns-clause-rows : goal.returns-clause-rows
 returns-clause-rows c =
     rows_rolled_down c.args.top c.args.bottom c.requires.low c.requires.apart c.requires.high _ _ c.self.invariant c.self.view_is
-      c.turn_down.new.order c.blank.result c.blank.ensures c.turn_down.ensures
+    c.turn_down.new.order c.blank.result c.blank.ensures c.turn_down.ensures
 
 pub returns-clause-places : goal.returns-clause-places
 returns-clause-places c =
     places_rolled c.args.top c.args.bottom c.requires.low c.requires.apart c.requires.high _ _ c.self.invariant c.self.view_is
-      c.turn_down.new.order c.blank.result c.blank.ensures c.args.bottom
+    c.turn_down.new.order c.blank.result c.blank.ensures c.args.bottom

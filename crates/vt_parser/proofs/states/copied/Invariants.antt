@@ -1,5 +1,5 @@
 use Rattle.std.proofs.Common.{◌≡◌, take}
-use Rattle.vt_parser.proofs.machine.copied.Given as goal
+use Rattle.vt_parser.proofs.states.copied.Given as goal
 
 -- the parameters that have been passed
 abbrev pub invariant-loop-param : goal.invariant-loop-param

@@ -1,0 +1,88 @@
+-- The command line: what clap is told, and the job and the paths that its answer means.
+use Rattle.std.specs.Prelude.{◌≡◌, ℕ, ◌⊎◌, Bool, true, false, List, [], ◌∷◌, map, Option, Some, None, codes, unwrap_or, is_some, not, string_bytes, IsSomeAnd, if◌then◌else◌}
+use Rattle.std.specs.Option.{option_and_then, option_map}
+use Rattle.std.specs.List.{list_any}
+use Rattle.std.specs.Str.{bytes_eq}
+use Rattle.clap.specs.Words.{App, IsAmong, Kinds, Row, Rule, Shape, Text, fault_of, first_of, kind_of, new_app, new_rule, subcommand_of, takes, with_rule, with_subcommand}
+use Rattle.clap.specs.declared.builder.ArgAction.TheVariants.{Set}
+use Rattle.tape_core.specs.Seconds.{seconds_of}
+use Rattle.typetool.specs.declared.job.Job.{Job}
+use Rattle.typetool.specs.declared.job.Job.TheVariants.{Due}
+use Rattle.typetool.specs.declared.words.Words.{Words}
+use Rattle.typetool.specs.declared.words.WordsFault.{WordsFault}
+use Rattle.typetool.specs.declared.words.WordsFault.TheVariants.{Clap, Memory, BadSeconds}
+
+-- a flag that takes seconds, such as `--at 12.5`, and must be given (profile)
+abbrev pub seconds_rule : Text → Rule
+seconds_rule id = record (new_rule id) { long = Some id; action = Some Set; required = true; value_names = 1 }
+
+-- a path that must be given (profile)
+abbrev pub path_rule : Text → Rule
+path_rule id = record (new_rule id) { action = Some Set; required = true; value_names = 1 }
+
+-- `due --at SECONDS SCRIPT TIMING` (profile)
+abbrev pub due_app : App
+due_app = with_rule (with_rule (with_rule (new_app (codes "due")) (seconds_rule (codes "at"))) (path_rule (codes "script"))) (path_rule (codes "timing"))
+
+-- the program's name, and that a subcommand must follow (profile)
+abbrev pub top_app : App
+top_app = record { top = record (new_app (codes "typetool")).top { arg_required_else_help = true; subcommand_required = true; disable_help_subcommand = true }; subs = [] }
+
+-- the whole command line (profile)
+unfoldable pub typetool_app : App
+typetool_app = with_subcommand top_app due_app.top
+
+-- the kinds of fault that clap finds in these words: none where it reads them (profile)
+unfoldable pub clap_faults : List Text → Kinds
+clap_faults words = fault_of typetool_app words
+
+-- whether clap promises to take these words (profile)
+unfoldable pub clap_takes : List Text → Bool
+clap_takes words = takes typetool_app words
+
+-- the name and the values of the subcommand that clap finds in these words (profile)
+unfoldable pub subcommand_in : List Text → Option (Text × List Row)
+subcommand_in words = subcommand_of typetool_app words
+
+-- the name is that of one of these subcommands (profile)
+abbrev pub IsNamed : Option Text → List Shape → Type 0
+IsNamed name [] = ⊥
+IsNamed name (s ∷ rest) = (name ≡ Some s.name) ⊎ IsNamed name rest
+
+-- what a command line means: a job, and the paths in the line's order (profile)
+pub record Meaning : Type 0 where
+  pub job : Job
+  pub paths : List Text
+
+-- the value of an argument (profile)
+abbrev pub value_of : Text → List Row → Text
+value_of id rows = unwrap_or (first_of id rows) []
+
+-- what `due` means with these values: nothing where its seconds aren't readable (profile)
+abbrev pub due_meaning : List Row → Option Meaning
+due_meaning rows = option_map (λ at. record {
+  job = Due at;
+  paths = value_of (codes "script") rows ∷ value_of (codes "timing") rows ∷ [];
+}) (seconds_of (value_of (codes "at") rows))
+
+-- what a subcommand means by its name and its values (profile)
+abbrev pub meaning_of : Text × List Row → Option Meaning
+meaning_of met = if bytes_eq met.0 (codes "due") then due_meaning met.1 else None
+
+-- the seconds that a subcommand was given (profile)
+abbrev pub seconds_in : Text × List Row → List Text
+seconds_in met = value_of (codes "at") met.1 ∷ []
+
+-- some seconds aren't readable (profile)
+abbrev pub has_bad_seconds : Text × List Row → Bool
+has_bad_seconds met = list_any (λ text. not (is_some (seconds_of text))) (seconds_in met)
+
+-- the job and the paths that were read (profile)
+abbrev pub meaning_read : Words → Meaning
+meaning_read words = record { job = words.job; paths = map string_bytes words.paths.items }
+
+-- why words aren't a job: clap finds a fault of that kind in them and doesn't promise to take them, or it reads them and some seconds aren't readable; memory may always be refused (profile)
+abbrev pub FailsFor : List Text → WordsFault → Type 0
+FailsFor words (Clap e) = IsAmong (kind_of e) (clap_faults words) × (clap_takes words ≡ false)
+FailsFor words Memory = Unit {0}
+FailsFor words BadSeconds = (clap_faults words ≡ []) × IsSomeAnd (subcommand_in words) (λ met. has_bad_seconds met ≡ true)

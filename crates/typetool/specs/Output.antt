@@ -1,0 +1,97 @@
+-- What a job comes to: a function of its files, with no device and no want of memory in it.
+use Rattle.std.specs.Prelude.{◌≡◌, ℕ, ◌⊎◌, Bool, true, false, List, [], ◌++◌, Option, Some, None, MatchOption, Result, Ok, Err, if◌then◌else◌}
+use Rattle.std.specs.Io.KnownBytes.{Appends}
+use Rattle.tape_core.specs.Devices.{inner_of, has_failed, Took, StoppedIn}
+use Rattle.tape_core.specs.Due.{due}
+use Rattle.tape_core.specs.Faults.{is_stop}
+use Rattle.tape_core.specs.Reading.{fault_of, reads}
+use Rattle.tape_core.specs.Tape.{Tape}
+use Rattle.tape_core.specs.declared.devices.Watched.{Watched}
+use Rattle.tape_core.specs.declared.fault.Fault.{Fault}
+use Rattle.tape_core.specs.declared.fault.Fault.TheVariants as fault
+use Rattle.typetool.specs.declared.job.Job.{Job}
+use Rattle.typetool.specs.declared.job.Job.TheVariants.{Due}
+use Rattle.typetool.specs.declared.job.JobFault.{JobFault}
+use Rattle.typetool.specs.declared.job.JobFault.TheVariants.{File}
+use Rattle.typetool.specs.declared.job.Outcome.{Outcome}
+
+-- the texts that a job is given (profile)
+pub record Files : Type 0 where
+  pub script : List ℕ
+  pub timing : List ℕ
+  pub requests : List ℕ
+
+-- what a job comes to: the text that it writes, the text of a new timing, and how it ends (profile)
+pub record Done : Type 0 where
+  pub text : List ℕ
+  pub timing : List ℕ
+  pub outcome : Outcome
+
+-- whether a job reads request lines (profile)
+abbrev pub takes_requests : Job → Bool
+takes_requests (Due at) = false
+
+-- whether a job writes a new timing (profile)
+abbrev pub writes_timing : Job → Bool
+writes_timing (Due at) = false
+
+-- what a job comes to on a recording and request lines (profile)
+abbrev pub done_on : Job → Tape → List ℕ → Done
+done_on (Due at) tape requests = record { text = due tape.chunks at; timing = []; outcome = record { status = 0; fault = None } }
+
+-- what a job comes to where the pair of files has a fault: nothing is written (profile)
+abbrev pub refused_by : Fault → Done
+refused_by f = record { text = []; timing = []; outcome = record { status = 1; fault = Some (File f) } }
+
+-- a job comes to this on these files: the fault of the pair where it has one, and else what it comes to on the recording (profile)
+abbrev pub Comes : Job → Files → Done → Type 0
+Comes job files done = MatchOption (fault_of files.script files.timing)
+    ((tape : Tape) × reads files.script files.timing tape × (done ≡ done_on job tape files.requests))
+    (λ f. done ≡ refused_by f)
+
+-- a device or want of memory stopped the job (profile)
+abbrev pub is_stopped : Option JobFault → Bool
+is_stopped None = false
+is_stopped (Some (File f)) = is_stop f
+
+-- the status of the program where a job isn't done: 3 where a device or want of memory stopped it, and else 1 (profile)
+abbrev pub status_of : JobFault → ℕ
+status_of (File f) = if is_stop f then 3 else 1
+
+-- how a job ends that is done, or is stopped by a fault (profile)
+abbrev pub outcome_by : Result (Unit {0}) JobFault → Outcome
+outcome_by (Ok done) = record { status = 0; fault = None }
+outcome_by (Err f) = record { status = status_of f; fault = Some f }
+
+-- the job was stopped before it had read all that it reads (profile)
+abbrev pub is_unread : Option JobFault → Bool
+is_unread None = false
+is_unread (Some (File fault.OutOfMemory)) = true
+is_unread (Some (File fault.ReadFault)) = true
+is_unread (Some (File fault.WriteFault)) = false
+is_unread (Some (File fault.NoHeader)) = false
+is_unread (Some (File (fault.BadDelay line))) = false
+is_unread (Some (File (fault.BadCount line))) = false
+is_unread (Some (File (fault.MultiStream line))) = false
+is_unread (Some (File (fault.DelayTooLarge line))) = false
+is_unread (Some (File (fault.ChunkTooLong line))) = false
+is_unread (Some (File (fault.TooManyChunks line))) = false
+is_unread (Some (File (fault.TooManyBytes line))) = false
+is_unread (Some (File (fault.ScriptShort chunk))) = false
+
+-- the readers have these texts to tell; the requests matter where the job reads them (profile)
+pub record Tells {S T R : Type 0} (script_left : S → Option (List ℕ)) (timing_left : T → Option (List ℕ)) (requests_left : R → Option (List ℕ)) (job : Job) (script : Watched S) (timing : Watched T) (requests : Watched R) (files : Files) : Type 0 where
+  pub script_told : script_left (inner_of script) ≡ Some files.script
+  pub timing_told : timing_left (inner_of timing) ≡ Some files.timing
+  pub requests_told : takes_requests job ≡ true → requests_left (inner_of requests) ≡ Some files.requests
+
+-- both writers have taken their texts whole (profile)
+pub record Wrote {O P : Type 0} (contents : O → Option (List ℕ)) (timing_contents : P → Option (List ℕ)) (out out' : Watched O) (out_timing out_timing' : Watched P) (done : Done) : Type 0 where
+  pub text : Took contents out out' done.text
+  pub timing : Took timing_contents out_timing out_timing' done.timing
+
+-- a writer failed: the first one, and nothing of the second text went out, or the second one, and the first text is whole (profile)
+abbrev pub Stopped : {O P : Type 0} → (O → Option (List ℕ)) → (P → Option (List ℕ)) → Watched O → Watched O → Watched P → Watched P → Done → Type 0
+Stopped contents timing_contents out out' out_timing out_timing' done =
+    (StoppedIn contents out out' done.text × (out_timing' ≡ out_timing))
+    ⊎ (Took contents out out' done.text × StoppedIn timing_contents out_timing out_timing' done.timing)

@@ -1,0 +1,171 @@
+//! The jobs: each reads its files whole and then writes its text.
+
+ghost use Rattle.std.specs.Prelude.{◌≡◌, ◌⊎◌, ◌≢◌, ℕ, List, true, false, Some, None, OnOk, IfOk, IfErr};
+ghost use Rattle.tape_core.specs.Devices.{inner_of, has_failed, is_flushed, Took, StoppedIn};
+ghost use Rattle.tape_core.specs.Due.{due};
+ghost use Rattle.tape_core.specs.Faults.{is_stop};
+ghost use Rattle.tape_core.specs.Reading.{fault_of, reads};
+ghost use Rattle.tape_core.specs.Tape.{body};
+ghost use Rattle.typetool.specs.Output.{Files, Done, Comes, Tells, Wrote, Stopped, takes_requests, writes_timing, is_stopped, is_unread, status_of, outcome_by};
+
+use std::alloc::Global;
+use std::io::{Read, Write};
+use tape_core::laws::due_is_first;
+use tape_core::{Chunk, Fault, Recording, Watched, read_recording, slurp};
+use thiserror::Error;
+
+/// What is to be done with a recording. Moments are in microseconds.
+#[derive(Clone, Copy, Debug, PartialEq, Eq)]
+pub enum Job {
+    /// Write the bytes of the chunks that are due by a moment.
+    Due { at: u64 },
+}
+
+/// Why a job wasn't done.
+#[derive(Clone, Copy, Debug, PartialEq, Eq, Error)]
+pub enum JobFault {
+    /// The pair of files has a fault, memory was refused or a device failed.
+    #[error("{0}")]
+    File(Fault),
+}
+
+/// How a job ended: the status of the program, and the fault that it prints.
+#[derive(Clone, Copy, Debug, PartialEq, Eq)]
+pub struct Outcome {
+    pub status: u8,
+    pub fault: Option<JobFault>,
+}
+
+/// Does a job: reads the script and the timing whole, and then writes.
+///
+/// Nothing is written where the pair of files has a fault or a reader fails. After a write fault a beginning of the
+/// text has gone out. No fault is retried.
+pub fn run<S: Read, T: Read, R: Read, O: Write, P: Write>(
+    alloc: Global,
+    job: Job,
+    script: &mut Watched<S>,
+    timing: &mut Watched<T>,
+    requests: &mut Watched<R>,
+    out: &mut Watched<O>,
+    out_timing: &mut Watched<P>,
+) -> Outcome
+    requires script { has_failed script.old ≡ false }
+    requires timing { has_failed timing.old ≡ false }
+    requires requests { has_failed requests.old ≡ false }
+    requires out { has_failed out.old ≡ false }
+    requires out_timing { has_failed out_timing.old ≡ false }
+
+    // An answer of any other kind: no device failed, and both texts went out whole.
+    ensures sound { is_stopped result.fault ≡ false → (has_failed script.new ≡ false) × (has_failed timing.new ≡ false)
+        × (has_failed requests.new ≡ false) × (has_failed out.new ≡ false) × (has_failed out_timing.new ≡ false) }
+    ensures answer { is_stopped result.fault ≡ false → (files : Files)
+        → Tells S.remaining T.remaining R.remaining job script.old timing.old requests.old files
+        → (done : Done) × Comes job files done × (result ≡ done.outcome)
+        × Wrote O.contents P.contents out.old out.new out_timing.old out_timing.new done }
+    ensures flushed { result.fault ≡ None → is_flushed out.new ≡ true }
+
+    // Stopped: by a reader or for memory with nothing written, by a writer with a beginning written.
+    ensures status { is_stopped result.fault ≡ true → result.status ≡ 3 }
+    ensures unwritten { is_unread result.fault ≡ true → (out.new ≡ out.old) × (out_timing.new ≡ out_timing.old) }
+    ensures memory { result.fault ≡ Some (JobFault.File Fault.OutOfMemory) → (has_failed script.new ≡ false)
+        × (has_failed timing.new ≡ false) × (has_failed requests.new ≡ false) }
+    ensures read_fault { result.fault ≡ Some (JobFault.File Fault.ReadFault) → (has_failed script.new ≡ true)
+        ⊎ ((has_failed timing.new ≡ true) ⊎ (has_failed requests.new ≡ true)) }
+    ensures write_fault { result.fault ≡ Some (JobFault.File Fault.WriteFault) → (has_failed out.new ≡ true)
+        ⊎ (has_failed out_timing.new ≡ true) }
+    ensures begun { result.fault ≡ Some (JobFault.File Fault.WriteFault) → (files : Files)
+        → Tells S.remaining T.remaining R.remaining job script.old timing.old requests.old files
+        → (done : Done) × Comes job files done
+        × Stopped O.contents P.contents out.old out.new out_timing.old out_timing.new done }
+
+    // What a job leaves alone.
+    ensures requests { takes_requests job ≡ false → requests.new ≡ requests.old }
+    ensures out_timing { writes_timing job ≡ false → out_timing.new ≡ out_timing.old }
+{
+    let recording = match read_pair(alloc, script, timing) {
+        Ok(recording) => recording,
+        Err(fault) => return outcome_of(Err(JobFault::File(fault))),
+    };
+    match job {
+        Job::Due { at } => outcome_of(write_due(&recording, at, out).map_err(JobFault::File)),
+    }
+}
+
+/// How a job ends that is done, or isn't for this fault.
+fn outcome_of(done: Result<(), JobFault>) -> Outcome
+    ensures { result ≡ outcome_by done }
+{
+    match done {
+        Ok(()) => Outcome {
+            status: 0,
+            fault: None,
+        },
+        Err(fault) => Outcome {
+            status: status_of(fault),
+            fault: Some(fault),
+        },
+    }
+}
+
+/// The status of the program where a job isn't done.
+fn status_of(fault: JobFault) -> u8
+    ensures { result ≡ status_of fault }
+{
+    match fault {
+        JobFault::File(Fault::OutOfMemory | Fault::ReadFault | Fault::WriteFault) => 3,
+        JobFault::File(_) => 1,
+    }
+}
+
+/// Reads both files whole, and then the recording in them.
+fn read_pair<S: Read, T: Read>(
+    alloc: Global,
+    script: &mut Watched<S>,
+    timing: &mut Watched<T>,
+) -> Result<Recording, Fault>
+    requires script { has_failed script.old ≡ false }
+    requires timing { has_failed timing.old ≡ false }
+    ensures ok { IfOk result (λ recording. (s : List ℕ) (t : List ℕ) → S.remaining (inner_of script.old) ≡ Some s
+        → T.remaining (inner_of timing.old) ≡ Some t → reads s t recording) }
+    ensures fault { IfErr result (λ fault. is_stop fault ≡ false → (s : List ℕ) (t : List ℕ)
+        → S.remaining (inner_of script.old) ≡ Some s → T.remaining (inner_of timing.old) ≡ Some t
+        → fault_of s t ≡ Some fault) }
+    ensures sound { result ≢ Err Fault.ReadFault → (has_failed script.new ≡ false) × (has_failed timing.new ≡ false) }
+    ensures read_fault { IfErr result (λ fault. fault ≡ Fault.ReadFault → (has_failed script.new ≡ true)
+        ⊎ (has_failed timing.new ≡ true)) }
+    ensures no_write_fault { IfErr result (λ fault. fault ≢ Fault.WriteFault) }
+{
+    let script = slurp(alloc, script)?;
+    let timing = slurp(alloc, timing)?;
+    read_recording(alloc, &script, &timing)
+}
+
+/// Writes the bytes of the chunks that are due by the moment, and flushes.
+fn write_due<O: Write>(recording: &Recording, at: u64, out: &mut Watched<O>) -> Result<(), Fault>
+    requires { has_failed out.old ≡ false }
+    ensures ok { OnOk result (Took O.contents out.old out.new (due recording.now.chunks at)) }
+    ensures flushed { OnOk result (is_flushed out.new ≡ true) }
+    ensures fault { IfErr result (λ fault. (fault ≡ Fault.WriteFault)
+        × StoppedIn O.contents out.old out.new (due recording.now.chunks at)) }
+{
+    due_is_first();
+    let count = recording.due_count(at);
+    put_chunks(&recording.chunks()[..count], out)?;
+    out.finish()
+}
+
+/// Writes the bytes of the chunks, one after another.
+fn put_chunks<O: Write>(chunks: &[Chunk], out: &mut Watched<O>) -> Result<(), Fault>
+    requires { has_failed out.old ≡ false }
+    ensures ok { OnOk result (Took O.contents out.old out.new (body chunks.now)) }
+    ensures fault { IfErr result (λ fault. (fault ≡ Fault.WriteFault)
+        × StoppedIn O.contents out.old out.new (body chunks.now)) }
+{
+    for chunk in chunks {
+        out.put(chunk.bytes.as_slice())?;
+    }
+    Ok(())
+}
+
+#[cfg(test)]
+mod tests;

@@ -1,0 +1,12 @@
+//! Tells what a recording of a terminal shows by a moment.
+#![tactic(auto)]
+
+mod job;
+mod program;
+mod words;
+
+use std::process::ExitCode;
+
+fn main(rt: HostRuntime) -> ExitCode {
+    ExitCode::from(program::start(&rt))
+}

@@ -1,0 +1,146 @@
+//! The program around a job: its arguments, its files, and what it tells its user.
+
+ghost use Rattle.std.specs.Prelude.{◌≡◌, ◌≤◌, false, IfOk, vec_len};
+ghost use Rattle.tape_core.specs.Devices.{has_failed};
+
+use crate::job::{Job, JobFault, Outcome, run};
+use crate::words::{Words, WordsFault, read_words};
+use std::alloc::AllocError;
+use std::fs::File;
+use std::io::BufWriter;
+use std::rt::{Env, Files};
+use std::{env, fs, io};
+use tape_core::Watched;
+use thiserror::Error;
+
+/// How many bytes of standard output are held back before they are written.
+const HELD_BACK: usize = 65536;
+
+/// Why there is no job to do, or a job wasn't done. The text follows the program's name on standard error.
+#[derive(Debug, Drop, Error)]
+enum Stop {
+    /// clap's text is printed as it is.
+    #[error("{0}")]
+    Clap(clap::Error),
+    #[error("bad seconds")]
+    BadSeconds,
+    #[error("an argument is not UTF-8")]
+    NotText,
+    #[error("out of memory")]
+    Memory,
+    #[error("cannot open {0}")]
+    CannotOpen(String),
+    #[error("{0}")]
+    Job(JobFault),
+}
+
+impl From<AllocError> for Stop {
+    fn from(_refused: AllocError) -> Stop {
+        Stop::Memory
+    }
+}
+
+impl From<WordsFault> for Stop {
+    fn from(fault: WordsFault) -> Stop {
+        match fault {
+            WordsFault::Clap(error) => Stop::Clap(error),
+            WordsFault::Memory => Stop::Memory,
+            WordsFault::BadSeconds => Stop::BadSeconds,
+        }
+    }
+}
+
+/// Runs the program, and answers its status.
+pub fn start<R: Files + Env + Print + Eprint + AllocGlobal>(rt: &R) -> u8 {
+    match attempt(rt) {
+        Ok(outcome) => match outcome.fault {
+            Some(fault) => tell(rt, Stop::Job(fault), outcome.status),
+            None => outcome.status,
+        },
+        Err(Stop::Clap(error)) => show(rt, &error),
+        Err(Stop::BadSeconds) => tell(rt, Stop::BadSeconds, 2),
+        Err(Stop::NotText) => tell(rt, Stop::NotText, 2),
+        Err(stop) => tell(rt, stop, 3),
+    }
+}
+
+/// Reads the command line, opens the files and does the job.
+fn attempt<R: Files + Env + Print + AllocGlobal>(rt: &R) -> Result<Outcome, Stop> {
+    let words = arguments(rt)?;
+    let read = read_words(rt.alloc(), words.as_slice())?;
+    perform(rt, &read)
+}
+
+/// The words of the command line, the program's name first.
+fn arguments<R: Env + AllocGlobal>(rt: &R) -> Result<Vec<String>, Stop> {
+    match env::args(rt) {
+        Ok(words) => Ok(words.collect(rt.alloc())?),
+        Err(error) if error.kind() == io::ErrorKind::OutOfMemory => Err(Stop::Memory),
+        Err(_) => Err(Stop::NotText),
+    }
+}
+
+/// Opens the files in order, before anything is read, and does the job.
+fn perform<R: Files + Print + AllocGlobal>(rt: &R, words: &Words) -> Result<Outcome, Stop>
+    requires { 2 ≤ vec_len words.now.paths }
+{
+    let mut script = open(rt, words.paths[0].as_str())?;
+    let mut timing = open(rt, words.paths[1].as_str())?;
+    match words.job {
+        Job::Due { .. } => {
+            let mut out = standard_output(rt)?;
+            let outcome = run(
+                rt.alloc(),
+                words.job,
+                &mut script,
+                &mut timing,
+                &mut Watched::new(io::empty()),
+                &mut out,
+                &mut Watched::new(io::sink()),
+            );
+            leave(out);
+            Ok(outcome)
+        }
+    }
+}
+
+/// Opens a file to be read.
+fn open<R: Files + AllocGlobal>(rt: &R, path: &str) -> Result<Watched<R::File>, Stop>
+    ensures { IfOk result (λ file. has_failed file ≡ false) }
+{
+    match fs::open(rt, path) {
+        Ok(file) => Ok(Watched::new(file)),
+        Err(_) => Err(Stop::CannotOpen(String::from_str(rt.alloc(), path)?)),
+    }
+}
+
+/// Standard output, behind a buffer.
+fn standard_output<'a, R: Print + AllocGlobal>(
+    rt: &'a R,
+) -> Result<Watched<BufWriter<io::Printer<'a, R>>>, Stop>
+    ensures { IfOk result (λ out. has_failed out ≡ false) }
+{
+    match BufWriter::with_capacity(rt.alloc(), HELD_BACK, io::writer(rt)) {
+        Ok(writer) => Ok(Watched::new(writer)),
+        Err(_) => Err(Stop::Memory),
+    }
+}
+
+/// Lets a buffered writer go, and drops what a failed write left in its buffer: no fault is retried.
+fn leave<W: io::Write + Drop>(writer: Watched<BufWriter<W>>) {
+    let (_inner, _unwritten) = writer.into_inner().into_parts();
+}
+
+/// Tells why the program stops, and answers the status.
+fn tell<R: Eprint>(rt: &R, stop: Stop, status: u8) -> u8 {
+    let _ = rt.eprintln(format_args!("typetool: {stop}"));
+    status
+}
+
+/// Shows clap's text, and answers its status, or that of a write fault.
+fn show<R: Print + Eprint>(rt: &R, error: &clap::Error) -> u8 {
+    match error.print(rt) {
+        Ok(()) => if error.use_stderr() { 2 } else { 0 },
+        Err(_) => 3,
+    }
+}

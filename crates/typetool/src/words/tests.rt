@@ -1,0 +1,101 @@
+use super::*;
+use std::test::Fail;
+
+/// The words of a command line as owned texts.
+fn owned(alloc: Global, words: &[&str]) -> Result<Vec<String>, AllocError> {
+    let mut all = Vec::new(alloc);
+    for word in words {
+        all.push(String::from_str(alloc, word)?)?;
+    }
+    Ok(all)
+}
+
+#[test]
+fn reads_due(rt: HostRuntime) -> Result<(), Fail> {
+    let rows: [(&[&str], u64); 7] = [
+        (&["typetool", "due", "--at", "0.5", "s", "t"], 500_000),
+        (&["typetool", "due", "--at=0.4999999", "s", "t"], 499_999),
+        (&["typetool", "due", "s", "t", "--at", "12."], 12_000_000),
+        (&["typetool", "due", "s", "--at=007", "t"], 7_000_000),
+        (&["typetool", "due", "--at=0", "--", "s", "t"], 0),
+        (
+            &[
+                "./typetool",
+                "due",
+                "--at",
+                "1000000000000.0000001",
+                "s",
+                "t",
+            ],
+            1_000_000_000_000_000_000,
+        ),
+        (
+            &[
+                "typetool",
+                "due",
+                "--at",
+                "99999999999999999999999",
+                "s",
+                "t",
+            ],
+            1_000_000_000_000_000_000,
+        ),
+    ];
+    for (words, at) in rows {
+        let words = owned(rt.alloc(), words)?;
+        let read = read_words(rt.alloc(), words.as_slice());
+        let Ok(read) = read else {
+            panic!(rt; "{words:?} is a command line");
+        };
+        assert_eq!(rt; read.job, Job::Due { at }, "{words:?}");
+        let paths = [read.paths[0].as_str(), read.paths[1].as_str()];
+        assert_eq!(rt; paths, ["s", "t"], "{words:?}");
+    }
+    Ok(())
+}
+
+#[test]
+fn refuses_unreadable_seconds(rt: HostRuntime) -> Result<(), Fail> {
+    for seconds in [
+        "", ".5", ".", "-1", "+1", "1e3", "1,5", "1.5s", " 1", "1 ", "0x1", "-",
+    ] {
+        let flag = format!(in rt.alloc(); "--at={seconds}")?;
+        let words = owned(rt.alloc(), &["typetool", "due", flag.as_str(), "s", "t"])?;
+        let read = read_words(rt.alloc(), words.as_slice());
+        assert!(rt; matches!(&read, Err(WordsFault::BadSeconds)), "{seconds:?}");
+    }
+    Ok(())
+}
+
+#[test]
+fn leaves_other_words_to_clap(rt: HostRuntime) -> Result<(), Fail> {
+    let rows: [(&[&str], bool); 14] = [
+        (&["typetool"], true),
+        (&["typetool", "dew"], true),
+        (&["typetool", "help"], true),
+        (&["typetool", "due"], true),
+        (&["typetool", "due", "s", "t"], true),
+        (&["typetool", "due", "--at", "1", "s"], true),
+        (&["typetool", "due", "--at", "1", "s", "t", "u"], true),
+        (
+            &["typetool", "due", "--at", "1", "--at", "1", "s", "t"],
+            true,
+        ),
+        (&["typetool", "due", "--from", "1", "s", "t"], true),
+        (&["typetool", "due", "--at", "-1", "s", "t"], true),
+        (&["typetool", "--at", "1", "due", "s", "t"], true),
+        (&["typetool", "--help"], false),
+        (&["typetool", "due", "--help"], false),
+        (&["typetool", "due", "-h"], false),
+    ];
+    for (words, is_mistake) in rows {
+        let words = owned(rt.alloc(), words)?;
+        match read_words(rt.alloc(), words.as_slice()) {
+            Err(WordsFault::Clap(error)) => {
+                assert_eq!(rt; error.use_stderr(), is_mistake, "{words:?}");
+            }
+            _ => panic!(rt; "{words:?} is no command line"),
+        }
+    }
+    Ok(())
+}

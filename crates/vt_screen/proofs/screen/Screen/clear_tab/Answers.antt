@@ -1,0 +1,11 @@
+use Rattle.std.proofs.Common.{Bool, true, false, ◌∙◌, ap}
+use Rattle.vt_screen.specs.Picture.{Picture}
+use Rattle.vt_screen.specs.Places.{Shown}
+use Rattle.vt_screen.specs.Tabs.{tab_made}
+use Rattle.vt_screen.specs.View.{picture_of}
+use Rattle.vt_screen.proofs.Answers.{tab_written}
+use Rattle.vt_screen.proofs.screen.Screen.clear_tab.Goals as goal
+
+pub returns-clause-picture : goal.returns-clause-picture
+returns-clause-picture c =
+    tab_written (picture_of c.self.inside) false c.self.invariant ∙ ap (λ (s : Shown). tab_made false s.picture) c.self.view_is

@@ -1,0 +1,24 @@
+use Rattle.std.proofs.Common.{◌≡◌, ◌≢◌, sym, ap, subst, ◌∙◌}
+use Rattle.vt_screen.specs.declared.cell.Cell.{Cell}
+use Rattle.vt_screen.specs.Picture.{Sound, right_margin}
+use Rattle.vt_screen.specs.Places.{Shown}
+use Rattle.vt_screen.specs.View.{picture_of}
+use Rattle.vt_screen.proofs.Answers.{with_rows, put_there, put_on}
+use Rattle.vt_screen.proofs.Soundness.{sound_put}
+use Rattle.vt_screen.proofs.screen.Screen.show.Goals as goal
+
+pub invariant_of-self : goal.invariant_of-self
+invariant_of-self c =
+    let p = picture_of c.self.inside in
+    let cell : Cell = record { glyph = c.args.glyph; rendition = c.args.rendition } in
+    let margin = c.margin-margin.ensures.value ∙ ap (λ (s : Shown). right_margin s.picture s.picture.line) (sym c.self.view_is) in
+    subst Sound (sym (with_rows _ _ c.write.ensures.rows ∙ put_there p cell c.args.autowrap (c.if-self-margin.true ∙ margin)))
+    (sound_put p c.self.invariant cell c.args.autowrap c.requires)
+
+pub invariant_of-self-else-self-margin : goal.invariant_of-self-else-self-margin
+invariant_of-self-else-self-margin c =
+    let p = picture_of c.self.inside in
+    let cell : Cell = record { glyph = c.args.glyph; rendition = c.args.rendition } in
+    let margin = c.margin-margin.ensures.value ∙ ap (λ (s : Shown). right_margin s.picture s.picture.line) (sym c.self.view_is) in
+    subst Sound (sym (with_rows _ _ c.write.ensures.rows ∙ put_on p cell c.args.autowrap (λ e. c.if-self-margin.false (e ∙ sym margin))))
+    (sound_put p c.self.invariant cell c.args.autowrap c.requires)

@@ -1,0 +1,24 @@
+use Rattle.std.proofs.Common.{◌≡◌, ℕ, ◌+◌, ◌-◌, ◌<◌, ◌%◌, ◌∙◌, false, length, get_or, set, arith, inl, inr}
+use Rattle.std.specs.Prelude.{nat_lt, ◌==◌, ◌&&◌}
+use Rattle.std.proofs.lemmas.Bool.{cases_eq}
+use Rattle.std.proofs.lemmas.Bool.Decides.{nat_tests}
+use Rattle.std.proofs.lemmas.List.{length-set}
+use Rattle.vt_screen.proofs.Tables.{is_table, get_or-set}
+use Rattle.vt_screen.proofs.screen.first_tabs.Goals as goal
+
+pub loop-column-preserved : goal.loop-column-preserved
+loop-column-preserved c =
+    let column = c.loop-column.column in
+    record {
+      whole = length-set _ _ _ ∙ c.loop-column.invariant.whole;
+      stops = λ k below.
+          let new = get_or-set false c.loop-column.tabs (column - 1) (column % 8 == 1) k (omega (arith, c.loop-column.invariant.whole)) in
+          elim (cases_eq k (column - 1)) [
+            | inl e ↦ (let next : k + 1 ≡ column = omega arith in grind (arith, nat_tests))
+            | inr ne ↦ (let old = c.loop-column.invariant.stops k (omega arith) in grind (arith, nat_tests))
+          ];
+    }
+
+pub returns : goal.returns
+returns c =
+    is_table false 132 c.loop-column.tabs (λ k. nat_lt 1 k && (k % 8 == 1)) c.loop-column.invariant.whole (λ k below. c.loop-column.invariant.stops k (omega arith))

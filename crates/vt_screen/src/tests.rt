@@ -1,0 +1,588 @@
+//! Rows of the terminal's rules that need no bytes, by calls of the operations.
+
+ghost use Rattle.std.specs.Prelude.{◌<◌, ◌≤◌, All};
+
+use super::*;
+
+/// Whether a line has this text in its first cells and spaces after it.
+fn has_text(screen: &Screen, line: u8, text: &[u8]) -> bool
+    requires low { 1 ≤ line }
+    requires high { line ≤ 24 }
+{
+    for col in 1..133 {
+        let want = match text.get(col as usize - 1) {
+            Some(glyph) => *glyph,
+            None => b' ',
+        };
+        if screen.cell(line, col).glyph != want {
+            return false;
+        }
+    }
+    true
+}
+
+/// Whether every line of a range has this text.
+fn have_text(screen: &Screen, from: u8, to: u8, text: &[u8]) -> bool
+    requires low { 1 ≤ from }
+    requires high { to ≤ 24 }
+{
+    for line in from..to + 1 {
+        if !has_text(screen, line, text) {
+            return false;
+        }
+    }
+    true
+}
+
+/// Whether two screens have the same cells, sizes, cursor and wrap.
+fn look_alike(one: &Screen, other: &Screen) -> bool {
+    for line in 1..25 {
+        if one.row(line) != other.row(line) {
+            return false;
+        }
+    }
+    one.cursor() == other.cursor() && one.wrap() == other.wrap()
+}
+
+fn type_text(screen: &mut Screen, text: &[u8]) {
+    for glyph in text {
+        screen.show((*glyph).min(126), Rendition::plain(), true);
+    }
+}
+
+/// A screen that was shown the glyphs in runs of so many.
+fn shown_in_pieces(glyphs: &[u8], piece: usize) -> Screen
+    requires glyphs { All (λ glyph. glyph ≤ 126) glyphs.now }
+    requires some { 0 < piece }
+{
+    let mut screen = Screen::reset();
+    let mut rest = glyphs;
+    while !rest.is_empty() {
+        let taken = rest.len().min(piece);
+        screen.show_run(&rest[..taken], Rendition::plain(), true);
+        rest = &rest[taken..];
+    }
+    screen
+}
+
+/// Column 1 of the next line.
+fn next_line(screen: &mut Screen) {
+    screen.to_left();
+    screen.index();
+}
+
+#[test]
+fn starts_blank(rt: HostRuntime) {
+    let screen = Screen::reset();
+    assert_eq!(rt; screen.columns(), 80);
+    assert_eq!(rt; screen.cursor(), (1, 1));
+    assert_eq!(rt; screen.margins(), (1, 24));
+    assert!(rt; !screen.wrap());
+    assert!(rt; have_text(&screen, 1, 24, b""));
+    for line in 1..25 {
+        assert_eq!(rt; screen.size(line), Size::Single);
+        assert_eq!(rt; screen.right_margin(line), 80);
+        assert_eq!(rt; screen.place_of(line), line - 1);
+    }
+    let stops = [
+        9, 17, 25, 33, 41, 49, 57, 65, 73, 81, 89, 97, 105, 113, 121, 129,
+    ];
+    for col in 1..133 {
+        assert_eq!(rt; screen.tab(col), stops.contains(&col));
+    }
+}
+
+#[test]
+fn keeps_four_attributes(rt: HostRuntime) {
+    for bold in [false, true] {
+        for underscore in [false, true] {
+            for blink in [false, true] {
+                for reverse in [false, true] {
+                    let rendition = Rendition::new(bold, underscore, blink, reverse);
+                    assert_eq!(rt; rendition.bold(), bold);
+                    assert_eq!(rt; rendition.underscore(), underscore);
+                    assert_eq!(rt; rendition.blink(), blink);
+                    assert_eq!(rt; rendition.reverse(), reverse);
+                }
+            }
+        }
+    }
+    assert_eq!(rt;
+        Rendition::plain(),
+        Rendition::new(false, false, false, false)
+    );
+}
+
+#[test]
+fn wraps_with_the_next_character(rt: HostRuntime) {
+    let mut screen = Screen::reset();
+    type_text(&mut screen, &[b'A'; 80]);
+    assert_eq!(rt; screen.cursor(), (1, 80));
+    assert!(rt; screen.wrap());
+    type_text(&mut screen, b"B");
+    assert_eq!(rt; screen.cursor(), (2, 2));
+    assert!(rt; !screen.wrap());
+    assert!(rt; has_text(&screen, 1, &[b'A'; 80]));
+    assert!(rt; has_text(&screen, 2, b"B"));
+}
+
+#[test]
+fn steps_back_from_a_pending_wrap(rt: HostRuntime) {
+    let mut screen = Screen::reset();
+    type_text(&mut screen, &[b'A'; 80]);
+    screen.step_left(1);
+    type_text(&mut screen, b"B");
+    assert_eq!(rt; screen.cell(1, 79).glyph, b'B');
+    assert_eq!(rt; screen.cell(1, 80).glyph, b'A');
+    assert_eq!(rt; screen.cursor(), (1, 80));
+    assert!(rt; !screen.wrap());
+}
+
+#[test]
+fn replaces_at_the_margin_without_autowrap(rt: HostRuntime) {
+    let mut screen = Screen::reset();
+    screen.show_run(&[b'A'; 200], Rendition::plain(), false);
+    screen.show(b'B', Rendition::plain(), false);
+    assert_eq!(rt; screen.cursor(), (1, 80));
+    assert!(rt; !screen.wrap());
+    assert_eq!(rt; screen.cell(1, 79).glyph, b'A');
+    assert_eq!(rt; screen.cell(1, 80).glyph, b'B');
+    assert!(rt; have_text(&screen, 2, 24, b""));
+}
+
+#[test]
+fn writes_the_rendition(rt: HostRuntime) {
+    let mut screen = Screen::reset();
+    let underscored = Rendition::new(false, true, false, false);
+    screen.show(b'X', underscored, true);
+    assert_eq!(rt; screen.cell(1, 1).rendition, underscored);
+    assert_eq!(rt; screen.cell(1, 2), Cell::blank());
+}
+
+#[test]
+fn scrolls_at_the_last_line(rt: HostRuntime) {
+    let mut screen = Screen::reset();
+    screen.place(24, 1, false);
+    type_text(&mut screen, b"x");
+    next_line(&mut screen);
+    assert!(rt; has_text(&screen, 23, b"x"));
+    assert!(rt; has_text(&screen, 24, b""));
+    assert_eq!(rt; screen.cursor(), (24, 1));
+}
+
+#[test]
+fn steps_stop_at_margins(rt: HostRuntime) {
+    // the line before, up or down by 9, and the line after, in a region of lines 5 to 10
+    for (line, up, down) in [
+        (7, 5, 10),
+        (5, 5, 10),
+        (10, 5, 10),
+        (3, 1, 10),
+        (4, 1, 10),
+        (12, 5, 21),
+        (20, 11, 24),
+    ] {
+        let mut screen = Screen::reset();
+        let line: u16 = line;
+        assert!(rt; screen.set_margins(5, 10, false));
+        screen.place(line.max(1), 3, false);
+        screen.step_up(9);
+        assert_eq!(rt; screen.cursor(), (up, 3), "up from {line}");
+        screen.place(line.max(1), 3, false);
+        screen.step_down(9);
+        assert_eq!(rt; screen.cursor(), (down, 3), "down from {line}");
+    }
+}
+
+#[test]
+fn steps_stop_at_columns(rt: HostRuntime) {
+    let mut screen = Screen::reset();
+    screen.step_right(9999);
+    assert_eq!(rt; screen.cursor(), (1, 80));
+    screen.step_left(9999);
+    assert_eq!(rt; screen.cursor(), (1, 1));
+    screen.set_size(Size::Double);
+    screen.step_right(9999);
+    assert_eq!(rt; screen.cursor(), (1, 40));
+}
+
+#[test]
+fn cuts_the_column_on_a_double_line(rt: HostRuntime) {
+    let mut screen = Screen::reset();
+    screen.set_size(Size::Top);
+    screen.index();
+    screen.step_right(59);
+    assert_eq!(rt; screen.cursor(), (2, 60));
+    screen.step_up(1);
+    assert_eq!(rt; screen.cursor(), (1, 40));
+}
+
+#[test]
+fn places_in_the_region(rt: HostRuntime) {
+    let mut screen = Screen::reset();
+    screen.place(99, 99, false);
+    assert_eq!(rt; screen.cursor(), (24, 80));
+    assert!(rt; screen.set_margins(5, 10, true));
+    assert_eq!(rt; screen.cursor(), (5, 1));
+    screen.place(99, 1, true);
+    assert_eq!(rt; screen.cursor(), (10, 1));
+    screen.place(2, 7, true);
+    assert_eq!(rt; screen.cursor(), (6, 7));
+    screen.home(true);
+    assert_eq!(rt; screen.cursor(), (5, 1));
+    screen.home(false);
+    assert_eq!(rt; screen.cursor(), (1, 1));
+}
+
+#[test]
+fn halves_a_line(rt: HostRuntime) {
+    let mut screen = Screen::reset();
+    type_text(&mut screen, &[b'A'; 50]);
+    screen.set_size(Size::Double);
+    assert_eq!(rt; screen.size(1), Size::Double);
+    assert_eq!(rt; screen.right_margin(1), 40);
+    assert_eq!(rt; screen.cursor(), (1, 40));
+    assert!(rt; has_text(&screen, 1, &[b'A'; 40]));
+    screen.set_size(Size::Single);
+    assert_eq!(rt; screen.right_margin(1), 80);
+    assert!(rt; has_text(&screen, 1, &[b'A'; 40]));
+    assert_eq!(rt; screen.cursor(), (1, 40));
+}
+
+#[test]
+fn erases_to_the_cursor_with_sizes(rt: HostRuntime) {
+    let mut screen = Screen::reset();
+    type_text(&mut screen, b"ab");
+    screen.set_size(Size::Top);
+    next_line(&mut screen);
+    type_text(&mut screen, b"ab");
+    screen.set_size(Size::Bottom);
+    screen.erase_display(1);
+    assert!(rt; have_text(&screen, 1, 2, b""));
+    assert_eq!(rt; screen.size(1), Size::Single);
+    assert_eq!(rt; screen.size(2), Size::Bottom);
+}
+
+#[test]
+fn erases_parts(rt: HostRuntime) {
+    // the part, what is left of a line of five letters from its third, and the lines that are erased too
+    for (part, left, from, to) in [
+        (0, b"ab   ", 4, 24),
+        (1, b"   de", 1, 2),
+        (2, b"     ", 1, 24),
+    ] {
+        let part: u8 = part;
+        let from: u8 = from;
+        let to: u8 = to;
+        let mut screen = Screen::reset();
+        screen.align();
+        screen.place(3, 1, false);
+        screen.erase_line(2);
+        type_text(&mut screen, b"abcde");
+        screen.place(3, 3, false);
+        screen.erase_line(part.min(2));
+        assert!(rt; has_text(&screen, 3, left), "the line, part {part}");
+        assert!(rt; have_text(&screen, 1, 2, &[b'E'; 80]));
+        screen.erase_display(part.min(2));
+        assert!(rt; has_text(&screen, 3, left), "the display, part {part}");
+        for line in 1..25 {
+            let want = if (from <= line && line <= to) || line == 3 {
+                0
+            } else {
+                80
+            };
+            assert!(rt;
+                line == 3 || has_text(&screen, line, &[b'E'; 80][..want]),
+                "line {line}, part {part}"
+            );
+        }
+        assert_eq!(rt; screen.cursor(), (3, 3));
+    }
+}
+
+#[test]
+fn erasing_keeps_or_clears_the_wrap(rt: HostRuntime) {
+    let mut screen = Screen::reset();
+    type_text(&mut screen, &[b'A'; 80]);
+    screen.erase_line(2);
+    assert!(rt; screen.wrap());
+    screen.erase_display(2);
+    assert!(rt; screen.wrap());
+    screen.set_size(Size::Double);
+    assert!(rt; !screen.wrap());
+    type_text(&mut screen, b"A");
+    assert!(rt; screen.wrap());
+    screen.erase_display(0);
+    assert!(rt; screen.wrap());
+    screen.erase_display(1);
+    assert!(rt; !screen.wrap());
+    assert_eq!(rt; screen.size(1), Size::Single);
+    assert_eq!(rt; screen.cursor(), (1, 40));
+}
+
+#[test]
+fn tabs_to_stops(rt: HostRuntime) {
+    let mut screen = Screen::reset();
+    screen.tab_forward();
+    assert_eq!(rt; screen.cursor(), (1, 9));
+    screen.tab_forward();
+    assert_eq!(rt; screen.cursor(), (1, 17));
+    screen.clear_tabs();
+    screen.tab_forward();
+    assert_eq!(rt; screen.cursor(), (1, 80));
+    type_text(&mut screen, b"x");
+    assert_eq!(rt; screen.cell(1, 80).glyph, b'x');
+    assert!(rt; screen.wrap());
+    screen.tab_forward();
+    assert!(rt; !screen.wrap());
+}
+
+#[test]
+fn sets_and_clears_stops(rt: HostRuntime) {
+    let mut screen = Screen::reset();
+    screen.place(1, 5, false);
+    screen.set_tab();
+    screen.to_left();
+    screen.tab_forward();
+    assert_eq!(rt; screen.cursor(), (1, 5));
+    screen.clear_tab();
+    screen.to_left();
+    screen.tab_forward();
+    assert_eq!(rt; screen.cursor(), (1, 9));
+    // a stop right of the margin of a double line is not reached
+    screen.set_size(Size::Double);
+    screen.step_right(31);
+    assert_eq!(rt; screen.cursor(), (1, 40));
+    screen.tab_forward();
+    assert_eq!(rt; screen.cursor(), (1, 40));
+}
+
+#[test]
+fn tabs_outlive_a_change_of_columns(rt: HostRuntime) {
+    let mut screen = Screen::reset();
+    screen.set_columns(true, false);
+    screen.place(1, 130, false);
+    screen.tab_forward();
+    assert_eq!(rt; screen.cursor(), (1, 132));
+    screen.set_tab();
+    screen.set_columns(false, false);
+    screen.set_columns(true, false);
+    assert!(rt; screen.tab(132));
+    assert!(rt; screen.tab(129));
+}
+
+#[test]
+fn widens(rt: HostRuntime) {
+    let mut screen = Screen::reset();
+    type_text(&mut screen, b"ab");
+    assert!(rt; screen.set_margins(3, 7, false));
+    screen.set_columns(true, true);
+    assert_eq!(rt; screen.columns(), 132);
+    assert_eq!(rt; screen.margins(), (1, 24));
+    assert_eq!(rt; screen.cursor(), (1, 1));
+    assert!(rt; have_text(&screen, 1, 24, b""));
+    screen.place(1, 132, false);
+    type_text(&mut screen, b"AB");
+    assert_eq!(rt; screen.cell(1, 132).glyph, b'A');
+    assert_eq!(rt; screen.cell(2, 1).glyph, b'B');
+    screen.set_size(Size::Double);
+    assert_eq!(rt; screen.right_margin(2), 66);
+}
+
+#[test]
+fn refuses_margins(rt: HostRuntime) {
+    for (top, bottom) in [
+        (10, 5),
+        (5, 5),
+        (1, 25),
+        (0, 24),
+        (24, 24),
+        (0, 0),
+        (9999, 9999),
+    ] {
+        let mut screen = Screen::reset();
+        screen.place(3, 3, false);
+        assert!(rt;
+            !screen.set_margins(top, bottom, false),
+            "{top} to {bottom}"
+        );
+        assert_eq!(rt; screen.margins(), (1, 24));
+        assert_eq!(rt; screen.cursor(), (3, 3));
+    }
+    let mut screen = Screen::reset();
+    type_text(&mut screen, &[b'A'; 80]);
+    assert!(rt; !screen.set_margins(2, 1, false));
+    assert!(rt; screen.wrap());
+    assert!(rt; screen.set_margins(23, 24, false));
+    assert!(rt; !screen.wrap());
+    assert_eq!(rt; screen.margins(), (23, 24));
+}
+
+#[test]
+fn aligns(rt: HostRuntime) {
+    let mut screen = Screen::reset();
+    screen.place(3, 3, false);
+    screen.set_size(Size::Top);
+    screen.align();
+    assert!(rt; have_text(&screen, 1, 24, &[b'E'; 80]));
+    assert_eq!(rt; screen.size(3), Size::Single);
+    assert_eq!(rt; screen.cursor(), (3, 3));
+}
+
+#[test]
+fn puts_back_the_wrap(rt: HostRuntime) {
+    let mut screen = Screen::reset();
+    type_text(&mut screen, &[b'A'; 80]);
+    screen.place(5, 1, false);
+    screen.put_back(1, 80, true, false, true);
+    assert!(rt; screen.wrap());
+    type_text(&mut screen, b"B");
+    assert!(rt; has_text(&screen, 2, b"B"));
+    // without autowrap, on a line with another right margin, and moved into the region
+    screen.put_back(1, 80, true, false, false);
+    assert!(rt; !screen.wrap());
+    screen.set_size(Size::Double);
+    screen.put_back(1, 80, true, false, true);
+    assert_eq!(rt; screen.cursor(), (1, 40));
+    assert!(rt; screen.wrap());
+    screen.put_back(1, 39, true, false, true);
+    assert!(rt; !screen.wrap());
+    assert!(rt; screen.set_margins(5, 10, false));
+    screen.put_back(1, 80, false, true, true);
+    assert_eq!(rt; screen.cursor(), (5, 80));
+    screen.put_back(24, 3, false, true, true);
+    assert_eq!(rt; screen.cursor(), (10, 3));
+}
+
+#[test]
+fn clears_the_wrap_alone(rt: HostRuntime) {
+    let mut screen = Screen::reset();
+    type_text(&mut screen, &[b'A'; 80]);
+    screen.clear_wrap();
+    assert!(rt; !screen.wrap());
+    assert_eq!(rt; screen.cursor(), (1, 80));
+}
+
+#[test]
+fn reverse_index_stays_above_the_region(rt: HostRuntime) {
+    let mut screen = Screen::reset();
+    assert!(rt; screen.set_margins(2, 3, false));
+    screen.reverse_index();
+    type_text(&mut screen, b"x");
+    assert!(rt; has_text(&screen, 1, b"x"));
+    screen.place(24, 1, false);
+    screen.index();
+    assert_eq!(rt; screen.cursor(), (24, 1));
+    assert!(rt; has_text(&screen, 1, b"x"));
+}
+
+#[test]
+fn wraps_at_line_24_outside_the_region(rt: HostRuntime) {
+    let mut screen = Screen::reset();
+    assert!(rt; screen.set_margins(2, 3, false));
+    screen.place(24, 80, false);
+    type_text(&mut screen, b"xy");
+    assert_eq!(rt; screen.cell(24, 80).glyph, b'x');
+    assert_eq!(rt; screen.cell(24, 1).glyph, b'y');
+    assert_eq!(rt; screen.cursor(), (24, 2));
+}
+
+#[test]
+fn turns_the_names_in_the_region(rt: HostRuntime) {
+    let mut screen = Screen::reset();
+    for glyph in [b'a', b'b', b'c', b'd'] {
+        type_text(&mut screen, &[glyph]);
+        if glyph != b'd' {
+            next_line(&mut screen);
+        }
+    }
+    assert!(rt; screen.set_margins(2, 3, false));
+    screen.place(3, 1, false);
+    screen.index();
+    for (line, text, place) in [(1, b"a", 0), (2, b"c", 2), (3, b" ", 1), (4, b"d", 3)] {
+        let line: u8 = line;
+        assert!(rt; 1 <= line && line <= 24);
+        assert!(rt; has_text(&screen, line, text), "line {line}");
+        assert_eq!(rt; screen.place_of(line), place, "line {line}");
+        assert_eq!(rt;
+            screen.place_cell(screen.place_of(line), 1),
+            screen.cell(line, 1)
+        );
+    }
+    assert_eq!(rt; screen.cursor(), (3, 1));
+    screen.place(2, 1, false);
+    screen.reverse_index();
+    assert!(rt; has_text(&screen, 2, b""));
+    assert!(rt; has_text(&screen, 3, b"c"));
+    assert_eq!(rt; (screen.place_of(2), screen.place_of(3)), (1, 2));
+}
+
+#[test]
+fn scrolls_a_thousand_times(rt: HostRuntime) {
+    let mut screen = Screen::reset();
+    screen.align();
+    assert!(rt; screen.set_margins(2, 3, false));
+    screen.place(3, 1, false);
+    for _ in 0..1000 {
+        screen.index();
+    }
+    assert!(rt; has_text(&screen, 1, &[b'E'; 80]));
+    assert!(rt; have_text(&screen, 2, 3, b""));
+    assert!(rt; have_text(&screen, 4, 24, &[b'E'; 80]));
+    screen.place(2, 1, false);
+    for _ in 0..1000 {
+        screen.reverse_index();
+    }
+    assert!(rt; has_text(&screen, 1, &[b'E'; 80]));
+    assert!(rt; have_text(&screen, 4, 24, &[b'E'; 80]));
+}
+
+#[test]
+fn sizes_travel_with_lines(rt: HostRuntime) {
+    let mut screen = Screen::reset();
+    screen.place(24, 1, false);
+    screen.set_size(Size::Bottom);
+    screen.index();
+    assert_eq!(rt; screen.size(23), Size::Bottom);
+    assert_eq!(rt; screen.size(24), Size::Single);
+    screen.home(false);
+    screen.reverse_index();
+    assert_eq!(rt; screen.size(24), Size::Bottom);
+    assert_eq!(rt; screen.size(23), Size::Single);
+}
+
+#[test]
+fn runs_are_shows(rt: HostRuntime) {
+    let mut shown = Screen::reset();
+    for _ in 0..2000 {
+        shown.show(b'A', Rendition::plain(), true);
+    }
+    assert!(rt; have_text(&shown, 1, 24, &[b'A'; 80]));
+    assert_eq!(rt; shown.cursor(), (24, 80));
+    assert!(rt; shown.wrap());
+    let glyphs = [b'A'; 2000];
+    assert!(rt; look_alike(&shown_in_pieces(&glyphs, 2000), &shown));
+    assert!(rt; look_alike(&shown_in_pieces(&glyphs, 1), &shown));
+    assert!(rt; look_alike(&shown_in_pieces(&glyphs, 31), &shown));
+    assert!(rt; look_alike(&shown_in_pieces(&glyphs, 32), &shown));
+    assert!(rt; look_alike(&shown_in_pieces(&glyphs, 33), &shown));
+}
+
+#[test]
+fn copies(rt: HostRuntime) {
+    let mut screen = Screen::reset();
+    screen.set_columns(true, false);
+    type_text(&mut screen, b"abc");
+    screen.set_size(Size::Double);
+    assert!(rt; screen.set_margins(2, 9, false));
+    screen.place(9, 4, false);
+    screen.index();
+    screen.clear_tabs();
+    let mut copy = Screen::reset();
+    copy.copy_from(&screen);
+    assert!(rt; look_alike(&copy, &screen));
+    assert_eq!(rt; copy.columns(), 132);
+    assert_eq!(rt; copy.margins(), (2, 9));
+    assert!(rt; !copy.tab(9));
+    assert_eq!(rt; copy.place_of(9), screen.place_of(9));
+}
