@@ -8,3 +8,4 @@ pub mod ChangeLemmas
 pub mod WrittenLemmas
 pub mod LineLemmas
 pub mod ReadingLemmas
+pub mod ReadBackLemmas

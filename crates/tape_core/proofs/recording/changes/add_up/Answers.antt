@@ -11,7 +11,7 @@ loop-i-init c =
     let chunks = c.args.chunks.now in
     let from = c.args.from in
     let sum : c.if-from-eq0.due ≡ sum_by (λ x. x.delay) (take from chunks) = elim c.if-from-eq0.branch [
-      then-from-eq0 w ↦ rw (w.due-is, w.if-from-eq0.true) refl
+      | then-from-eq0 w ↦ rw (w.due-is, w.if-from-eq0.true) refl
       | else-from-eq0 w ↦ let at : from - 1 + 1 ≡ from = omega arith in
           w.due-is ∙ c.requires.before (from - 1) (omega arith) ∙ ap (λ n. sum_by (λ x. x.delay) (take n chunks)) at
     ] in
