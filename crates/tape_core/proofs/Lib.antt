@@ -9,3 +9,4 @@ pub mod WrittenLemmas
 pub mod LineLemmas
 pub mod ReadingLemmas
 pub mod ReadBackLemmas
+pub mod OneReadingLemmas

@@ -8,6 +8,7 @@ mod digits;
 pub mod fault;
 mod fields;
 pub mod laws;
+pub mod laws_written;
 mod reading;
 mod recording;
 mod seconds;
