@@ -1,7 +1,6 @@
 -- What a job comes to: a function of its files, with no device and no want of memory in it.
-use Rattle.std.specs.Prelude.{◌≡◌, ℕ, ◌⊎◌, Bool, true, false, List, [], ◌++◌, Option, Some, None, MatchOption, Result, Ok, Err, if◌then◌else◌}
-use Rattle.std.specs.Io.KnownBytes.{Appends}
-use Rattle.tape_core.specs.Devices.{inner_of, has_failed, Took, StoppedIn}
+use Rattle.std.specs.Prelude.{◌≡◌, ℕ, ◌⊎◌, Bool, true, false, List, [], Option, Some, None, MatchOption, Result, Ok, Err, if◌then◌else◌}
+use Rattle.tape_core.specs.Devices.{inner_of, Took, StoppedIn}
 use Rattle.tape_core.specs.Due.{due}
 use Rattle.tape_core.specs.Faults.{is_stop}
 use Rattle.tape_core.specs.Reading.{fault_of, reads}

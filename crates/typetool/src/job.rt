@@ -10,6 +10,7 @@ ghost use Rattle.typetool.specs.Output.{Files, Done, Comes, Tells, Wrote, Stoppe
 
 use std::alloc::Global;
 use std::io::{Read, Write};
+use std::mem::ManuallyDrop;
 use tape_core::laws::due_is_first;
 use tape_core::{Chunk, Fault, Recording, Watched, read_recording, slurp};
 use thiserror::Error;
@@ -83,7 +84,8 @@ pub fn run<S: Read, T: Read, R: Read, O: Write, P: Write>(
     ensures out_timing { writes_timing job ≡ false → out_timing.new ≡ out_timing.old }
 {
     let recording = match read_pair(alloc, script, timing) {
-        Ok(recording) => recording,
+        // The program ends with its job: to free a million chunks one by one would take as long as to write them.
+        Ok(recording) => ManuallyDrop::new(recording),
         Err(fault) => return outcome_of(Err(JobFault::File(fault))),
     };
     match job {

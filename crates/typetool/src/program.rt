@@ -10,7 +10,7 @@ use std::fs::File;
 use std::io::BufWriter;
 use std::rt::{Env, Files};
 use std::{env, fs, io};
-use tape_core::Watched;
+use tape_core::{Fault, Watched};
 use thiserror::Error;
 
 /// How many bytes of standard output are held back before they are written.
@@ -137,10 +137,14 @@ fn tell<R: Eprint>(rt: &R, stop: Stop, status: u8) -> u8 {
     status
 }
 
-/// Shows clap's text, and answers its status, or that of a write fault.
+/// Shows clap's text, and answers its status: help that can't be written is a write fault.
 fn show<R: Print + Eprint>(rt: &R, error: &clap::Error) -> u8 {
-    match error.print(rt) {
-        Ok(()) => if error.use_stderr() { 2 } else { 0 },
-        Err(_) => 3,
+    let printed = error.print(rt);
+    if error.use_stderr() {
+        return 2;
+    }
+    match printed {
+        Ok(()) => 0,
+        Err(_) => tell(rt, Stop::Job(JobFault::File(Fault::WriteFault)), 3),
     }
 }

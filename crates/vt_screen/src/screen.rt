@@ -6,7 +6,7 @@ ghost use Rattle.vt_screen.specs.Erasures.{display_erased, erased_whole, line_er
 ghost use Rattle.vt_screen.specs.Lines.{size_set, columns_set, aligned, are_margins, margins_set};
 ghost use Rattle.vt_screen.specs.Moves.{stepped_up, stepped_down, stepped_right, stepped_left, moved_to_left, placed, moved_home, wrap_cleared, put_back, on_line};
 ghost use Rattle.vt_screen.specs.Picture.{Sound, SoundRow, first_tabs, reset, cell, columns, right_margin};
-ghost use Rattle.vt_screen.specs.Places.{Held, first_order, place_at, row_in, indexed_held, reverse_indexed_held};
+ghost use Rattle.vt_screen.specs.Places.{Held, OncePerPlace, first_order, place_at, row_in, indexed_held, reverse_indexed_held};
 ghost use Rattle.vt_screen.specs.Puts.{shown, run_shown, wrap_taken};
 ghost use Rattle.vt_screen.specs.Scrolls.{indexed, reverse_indexed};
 ghost use Rattle.vt_screen.specs.Tabs.{stop_at, stop_after, tabbed, tab_made, tabs_cleared};
@@ -91,6 +91,7 @@ impl Screen {
         requires col_low { 1 ≤ col }
         requires col_high { col ≤ 132 }
         ensures value { result ≡ cell self.now.picture row col }
+        ensures place { result ≡ cell_at (row_in self.now.places (place_at self.now.order row)) col }
         ensures glyph { result.glyph ≤ 126 }
     {
         self.grid.row(row).cells[col as usize - 1]
@@ -165,6 +166,7 @@ impl Screen {
         requires high { row ≤ 24 }
         ensures value { result ≡ place_at self.now.order row }
         ensures within { result < 24 }
+        ensures once { OncePerPlace (record { order = self.now.order; places = self.now.places }) }
     {
         self.grid.place_of(row)
     }
