@@ -8,7 +8,6 @@ mod digits;
 pub mod fault;
 mod fields;
 pub mod laws;
-pub mod laws_written;
 mod reading;
 mod recording;
 mod seconds;

@@ -1,6 +1,6 @@
 use Rattle.tape_core.specs.Written.{script_text, timing_text}
 use Rattle.tape_core.proofs.OneReadingLemmas.{reads_once, written_reads}
-use Rattle.tape_core.proofs.laws_written.what_is_written_reads_back.Goals as goal
+use Rattle.tape_core.proofs.laws.what_is_written_reads_back.Goals as goal
 
 pub returns-clause-reads : goal.returns-clause-reads
 returns-clause-reads c = written_reads
