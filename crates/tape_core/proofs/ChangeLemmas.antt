@@ -103,3 +103,15 @@ fits-capped tape max fit = record {
 -- due times that were written into a vector of just their number
 pub due_written : {Z : Type 0} (v : Vec ℕ Z) (dues : List ℕ) (chunks chunks' : List Chunk) → length dues ≡ v.len → chunks ≡ chunks' → AreDueTimes chunks dues → AreDueTimes chunks' (with_items v dues).items
 due_written v dues chunks chunks' long same are = rw (with_items_is v dues long, ← same) are
+
+-- the bytes after a chunk got others
+pub body_len-replaced : (tape : Tape) (at : ℕ) (bytes : List ℕ) (c : Chunk) → at < length tape.chunks → c ≡ get_or tape.chunks at c → body_len (replaced at bytes tape).chunks + length c.bytes ≡ body_len tape.chunks + length bytes
+body_len-replaced tape at bytes c lt is =
+    ap (λ chunks. body_len chunks + length c.bytes) (sym (set_is_changed (λ x. record x { bytes = bytes }) tape.chunks at c lt is)) ∙ body_len-set tape.chunks at c (record c { bytes = bytes }) lt is
+
+-- other bytes add at most their own number
+pub replaced_small : (tape : Tape) (at : ℕ) (bytes : List ℕ) → at < length tape.chunks → body_len tape.chunks + length bytes ≤ longest_body → body_len (replaced at bytes tape).chunks ≤ longest_body
+replaced_small tape at bytes lt small =
+    let none : Chunk = record { delay = 0; bytes = [] } in
+    let c = get_or tape.chunks at none in
+    omega (arith, body_len-replaced tape at bytes c lt (get_or_default tape.chunks at none c lt))

@@ -57,3 +57,6 @@ pub(crate) fn write_seconds(us: u64, buf: &mut [u8], end: usize) -> usize
     let _decimals = write_digits(us % 1_000_000, buf, end);
     write_digits(us / 1_000_000, buf, point)
 }
+
+#[cfg(test)]
+mod tests;

@@ -120,3 +120,6 @@ fn cap_delays(chunks: &mut [Chunk], max: u64)
         chunk.delay = chunk.delay.min(max);
     }
 }
+
+#[cfg(test)]
+mod tests;
