@@ -53,6 +53,10 @@ abbrev pub is_stopped : Option JobFault → Bool
 is_stopped None = false
 is_stopped (Some (File f)) = is_stop f
 
+-- the status of the program where a job is done (profile)
+abbrev pub IsDoneStatus : Job → ℕ → Type 0
+IsDoneStatus (Due at) status = status ≡ 0
+
 -- the status of the program where a job isn't done: 3 where a device or want of memory stopped it, and else 1 (profile)
 abbrev pub status_of : JobFault → ℕ
 status_of (File f) = if is_stop f then 3 else 1
