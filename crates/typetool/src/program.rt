@@ -166,7 +166,8 @@ fn tell<R: Eprint>(rt: &R, stop: &Stop) -> u8
 
 /// Shows clap's text, and answers the status. Help that can't be written is a write fault.
 fn show<R: Print + Eprint>(rt: &R, error: clap::Error) -> u8
-    ensures mistake { (kind_of error ≢ ErrorKind.DisplayHelp) → (kind_of error ≢ ErrorKind.DisplayVersion) → result ≡ 2 }
+    ensures mistake { (kind_of error ≢ ErrorKind.DisplayHelp) → (kind_of error ≢ ErrorKind.DisplayVersion)
+        → result ≡ 2 }
 {
     match error.print(rt) {
         Err(_) if !error.use_stderr() => tell(rt, &Stop::Job(JobFault::File(Fault::WriteFault))),

@@ -49,7 +49,8 @@ impl From<AllocError> for WordsFault {
 /// Reads a command line, of which the first word is the program's name.
 pub fn read_words(alloc: Global, words: &[String]) -> Result<Words, WordsFault>
     ensures taken { OnOk result (clap_faults (map string_bytes words.now) ≡ []) }
-    ensures meaning { IfOk result (λ read. option_and_then meaning_of (subcommand_in (map string_bytes words.now)) ≡ Some (meaning_read read)) }
+    ensures meaning { IfOk result (λ read.
+        option_and_then meaning_of (subcommand_in (map string_bytes words.now)) ≡ Some (meaning_read read)) }
     ensures paths { IfOk result (λ read. 2 ≤ vec_len read.paths) }
     ensures fault { IfErr result (FailsFor (map string_bytes words.now)) }
 {
@@ -63,7 +64,8 @@ pub fn read_words(alloc: Global, words: &[String]) -> Result<Words, WordsFault>
 /// Has clap read the words.
 fn parse<'a>(alloc: Global, words: &'a [String]) -> Result<ArgMatches<'a>, WordsFault>
     ensures taken { OnOk result (clap_faults (map string_bytes words.entry.now) ≡ []) }
-    ensures met { IfOk result (λ matches. subcommand_rows_of matches ≡ subcommand_in (map string_bytes words.entry.now)) }
+    ensures met { IfOk result (λ matches.
+        subcommand_rows_of matches ≡ subcommand_in (map string_bytes words.entry.now)) }
     ensures named { IfOk result (λ matches. IsNamed (subcommand_name_of matches) typetool_app.subs) }
     ensures fault { IfErr result (FailsFor (map string_bytes words.entry.now)) }
     ensures seconds { IfErr result (λ fault. fault ≢ WordsFault.BadSeconds) }
