@@ -4,7 +4,7 @@ use Rattle.std.specs.Prelude.{ℕ, List, [], ◌∷◌, nat_lt, slice_index, if�
 -- glyphs 0 to 31: the special graphics (EK-VT100-UG chapter 3; the characters are the profile's choice)
 abbrev pub special_graphics : List ℕ
 special_graphics =
-    0x20      -- 0 blank
+    0x20  -- 0 blank
     ∷ 0x25C6  -- 1 diamond
     ∷ 0x2592  -- 2 checkerboard
     ∷ 0x2409  -- 3 HT
