@@ -308,6 +308,7 @@ fn moment_command<'a>(
     about: &'a str,
 ) -> Result<Command<'a>, AllocError>
     ensures app { IfOk result (λ command. app_of command ≡ moment_app name.entry.now) }
+    ensures about { IfOk result (λ command. (fields_of command).about ≡ Some about.entry) }
     ensures local { IfOk result (λ command. (fields_of command).has_globals ≡ false) }
 {
     let at = seconds_flag(
@@ -327,11 +328,8 @@ fn moment_command<'a>(
         "TIMING",
         "Its timing file, in the classic format",
     );
-    Command::new(alloc, name)
-        .about(about)
-        .arg(at)?
-        .arg(script)?
-        .arg(timing)
+    let command = Command::new(alloc, name).arg(at)?.arg(script)?.arg(timing)?;
+    Ok(command.about(about))
 }
 
 #[cfg(test)]
