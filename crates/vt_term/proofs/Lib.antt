@@ -7,3 +7,4 @@ pub mod Runs
 pub mod Taken
 pub mod Sinks
 pub mod Feeding
+pub mod Silence

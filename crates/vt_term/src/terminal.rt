@@ -2,6 +2,7 @@
 ghost use Rattle.std.specs.Prelude.{◌≡◌, ℕ, ◌≤◌, ◌<◌, [], ◌∷◌, length, take, IsOk, IfOk, OnOk, OnErr};
 
 use crate::console::Console;
+use crate::quiet::{are_quiet, byte_before};
 use crate::{Modes, OutOfMemory, Reports, Saved, Sets};
 use std::marker::Model;
 use vt_parser::{Parser, ParserState, printable_run};
@@ -53,8 +54,8 @@ impl Terminal {
         self.parser.copy_from(&other.parser);
     }
 
-    /// Takes bytes, and sends what they are answered by. Only where a reply may have to join the list does this copy the
-    /// terminal, for the case that memory is refused.
+    /// Takes bytes, and sends what they are answered by. Only where they may end a sequence that is answered does this keep a
+    /// copy of the terminal, for the case that memory is refused.
     pub fn feed(&mut self, bytes: &[u8], sink: &mut Reports) -> Result<(), OutOfMemory>
         // For every term that the terminal shows, it shows that term with the bytes played ..
         ensures shows { (x : Term) → Shows self.old x → OnOk result (Shows self.new (play x bytes.now)) }
@@ -65,9 +66,12 @@ impl Terminal {
         ensures err_sink { OnErr result (sink.new ≡ sink.old) }
         ensures room { (x : Term) → Shows self.old x → HasRoom sink.old (sent x bytes.now) → IsOk result }
     {
+        let place = sink.place();
+        if self.is_quiet(bytes) {
+            return self.feed_in_place(bytes, sink);
+        }
         let mut before = Terminal::reset();
         before.copy_from(self);
-        let place = sink.place();
         let len = sink.bytes().len();
         if self.feed_in_place(bytes, sink).is_err() {
             self.copy_from(&before);
@@ -91,6 +95,14 @@ impl Terminal {
             at += self.take_some(&bytes[at..], sink)?;
         }
         Ok(())
+    }
+
+    // Whether a glance tells that the bytes aren't answered, so that nothing can be refused.
+    fn is_quiet(&self, bytes: &[u8]) -> bool
+        ensures quiet { result ≡ true → (x : Term) → Shows self.now x → sent x bytes.now ≡ [] }
+        ensures proper { IsProper self.now }
+    {
+        are_quiet(byte_before(self.parser.state()), bytes)
     }
 
     // Takes a run of graphic bytes, or one byte, and says how many it took.
