@@ -1,4 +1,4 @@
-use Rattle.std.proofs.Common.{◌≡◌, ℕ, List, ◌∙◌, ap, subst}
+use Rattle.std.proofs.Common.{◌∙◌, ap, subst}
 use Rattle.vt_screen.specs.Places.{Held, OncePerPlace, place_at}
 use Rattle.vt_screen.proofs.Index.{place_read, place_below}
 use Rattle.vt_screen.proofs.grid.Grid.place_of.Goals as goal

@@ -1,0 +1,72 @@
+//! The plain print: what stands on the screen, as text without renditions.
+
+ghost use Rattle.std.specs.Prelude.{◌≡◌, ◌+◌, ◌≤◌, length, OnOk, IfErr, true, false, Bool};
+ghost use Rattle.std.specs.List.{suffix_len};
+ghost use Rattle.vt_screen.specs.Cells.{row_at};
+ghost use Rattle.tape_core.specs.Devices.{has_failed, is_flushed, Took, StoppedIn};
+ghost use Rattle.screen_print.specs.PlainText.{is_space, line_text, plain_text};
+
+use crate::glyphs::character;
+use arrayvec::ArrayString;
+use std::io::Write;
+use tape_core::{Fault, Watched};
+use vt_screen::{Cell, Screen};
+use vt_term::Terminal;
+
+/// How many bytes a printed line has at most: three for each of 132 glyphs, and LF.
+const LINE_BYTES: usize = 397;
+
+/// Prints the 24 lines of the screen as UTF-8, each to its right margin without the spaces at its end, and LF. It takes no
+/// memory. After a write fault a beginning of the text has gone out.
+pub fn plain<W: Write>(terminal: &Terminal, writer: &mut Watched<W>) -> Result<(), Fault>
+    requires { has_failed writer.old ≡ false }
+    ensures ok { OnOk result (Took W.contents writer.old writer.new (plain_text terminal.now.shown.picture)) }
+    ensures fault { IfErr result (λ fault. (fault ≡ Fault.WriteFault)
+        × StoppedIn W.contents writer.old writer.new (plain_text terminal.now.shown.picture)) }
+    ensures flushed { OnOk result (is_flushed writer.new ≡ true) }
+{
+    let screen = terminal.screen();
+    for line in 1..25 {
+        let text = line_text(screen, line);
+        writer.put(text.as_str().as_bytes())?;
+    }
+    writer.finish()?;
+    Ok(())
+}
+
+/// A line of the screen as it is printed.
+fn line_text(screen: &Screen, line: u8) -> ArrayString<LINE_BYTES>
+    requires low { 1 ≤ line }
+    requires high { line ≤ 24 }
+    ensures { result.bytes ≡ line_text screen.now.picture.wide (row_at screen.now.picture.rows line) }
+{
+    let margin = screen.right_margin(line) as usize;
+    let cells = &screen.row(line).cells[..margin];
+    let mut text = ArrayString::new();
+    for cell in &cells[..printed_len(cells)] {
+        text.push(character(cell.glyph));
+    }
+    text.push('\n');
+    text
+}
+
+/// How many of the cells are left without the spaces at their end.
+fn printed_len(cells: &[Cell]) -> usize
+    ensures { result + suffix_len is_space cells.now ≡ length cells.now }
+{
+    let mut len = cells.len();
+    while len > 0 && is_space(cells[len - 1]) {
+        len -= 1;
+    }
+    len
+}
+
+/// Whether a cell is printed as a space, whatever its rendition.
+fn is_space(cell: Cell) -> bool
+    ensures { result ≡ is_space cell }
+{
+    matches!(cell.glyph, 0 | 32)
+}
+
+#[cfg(test)]
+mod tests;
