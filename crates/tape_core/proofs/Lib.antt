@@ -4,5 +4,9 @@ pub mod SecondsLemmas
 pub mod DueLemmas
 pub mod FieldLemmas
 pub mod TimingLemmas
+pub mod ChangeLemmas
+pub mod WrittenLemmas
 pub mod LineLemmas
 pub mod ReadingLemmas
+pub mod ReadBackLemmas
+pub mod OneReadingLemmas

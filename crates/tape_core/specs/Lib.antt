@@ -6,3 +6,5 @@ pub mod Seconds
 pub mod Timing
 pub mod Reading
 pub mod Kept
+pub mod Changes
+pub mod Written

@@ -1,10 +1,13 @@
 //! Laws over the definitions alone, as functions with empty bodies.
-ghost use Rattle.std.specs.Prelude.{◌≡◌, ℕ, List, MatchOption, Ok, Some, min};
+ghost use Rattle.std.specs.Prelude.{◌≡◌, ◌<◌, ◌^◌, ℕ, List, MatchOption, Ok, Some, min};
 ghost use Rattle.tape_core.specs.declared.chunk.Chunk.{Chunk};
 ghost use Rattle.tape_core.specs.declared.timing.Entry.{Entry};
 ghost use Rattle.tape_core.specs.Due.{due, due_count, first};
 ghost use Rattle.tape_core.specs.Seconds.{SecondsText, last_moment, seconds_of};
-ghost use Rattle.tape_core.specs.Timing.{TimingLine, entry_of};
+ghost use Rattle.tape_core.specs.Tape.{Tape, fits};
+ghost use Rattle.tape_core.specs.Reading.{reads};
+ghost use Rattle.tape_core.specs.Timing.{IsWithin, TimingLine, entry_of};
+ghost use Rattle.tape_core.specs.Written.{script_text, seconds_form, timing_text};
 
 /// As no delay is negative, the bytes due by a moment are those of the first chunks.
 pub fn due_is_first()
@@ -19,4 +22,25 @@ pub fn seconds_are_spelled()
 /// What is read as an entry is a line of the timing format that says it.
 pub fn an_entry_is_a_timing_line()
     ensures { (text : List ℕ) (entry : Entry) → entry_of text ≡ Ok (Some entry) → TimingLine text entry.delay entry.count }
+{}
+
+/// A line of the timing format within the limits is read as the entry that it says.
+pub fn a_timing_line_is_read()
+    ensures { (text : List ℕ) (entry : Entry) → TimingLine text entry.delay entry.count → IsWithin entry → entry_of text ≡ Ok (Some entry) }
+{}
+
+/// A pair of files is read as one recording and no other.
+pub fn a_pair_is_read_once()
+    ensures { (script timing : List ℕ) (one other : Tape) → reads script timing one → reads script timing other → other ≡ one }
+{}
+
+/// Microseconds below 2^64, written as seconds, are read back.
+pub fn seconds_read_back()
+    ensures { (us : ℕ) → us < 2 ^ 64 → SecondsText (seconds_form us) us }
+{}
+
+/// What is written of a recording that fits is read as that recording and no other.
+pub fn what_is_written_reads_back()
+    ensures reads { (tape : Tape) → fits tape → reads (script_text tape) (timing_text tape) tape }
+    ensures alone { (tape other : Tape) → fits tape → reads (script_text tape) (timing_text tape) other → other ≡ tape }
 {}

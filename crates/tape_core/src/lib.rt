@@ -11,7 +11,9 @@ pub mod laws;
 mod reading;
 mod recording;
 mod seconds;
+mod seconds_form;
 mod timing;
+mod writing;
 
 pub use bytes::Bytes;
 pub use chunk::Chunk;
@@ -20,3 +22,5 @@ pub use fault::Fault;
 pub use reading::read_recording;
 pub use recording::Recording;
 pub use seconds::read_seconds;
+pub use seconds_form::{SecondsText, seconds_text};
+pub use writing::{write_script, write_timing};

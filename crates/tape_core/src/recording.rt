@@ -10,6 +10,8 @@ use crate::chunk::Chunk;
 use std::alloc::{AllocError, Global};
 use std::marker::Model;
 
+mod changes;
+
 /// A recording: the header (the typescript's first line with its LF), the chunks that the timing
 /// counts, and the trailer (all bytes after them). script(1).
 #[derive(Debug, Drop)]

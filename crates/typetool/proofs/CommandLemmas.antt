@@ -1,5 +1,5 @@
 -- What clap's answers say of the words, for the command line of this program.
-use Rattle.std.proofs.Common.{◌≡◌, ◌≢◌, ℕ, Bool, true, false, List, [], ◌∷◌, Option, Some, None, Result, refl, sym, ◌∙◌, ap, subst, inl, inr, ◌⊎◌, option_map, is_some, unwrap_or, find, if◌then◌else◌}
+use Rattle.std.proofs.Common.{◌≡◌, ◌≢◌, Bool, true, false, List, [], ◌∷◌, Option, Some, None, Result, refl, sym, ◌∙◌, ap, subst, inl, inr, option_map, is_some, find, if◌then◌else◌}
 use Rattle.std.specs.Prelude.{Box}
 use Rattle.clap.specs.Words.{App, HasMatchesOf, FailsBy, Row, Shape, Text, fault_of, is_simple, is_simple_and_free, kind_of, subcommand_name_of, subcommand_of, subcommand_rows, subcommand_rows_of, takes}
 use Rattle.clap.specs.Simple.{entered, built, names_of, argument_words, rows_at, label_of}

@@ -1,5 +1,5 @@
 -- What a job has written, and what it comes to.
-use Rattle.std.proofs.Common.{◌≡◌, ℕ, ◌+◌, ◌<◌, List, [], ◌∷◌, ◌++◌, take, drop, length, get_or, refl, suc, sym, ◌∙◌, ap, subst, append_assoc, append-nil, add-one, arith, Option, Some, None, MatchOption, false}
+use Rattle.std.proofs.Common.{◌≡◌, ℕ, ◌+◌, ◌<◌, List, ◌∷◌, ◌++◌, take, drop, length, get_or, refl, suc, sym, ◌∙◌, ap, subst, append_assoc, add-one, Option, Some, MatchOption}
 use Rattle.std.proofs.lemmas.List.{take-append-drop}
 use Rattle.std.proofs.lemmas.Grind.{flat_map-append}
 use Rattle.std.proofs.Math.Seq.{drop-cons}
@@ -10,7 +10,7 @@ use Rattle.tape_core.specs.Devices.{Took, StoppedIn}
 use Rattle.tape_core.specs.Reading.{fault_of, reads}
 use Rattle.tape_core.specs.Tape.{Tape, body}
 use Rattle.tape_core.proofs.DeviceLemmas.{stopped-append, stopped_before}
-use Rattle.typetool.specs.Output.{Files, Done, Comes, done_on, refused_by}
+use Rattle.typetool.specs.Output.{Files, Comes, done_on, refused_by}
 use Rattle.typetool.specs.declared.job.Job.{Job}
 
 -- the bytes of the chunks before, at and after a place

@@ -1,7 +1,6 @@
 -- What a job comes to: a function of its files, with no device and no want of memory in it.
-use Rattle.std.specs.Prelude.{◌≡◌, ℕ, ◌⊎◌, Bool, true, false, List, [], ◌++◌, Option, Some, None, MatchOption, Result, Ok, Err, if◌then◌else◌}
-use Rattle.std.specs.Io.KnownBytes.{Appends}
-use Rattle.tape_core.specs.Devices.{inner_of, has_failed, Took, StoppedIn}
+use Rattle.std.specs.Prelude.{◌≡◌, ℕ, ◌⊎◌, Bool, true, false, List, [], Option, Some, None, MatchOption, Result, Ok, Err, if◌then◌else◌}
+use Rattle.tape_core.specs.Devices.{inner_of, Took, StoppedIn}
 use Rattle.tape_core.specs.Due.{due}
 use Rattle.tape_core.specs.Faults.{is_stop}
 use Rattle.tape_core.specs.Reading.{fault_of, reads}
@@ -54,6 +53,10 @@ abbrev pub is_stopped : Option JobFault → Bool
 is_stopped None = false
 is_stopped (Some (File f)) = is_stop f
 
+-- the status of the program where a job is done (profile)
+abbrev pub IsDoneStatus : Job → ℕ → Type 0
+IsDoneStatus (Due at) status = status ≡ 0
+
 -- the status of the program where a job isn't done: 3 where a device or want of memory stopped it, and else 1 (profile)
 abbrev pub status_of : JobFault → ℕ
 status_of (File f) = if is_stop f then 3 else 1
@@ -63,21 +66,21 @@ abbrev pub outcome_by : Result (Unit {0}) JobFault → Outcome
 outcome_by (Ok done) = record { status = 0; fault = None }
 outcome_by (Err f) = record { status = status_of f; fault = Some f }
 
--- the job was stopped before it had read all that it reads (profile)
-abbrev pub is_unread : Option JobFault → Bool
-is_unread None = false
-is_unread (Some (File fault.OutOfMemory)) = true
-is_unread (Some (File fault.ReadFault)) = true
-is_unread (Some (File fault.WriteFault)) = false
-is_unread (Some (File fault.NoHeader)) = false
-is_unread (Some (File (fault.BadDelay line))) = false
-is_unread (Some (File (fault.BadCount line))) = false
-is_unread (Some (File (fault.MultiStream line))) = false
-is_unread (Some (File (fault.DelayTooLarge line))) = false
-is_unread (Some (File (fault.ChunkTooLong line))) = false
-is_unread (Some (File (fault.TooManyChunks line))) = false
-is_unread (Some (File (fault.TooManyBytes line))) = false
-is_unread (Some (File (fault.ScriptShort chunk))) = false
+-- the fault is one that comes before anything is written (profile)
+abbrev pub is_unwritten : Option JobFault → Bool
+is_unwritten None = false
+is_unwritten (Some (File fault.WriteFault)) = false
+is_unwritten (Some (File fault.OutOfMemory)) = true
+is_unwritten (Some (File fault.ReadFault)) = true
+is_unwritten (Some (File fault.NoHeader)) = true
+is_unwritten (Some (File (fault.BadDelay line))) = true
+is_unwritten (Some (File (fault.BadCount line))) = true
+is_unwritten (Some (File (fault.MultiStream line))) = true
+is_unwritten (Some (File (fault.DelayTooLarge line))) = true
+is_unwritten (Some (File (fault.ChunkTooLong line))) = true
+is_unwritten (Some (File (fault.TooManyChunks line))) = true
+is_unwritten (Some (File (fault.TooManyBytes line))) = true
+is_unwritten (Some (File (fault.ScriptShort chunk))) = true
 
 -- the readers have these texts to tell; the requests matter where the job reads them (profile)
 pub record Tells {S T R : Type 0} (script_left : S → Option (List ℕ)) (timing_left : T → Option (List ℕ)) (requests_left : R → Option (List ℕ)) (job : Job) (script : Watched S) (timing : Watched T) (requests : Watched R) (files : Files) : Type 0 where

@@ -1,15 +1,16 @@
 //! The jobs: each reads its files whole and then writes its text.
 
-ghost use Rattle.std.specs.Prelude.{◌≡◌, ◌⊎◌, ◌≢◌, ℕ, List, true, false, Some, None, OnOk, IfOk, IfErr};
+ghost use Rattle.std.specs.Prelude.{◌≡◌, ◌⊎◌, ◌≢◌, ℕ, List, true, false, Some, None, OnOk, IfOk, IfErr, IfSome};
 ghost use Rattle.tape_core.specs.Devices.{inner_of, has_failed, is_flushed, Took, StoppedIn};
 ghost use Rattle.tape_core.specs.Due.{due};
 ghost use Rattle.tape_core.specs.Faults.{is_stop};
 ghost use Rattle.tape_core.specs.Reading.{fault_of, reads};
 ghost use Rattle.tape_core.specs.Tape.{body};
-ghost use Rattle.typetool.specs.Output.{Files, Done, Comes, Tells, Wrote, Stopped, takes_requests, writes_timing, is_stopped, is_unread, status_of, outcome_by};
+ghost use Rattle.typetool.specs.Output.{Files, Done, Comes, Tells, Wrote, Stopped, takes_requests, writes_timing, is_stopped, is_unwritten, status_of, outcome_by, IsDoneStatus};
 
 use std::alloc::Global;
 use std::io::{Read, Write};
+use std::mem::ManuallyDrop;
 use tape_core::laws::due_is_first;
 use tape_core::{Chunk, Fault, Recording, Watched, read_recording, slurp};
 use thiserror::Error;
@@ -27,6 +28,18 @@ pub enum JobFault {
     /// The pair of files has a fault, memory was refused or a device failed.
     #[error("{0}")]
     File(Fault),
+}
+
+impl JobFault {
+    /// The status of the program: 3 where a device or want of memory stopped the job, and else 1.
+    pub fn status(self) -> u8
+        ensures { result ≡ status_of self }
+    {
+        match self {
+            JobFault::File(Fault::OutOfMemory | Fault::ReadFault | Fault::WriteFault) => 3,
+            JobFault::File(_) => 1,
+        }
+    }
 }
 
 /// How a job ended: the status of the program, and the fault that it prints.
@@ -55,18 +68,24 @@ pub fn run<S: Read, T: Read, R: Read, O: Write, P: Write>(
     requires out { has_failed out.old ≡ false }
     requires out_timing { has_failed out_timing.old ≡ false }
 
-    // An answer of any other kind: no device failed, and both texts went out whole.
-    ensures sound { is_stopped result.fault ≡ false → (has_failed script.new ≡ false) × (has_failed timing.new ≡ false)
-        × (has_failed requests.new ≡ false) × (has_failed out.new ≡ false) × (has_failed out_timing.new ≡ false) }
+    // Where no device and no want of memory stopped the job: no device failed, and both texts went out whole.
+    ensures sound { is_stopped result.fault ≡ false → (has_failed script.new ≡ false)
+        × (has_failed timing.new ≡ false) × (has_failed requests.new ≡ false)
+        × (has_failed out.new ≡ false) × (has_failed out_timing.new ≡ false) }
     ensures answer { is_stopped result.fault ≡ false → (files : Files)
         → Tells S.remaining T.remaining R.remaining job script.old timing.old requests.old files
         → (done : Done) × Comes job files done × (result ≡ done.outcome)
         × Wrote O.contents P.contents out.old out.new out_timing.old out_timing.new done }
     ensures flushed { result.fault ≡ None → is_flushed out.new ≡ true }
 
-    // Stopped: by a reader or for memory with nothing written, by a writer with a beginning written.
-    ensures status { is_stopped result.fault ≡ true → result.status ≡ 3 }
-    ensures unwritten { is_unread result.fault ≡ true → (out.new ≡ out.old) × (out_timing.new ≡ out_timing.old) }
+    // The status: 3 where the job was stopped, and 1 where the pair of files has a fault.
+    ensures done { result.fault ≡ None → IsDoneStatus job result.status }
+    ensures status { IfSome result.fault (λ fault. result.status ≡ status_of fault) }
+
+    // Nothing is written where the pair of files has a fault, a reader failed or memory was refused; a beginning of the
+    // text where a writer failed.
+    ensures unwritten { is_unwritten result.fault ≡ true → (out.new ≡ out.old)
+        × (out_timing.new ≡ out_timing.old) }
     ensures memory { result.fault ≡ Some (JobFault.File Fault.OutOfMemory) → (has_failed script.new ≡ false)
         × (has_failed timing.new ≡ false) × (has_failed requests.new ≡ false) }
     ensures read_fault { result.fault ≡ Some (JobFault.File Fault.ReadFault) → (has_failed script.new ≡ true)
@@ -83,7 +102,8 @@ pub fn run<S: Read, T: Read, R: Read, O: Write, P: Write>(
     ensures out_timing { writes_timing job ≡ false → out_timing.new ≡ out_timing.old }
 {
     let recording = match read_pair(alloc, script, timing) {
-        Ok(recording) => recording,
+        // The program ends with its job: to free a million chunks one by one would take as long as to write them.
+        Ok(recording) => ManuallyDrop::new(recording),
         Err(fault) => return outcome_of(Err(JobFault::File(fault))),
     };
     match job {
@@ -101,19 +121,9 @@ fn outcome_of(done: Result<(), JobFault>) -> Outcome
             fault: None,
         },
         Err(fault) => Outcome {
-            status: status_of(fault),
+            status: fault.status(),
             fault: Some(fault),
         },
-    }
-}
-
-/// The status of the program where a job isn't done.
-fn status_of(fault: JobFault) -> u8
-    ensures { result ≡ status_of fault }
-{
-    match fault {
-        JobFault::File(Fault::OutOfMemory | Fault::ReadFault | Fault::WriteFault) => 3,
-        JobFault::File(_) => 1,
     }
 }
 
@@ -125,12 +135,14 @@ fn read_pair<S: Read, T: Read>(
 ) -> Result<Recording, Fault>
     requires script { has_failed script.old ≡ false }
     requires timing { has_failed timing.old ≡ false }
-    ensures ok { IfOk result (λ recording. (s : List ℕ) (t : List ℕ) → S.remaining (inner_of script.old) ≡ Some s
-        → T.remaining (inner_of timing.old) ≡ Some t → reads s t recording) }
+    ensures ok { IfOk result (λ recording. (s : List ℕ) (t : List ℕ)
+        → S.remaining (inner_of script.old) ≡ Some s → T.remaining (inner_of timing.old) ≡ Some t
+        → reads s t recording) }
     ensures fault { IfErr result (λ fault. is_stop fault ≡ false → (s : List ℕ) (t : List ℕ)
         → S.remaining (inner_of script.old) ≡ Some s → T.remaining (inner_of timing.old) ≡ Some t
         → fault_of s t ≡ Some fault) }
-    ensures sound { result ≢ Err Fault.ReadFault → (has_failed script.new ≡ false) × (has_failed timing.new ≡ false) }
+    ensures sound { result ≢ Err Fault.ReadFault → (has_failed script.new ≡ false)
+        × (has_failed timing.new ≡ false) }
     ensures read_fault { IfErr result (λ fault. fault ≡ Fault.ReadFault → (has_failed script.new ≡ true)
         ⊎ (has_failed timing.new ≡ true)) }
     ensures no_write_fault { IfErr result (λ fault. fault ≢ Fault.WriteFault) }

@@ -1,16 +1,19 @@
 //! The program around a job: its arguments, its files, and what it tells its user.
 
-ghost use Rattle.std.specs.Prelude.{◌≡◌, ◌≤◌, false, IfOk, vec_len};
+ghost use Rattle.std.specs.Prelude.{◌≡◌, ◌≢◌, ◌≤◌, false, IfOk, vec_len};
+ghost use Rattle.clap.specs.Words.{kind_of};
 ghost use Rattle.tape_core.specs.Devices.{has_failed};
+ghost use Rattle.typetool.specs.Program.{stop_status};
 
 use crate::job::{Job, JobFault, Outcome, run};
 use crate::words::{Words, WordsFault, read_words};
+use clap::error::ErrorKind;
 use std::alloc::AllocError;
 use std::fs::File;
 use std::io::BufWriter;
 use std::rt::{Env, Files};
 use std::{env, fs, io};
-use tape_core::Watched;
+use tape_core::{Fault, Watched};
 use thiserror::Error;
 
 /// How many bytes of standard output are held back before they are written.
@@ -18,12 +21,9 @@ const HELD_BACK: usize = 65536;
 
 /// Why there is no job to do, or a job wasn't done. The text follows the program's name on standard error.
 #[derive(Debug, Drop, Error)]
-enum Stop {
-    /// clap's text is printed as it is.
+pub enum Stop {
     #[error("{0}")]
-    Clap(clap::Error),
-    #[error("bad seconds")]
-    BadSeconds,
+    Words(WordsFault),
     #[error("an argument is not UTF-8")]
     NotText,
     #[error("out of memory")]
@@ -35,32 +35,57 @@ enum Stop {
 }
 
 impl From<AllocError> for Stop {
+    ghost use Rattle.std.specs.Prelude.{◌≡◌};
+    ghost use Rattle.typetool.specs.declared.program.Stop.TheVariants.{Memory};
+
+    ghost from_gives = { λ _ stop. stop ≡ Memory };
+
     fn from(_refused: AllocError) -> Stop {
         Stop::Memory
     }
 }
 
 impl From<WordsFault> for Stop {
+    ghost use Rattle.std.specs.Prelude.{◌≡◌};
+    ghost use Rattle.typetool.specs.declared.program.Stop.TheVariants.{Words as words};
+
+    ghost from_gives = { λ fault stop. stop ≡ words fault };
+
     fn from(fault: WordsFault) -> Stop {
-        match fault {
-            WordsFault::Clap(error) => Stop::Clap(error),
-            WordsFault::Memory => Stop::Memory,
-            WordsFault::BadSeconds => Stop::BadSeconds,
-        }
+        Stop::Words(fault)
+    }
+}
+
+/// The status where the program stops: 2 for a command line that isn't readable, 0 for one that asks for help, 1 for a
+/// damaged recording, and else 3.
+fn status_of(stop: &Stop) -> u8
+    ensures { result ≡ stop_status stop.now }
+{
+    match stop {
+        Stop::Words(WordsFault::Clap(error)) => { if error.use_stderr() { 2 } else { 0 } }
+        Stop::Words(WordsFault::BadSeconds) | Stop::NotText => 2,
+        Stop::Words(WordsFault::Memory) | Stop::Memory | Stop::CannotOpen(_) => 3,
+        Stop::Job(fault) => fault.status(),
     }
 }
 
 /// Runs the program, and answers its status.
 pub fn start<R: Files + Env + Print + Eprint + AllocGlobal>(rt: &R) -> u8 {
     match attempt(rt) {
-        Ok(outcome) => match outcome.fault {
-            Some(fault) => tell(rt, Stop::Job(fault), outcome.status),
-            None => outcome.status,
-        },
-        Err(Stop::Clap(error)) => show(rt, &error),
-        Err(Stop::BadSeconds) => tell(rt, Stop::BadSeconds, 2),
-        Err(Stop::NotText) => tell(rt, Stop::NotText, 2),
-        Err(stop) => tell(rt, stop, 3),
+        Ok(
+            Outcome {
+                status,
+                fault: None,
+            },
+        ) => status,
+        Ok(
+            Outcome {
+                fault: Some(fault),
+                ..
+            },
+        ) => tell(rt, &Stop::Job(fault)),
+        Err(Stop::Words(WordsFault::Clap(error))) => show(rt, error),
+        Err(stop) => tell(rt, &stop),
     }
 }
 
@@ -132,15 +157,20 @@ fn leave<W: io::Write + Drop>(writer: Watched<BufWriter<W>>) {
 }
 
 /// Tells why the program stops, and answers the status.
-fn tell<R: Eprint>(rt: &R, stop: Stop, status: u8) -> u8 {
+fn tell<R: Eprint>(rt: &R, stop: &Stop) -> u8
+    ensures { result ≡ stop_status stop.now }
+{
     let _ = rt.eprintln(format_args!("typetool: {stop}"));
-    status
+    status_of(stop)
 }
 
-/// Shows clap's text, and answers its status, or that of a write fault.
-fn show<R: Print + Eprint>(rt: &R, error: &clap::Error) -> u8 {
+/// Shows clap's text, and answers the status. Help that can't be written is a write fault.
+fn show<R: Print + Eprint>(rt: &R, error: clap::Error) -> u8
+    ensures mistake { (kind_of error ≢ ErrorKind.DisplayHelp) → (kind_of error ≢ ErrorKind.DisplayVersion)
+        → result ≡ 2 }
+{
     match error.print(rt) {
-        Ok(()) => if error.use_stderr() { 2 } else { 0 },
-        Err(_) => 3,
+        Err(_) if !error.use_stderr() => tell(rt, &Stop::Job(JobFault::File(Fault::WriteFault))),
+        _ => status_of(&Stop::Words(WordsFault::Clap(error))),
     }
 }

@@ -2,7 +2,7 @@
 
 ghost use Rattle.std.specs.Prelude.{◌≡◌, ◌⊎◌, ◌≢◌, ◌∷◌, ◌++◌, ◌+◌, ◌≤◌, [], true, false, vec_len, None, Some, map, IfOk, IfErr, OnOk, string_bytes, codes};
 ghost use Rattle.std.specs.Option.{option_and_then};
-ghost use Rattle.clap.specs.Words.{app_of, found_of, rows_of, rule_of, subcommand_name_of, subcommand_rows_of};
+ghost use Rattle.clap.specs.Words.{app_of, found_of, items_of, rows_of, rule_of, subcommand_name_of, subcommand_rows_of};
 ghost use Rattle.clap.specs.declared.Command.TheViews.{out-Command as fields_of};
 ghost use Rattle.tape_core.specs.Seconds.{seconds_of};
 ghost use Rattle.typetool.specs.CommandLine.{FailsFor, IsNamed, clap_faults, subcommand_in, seconds_rule, path_rule, due_app, top_app, typetool_app, value_of, due_meaning, meaning_of, has_bad_seconds, meaning_read};
@@ -12,6 +12,7 @@ use clap::error::ErrorKind;
 use clap::{Arg, ArgAction, ArgMatches, Command, Error};
 use std::alloc::{AllocError, Global};
 use tape_core::read_seconds;
+use thiserror::Error as ThisError;
 
 /// A command line that was read: the job, and the paths in the line's order.
 #[derive(Debug, Drop)]
@@ -21,13 +22,16 @@ pub struct Words {
 }
 
 /// Why a command line isn't a job.
-#[derive(Debug, Drop)]
+#[derive(Debug, Drop, ThisError)]
 pub enum WordsFault {
     /// clap doesn't take the words, or they ask for help: its text is for the user.
+    #[error("{0}")]
     Clap(Error),
     /// A growth was refused.
+    #[error("out of memory")]
     Memory,
     /// A number of seconds isn't readable.
+    #[error("bad seconds")]
     BadSeconds,
 }
 
@@ -45,7 +49,8 @@ impl From<AllocError> for WordsFault {
 /// Reads a command line, of which the first word is the program's name.
 pub fn read_words(alloc: Global, words: &[String]) -> Result<Words, WordsFault>
     ensures taken { OnOk result (clap_faults (map string_bytes words.now) ≡ []) }
-    ensures meaning { IfOk result (λ read. option_and_then meaning_of (subcommand_in (map string_bytes words.now)) ≡ Some (meaning_read read)) }
+    ensures meaning { IfOk result (λ read.
+        option_and_then meaning_of (subcommand_in (map string_bytes words.now)) ≡ Some (meaning_read read)) }
     ensures paths { IfOk result (λ read. 2 ≤ vec_len read.paths) }
     ensures fault { IfErr result (FailsFor (map string_bytes words.now)) }
 {
@@ -59,7 +64,8 @@ pub fn read_words(alloc: Global, words: &[String]) -> Result<Words, WordsFault>
 /// Has clap read the words.
 fn parse<'a>(alloc: Global, words: &'a [String]) -> Result<ArgMatches<'a>, WordsFault>
     ensures taken { OnOk result (clap_faults (map string_bytes words.entry.now) ≡ []) }
-    ensures met { IfOk result (λ matches. subcommand_rows_of matches ≡ subcommand_in (map string_bytes words.entry.now)) }
+    ensures met { IfOk result (λ matches.
+        subcommand_rows_of matches ≡ subcommand_in (map string_bytes words.entry.now)) }
     ensures named { IfOk result (λ matches. IsNamed (subcommand_name_of matches) typetool_app.subs) }
     ensures fault { IfErr result (FailsFor (map string_bytes words.entry.now)) }
     ensures seconds { IfErr result (λ fault. fault ≢ WordsFault.BadSeconds) }
@@ -149,6 +155,7 @@ fn top_command<'a>(alloc: Global) -> Command<'a>
 /// A flag for seconds since the start of the recording.
 fn seconds_flag<'a>(alloc: Global, id: &'a str, help: &'a str) -> Arg<'a>
     ensures rule { rule_of result ≡ seconds_rule id.entry.now }
+    ensures help { result.help ≡ Some help.entry }
     ensures local { result.global ≡ false }
 {
     Arg::new(alloc, id)
@@ -162,6 +169,8 @@ fn seconds_flag<'a>(alloc: Global, id: &'a str, help: &'a str) -> Arg<'a>
 /// A path, which help shows by its name in capitals.
 fn path<'a>(alloc: Global, id: &'a str, name: &'a str, help: &'a str) -> Arg<'a>
     ensures rule { rule_of result ≡ path_rule id.entry.now }
+    ensures name { items_of result.val_names ≡ name.entry ∷ [] }
+    ensures help { result.help ≡ Some help.entry }
     ensures local { result.global ≡ false }
 {
     Arg::new(alloc, id)

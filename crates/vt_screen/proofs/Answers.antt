@@ -1,19 +1,18 @@
 -- From the fields that a body leaves to the picture that a contract names.
-use Rattle.std.proofs.Common.{◌≡◌, ◌≢◌, ℕ, ◌+◌, ◌-◌, ◌<◌, ◌≤◌, Bool, true, false, List, length, get_or, set, refl, sym, ap, ap₂, inl, inr, ◌∙◌, subst, arith}
-use Rattle.std.specs.Prelude.{if◌then◌else◌, ◌==◌, ◌&&◌, nat_le, nat_lt}
+use Rattle.std.proofs.Common.{◌≡◌, ◌≢◌, ℕ, ◌+◌, ◌-◌, ◌<◌, ◌≤◌, Bool, true, false, List, length, get_or, set, sym, ap, ap₂, ◌∙◌, arith}
+use Rattle.std.specs.Prelude.{if◌then◌else◌, ◌==◌, ◌&&◌, nat_le}
 use Rattle.std.proofs.lemmas.Bool.Decides.{nat_tests}
 use Rattle.std.proofs.lemmas.List.{get_or_default}
 use Rattle.vt_screen.specs.declared.cell.Cell.{Cell}
 use Rattle.vt_screen.specs.declared.cell.Row.{Row}
-use Rattle.vt_screen.specs.Table.{table, nth}
-use Rattle.vt_screen.specs.Cells.{blank, blank_row, cell_at, row_at, rows_by}
-use Rattle.vt_screen.specs.Picture.{Picture, Sound, SoundRow, columns, margin_of, right_margin}
+use Rattle.vt_screen.specs.Cells.{blank, blank_row, cell_at, row_at}
+use Rattle.vt_screen.specs.Picture.{Picture, Sound, margin_of, right_margin}
 use Rattle.vt_screen.specs.Puts.{with_row, with_cell, put}
 use Rattle.vt_screen.specs.Scrolls.{scrolled_up, scrolled_down}
 use Rattle.vt_screen.specs.Tabs.{stop_at, tab_made}
 use Rattle.vt_screen.proofs.Tables.{length-table, nth-table, nth_is, set_is, table_ext}
 use Rattle.vt_screen.proofs.SoundRows.{margin_high, columns_high}
-use Rattle.vt_screen.proofs.Soundness.{sound_all, sound_put, sound_scrolled_up, sound_scrolled_down}
+use Rattle.vt_screen.proofs.Soundness.{sound_all, sound_scrolled_up, sound_scrolled_down}
 
 -- the rows are these
 pub with_rows : (p : Picture) (rows : List Row) → p.rows ≡ rows → p ≡ record p { rows = rows }

@@ -1,11 +1,10 @@
 -- A part of the display, line by line.
-use Rattle.std.proofs.Common.{◌≡◌, ◌≢◌, ℕ, zero, suc, ◌+◌, ◌-◌, ◌<◌, ◌≤◌, Bool, true, false, List, [], ◌∷◌, length, get_or, replicate, refl, sym, ap, ap₂, inl, inr, ◌∙◌, subst, arith}
-use Rattle.std.specs.Prelude.{if◌then◌else◌, ◌==◌, ◌&&◌, ◌||◌, not, nat_le, nat_lt}
+use Rattle.std.proofs.Common.{◌≡◌, ◌≢◌, ℕ, zero, suc, ◌+◌, ◌<◌, ◌≤◌, Bool, true, false, List, length, refl, sym, ap, ap₂, inl, inr, ◌∙◌, arith}
+use Rattle.std.specs.Prelude.{if◌then◌else◌, ◌==◌, ◌&&◌, ◌||◌, not}
 use Rattle.std.specs.List.{range_with_len, list_all}
 use Rattle.std.proofs.lemmas.Bool.{cases_eq, cases_lt}
 use Rattle.std.proofs.lemmas.Bool.Decides.{nat_tests}
 use Rattle.vt_screen.specs.declared.cell.Cell.{Cell}
-use Rattle.vt_screen.specs.declared.cell.Size.{Size}
 use Rattle.vt_screen.specs.declared.cell.Size.TheVariants.{Single}
 use Rattle.vt_screen.specs.declared.cell.Row.{Row}
 use Rattle.vt_screen.specs.Table.{table, nth}
@@ -14,7 +13,7 @@ use Rattle.vt_screen.specs.Picture.{Picture, Sound, margin_of, right_margin}
 use Rattle.vt_screen.specs.Puts.{with_row}
 use Rattle.vt_screen.specs.Erasures.{in_line_part, in_other_lines, in_part, erased_whole, part_erased, display_erased}
 use Rattle.vt_screen.specs.Written.{others_erased}
-use Rattle.vt_screen.proofs.Tables.{length-table, nth-table, table_ext, table_is}
+use Rattle.vt_screen.proofs.Tables.{nth-table, table_ext, table_is}
 use Rattle.vt_screen.proofs.Rows.{blank_whole, row_is, other_erased}
 use Rattle.vt_screen.proofs.SoundRows.{blank_at, margin_low}
 

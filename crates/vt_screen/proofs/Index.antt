@@ -1,15 +1,14 @@
 -- Rows behind an index: what a write to one place does to the rows by line.
-use Rattle.std.proofs.Common.{◌≡◌, ◌≢◌, ℕ, ◌+◌, ◌-◌, ◌<◌, ◌≤◌, Bool, true, false, List, length, get_or, set, refl, sym, ap, inl, inr, ◌∙◌, subst, arith}
-use Rattle.std.specs.Prelude.{if◌then◌else◌, ◌==◌, ◌&&◌, nat_le}
-use Rattle.std.proofs.lemmas.Bool.{cases_eq, cases_lt}
+use Rattle.std.proofs.Common.{◌≡◌, ◌≢◌, ℕ, ◌-◌, ◌<◌, ◌≤◌, List, length, get_or, set, refl, sym, ap, inl, inr, ◌∙◌, subst, arith}
+use Rattle.std.specs.Prelude.{if◌then◌else◌, ◌==◌}
+use Rattle.std.proofs.lemmas.Bool.{cases_eq}
 use Rattle.std.proofs.lemmas.Bool.Decides.{nat_tests}
 use Rattle.std.proofs.lemmas.List.{length-set, get_or_default}
 use Rattle.vt_screen.specs.declared.cell.Row.{Row}
-use Rattle.vt_screen.specs.Table.{table, nth}
-use Rattle.vt_screen.specs.Cells.{blank_row, row_at, rows_by}
+use Rattle.vt_screen.specs.Cells.{blank_row, row_at}
 use Rattle.vt_screen.specs.Places.{Held, OncePerPlace, place_at, row_in, rows_of}
 use Rattle.vt_screen.specs.Puts.{with_row}
-use Rattle.vt_screen.proofs.Tables.{length-table, nth-table, table_ext, get_or-set, nth_is}
+use Rattle.vt_screen.proofs.Tables.{nth-table, table_ext, get_or-set, nth_is}
 
 -- the row of a line lies in the line's place
 pub row_there : (held : Held) (line : ℕ) → 1 ≤ line → line ≤ 24 → row_at (rows_of held) line ≡ row_in held.places (place_at held.order line)

@@ -1,22 +1,22 @@
 -- Rows of 132 cells, and what is written to them.
-use Rattle.std.proofs.Common.{◌≡◌, ◌≢◌, ℕ, ◌+◌, ◌-◌, ◌<◌, ◌≤◌, Bool, true, false, List, [], ◌∷◌, length, get_or, set, drop, refl, sym, ap, inl, inr, ◌∙◌, subst, arith}
+use Rattle.std.proofs.Common.{◌≡◌, ℕ, ◌+◌, ◌-◌, ◌<◌, ◌≤◌, Bool, true, false, List, length, get_or, set, drop, refl, sym, ap, inl, inr, ◌∙◌, arith}
 use Rattle.std.specs.Prelude.{if◌then◌else◌, ◌==◌, ◌&&◌, not, nat_le, nat_lt}
-use Rattle.std.proofs.lemmas.Bool.{cases_eq, cases_lt}
+use Rattle.std.proofs.lemmas.Bool.{cases_eq}
 use Rattle.std.proofs.lemmas.Bool.Decides.{nat_tests}
-use Rattle.std.proofs.lemmas.List.{length-set, at_drop_more}
+use Rattle.std.proofs.lemmas.List.{at_drop_more}
 use Rattle.vt_screen.specs.declared.cell.Cell.{Cell}
 use Rattle.vt_screen.specs.declared.cell.Size.{Size}
 use Rattle.vt_screen.specs.declared.cell.Row.{Row}
 use Rattle.vt_screen.specs.Attributes.{Attributes}
-use Rattle.vt_screen.specs.Table.{table, nth}
-use Rattle.vt_screen.specs.Cells.{blank, blank_cells, blank_row, cell_at, row_at, row_by, rows_by, is_single}
+use Rattle.vt_screen.specs.Table.{table}
+use Rattle.vt_screen.specs.Cells.{blank, blank_cells, blank_row, cell_at, row_at, rows_by, is_single}
 use Rattle.vt_screen.specs.Puts.{with_cell, with_row}
 use Rattle.vt_screen.specs.declared.cell.Size.TheVariants.{Single}
 use Rattle.vt_screen.specs.Erasures.{in_line_part, in_other_lines, part_erased}
 use Rattle.vt_screen.specs.Lines.{pattern, patterned, resized}
 use Rattle.vt_screen.specs.Picture.{margin_of}
 use Rattle.vt_screen.specs.Written.{filled, written}
-use Rattle.vt_screen.proofs.Tables.{length-table, nth-table, table_ext, table_is, set_is, nth_next}
+use Rattle.vt_screen.proofs.Tables.{length-table, nth-table, table_ext, table_is, set_is}
 
 pub blank_whole : length blank_cells ≡ 132
 unfolding blank_cells

@@ -1,22 +1,21 @@
 -- Rows stay sound.
-use Rattle.std.proofs.Common.{◌≡◌, ◌≢◌, ℕ, ◌+◌, ◌-◌, ◌<◌, ◌≤◌, Bool, true, false, List, length, get_or, replicate, refl, sym, ap, inl, inr, ◌∙◌, ◌⊎◌, subst, arith}
+use Rattle.std.proofs.Common.{◌≡◌, ℕ, ◌-◌, ◌<◌, ◌≤◌, Bool, true, false, List, replicate, refl, sym, ap, inl, inr, ◌∙◌, subst, arith}
 use Rattle.std.specs.Prelude.{if◌then◌else◌, ◌==◌, ◌&&◌, not, nat_le, nat_lt}
-use Rattle.std.proofs.lemmas.Bool.{cases_eq, cases_lt}
+use Rattle.std.proofs.lemmas.Bool.{cases_lt}
 use Rattle.std.proofs.lemmas.Bool.Decides.{nat_tests}
-use Rattle.std.proofs.lemmas.List.{get_or-replicate, get_or_past, length-replicate}
+use Rattle.std.proofs.lemmas.List.{get_or-replicate, get_or_past}
 use Rattle.vt_screen.specs.declared.cell.Cell.{Cell}
 use Rattle.vt_screen.specs.declared.cell.Size.{Size}
 use Rattle.vt_screen.specs.declared.cell.Size.TheVariants.{Single, Double, Top, Bottom}
 use Rattle.vt_screen.specs.declared.cell.Row.{Row}
-use Rattle.vt_screen.specs.Table.{table, nth}
+use Rattle.vt_screen.specs.Table.{table}
 use Rattle.vt_screen.specs.Cells.{blank, blank_cells, blank_row, cell_at, row_at, row_by, rows_by, is_single}
 use Rattle.vt_screen.specs.Erasures.{in_line_part, part_erased}
 use Rattle.vt_screen.specs.Lines.{pattern, patterned, resized}
 use Rattle.vt_screen.specs.Picture.{SoundRow, columns, margin_of}
 use Rattle.vt_screen.specs.Puts.{with_cell, with_row}
-use Rattle.vt_screen.specs.Written.{written}
 use Rattle.vt_screen.proofs.Rows.{blank_whole}
-use Rattle.vt_screen.proofs.Tables.{length-table, nth-table, nth_is, get_or-table, nth_keeps}
+use Rattle.vt_screen.proofs.Tables.{length-table, nth-table, nth_is, nth_keeps}
 
 pub margin_low : (wide : Bool) (size : Size) → 40 ≤ margin_of wide size
 margin_low true Single = omega arith

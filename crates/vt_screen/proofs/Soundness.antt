@@ -1,8 +1,7 @@
 -- Each operation keeps a picture sound.
-use Rattle.std.proofs.Common.{◌≡◌, ◌≢◌, ℕ, zero, suc, ◌+◌, ◌-◌, ◌<◌, ◌≤◌, Bool, true, false, List, [], ◌∷◌, length, min, max, refl, sym, ap, inl, inr, ◌∙◌, ◌⊎◌, subst, arith}
-use Rattle.std.specs.Prelude.{if◌then◌else◌, ◌==◌, ◌&&◌, ◌||◌, not, nat_le, nat_lt, All, IsTrue, fold, find, unwrap_or, Option, Some, None}
-use Rattle.std.specs.List.{range_with_len, list_all, AllByRecursion}
-use Rattle.std.proofs.lemmas.Bool.{cases_eq, cases_lt}
+use Rattle.std.proofs.Common.{◌≡◌, ℕ, ◌+◌, ◌-◌, ◌<◌, ◌≤◌, Bool, true, false, List, [], ◌∷◌, length, min, max, refl, ap, ◌∙◌, arith}
+use Rattle.std.specs.Prelude.{if◌then◌else◌, ◌==◌, ◌&&◌, nat_le, All}
+use Rattle.std.specs.List.{AllByRecursion}
 use Rattle.std.proofs.lemmas.Bool.Decides.{nat_tests}
 use Rattle.std.proofs.lemmas.List.Elements.{recursion_from_All}
 use Rattle.vt_screen.specs.declared.cell.Cell.{Cell}
@@ -10,18 +9,17 @@ use Rattle.vt_screen.specs.declared.cell.Size.{Size}
 use Rattle.vt_screen.specs.declared.cell.Size.TheVariants.{Single}
 use Rattle.vt_screen.specs.declared.cell.Row.{Row}
 use Rattle.vt_screen.specs.Attributes.{Attributes}
-use Rattle.vt_screen.specs.Table.{table, nth}
-use Rattle.vt_screen.specs.Cells.{blank, blank_row, cell_at, row_at, row_by, rows_by, is_single}
-use Rattle.vt_screen.specs.Picture.{Picture, Sound, SoundRow, columns, margin_of, right_margin, first_tabs, reset}
+use Rattle.vt_screen.specs.Cells.{blank, blank_row, cell_at, row_at, row_by, rows_by}
+use Rattle.vt_screen.specs.Picture.{Picture, Sound, SoundRow, columns, margin_of, right_margin, reset}
 use Rattle.vt_screen.specs.Moves.{on_line, stepped_up, stepped_down, stepped_right, stepped_left, moved_to_left, at_place, placed, moved_home, wrap_cleared, put_back}
 use Rattle.vt_screen.specs.Scrolls.{scrolled_up, scrolled_down, indexed, reverse_indexed}
 use Rattle.vt_screen.specs.Puts.{with_row, with_cell, wrap_taken, put, shown, run_shown}
 use Rattle.vt_screen.specs.Erasures.{in_part, part_erased, erased_whole, display_erased, line_erased}
 use Rattle.vt_screen.specs.Lines.{resized, size_set, columns_set, patterned, aligned, are_margins, margins_set}
-use Rattle.vt_screen.specs.Tabs.{stop_at, stop_after, tabbed, tab_made, tabs_cleared}
+use Rattle.vt_screen.specs.Tabs.{stop_after, tabbed, tab_made, tabs_cleared}
 use Rattle.vt_screen.proofs.Tables.{length-table, nth-table}
 use Rattle.vt_screen.proofs.Stops.{stop_low, stop_high}
-use Rattle.vt_screen.proofs.SoundRows.{margin_low, margin_high, columns_high, double_margin, single_margin, sound_by, sound_blank, sound_with_cell, sound_erased, sound_patterned, sound_resized, sound_rows_by, sound_with_row}
+use Rattle.vt_screen.proofs.SoundRows.{margin_low, margin_high, sound_by, sound_blank, sound_with_cell, sound_erased, sound_patterned, sound_resized, sound_rows_by, sound_with_row}
 
 either_row : (P : Row → Type 0) (b : Bool) (x y : Row) → P x → P y → P (if b then x else y)
 either_row P true x y px py = px

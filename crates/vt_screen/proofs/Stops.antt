@@ -1,6 +1,6 @@
 -- The next tab stop.
-use Rattle.std.proofs.Common.{◌≡◌, ℕ, zero, suc, ◌+◌, ◌-◌, ◌<◌, ◌≤◌, Bool, true, false, cond, List, [], ◌∷◌, length, get_or, refl, sym, ap, ◌∙◌, arith}
-use Rattle.std.specs.Prelude.{find, unwrap_or, Option, Some, None}
+use Rattle.std.proofs.Common.{◌≡◌, ℕ, zero, suc, ◌+◌, ◌-◌, ◌<◌, ◌≤◌, Bool, true, false, cond, List, get_or, sym, ap, ◌∙◌, arith}
+use Rattle.std.specs.Prelude.{find, unwrap_or, Option, Some}
 use Rattle.std.specs.List.{range_with_len}
 use Rattle.vt_screen.proofs.Tables.{nth_is}
 use Rattle.vt_screen.specs.Tabs.{stop_at, stop_after}

@@ -1,11 +1,11 @@
 -- Names of places that turn, and the rows that they name.
-use Rattle.std.proofs.Common.{◌≡◌, ◌≢◌, ℕ, ◌+◌, ◌-◌, ◌<◌, ◌≤◌, Bool, true, false, List, length, get_or, set, refl, sym, ap, ap₂, inl, inr, ◌∙◌, subst, arith}
+use Rattle.std.proofs.Common.{◌≡◌, ℕ, ◌+◌, ◌-◌, ◌<◌, ◌≤◌, Bool, true, false, List, length, get_or, set, refl, sym, ap, ap₂, inl, inr, ◌∙◌, subst, arith}
 use Rattle.std.specs.Prelude.{if◌then◌else◌, ◌==◌, ◌&&◌, nat_le, nat_lt}
 use Rattle.std.proofs.lemmas.Bool.{cases_eq, cases_lt}
 use Rattle.std.proofs.lemmas.Bool.Decides.{nat_tests}
-use Rattle.vt_screen.specs.Table.{table, nth}
+use Rattle.vt_screen.specs.Table.{table}
 use Rattle.vt_screen.specs.declared.cell.Row.{Row}
-use Rattle.vt_screen.specs.Cells.{blank_row, row_at, rows_by}
+use Rattle.vt_screen.specs.Cells.{blank_row, rows_by}
 use Rattle.vt_screen.specs.Scrolls.{scrolled_up, scrolled_down}
 use Rattle.vt_screen.specs.Places.{Held, OncePerPlace, first_order, place_at, row_in, rows_of, turned_up, turned_down}
 use Rattle.vt_screen.proofs.Rows.{blank_whole}

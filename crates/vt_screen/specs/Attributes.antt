@@ -1,5 +1,5 @@
 -- The four character attributes of a rendition, and the byte that stands for them.
-use Rattle.std.specs.Prelude.{ℕ, ◌+◌, ◌*◌, ◌/◌, ◌%◌, Bool, true, false, ◌==◌, if◌then◌else◌}
+use Rattle.std.specs.Prelude.{ℕ, ◌+◌, ◌*◌, ◌/◌, ◌%◌, Bool, false, ◌==◌, if◌then◌else◌}
 
 -- bold, underscore, blink and reverse (EK-VT100-UG chapter 3, SGR)
 pub record Attributes : Type 0 where

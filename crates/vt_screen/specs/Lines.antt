@@ -1,5 +1,5 @@
 -- Sizes of lines, the width of the screen, the margins, and the alignment pattern.
-use Rattle.std.specs.Prelude.{ℕ, Bool, false, not, List, nat_lt, nat_le, ◌&&◌, min, if◌then◌else◌}
+use Rattle.std.specs.Prelude.{ℕ, Bool, false, not, nat_lt, nat_le, ◌&&◌, min, if◌then◌else◌}
 use Rattle.vt_screen.specs.declared.cell.Cell.{Cell}
 use Rattle.vt_screen.specs.declared.cell.Size.{Size}
 use Rattle.vt_screen.specs.declared.cell.Size.TheVariants.{Single}
@@ -17,7 +17,8 @@ resized wide size row = row_by size (λ column.
     then blank
     else cell_at row column)
 
--- DECSWL, DECDWL, DECDHL: the cursor's line has another size, and the column is at most its right margin
+-- DECSWL, DECDWL, DECDHL: the cursor's line has another size, and the column is at most its right
+-- margin (EK-VT100-UG chapter 3, line attributes)
 abbrev pub size_set : Size → Picture → Picture
 size_set size p = record p {
   rows = with_row p.line (resized p.wide size (row_at p.rows p.line)) p.rows;
@@ -30,11 +31,11 @@ abbrev pub columns_set : Bool → Bool → Picture → Picture
 columns_set wide origin p =
     moved_home origin (record p { wide = wide; rows = rows_by (λ _. blank_row); top = 1; bottom = 24 })
 
--- the cell that the alignment pattern is filled with: the letter E
+-- the cell that the alignment pattern is filled with: the letter E (EK-VT100-UG chapter 3, DECALN)
 abbrev pub pattern : Cell
 pattern = record { glyph = 69; rendition = plain }
 
--- a row that is filled with it to a column
+-- a row that is filled with it to a column (EK-VT100-UG chapter 3, DECALN)
 abbrev pub patterned : ℕ → Row → Row
 patterned to row = row_by Single (λ column. if nat_le column to then pattern else cell_at row column)
 
@@ -50,7 +51,7 @@ aligned p = record p {
 abbrev pub are_margins : ℕ → ℕ → Bool
 are_margins top bottom = nat_le 1 top && nat_lt top bottom && nat_le bottom 24
 
--- DECSTBM: these margins and home, or nothing where they are none
+-- DECSTBM: these margins and home, or nothing where they are none (EK-VT100-UG chapter 3, DECSTBM)
 abbrev pub margins_set : ℕ → ℕ → Bool → Picture → Picture
 margins_set top bottom origin p =
     if are_margins top bottom then moved_home origin (record p { top = top; bottom = bottom }) else p

@@ -1,9 +1,12 @@
--- Where rows lie: 24 places, and for each line the name of its place, from 0 to 23.
-use Rattle.std.specs.Prelude.{◌≡◌, ℕ, ◌+◌, ◌-◌, ◌<◌, ◌≤◌, List, length, nat_le, slice_index_or, slice_set, ◌==◌, ◌&&◌, if◌then◌else◌}
+-- Where rows lie: 24 places, and for each line the name of its place, from 0 to 23. All of it is the
+-- project's own (profile): no crate above sees it.
+use Rattle.std.specs.Prelude.{◌≡◌, ℕ, ◌+◌, ◌-◌, ◌<◌, ◌≤◌, Bool, List, [], ◌∷◌, length, nat_le, slice_index_or, slice_set, ◌==◌, ◌&&◌, if◌then◌else◌}
 use Rattle.vt_screen.specs.declared.cell.Row.{Row}
 use Rattle.vt_screen.specs.Table.{table, nth}
 use Rattle.vt_screen.specs.Cells.{blank_row, rows_by}
-use Rattle.vt_screen.specs.Picture.{Picture, Sound}
+use Rattle.vt_screen.specs.Attributes.{Attributes}
+use Rattle.vt_screen.specs.Picture.{Picture}
+use Rattle.vt_screen.specs.Puts.{shown}
 
 -- the names of the places by line, and what lies in each place
 pub record Held : Type 0 where
@@ -57,17 +60,27 @@ turned_down top bottom order = table 24 (λ line.
     else place_at order line)
 
 -- index turns the names at the bottom margin, and blanks the place of the line that leaves
-abbrev pub indexed_held : Shown → Held
-indexed_held s =
-    let p = s.picture in
-    if p.line == p.bottom
-    then record { order = turned_up p.top p.bottom s.order; places = slice_set s.places (place_at s.order p.top) blank_row }
-    else record { order = s.order; places = s.places }
+abbrev pub order_indexed : Picture → List ℕ → List ℕ
+order_indexed p order = if p.line == p.bottom then turned_up p.top p.bottom order else order
+
+abbrev pub places_indexed : Picture → List ℕ → List Row → List Row
+places_indexed p order places =
+    if p.line == p.bottom then slice_set places (place_at order p.top) blank_row else places
 
 -- reverse index turns them at the top margin
-abbrev pub reverse_indexed_held : Shown → Held
-reverse_indexed_held s =
-    let p = s.picture in
-    if p.line == p.top
-    then record { order = turned_down p.top p.bottom s.order; places = slice_set s.places (place_at s.order p.bottom) blank_row }
-    else record { order = s.order; places = s.places }
+abbrev pub order_reverse_indexed : Picture → List ℕ → List ℕ
+order_reverse_indexed p order = if p.line == p.top then turned_down p.top p.bottom order else order
+
+abbrev pub places_reverse_indexed : Picture → List ℕ → List Row → List Row
+places_reverse_indexed p order places =
+    if p.line == p.top then slice_set places (place_at order p.bottom) blank_row else places
+
+-- a character turns them where its wrap scrolls
+abbrev pub order_shown : Picture → List ℕ → List ℕ
+order_shown p order = if p.wrap then order_indexed p order else order
+
+-- and a run one character after another
+abbrev pub order_run_shown : List ℕ → Attributes → Bool → Picture → List ℕ → List ℕ
+order_run_shown [] rendition autowrap p order = order
+order_run_shown (glyph ∷ glyphs) rendition autowrap p order =
+    order_run_shown glyphs rendition autowrap (shown glyph rendition autowrap p) (order_shown p order)

@@ -1,5 +1,5 @@
 -- Characters that are shown.
-use Rattle.std.specs.Prelude.{ℕ, ◌+◌, Bool, true, false, List, nat_le, ◌==◌, ◌&&◌, fold, if◌then◌else◌}
+use Rattle.std.specs.Prelude.{ℕ, ◌+◌, Bool, List, ◌==◌, fold, if◌then◌else◌}
 use Rattle.vt_screen.specs.declared.cell.Cell.{Cell}
 use Rattle.vt_screen.specs.declared.cell.Row.{Row}
 use Rattle.vt_screen.specs.Attributes.{Attributes}
@@ -8,15 +8,15 @@ use Rattle.vt_screen.specs.Picture.{Picture, right_margin}
 use Rattle.vt_screen.specs.Moves.{moved_to_left}
 use Rattle.vt_screen.specs.Scrolls.{indexed}
 
--- the row at one line is another
+-- the row at one line is another, and the others stay
 abbrev pub with_row : ℕ → Row → List Row → List Row
 with_row at row rows = rows_by (λ line. if line == at then row else row_at rows line)
 
--- the cell at one column is another
+-- the cell at one column is another, and the others and the size stay
 abbrev pub with_cell : ℕ → Cell → Row → Row
 with_cell at cell row = row_by row.size (λ column. if column == at then cell else cell_at row column)
 
--- a pending wrap is taken: column 1 of the next line
+-- a pending wrap is taken: column 1 of the next line (EK-VT100-UG chapter 3, DECAWM; that it waits: profile)
 abbrev pub wrap_taken : Picture → Picture
 wrap_taken p = if p.wrap then indexed (moved_to_left p) else p
 
@@ -29,7 +29,7 @@ put cell autowrap p =
     then record p { rows = rows; wrap = autowrap }
     else record p { rows = rows; column = p.column + 1 }
 
--- a character is shown: the pending wrap first, then its cell
+-- a character is shown: the pending wrap first, then its cell (profile)
 abbrev pub shown : ℕ → Attributes → Bool → Picture → Picture
 shown glyph rendition autowrap p = put (record { glyph = glyph; rendition = rendition }) autowrap (wrap_taken p)
 

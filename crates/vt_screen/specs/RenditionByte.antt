@@ -1,8 +1,8 @@
 -- The byte of a rendition and its four truth values give each other.
-use Rattle.std.specs.Prelude.{◌≡◌, ℕ, zero, suc, ◌+◌, ◌*◌, ◌/◌, ◌%◌, ◌<◌, Bool, true, false, refl}
+use Rattle.std.specs.Prelude.{◌≡◌, ℕ, zero, suc, ◌<◌, refl}
 use Rattle.std.proofs.Common.{ap, arith}
 use Rattle.vt_screen.specs.declared.rendition.Rendition.TheInside.{Inside}
-use Rattle.vt_screen.specs.Attributes.{Attributes, attributes_of, byte_of, bit}
+use Rattle.vt_screen.specs.Attributes.{attributes_of, byte_of}
 
 byte_again : (byte : ℕ) → byte < 16 → byte_of (attributes_of byte) ≡ byte
 byte_again zero below = refl

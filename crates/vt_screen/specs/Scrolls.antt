@@ -20,7 +20,8 @@ scrolled_down top bottom rows = rows_by (λ line.
     then (if line == top then blank_row else row_at rows (line - 1))
     else row_at rows line)
 
--- IND: at the bottom margin the region scrolls up, at line 24 outside it nothing moves, else one line down
+-- IND: at the bottom margin the region scrolls up, at line 24 outside it nothing moves, else one line
+-- down (EK-VT100-UG chapter 3, IND)
 abbrev pub indexed : Picture → Picture
 indexed p =
     if p.line == p.bottom
@@ -28,6 +29,7 @@ indexed p =
     else (if p.line == 24 then on_line 24 p else on_line (p.line + 1) p)
 
 -- RI: at the top margin the region scrolls down, at line 1 outside it nothing moves, else one line up
+-- (EK-VT100-UG chapter 3, RI)
 abbrev pub reverse_indexed : Picture → Picture
 reverse_indexed p =
     if p.line == p.top

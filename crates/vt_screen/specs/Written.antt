@@ -1,4 +1,4 @@
--- Parts of a row that are written at once.
+-- Parts of a row that are written at once: what the bodies below the operations leave (profile).
 use Rattle.std.specs.Prelude.{ℕ, ◌+◌, List, [], ◌∷◌, nat_le, not, ◌==◌, ◌&&◌, if◌then◌else◌}
 use Rattle.vt_screen.specs.declared.cell.Cell.{Cell}
 use Rattle.vt_screen.specs.declared.cell.Row.{Row}

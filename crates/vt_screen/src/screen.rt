@@ -1,12 +1,12 @@
 //! The screen and its operations. Lines and columns are counted from 1.
 
-ghost use Rattle.std.specs.Prelude.{◌≡◌, ℕ, ◌<◌, ◌≤◌, All, length, take, true, false, if◌then◌else◌};
+ghost use Rattle.std.specs.Prelude.{◌≡◌, ◌<◌, ◌≤◌, All, length, take, true, false};
 ghost use Rattle.vt_screen.specs.Cells.{row_at, cell_at};
 ghost use Rattle.vt_screen.specs.Erasures.{display_erased, erased_whole, line_erased};
 ghost use Rattle.vt_screen.specs.Lines.{size_set, columns_set, aligned, are_margins, margins_set};
 ghost use Rattle.vt_screen.specs.Moves.{stepped_up, stepped_down, stepped_right, stepped_left, moved_to_left, placed, moved_home, wrap_cleared, put_back, on_line};
 ghost use Rattle.vt_screen.specs.Picture.{Sound, SoundRow, first_tabs, reset, cell, columns, right_margin};
-ghost use Rattle.vt_screen.specs.Places.{Held, first_order, place_at, row_in, indexed_held, reverse_indexed_held};
+ghost use Rattle.vt_screen.specs.Places.{OncePerPlace, first_order, place_at, row_in, order_indexed, places_indexed, order_reverse_indexed, places_reverse_indexed, order_shown, order_run_shown};
 ghost use Rattle.vt_screen.specs.Puts.{shown, run_shown, wrap_taken};
 ghost use Rattle.vt_screen.specs.Scrolls.{indexed, reverse_indexed};
 ghost use Rattle.vt_screen.specs.Tabs.{stop_at, stop_after, tabbed, tab_made, tabs_cleared};
@@ -91,6 +91,7 @@ impl Screen {
         requires col_low { 1 ≤ col }
         requires col_high { col ≤ 132 }
         ensures value { result ≡ cell self.now.picture row col }
+        ensures place { result ≡ cell_at (row_in self.now.places (place_at self.now.order row)) col }
         ensures glyph { result.glyph ≤ 126 }
     {
         self.grid.row(row).cells[col as usize - 1]
@@ -165,6 +166,7 @@ impl Screen {
         requires high { row ≤ 24 }
         ensures value { result ≡ place_at self.now.order row }
         ensures within { result < 24 }
+        ensures once { OncePerPlace (record { order = self.now.order; places = self.now.places }) }
     {
         self.grid.place_of(row)
     }
@@ -183,7 +185,7 @@ impl Screen {
     pub fn show(&mut self, glyph: u8, rendition: Rendition, autowrap: bool)
         requires { glyph ≤ 126 }
         ensures picture { self.new.picture ≡ shown glyph rendition autowrap self.old.picture }
-        ensures order { self.new.order ≡ (if self.old.picture.wrap then (indexed_held self.old).order else self.old.order) }
+        ensures order { self.new.order ≡ order_shown self.old.picture self.old.order }
     {
         self.take_wrap();
         let margin = self.margin();
@@ -200,6 +202,7 @@ impl Screen {
     pub fn show_run(&mut self, glyphs: &[u8], rendition: Rendition, autowrap: bool)
         requires { All (λ glyph. glyph ≤ 126) glyphs.now }
         ensures picture { self.new.picture ≡ run_shown glyphs.now rendition autowrap self.old.picture }
+        ensures order { self.new.order ≡ order_run_shown glyphs.now rendition autowrap self.old.picture self.old.order }
     {
         let mut rest = glyphs;
         while !rest.is_empty() {
@@ -295,7 +298,8 @@ impl Screen {
     /// IND: one line down; at the bottom margin the region scrolls up.
     pub fn index(&mut self)
         ensures picture { self.new.picture ≡ indexed self.old.picture }
-        ensures held { record { order = self.new.order; places = self.new.places } ≡ indexed_held self.old }
+        ensures order { self.new.order ≡ order_indexed self.old.picture self.old.order }
+        ensures places { self.new.places ≡ places_indexed self.old.picture self.old.order self.old.places }
     {
         if self.line == self.bottom {
             self.grid.roll_up(self.top, self.bottom);
@@ -308,7 +312,8 @@ impl Screen {
     /// RI: one line up; at the top margin the region scrolls down.
     pub fn reverse_index(&mut self)
         ensures picture { self.new.picture ≡ reverse_indexed self.old.picture }
-        ensures held { record { order = self.new.order; places = self.new.places } ≡ reverse_indexed_held self.old }
+        ensures order { self.new.order ≡ order_reverse_indexed self.old.picture self.old.order }
+        ensures places { self.new.places ≡ places_reverse_indexed self.old.picture self.old.order self.old.places }
     {
         if self.line == self.top {
             self.grid.roll_down(self.top, self.bottom);
@@ -481,7 +486,7 @@ impl Screen {
     /// Takes a pending wrap: column 1 of the next line.
     fn take_wrap(&mut self)
         ensures picture { self.new.picture ≡ wrap_taken self.old.picture }
-        ensures order { self.new.order ≡ (if self.old.picture.wrap then (indexed_held self.old).order else self.old.order) }
+        ensures order { self.new.order ≡ order_shown self.old.picture self.old.order }
     {
         if self.wrap {
             self.to_left();
@@ -497,6 +502,7 @@ impl Screen {
         ensures some { 0 < result }
         ensures within { result ≤ length glyphs.now }
         ensures picture { self.new.picture ≡ run_shown (take result glyphs.now) rendition autowrap self.old.picture }
+        ensures order { self.new.order ≡ order_run_shown (take result glyphs.now) rendition autowrap self.old.picture self.old.order }
     {
         let margin = self.margin();
         let room = (margin - self.column) as usize + 1;

@@ -2,6 +2,7 @@ use super::*;
 use std::test::Fail;
 
 const EMPTY: &[u8] = b"Script started on X\n";
+
 const AB: &[u8] = b"Script started on X\nab";
 
 #[test]

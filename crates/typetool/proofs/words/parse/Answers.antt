@@ -1,10 +1,8 @@
-use Rattle.std.proofs.Common.{◌≡◌, ◌≢◌, rules, ap, ◌∙◌, sym, Ok, Err, true, inl, inr}
-use Rattle.clap.specs.Words.{App, app_of, kind_of}
-use Rattle.clap.specs.declared.Command.TheViews.{out-Command as fields_of}
+use Rattle.std.proofs.Common.{◌≢◌, ap, ◌∙◌, Ok, Err, inl, inr}
+use Rattle.clap.specs.Words.{App, kind_of}
 use Rattle.clap.specs.declared.ArgMatches.{ArgMatches}
 use Rattle.clap.specs.declared.error.ErrorKind.TheVariants.{OutOfMemory}
 use Rattle.clap.proofs.CallerLemmas.{subcommand_required}
-use Rattle.typetool.specs.CommandLine.{typetool_app}
 use Rattle.typetool.proofs.CommandLemmas.{fails_by, met_by, named_by, not_taken, needs_subcommand}
 use Rattle.typetool.proofs.words.parse.Goals as goal
 

@@ -1,4 +1,4 @@
-use Rattle.std.proofs.Common.{◌≡◌, Option, Some, None, refl, unwrap_or, option_map, sym, ap, ◌∙◌, []}
+use Rattle.std.proofs.Common.{◌≡◌, Option, Some, None, refl, unwrap_or, option_map, ap, ◌∙◌, []}
 use Rattle.clap.specs.Words.{found_of}
 use Rattle.clap.proofs.WalkLemmas.{first_value-rows}
 use Rattle.typetool.proofs.words.value_text.Goals as goal

@@ -1,4 +1,4 @@
-use Rattle.std.proofs.Common.{◌≡◌, ℕ, List, ◌+◌, ◌-◌, ◌∙◌, ap, get_or, set, arith}
+use Rattle.std.proofs.Common.{◌≡◌, ℕ, List, ◌-◌, ◌∙◌, ap, get_or, set, arith}
 use Rattle.vt_screen.proofs.Turns.{half_up, half_up_none, half_up_more, half_up_all}
 use Rattle.vt_screen.proofs.grid.turn_up.Goals as goal
 

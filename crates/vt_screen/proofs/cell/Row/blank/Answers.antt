@@ -1,5 +1,5 @@
-use Rattle.std.proofs.Common.{rules, replicate, refl}
-use Rattle.vt_screen.specs.Cells.{blank, blank_row, blank_cells}
+use Rattle.std.proofs.Common.{rules}
+use Rattle.vt_screen.specs.Cells.{blank_cells}
 use Rattle.vt_screen.proofs.cell.Row.blank.Goals as goal
 
 pub returns : goal.returns

@@ -1,8 +1,8 @@
-use Rattle.std.proofs.Common.{◌≡◌, ℕ, ◌+◌, ◌∙◌, ap, sym, arith}
+use Rattle.std.proofs.Common.{◌≡◌, ℕ, ◌+◌, ◌∙◌, ap, arith}
 use Rattle.std.specs.Prelude.{◌&&◌, not, false, true}
 use Rattle.vt_screen.specs.declared.cell.Cell.{Cell}
 use Rattle.vt_screen.specs.declared.cell.Row.{Row}
-use Rattle.vt_screen.specs.Cells.{blank, is_single}
+use Rattle.vt_screen.specs.Cells.{is_single}
 use Rattle.vt_screen.specs.Picture.{margin_of}
 use Rattle.vt_screen.specs.Written.{filled}
 use Rattle.vt_screen.proofs.Rows.{resized_same, resized_cut}

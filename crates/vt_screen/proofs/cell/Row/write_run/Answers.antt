@@ -1,4 +1,4 @@
-use Rattle.std.proofs.Common.{◌≡◌, ◌+◌, ◌∙◌, sym, ap, drop, arith}
+use Rattle.std.proofs.Common.{◌+◌, ◌∙◌, sym, ap, drop, arith}
 use Rattle.std.proofs.lemmas.List.{length-set}
 use Rattle.vt_screen.specs.declared.cell.Row.{Row}
 use Rattle.vt_screen.specs.Written.{written}

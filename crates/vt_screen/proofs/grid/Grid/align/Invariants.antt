@@ -1,5 +1,4 @@
 use Rattle.std.proofs.Common.{◌≡◌}
-use Rattle.vt_screen.specs.Cells.{blank_row}
 use Rattle.vt_screen.specs.Lines.{patterned}
 use Rattle.vt_screen.specs.Places.{rows_of}
 use Rattle.vt_screen.proofs.Rows.{so_far}

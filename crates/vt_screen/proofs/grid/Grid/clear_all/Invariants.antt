@@ -1,6 +1,5 @@
 use Rattle.std.proofs.Common.{◌≡◌}
 use Rattle.vt_screen.specs.Cells.{blank_row}
-use Rattle.vt_screen.specs.Lines.{patterned}
 use Rattle.vt_screen.specs.Places.{rows_of}
 use Rattle.vt_screen.proofs.Rows.{so_far}
 use Rattle.vt_screen.proofs.grid.Grid.clear_all.Given as goal

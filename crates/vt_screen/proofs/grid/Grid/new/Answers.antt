@@ -1,7 +1,7 @@
-use Rattle.std.proofs.Common.{◌≡◌, ℕ, List, length, ap, ◌∙◌}
+use Rattle.std.proofs.Common.{length, ap, ◌∙◌}
 use Rattle.vt_screen.specs.declared.cell.Row.{Row}
 use Rattle.vt_screen.specs.Table.{table}
-use Rattle.vt_screen.specs.Places.{Held, OncePerPlace, first_order}
+use Rattle.vt_screen.specs.Places.{Held, first_order}
 use Rattle.vt_screen.proofs.Rows.{blank_whole}
 use Rattle.vt_screen.proofs.Turns.{first_once}
 use Rattle.vt_screen.proofs.grid.Grid.new.Goals as goal

@@ -1,5 +1,5 @@
-use Rattle.std.proofs.Common.{◌≡◌, ℕ, List, ◌∙◌, ap, arith}
-use Rattle.vt_screen.specs.Places.{Held, place_at}
+use Rattle.std.proofs.Common.{◌∙◌, ap, subst}
+use Rattle.vt_screen.specs.Places.{Held, OncePerPlace, place_at}
 use Rattle.vt_screen.proofs.Index.{place_read, place_below}
 use Rattle.vt_screen.proofs.grid.Grid.place_of.Goals as goal
 
@@ -8,3 +8,6 @@ returns-clause-value c = place_read c.self.inside.order c.args.line ∙ ap (λ (
 
 pub returns-clause-within : goal.returns-clause-within
 returns-clause-within c = place_below _ _ c.self.invariant c.self.view_is c.args.line c.requires.low c.requires.high
+
+pub returns-clause-once : goal.returns-clause-once
+returns-clause-once c = subst OncePerPlace c.self.view_is c.self.invariant

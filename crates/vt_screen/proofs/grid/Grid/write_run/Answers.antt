@@ -1,5 +1,4 @@
-use Rattle.std.proofs.Common.{ap, length, arith}
-use Rattle.vt_screen.specs.declared.cell.Row.{Row}
+use Rattle.std.proofs.Common.{arith}
 use Rattle.vt_screen.specs.Written.{written}
 use Rattle.vt_screen.proofs.Index.{place_below, read_whole, row_changed, changed_once}
 use Rattle.vt_screen.proofs.grid.Grid.write_run.Goals as goal

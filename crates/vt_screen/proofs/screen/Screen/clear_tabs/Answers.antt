@@ -1,4 +1,4 @@
-use Rattle.std.proofs.Common.{◌∙◌, ap, refl}
+use Rattle.std.proofs.Common.{ap}
 use Rattle.vt_screen.specs.Places.{Shown}
 use Rattle.vt_screen.specs.Table.{table}
 use Rattle.vt_screen.specs.Tabs.{tabs_cleared}

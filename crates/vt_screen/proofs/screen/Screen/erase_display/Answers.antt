@@ -3,7 +3,7 @@ use Rattle.std.specs.Prelude.{◌&&◌}
 use Rattle.vt_screen.specs.declared.cell.Row.{Row}
 use Rattle.vt_screen.specs.Cells.{row_at, is_single}
 use Rattle.vt_screen.specs.Erasures.{erased_whole, display_erased}
-use Rattle.vt_screen.specs.Picture.{Picture, Sound}
+use Rattle.vt_screen.specs.Picture.{Sound}
 use Rattle.vt_screen.specs.Places.{Shown, rows_of}
 use Rattle.vt_screen.specs.View.{picture_of}
 use Rattle.vt_screen.proofs.Erased.{erased_all, erased_in_part}

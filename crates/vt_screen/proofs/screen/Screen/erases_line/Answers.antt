@@ -1,10 +1,10 @@
-use Rattle.std.proofs.Common.{◌≡◌, ℕ, ◌∙◌, ap, sym, arith}
+use Rattle.std.proofs.Common.{ℕ, ◌∙◌, ap, sym}
 use Rattle.std.specs.Prelude.{◌==◌}
 use Rattle.vt_screen.specs.Erasures.{erased_whole}
 use Rattle.vt_screen.specs.Picture.{right_margin}
 use Rattle.vt_screen.specs.Places.{Shown}
 use Rattle.vt_screen.specs.View.{picture_of}
-use Rattle.vt_screen.proofs.Erased.{whole_to_the_end, whole_from_the_start, whole_all}
+use Rattle.vt_screen.proofs.Erased.{whole_to_the_end, whole_from_the_start}
 use Rattle.vt_screen.proofs.screen.Screen.erases_line.Goals as goal
 
 pub returns-in-0 : goal.returns-in-0

@@ -1,4 +1,4 @@
-use Rattle.std.proofs.Common.{◌≡◌, ◌∙◌, ap}
+use Rattle.std.proofs.Common.{◌∙◌, ap}
 use Rattle.vt_screen.specs.declared.cell.Row.{Row}
 use Rattle.vt_screen.specs.Cells.{cell_at}
 use Rattle.vt_screen.specs.Places.{Shown, row_in}

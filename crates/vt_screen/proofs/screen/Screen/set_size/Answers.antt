@@ -1,4 +1,4 @@
-use Rattle.std.proofs.Common.{◌≡◌, ℕ, min, sym, ap, subst, ◌∙◌}
+use Rattle.std.proofs.Common.{ℕ, min, sym, ap, subst, ◌∙◌}
 use Rattle.vt_screen.specs.Picture.{Sound}
 use Rattle.vt_screen.specs.View.{picture_of}
 use Rattle.vt_screen.proofs.Answers.{with_rows_and_column}

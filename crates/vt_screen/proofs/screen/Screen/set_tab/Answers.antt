@@ -1,5 +1,4 @@
-use Rattle.std.proofs.Common.{Bool, true, false, ◌∙◌, ap}
-use Rattle.vt_screen.specs.Picture.{Picture}
+use Rattle.std.proofs.Common.{true, ◌∙◌, ap}
 use Rattle.vt_screen.specs.Places.{Shown}
 use Rattle.vt_screen.specs.Tabs.{tab_made}
 use Rattle.vt_screen.specs.View.{picture_of}

@@ -1,13 +1,12 @@
-use Rattle.std.proofs.Common.{◌≡◌, ℕ, ◌+◌, ◌≤◌, List, length, take, false, sym, ap, ap₂, subst, ◌∙◌, arith}
-use Rattle.std.specs.Prelude.{All}
+use Rattle.std.proofs.Common.{◌≡◌, ℕ, ◌+◌, ◌≤◌, List, take, false, sym, ap, ap₂, subst, ◌∙◌, arith}
 use Rattle.std.proofs.lemmas.List.{length-take-le}
 use Rattle.std.proofs.lemmas.List.Elements.{All-take}
 use Rattle.vt_screen.specs.declared.cell.Row.{Row}
-use Rattle.vt_screen.specs.Picture.{Picture, Sound, right_margin}
-use Rattle.vt_screen.specs.Places.{Shown, rows_of}
+use Rattle.vt_screen.specs.Picture.{Sound, right_margin}
+use Rattle.vt_screen.specs.Places.{Shown, rows_of, order_run_shown}
 use Rattle.vt_screen.specs.Puts.{run_shown}
 use Rattle.vt_screen.specs.View.{picture_of}
-use Rattle.vt_screen.proofs.Runs.{run_within, run_to_margin}
+use Rattle.vt_screen.proofs.Runs.{run_within, run_to_margin, order_stays}
 use Rattle.vt_screen.proofs.Soundness.{sound_run_shown}
 use Rattle.vt_screen.proofs.screen.Screen.show_part.Goals as goal
 
@@ -47,3 +46,25 @@ returns-then-taken-room-clause-picture c =
 pub returns-else-taken-room-clause-picture : goal.returns-else-taken-room-clause-picture
 returns-else-taken-room-clause-picture c =
     within c ∙ ap (λ (s : Shown). run_shown (take c.min-taken.result c.args.glyphs.now) c.args.rendition c.args.autowrap s.picture) c.self.view_is
+
+pub returns-then-taken-room-clause-order : goal.returns-then-taken-room-clause-order
+returns-then-taken-room-clause-order c =
+    let p = picture_of c.self.inside in
+    let glyphs = take c.min-taken.result c.args.glyphs.now in
+    let margin : c.margin-margin.result ≡ right_margin p p.line = c.margin-margin.ensures.value ∙ ap (λ (s : Shown). right_margin s.picture s.picture.line) (sym c.self.view_is) in
+    let unwrapped : p.wrap ≡ false = ap (λ (s : Shown). s.picture.wrap) c.self.view_is ∙ c.requires.wrap in
+    let len = length-take-le c.min-taken.result c.args.glyphs.now (omega arith) in
+    c.write_run.ensures.order
+    ∙ sym (order_stays c.args.rendition c.args.autowrap glyphs p c.self.inside.grid.order unwrapped c.self.invariant.line_low c.self.invariant.line_high (omega (arith, c.self.invariant.column_high)))
+    ∙ ap (λ (s : Shown). order_run_shown glyphs c.args.rendition c.args.autowrap s.picture s.order) c.self.view_is
+
+pub returns-else-taken-room-clause-order : goal.returns-else-taken-room-clause-order
+returns-else-taken-room-clause-order c =
+    let p = picture_of c.self.inside in
+    let glyphs = take c.min-taken.result c.args.glyphs.now in
+    let margin : c.margin-margin.result ≡ right_margin p p.line = c.margin-margin.ensures.value ∙ ap (λ (s : Shown). right_margin s.picture s.picture.line) (sym c.self.view_is) in
+    let unwrapped : p.wrap ≡ false = ap (λ (s : Shown). s.picture.wrap) c.self.view_is ∙ c.requires.wrap in
+    let len = length-take-le c.min-taken.result c.args.glyphs.now (omega arith) in
+    c.write_run.ensures.order
+    ∙ sym (order_stays c.args.rendition c.args.autowrap glyphs p c.self.inside.grid.order unwrapped c.self.invariant.line_low c.self.invariant.line_high (omega (arith, c.self.invariant.column_high)))
+    ∙ ap (λ (s : Shown). order_run_shown glyphs c.args.rendition c.args.autowrap s.picture s.order) c.self.view_is

@@ -1,4 +1,4 @@
-use Rattle.std.proofs.Common.{◌≡◌, false, ◌∙◌, ap, sym}
+use Rattle.std.proofs.Common.{false, ◌∙◌, ap, sym}
 use Rattle.vt_screen.specs.Places.{Shown}
 use Rattle.vt_screen.specs.Tabs.{stop_at}
 use Rattle.vt_screen.proofs.Tables.{nth_is}

@@ -1,0 +1,29 @@
+# Proves and builds the program, shows it at work, tests it, installs it. `rt` is the toolchain's command.
+PREFIX ?= /usr/local
+SOURCES := crates.txt $(shell find crates -name out -prune -o -type f -print)
+
+.PHONY: all demo test install clean
+
+all: bin/typetool
+
+# `rt run` proves each crate that has changed before it builds the program.
+bin/typetool: $(SOURCES)
+	cd crates/typetool && rt run -- --help >/dev/null
+	mkdir -p bin
+	cp crates/typetool/out/typetool bin/typetool
+
+# The bytes that the terminal of the shipped recording had got after one second, played into this one.
+demo: bin/typetool
+	bin/typetool due --at 1 examples/tour.script examples/tour.timing | cat -v | cut -c 1-72
+
+test:
+	rt ci
+	$(MAKE) bin/typetool
+	tests/program.sh bin/typetool
+
+install: bin/typetool
+	install -d $(DESTDIR)$(PREFIX)/bin
+	install -m 755 bin/typetool $(DESTDIR)$(PREFIX)/bin/typetool
+
+clean:
+	rm -rf bin crates/*/out

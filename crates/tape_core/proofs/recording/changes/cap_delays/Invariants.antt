@@ -1,0 +1,7 @@
+use Rattle.std.proofs.Common.{◌≡◌, ◌++◌, drop, map, take}
+use Rattle.tape_core.specs.Changes.{capped_chunk}
+use Rattle.tape_core.proofs.recording.changes.cap_delays.Given as goal
+
+-- the chunks so far are capped
+abbrev pub invariant-loop-chunk : goal.invariant-loop-chunk
+invariant-loop-chunk l = l.chunks ≡ map (capped_chunk l.max) (take l.chunk-index l.fn.chunks) ++ drop l.chunk-index l.fn.chunks

@@ -1,0 +1,44 @@
+-- Bytes that are taken a few at a time.
+use Rattle.std.proofs.Common.{◌≡◌, ℕ, ◌+◌, ◌-◌, ◌≤◌, List, [], ◌∷◌, ◌++◌, length, take, drop, refl, sym, ap, subst, ◌∙◌, arith}
+use Rattle.std.proofs.Math.Seq.{take-add}
+use Rattle.std.proofs.lemmas.List.{length-append, take-append-drop}
+use Rattle.vt_term.specs.Term.{Term, play, sent}
+use Rattle.vt_term.specs.Seen.{Seen, Shows}
+use Rattle.vt_term.specs.Sink.{Sink, after_sending, HasRoom, KeepsFront}
+use Rattle.vt_term.proofs.Sinks.{after_sending-append, keeps_sent, keeps_length}
+use Rattle.vt_term.proofs.Steps.{play-append, sent-append}
+
+pub play_on : (x : Term) (bytes : List ℕ) (at n : ℕ) → play x (take (at + n) bytes) ≡ play (play x (take at bytes)) (take n (drop at bytes))
+play_on x bytes at n = ap (play x) (take-add at n bytes) ∙ play-append x (take at bytes) (take n (drop at bytes))
+
+sent_on : (x : Term) (bytes : List ℕ) (at n : ℕ) → sent x (take (at + n) bytes) ≡ sent x (take at bytes) ++ sent (play x (take at bytes)) (take n (drop at bytes))
+sent_on x bytes at n = ap (sent x) (take-add at n bytes) ∙ sent-append x (take at bytes) (take n (drop at bytes))
+
+-- the sink after a few more bytes
+pub sink_on : (x : Term) (bytes : List ℕ) (at n : ℕ) (first then_ now_ : Sink)
+    → then_ ≡ after_sending first (sent x (take at bytes))
+    → now_ ≡ after_sending then_ (sent (play x (take at bytes)) (take n (drop at bytes)))
+    → now_ ≡ after_sending first (sent x (take (at + n) bytes))
+sink_on x bytes at n first then_ now_ before after =
+    after
+    ∙ ap (λ (s : Sink). after_sending s (sent (play x (take at bytes)) (take n (drop at bytes)))) before
+    ∙ after_sending-append first (sent x (take at bytes)) (sent (play x (take at bytes)) (take n (drop at bytes)))
+    ∙ ap (after_sending first) (sym (sent_on x bytes at n))
+
+-- what is sent in two parts is as long as both
+length-sent : (x : Term) (at : ℕ) (bytes : List ℕ) → length (sent x bytes) ≡ length (sent x (take at bytes)) + length (sent (play x (take at bytes)) (drop at bytes))
+length-sent x at bytes =
+    ap (λ (l : List ℕ). length (sent x l)) (sym (take-append-drop at bytes))
+    ∙ ap length (sent-append x (take at bytes) (drop at bytes))
+    ∙ length-append (sent x (take at bytes)) (sent (play x (take at bytes)) (drop at bytes))
+
+-- room for all is room for the next byte
+pub room_on : (x : Term) (bytes : List ℕ) (at : ℕ) (first then_ : Sink)
+    → then_ ≡ after_sending first (sent x (take at bytes)) → KeepsFront first then_ → HasRoom first (sent x bytes)
+    → HasRoom then_ (sent (play x (take at bytes)) (take 1 (drop at bytes)))
+room_on x bytes at first then_ before keeps room =
+    let all = length-sent x at bytes in
+    let rest = length-sent (play x (take at bytes)) 1 (drop at bytes) in
+    let place : then_.place ≡ first.place + length (sent x (take at bytes)) = ap (λ (s : Sink). s.place) before in
+    let longer = keeps_length first then_ keeps in
+    omega arith

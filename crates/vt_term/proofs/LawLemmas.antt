@@ -1,0 +1,19 @@
+-- The crate's laws, for proofs of the layers above.
+use Rattle.vt_term.specs.Law.{PlaysInParts, SendsInParts, SentIsAppended, SeenDecides, SendsLittle}
+use Rattle.vt_term.proofs.Bound as bound
+use Rattle.vt_term.proofs.Steps as steps
+
+pub plays_in_parts : PlaysInParts
+plays_in_parts = steps.play-append
+
+pub sends_in_parts : SendsInParts
+sends_in_parts = steps.sent-append
+
+pub sent_is_appended : SentIsAppended
+sent_is_appended = steps.sent_appended
+
+pub seen_decides : SeenDecides
+seen_decides = steps.seen_decides
+
+pub sends_little : SendsLittle
+sends_little = bound.sends_little

@@ -1,0 +1,115 @@
+-- A run of graphic bytes is shown as its glyphs, one after another.
+use Rattle.std.proofs.Common.{◌≡◌, ℕ, ◌+◌, ◌≤◌, Bool, true, false, List, [], ◌∷◌, ◌++◌, map, length, take, drop, refl, sym, ap, subst, ◌∙◌, arith}
+use Rattle.std.specs.Prelude.{All, Some, None}
+use Rattle.std.specs.List.{AllByRecursion, list_all}
+use Rattle.std.specs.Prelude.{nat_le, ◌&&◌}
+use Rattle.std.proofs.lemmas.Bool.{and_parts}
+use Rattle.std.proofs.lemmas.Bool.Decides.{nat_tests}
+use Rattle.std.proofs.lemmas.List.{map-append, take-append-drop, append-nil}
+use Rattle.std.proofs.lemmas.List.Sums.{fold-append}
+use Rattle.std.proofs.lemmas.List.Elements.{All-map, All-weaker, All-from_recursion}
+use Rattle.vt_parser.specs.declared.commands.Command.TheVariants.{Show}
+use Rattle.vt_parser.specs.declared.states.ParserState.TheVariants.{Ground}
+use Rattle.vt_parser.specs.Control.{is_graphic}
+use Rattle.vt_parser.specs.View.{parser_view}
+use Rattle.vt_parser.specs.Step.{command_of, pending_after}
+use Rattle.vt_parser.proofs.LawLemmas.{ground_is_empty}
+use Rattle.vt_parser.proofs.ProperLemmas.{graphic_is_shown}
+use Rattle.vt_screen.specs.Picture.{Picture}
+use Rattle.vt_screen.specs.Puts.{shown}
+use Rattle.vt_term.specs.declared.sets.CharacterSet.{CharacterSet}
+use Rattle.vt_term.specs.Sets.{glyph_of, set_in_use}
+use Rattle.vt_term.specs.Shown.{Shown, IsSafe}
+use Rattle.vt_term.specs.Effect.{effect, reply, run_put, put, glyph_for}
+use Rattle.vt_term.specs.Term.{Term, mode_of, step, play, sent, answered}
+use Rattle.vt_term.specs.Seen.{Seen, Shows, IsProper}
+use Rattle.vt_term.proofs.Safe.{glyph_high, safe_put, safe_else}
+use Rattle.vt_term.proofs.Steps.{seen_after, shows_step, answered_by, play_none, play_more, sent_none, sent_more}
+
+pub glyphs_high : (set : CharacterSet) (bytes : List ℕ) → All (λ byte. byte ≤ 126) bytes → All (λ glyph. glyph ≤ 126) (map (glyph_of set) bytes)
+glyphs_high set bytes high =
+    All-map (λ glyph. glyph ≤ 126) (glyph_of set) bytes
+    (All-weaker (λ byte. byte ≤ 126) (λ byte. glyph_of set byte ≤ 126) (glyph_high set) bytes high)
+
+-- graphic bytes are at most 126
+graphic_high : (byte : ℕ) → is_graphic byte ≡ true → byte ≤ 126
+graphic_high byte graphic = grind (arith, nat_tests)
+
+graphic_each : (bytes : List ℕ) → list_all is_graphic bytes ≡ true → AllByRecursion (λ byte. byte ≤ 126) bytes
+graphic_each [] graphic = tt
+graphic_each (byte ∷ bytes) graphic =
+    let parts = and_parts (is_graphic byte) (list_all is_graphic bytes) graphic in
+    (graphic_high byte parts.0, graphic_each bytes parts.1)
+
+pub graphic_bytes : (bytes : List ℕ) → list_all is_graphic bytes ≡ true → All (λ byte. byte ≤ 126) bytes
+graphic_bytes bytes graphic = All-from_recursion (λ byte. byte ≤ 126) bytes (graphic_each bytes graphic)
+
+pub run_put-append : (first second : List ℕ) (s : Shown) → run_put (first ++ second) s ≡ run_put second (run_put first s)
+run_put-append first second s =
+    ap (λ (p : Picture). let t : Shown = record s { picture = p } in t)
+    (fold-append (λ q glyph. shown glyph s.rendition s.modes.autowrap q) s.picture first second)
+
+-- a front of a run, and then the rest of it
+pub run_in_parts : (set : CharacterSet) (n : ℕ) (bytes : List ℕ) (s : Shown)
+    → run_put (map (glyph_of set) (drop n bytes)) (run_put (map (glyph_of set) (take n bytes)) s) ≡ run_put (map (glyph_of set) bytes) s
+run_in_parts set n bytes s =
+    sym (run_put-append (map (glyph_of set) (take n bytes)) (map (glyph_of set) (drop n bytes)) s)
+    ∙ ap (λ (l : List ℕ). run_put l s) (sym (map-append (glyph_of set) (take n bytes) (drop n bytes)))
+    ∙ ap (λ (l : List ℕ). run_put (map (glyph_of set) l) s) (take-append-drop n bytes)
+
+-- the step of a loop that shows a front and goes on with the rest
+pub front_shown : (set : CharacterSet) (n : ℕ) (bytes front back : List ℕ) (s t u : Shown) → front ≡ take n bytes → back ≡ drop n bytes
+    → t ≡ run_put (map (glyph_of set) front) s → run_put (map (glyph_of set) bytes) s ≡ u → run_put (map (glyph_of set) back) t ≡ u
+front_shown set n bytes front back s t u is_front is_back shown all =
+    ap (run_put (map (glyph_of set) back)) shown
+    ∙ ap (λ (l : List ℕ). run_put (map (glyph_of set) l) (run_put (map (glyph_of set) front) s)) is_back
+    ∙ ap (λ (l : List ℕ). run_put (map (glyph_of set) (drop n bytes)) (run_put (map (glyph_of set) l) s)) is_front
+    ∙ run_in_parts set n bytes s
+    ∙ all
+
+-- what is seen of a terminal on ground after a run
+abbrev pub seen_after_run : Seen → List ℕ → Seen
+seen_after_run seen bytes = record { shown = run_put (map (glyph_for seen.shown) bytes) seen.shown; state = Ground }
+
+put_effect : (s : Shown) (byte : ℕ) → effect (Show byte) s ≡ put (glyph_for s byte) s
+unfolding effect
+put_effect s byte = refl
+
+put_reply : (s : Shown) (byte : ℕ) → reply (Show byte) s ≡ []
+unfolding reply
+put_reply s byte = refl
+
+pub shows_run : (seen : Seen) (x : Term) (bytes : List ℕ) → seen.state ≡ Ground → Shows seen x
+    → list_all is_graphic bytes ≡ true
+    → Shows (seen_after_run seen bytes) (play x bytes) × (sent x bytes ≡ [])
+shows_run seen x [] ground shows graphic =
+    (subst (Shows (seen_after_run seen [])) (sym (play_none x)) (record { shown = shows.shown; state = shows.state ∙ ap Some ground }), sent_none x)
+shows_run seen x (byte ∷ bytes) ground shows graphic =
+    let parts = and_parts (is_graphic byte) (list_all is_graphic bytes) graphic in
+    let none : x.pending ≡ [] = ground_is_empty.1 (mode_of x) x.pending (shows.state ∙ ap Some ground) in
+    let told = graphic_is_shown (mode_of x) byte parts.0 in
+    let command : command_of (mode_of x) x.pending byte ≡ Some (Show byte) = ap (λ (p : List ℕ). command_of (mode_of x) p byte) none ∙ told.0 in
+    let pending : pending_after (mode_of x) x.pending byte ≡ [] = ap (λ (p : List ℕ). pending_after (mode_of x) p byte) none ∙ told.1 in
+    let view : parser_view (mode_of x) (pending_after (mode_of x) x.pending byte) ≡ Some Ground = ap (parser_view (mode_of x)) pending ∙ ground_is_empty.0 (mode_of x) in
+    let next : Seen = record { shown = put (glyph_for seen.shown byte) seen.shown; state = Ground } in
+    let same : seen_after seen (Some (Show byte)) Ground ≡ next = ap (λ (s : Shown). let t : Seen = record { shown = s; state = Ground } in t) (put_effect seen.shown byte) in
+    let shows_next : Shows next (step x byte) = subst (λ (t : Seen). Shows t (step x byte)) same (shows_step seen x byte (Some (Show byte)) Ground shows command view) in
+    let rest = shows_run next (step x byte) bytes refl shows_next parts.1 in
+    let answer : answered x byte ≡ [] = answered_by seen x byte (Some (Show byte)) shows command ∙ put_reply seen.shown byte in (
+      subst (Shows (seen_after_run seen (byte ∷ bytes))) (sym (play_more x byte bytes)) rest.0,
+      sent_more x byte bytes ∙ ap (λ (l : List ℕ). l ++ sent (step x byte) bytes) answer ∙ rest.1,
+    )
+
+safe_run : (bytes : List ℕ) (s : Shown) → list_all is_graphic bytes ≡ true → IsSafe s → IsSafe (run_put (map (glyph_for s) bytes) s)
+safe_run [] s graphic safe = safe_else s _ refl refl refl refl safe
+safe_run (byte ∷ bytes) s graphic safe =
+    let parts = and_parts (is_graphic byte) (list_all is_graphic bytes) graphic in
+    safe_run bytes (put (glyph_for s byte) s) parts.1
+    (safe_put s (glyph_for s byte) (glyph_high (set_in_use s.modes.mode s.sets) byte (graphic_high byte parts.0)) safe)
+
+-- a terminal stays proper
+pub proper_after_run : (seen : Seen) (bytes : List ℕ) → seen.state ≡ Ground → list_all is_graphic bytes ≡ true → IsProper seen → IsProper (seen_after_run seen bytes)
+proper_after_run seen bytes ground graphic proper = record {
+  safe = safe_run bytes seen.shown graphic proper.safe;
+  term = (play proper.term.0 bytes, (shows_run seen proper.term.0 bytes ground proper.term.1 graphic).0);
+}

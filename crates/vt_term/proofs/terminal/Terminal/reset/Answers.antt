@@ -1,0 +1,14 @@
+use Rattle.std.proofs.Common.{◌≡◌, sym, subst, ap}
+use Rattle.vt_parser.specs.declared.states.ParserState.{ParserState}
+use Rattle.vt_parser.specs.declared.states.ParserState.TheVariants.{Ground}
+use Rattle.vt_term.specs.Shown.{Shown, shown_of, reset_shown}
+use Rattle.vt_term.specs.Term.{reset_term}
+use Rattle.vt_term.specs.Seen.{Seen, Shows, IsProper}
+use Rattle.vt_term.proofs.Taken.{reset_shows, reset_proper, seen_is}
+use Rattle.vt_term.proofs.terminal.Terminal.reset.Goals as goal
+
+pub invariant_of-result : goal.invariant_of-result
+invariant_of-result c = subst IsProper (seen_is _ _ _ _ c.reset.ensures c.new.ensures) reset_proper
+
+pub returns : goal.returns
+returns c = subst (λ (seen : Seen). Shows seen reset_term) (seen_is _ _ _ _ c.reset.ensures c.new.ensures) reset_shows

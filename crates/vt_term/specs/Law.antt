@@ -1,0 +1,27 @@
+-- What holds of every term: the statements of the crate's laws.
+use Rattle.std.specs.Prelude.{◌≡◌, ℕ, ◌+◌, ◌*◌, ◌≤◌, List, [], ◌∷◌, ◌++◌, length}
+use Rattle.vt_term.specs.Term.{Term, reset_term, play, sent}
+use Rattle.vt_term.specs.Seen.{Seen, Shows}
+
+-- Joined texts are played as their parts in turn, also where the cut is inside a sequence or at a pending wrap.
+abbrev pub PlaysInParts : Type 0
+PlaysInParts = (x : Term) (first second : List ℕ) → play x (first ++ second) ≡ play (play x first) second
+
+-- Joined texts are answered as their parts in turn.
+abbrev pub SendsInParts : Type 0
+SendsInParts = (x : Term) (first second : List ℕ) → sent x (first ++ second) ≡ sent x first ++ sent (play x first) second
+
+-- What is sent is what playing appends to the reports.
+abbrev pub SentIsAppended : Type 0
+SentIsAppended = (x : Term) (bytes : List ℕ) → (play x bytes).reports ≡ x.reports ++ sent x bytes
+
+-- Terms of which the same is seen play to terms of which the same is seen, and send the same.
+abbrev pub SeenDecides : Type 0
+SeenDecides =
+    (seen : Seen) (x y : Term) (bytes : List ℕ) → Shows seen x → Shows seen y
+    → ((after : Seen) × Shows after (play x bytes) × Shows after (play y bytes)) × (sent x bytes ≡ sent y bytes)
+
+-- Three times what is sent from the reset term is at most twenty times the bytes: the longest reply is 20 bytes, to a
+-- sequence of 3.
+abbrev pub SendsLittle : Type 0
+SendsLittle = (bytes : List ℕ) → 3 * length (sent reset_term bytes) ≤ 20 * length bytes

@@ -1,0 +1,14 @@
+pub mod Sets
+pub mod Shown
+pub mod Controls
+pub mod Escapes
+pub mod Sequences
+pub mod PrivateModes
+pub mod Vt52
+pub mod Replies
+pub mod Effect
+pub mod Term
+pub mod Seen
+pub mod Sink
+pub mod Quiet
+pub mod Law

@@ -1,0 +1,68 @@
+-- What a terminal answers (EK-VT100-UG chapter 3, reports). All else is answered by nothing.
+use Rattle.std.specs.Prelude.{ℕ, ◌+◌, ◌-◌, Bool, List, [], ◌∷◌, ◌++◌, Option, Some, None, ◌==◌, codes, decimal, if◌then◌else◌}
+use Rattle.vt_term.specs.declared.escapes.Escape.{Escape}
+use Rattle.vt_term.specs.declared.escapes.Escape.TheVariants.{Decid}
+use Rattle.vt_term.specs.declared.sequences.Sequence.{Sequence}
+use Rattle.vt_term.specs.declared.sequences.Sequence.TheVariants.{Da, Dsr, Decreqtparm}
+use Rattle.vt_term.specs.declared.vt52.Vt52Sequence.{Vt52Sequence}
+use Rattle.vt_term.specs.declared.vt52.Vt52Sequence.TheVariants.{Identify}
+use Rattle.vt_screen.specs.Picture.{Picture}
+use Rattle.vt_term.specs.Sequences.{first_of}
+use Rattle.vt_term.specs.Shown.{Shown}
+
+-- ESC and a text
+abbrev pub escaped : List ℕ → List ℕ
+escaped text = 27 ∷ text
+
+-- a VT100 with the Advanced Video Option
+abbrev pub device_attributes : List ℕ
+device_attributes = escaped (codes "[?1;2c")
+
+-- no malfunction
+abbrev pub ready : List ℕ
+ready = escaped (codes "[0n")
+
+-- the cursor's line, counted from the top margin where DECOM is set
+abbrev pub reported_line : Bool → Picture → ℕ
+reported_line origin p = if origin then p.line - (p.top - 1) else p.line
+
+-- CPR: line and column
+abbrev pub cursor_position : ℕ → ℕ → List ℕ
+cursor_position line column =
+    escaped (codes "[" ++ decimal line ++ codes ";" ++ decimal column ++ codes "R")
+
+-- DECREPTPARM: no parity, 8 bits, 9,600 baud both ways (the values: profile)
+abbrev pub terminal_parameters : List ℕ → List ℕ
+terminal_parameters solicited = escaped (codes "[" ++ solicited ++ codes ";1;1;112;112;1;0x")
+
+-- a VT100 that acts as a VT52
+abbrev pub vt52_identity : List ℕ
+vt52_identity = escaped (codes "/Z")
+
+-- DECID
+abbrev pub escape_reply : Escape → List ℕ
+escape_reply Decid = device_attributes
+escape_reply _ = []
+
+-- DA 0; DSR 5 and 6; DECREQTPARM 0 and 1
+abbrev pub sequence_reply : Sequence → List ℕ → Shown → List ℕ
+sequence_reply Da params s = if first_of params == 0 then device_attributes else []
+sequence_reply Dsr params s =
+    if first_of params == 5 then ready
+    else (if first_of params == 6 then cursor_position (reported_line s.modes.origin s.picture) s.picture.column
+    else [])
+sequence_reply Decreqtparm params s =
+    if first_of params == 0 then terminal_parameters (codes "2")
+    else (if first_of params == 1 then terminal_parameters (codes "3")
+    else [])
+sequence_reply _ params s = []
+
+-- the identification of VT52 mode
+abbrev pub vt52_reply : Vt52Sequence → List ℕ
+vt52_reply Identify = vt52_identity
+vt52_reply _ = []
+
+-- what stands in no table is answered by nothing
+abbrev pub reply_of : {Row : Type 0} → (Row → List ℕ) → Option Row → List ℕ
+reply_of reply None = []
+reply_of reply (Some row) = reply row

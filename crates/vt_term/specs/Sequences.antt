@@ -1,0 +1,100 @@
+-- Control sequences of ANSI mode without `?` (EK-VT100-UG chapter 3).
+use Rattle.std.specs.Prelude.{ℕ, ◌-◌, Bool, true, false, List, Option, Some, None, ◌==◌, ◌||◌, ◌&&◌, nat_le, fold, slice_index, slice_set, if◌then◌else◌}
+use Rattle.vt_screen.specs.Attributes.{Attributes, plain}
+use Rattle.vt_screen.specs.Picture.{Picture}
+use Rattle.vt_screen.specs.Moves.{stepped_up, stepped_down, stepped_right, stepped_left, placed}
+use Rattle.vt_screen.specs.Erasures.{display_erased, line_erased}
+use Rattle.vt_screen.specs.Lines.{margins_set}
+use Rattle.vt_screen.specs.Tabs.{tab_made, tabs_cleared}
+use Rattle.vt_term.specs.declared.modes.Modes.{Modes}
+use Rattle.vt_term.specs.declared.sequences.Sequence.{Sequence}
+use Rattle.vt_term.specs.declared.sequences.Sequence.TheVariants.{Cuu, Cud, Cuf, Cub, Cup, Ed, El, Decstbm, Tbc, Sgr, Sm, Rm, Decll, Da, Dsr, Decreqtparm}
+use Rattle.vt_term.specs.Shown.{Shown, dark, on_picture, on_modes}
+
+-- the names of the finals A B C D H f J K r g m h l q c n and x; HVP is read as CUP
+abbrev pub sequence_named : ℕ → Option Sequence
+sequence_named last =
+    if last == 65 then Some Cuu
+    else (if last == 66 then Some Cud
+    else (if last == 67 then Some Cuf
+    else (if last == 68 then Some Cub
+    else (if (last == 72) || (last == 102) then Some Cup
+    else (if last == 74 then Some Ed
+    else (if last == 75 then Some El
+    else (if last == 114 then Some Decstbm
+    else (if last == 103 then Some Tbc
+    else (if last == 109 then Some Sgr
+    else (if last == 104 then Some Sm
+    else (if last == 108 then Some Rm
+    else (if last == 113 then Some Decll
+    else (if last == 99 then Some Da
+    else (if last == 110 then Some Dsr
+    else (if last == 120 then Some Decreqtparm
+    else None)))))))))))))))
+
+-- the first and the second parameter; a missing one is 0
+abbrev pub first_of : List ℕ → ℕ
+first_of params = slice_index params 0
+
+abbrev pub second_of : List ℕ → ℕ
+second_of params = slice_index params 1
+
+-- a parameter that stands for a default where it is 0
+abbrev pub or_default : ℕ → ℕ → ℕ
+or_default value param = if param == 0 then value else param
+
+-- Pn: counted as 1 where it is 0
+abbrev pub counted : ℕ → ℕ
+counted param = or_default 1 param
+
+-- ED and EL have the parts 0, 1 and 2; another does nothing
+abbrev pub erased : (ℕ → Picture → Picture) → ℕ → Picture → Picture
+erased erase part p = if nat_le part 2 then erase part p else p
+
+-- TBC: 0 clears the stop at the cursor's column, 3 clears all; another does nothing
+abbrev pub tabs_taken : ℕ → Picture → Picture
+tabs_taken param p =
+    if param == 0 then tab_made false p
+    else (if param == 3 then tabs_cleared p
+    else p)
+
+-- SGR: 0 no rendition, 1 bold, 4 underscore, 5 blink, 7 reverse; others do nothing
+abbrev pub rendition_set : Attributes → ℕ → Attributes
+rendition_set a param =
+    if param == 0 then plain
+    else (if param == 1 then record a { bold = true }
+    else (if param == 4 then record a { underscore = true }
+    else (if param == 5 then record a { blink = true }
+    else (if param == 7 then record a { reverse = true }
+    else a))))
+
+-- SM and RM: 20 is LNM; others do nothing
+abbrev pub newline_set : Bool → Modes → ℕ → Modes
+newline_set value modes param = if param == 20 then record modes { newline = value } else modes
+
+-- DECLL: 0 all LEDs off, 1 to 4 that LED on; others do nothing
+abbrev pub leds_set : List Bool → ℕ → List Bool
+leds_set leds param =
+    if param == 0 then dark
+    else (if nat_le param 4 then slice_set leds (param - 1) true
+    else leds)
+
+-- The table of their effects. SGR, SM, RM and DECLL take every parameter, from left to right; the others take the first
+-- one, or two, and drop the rest (profile). DA, DSR and DECREQTPARM reply and have no effect.
+abbrev pub sequence_effect : Sequence → List ℕ → Shown → Shown
+sequence_effect Cuu params s = on_picture (stepped_up (counted (first_of params))) s
+sequence_effect Cud params s = on_picture (stepped_down (counted (first_of params))) s
+sequence_effect Cuf params s = on_picture (stepped_right (counted (first_of params))) s
+sequence_effect Cub params s = on_picture (stepped_left (counted (first_of params))) s
+sequence_effect Cup params s = on_picture (placed (counted (first_of params)) (counted (second_of params)) s.modes.origin) s
+sequence_effect Ed params s = on_picture (erased display_erased (first_of params)) s
+sequence_effect El params s = on_picture (erased line_erased (first_of params)) s
+sequence_effect Decstbm params s = on_picture (margins_set (or_default 1 (first_of params)) (or_default 24 (second_of params)) s.modes.origin) s
+sequence_effect Tbc params s = on_picture (tabs_taken (first_of params)) s
+sequence_effect Sgr params s = record s { rendition = fold rendition_set s.rendition params }
+sequence_effect Sm params s = on_modes (λ modes. fold (newline_set true) modes params) s
+sequence_effect Rm params s = on_modes (λ modes. fold (newline_set false) modes params) s
+sequence_effect Decll params s = record s { leds = fold leds_set s.leds params }
+sequence_effect Da params s = s
+sequence_effect Dsr params s = s
+sequence_effect Decreqtparm params s = s

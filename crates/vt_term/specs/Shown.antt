@@ -1,0 +1,96 @@
+-- What a terminal shows beside its parser: a plain value, on which effects are told.
+use Rattle.std.specs.Prelude.{◌≡◌, ℕ, ◌≤◌, Bool, true, false, List, [], ◌∷◌, length, Option, Some, None}
+use Rattle.vt_parser.specs.declared.commands.Mode.{Mode}
+use Rattle.vt_parser.specs.declared.commands.Mode.TheVariants.{Ansi, Vt52}
+use Rattle.vt_screen.specs.Attributes.{Attributes, plain}
+use Rattle.vt_screen.specs.Picture.{Picture, Sound, Inside, reset}
+use Rattle.vt_term.specs.declared.modes.Modes.{Modes}
+use Rattle.vt_term.specs.declared.sets.Sets.{Sets}
+use Rattle.vt_term.specs.declared.saved.Saved.{Saved}
+use Rattle.vt_term.specs.declared.console.Console.{Console}
+use Rattle.vt_term.specs.Sets.{first_sets}
+
+pub record Shown : Type 0 where
+  -- columns, rows, cursor, pending wrap, margins and tabs
+  pub picture : Picture
+  -- the modes, and the keypad
+  pub modes : Modes
+  -- the rendition of the characters that come
+  pub rendition : Attributes
+  -- G0, G1, which of them is invoked, and VT52 graphics
+  pub sets : Sets
+  -- what DECSC saved, if it was ever sent
+  pub saved : Option Saved
+  -- L1 to L4
+  pub leds : List Bool
+
+-- ANSI mode and DECAWM set, every other mode reset, numeric keypad (profile)
+abbrev pub first_modes : Modes
+first_modes = record {
+  mode = Ansi;
+  cursor_keys = false;
+  smooth_scroll = false;
+  reverse_screen = false;
+  origin = false;
+  autowrap = true;
+  auto_repeat = false;
+  interlace = false;
+  newline = false;
+  application_keypad = false;
+}
+
+-- all four LEDs off
+abbrev pub dark : List Bool
+dark = false ∷ false ∷ false ∷ false ∷ []
+
+-- the initial state (profile)
+abbrev pub reset_shown : Shown
+reset_shown = record {
+  picture = reset;
+  modes = first_modes;
+  rendition = plain;
+  sets = first_sets;
+  saved = None;
+  leds = dark;
+}
+
+-- the picture alone changes
+abbrev pub on_picture : (Picture → Picture) → Shown → Shown
+on_picture change s = record s { picture = change s.picture }
+
+-- the modes alone change
+abbrev pub on_modes : (Modes → Modes) → Shown → Shown
+on_modes change s = record s { modes = change s.modes }
+
+-- the sets alone change
+abbrev pub on_sets : (Sets → Sets) → Shown → Shown
+on_sets change s = record s { sets = change s.sets }
+
+-- What stands in no table has no effect.
+abbrev pub effect_of : {Row : Type 0} → (Row → Shown → Shown) → Option Row → Shown → Shown
+effect_of effect None s = s
+effect_of effect (Some row) s = effect row s
+
+-- what the fields of the code's console stand for
+abbrev pub shown_of : Console → Shown
+shown_of console = record {
+  picture = console.screen.picture;
+  modes = console.modes;
+  rendition = console.rendition;
+  sets = console.sets;
+  saved = console.saved;
+  leds = console.leds;
+}
+
+-- a saved cursor stands on the screen
+abbrev pub IsSavedWell : Option Saved → Type 0
+IsSavedWell None = Unit {0}
+IsSavedWell (Some saved) = (1 ≤ saved.line) × (saved.line ≤ 24) × (1 ≤ saved.column) × (saved.column ≤ 132)
+
+-- What every terminal keeps: the screen is sound (the cursor is at most at its line's right margin, cells right of it are
+-- blank, glyphs are at most 126), and the cursor is inside the margins while DECOM is set.
+pub record IsSafe (s : Shown) : Type 0 where
+  pub sound : Sound s.picture
+  pub inside : s.modes.origin ≡ true → Inside s.picture
+  pub saved : IsSavedWell s.saved
+  pub leds : length s.leds ≡ 4

@@ -1,0 +1,41 @@
+-- A terminal as a plain value, and what bytes do to it.
+use Rattle.std.specs.Prelude.{ℕ, List, [], ◌∷◌, ◌++◌, fold}
+use Rattle.vt_parser.specs.declared.commands.Mode.{Mode}
+use Rattle.vt_parser.specs.Step.{command_of, pending_after}
+use Rattle.vt_term.specs.Shown.{Shown, reset_shown}
+use Rattle.vt_term.specs.Effect.{effect_if, reply_if}
+
+-- what it shows, the bytes of the sequence that isn't finished from its ESC on, and all bytes sent so far
+pub record Term : Type 0 where
+  pub shown : Shown
+  pub pending : List ℕ
+  pub reports : List ℕ
+
+-- the reset term: the initial state, nothing pending, nothing sent
+abbrev pub reset_term : Term
+reset_term = record { shown = reset_shown; pending = []; reports = [] }
+
+-- the mode in which the pending bytes are read: it changes only as a sequence finishes
+abbrev pub mode_of : Term → Mode
+mode_of x = x.shown.modes.mode
+
+-- what one byte is answered by
+abbrev pub answered : Term → ℕ → List ℕ
+answered x byte = reply_if (command_of (mode_of x) x.pending byte) x.shown
+
+-- the step of a byte
+abbrev pub step : Term → ℕ → Term
+step x byte = record {
+  shown = effect_if (command_of (mode_of x) x.pending byte) x.shown;
+  pending = pending_after (mode_of x) x.pending byte;
+  reports = x.reports ++ answered x byte;
+}
+
+-- bytes are played: a fold of the step of one byte
+unfoldable pub play : Term → List ℕ → Term
+play x bytes = fold step x bytes
+
+-- what they are answered by: what playing them appends to the reports
+unfoldable pub sent : Term → List ℕ → List ℕ
+sent x [] = []
+sent x (byte ∷ bytes) = answered x byte ++ sent (step x byte) bytes

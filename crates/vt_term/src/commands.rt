@@ -1,0 +1,111 @@
+//! Commands: what each is answered by, and what it does.
+ghost use Rattle.std.specs.Prelude.{◌≡◌, ℕ, Option, OnOk, OnErr, IsOk};
+ghost use Rattle.vt_parser.specs.Law.{IsProper};
+ghost use Rattle.vt_term.specs.Effect.{effect, reply, control_sequence_effect, control_sequence_reply};
+ghost use Rattle.vt_term.specs.Escapes.{escape_named, escape_effect};
+ghost use Rattle.vt_term.specs.Replies.{escape_reply, vt52_reply, reply_of};
+ghost use Rattle.vt_term.specs.Shown.{shown_of, effect_of, IsSafe};
+ghost use Rattle.vt_term.specs.Sink.{after_sending, HasRoom};
+ghost use Rattle.vt_term.specs.Vt52.{vt52_named, vt52_effect};
+
+use crate::console::Console;
+use crate::escapes::escape_named;
+use crate::replies::{answer_escape, answer_vt52};
+use crate::sequences::sequence_named;
+use crate::vt52::vt52_named;
+use crate::{OutOfMemory, Reports};
+use vt_parser::Command;
+
+impl Console {
+    /// Answers a command, and does what it asks for. A refused growth changes nothing.
+    #[inline]
+    #[tactic(auto, unfolding(crate::specs::Effect::effect, crate::specs::Effect::reply))]
+    pub(crate) fn perform(
+        &mut self,
+        command: &Command,
+        sink: &mut Reports,
+    ) -> Result<(), OutOfMemory>
+        requires proper { IsProper command.now }
+        requires safe { IsSafe (shown_of self.old) }
+        ensures shown { OnOk result (shown_of self.new ≡ effect command.now (shown_of self.old)) }
+        ensures sent { OnOk result (sink.new ≡ after_sending sink.old (reply command.now (shown_of self.old))) }
+        ensures err { OnErr result (shown_of self.new ≡ shown_of self.old) }
+        ensures err_sink { OnErr result (sink.new ≡ sink.old) }
+        ensures room { HasRoom sink.old (reply command.now (shown_of self.old)) → IsOk result }
+    {
+        match command {
+            Command::Show(byte) => self.show(*byte),
+            Command::Error => self.show_error(),
+            Command::Control(byte) => self.control(*byte),
+            Command::Esc { inter, last } => return self.perform_escape(*inter, *last, sink),
+            Command::Csi {
+                private,
+                params,
+                last,
+            } => {
+                return self.perform_control_sequence(*private, params.as_slice(), *last, sink);
+            }
+            Command::Vt52(last) => return self.perform_vt52(*last, sink),
+            Command::Vt52Address { line, column } => self.go_to_address(*line, *column),
+        }
+        Ok(())
+    }
+
+    fn perform_escape(
+        &mut self,
+        inter: Option<u8>,
+        last: u8,
+        sink: &mut Reports,
+    ) -> Result<(), OutOfMemory>
+        requires { IsSafe (shown_of self.old) }
+        ensures shown { OnOk result (shown_of self.new ≡ effect_of escape_effect (escape_named inter last) (shown_of self.old)) }
+        ensures sent { OnOk result (sink.new ≡ after_sending sink.old (reply_of escape_reply (escape_named inter last))) }
+        ensures err { OnErr result (shown_of self.new ≡ shown_of self.old) }
+        ensures err_sink { OnErr result (sink.new ≡ sink.old) }
+        ensures room { HasRoom sink.old (reply_of escape_reply (escape_named inter last)) → IsOk result }
+    {
+        if let Some(escape) = escape_named(inter, last) {
+            answer_escape(escape, sink)?;
+            self.do_escape(escape);
+        }
+        Ok(())
+    }
+
+    #[inline]
+    fn perform_control_sequence(
+        &mut self,
+        private: bool,
+        params: &[u16],
+        last: u8,
+        sink: &mut Reports,
+    ) -> Result<(), OutOfMemory>
+        requires { IsSafe (shown_of self.old) }
+        ensures shown { OnOk result (shown_of self.new ≡ control_sequence_effect private last params.now (shown_of self.old)) }
+        ensures sent { OnOk result (sink.new ≡ after_sending sink.old (control_sequence_reply private last params.now (shown_of self.old))) }
+        ensures err { OnErr result (shown_of self.new ≡ shown_of self.old) }
+        ensures err_sink { OnErr result (sink.new ≡ sink.old) }
+        ensures room { HasRoom sink.old (control_sequence_reply private last params.now (shown_of self.old)) → IsOk result }
+    {
+        if private {
+            self.do_private(last, params);
+        } else if let Some(sequence) = sequence_named(last) {
+            self.answer_sequence(sequence, params, sink)?;
+            self.do_sequence(sequence, params);
+        }
+        Ok(())
+    }
+
+    fn perform_vt52(&mut self, last: u8, sink: &mut Reports) -> Result<(), OutOfMemory>
+        ensures shown { OnOk result (shown_of self.new ≡ effect_of vt52_effect (vt52_named last) (shown_of self.old)) }
+        ensures sent { OnOk result (sink.new ≡ after_sending sink.old (reply_of vt52_reply (vt52_named last))) }
+        ensures err { OnErr result (shown_of self.new ≡ shown_of self.old) }
+        ensures err_sink { OnErr result (sink.new ≡ sink.old) }
+        ensures room { HasRoom sink.old (reply_of vt52_reply (vt52_named last)) → IsOk result }
+    {
+        if let Some(sequence) = vt52_named(last) {
+            answer_vt52(sequence, sink)?;
+            self.do_vt52(sequence);
+        }
+        Ok(())
+    }
+}

@@ -1,0 +1,130 @@
+//! A terminal without its parser: the screen, the modes, the sets and what else commands change.
+ghost use Rattle.std.specs.Prelude.{◌≡◌, ◌≤◌, All, map, length, take};
+ghost use Rattle.vt_term.specs.Sets.{glyph_of, set_in_use};
+ghost use Rattle.vt_term.specs.Shown.{reset_shown, shown_of};
+ghost use Rattle.vt_term.specs.Effect.{put, run_put, glyph_for};
+
+use crate::sets::CHECKERBOARD;
+use crate::{CharacterSet, Modes, Saved, Sets};
+use vt_screen::{Rendition, Screen};
+
+// How many glyphs go to the screen at once, where bytes aren't glyphs as they stand: a line's.
+const PIECE: usize = 132;
+
+/// The state that effects change.
+#[derive(Debug, Drop)]
+pub(crate) struct Console {
+    pub(crate) screen: Screen,
+    pub(crate) modes: Modes,
+    pub(crate) rendition: Rendition,
+    pub(crate) sets: Sets,
+    pub(crate) saved: Option<Saved>,
+    pub(crate) leds: [bool; 4],
+}
+
+impl Console {
+    pub(crate) fn reset() -> Self
+        ensures { shown_of result ≡ reset_shown }
+    {
+        Console {
+            screen: Screen::reset(),
+            modes: Modes::first(),
+            rendition: Rendition::plain(),
+            sets: Sets::first(),
+            saved: None,
+            leds: [false; 4],
+        }
+    }
+
+    pub(crate) fn copy_from(&mut self, other: &Console)
+        ensures { shown_of self.new ≡ shown_of other.now }
+    {
+        self.screen.copy_from(&other.screen);
+        self.modes = other.modes;
+        self.rendition = other.rendition;
+        self.sets = other.sets;
+        self.saved = other.saved;
+        self.leds = other.leds;
+    }
+
+    #[inline]
+    fn set_in_use(&self) -> CharacterSet
+        ensures { result ≡ set_in_use self.now.modes.mode self.now.sets }
+    {
+        self.sets.in_use(self.modes.mode)
+    }
+
+    /// Shows a glyph with the current rendition.
+    #[inline]
+    fn put(&mut self, glyph: u8)
+        requires { glyph ≤ 126 }
+        ensures { shown_of self.new ≡ put glyph (shown_of self.old) }
+    {
+        self.screen.show(glyph, self.rendition, self.modes.autowrap);
+    }
+
+    /// Shows a byte's glyph.
+    #[inline]
+    pub(crate) fn show(&mut self, byte: u8)
+        requires { byte ≤ 126 }
+        ensures { shown_of self.new ≡ put (glyph_for (shown_of self.old) byte) (shown_of self.old) }
+    {
+        let glyph = self.set_in_use().glyph(byte);
+        self.put(glyph);
+    }
+
+    /// Shows the error character.
+    pub(crate) fn show_error(&mut self)
+        ensures { shown_of self.new ≡ put CHECKERBOARD (shown_of self.old) }
+    {
+        self.put(CHECKERBOARD);
+    }
+
+    /// Shows the glyphs of a run of bytes.
+    #[inline]
+    pub(crate) fn show_bytes(&mut self, bytes: &[u8])
+        requires { All (λ byte. byte ≤ 126) bytes.now }
+        ensures { shown_of self.new ≡ run_put (map (glyph_for (shown_of self.old)) bytes.now) (shown_of self.old) }
+    {
+        match self.set_in_use() {
+            CharacterSet::Ascii => self
+                .screen
+                .show_run(bytes, self.rendition, self.modes.autowrap),
+            set => self.show_glyphs(set, bytes),
+        }
+    }
+
+    // Shows the glyphs that a run of bytes has in a set, a line's at a time.
+    fn show_glyphs(&mut self, set: CharacterSet, bytes: &[u8])
+        requires { All (λ byte. byte ≤ 126) bytes.now }
+        ensures { shown_of self.new ≡ run_put (map (glyph_of set) bytes.now) (shown_of self.old) }
+    {
+        let mut rest = bytes;
+        while !rest.is_empty() {
+            let (piece, more) = rest.split_at(rest.len().min(PIECE));
+            self.show_piece(set, piece);
+            rest = more;
+        }
+    }
+
+    fn show_piece(&mut self, set: CharacterSet, bytes: &[u8])
+        requires short { length bytes.now ≤ 132 }
+        requires graphic { All (λ byte. byte ≤ 126) bytes.now }
+        ensures { shown_of self.new ≡ run_put (map (glyph_of set) bytes.now) (shown_of self.old) }
+    {
+        let mut glyphs = [0; PIECE];
+        write_glyphs(set, bytes, &mut glyphs);
+        self.screen.show_run(&glyphs[..bytes.len()], self.rendition, self.modes.autowrap);
+    }
+}
+
+// The glyphs of bytes in a set, at the head of an array.
+fn write_glyphs(set: CharacterSet, bytes: &[u8], glyphs: &mut [u8; PIECE])
+    requires { length bytes.now ≤ 132 }
+    ensures len { length glyphs.new ≡ 132 }
+    ensures front { take (length bytes.now) glyphs.new ≡ map (glyph_of set) bytes.now }
+{
+    for (i, byte) in bytes.iter().enumerate() {
+        glyphs[i] = set.glyph(*byte);
+    }
+}

@@ -1,0 +1,29 @@
+//! A VT100 terminal: what bytes do to its screen, modes and character sets, and what it answers.
+//!
+//! EK-VT100-UG chapter 3 is the model, VT52 mode included. A terminal takes no memory; only the list of its reports
+//! grows, and only where a reply is sent past its end.
+#![tactic(auto)]
+
+mod commands;
+mod console;
+mod controls;
+mod escapes;
+pub mod laws;
+mod modes;
+mod private_modes;
+mod quiet;
+mod replies;
+mod reports;
+mod saved;
+mod sequences;
+mod sets;
+mod terminal;
+#[cfg(test)]
+mod tests;
+mod vt52;
+
+pub use modes::Modes;
+pub use reports::{OutOfMemory, Reports};
+pub use saved::Saved;
+pub use sets::{CharacterSet, Sets, Slot};
+pub use terminal::Terminal;

@@ -1,0 +1,214 @@
+//! The terminal: a parser before a console.
+ghost use Rattle.std.specs.Prelude.{◌≡◌, ℕ, ◌≤◌, ◌<◌, [], ◌∷◌, length, take, IsOk, IfOk, OnOk, OnErr};
+
+use crate::console::Console;
+use crate::quiet::{are_quiet, byte_before};
+use crate::{Modes, OutOfMemory, Reports, Saved, Sets};
+use std::marker::Model;
+use vt_parser::{Parser, ParserState, printable_run};
+use vt_screen::{Rendition, Screen};
+
+/// A VT100 terminal. Contracts see what is seen of it: its picture, modes, rendition, sets, save and LEDs, and its parser's
+/// state.
+#[derive(Debug, Drop)]
+pub struct Terminal {
+    console: Console,
+    parser: Parser,
+}
+
+impl Model for Terminal {
+    ghost use Rattle.vt_term.specs.Seen.{Seen};
+
+    ghost Value = { Seen };
+
+    ghost use Rattle.vt_term.specs.Seen.{seen_of, IsProper};
+
+    ghost view = { λ t. seen_of t.console t.parser };
+
+    ghost invariant = { λ t. IsProper (seen_of t.console t.parser) };
+}
+
+impl Terminal {
+    ghost use Rattle.std.specs.Prelude.{true};
+    ghost use Rattle.std.specs.List.{list_all};
+    ghost use Rattle.vt_parser.specs.Control.{is_graphic};
+    ghost use Rattle.vt_term.specs.Term.{Term, reset_term, play, sent};
+    ghost use Rattle.vt_term.specs.Seen.{Shows, IsProper};
+    ghost use Rattle.vt_term.specs.Sink.{after_sending, HasRoom, KeepsFront};
+
+    /// The initial state: 80 columns, all blank, ANSI mode, DECAWM set and every other mode reset.
+    pub fn reset() -> Self
+        ensures { Shows result reset_term }
+    {
+        Terminal {
+            console: Console::reset(),
+            parser: Parser::new(),
+        }
+    }
+
+    /// Becomes what the other terminal is.
+    pub fn copy_from(&mut self, other: &Terminal)
+        ensures { self.new ≡ other.now }
+    {
+        self.console.copy_from(&other.console);
+        self.parser.copy_from(&other.parser);
+    }
+
+    /// Takes bytes, and sends what they are answered by. Only where they may end a sequence that is answered does this keep a
+    /// copy of the terminal, for the case that memory is refused.
+    pub fn feed(&mut self, bytes: &[u8], sink: &mut Reports) -> Result<(), OutOfMemory>
+        // For every term that the terminal shows, it shows that term with the bytes played ..
+        ensures shows { (x : Term) → Shows self.old x → OnOk result (Shows self.new (play x bytes.now)) }
+        // .. and what they are answered by was sent.
+        ensures sent { (x : Term) → Shows self.old x → OnOk result (sink.new ≡ after_sending sink.old (sent x bytes.now)) }
+
+        ensures err { OnErr result (self.new ≡ self.old) }
+        ensures err_sink { OnErr result (sink.new ≡ sink.old) }
+        ensures room { (x : Term) → Shows self.old x → HasRoom sink.old (sent x bytes.now) → IsOk result }
+    {
+        let place = sink.place();
+        if self.is_quiet(bytes) {
+            return self.feed_in_place(bytes, sink);
+        }
+        let mut before = Terminal::reset();
+        before.copy_from(self);
+        let len = sink.bytes().len();
+        if self.feed_in_place(bytes, sink).is_err() {
+            self.copy_from(&before);
+            sink.cut(len);
+            sink.set_place(place);
+            return Err(OutOfMemory);
+        }
+        Ok(())
+    }
+
+    /// Feeds as `feed` does, and keeps no copy: after a refusal the terminal is some terminal, and the list begins with what
+    /// it held.
+    pub fn feed_in_place(&mut self, bytes: &[u8], sink: &mut Reports) -> Result<(), OutOfMemory>
+        ensures shows { (x : Term) → Shows self.old x → OnOk result (Shows self.new (play x bytes.now)) }
+        ensures sent { (x : Term) → Shows self.old x → OnOk result (sink.new ≡ after_sending sink.old (sent x bytes.now)) }
+        ensures front { KeepsFront sink.old sink.new }
+        ensures room { (x : Term) → Shows self.old x → HasRoom sink.old (sent x bytes.now) → IsOk result }
+    {
+        let mut at = 0;
+        while at < bytes.len() {
+            at += self.take_some(&bytes[at..], sink)?;
+        }
+        Ok(())
+    }
+
+    // Whether a glance tells that the bytes aren't answered, so that nothing can be refused.
+    fn is_quiet(&self, bytes: &[u8]) -> bool
+        ensures quiet { result ≡ true → (x : Term) → Shows self.now x → sent x bytes.now ≡ [] }
+        ensures proper { IsProper self.now }
+    {
+        are_quiet(byte_before(self.parser.state()), bytes)
+    }
+
+    // Takes a run of graphic bytes, or one byte, and says how many it took.
+    #[inline]
+    fn take_some(&mut self, bytes: &[u8], sink: &mut Reports) -> Result<usize, OutOfMemory>
+        requires { 0 < length bytes.now }
+        ensures some { IfOk result (λ n. 0 < n) }
+        ensures within { IfOk result (λ n. n ≤ length bytes.now) }
+        ensures shows { (x : Term) → Shows self.old x → IfOk result (λ n. Shows self.new (play x (take n bytes.now))) }
+        ensures sent { (x : Term) → Shows self.old x → IfOk result (λ n. sink.new ≡ after_sending sink.old (sent x (take n bytes.now))) }
+        ensures front { KeepsFront sink.old sink.new }
+        ensures room { (x : Term) → Shows self.old x → HasRoom sink.old (sent x (take 1 bytes.now)) → IsOk result }
+    {
+        let run = self.run_at(bytes);
+        if run > 0 {
+            self.show_run(&bytes[..run]);
+            return Ok(run);
+        }
+        self.take_byte(bytes[0], sink)?;
+        Ok(1)
+    }
+
+    // How many bytes are shown just as they come: on ground the graphic ones, and none inside a sequence.
+    #[inline]
+    fn run_at(&self, bytes: &[u8]) -> usize
+        ensures within { result ≤ length bytes.now }
+        ensures graphic { list_all is_graphic (take result bytes.now) ≡ true }
+        ensures ground { 0 < result → self.now.state ≡ ParserState.Ground }
+    {
+        match self.parser.state() {
+            ParserState::Ground => printable_run(bytes),
+            _ => 0,
+        }
+    }
+
+    // Shows graphic bytes on ground.
+    #[inline]
+    fn show_run(&mut self, bytes: &[u8])
+        requires ground { self.old.state ≡ ParserState.Ground }
+        requires graphic { list_all is_graphic bytes.now ≡ true }
+        ensures shows { (x : Term) → Shows self.old x → Shows self.new (play x bytes.now) }
+        ensures sent { (x : Term) → Shows self.old x → sent x bytes.now ≡ [] }
+    {
+        self.console.show_bytes(bytes);
+    }
+
+    #[inline]
+    fn take_byte(&mut self, byte: u8, sink: &mut Reports) -> Result<(), OutOfMemory>
+        ensures shows { (x : Term) → Shows self.old x → OnOk result (Shows self.new (play x (byte ∷ []))) }
+        ensures sent { (x : Term) → Shows self.old x → OnOk result (sink.new ≡ after_sending sink.old (sent x (byte ∷ []))) }
+        ensures front { KeepsFront sink.old sink.new }
+        ensures room { (x : Term) → Shows self.old x → HasRoom sink.old (sent x (byte ∷ [])) → IsOk result }
+    {
+        match self.parser.step(self.console.modes.mode, byte) {
+            Some(command) => self.console.perform(&command, sink),
+            None => Ok(()),
+        }
+    }
+
+    /// The cells, sizes, cursor, pending wrap, margins and tabs.
+    pub fn screen(&self) -> &Screen
+        ensures value { result.now.picture ≡ self.now.shown.picture }
+        // The cursor is within its line's right margin, cells right of it are blank, glyphs are at most 126, and while DECOM
+        // is set the cursor is inside the margins.
+        ensures proper { IsProper self.now }
+    {
+        &self.console.screen
+    }
+
+    /// How far the sequence that isn't finished has come.
+    pub fn parser_state(&self) -> &ParserState
+        ensures { result.now ≡ self.now.state }
+    {
+        self.parser.state()
+    }
+
+    pub fn modes(&self) -> Modes
+        ensures { result ≡ self.now.shown.modes }
+    {
+        self.console.modes
+    }
+
+    /// The rendition of the characters that come.
+    pub fn rendition(&self) -> Rendition
+        ensures { result ≡ self.now.shown.rendition }
+    {
+        self.console.rendition
+    }
+
+    pub fn sets(&self) -> Sets
+        ensures { result ≡ self.now.shown.sets }
+    {
+        self.console.sets
+    }
+
+    /// What DECSC saved, if it was ever sent.
+    pub fn saved(&self) -> Option<Saved>
+        ensures { result ≡ self.now.shown.saved }
+    {
+        self.console.saved
+    }
+
+    /// L1 to L4.
+    pub fn leds(&self) -> [bool; 4]
+        ensures { result ≡ self.now.shown.leds }
+    {
+        self.console.leds
+    }
+}
