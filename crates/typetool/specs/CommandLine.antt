@@ -1,5 +1,5 @@
 -- The command line: what clap is told, and the job and the paths that its answer means.
-use Rattle.std.specs.Prelude.{◌≡◌, ◌⊎◌, Bool, true, false, List, [], ◌∷◌, map, Option, Some, None, codes, unwrap_or, is_some, not, string_bytes, IsSomeAnd, if◌then◌else◌}
+use Rattle.std.specs.Prelude.{◌≡◌, ℕ, ◌⊎◌, Bool, true, false, List, [], ◌∷◌, map, Option, Some, None, codes, unwrap_or, is_some, not, string_bytes, IsSomeAnd, if◌then◌else◌}
 use Rattle.std.specs.Option.{option_map}
 use Rattle.std.specs.List.{list_any}
 use Rattle.std.specs.Str.{bytes_eq}
@@ -7,7 +7,9 @@ use Rattle.clap.specs.Words.{App, IsAmong, Kinds, Row, Rule, Shape, Text, fault_
 use Rattle.clap.specs.declared.builder.ArgAction.TheVariants.{Set}
 use Rattle.tape_core.specs.Seconds.{seconds_of}
 use Rattle.typetool.specs.declared.job.Job.{Job}
-use Rattle.typetool.specs.declared.job.Job.TheVariants.{Due}
+use Rattle.typetool.specs.declared.job.Job.TheVariants.{Due, Screen, Reports}
+use Rattle.typetool.specs.declared.words.Subcommand.{Subcommand}
+use Rattle.typetool.specs.declared.words.Subcommand.TheVariants as subcommand
 use Rattle.typetool.specs.declared.words.Words.{Words}
 use Rattle.typetool.specs.declared.words.WordsFault.{WordsFault}
 use Rattle.typetool.specs.declared.words.WordsFault.TheVariants.{Clap, Memory, BadSeconds}
@@ -20,17 +22,33 @@ seconds_rule id = record (new_rule id) { long = Some id; action = Some Set; requ
 abbrev pub path_rule : Text → Rule
 path_rule id = record (new_rule id) { action = Some Set; required = true; value_names = 1 }
 
+-- `NAME --at SECONDS SCRIPT TIMING` (profile)
+abbrev pub moment_app : Text → App
+moment_app name = with_rule (with_rule (with_rule (new_app name) (seconds_rule (codes "at"))) (path_rule (codes "script"))) (path_rule (codes "timing"))
+
 -- `due --at SECONDS SCRIPT TIMING` (profile)
 abbrev pub due_app : App
-due_app = with_rule (with_rule (with_rule (new_app (codes "due")) (seconds_rule (codes "at"))) (path_rule (codes "script"))) (path_rule (codes "timing"))
+due_app = moment_app (codes "due")
+
+-- `screen --at SECONDS SCRIPT TIMING` (profile)
+abbrev pub screen_app : App
+screen_app = moment_app (codes "screen")
+
+-- `reports --at SECONDS SCRIPT TIMING` (profile)
+abbrev pub reports_app : App
+reports_app = moment_app (codes "reports")
 
 -- the program's name, and that a subcommand must follow (profile)
 abbrev pub top_app : App
 top_app = record { top = record (new_app (codes "typetool")).top { arg_required_else_help = true; subcommand_required = true; disable_help_subcommand = true }; subs = [] }
 
+-- the first two subcommands (profile)
+abbrev pub due_and_screen_app : App
+due_and_screen_app = with_subcommand (with_subcommand top_app due_app.top) screen_app.top
+
 -- the whole command line (profile)
 unfoldable pub typetool_app : App
-typetool_app = with_subcommand top_app due_app.top
+typetool_app = with_subcommand due_and_screen_app reports_app.top
 
 -- the kinds of fault that clap finds in these words: none where it reads them (profile)
 unfoldable pub clap_faults : List Text → Kinds
@@ -58,16 +76,32 @@ pub record Meaning : Type 0 where
 abbrev pub value_of : Text → List Row → Text
 value_of id rows = unwrap_or (first_of id rows) []
 
--- what `due` means with these values: nothing where its seconds aren't readable (profile)
-abbrev pub due_meaning : List Row → Option Meaning
-due_meaning rows = option_map (λ at. record {
-  job = Due at;
-  paths = value_of (codes "script") rows ∷ value_of (codes "timing") rows ∷ [];
-}) (seconds_of (value_of (codes "at") rows))
+-- the paths of a recording (profile)
+abbrev pub paths_of : List Row → List Text
+paths_of rows = value_of (codes "script") rows ∷ value_of (codes "timing") rows ∷ []
+
+-- what a job at a moment means with these values: nothing where its seconds aren't readable (profile)
+abbrev pub moment_meaning : (ℕ → Job) → List Row → Option Meaning
+moment_meaning job rows = option_map (λ at. record { job = job at; paths = paths_of rows })
+    (seconds_of (value_of (codes "at") rows))
+
+-- why such a job isn't read from these values: for want of memory, or its seconds aren't readable (profile)
+abbrev pub IsMomentFault : List Row → WordsFault → Type 0
+IsMomentFault rows fault = (fault ≡ Memory) ⊎ ((fault ≡ BadSeconds) × (seconds_of (value_of (codes "at") rows) ≡ None))
+
+-- the name of a subcommand (profile)
+abbrev pub name_of : Subcommand → Text
+name_of subcommand.Due = codes "due"
+name_of subcommand.Screen = codes "screen"
+name_of subcommand.Reports = codes "reports"
 
 -- what a subcommand means by its name and its values (profile)
 abbrev pub meaning_of : Text × List Row → Option Meaning
-meaning_of met = if bytes_eq met.0 (codes "due") then due_meaning met.1 else None
+meaning_of met =
+    if bytes_eq met.0 (codes "due") then moment_meaning (λ at. Due at) met.1
+    else if bytes_eq met.0 (codes "screen") then moment_meaning (λ at. Screen at) met.1
+    else if bytes_eq met.0 (codes "reports") then moment_meaning (λ at. Reports at) met.1
+    else None
 
 -- the seconds that a subcommand was given (profile)
 abbrev pub seconds_in : Text × List Row → List Text

@@ -1,3 +1,4 @@
 pub mod CommandLine
+pub mod Moment
 pub mod Output
 pub mod Program

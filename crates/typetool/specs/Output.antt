@@ -1,5 +1,7 @@
 -- What a job comes to: a function of its files, with no device and no want of memory in it.
-use Rattle.std.specs.Prelude.{◌≡◌, ℕ, ◌⊎◌, Bool, true, false, List, [], Option, Some, None, MatchOption, Result, Ok, Err, if◌then◌else◌}
+use Rattle.std.specs.Prelude.{◌≡◌, ◌≢◌, ℕ, ◌⊎◌, ◌∷◌, ◌++◌, Bool, true, false, List, [], Option, Some, None, MatchOption, Result, Ok, Err, if◌then◌else◌}
+use Rattle.hex.specs.Hex.{encode_lower}
+use Rattle.screen_print.specs.PlainText.{plain_text}
 use Rattle.tape_core.specs.Devices.{inner_of, Took, StoppedIn}
 use Rattle.tape_core.specs.Due.{due}
 use Rattle.tape_core.specs.Faults.{is_stop}
@@ -8,10 +10,11 @@ use Rattle.tape_core.specs.Tape.{Tape}
 use Rattle.tape_core.specs.declared.devices.Watched.{Watched}
 use Rattle.tape_core.specs.declared.fault.Fault.{Fault}
 use Rattle.tape_core.specs.declared.fault.Fault.TheVariants as fault
+use Rattle.typetool.specs.Moment.{term_at, sent_by}
 use Rattle.typetool.specs.declared.job.Job.{Job}
-use Rattle.typetool.specs.declared.job.Job.TheVariants.{Due}
+use Rattle.typetool.specs.declared.job.Job.TheVariants.{Due, Screen, Reports}
 use Rattle.typetool.specs.declared.job.JobFault.{JobFault}
-use Rattle.typetool.specs.declared.job.JobFault.TheVariants.{File}
+use Rattle.typetool.specs.declared.job.JobFault.TheVariants.{File, Memory}
 use Rattle.typetool.specs.declared.job.Outcome.{Outcome}
 
 -- the texts that a job is given (profile)
@@ -29,14 +32,30 @@ pub record Done : Type 0 where
 -- whether a job reads request lines (profile)
 abbrev pub takes_requests : Job → Bool
 takes_requests (Due at) = false
+takes_requests (Screen at) = false
+takes_requests (Reports at) = false
 
 -- whether a job writes a new timing (profile)
 abbrev pub writes_timing : Job → Bool
 writes_timing (Due at) = false
+writes_timing (Screen at) = false
+writes_timing (Reports at) = false
+
+-- what a job writes on a recording: the bytes that are due, or what the terminal shows or has sent by then (profile)
+abbrev pub text_of : Job → Tape → List ℕ
+text_of (Due at) tape = due tape.chunks at
+text_of (Screen at) tape = plain_text (term_at tape at).shown.picture
+text_of (Reports at) tape = encode_lower (sent_by tape at) ++ 10 ∷ []
 
 -- what a job comes to on a recording and request lines (profile)
 abbrev pub done_on : Job → Tape → List ℕ → Done
-done_on (Due at) tape requests = record { text = due tape.chunks at; timing = []; outcome = record { status = 0; fault = None } }
+done_on job tape requests = record { text = text_of job tape; timing = []; outcome = record { status = 0; fault = None } }
+
+-- the jobs that may take memory once the recording is read: those that keep reports, and where some are sent (profile)
+abbrev pub TakesMemory : Job → Tape → Type 0
+TakesMemory (Due at) tape = ⊥
+TakesMemory (Screen at) tape = sent_by tape at ≢ []
+TakesMemory (Reports at) tape = sent_by tape at ≢ []
 
 -- what a job comes to where the pair of files has a fault: nothing is written (profile)
 abbrev pub refused_by : Fault → Done
@@ -52,14 +71,18 @@ Comes job files done = MatchOption (fault_of files.script files.timing)
 abbrev pub is_stopped : Option JobFault → Bool
 is_stopped None = false
 is_stopped (Some (File f)) = is_stop f
+is_stopped (Some Memory) = true
 
 -- the status of the program where a job is done (profile)
 abbrev pub IsDoneStatus : Job → ℕ → Type 0
 IsDoneStatus (Due at) status = status ≡ 0
+IsDoneStatus (Screen at) status = status ≡ 0
+IsDoneStatus (Reports at) status = status ≡ 0
 
 -- the status of the program where a job isn't done: 3 where a device or want of memory stopped it, and else 1 (profile)
 abbrev pub status_of : JobFault → ℕ
 status_of (File f) = if is_stop f then 3 else 1
+status_of Memory = 3
 
 -- how a job ends that is done, or is stopped by a fault (profile)
 abbrev pub outcome_by : Result (Unit {0}) JobFault → Outcome
@@ -69,6 +92,7 @@ outcome_by (Err f) = record { status = status_of f; fault = Some f }
 -- the fault is one that comes before anything is written (profile)
 abbrev pub is_unwritten : Option JobFault → Bool
 is_unwritten None = false
+is_unwritten (Some Memory) = true
 is_unwritten (Some (File fault.WriteFault)) = false
 is_unwritten (Some (File fault.OutOfMemory)) = true
 is_unwritten (Some (File fault.ReadFault)) = true

@@ -5,21 +5,28 @@ ghost use Rattle.tape_core.specs.Devices.{inner_of, has_failed, is_flushed, Took
 ghost use Rattle.tape_core.specs.Due.{due};
 ghost use Rattle.tape_core.specs.Faults.{is_stop};
 ghost use Rattle.tape_core.specs.Reading.{fault_of, reads};
-ghost use Rattle.tape_core.specs.Tape.{body};
-ghost use Rattle.typetool.specs.Output.{Files, Done, Comes, Tells, Wrote, Stopped, takes_requests, writes_timing, is_stopped, is_unwritten, status_of, outcome_by, IsDoneStatus};
+ghost use Rattle.tape_core.specs.Tape.{Tape, body};
+ghost use Rattle.typetool.specs.Moment.{StopsAt};
+ghost use Rattle.typetool.specs.Output.{Files, Done, Comes, Tells, Wrote, Stopped, takes_requests, writes_timing, is_stopped, is_unwritten, status_of, outcome_by, text_of, IsDoneStatus, TakesMemory};
 
+use crate::moment::{write_reports, write_screen};
 use std::alloc::Global;
 use std::io::{Read, Write};
 use std::mem::ManuallyDrop;
 use tape_core::laws::due_is_first;
 use tape_core::{Chunk, Fault, Recording, Watched, read_recording, slurp};
 use thiserror::Error;
+use vt_term::OutOfMemory;
 
 /// What is to be done with a recording. Moments are in microseconds.
 #[derive(Clone, Copy, Debug, PartialEq, Eq)]
 pub enum Job {
     /// Write the bytes of the chunks that are due by a moment.
     Due { at: u64 },
+    /// Write the screen of a moment as plain text.
+    Screen { at: u64 },
+    /// Write in hexadecimal what the terminal has sent by a moment.
+    Reports { at: u64 },
 }
 
 /// Why a job wasn't done.
@@ -28,6 +35,20 @@ pub enum JobFault {
     /// The pair of files has a fault, memory was refused or a device failed.
     #[error("{0}")]
     File(Fault),
+    /// Memory was refused to the terminal's list of reports.
+    #[error("out of memory")]
+    Memory,
+}
+
+impl From<OutOfMemory> for JobFault {
+    ghost use Rattle.std.specs.Prelude.{◌≡◌};
+    ghost use Rattle.typetool.specs.declared.job.JobFault.TheVariants.{Memory};
+
+    ghost from_gives = { λ _ fault. fault ≡ Memory };
+
+    fn from(_refused: OutOfMemory) -> JobFault {
+        JobFault::Memory
+    }
 }
 
 impl JobFault {
@@ -38,6 +59,7 @@ impl JobFault {
         match self {
             JobFault::File(Fault::OutOfMemory | Fault::ReadFault | Fault::WriteFault) => 3,
             JobFault::File(_) => 1,
+            JobFault::Memory => 3,
         }
     }
 }
@@ -88,6 +110,11 @@ pub fn run<S: Read, T: Read, R: Read, O: Write, P: Write>(
         × (out_timing.new ≡ out_timing.old) }
     ensures memory { result.fault ≡ Some (JobFault.File Fault.OutOfMemory) → (has_failed script.new ≡ false)
         × (has_failed timing.new ≡ false) × (has_failed requests.new ≡ false) }
+    ensures growth { result.fault ≡ Some JobFault.Memory → (has_failed script.new ≡ false)
+        × (has_failed timing.new ≡ false) × (has_failed requests.new ≡ false) }
+    ensures want { result.fault ≡ Some JobFault.Memory → (files : Files)
+        → Tells S.remaining T.remaining R.remaining job script.old timing.old requests.old files
+        → (tape : Tape) × reads files.script files.timing tape × TakesMemory job tape }
     ensures read_fault { result.fault ≡ Some (JobFault.File Fault.ReadFault) → (has_failed script.new ≡ true)
         ⊎ ((has_failed timing.new ≡ true) ⊎ (has_failed requests.new ≡ true)) }
     ensures write_fault { result.fault ≡ Some (JobFault.File Fault.WriteFault) → (has_failed out.new ≡ true)
@@ -106,8 +133,26 @@ pub fn run<S: Read, T: Read, R: Read, O: Write, P: Write>(
         Ok(recording) => ManuallyDrop::new(recording),
         Err(fault) => return outcome_of(Err(JobFault::File(fault))),
     };
+    outcome_of(write_text(alloc, job, &recording, out))
+}
+
+/// Writes the text of a job on a recording, and flushes.
+fn write_text<O: Write>(
+    alloc: Global,
+    job: Job,
+    recording: &Recording,
+    out: &mut Watched<O>,
+) -> Result<(), JobFault>
+    requires { has_failed out.old ≡ false }
+    ensures ok { OnOk result (Took O.contents out.old out.new (text_of job recording.now)) }
+    ensures flushed { OnOk result (is_flushed out.new ≡ true) }
+    ensures fault { IfErr result (StopsAt O.contents out.old out.new (text_of job recording.now)) }
+    ensures want { result ≡ Err JobFault.Memory → TakesMemory job recording.now }
+{
     match job {
-        Job::Due { at } => outcome_of(write_due(&recording, at, out).map_err(JobFault::File)),
+        Job::Due { at } => write_due(recording, at, out).map_err(JobFault::File),
+        Job::Screen { at } => write_screen(alloc, recording, at, out),
+        Job::Reports { at } => write_reports(alloc, recording, at, out),
     }
 }
 

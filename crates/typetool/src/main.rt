@@ -2,6 +2,7 @@
 #![tactic(auto)]
 
 mod job;
+mod moment;
 mod program;
 mod words;
 

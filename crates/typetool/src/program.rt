@@ -112,7 +112,7 @@ fn perform<R: Files + Print + AllocGlobal>(rt: &R, words: &Words) -> Result<Outc
     let mut script = open(rt, words.paths[0].as_str())?;
     let mut timing = open(rt, words.paths[1].as_str())?;
     match words.job {
-        Job::Due { .. } => {
+        Job::Due { .. } | Job::Screen { .. } | Job::Reports { .. } => {
             let mut out = standard_output(rt)?;
             let outcome = run(
                 rt.alloc(),

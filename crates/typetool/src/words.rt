@@ -1,11 +1,11 @@
 //! The command line, read by clap.
 
-ghost use Rattle.std.specs.Prelude.{◌≡◌, ◌⊎◌, ◌≢◌, ◌∷◌, ◌++◌, ◌+◌, ◌≤◌, [], true, false, vec_len, None, Some, map, IfOk, IfErr, OnOk, string_bytes, codes};
+ghost use Rattle.std.specs.Prelude.{◌≡◌, ◌⊎◌, ◌≢◌, ◌∷◌, ◌++◌, ◌+◌, ◌≤◌, [], true, false, vec_len, None, Some, map, IfSome, IfOk, IfErr, OnOk, string_bytes, codes};
 ghost use Rattle.std.specs.Option.{option_and_then};
 ghost use Rattle.clap.specs.Words.{app_of, found_of, items_of, rows_of, rule_of, subcommand_name_of, subcommand_rows_of};
 ghost use Rattle.clap.specs.declared.Command.TheViews.{out-Command as fields_of};
 ghost use Rattle.tape_core.specs.Seconds.{seconds_of};
-ghost use Rattle.typetool.specs.CommandLine.{FailsFor, IsNamed, clap_faults, subcommand_in, seconds_rule, path_rule, due_app, top_app, typetool_app, value_of, due_meaning, meaning_of, has_bad_seconds, meaning_read};
+ghost use Rattle.typetool.specs.CommandLine.{FailsFor, IsNamed, clap_faults, subcommand_in, seconds_rule, path_rule, due_app, screen_app, reports_app, moment_app, due_and_screen_app, top_app, typetool_app, value_of, paths_of, name_of, moment_meaning, IsMomentFault, meaning_of, has_bad_seconds, meaning_read};
 
 use crate::job::Job;
 use clap::error::ErrorKind;
@@ -35,6 +35,14 @@ pub enum WordsFault {
     BadSeconds,
 }
 
+/// The subcommands.
+#[derive(Clone, Copy)]
+enum Subcommand {
+    Due,
+    Screen,
+    Reports,
+}
+
 impl From<AllocError> for WordsFault {
     ghost use Rattle.std.specs.Prelude.{◌≡◌};
     ghost use Rattle.typetool.specs.declared.words.WordsFault.TheVariants.{Memory};
@@ -55,10 +63,12 @@ pub fn read_words(alloc: Global, words: &[String]) -> Result<Words, WordsFault>
     ensures fault { IfErr result (FailsFor (map string_bytes words.now)) }
 {
     let matches = parse(alloc, words)?;
-    if let Some(values) = matches.subcommand_matches("due") {
-        return due_words(alloc, values);
+    let (subcommand, values) = subcommand_of(&matches);
+    match subcommand {
+        Subcommand::Due => due_words(alloc, values),
+        Subcommand::Screen => screen_words(alloc, values),
+        Subcommand::Reports => reports_words(alloc, values),
     }
-    unreachable!()
 }
 
 /// Has clap read the words.
@@ -80,21 +90,87 @@ fn parse<'a>(alloc: Global, words: &'a [String]) -> Result<ArgMatches<'a>, Words
     }
 }
 
+/// Which subcommand was given, and its values.
+fn subcommand_of<'m, 'a>(matches: &'m ArgMatches<'a>) -> (Subcommand, &'m ArgMatches<'a>)
+    requires { IsNamed (subcommand_name_of matches.now) typetool_app.subs }
+    ensures { subcommand_rows_of matches.entry.now ≡ Some (name_of result.0, rows_of (found_of result.1.now)) }
+{
+    if let Some(values) = values_under(matches, "due") {
+        return (Subcommand::Due, values);
+    }
+    if let Some(values) = values_under(matches, "screen") {
+        return (Subcommand::Screen, values);
+    }
+    if let Some(values) = values_under(matches, "reports") {
+        return (Subcommand::Reports, values);
+    }
+    unreachable!()
+}
+
+/// The values of the subcommand of this name, if it was given.
+fn values_under<'m, 'a>(matches: &'m ArgMatches<'a>, name: &str) -> Option<&'m ArgMatches<'a>>
+    ensures given { IfSome result (λ values.
+        subcommand_rows_of matches.entry.now ≡ Some (name.now, rows_of (found_of values.now))) }
+    ensures other { result ≡ None → subcommand_name_of matches.entry.now ≢ Some name.now }
+{
+    matches.subcommand_matches(name)
+}
+
 /// The job and the paths of `due`, from its values.
 fn due_words(alloc: Global, values: &ArgMatches<'_>) -> Result<Words, WordsFault>
-    ensures ok { IfOk result (λ read. due_meaning (rows_of (found_of values.now)) ≡ Some (meaning_read read)) }
+    ensures ok { IfOk result (λ read. moment_meaning (λ at. Job.Due at) (rows_of (found_of values.now))
+        ≡ Some (meaning_read read)) }
     ensures paths { IfOk result (λ read. vec_len read.paths ≡ 2) }
-    ensures fault { IfErr result (λ fault. (fault ≡ WordsFault.Memory) ⊎ ((fault ≡ WordsFault.BadSeconds)
-        × (seconds_of (value_of (codes "at") (rows_of (found_of values.now))) ≡ None))) }
+    ensures fault { IfErr result (IsMomentFault (rows_of (found_of values.now))) }
 {
     let at = read_moment(values, "at")?;
-    let mut paths = Vec::new(alloc);
-    push_path(alloc, &mut paths, values, "script")?;
-    push_path(alloc, &mut paths, values, "timing")?;
+    let paths = recording_paths(alloc, values)?;
     Ok(Words {
         job: Job::Due { at },
         paths,
     })
+}
+
+/// The job and the paths of `screen`, from its values.
+fn screen_words(alloc: Global, values: &ArgMatches<'_>) -> Result<Words, WordsFault>
+    ensures ok { IfOk result (λ read. moment_meaning (λ at. Job.Screen at) (rows_of (found_of values.now))
+        ≡ Some (meaning_read read)) }
+    ensures paths { IfOk result (λ read. vec_len read.paths ≡ 2) }
+    ensures fault { IfErr result (IsMomentFault (rows_of (found_of values.now))) }
+{
+    let at = read_moment(values, "at")?;
+    let paths = recording_paths(alloc, values)?;
+    Ok(Words {
+        job: Job::Screen { at },
+        paths,
+    })
+}
+
+/// The job and the paths of `reports`, from its values.
+fn reports_words(alloc: Global, values: &ArgMatches<'_>) -> Result<Words, WordsFault>
+    ensures ok { IfOk result (λ read. moment_meaning (λ at. Job.Reports at) (rows_of (found_of values.now))
+        ≡ Some (meaning_read read)) }
+    ensures paths { IfOk result (λ read. vec_len read.paths ≡ 2) }
+    ensures fault { IfErr result (IsMomentFault (rows_of (found_of values.now))) }
+{
+    let at = read_moment(values, "at")?;
+    let paths = recording_paths(alloc, values)?;
+    Ok(Words {
+        job: Job::Reports { at },
+        paths,
+    })
+}
+
+/// The paths of a recording, from the values of a subcommand.
+fn recording_paths(alloc: Global, values: &ArgMatches<'_>) -> Result<Vec<String>, AllocError>
+    ensures paths { IfOk result (λ paths. map string_bytes paths.items
+        ≡ paths_of (rows_of (found_of values.now))) }
+    ensures len { IfOk result (λ paths. vec_len paths ≡ 2) }
+{
+    let mut paths = Vec::new(alloc);
+    push_path(alloc, &mut paths, values, "script")?;
+    push_path(alloc, &mut paths, values, "timing")?;
+    Ok(paths)
 }
 
 /// The moment that a flag gives, in microseconds.
@@ -136,8 +212,17 @@ fn typetool_command<'a>(alloc: Global) -> Result<Command<'a>, AllocError>
     ensures app { IfOk result (λ command. app_of command ≡ typetool_app) }
     ensures local { IfOk result (λ command. (fields_of command).has_globals ≡ false) }
 {
-    let due = due_command(alloc)?;
-    top_command(alloc).subcommand(due)
+    let command = due_and_screen_command(alloc)?;
+    command.subcommand(reports_command(alloc)?)
+}
+
+/// The command line with the first two subcommands.
+fn due_and_screen_command<'a>(alloc: Global) -> Result<Command<'a>, AllocError>
+    ensures app { IfOk result (λ command. app_of command ≡ due_and_screen_app) }
+    ensures local { IfOk result (λ command. (fields_of command).has_globals ≡ false) }
+{
+    let command = top_command(alloc).subcommand(due_command(alloc)?)?;
+    command.subcommand(screen_command(alloc)?)
 }
 
 /// The program's name and what it does. A subcommand must follow.
@@ -185,6 +270,46 @@ fn due_command<'a>(alloc: Global) -> Result<Command<'a>, AllocError>
     ensures app { IfOk result (λ command. app_of command ≡ due_app) }
     ensures local { IfOk result (λ command. (fields_of command).has_globals ≡ false) }
 {
+    moment_command(
+        alloc,
+        "due",
+        "Write the raw bytes of all chunks that are due by a moment",
+    )
+}
+
+/// `screen --at SECONDS SCRIPT TIMING`
+fn screen_command<'a>(alloc: Global) -> Result<Command<'a>, AllocError>
+    ensures app { IfOk result (λ command. app_of command ≡ screen_app) }
+    ensures local { IfOk result (λ command. (fields_of command).has_globals ≡ false) }
+{
+    moment_command(
+        alloc,
+        "screen",
+        "Write the screen as it is at a moment: 24 lines of text",
+    )
+}
+
+/// `reports --at SECONDS SCRIPT TIMING`
+fn reports_command<'a>(alloc: Global) -> Result<Command<'a>, AllocError>
+    ensures app { IfOk result (λ command. app_of command ≡ reports_app) }
+    ensures local { IfOk result (λ command. (fields_of command).has_globals ≡ false) }
+{
+    moment_command(
+        alloc,
+        "reports",
+        "Write all that the terminal has answered by a moment, in hexadecimal",
+    )
+}
+
+/// `NAME --at SECONDS SCRIPT TIMING`
+fn moment_command<'a>(
+    alloc: Global,
+    name: &'a str,
+    about: &'a str,
+) -> Result<Command<'a>, AllocError>
+    ensures app { IfOk result (λ command. app_of command ≡ moment_app name.entry.now) }
+    ensures local { IfOk result (λ command. (fields_of command).has_globals ≡ false) }
+{
     let at = seconds_flag(
         alloc,
         "at",
@@ -202,8 +327,8 @@ fn due_command<'a>(alloc: Global) -> Result<Command<'a>, AllocError>
         "TIMING",
         "Its timing file, in the classic format",
     );
-    Command::new(alloc, "due")
-        .about("Write the raw bytes of all chunks that are due by a moment")
+    Command::new(alloc, name)
+        .about(about)
         .arg(at)?
         .arg(script)?
         .arg(timing)

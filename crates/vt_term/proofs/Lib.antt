@@ -1,4 +1,3 @@
-pub mod Inside
 pub mod Safe
 pub mod Steps
 pub mod Bound

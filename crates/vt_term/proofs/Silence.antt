@@ -1,7 +1,7 @@
 -- Quiet bytes aren't answered.
-use Rattle.std.proofs.Common.{◌≡◌, ◌≢◌, ℕ, ◌+◌, ◌-◌, ◌<◌, ◌≤◌, Bool, true, false, List, [], ◌∷◌, ◌++◌, length, refl, sym, ap, subst, ◌∙◌, inl, inr, arith}
-use Rattle.std.specs.Prelude.{if◌then◌else◌, ◌==◌, ◌&&◌, ◌||◌, not, nat_le, nat_lt, Option, Some, None}
-use Rattle.std.proofs.lemmas.Bool.{cases_Bool, and_parts, false≢true}
+use Rattle.std.proofs.Common.{◌≡◌, ℕ, Bool, true, false, List, [], ◌∷◌, ◌++◌, refl, sym, ap, subst, ◌∙◌, inl, inr, arith}
+use Rattle.std.specs.Prelude.{if◌then◌else◌, ◌==◌, ◌&&◌, ◌||◌, not, Option, Some, None}
+use Rattle.std.proofs.lemmas.Bool.{cases_Bool, and_parts}
 use Rattle.std.proofs.lemmas.Bool.Decides.{nat_tests}
 use Rattle.arrayvec.specs.ArrayVec.{ArrayVec}
 use Rattle.vt_parser.specs.declared.commands.Mode.{Mode}
@@ -13,23 +13,22 @@ use Rattle.vt_parser.specs.declared.controls.Turn.{Turn}
 use Rattle.vt_parser.specs.declared.controls.Turn.TheVariants.{Nothing, Acts, Shows as ShowsTurn, Marks, Begins, Joins, Ends, Cancels}
 use Rattle.vt_parser.specs.declared.states.ParserState.{ParserState}
 use Rattle.vt_parser.specs.declared.states.ParserState.TheVariants.{Ground, Escape, EscapeOne, EscapeMany, CsiStart, Csi, CsiIgnored, Text, Vt52Escape, Vt52Line, Vt52Column}
-use Rattle.vt_parser.specs.Control.{escape, is_graphic, class_of, turns_of, turn_at, turn_of}
+use Rattle.vt_parser.specs.Control.{is_graphic, class_of, turns_of, turn_at, turn_of}
 use Rattle.vt_parser.specs.Sequence.{is_intermediate, is_control_final, begins_control, begins_string, begins_address, is_digit, is_semicolon, held}
-use Rattle.vt_parser.specs.Step.{command_of, pending_after, control_of}
-use Rattle.vt_parser.specs.Machine.{Step, place_in, escape_joined, start_joined, control_joined, digit_joined, semicolon_joined, joined, stepped_by, stepped, goes_on, gives}
+use Rattle.vt_parser.specs.Step.{pending_after}
+use Rattle.vt_parser.specs.Machine.{Step, place_in, joined, stepped_by, stepped, goes_on, gives}
 use Rattle.vt_parser.specs.View.{parser_view}
 use Rattle.vt_parser.proofs.LawLemmas.{mode_after_same}
 use Rattle.vt_parser.proofs.Agrees.{same_command, same_view}
 use Rattle.vt_term.specs.declared.escapes.Escape.{Escape as EscapeRow}
 use Rattle.vt_term.specs.declared.sequences.Sequence.{Sequence}
-use Rattle.vt_term.specs.declared.vt52.Vt52Sequence.{Vt52Sequence}
 use Rattle.vt_term.specs.declared.sets.Slot.{Slot}
 use Rattle.vt_term.specs.Shown.{Shown}
 use Rattle.vt_term.specs.Escapes.{plain_escape_named, line_escape_named, set_escape_named, escape_named}
 use Rattle.vt_term.specs.Sequences.{sequence_named}
 use Rattle.vt_term.specs.Vt52.{vt52_named}
 use Rattle.vt_term.specs.Replies.{escape_reply, sequence_reply, vt52_reply, reply_of}
-use Rattle.vt_term.specs.Effect.{reply, reply_if, control_sequence_reply}
+use Rattle.vt_term.specs.Effect.{reply, reply_if}
 use Rattle.vt_term.specs.Term.{Term, mode_of, answered, step, sent}
 use Rattle.vt_term.specs.Seen.{Seen, Shows}
 use Rattle.vt_term.specs.Quiet.{is_asking, is_open, leaves_open, are_quiet, TellsOpen}
@@ -177,10 +176,6 @@ silent_gives s command silent = silent
 silent_gives_none : (s : Shown) → Silent s (gives None)
 unfolding Silent
 silent_gives_none s = refl
-
--- no byte but an asking one, after an open state, is answered
-abbrev IsAsked : ParserState → ℕ → Type 0
-IsAsked state byte = (is_open state ≡ true) × (is_asking byte ≡ true)
 
 silent_joined : (state : ParserState) (byte : ℕ) (s : Shown) → (is_open state ≡ true → NotAsking byte) → Silent s (joined state byte)
 unfolding joined

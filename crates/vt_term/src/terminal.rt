@@ -54,13 +54,14 @@ impl Terminal {
         self.parser.copy_from(&other.parser);
     }
 
-    /// Takes bytes, and sends what they are answered by. Only where they may end a sequence that is answered does this keep a
-    /// copy of the terminal, for the case that memory is refused.
+    /// Takes bytes, and sends what they are answered by. Only where they may end a sequence that is answered does this
+    /// keep a copy of the terminal, for the case that memory is refused.
     pub fn feed(&mut self, bytes: &[u8], sink: &mut Reports) -> Result<(), OutOfMemory>
         // For every term that the terminal shows, it shows that term with the bytes played ..
         ensures shows { (x : Term) → Shows self.old x → OnOk result (Shows self.new (play x bytes.now)) }
         // .. and what they are answered by was sent.
-        ensures sent { (x : Term) → Shows self.old x → OnOk result (sink.new ≡ after_sending sink.old (sent x bytes.now)) }
+        ensures sent { (x : Term) → Shows self.old x
+            → OnOk result (sink.new ≡ after_sending sink.old (sent x bytes.now)) }
 
         ensures err { OnErr result (self.new ≡ self.old) }
         ensures err_sink { OnErr result (sink.new ≡ sink.old) }
@@ -82,11 +83,12 @@ impl Terminal {
         Ok(())
     }
 
-    /// Feeds as `feed` does, and keeps no copy: after a refusal the terminal is some terminal, and the list begins with what
-    /// it held.
+    /// Feeds as `feed` does, and keeps no copy: after a refusal the terminal is some terminal, and the list begins with
+    /// what it held.
     pub fn feed_in_place(&mut self, bytes: &[u8], sink: &mut Reports) -> Result<(), OutOfMemory>
         ensures shows { (x : Term) → Shows self.old x → OnOk result (Shows self.new (play x bytes.now)) }
-        ensures sent { (x : Term) → Shows self.old x → OnOk result (sink.new ≡ after_sending sink.old (sent x bytes.now)) }
+        ensures sent { (x : Term) → Shows self.old x
+            → OnOk result (sink.new ≡ after_sending sink.old (sent x bytes.now)) }
         ensures front { KeepsFront sink.old sink.new }
         ensures room { (x : Term) → Shows self.old x → HasRoom sink.old (sent x bytes.now) → IsOk result }
     {
@@ -112,7 +114,8 @@ impl Terminal {
         ensures some { IfOk result (λ n. 0 < n) }
         ensures within { IfOk result (λ n. n ≤ length bytes.now) }
         ensures shows { (x : Term) → Shows self.old x → IfOk result (λ n. Shows self.new (play x (take n bytes.now))) }
-        ensures sent { (x : Term) → Shows self.old x → IfOk result (λ n. sink.new ≡ after_sending sink.old (sent x (take n bytes.now))) }
+        ensures sent { (x : Term) → Shows self.old x
+            → IfOk result (λ n. sink.new ≡ after_sending sink.old (sent x (take n bytes.now))) }
         ensures front { KeepsFront sink.old sink.new }
         ensures room { (x : Term) → Shows self.old x → HasRoom sink.old (sent x (take 1 bytes.now)) → IsOk result }
     {
@@ -152,7 +155,8 @@ impl Terminal {
     #[inline]
     fn take_byte(&mut self, byte: u8, sink: &mut Reports) -> Result<(), OutOfMemory>
         ensures shows { (x : Term) → Shows self.old x → OnOk result (Shows self.new (play x (byte ∷ []))) }
-        ensures sent { (x : Term) → Shows self.old x → OnOk result (sink.new ≡ after_sending sink.old (sent x (byte ∷ []))) }
+        ensures sent { (x : Term) → Shows self.old x
+            → OnOk result (sink.new ≡ after_sending sink.old (sent x (byte ∷ []))) }
         ensures front { KeepsFront sink.old sink.new }
         ensures room { (x : Term) → Shows self.old x → HasRoom sink.old (sent x (byte ∷ [])) → IsOk result }
     {

@@ -1,7 +1,8 @@
-use Rattle.std.proofs.Common.{arith, rules, inl}
+use Rattle.std.proofs.Common.{◌≡◌, ◌∙◌, ap, arith, rules, inl, subst, sym}
 use Rattle.tape_core.proofs.DeviceLemmas.{took_none}
-use Rattle.typetool.proofs.JobLemmas.{comes_refused, comes_done}
-use Rattle.typetool.specs.Output.{done_on, refused_by}
+use Rattle.typetool.proofs.JobLemmas.{comes_refused, comes_done, stopped_by_memory}
+use Rattle.typetool.specs.Output.{TakesMemory, done_on, refused_by}
+use Rattle.typetool.specs.declared.job.Outcome.{Outcome}
 use Rattle.typetool.proofs.job.run.Goals as goal
 
 pub returns-in-Err-clause-answer : goal.returns-in-Err-clause-answer
@@ -28,3 +29,12 @@ returns-clause-begun g c = λ kind files told. (
       (c.in-Ok.ensures.ok files.script files.timing told.script_told told.timing_told),
   search (rules, inl),
 )
+
+pub returns-clause-want : goal.returns-clause-want
+returns-clause-want g c = λ kind files told.
+    let wanted = stopped_by_memory c.write_text.result (ap (λ (o : Outcome). o.fault) (sym c.outcome_of-2.ensures) ∙ kind) in
+    let same : c.deref.result.now ≡ c.in-Ok.recording = search rules in (
+      c.in-Ok.recording,
+      c.in-Ok.ensures.ok files.script files.timing told.script_told told.timing_told,
+      subst (λ tape. TakesMemory c.args.job tape) same (c.write_text.ensures.want wanted),
+    )

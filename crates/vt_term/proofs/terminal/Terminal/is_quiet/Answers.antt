@@ -1,5 +1,4 @@
-use Rattle.std.proofs.Common.{◌≡◌, true, sym, subst, ap, ◌∙◌}
-use Rattle.vt_parser.specs.declared.states.ParserState.{ParserState}
+use Rattle.std.proofs.Common.{◌≡◌, sym, subst, ap, ◌∙◌}
 use Rattle.vt_term.specs.Seen.{Seen}
 use Rattle.vt_term.specs.Quiet.{TellsOpen}
 use Rattle.vt_term.proofs.Silence.{quiet_sends_nothing}

@@ -1,9 +1,9 @@
-use Rattle.std.proofs.Common.{◌≡◌, ℕ, [], ◌∷◌, sym, subst, ap, ◌∙◌}
-use Rattle.std.specs.Prelude.{Option, Some, None}
+use Rattle.std.proofs.Common.{[], ◌∷◌, sym, subst}
+use Rattle.std.specs.Prelude.{Some, None}
 use Rattle.vt_term.specs.Shown.{shown_of}
-use Rattle.vt_term.specs.Effect.{effect, reply, reply_if}
-use Rattle.vt_term.specs.Term.{Term, play, sent}
-use Rattle.vt_term.specs.Seen.{Seen, Shows, IsProper, seen_of}
+use Rattle.vt_term.specs.Effect.{effect, reply}
+use Rattle.vt_term.specs.Term.{play, sent}
+use Rattle.vt_term.specs.Seen.{Seen, Shows, seen_of}
 use Rattle.vt_term.specs.Sink.{HasRoom}
 use Rattle.vt_term.proofs.Sinks.{keeps_either, keeps_itself}
 use Rattle.vt_term.proofs.Taken.{taken_shows, taken_sent, taken_proper, left_proper, either_proper, shows_at_ok, sent_at_ok, sends_nothing}
