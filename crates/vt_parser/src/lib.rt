@@ -81,6 +81,17 @@ impl Parser {
         machine::goes_on_with(&mut self.state, mode, byte)
     }
 
+    /// Whether a byte is a control that acts and leaves the state, as 8 to 15 are but in a string.
+    #[inline]
+    pub fn acts(&self, byte: u8) -> bool
+        ensures command { result ≡ true → (m : Mode) (pending : List ℕ)
+            → parser_view m pending ≡ Some self.now → command_of m pending byte ≡ Some (Command.Control byte) }
+        ensures state { result ≡ true → (given m : Mode) (pending : List ℕ) → parser_view m pending ≡ Some self.now
+            → parser_view (mode_after given m byte) (pending_after m pending byte) ≡ Some self.now }
+    {
+        machine::acts_in(&self.state, byte)
+    }
+
     /// How far the pending sequence has come.
     #[inline]
     pub fn state(&self) -> &ParserState

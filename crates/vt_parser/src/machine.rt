@@ -2,7 +2,7 @@
 ghost use Rattle.std.specs.Prelude.{◌≡◌, ◌≤◌, [], ◌∷◌, None, true, false};
 ghost use Rattle.vt_parser.specs.Sequence.{is_intermediate, is_control_final, begins_string, is_digit};
 ghost use Rattle.vt_parser.specs.Step.{control_of};
-ghost use Rattle.vt_parser.specs.Machine.{place_in, with_digit, with_last_digit, begun, goes_on, escape_joined, start_joined, joined, stepped, IsCsi};
+ghost use Rattle.vt_parser.specs.Machine.{place_in, with_digit, with_last_digit, begun, goes_on, acts, escape_joined, start_joined, joined, stepped, IsCsi};
 
 use crate::controls::{Place, Turn, turn_of};
 use crate::{Command, Mode, ParserState};
@@ -271,11 +271,25 @@ pub(crate) fn goes_on_with(state: &mut ParserState, mode: Mode, byte: u8) -> boo
                 over: false,
             };
         }
-        ParserState::Csi { params, over, .. } if is_digit(byte) && !*over => push_digit(params, byte),
+        ParserState::Csi { params, over, .. } if is_digit(byte) && !*over => push_digit(
+            params, byte,
+        ),
         ParserState::Csi { params, .. } if byte == b';' && !params.is_full() => params.push(0),
         _ => return false,
     }
     true
+}
+
+/// Whether a byte acts as a control and leaves the state, as 8 to 15 do but in a string.
+#[inline]
+#[tactic(auto, unfolding(crate::specs::Machine::stepped))]
+pub(crate) fn acts_in(state: &ParserState, byte: u8) -> bool
+    ensures { result ≡ true → (mode : Mode) → stepped state.now mode byte ≡ acts state.now byte }
+{
+    match state {
+        ParserState::Text => false,
+        _ => matches!(byte, 8..=15),
+    }
 }
 
 /// Takes one byte, and answers the command that it gives.

@@ -1,9 +1,8 @@
-use Rattle.std.proofs.Common.{◌≡◌, ℕ, List, Bool, true, false, inl, inr, Some, None, sym, ap, ◌∙◌, subst}
+use Rattle.std.proofs.Common.{inl, inr, Some, sym, ap, ◌∙◌, subst}
 use Rattle.std.proofs.lemmas.Bool.{cases_Bool}
-use Rattle.vt_parser.specs.declared.commands.Mode.{Mode}
-use Rattle.vt_parser.specs.Machine.{Step, stepped, goes_on}
+use Rattle.vt_parser.specs.Machine.{Step}
 use Rattle.vt_parser.specs.Step.{mode_after, pending_after}
-use Rattle.vt_parser.specs.View.{parser_view, IsShown}
+use Rattle.vt_parser.specs.View.{IsShown}
 use Rattle.vt_parser.proofs.Agrees.{same_command, same_view}
 use Rattle.vt_parser.proofs.Parser.go_on.Goals as goal
 
@@ -14,7 +13,7 @@ invariant_of-self c = elim (cases_Bool c.goes_on_with.result) [
         mode_after c.args.mode mode c.args.byte,
         pending_after mode pending c.args.byte,
         same_view c.args.mode mode pending c.args.byte c.self.inside.state c.self.invariant.2
-        ∙ ap (λ (s : Step). Some s.state) (c.goes_on_with.ensures.taken taken),
+            ∙ ap (λ (s : Step). Some s.state) (c.goes_on_with.ensures.taken taken),
       )
   | inr left ↦ subst IsShown (sym (c.goes_on_with.ensures.left left)) c.self.invariant
 ]
