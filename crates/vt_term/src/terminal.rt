@@ -1,5 +1,5 @@
 //! The terminal: a parser before a console.
-ghost use Rattle.std.specs.Prelude.{◌≡◌, ℕ, ◌≤◌, ◌<◌, [], ◌∷◌, length, take, IsOk, IfOk, OnOk, OnErr};
+ghost use Rattle.std.specs.Prelude.{◌≡◌, ℕ, ◌≤◌, ◌<◌, true, false, [], ◌∷◌, length, take, IsOk, IfOk, OnOk, OnErr};
 
 use crate::console::Console;
 use crate::quiet::{are_quiet, byte_before};
@@ -154,6 +154,47 @@ impl Terminal {
 
     #[inline]
     fn take_byte(&mut self, byte: u8, sink: &mut Reports) -> Result<(), OutOfMemory>
+        ensures shows { (x : Term) → Shows self.old x → OnOk result (Shows self.new (play x (byte ∷ []))) }
+        ensures sent { (x : Term) → Shows self.old x
+            → OnOk result (sink.new ≡ after_sending sink.old (sent x (byte ∷ []))) }
+        ensures front { KeepsFront sink.old sink.new }
+        ensures room { (x : Term) → Shows self.old x → HasRoom sink.old (sent x (byte ∷ [])) → IsOk result }
+    {
+        if self.go_on(byte) {
+            return Ok(());
+        }
+        if self.act(byte) {
+            return Ok(());
+        }
+        self.take_command(byte, sink)
+    }
+
+    // Takes a byte with which a sequence begins or goes on, and says whether it did. Else nothing has changed.
+    #[inline]
+    fn go_on(&mut self, byte: u8) -> bool
+        ensures shows { result ≡ true → (x : Term) → Shows self.old x → Shows self.new (play x (byte ∷ [])) }
+        ensures sent { result ≡ true → (x : Term) → Shows self.old x → sent x (byte ∷ []) ≡ [] }
+        ensures left { result ≡ false → self.new ≡ self.old }
+    {
+        self.parser.go_on(self.console.modes.mode, byte)
+    }
+
+    // Takes a control that acts, and says whether it did. Else nothing has changed.
+    #[inline]
+    fn act(&mut self, byte: u8) -> bool
+        ensures shows { result ≡ true → (x : Term) → Shows self.old x → Shows self.new (play x (byte ∷ [])) }
+        ensures sent { result ≡ true → (x : Term) → Shows self.old x → sent x (byte ∷ []) ≡ [] }
+        ensures left { result ≡ false → self.new ≡ self.old }
+    {
+        if !self.parser.acts(byte) {
+            return false;
+        }
+        self.console.control(byte);
+        true
+    }
+
+    // Takes any byte.
+    fn take_command(&mut self, byte: u8, sink: &mut Reports) -> Result<(), OutOfMemory>
         ensures shows { (x : Term) → Shows self.old x → OnOk result (Shows self.new (play x (byte ∷ []))) }
         ensures sent { (x : Term) → Shows self.old x
             → OnOk result (sink.new ≡ after_sending sink.old (sent x (byte ∷ []))) }

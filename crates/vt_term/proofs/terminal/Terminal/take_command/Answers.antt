@@ -7,7 +7,7 @@ use Rattle.vt_term.specs.Seen.{Seen, Shows, seen_of}
 use Rattle.vt_term.specs.Sink.{HasRoom}
 use Rattle.vt_term.proofs.Sinks.{keeps_either, keeps_itself}
 use Rattle.vt_term.proofs.Taken.{taken_shows, taken_sent, taken_proper, left_proper, either_proper, shows_at_ok, sent_at_ok, sends_nothing}
-use Rattle.vt_term.proofs.terminal.Terminal.take_byte.Goals as goal
+use Rattle.vt_term.proofs.terminal.Terminal.take_command.Goals as goal
 
 pub invariant_of-self : goal.invariant_of-self
 invariant_of-self c =
