@@ -92,6 +92,14 @@ impl Parser {
         machine::acts_in(&self.state, byte)
     }
 
+    /// Comes back to ground, as at the end of a sequence.
+    #[inline]
+    pub fn finish(&mut self)
+        ensures { self.new ≡ ParserState.Ground }
+    {
+        self.state = ParserState::Ground;
+    }
+
     /// How far the pending sequence has come.
     #[inline]
     pub fn state(&self) -> &ParserState
