@@ -72,8 +72,9 @@ impl Console {
         Ok(())
     }
 
+    /// Answers a control sequence, and does what it asks for. A refused growth changes nothing.
     #[inline]
-    fn perform_control_sequence(
+    pub(crate) fn perform_control_sequence(
         &mut self,
         private: bool,
         params: &[u16],

@@ -1,5 +1,6 @@
 //! The terminal: a parser before a console.
 ghost use Rattle.std.specs.Prelude.{◌≡◌, ℕ, ◌≤◌, ◌<◌, true, false, [], ◌∷◌, length, take, IsOk, IfOk, OnOk, OnErr};
+ghost use Rattle.vt_parser.specs.Sequence.{is_control_final};
 
 use crate::console::Console;
 use crate::quiet::{are_quiet, byte_before};
@@ -201,6 +202,30 @@ impl Terminal {
         ensures front { KeepsFront sink.old sink.new }
         ensures room { (x : Term) → Shows self.old x → HasRoom sink.old (sent x (byte ∷ [])) → IsOk result }
     {
+        match self.parser.state() {
+            ParserState::Csi {
+                private,
+                params,
+                ..
+            } if is_final(byte) => {
+                let answer = self
+                    .console
+                    .perform_control_sequence(*private, params.as_slice(), byte, sink);
+                self.parser.finish();
+                answer
+            }
+            _ => self.take_step(byte, sink),
+        }
+    }
+
+    // Takes a byte by the parser's step.
+    fn take_step(&mut self, byte: u8, sink: &mut Reports) -> Result<(), OutOfMemory>
+        ensures shows { (x : Term) → Shows self.old x → OnOk result (Shows self.new (play x (byte ∷ []))) }
+        ensures sent { (x : Term) → Shows self.old x
+            → OnOk result (sink.new ≡ after_sending sink.old (sent x (byte ∷ []))) }
+        ensures front { KeepsFront sink.old sink.new }
+        ensures room { (x : Term) → Shows self.old x → HasRoom sink.old (sent x (byte ∷ [])) → IsOk result }
+    {
         match self.parser.step(self.console.modes.mode, byte) {
             Some(command) => self.console.perform(&command, sink),
             None => Ok(()),
@@ -256,4 +281,12 @@ impl Terminal {
     {
         self.console.leds
     }
+}
+
+// Whether a byte ends a control sequence.
+#[inline]
+fn is_final(byte: u8) -> bool
+    ensures { result ≡ is_control_final byte }
+{
+    matches!(byte, 64..=126)
 }
