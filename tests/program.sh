@@ -48,9 +48,76 @@ check 'an empty recording' 0 '' '' due --at 7 empty.script empty.timing
 check 'flags after paths' 0 'ab' '' due ab.script ab.timing --at=9
 check 'two dashes' 0 'ab' '' due --at 9 -- ab.script ab.timing
 
-# refused NAME STATUS ERR SCRIPT TIMING: a damaged pair, which is only told.
+# screen_of TEXT: the 24 lines of a screen that begins with TEXT, with an LF for each empty line that TEXT leaves out.
+screen_of() {
+    local text=$1 plain=${1//'\n'/}
+    local ends=$(((${#text} - ${#plain}) / 2))
+    while [ $ends -lt 24 ]; do
+        text+='\n'
+        ends=$((ends + 1))
+    done
+    printf '%s' "$text"
+}
+
+# played NAME BODY SCREEN REPORTS: feeds a body as one chunk, and compares both what is shown and what was sent.
+played() {
+    printf '%b%b' "$head" "$2" >row.script
+    printf '0 %d\n' $(($(wc -c <row.script) - 20)) >row.timing
+    check "$1: the screen" 0 "$(screen_of "$3")" '' screen --at 0 row.script row.timing
+    check "$1: the reports" 0 "$4\n" '' reports --at 0 row.script row.timing
+}
+
+E='\x1b'
+A40=$(printf 'A%.0s' $(seq 40)) A80=$A40$A40
+S79=$(printf ' %.0s' $(seq 79)) S131=$(printf ' %.0s' $(seq 131))
+played 'nothing' '' '' ''
+played 'a report before the wrap' "$A80$E[6nB" "$A80"'\nB' 1b5b313b383052
+played 'no wrap pending after BS' "$A80"'\bB' "${A80:2}BA" ''
+played 'a cancelled sequence' "$E[3"'\030m' '\342\226\222m' ''
+played 'unknown renditions' "$E[38;5;1mX" X ''
+played 'a report in origin mode' "$E[5;10r$E[?6h$E[99;1H$E[6n" '' 1b5b363b3152
+played 'a line made double' "$A40"'AAAAAAAAAA'"$E#6" "$A40" ''
+played 'VT52 mode' "$E[?2l${E}Y%*X${E}Z" '\n\n\n\n\n          X' 1b2f5a
+played 'a title' "$E]0;title"'\007ok' ok ''
+played 'bytes that are not ASCII' '\303\251' '\342\226\222\342\226\222' ''
+played 'refused margins' "$E[3;3H$E[10;5r$E[6n" '' 1b5b333b3352
+played 'line drawing' "$E(0lqk" '\342\224\214\342\224\200\342\224\220' ''
+played 'scrolling between margins' 'a\r\nb\r\nc\r\nd'"$E[2;3r$E[3;1H"'\n' 'a\nc\n\nd' ''
+played 'restoring what was never saved' "$E[7m$E[5;5H${E}8X" X ''
+played '132 columns' "$E[?3h$E[1;132HAB" "$S131"'A\nB' ''
+played 'terminal parameters' "$E[x$E[1x" '' \
+    1b5b323b313b313b3131323b3131323b313b30781b5b333b313b313b3131323b3131323b313b3078
+played 'erasing to the end' "abc$E[2D$E[K" a ''
+played 'scrolling at the bottom' "$E[24;1Hx"'\r\n' '\n\n\n\n\n\n\n\n\n\n\n\n\n\n\n\n\n\n\n\n\n\nx' ''
+played 'no autowrap' "$E[?7l${A80}B" "${A80:1}B" ''
+played 'a rendition leaves the wrap' "$A80$E[0mB" "$A80"'\nB' ''
+played 'the last column' "$E[99;99Hx" '\n\n\n\n\n\n\n\n\n\n\n\n\n\n\n\n\n\n\n\n\n\n\n'"${S79}x" ''
+played 'no tabs' "$E[3g"'\tx' "${S79}x" ''
+played 'a tab' "$E[1;5H${E}H"'\r\tx' '    x' ''
+played 'up in a region' "$E[2;4r$E[?6h$E[9Ax" '\nx' ''
+played 'double sizes erased' "ab$E#3"'\r\n'"ab$E#4$E[1J" '' ''
+played 'the wrap is saved' "$A80${E}7$E[5;1H${E}8B" "$A80"'\nB' ''
+played 'up above a region' "$E[2;3r${E}Mx" x ''
+played 'the pound sign' "$E(A#" '\302\243' ''
+played 'VT52 graphics' "$E[?2l${E}Fa${E}<a" '\342\226\222a' ''
+
+check 'a screen before the second chunk' 0 "$(screen_of a)" '' screen --at 0.499999 ab.script ab.timing
+check 'a screen at the second chunk' 0 "$(screen_of ab)" '' screen --at 0.5 ab.script ab.timing
+check 'a screen of nothing' 0 "$(screen_of '')" '' screen --at 7 empty.script empty.timing
+check 'no reports' 0 '\n' '' reports --at 7 empty.script empty.timing
+printf '%b%b' "$head" "$E[31;4mX$E[5n" >cut.script
+printf '0 3\n0.5 6\n0.5 3\n' >cut.timing
+check 'a sequence cut in two' 0 "$(screen_of '')" '' screen --at 0.4 cut.script cut.timing
+check 'a sequence over two chunks' 0 "$(screen_of X)" '' screen --at 0.5 cut.script cut.timing
+check 'a question not asked yet' 0 '\n' '' reports --at 0.9 cut.script cut.timing
+check 'an answer' 0 '1b5b306e\n' '' reports --at 1 cut.script cut.timing
+
+# refused NAME STATUS ERR SCRIPT TIMING: a damaged pair, which is only told, whatever the command.
 refused() {
-    check "$1" "$2" '' "typetool: $3\n" due --at 1 "$4" "$5"
+    local command
+    for command in due screen reports; do
+        check "$1: $command" "$2" '' "typetool: $3\n" $command --at 1 "$4" "$5"
+    done
 }
 
 timing() { printf '%b' "$1" >bad.timing; }
@@ -98,11 +165,21 @@ status 'a repeated flag' 2 due --at 1 --at 2 ab.script ab.timing
 status 'a missing path' 2 due --at 1 ab.script
 status 'a path too many' 2 due --at 1 ab.script ab.timing more
 status 'no moment' 2 due ab.script ab.timing
+status 'help of screen' 0 screen --help
+status 'help of reports' 0 reports -h
+status 'a screen of no moment' 2 screen ab.script ab.timing
+status 'reports escaped' 2 reports --at 1 --escaped ab.script ab.timing
+check 'bad seconds of a screen' 2 '' 'typetool: bad seconds\n' screen --at 1e3 nowhere nowhere
+check 'bad seconds of reports' 2 '' 'typetool: bad seconds\n' reports --at '' nowhere nowhere
 
 "$program" due --at 1 ab.script ab.timing >/dev/full 2>err.txt
 got=$?
 : >out.txt
 verdict 'a full device' 3 $got '' 'typetool: write fault\n'
+"$program" screen --at 1 ab.script ab.timing >/dev/full 2>err.txt
+got=$?
+: >out.txt
+verdict 'a screen on a full device' 3 $got '' 'typetool: write fault\n'
 "$program" due --at 1 ab.script ab.timing >&- 2>err.txt
 got=$?
 : >out.txt

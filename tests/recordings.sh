@@ -3,7 +3,7 @@
 #
 #     tests/recordings.sh TYPETOOL
 #
-# NAME.screens holds what xterm showed, 80x24, fed the same bytes (compare.py --write xterm): `at MOMENT`, then 24 lines.
+# The last line is 'N passed, M failed'. NAME.screens holds what xterm showed, 80x24, fed the same bytes (compare.py --write xterm): `at MOMENT`, then 24 lines.
 typetool=$1
 recordings=$(dirname "$0")/recordings
 failed=0
@@ -13,12 +13,11 @@ for screens in "$recordings"/*.screens; do
 	for moment in $(sed -n 's/^at //p' "$screens"); do
 		moments=$((moments + 1))
 		wanted=$(sed -n "/^at $moment\$/,\${p;}" "$screens" | sed -n '2,25p')
-		shown=$("$typetool" screen --at "$moment" "$recording.script" "$recording.timing") || failed=$((failed + 1))
-		if [ "$shown" != "$wanted" ]; then
+		if ! shown=$("$typetool" screen --at "$moment" "$recording.script" "$recording.timing") || [ "$shown" != "$wanted" ]; then
 			echo "$(basename "$recording") at $moment: the screens differ"
 			failed=$((failed + 1))
 		fi
 	done
 done
-echo "$moments screens of real recordings, $failed failed"
+echo "$((moments - failed)) passed, $failed failed"
 [ "$failed" = 0 ]

@@ -73,8 +73,8 @@ pub struct Outcome {
 
 /// Does a job: reads the script and the timing whole, and then writes.
 ///
-/// Nothing is written where the pair of files has a fault or a reader fails. After a write fault a beginning of the
-/// text has gone out. No fault is retried.
+/// Nothing is written where the pair of files has a fault, a reader fails or memory is refused. After a write fault a
+/// beginning of the text has gone out. No fault is retried.
 pub fn run<S: Read, T: Read, R: Read, O: Write, P: Write>(
     alloc: Global,
     job: Job,
@@ -110,11 +110,15 @@ pub fn run<S: Read, T: Read, R: Read, O: Write, P: Write>(
         × (out_timing.new ≡ out_timing.old) }
     ensures memory { result.fault ≡ Some (JobFault.File Fault.OutOfMemory) → (has_failed script.new ≡ false)
         × (has_failed timing.new ≡ false) × (has_failed requests.new ≡ false) }
+
+    // Once the recording is read, memory is wanted only by a job that keeps replies, and where some are sent.
     ensures growth { result.fault ≡ Some JobFault.Memory → (has_failed script.new ≡ false)
         × (has_failed timing.new ≡ false) × (has_failed requests.new ≡ false) }
     ensures want { result.fault ≡ Some JobFault.Memory → (files : Files)
         → Tells S.remaining T.remaining R.remaining job script.old timing.old requests.old files
         → (tape : Tape) × reads files.script files.timing tape × TakesMemory job tape }
+
+    // A device fault comes only where that device failed.
     ensures read_fault { result.fault ≡ Some (JobFault.File Fault.ReadFault) → (has_failed script.new ≡ true)
         ⊎ ((has_failed timing.new ≡ true) ⊎ (has_failed requests.new ≡ true)) }
     ensures write_fault { result.fault ≡ Some (JobFault.File Fault.WriteFault) → (has_failed out.new ≡ true)

@@ -136,3 +136,6 @@ fn put_piece<O: Write>(piece: &[u8], out: &mut Watched<O>) -> Result<(), Fault>
     };
     out.put(digits)
 }
+
+#[cfg(test)]
+mod tests;

@@ -1,4 +1,5 @@
--- Bytes of which a glance tells that they aren't answered.
+-- Bytes of which a glance tells that they aren't answered. The tests are the project's own: they follow from the tables of
+-- replies, and what passes them is proved not to be answered.
 use Rattle.std.specs.Prelude.{◌≡◌, ℕ, Bool, true, false, not, List, [], ◌∷◌, ◌==◌, ◌||◌, ◌&&◌}
 use Rattle.vt_parser.specs.declared.states.ParserState.{ParserState}
 use Rattle.vt_parser.specs.declared.states.ParserState.TheVariants.{Ground, Escape, EscapeOne, EscapeMany, CsiStart, Csi, CsiIgnored, Text, Vt52Escape, Vt52Line, Vt52Column}

@@ -249,6 +249,7 @@ impl Terminal {
         self.parser.state()
     }
 
+    /// The modes, and the keypad.
     pub fn modes(&self) -> Modes
         ensures { result ≡ self.now.shown.modes }
     {
@@ -262,6 +263,7 @@ impl Terminal {
         self.console.rendition
     }
 
+    /// The designated sets, which of them is invoked, and VT52 graphics.
     pub fn sets(&self) -> Sets
         ensures { result ≡ self.now.shown.sets }
     {

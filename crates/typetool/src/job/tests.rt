@@ -161,9 +161,20 @@ const SCRIPT: &[u8] = b"Script started on X\nab";
 
 const TIMING: &[u8] = b"0.000000 1\n0.500000 1\n";
 
-/// Does `due` at the end of a recording, over readers and a writer that may fail.
-fn due_slowly<R: Abort + AllocGlobal>(
+/// The jobs at the end of the recording, and their texts.
+const JOBS: [(Job, &[u8]); 3] = [
+    (Job::Due { at: 500_000 }, b"ab"),
+    (
+        Job::Screen { at: 500_000 },
+        b"ab\n\n\n\n\n\n\n\n\n\n\n\n\n\n\n\n\n\n\n\n\n\n\n\n",
+    ),
+    (Job::Reports { at: 500_000 }, b"\n"),
+];
+
+/// Does a job at the end of a recording, over readers and a writer that may fail.
+fn run_slowly<R: Abort + AllocGlobal>(
     rt: &R,
+    job: Job,
     script_failing: usize,
     timing_failing: usize,
     writer: SlowWriter,
@@ -181,7 +192,7 @@ fn due_slowly<R: Abort + AllocGlobal>(
     let mut out = Watched::new(writer);
     let outcome = run(
         rt.alloc(),
-        Job::Due { at: 500_000 },
+        job,
         &mut script,
         &mut timing,
         &mut Watched::new(io::empty()),
@@ -203,18 +214,20 @@ fn slow_writer<R: AllocGlobal>(rt: &R, failing: usize, takes_nothing: bool) -> S
 }
 
 #[test]
-fn due_over_slow_devices(rt: HostRuntime) {
-    let writer = slow_writer(&rt, usize::MAX, false);
-    let (outcome, out) = due_slowly(&rt, usize::MAX, usize::MAX, writer);
-    assert_eq!(rt;
-        outcome,
-        Outcome {
-            status: 0,
-            fault: None
-        }
-    );
-    assert!(rt; !out.failed());
-    assert_eq!(rt; out.into_inner().taken.as_slice(), b"ab".as_slice());
+fn jobs_over_slow_devices(rt: HostRuntime) {
+    for (job, text) in JOBS {
+        let writer = slow_writer(&rt, usize::MAX, false);
+        let (outcome, out) = run_slowly(&rt, job, usize::MAX, usize::MAX, writer);
+        assert_eq!(rt;
+            outcome,
+            Outcome {
+                status: 0,
+                fault: None
+            }
+        );
+        assert!(rt; !out.failed());
+        assert_eq!(rt; out.into_inner().taken.as_slice(), text, "{job:?}");
+    }
 }
 
 #[test]
@@ -223,17 +236,19 @@ fn a_reader_that_fails_stops_the_job(rt: HostRuntime) {
         status: 3,
         fault: file(Fault::ReadFault),
     };
-    for failing in 0..=SCRIPT.len() {
-        let writer = slow_writer(&rt, usize::MAX, false);
-        let (outcome, out) = due_slowly(&rt, failing, usize::MAX, writer);
-        assert_eq!(rt; outcome, stopped, "the script, at call {failing}");
-        assert_eq!(rt; out.into_inner().calls, 0, "nothing is written");
-    }
-    for failing in 0..=TIMING.len() {
-        let writer = slow_writer(&rt, usize::MAX, false);
-        let (outcome, out) = due_slowly(&rt, usize::MAX, failing, writer);
-        assert_eq!(rt; outcome, stopped, "the timing, at call {failing}");
-        assert_eq!(rt; out.into_inner().calls, 0, "nothing is written");
+    for (job, _) in JOBS {
+        for failing in 0..=SCRIPT.len() {
+            let writer = slow_writer(&rt, usize::MAX, false);
+            let (outcome, out) = run_slowly(&rt, job, failing, usize::MAX, writer);
+            assert_eq!(rt; outcome, stopped, "the script, at call {failing}");
+            assert_eq!(rt; out.into_inner().calls, 0, "nothing is written");
+        }
+        for failing in 0..=TIMING.len() {
+            let writer = slow_writer(&rt, usize::MAX, false);
+            let (outcome, out) = run_slowly(&rt, job, usize::MAX, failing, writer);
+            assert_eq!(rt; outcome, stopped, "the timing, at call {failing}");
+            assert_eq!(rt; out.into_inner().calls, 0, "nothing is written");
+        }
     }
 }
 
@@ -243,32 +258,47 @@ fn a_writer_that_fails_stops_the_job(rt: HostRuntime) {
         status: 3,
         fault: file(Fault::WriteFault),
     };
-    for failing in 0..2usize {
-        for takes_nothing in [false, true] {
-            let writer = slow_writer(&rt, failing, takes_nothing);
-            let (outcome, out) = due_slowly(&rt, usize::MAX, usize::MAX, writer);
-            assert_eq!(rt; outcome, stopped, "at call {failing}");
-            assert!(rt; out.failed());
-            let inner = out.into_inner();
-            assert_eq!(rt;
-                inner.calls,
-                failing.saturating_add(1),
-                "no fault is retried"
-            );
-            assert_eq!(rt; inner.taken.len(), failing, "a beginning went out");
+    for (job, text) in JOBS {
+        for failing in 0..text.len() {
+            for takes_nothing in [false, true] {
+                let writer = slow_writer(&rt, failing, takes_nothing);
+                let (outcome, out) = run_slowly(&rt, job, usize::MAX, usize::MAX, writer);
+                assert_eq!(rt; outcome, stopped, "{job:?} at call {failing}");
+                assert!(rt; out.failed());
+                let inner = out.into_inner();
+                assert_eq!(rt;
+                    inner.calls,
+                    failing.saturating_add(1),
+                    "no fault is retried"
+                );
+                assert_eq!(rt;
+                    inner.taken.as_slice(),
+                    &text[..failing],
+                    "a beginning went out"
+                );
+            }
         }
+        let mut writer = slow_writer(&rt, usize::MAX, false);
+        writer.flush_fails = true;
+        let (outcome, out) = run_slowly(&rt, job, usize::MAX, usize::MAX, writer);
+        assert_eq!(rt; outcome, stopped, "{job:?} at the flush");
+        assert_eq!(rt; out.into_inner().taken.as_slice(), text);
     }
-    let mut writer = slow_writer(&rt, usize::MAX, false);
-    writer.flush_fails = true;
-    let (outcome, out) = due_slowly(&rt, usize::MAX, usize::MAX, writer);
-    assert_eq!(rt; outcome, stopped, "at the flush");
-    assert_eq!(rt; out.into_inner().taken.as_slice(), b"ab".as_slice());
 }
 
 #[test]
 fn a_job_fault_has_the_text_of_its_fault(rt: HostRuntime) -> Result<(), Fail> {
-    let fault = JobFault::File(Fault::ScriptShort(0));
-    let text = format!(in rt.alloc(); "{fault}")?;
-    assert_eq!(rt; text.as_str(), "typescript ends inside chunk 0");
+    let rows = [
+        (
+            JobFault::File(Fault::ScriptShort(0)),
+            "typescript ends inside chunk 0",
+        ),
+        (JobFault::Memory, "out of memory"),
+    ];
+    for (fault, text) in rows {
+        let told = format!(in rt.alloc(); "{fault}")?;
+        assert_eq!(rt; told.as_str(), text);
+    }
+    assert_eq!(rt; JobFault::from(OutOfMemory).status(), 3);
     Ok(())
 }

@@ -55,21 +55,64 @@ fn reads_due(rt: HostRuntime) -> Result<(), Fail> {
 }
 
 #[test]
-fn refuses_unreadable_seconds(rt: HostRuntime) -> Result<(), Fail> {
-    for seconds in [
-        "", ".5", ".", "-1", "+1", "1e3", "1,5", "1.5s", " 1", "1 ", "0x1", "-",
-    ] {
-        let flag = format!(in rt.alloc(); "--at={seconds}")?;
-        let words = owned(rt.alloc(), &["typetool", "due", flag.as_str(), "s", "t"])?;
+fn reads_jobs_at_a_moment(rt: HostRuntime) -> Result<(), Fail> {
+    let rows: [(&[&str], Job); 4] = [
+        (
+            &["typetool", "screen", "--at", "0.5", "s", "t"],
+            Job::Screen { at: 500_000 },
+        ),
+        (
+            &["typetool", "screen", "s", "t", "--at=12"],
+            Job::Screen { at: 12_000_000 },
+        ),
+        (
+            &["typetool", "reports", "--at=0.4999999", "s", "t"],
+            Job::Reports { at: 499_999 },
+        ),
+        (
+            &["typetool", "reports", "--at", "7", "--", "s", "t"],
+            Job::Reports { at: 7_000_000 },
+        ),
+    ];
+    for (words, job) in rows {
+        let words = owned(rt.alloc(), words)?;
         let read = read_words(rt.alloc(), words.as_slice());
-        assert!(rt; matches!(&read, Err(WordsFault::BadSeconds)), "{seconds:?}");
+        let Ok(read) = read else {
+            panic!(rt; "{words:?} is a command line");
+        };
+        assert_eq!(rt; read.job, job, "{words:?}");
+        let paths = [read.paths[0].as_str(), read.paths[1].as_str()];
+        assert_eq!(rt; paths, ["s", "t"], "{words:?}");
     }
     Ok(())
 }
 
 #[test]
+fn refuses_unreadable_seconds(rt: HostRuntime) -> Result<(), Fail> {
+    for seconds in [
+        "", ".5", ".", "-1", "+1", "1e3", "1,5", "1.5s", " 1", "1 ", "0x1", "-",
+    ] {
+        for name in ["due", "screen", "reports"] {
+            assert!(rt;
+                is_bad_seconds(rt.alloc(), name, seconds)?,
+                "{name} {seconds:?}"
+            );
+        }
+    }
+    Ok(())
+}
+
+/// Whether the seconds are all that is wrong with a command line.
+fn is_bad_seconds(alloc: Global, name: &str, seconds: &str) -> Result<bool, Fail> {
+    let flag = format!(in alloc; "--at={seconds}")?;
+    let words = owned(alloc, &["typetool", name, flag.as_str(), "s", "t"])?;
+    let read = read_words(alloc, words.as_slice());
+    Ok(matches!(&read, Err(WordsFault::BadSeconds)))
+}
+
+#[test]
 fn leaves_other_words_to_clap(rt: HostRuntime) -> Result<(), Fail> {
-    let rows: [(&[&str], bool); 14] = [
+    let rows: [(&[&str], bool); 20] = [
         (&["typetool"], true),
         (&["typetool", "dew"], true),
         (&["typetool", "help"], true),
@@ -87,6 +130,15 @@ fn leaves_other_words_to_clap(rt: HostRuntime) -> Result<(), Fail> {
         (&["typetool", "--help"], false),
         (&["typetool", "due", "--help"], false),
         (&["typetool", "due", "-h"], false),
+        (&["typetool", "screen", "s", "t"], true),
+        (&["typetool", "screen", "--from", "1", "s", "t"], true),
+        (&["typetool", "reports", "--at", "1", "s"], true),
+        (
+            &["typetool", "reports", "--at", "1", "--escaped", "s", "t"],
+            true,
+        ),
+        (&["typetool", "screen", "--help"], false),
+        (&["typetool", "reports", "-h"], false),
     ];
     for (words, is_mistake) in rows {
         let words = owned(rt.alloc(), words)?;
