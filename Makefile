@@ -12,13 +12,14 @@ bin/typetool: $(SOURCES)
 	mkdir -p bin
 	cp crates/typetool/out/typetool bin/typetool
 
-# The bytes that the terminal of the shipped recording had got after one second, played into this one.
+# What stood on the screen of the shipped recording ten seconds after its start.
 demo: bin/typetool
-	bin/typetool due --at 1 examples/tour.script examples/tour.timing | cat -v | cut -c 1-72
+	bin/typetool screen --at 10 examples/tour.script examples/tour.timing
 
 test:
 	rt ci
 	$(MAKE) bin/typetool
+	tests/recordings.sh bin/typetool
 	tests/program.sh bin/typetool
 
 install: bin/typetool

@@ -1,5 +1,5 @@
 -- The numbers of every command are in their ranges, and graphic characters are shown on ground.
-use Rattle.std.proofs.Common.{◌≡◌, ℕ, zero, suc, ◌+◌, ◌-◌, ◌≤◌, Bool, true, false, not, ◌==◌, ◌||◌, ◌&&◌, cond, ltb, List, [], ◌∷◌, ◌++◌, map, take, drop, length, get_or, Option, Some, None, IfSome, refl, sym, ◌∙◌, subst, inl, inr, arith}
+use Rattle.std.proofs.Common.{◌≡◌, ℕ, zero, suc, ◌+◌, ◌-◌, ◌≤◌, Bool, true, false, not, ◌==◌, ◌||◌, ◌&&◌, cond, ltb, List, [], ◌∷◌, ◌++◌, map, take, drop, length, get_or, Option, Some, None, IfSome, refl, sym, ap, ◌∙◌, subst, inl, inr, arith}
 use Rattle.std.specs.List.{list_all, prefix_len, slice_split, All, AllByRecursion}
 use Rattle.std.proofs.lemmas.Bool.{cases_Bool, and_parts, eqb-false, not-true, false≢true}
 use Rattle.std.proofs.lemmas.Bool.Decides.{nat_tests}
@@ -15,12 +15,15 @@ use Rattle.vt_parser.specs.declared.controls.ByteClass.TheVariants as class
 use Rattle.vt_parser.specs.declared.controls.Place.{Place}
 use Rattle.vt_parser.specs.declared.controls.Place.TheVariants as place
 use Rattle.vt_parser.specs.declared.controls.Turn.TheVariants.{Joins}
+use Rattle.arrayvec.specs.ArrayVec.{ArrayVec}
+use Rattle.vt_parser.specs.declared.states.ParserState.TheVariants.{Csi as CsiState}
 use Rattle.vt_parser.specs.Control.{escape, is_within, is_graphic, class_of, turns_of, turn_at}
 use Rattle.vt_parser.specs.Sequence.{is_intermediate, is_escape_final, is_control_final, begins_control, begins_address, is_lone_escape, is_escape_begun, is_control_begun, is_line_begun, ends_escape, ends_vt52, is_whole, is_semicolon, is_private, after_mark, is_well_formed, parameter, numbers, params, held, escape_meaning, control_meaning, address_meaning}
 use Rattle.vt_parser.specs.Step.{place_of, control_of, command_by, command_of, pending_after}
-use Rattle.vt_parser.specs.Law.{IsFrom, IsProper, CommandsAreProper, GraphicIsShown, RunsAreGraphic}
+use Rattle.vt_parser.specs.Law.{IsFrom, IsProper, CommandsAreProper, GraphicIsShown, RunsAreGraphic, FinalsFinish}
 use Rattle.vt_parser.proofs.Joins.{whole_with, meaning_with, is_whole_push, meaning_push}
-use Rattle.vt_parser.proofs.Agrees.{graphic_class}
+use Rattle.vt_parser.specs.Machine.{Step, stepped, joined, gives}
+use Rattle.vt_parser.proofs.Agrees.{graphic_class, same_command, same_view}
 
 -- a test of a range, as a fact
 within : (low high byte : ℕ) → is_within low high byte ≡ true → IsFrom low high byte
@@ -198,3 +201,20 @@ runs_are_graphic (byte ∷ rest) (suc n) le =
     let both = run_front (is_graphic byte) n (prefix_len is_graphic rest) le in
     let first : is_graphic byte ≡ true = both.0 in
     simp first (runs_are_graphic rest n both.1)
+
+-- ---- the end of a control sequence
+
+final_graphic : (byte : ℕ) → is_control_final byte ≡ true → is_graphic byte ≡ true
+final_graphic byte is = grind (arith, nat_tests)
+
+final_step : (given : Mode) (private : Bool) (params : ArrayVec ℕ) (over : Bool) (byte : ℕ) → is_control_final byte ≡ true → stepped (CsiState private params over) given byte ≡ gives (Some (Csi private params byte))
+unfolding stepped joined
+final_step given private params over byte final =
+    let kind = class_graphic byte (final_graphic byte final) in simp (kind, final)
+
+pub finals_finish : FinalsFinish
+finals_finish given m p private params over byte view final =
+    let step = final_step given private params over byte final in (
+      same_command given m p byte (CsiState private params over) view ∙ ap (λ (s : Step). s.command) step,
+      same_view given m p byte (CsiState private params over) view ∙ ap (λ (s : Step). Some s.state) step,
+    )

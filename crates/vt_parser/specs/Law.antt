@@ -6,8 +6,10 @@ use Rattle.vt_parser.specs.declared.commands.Mode.{Mode}
 use Rattle.vt_parser.specs.declared.commands.Command.{Command}
 use Rattle.vt_parser.specs.declared.commands.Command.TheVariants.{Show, Error, Control, Esc, Csi, Vt52, Vt52Address}
 use Rattle.vt_parser.specs.declared.states.ParserState.{ParserState}
-use Rattle.vt_parser.specs.declared.states.ParserState.TheVariants.{Ground}
+use Rattle.vt_parser.specs.declared.states.ParserState.TheVariants.{Ground, Csi as CsiState}
+use Rattle.arrayvec.specs.ArrayVec.{ArrayVec}
 use Rattle.vt_parser.specs.Control.{is_graphic}
+use Rattle.vt_parser.specs.Sequence.{is_control_final}
 use Rattle.vt_parser.specs.View.{parser_view}
 use Rattle.vt_parser.specs.Step.{command_of, pending_after, mode_after}
 
@@ -102,3 +104,11 @@ RunsAreGraphic =
 abbrev pub CommandsAreProper : Type 0
 CommandsAreProper =
     (m : Mode) (p : List ℕ) (byte : ℕ) → IfSome (command_of m p byte) IsProper
+
+-- The final ends a control sequence with a well formed text: its command has the parameters that the state shows, and nothing is pending.
+abbrev pub FinalsFinish : Type 0
+FinalsFinish =
+    (given m : Mode) (p : List ℕ) (private : Bool) (params : ArrayVec ℕ) (over : Bool) (byte : ℕ)
+    → parser_view m p ≡ Some (CsiState private params over) → is_control_final byte ≡ true
+    → (command_of m p byte ≡ Some (Csi private params byte))
+    × (parser_view (mode_after given m byte) (pending_after m p byte) ≡ Some Ground)

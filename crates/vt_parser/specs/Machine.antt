@@ -5,7 +5,7 @@ use Rattle.arrayvec.specs.ArrayVec.{ArrayVec}
 use Rattle.vt_parser.specs.declared.commands.Mode.{Mode}
 use Rattle.vt_parser.specs.declared.commands.Mode.TheVariants.{Ansi, Vt52 as Vt52Mode}
 use Rattle.vt_parser.specs.declared.commands.Command.{Command}
-use Rattle.vt_parser.specs.declared.commands.Command.TheVariants.{Show, Error, Esc, Csi as CsiCommand, Vt52, Vt52Address}
+use Rattle.vt_parser.specs.declared.commands.Command.TheVariants.{Show, Error, Control, Esc, Csi as CsiCommand, Vt52, Vt52Address}
 use Rattle.vt_parser.specs.declared.controls.Place.{Place}
 use Rattle.vt_parser.specs.declared.controls.Place.TheVariants as place
 use Rattle.vt_parser.specs.declared.controls.Turn.{Turn}
@@ -40,6 +40,10 @@ goes_on state = record { state = state; command = None }
 
 abbrev pub gives : Option Command → Step
 gives command = record { state = Ground; command = command }
+
+-- a control that acts
+abbrev pub acts : ParserState → ℕ → Step
+acts state byte = record { state = state; command = Some (Control byte) }
 
 -- a number with one more digit, at most 9,999
 abbrev pub with_digit : ℕ → ℕ → ℕ

@@ -1,5 +1,5 @@
 //! What holds of every step, for the layers above. Each function's contract is the law, and its body is empty.
-ghost use Rattle.vt_parser.specs.Law.{StateDecides, StaysShown, GroundIsEmpty, FinishedLeavesNothing, PendingPays, GraphicIsShown, RunsAreGraphic, CommandsAreProper};
+ghost use Rattle.vt_parser.specs.Law.{StateDecides, StaysShown, GroundIsEmpty, FinishedLeavesNothing, PendingPays, GraphicIsShown, RunsAreGraphic, CommandsAreProper, FinalsFinish};
 
 /// Pending bytes that show one state give one command after any byte, and show one state again.
 pub fn state_decides()
@@ -39,4 +39,9 @@ pub fn runs_are_graphic()
 /// The numbers of every command are in their ranges.
 pub fn commands_are_proper()
     ensures { CommandsAreProper }
+{}
+
+/// The final ends a control sequence with a well formed text, with the parameters that the state shows.
+pub fn finals_finish()
+    ensures { FinalsFinish }
 {}

@@ -4,7 +4,7 @@
 //! refuses a byte.
 #![tactic(auto)]
 
-ghost use Rattle.std.specs.Prelude.{◌≡◌, ℕ, List, Some, IfSome};
+ghost use Rattle.std.specs.Prelude.{◌≡◌, ℕ, true, false, List, Some, None, IfSome};
 ghost use Rattle.vt_parser.specs.View.{parser_view, IsShown};
 ghost use Rattle.vt_parser.specs.Step.{command_of, pending_after, mode_after};
 ghost use Rattle.vt_parser.specs.Law.{IsProper};
@@ -64,6 +64,40 @@ impl Parser {
         ensures proper { IfSome result IsProper }
     {
         machine::advance(&mut self.state, mode, byte)
+    }
+
+    /// Takes a byte with which a sequence begins or goes on, and says whether it did. It is a quick way past `step` for most
+    /// such bytes; one that it leaves changes nothing.
+    #[inline]
+    pub fn go_on(&mut self, mode: Mode, byte: u8) -> bool
+        // Whatever pending bytes the state stands for, no command comes of a byte that is taken ..
+        ensures command { result ≡ true → (m : Mode) (pending : List ℕ)
+            → parser_view m pending ≡ Some self.old → command_of m pending byte ≡ None }
+        // .. and the new state shows what is pending then.
+        ensures state { result ≡ true → (m : Mode) (pending : List ℕ) → parser_view m pending ≡ Some self.old
+            → parser_view (mode_after mode m byte) (pending_after m pending byte) ≡ Some self.new }
+        ensures left { result ≡ false → self.new ≡ self.old }
+    {
+        machine::goes_on_with(&mut self.state, mode, byte)
+    }
+
+    /// Whether a byte is a control that acts and leaves the state, as 8 to 15 are but in a string.
+    #[inline]
+    pub fn acts(&self, byte: u8) -> bool
+        ensures command { result ≡ true → (m : Mode) (pending : List ℕ)
+            → parser_view m pending ≡ Some self.now → command_of m pending byte ≡ Some (Command.Control byte) }
+        ensures state { result ≡ true → (given m : Mode) (pending : List ℕ) → parser_view m pending ≡ Some self.now
+            → parser_view (mode_after given m byte) (pending_after m pending byte) ≡ Some self.now }
+    {
+        machine::acts_in(&self.state, byte)
+    }
+
+    /// Comes back to ground, as at the end of a sequence.
+    #[inline]
+    pub fn finish(&mut self)
+        ensures { self.new ≡ ParserState.Ground }
+    {
+        self.state = ParserState::Ground;
     }
 
     /// How far the pending sequence has come.

@@ -1,8 +1,8 @@
 //! One byte from a state to the next.
-ghost use Rattle.std.specs.Prelude.{◌≡◌, ◌≤◌, [], ◌∷◌, None};
+ghost use Rattle.std.specs.Prelude.{◌≡◌, ◌≤◌, [], ◌∷◌, None, true, false};
 ghost use Rattle.vt_parser.specs.Sequence.{is_intermediate, is_control_final, begins_string, is_digit};
 ghost use Rattle.vt_parser.specs.Step.{control_of};
-ghost use Rattle.vt_parser.specs.Machine.{place_in, with_digit, with_last_digit, begun, escape_joined, start_joined, joined, stepped, IsCsi};
+ghost use Rattle.vt_parser.specs.Machine.{place_in, with_digit, with_last_digit, begun, goes_on, acts, escape_joined, start_joined, joined, stepped, IsCsi};
 
 use crate::controls::{Place, Turn, turn_of};
 use crate::{Command, Mode, ParserState};
@@ -10,6 +10,8 @@ use arrayvec::ArrayVec;
 
 // What line and column of a direct cursor address have over their numbers.
 const ADDRESS_OFFSET: u8 = 31;
+
+const ESCAPE: u8 = 27;
 
 const GREATEST_PARAM: u32 = 9_999;
 
@@ -248,6 +250,45 @@ fn join(state: &mut ParserState, byte: u8) -> Option<Command>
             let column = byte.saturating_sub(ADDRESS_OFFSET);
             gives(state, Some(Command::Vt52Address { line, column }))
         }
+    }
+}
+
+/// Takes a byte that begins a sequence or goes on with one, and says whether it did: no command comes of it. A byte that it
+/// leaves, as the rarer ones, changes nothing.
+#[inline]
+#[tactic(auto, unfolding(crate::specs::Machine::stepped, crate::specs::Machine::joined))]
+pub(crate) fn goes_on_with(state: &mut ParserState, mode: Mode, byte: u8) -> bool
+    ensures taken { result ≡ true → stepped state.old mode byte ≡ goes_on state.new }
+    ensures left { result ≡ false → state.new ≡ state.old }
+{
+    match state {
+        ParserState::Ground if byte == ESCAPE => *state = begun(mode),
+        ParserState::Escape if byte == b'[' => *state = ParserState::CsiStart,
+        ParserState::CsiStart if is_digit(byte) => {
+            *state = ParserState::Csi {
+                private: false,
+                params: one_param(u16::from(byte - b'0')),
+                over: false,
+            };
+        }
+        ParserState::Csi { params, over, .. } if is_digit(byte) && !*over => push_digit(
+            params, byte,
+        ),
+        ParserState::Csi { params, .. } if byte == b';' && !params.is_full() => params.push(0),
+        _ => return false,
+    }
+    true
+}
+
+/// Whether a byte acts as a control and leaves the state, as 8 to 15 do but in a string.
+#[inline]
+#[tactic(auto, unfolding(crate::specs::Machine::stepped))]
+pub(crate) fn acts_in(state: &ParserState, byte: u8) -> bool
+    ensures { result ≡ true → (mode : Mode) → stepped state.now mode byte ≡ acts state.now byte }
+{
+    match state {
+        ParserState::Text => false,
+        _ => matches!(byte, 8..=15),
     }
 }
 

@@ -306,4 +306,5 @@ fn laws_can_be_called() {
     laws::graphic_is_shown();
     laws::runs_are_graphic();
     laws::commands_are_proper();
+    laws::finals_finish();
 }

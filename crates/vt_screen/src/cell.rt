@@ -1,7 +1,7 @@
 //! Cells, and rows of 132 of them.
 
-ghost use Rattle.std.specs.Prelude.{◌≡◌, ℕ, ◌+◌, ◌-◌, ◌<◌, ◌≤◌, length, nat_le, nat_lt, ◌&&◌, if◌then◌else◌, slice_index};
-ghost use Rattle.vt_screen.specs.Cells.{blank, blank_row, cell_at, is_single, row_by};
+ghost use Rattle.std.specs.Prelude.{◌≡◌, ◌+◌, ◌≤◌, length};
+ghost use Rattle.vt_screen.specs.Cells.{blank, blank_row, is_single};
 ghost use Rattle.vt_screen.specs.Erasures.{part_erased};
 ghost use Rattle.vt_screen.specs.Lines.{resized, patterned};
 ghost use Rattle.vt_screen.specs.Picture.{columns, margin_of};

@@ -1,7 +1,7 @@
 //! The 24 rows behind an index, so that a scroll moves no cells.
 
-ghost use Rattle.std.specs.Prelude.{◌≡◌, ◌==◌, ℕ, ◌+◌, ◌<◌, ◌≤◌, ◌&&◌, not, length, slice_set};
-ghost use Rattle.vt_screen.specs.Cells.{blank_row, cell_at, row_at, row_by, rows_by};
+ghost use Rattle.std.specs.Prelude.{◌≡◌, ◌==◌, ◌+◌, ◌<◌, ◌≤◌, ◌&&◌, not, length, slice_set};
+ghost use Rattle.vt_screen.specs.Cells.{blank_row, row_at, rows_by};
 ghost use Rattle.vt_screen.specs.Erasures.{in_other_lines, part_erased};
 ghost use Rattle.vt_screen.specs.Lines.{patterned, resized};
 ghost use Rattle.vt_screen.specs.Places.{OncePerPlace, place_at, row_in, rows_of, first_order, turned_up, turned_down};

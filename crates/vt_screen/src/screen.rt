@@ -1,12 +1,12 @@
 //! The screen and its operations. Lines and columns are counted from 1.
 
-ghost use Rattle.std.specs.Prelude.{◌≡◌, ℕ, ◌<◌, ◌≤◌, All, length, take, true, false, if◌then◌else◌};
+ghost use Rattle.std.specs.Prelude.{◌≡◌, ◌<◌, ◌≤◌, All, length, take, true, false};
 ghost use Rattle.vt_screen.specs.Cells.{row_at, cell_at};
 ghost use Rattle.vt_screen.specs.Erasures.{display_erased, erased_whole, line_erased};
 ghost use Rattle.vt_screen.specs.Lines.{size_set, columns_set, aligned, are_margins, margins_set};
 ghost use Rattle.vt_screen.specs.Moves.{stepped_up, stepped_down, stepped_right, stepped_left, moved_to_left, placed, moved_home, wrap_cleared, put_back, on_line};
 ghost use Rattle.vt_screen.specs.Picture.{Sound, SoundRow, first_tabs, reset, cell, columns, right_margin};
-ghost use Rattle.vt_screen.specs.Places.{Held, OncePerPlace, first_order, place_at, row_in, order_indexed, places_indexed, order_reverse_indexed, places_reverse_indexed, order_shown, order_run_shown};
+ghost use Rattle.vt_screen.specs.Places.{OncePerPlace, first_order, place_at, row_in, order_indexed, places_indexed, order_reverse_indexed, places_reverse_indexed, order_shown, order_run_shown};
 ghost use Rattle.vt_screen.specs.Puts.{shown, run_shown, wrap_taken};
 ghost use Rattle.vt_screen.specs.Scrolls.{indexed, reverse_indexed};
 ghost use Rattle.vt_screen.specs.Tabs.{stop_at, stop_after, tabbed, tab_made, tabs_cleared};

@@ -1,11 +1,11 @@
 -- How long replies are, and how long all of them together.
-use Rattle.std.proofs.Common.{◌≡◌, ℕ, zero, suc, ◌+◌, ◌-◌, ◌*◌, ◌^◌, ◌<◌, ◌≤◌, Bool, true, false, List, [], ◌∷◌, ◌++◌, length, refl, sym, ap, subst, ◌∙◌, arith}
-use Rattle.std.specs.Prelude.{if◌then◌else◌, ◌==◌, Option, Some, None, IfSome, decimal, codes}
+use Rattle.std.proofs.Common.{◌≡◌, ℕ, ◌+◌, ◌*◌, ◌<◌, ◌≤◌, Bool, true, false, List, [], ◌∷◌, length, refl, ap, ◌∙◌, arith}
+use Rattle.std.specs.Prelude.{if◌then◌else◌, ◌==◌, Option, Some, None, decimal, codes}
 use Rattle.std.proofs.lemmas.List.{length-append}
 use Rattle.std.proofs.lemmas.Fmt.{length-decimal-le}
 use Rattle.vt_parser.specs.declared.commands.Command.{Command}
 use Rattle.vt_parser.specs.declared.commands.Command.TheVariants.{Show, Error, Control, Esc, Csi, Vt52, Vt52Address}
-use Rattle.vt_parser.specs.Step.{command_of, pending_after}
+use Rattle.vt_parser.specs.Step.{command_of}
 use Rattle.vt_parser.specs.Law.{fewest_bytes, fewest_of}
 use Rattle.vt_parser.proofs.LawLemmas.{pending_pays}
 use Rattle.vt_screen.specs.Picture.{Picture, Sound}
@@ -21,7 +21,7 @@ use Rattle.vt_term.specs.Sequences.{sequence_named, first_of}
 use Rattle.vt_term.specs.Vt52.{vt52_named}
 use Rattle.vt_term.specs.Replies.{escape_reply, sequence_reply, vt52_reply, reply_of, cursor_position, reported_line, device_attributes, ready, terminal_parameters}
 use Rattle.vt_term.specs.Effect.{reply, reply_if, control_sequence_reply}
-use Rattle.vt_term.specs.Term.{Term, reset_term, mode_of, answered, step, play, sent}
+use Rattle.vt_term.specs.Term.{Term, reset_term, mode_of, answered, step, sent}
 use Rattle.vt_term.proofs.Safe.{safe_reset, column_small}
 use Rattle.vt_term.proofs.Steps.{sent_none, sent_more, safe_step}
 

@@ -1,11 +1,10 @@
 -- Bytes that are taken a few at a time.
-use Rattle.std.proofs.Common.{◌≡◌, ℕ, ◌+◌, ◌-◌, ◌≤◌, List, [], ◌∷◌, ◌++◌, length, take, drop, refl, sym, ap, subst, ◌∙◌, arith}
+use Rattle.std.proofs.Common.{◌≡◌, ℕ, ◌+◌, List, ◌++◌, length, take, drop, sym, ap, ◌∙◌, arith}
 use Rattle.std.proofs.Math.Seq.{take-add}
 use Rattle.std.proofs.lemmas.List.{length-append, take-append-drop}
 use Rattle.vt_term.specs.Term.{Term, play, sent}
-use Rattle.vt_term.specs.Seen.{Seen, Shows}
 use Rattle.vt_term.specs.Sink.{Sink, after_sending, HasRoom, KeepsFront}
-use Rattle.vt_term.proofs.Sinks.{after_sending-append, keeps_sent, keeps_length}
+use Rattle.vt_term.proofs.Sinks.{after_sending-append, keeps_length}
 use Rattle.vt_term.proofs.Steps.{play-append, sent-append}
 
 pub play_on : (x : Term) (bytes : List ℕ) (at n : ℕ) → play x (take (at + n) bytes) ≡ play (play x (take at bytes)) (take n (drop at bytes))

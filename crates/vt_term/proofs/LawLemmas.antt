@@ -1,5 +1,5 @@
 -- The crate's laws, for proofs of the layers above.
-use Rattle.vt_term.specs.Law.{PlaysInParts, SendsInParts, SentIsAppended, SeenDecides, SendsLittle}
+use Rattle.vt_term.specs.Law.{PlaysInParts, SendsInParts, SentIsAppended, SeenDecides, SendsLittle, StaysSafe}
 use Rattle.vt_term.proofs.Bound as bound
 use Rattle.vt_term.proofs.Steps as steps
 
@@ -17,3 +17,6 @@ seen_decides = steps.seen_decides
 
 pub sends_little : SendsLittle
 sends_little = bound.sends_little
+
+pub stays_safe : StaysSafe
+stays_safe = steps.safe_play

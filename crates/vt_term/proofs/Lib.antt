@@ -1,4 +1,3 @@
-pub mod Inside
 pub mod Safe
 pub mod Steps
 pub mod Bound
@@ -7,3 +6,4 @@ pub mod Runs
 pub mod Taken
 pub mod Sinks
 pub mod Feeding
+pub mod Silence

@@ -1,6 +1,6 @@
 -- Every command keeps a terminal safe.
-use Rattle.std.proofs.Common.{◌≡◌, ◌≢◌, ℕ, zero, suc, ◌+◌, ◌-◌, ◌<◌, ◌≤◌, Bool, true, false, List, [], ◌∷◌, length, min, max, refl, sym, ap, subst, arith}
-use Rattle.std.specs.Prelude.{if◌then◌else◌, ◌==◌, ◌&&◌, ◌||◌, nat_le, nat_lt, fold, Option, Some, None, slice_set}
+use Rattle.std.proofs.Common.{◌≡◌, ℕ, ◌-◌, ◌≤◌, Bool, true, false, List, [], ◌∷◌, length, refl, sym, subst, arith}
+use Rattle.std.specs.Prelude.{if◌then◌else◌, ◌==◌, nat_le, fold, Option, Some, None, slice_set}
 use Rattle.std.proofs.lemmas.Bool.Decides.{nat_tests}
 use Rattle.std.proofs.lemmas.List.{length-set}
 use Rattle.vt_parser.specs.declared.commands.Mode.{Mode}
@@ -8,21 +8,16 @@ use Rattle.vt_parser.specs.declared.commands.Mode.TheVariants.{Ansi, Vt52 as Vt5
 use Rattle.vt_parser.specs.declared.commands.Command.{Command}
 use Rattle.vt_parser.specs.declared.commands.Command.TheVariants.{Show, Error, Control as ControlOf, Esc, Csi, Vt52, Vt52Address}
 use Rattle.vt_parser.specs.Law.{IsProper}
-use Rattle.vt_screen.specs.Attributes.{Attributes}
-use Rattle.vt_screen.specs.Picture.{Picture, Sound, Inside, right_margin, reset}
-use Rattle.vt_screen.specs.Moves.{stepped_up, stepped_down, stepped_right, stepped_left, moved_to_left, placed, moved_home, wrap_cleared, put_back}
-use Rattle.vt_screen.specs.Scrolls.{indexed, reverse_indexed}
-use Rattle.vt_screen.specs.Puts.{wrap_taken, shown}
-use Rattle.vt_screen.specs.Erasures.{display_erased, line_erased}
-use Rattle.vt_screen.specs.Lines.{size_set, columns_set, aligned, margins_set}
-use Rattle.vt_screen.specs.Tabs.{tabbed, tab_made, tabs_cleared}
+use Rattle.vt_screen.specs.Picture.{Picture, Sound, Inside}
+use Rattle.vt_screen.specs.Lines.{columns_set, margins_set}
+use Rattle.vt_screen.specs.Moves.{moved_home, moved_to_left, placed, put_back}
+use Rattle.vt_screen.specs.Tabs.{tab_made, tabs_cleared}
 use Rattle.vt_screen.specs.Cells.{row_at}
 use Rattle.vt_screen.proofs.SoundRows.{margin_high, columns_high}
-use Rattle.vt_screen.proofs.Soundness.{either_picture, sound_stepped_up, sound_stepped_down, sound_stepped_right, sound_stepped_left, sound_moved_to_left, sound_placed, sound_moved_home, sound_wrap_cleared, sound_put_back, sound_indexed, sound_reverse_indexed, sound_put, sound_line_erased, sound_size_set, sound_display_erased, sound_columns_set, sound_aligned, sound_tabbed, sound_tab_made, sound_tabs_cleared, sound_margins_set, sound_wrap_taken, sound_shown, sound_reset}
+use Rattle.vt_screen.proofs.Soundness.{sound_stepped_up, sound_stepped_down, sound_stepped_right, sound_stepped_left, sound_moved_to_left, sound_placed, sound_moved_home, sound_wrap_cleared, sound_put_back, sound_indexed, sound_reverse_indexed, sound_line_erased, sound_size_set, sound_display_erased, sound_columns_set, sound_aligned, sound_tabbed, sound_tab_made, sound_tabs_cleared, sound_margins_set, sound_shown, sound_reset}
 use Rattle.vt_term.specs.declared.sets.CharacterSet.{CharacterSet}
 use Rattle.vt_term.specs.declared.sets.CharacterSet.TheVariants.{Ascii, Uk, SpecialGraphics}
 use Rattle.vt_term.specs.declared.sets.Slot.{Slot}
-use Rattle.vt_term.specs.declared.sets.Sets.{Sets}
 use Rattle.vt_term.specs.declared.modes.Modes.{Modes}
 use Rattle.vt_term.specs.declared.saved.Saved.{Saved}
 use Rattle.vt_term.specs.declared.controls.Control.{Control}
@@ -39,20 +34,30 @@ use Rattle.vt_term.specs.Sets.{glyph_of, checkerboard, set_in_use}
 use Rattle.vt_term.specs.Shown.{Shown, IsSafe, IsSavedWell, reset_shown, on_picture, effect_of, dark}
 use Rattle.vt_term.specs.Controls.{control_named, control_effect, line_fed, invoked}
 use Rattle.vt_term.specs.Escapes.{escape_named, escape_effect, restored}
-use Rattle.vt_term.specs.Sequences.{sequence_named, sequence_effect, first_of, second_of, counted, or_default, erased, tabs_taken, leds_set, newline_set}
+use Rattle.vt_term.specs.Sequences.{sequence_named, sequence_effect, first_of, second_of, counted, or_default, leds_set, newline_set}
 use Rattle.vt_term.specs.PrivateModes.{private_mode_named, mode_effect, mode_set, private_effect}
-use Rattle.vt_term.specs.Vt52.{vt52_named, vt52_effect, address_effect}
+use Rattle.vt_term.specs.Vt52.{vt52_named, vt52_effect}
 use Rattle.vt_term.specs.Effect.{effect, put, glyph_for, control_sequence_effect}
-use Rattle.vt_term.proofs.Inside.{inside_same, inside_stepped_up, inside_stepped_down, inside_indexed, inside_reverse_indexed, inside_placed, inside_moved_home, inside_put_back, inside_columns_set, inside_margins_set, inside_put, inside_wrap_taken}
+use Rattle.vt_screen.proofs.Regions.{inside_moved_home, inside_placed, inside_put_back, inside_stepped_up, inside_stepped_down, inside_indexed, inside_reverse_indexed, inside_margins_set, inside_shown}
+
+-- a picture with the same line and margins is inside as well
+inside_same : (p q : Picture) → q.line ≡ p.line → q.top ≡ p.top → q.bottom ≡ p.bottom → Inside p → Inside q
+inside_same p q line top bottom inside = record {
+  below_top = (let low = inside.below_top in omega arith);
+  above_bottom = (let high = inside.above_bottom in omega arith);
+}
+
+-- what holds with lines counted from the top margin holds where they are so
+while_set : (P : Bool → Type 0) (origin : Bool) → P true → origin ≡ true → P origin
+while_set P origin there is = subst P (sym is) there
+
+inside_columns_set : (wide : Bool) (p : Picture) → Inside (columns_set wide true p)
+inside_columns_set wide p = record { below_top = omega arith; above_bottom = omega arith }
 
 -- what a change to the picture owes
 record Keeps (origin : Bool) (p q : Picture) : Type 0 where
   pub sound : Sound q
   pub inside : origin ≡ true → Inside q
-
--- a picture keeps itself
-kept_itself : (s : Shown) → IsSafe s → Keeps s.modes.origin s.picture s.picture
-kept_itself s safe = record { sound = safe.sound; inside = safe.inside }
 
 safe_picture : (s : Shown) (q : Picture) → IsSafe s → Keeps s.modes.origin s.picture q → IsSafe (record s { picture = q })
 safe_picture s q safe kept = record { sound = kept.sound; inside = kept.inside; saved = safe.saved; leds = safe.leds }
@@ -92,8 +97,7 @@ glyph_high SpecialGraphics byte high = grind (arith, nat_tests)
 pub safe_put : (s : Shown) (glyph : ℕ) → glyph ≤ 126 → IsSafe s → IsSafe (put glyph s)
 safe_put s glyph high safe =
     safe_moved s _ safe (sound_shown glyph s.rendition s.modes.autowrap s.picture high safe.sound)
-    (λ is. inside_put (wrap_taken s.picture) (sound_wrap_taken s.picture safe.sound) (record { glyph = glyph; rendition = s.rendition }) s.modes.autowrap
-    (inside_wrap_taken s.picture safe.sound (safe.inside is)))
+    (λ is. inside_shown glyph s.rendition s.modes.autowrap s.picture safe.sound (safe.inside is))
 
 -- ---- controls
 
@@ -126,7 +130,8 @@ safe_restored None s well safe = record {
 }
 safe_restored (Some saved) s well safe = record {
   sound = sound_put_back s.picture safe.sound saved.line saved.column saved.wrap saved.origin s.modes.autowrap well.0 well.1 well.2;
-  inside = λ is. inside_put_back s.picture safe.sound saved.line saved.column saved.wrap saved.origin s.modes.autowrap is;
+  inside = while_set (λ (o : Bool). Inside (put_back saved.line saved.column saved.wrap o s.modes.autowrap s.picture)) saved.origin
+      (inside_put_back s.picture safe.sound saved.line saved.column saved.wrap s.modes.autowrap);
   saved = safe.saved;
   leds = safe.leds;
 }
@@ -196,18 +201,20 @@ origin_kept value (param ∷ params) modes =
     cc
 
 safe_sequence : (sequence : Sequence) (params : List ℕ) (s : Shown) → IsSafe s → IsSafe (sequence_effect sequence params s)
-safe_sequence Cuu params s safe = safe_moved s _ safe (sound_stepped_up s.picture safe.sound (counted (first_of params))) (λ is. inside_stepped_up s.picture safe.sound (counted (first_of params)) (safe.inside is))
-safe_sequence Cud params s safe = safe_moved s _ safe (sound_stepped_down s.picture safe.sound (counted (first_of params))) (λ is. inside_stepped_down s.picture safe.sound (counted (first_of params)) (safe.inside is))
+safe_sequence Cuu params s safe = safe_moved s _ safe (sound_stepped_up s.picture safe.sound (counted (first_of params))) (λ is. inside_stepped_up s.picture safe.sound (safe.inside is) (counted (first_of params)))
+safe_sequence Cud params s safe = safe_moved s _ safe (sound_stepped_down s.picture safe.sound (counted (first_of params))) (λ is. inside_stepped_down s.picture safe.sound (safe.inside is) (counted (first_of params)))
 safe_sequence Cuf params s safe = safe_line s _ safe (sound_stepped_right s.picture safe.sound _) refl refl refl
 safe_sequence Cub params s safe = safe_line s _ safe (sound_stepped_left s.picture safe.sound _) refl refl refl
 safe_sequence Cup params s safe =
     safe_moved s _ safe (sound_placed s.picture safe.sound (counted (first_of params)) (counted (second_of params)) s.modes.origin (counted_low (first_of params)) (counted_low (second_of params)))
-    (λ is. inside_placed s.picture safe.sound (counted (first_of params)) (counted (second_of params)) s.modes.origin is)
+    (while_set (λ (o : Bool). Inside (placed (counted (first_of params)) (counted (second_of params)) o s.picture)) s.modes.origin
+    (inside_placed s.picture safe.sound (counted (first_of params)) (counted (second_of params))))
 safe_sequence Ed params s safe = safe_erased _ s _ safe (safe_line s _ safe (sound_display_erased s.picture safe.sound _) refl refl refl)
 safe_sequence El params s safe = safe_erased _ s _ safe (safe_line s _ safe (sound_line_erased s.picture safe.sound _) refl refl refl)
 safe_sequence Decstbm params s safe =
     safe_moved s _ safe (sound_margins_set (or_default 1 (first_of params)) (or_default 24 (second_of params)) s.modes.origin s.picture safe.sound)
-    (λ is. inside_margins_set s.picture safe.sound (or_default 1 (first_of params)) (or_default 24 (second_of params)) s.modes.origin is (safe.inside is))
+    (λ is. while_set (λ (o : Bool). Inside (margins_set (or_default 1 (first_of params)) (or_default 24 (second_of params)) o s.picture)) s.modes.origin
+    (inside_margins_set s.picture safe.sound (safe.inside is) (or_default 1 (first_of params)) (or_default 24 (second_of params))) is)
 safe_sequence Tbc params s safe = safe_tabs _ _ s safe
 safe_sequence Sgr params s safe = safe_else s _ refl refl refl refl safe
 safe_sequence Sm params s safe = safe_else s _ refl (origin_kept true params s.modes) refl refl safe
@@ -237,12 +244,12 @@ safe_mode value Decckm s safe = safe_else s _ refl refl refl refl safe
 safe_mode value Decanm s safe = safe_vt52_entered value s safe
 safe_mode value Deccolm s safe =
     safe_moved s _ safe (sound_columns_set s.picture safe.sound value s.modes.origin)
-    (λ is. inside_columns_set s.picture safe.sound value s.modes.origin is)
+    (while_set (λ (o : Bool). Inside (columns_set value o s.picture)) s.modes.origin (inside_columns_set value s.picture))
 safe_mode value Decsclm s safe = safe_else s _ refl refl refl refl safe
 safe_mode value Decscnm s safe = safe_else s _ refl refl refl refl safe
 safe_mode value Decom s safe = record {
   sound = sound_moved_home s.picture safe.sound value;
-  inside = λ is. inside_moved_home s.picture safe.sound value is;
+  inside = while_set (λ (o : Bool). Inside (moved_home o s.picture)) value (inside_moved_home s.picture safe.sound);
   saved = safe.saved;
   leds = safe.leds;
 }
@@ -276,14 +283,14 @@ safe_control_sequence false last params s safe = safe_row (λ row. sequence_effe
 -- ---- VT52 mode
 
 safe_vt52 : (sequence : Vt52Sequence) (s : Shown) → IsSafe s → IsSafe (vt52_effect sequence s)
-safe_vt52 Up s safe = safe_moved s _ safe (sound_stepped_up s.picture safe.sound 1) (λ is. inside_stepped_up s.picture safe.sound 1 (safe.inside is))
-safe_vt52 Down s safe = safe_moved s _ safe (sound_stepped_down s.picture safe.sound 1) (λ is. inside_stepped_down s.picture safe.sound 1 (safe.inside is))
+safe_vt52 Up s safe = safe_moved s _ safe (sound_stepped_up s.picture safe.sound 1) (λ is. inside_stepped_up s.picture safe.sound (safe.inside is) 1)
+safe_vt52 Down s safe = safe_moved s _ safe (sound_stepped_down s.picture safe.sound 1) (λ is. inside_stepped_down s.picture safe.sound (safe.inside is) 1)
 safe_vt52 Right s safe = safe_line s _ safe (sound_stepped_right s.picture safe.sound 1) refl refl refl
 safe_vt52 Left s safe = safe_line s _ safe (sound_stepped_left s.picture safe.sound 1) refl refl refl
 safe_vt52 GraphicsOn s safe = safe_else s _ refl refl refl refl safe
 safe_vt52 GraphicsOff s safe = safe_else s _ refl refl refl refl safe
 safe_vt52 Home s safe =
-    safe_moved s _ safe (sound_moved_home s.picture safe.sound s.modes.origin) (λ is. inside_moved_home s.picture safe.sound s.modes.origin is)
+    safe_moved s _ safe (sound_moved_home s.picture safe.sound s.modes.origin) (while_set (λ (o : Bool). Inside (moved_home o s.picture)) s.modes.origin (inside_moved_home s.picture safe.sound))
 safe_vt52 ReverseIndex s safe = safe_escape Ri s safe
 safe_vt52 EraseDisplay s safe = safe_line s _ safe (sound_display_erased s.picture safe.sound 0) refl refl refl
 safe_vt52 EraseLine s safe = safe_line s _ safe (sound_line_erased s.picture safe.sound 0) refl refl refl
@@ -304,4 +311,4 @@ safe_effect (Csi private params last) s proper safe = safe_control_sequence priv
 safe_effect (Vt52 last) s proper safe = safe_row vt52_effect safe_vt52 (vt52_named last) s safe
 safe_effect (Vt52Address line column) s proper safe =
     safe_moved s _ safe (sound_placed s.picture safe.sound line column s.modes.origin proper.0.0 proper.1.0)
-    (λ is. inside_placed s.picture safe.sound line column s.modes.origin is)
+    (while_set (λ (o : Bool). Inside (placed line column o s.picture)) s.modes.origin (inside_placed s.picture safe.sound line column))

@@ -1,9 +1,9 @@
 -- Sending in parts, and what the list keeps.
-use Rattle.std.proofs.Common.{◌≡◌, ℕ, zero, suc, ◌+◌, ◌-◌, ◌<◌, ◌≤◌, List, [], ◌∷◌, ◌++◌, length, take, drop, refl, sym, ap, subst, ◌∙◌, arith, ◌⊎◌, inl, inr}
+use Rattle.std.proofs.Common.{◌≡◌, ℕ, zero, suc, ◌+◌, ◌-◌, ◌≤◌, List, [], ◌∷◌, ◌++◌, length, take, drop, refl, sym, ap, subst, ◌∙◌, arith}
 use Rattle.std.specs.Prelude.{Result, Ok, Err, OnOk, OnErr}
-use Rattle.std.proofs.Math.Seq.{take-append_seam, take-nil, drop-nil}
-use Rattle.std.proofs.lemmas.List.{append_assoc, length-append, length-drop, append-nil, take-append-le}
-use Rattle.vt_term.specs.Sink.{Sink, after_sending, HasRoom, KeepsFront}
+use Rattle.std.proofs.Math.Seq.{take-append_seam}
+use Rattle.std.proofs.lemmas.List.{append_assoc, length-append, length-drop, append-nil}
+use Rattle.vt_term.specs.Sink.{Sink, after_sending, KeepsFront}
 
 drop-parts : (n : ℕ) (first second : List ℕ) → drop n (first ++ second) ≡ drop n first ++ drop (n - length first) second
 drop-parts zero first second = ap (λ (k : ℕ). first ++ drop k second) (none (length first))

@@ -1,7 +1,7 @@
 -- What one byte and what many bytes leave of the terms that a terminal shows.
-use Rattle.std.proofs.Common.{◌≡◌, ◌≢◌, ℕ, zero, suc, ◌+◌, ◌-◌, ◌*◌, ◌<◌, ◌≤◌, Bool, true, false, List, [], ◌∷◌, ◌++◌, length, take, drop, refl, sym, ap, subst, ◌∙◌, inl, inr, arith}
-use Rattle.std.specs.Prelude.{if◌then◌else◌, fold, Option, Some, None, IfSome}
-use Rattle.std.proofs.lemmas.List.{append-nil, append_assoc, length-append}
+use Rattle.std.proofs.Common.{◌≡◌, ℕ, false, List, [], ◌∷◌, ◌++◌, refl, sym, ap, subst, ◌∙◌, inl, inr}
+use Rattle.std.specs.Prelude.{Option, Some, None, IfSome}
+use Rattle.std.proofs.lemmas.List.{append-nil, append_assoc}
 use Rattle.std.proofs.lemmas.List.Sums.{fold-append}
 use Rattle.std.proofs.lemmas.Bool.{cases_Bool}
 use Rattle.vt_parser.specs.declared.commands.Mode.{Mode}
@@ -20,10 +20,10 @@ use Rattle.vt_term.specs.declared.controls.Control.TheVariants.{Bs, Ht, Lf, Cr, 
 use Rattle.vt_term.specs.declared.sets.Slot.{Slot}
 use Rattle.vt_term.specs.Shown.{Shown, IsSafe, effect_of}
 use Rattle.vt_term.specs.Controls.{control_named, control_effect, invoked}
-use Rattle.vt_term.specs.Effect.{effect, reply, effect_if, reply_if}
-use Rattle.vt_term.specs.Term.{Term, reset_term, mode_of, answered, step, play, sent}
-use Rattle.vt_term.specs.Seen.{Seen, Shows, IsProper}
-use Rattle.vt_term.proofs.Safe.{safe_effect, safe_reset}
+use Rattle.vt_term.specs.Effect.{effect, effect_if, reply_if}
+use Rattle.vt_term.specs.Term.{Term, mode_of, answered, step, play, sent}
+use Rattle.vt_term.specs.Seen.{Seen, Shows}
+use Rattle.vt_term.proofs.Safe.{safe_effect}
 
 -- ---- the mode
 
@@ -76,9 +76,6 @@ view_after m p byte s state (Some command) is same view = elim (cases_Bool (is_s
 -- what is seen after a byte, by the state of the parser then
 abbrev pub seen_after : Seen → Option Command → ParserState → Seen
 seen_after seen command state = record { shown = effect_if command seen.shown; state = state }
-
-abbrev command_in : Term → ℕ → Option Command
-command_in x byte = command_of (mode_of x) x.pending byte
 
 pub shows_step : (seen : Seen) (x : Term) (byte : ℕ) (command : Option Command) (state : ParserState)
     → Shows seen x → command_of (mode_of x) x.pending byte ≡ command

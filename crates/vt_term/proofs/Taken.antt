@@ -1,6 +1,6 @@
 -- A byte that the code takes: the parser's step, and the effect of its command.
-use Rattle.std.proofs.Common.{◌≡◌, ℕ, ◌+◌, ◌-◌, ◌≤◌, Bool, true, false, List, [], ◌∷◌, ◌++◌, length, drop, refl, sym, ap, subst, ◌∙◌, arith}
-use Rattle.std.specs.Prelude.{Option, Some, None, IfSome, Result, Ok, Err, OnOk, OnErr, IsOk}
+use Rattle.std.proofs.Common.{◌≡◌, ℕ, ◌-◌, List, [], ◌∷◌, ◌++◌, length, drop, refl, sym, ap, subst, ◌∙◌, arith}
+use Rattle.std.specs.Prelude.{Option, Some, None, IfSome, Result, Ok, Err, OnOk, OnErr}
 use Rattle.std.proofs.lemmas.List.{append-nil}
 use Rattle.std.proofs.Math.Seq.{drop-nil}
 use Rattle.vt_parser.specs.declared.commands.Command.{Command}
@@ -12,10 +12,10 @@ use Rattle.vt_parser.specs.Law.{IsProper as IsProperCommand}
 use Rattle.vt_parser.proofs.LawLemmas.{mode_after_same, ground_is_empty}
 use Rattle.vt_parser.specs.declared.states.ParserState.TheVariants.{Ground}
 use Rattle.vt_term.specs.Shown.{Shown, IsSafe, reset_shown}
-use Rattle.vt_term.specs.Effect.{effect, reply, effect_if, reply_if}
-use Rattle.vt_term.specs.Term.{Term, reset_term, mode_of, step, play, sent}
+use Rattle.vt_term.specs.Effect.{effect_if, reply_if}
+use Rattle.vt_term.specs.Term.{Term, reset_term, mode_of, play, sent}
 use Rattle.vt_term.specs.Seen.{Seen, Shows, IsProper}
-use Rattle.vt_term.specs.Sink.{Sink, after_sending, HasRoom}
+use Rattle.vt_term.specs.Sink.{Sink, after_sending}
 use Rattle.vt_term.proofs.Safe.{safe_effect, safe_reset}
 use Rattle.vt_term.proofs.Sinks.{same_sink}
 use Rattle.vt_term.proofs.Steps.{seen_after, shows_step, answered_by, mode_shown, play_one, sent_one}

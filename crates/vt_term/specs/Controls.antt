@@ -12,7 +12,7 @@ use Rattle.vt_term.specs.declared.controls.Control.{Control}
 use Rattle.vt_term.specs.declared.controls.Control.TheVariants.{Bs, Ht, Lf, Cr, So, Si}
 use Rattle.vt_term.specs.Shown.{Shown, on_picture, on_sets}
 
--- the names of the controls: VT and FF are read as LF
+-- the names of the controls: VT and FF are read as LF (EK-VT100-UG chapter 3)
 abbrev pub control_named : ℕ → Option Control
 control_named byte =
     if byte == 8 then Some Bs
@@ -23,7 +23,7 @@ control_named byte =
     else (if byte == 15 then Some Si
     else None)))))
 
--- LF: index; where LNM is set the column becomes 1 first
+-- LF: index; where LNM is set the column becomes 1 first (EK-VT100-UG chapter 3, LNM)
 abbrev pub line_fed : Bool → Picture → Picture
 line_fed newline p = indexed (if newline then moved_to_left p else p)
 
@@ -32,7 +32,7 @@ abbrev pub invoked : Slot → Mode → Shown → Shown
 invoked slot Ansi s = on_sets (λ sets. record sets { invoked = slot }) s
 invoked slot Vt52 s = s
 
--- the table of their effects
+-- the table of their effects (EK-VT100-UG chapter 3; SO and SI in VT52 mode: profile)
 abbrev pub control_effect : Control → Shown → Shown
 control_effect Bs s = on_picture (stepped_left 1) s
 control_effect Ht s = on_picture tabbed s

@@ -2,12 +2,10 @@
 use Rattle.std.specs.Prelude.{ℕ, Bool, true, false, Option, Some, None, ◌==◌, if◌then◌else◌}
 use Rattle.vt_screen.specs.declared.cell.Size.TheVariants.{Single, Double, Top, Bottom}
 use Rattle.vt_screen.specs.Attributes.{plain}
-use Rattle.vt_screen.specs.Picture.{Picture}
 use Rattle.vt_screen.specs.Moves.{moved_to_left, moved_home, put_back}
 use Rattle.vt_screen.specs.Scrolls.{indexed, reverse_indexed}
 use Rattle.vt_screen.specs.Lines.{size_set, aligned}
 use Rattle.vt_screen.specs.Tabs.{tab_made}
-use Rattle.vt_term.specs.declared.sets.CharacterSet.{CharacterSet}
 use Rattle.vt_term.specs.declared.sets.CharacterSet.TheVariants.{Ascii, Uk, SpecialGraphics}
 use Rattle.vt_term.specs.declared.sets.Slot.{Slot}
 use Rattle.vt_term.specs.declared.sets.Slot.TheVariants.{G0, G1}
@@ -17,7 +15,7 @@ use Rattle.vt_term.specs.declared.escapes.Escape.TheVariants.{Ind, Nel, Ri, Hts,
 use Rattle.vt_term.specs.Sets.{designated}
 use Rattle.vt_term.specs.Shown.{Shown, reset_shown, on_picture, on_modes, on_sets}
 
--- the names of the sequences without an intermediate: D E M H Z c 7 8 = and >
+-- the names of the sequences without an intermediate: D E M H Z c 7 8 = and > (EK-VT100-UG chapter 3)
 abbrev pub plain_escape_named : ℕ → Option Escape
 plain_escape_named last =
     if last == 68 then Some Ind
@@ -32,7 +30,7 @@ plain_escape_named last =
     else (if last == 62 then Some Deckpnm
     else None)))))))))
 
--- the names of those with the intermediate #: 3 4 5 6 and 8
+-- the names of those with the intermediate #: 3 4 5 6 and 8 (EK-VT100-UG chapter 3)
 abbrev pub line_escape_named : ℕ → Option Escape
 line_escape_named last =
     if last == 51 then Some DecdhlTop
@@ -42,7 +40,8 @@ line_escape_named last =
     else (if last == 56 then Some Decaln
     else None))))
 
--- SCS: the finals A, B, 0, 1 and 2; the alternate ROMs of 1 and 2 are ASCII and special graphics (the last: profile)
+-- SCS: the finals A, B, 0, 1 and 2 (EK-VT100-UG chapter 3); the alternate ROMs of 1 and 2 are ASCII and special graphics
+-- (profile)
 abbrev pub set_escape_named : Slot → ℕ → Option Escape
 set_escape_named slot last =
     if last == 65 then Some (Scs slot Uk)
@@ -52,7 +51,7 @@ set_escape_named slot last =
     else (if last == 50 then Some (Scs slot SpecialGraphics)
     else None))))
 
--- the intermediates are #, ( for G0 and ) for G1
+-- the intermediates are #, ( for G0 and ) for G1 (EK-VT100-UG chapter 3)
 abbrev pub escape_named : Option ℕ → ℕ → Option Escape
 escape_named None last = plain_escape_named last
 escape_named (Some inter) last =
@@ -61,7 +60,7 @@ escape_named (Some inter) last =
     else (if inter == 41 then set_escape_named G1 last
     else None))
 
--- DECSC: cursor, rendition and sets, and also the pending wrap and DECOM (the last two: profile)
+-- DECSC: cursor, rendition and sets (EK-VT100-UG chapter 3), and also the pending wrap and DECOM (profile)
 abbrev pub saved_from : Shown → Saved
 saved_from s = record {
   line = s.picture.line;
@@ -90,11 +89,11 @@ restored (Some saved) s = record s {
   sets = record s.sets { g0 = saved.g0; g1 = saved.g1; invoked = saved.invoked };
 }
 
--- DECKPAM and DECKPNM
+-- DECKPAM and DECKPNM (EK-VT100-UG chapter 3)
 abbrev pub keypad_set : Bool → Shown → Shown
 keypad_set application s = on_modes (λ modes. record modes { application_keypad = application }) s
 
--- the table of their effects; DECID replies and has none
+-- the table of their effects; DECID replies and has none (EK-VT100-UG chapter 3)
 abbrev pub escape_effect : Escape → Shown → Shown
 escape_effect Ind s = on_picture indexed s
 escape_effect Nel s = on_picture (λ p. indexed (moved_to_left p)) s

@@ -1,5 +1,6 @@
 -- What holds of every term: the statements of the crate's laws.
-use Rattle.std.specs.Prelude.{◌≡◌, ℕ, ◌+◌, ◌*◌, ◌≤◌, List, [], ◌∷◌, ◌++◌, length}
+use Rattle.std.specs.Prelude.{◌≡◌, ℕ, ◌*◌, ◌≤◌, List, ◌++◌, length}
+use Rattle.vt_term.specs.Shown.{IsSafe}
 use Rattle.vt_term.specs.Term.{Term, reset_term, play, sent}
 use Rattle.vt_term.specs.Seen.{Seen, Shows}
 
@@ -25,3 +26,7 @@ SeenDecides =
 -- sequence of 3.
 abbrev pub SendsLittle : Type 0
 SendsLittle = (bytes : List ℕ) → 3 * length (sent reset_term bytes) ≤ 20 * length bytes
+
+-- Whatever bytes a safe term takes, it stays safe.
+abbrev pub StaysSafe : Type 0
+StaysSafe = (x : Term) (bytes : List ℕ) → IsSafe x.shown → IsSafe (play x bytes).shown

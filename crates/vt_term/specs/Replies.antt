@@ -1,5 +1,5 @@
 -- What a terminal answers (EK-VT100-UG chapter 3, reports). All else is answered by nothing.
-use Rattle.std.specs.Prelude.{ℕ, ◌+◌, ◌-◌, Bool, List, [], ◌∷◌, ◌++◌, Option, Some, None, ◌==◌, codes, decimal, if◌then◌else◌}
+use Rattle.std.specs.Prelude.{ℕ, ◌-◌, Bool, List, [], ◌∷◌, ◌++◌, Option, Some, None, ◌==◌, codes, decimal, if◌then◌else◌}
 use Rattle.vt_term.specs.declared.escapes.Escape.{Escape}
 use Rattle.vt_term.specs.declared.escapes.Escape.TheVariants.{Decid}
 use Rattle.vt_term.specs.declared.sequences.Sequence.{Sequence}
@@ -14,19 +14,19 @@ use Rattle.vt_term.specs.Shown.{Shown}
 abbrev pub escaped : List ℕ → List ℕ
 escaped text = 27 ∷ text
 
--- a VT100 with the Advanced Video Option
+-- DA: a VT100 with the Advanced Video Option (EK-VT100-UG chapter 3)
 abbrev pub device_attributes : List ℕ
 device_attributes = escaped (codes "[?1;2c")
 
--- no malfunction
+-- DSR: no malfunction (EK-VT100-UG chapter 3)
 abbrev pub ready : List ℕ
 ready = escaped (codes "[0n")
 
--- the cursor's line, counted from the top margin where DECOM is set
+-- the cursor's line, counted from the top margin where DECOM is set (EK-VT100-UG chapter 3)
 abbrev pub reported_line : Bool → Picture → ℕ
 reported_line origin p = if origin then p.line - (p.top - 1) else p.line
 
--- CPR: line and column
+-- CPR: line and column (EK-VT100-UG chapter 3)
 abbrev pub cursor_position : ℕ → ℕ → List ℕ
 cursor_position line column =
     escaped (codes "[" ++ decimal line ++ codes ";" ++ decimal column ++ codes "R")
@@ -35,16 +35,16 @@ cursor_position line column =
 abbrev pub terminal_parameters : List ℕ → List ℕ
 terminal_parameters solicited = escaped (codes "[" ++ solicited ++ codes ";1;1;112;112;1;0x")
 
--- a VT100 that acts as a VT52
+-- a VT100 that acts as a VT52 (EK-VT100-UG chapter 3)
 abbrev pub vt52_identity : List ℕ
 vt52_identity = escaped (codes "/Z")
 
--- DECID
+-- DECID (EK-VT100-UG chapter 3)
 abbrev pub escape_reply : Escape → List ℕ
 escape_reply Decid = device_attributes
 escape_reply _ = []
 
--- DA 0; DSR 5 and 6; DECREQTPARM 0 and 1
+-- DA 0; DSR 5 and 6; DECREQTPARM 0 and 1 (EK-VT100-UG chapter 3)
 abbrev pub sequence_reply : Sequence → List ℕ → Shown → List ℕ
 sequence_reply Da params s = if first_of params == 0 then device_attributes else []
 sequence_reply Dsr params s =
@@ -57,7 +57,7 @@ sequence_reply Decreqtparm params s =
     else [])
 sequence_reply _ params s = []
 
--- the identification of VT52 mode
+-- the identification of VT52 mode (EK-VT100-UG chapter 3)
 abbrev pub vt52_reply : Vt52Sequence → List ℕ
 vt52_reply Identify = vt52_identity
 vt52_reply _ = []

@@ -1,5 +1,5 @@
 -- What a terminal's queries tell of a term.
-use Rattle.std.specs.Prelude.{◌≡◌, ℕ, List, Some}
+use Rattle.std.specs.Prelude.{◌≡◌, Some}
 use Rattle.vt_parser.specs.declared.states.ParserState.{ParserState}
 use Rattle.vt_parser.specs.View.{parser_view}
 use Rattle.vt_term.specs.declared.console.Console.{Console}

@@ -1,5 +1,5 @@
 -- Control sequences of ANSI mode without `?` (EK-VT100-UG chapter 3).
-use Rattle.std.specs.Prelude.{ℕ, ◌-◌, Bool, true, false, List, Option, Some, None, ◌==◌, ◌||◌, ◌&&◌, nat_le, fold, slice_index, slice_set, if◌then◌else◌}
+use Rattle.std.specs.Prelude.{ℕ, ◌-◌, Bool, true, false, List, Option, Some, None, ◌==◌, ◌||◌, nat_le, fold, slice_index, slice_set, if◌then◌else◌}
 use Rattle.vt_screen.specs.Attributes.{Attributes, plain}
 use Rattle.vt_screen.specs.Picture.{Picture}
 use Rattle.vt_screen.specs.Moves.{stepped_up, stepped_down, stepped_right, stepped_left, placed}
@@ -11,7 +11,7 @@ use Rattle.vt_term.specs.declared.sequences.Sequence.{Sequence}
 use Rattle.vt_term.specs.declared.sequences.Sequence.TheVariants.{Cuu, Cud, Cuf, Cub, Cup, Ed, El, Decstbm, Tbc, Sgr, Sm, Rm, Decll, Da, Dsr, Decreqtparm}
 use Rattle.vt_term.specs.Shown.{Shown, dark, on_picture, on_modes}
 
--- the names of the finals A B C D H f J K r g m h l q c n and x; HVP is read as CUP
+-- the names of the finals A B C D H f J K r g m h l q c n and x; HVP is read as CUP (EK-VT100-UG chapter 3)
 abbrev pub sequence_named : ℕ → Option Sequence
 sequence_named last =
     if last == 65 then Some Cuu
@@ -32,33 +32,33 @@ sequence_named last =
     else (if last == 120 then Some Decreqtparm
     else None)))))))))))))))
 
--- the first and the second parameter; a missing one is 0
+-- the first and the second parameter; a missing one is 0 (ECMA-48 section 5.4.2)
 abbrev pub first_of : List ℕ → ℕ
 first_of params = slice_index params 0
 
 abbrev pub second_of : List ℕ → ℕ
 second_of params = slice_index params 1
 
--- a parameter that stands for a default where it is 0
+-- a parameter that stands for a default where it is 0 (EK-VT100-UG chapter 3)
 abbrev pub or_default : ℕ → ℕ → ℕ
 or_default value param = if param == 0 then value else param
 
--- Pn: counted as 1 where it is 0
+-- Pn: counted as 1 where it is 0 (EK-VT100-UG chapter 3)
 abbrev pub counted : ℕ → ℕ
 counted param = or_default 1 param
 
--- ED and EL have the parts 0, 1 and 2; another does nothing
+-- ED and EL have the parts 0, 1 and 2; another does nothing (EK-VT100-UG chapter 3)
 abbrev pub erased : (ℕ → Picture → Picture) → ℕ → Picture → Picture
 erased erase part p = if nat_le part 2 then erase part p else p
 
--- TBC: 0 clears the stop at the cursor's column, 3 clears all; another does nothing
+-- TBC: 0 clears the stop at the cursor's column, 3 clears all; another does nothing (EK-VT100-UG chapter 3)
 abbrev pub tabs_taken : ℕ → Picture → Picture
 tabs_taken param p =
     if param == 0 then tab_made false p
     else (if param == 3 then tabs_cleared p
     else p)
 
--- SGR: 0 no rendition, 1 bold, 4 underscore, 5 blink, 7 reverse; others do nothing
+-- SGR: 0 no rendition, 1 bold, 4 underscore, 5 blink, 7 reverse; others do nothing (EK-VT100-UG chapter 3)
 abbrev pub rendition_set : Attributes → ℕ → Attributes
 rendition_set a param =
     if param == 0 then plain
@@ -68,11 +68,11 @@ rendition_set a param =
     else (if param == 7 then record a { reverse = true }
     else a))))
 
--- SM and RM: 20 is LNM; others do nothing
+-- SM and RM: 20 is LNM; others do nothing (EK-VT100-UG chapter 3)
 abbrev pub newline_set : Bool → Modes → ℕ → Modes
 newline_set value modes param = if param == 20 then record modes { newline = value } else modes
 
--- DECLL: 0 all LEDs off, 1 to 4 that LED on; others do nothing
+-- DECLL: 0 all LEDs off, 1 to 4 that LED on; others do nothing (EK-VT100-UG chapter 3)
 abbrev pub leds_set : List Bool → ℕ → List Bool
 leds_set leds param =
     if param == 0 then dark

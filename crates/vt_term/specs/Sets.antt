@@ -1,5 +1,5 @@
 -- Character sets, and the glyph that a byte stands for.
-use Rattle.std.specs.Prelude.{ℕ, ◌-◌, Bool, true, false, nat_le, ◌==◌, if◌then◌else◌}
+use Rattle.std.specs.Prelude.{ℕ, ◌-◌, false, nat_le, ◌==◌, if◌then◌else◌}
 use Rattle.vt_parser.specs.declared.commands.Mode.{Mode}
 use Rattle.vt_parser.specs.declared.commands.Mode.TheVariants.{Ansi, Vt52}
 use Rattle.vt_term.specs.declared.sets.CharacterSet.{CharacterSet}
@@ -19,12 +19,13 @@ glyph_of SpecialGraphics byte = if nat_le 95 byte then byte - 95 else byte
 abbrev pub checkerboard : ℕ
 checkerboard = 2
 
--- the set that stands in a slot
+-- the set that stands in a slot (EK-VT100-UG chapter 3, SCS)
 abbrev pub set_in : Slot → Sets → CharacterSet
 set_in G0 sets = sets.g0
 set_in G1 sets = sets.g1
 
 -- the set in use: the invoked one, or in VT52 mode special graphics while its graphics is on and ASCII else
+-- (EK-VT100-UG chapter 3)
 abbrev pub set_in_use : Mode → Sets → CharacterSet
 set_in_use Ansi sets = set_in sets.invoked sets
 set_in_use Vt52 sets = if sets.vt52_graphics then SpecialGraphics else Ascii
@@ -33,7 +34,7 @@ set_in_use Vt52 sets = if sets.vt52_graphics then SpecialGraphics else Ascii
 abbrev pub first_sets : Sets
 first_sets = record { g0 = Ascii; g1 = Ascii; invoked = G0; vt52_graphics = false }
 
--- SCS: another set stands in a slot
+-- SCS: another set stands in a slot (EK-VT100-UG chapter 3)
 abbrev pub designated : Slot → CharacterSet → Sets → Sets
 designated G0 set sets = record sets { g0 = set }
 designated G1 set sets = record sets { g1 = set }

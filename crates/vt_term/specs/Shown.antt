@@ -1,7 +1,6 @@
 -- What a terminal shows beside its parser: a plain value, on which effects are told.
-use Rattle.std.specs.Prelude.{◌≡◌, ℕ, ◌≤◌, Bool, true, false, List, [], ◌∷◌, length, Option, Some, None}
-use Rattle.vt_parser.specs.declared.commands.Mode.{Mode}
-use Rattle.vt_parser.specs.declared.commands.Mode.TheVariants.{Ansi, Vt52}
+use Rattle.std.specs.Prelude.{◌≡◌, ◌≤◌, Bool, true, false, List, [], ◌∷◌, length, Option, Some, None}
+use Rattle.vt_parser.specs.declared.commands.Mode.TheVariants.{Ansi}
 use Rattle.vt_screen.specs.Attributes.{Attributes, plain}
 use Rattle.vt_screen.specs.Picture.{Picture, Sound, Inside, reset}
 use Rattle.vt_term.specs.declared.modes.Modes.{Modes}
@@ -39,7 +38,7 @@ first_modes = record {
   application_keypad = false;
 }
 
--- all four LEDs off
+-- all four LEDs off (EK-VT100-UG chapter 3, DECLL)
 abbrev pub dark : List Bool
 dark = false ∷ false ∷ false ∷ false ∷ []
 
@@ -66,7 +65,7 @@ on_modes change s = record s { modes = change s.modes }
 abbrev pub on_sets : (Sets → Sets) → Shown → Shown
 on_sets change s = record s { sets = change s.sets }
 
--- What stands in no table has no effect.
+-- What stands in no table has no effect (profile).
 abbrev pub effect_of : {Row : Type 0} → (Row → Shown → Shown) → Option Row → Shown → Shown
 effect_of effect None s = s
 effect_of effect (Some row) s = effect row s
@@ -82,13 +81,14 @@ shown_of console = record {
   leds = console.leds;
 }
 
--- a saved cursor stands on the screen
+-- a saved cursor stands on the screen (profile)
 abbrev pub IsSavedWell : Option Saved → Type 0
 IsSavedWell None = Unit {0}
 IsSavedWell (Some saved) = (1 ≤ saved.line) × (saved.line ≤ 24) × (1 ≤ saved.column) × (saved.column ≤ 132)
 
 -- What every terminal keeps: the screen is sound (the cursor is at most at its line's right margin, cells right of it are
--- blank, glyphs are at most 126), and the cursor is inside the margins while DECOM is set.
+-- blank, glyphs are at most 126), and the cursor is inside the margins while DECOM is set (EK-VT100-UG
+-- chapter 3, DECOM; the cut at the right margin: profile).
 pub record IsSafe (s : Shown) : Type 0 where
   pub sound : Sound s.picture
   pub inside : s.modes.origin ≡ true → Inside s.picture

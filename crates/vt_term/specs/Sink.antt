@@ -1,5 +1,5 @@
 -- The list of reports, and the place in it.
-use Rattle.std.specs.Prelude.{◌≡◌, ℕ, ◌+◌, ◌-◌, ◌≤◌, min, List, [], ◌++◌, length, take, drop}
+use Rattle.std.specs.Prelude.{◌≡◌, ℕ, ◌+◌, ◌-◌, ◌≤◌, List, ◌++◌, length, take, drop}
 
 -- bytes, and a place in them, at most their length
 pub record Sink : Type 0 where

@@ -9,7 +9,7 @@ use Rattle.vt_term.specs.declared.vt52.Vt52Sequence.TheVariants.{Up, Down, Right
 use Rattle.vt_term.specs.Shown.{Shown, on_picture, on_modes, on_sets}
 use Rattle.vt_term.specs.Escapes.{keypad_set}
 
--- the names of the finals A B C D F G H I J K Z = > and <
+-- the names of the finals A B C D F G H I J K Z = > and < (EK-VT100-UG chapter 3)
 abbrev pub vt52_named : ℕ → Option Vt52Sequence
 vt52_named last =
     if last == 65 then Some Up
@@ -28,11 +28,12 @@ vt52_named last =
     else (if last == 60 then Some EnterAnsi
     else None)))))))))))))
 
--- VT52 graphics on and off
+-- VT52 graphics on and off (EK-VT100-UG chapter 3)
 abbrev pub graphics_set : Bool → Shown → Shown
 graphics_set value s = on_sets (λ sets. record sets { vt52_graphics = value }) s
 
--- The table of their effects. Identify replies and has none; in ANSI mode again, G0, G1 and the invoked set are as they were.
+-- The table of their effects. Identify replies and has none; in ANSI mode again, G0, G1 and the invoked set are as they were
+-- (EK-VT100-UG chapter 3; what stays: profile).
 abbrev pub vt52_effect : Vt52Sequence → Shown → Shown
 vt52_effect Up s = on_picture (stepped_up 1) s
 vt52_effect Down s = on_picture (stepped_down 1) s
@@ -49,6 +50,6 @@ vt52_effect KeypadApplication s = keypad_set true s
 vt52_effect KeypadNumeric s = keypad_set false s
 vt52_effect EnterAnsi s = on_modes (λ modes. record modes { mode = Ansi }) s
 
--- a direct cursor address: CUP with line and column
+-- a direct cursor address: CUP with line and column (EK-VT100-UG chapter 3)
 abbrev pub address_effect : ℕ → ℕ → Shown → Shown
 address_effect line column s = on_picture (placed line column s.modes.origin) s

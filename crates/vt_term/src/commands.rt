@@ -58,7 +58,8 @@ impl Console {
         sink: &mut Reports,
     ) -> Result<(), OutOfMemory>
         requires { IsSafe (shown_of self.old) }
-        ensures shown { OnOk result (shown_of self.new ≡ effect_of escape_effect (escape_named inter last) (shown_of self.old)) }
+        ensures shown { OnOk result
+            (shown_of self.new ≡ effect_of escape_effect (escape_named inter last) (shown_of self.old)) }
         ensures sent { OnOk result (sink.new ≡ after_sending sink.old (reply_of escape_reply (escape_named inter last))) }
         ensures err { OnErr result (shown_of self.new ≡ shown_of self.old) }
         ensures err_sink { OnErr result (sink.new ≡ sink.old) }
@@ -71,8 +72,9 @@ impl Console {
         Ok(())
     }
 
+    /// Answers a control sequence, and does what it asks for. A refused growth changes nothing.
     #[inline]
-    fn perform_control_sequence(
+    pub(crate) fn perform_control_sequence(
         &mut self,
         private: bool,
         params: &[u16],
@@ -80,11 +82,14 @@ impl Console {
         sink: &mut Reports,
     ) -> Result<(), OutOfMemory>
         requires { IsSafe (shown_of self.old) }
-        ensures shown { OnOk result (shown_of self.new ≡ control_sequence_effect private last params.now (shown_of self.old)) }
-        ensures sent { OnOk result (sink.new ≡ after_sending sink.old (control_sequence_reply private last params.now (shown_of self.old))) }
+        ensures shown { OnOk result
+            (shown_of self.new ≡ control_sequence_effect private last params.now (shown_of self.old)) }
+        ensures sent { OnOk result
+            (sink.new ≡ after_sending sink.old (control_sequence_reply private last params.now (shown_of self.old))) }
         ensures err { OnErr result (shown_of self.new ≡ shown_of self.old) }
         ensures err_sink { OnErr result (sink.new ≡ sink.old) }
-        ensures room { HasRoom sink.old (control_sequence_reply private last params.now (shown_of self.old)) → IsOk result }
+        ensures room { HasRoom sink.old (control_sequence_reply private last params.now (shown_of self.old))
+            → IsOk result }
     {
         if private {
             self.do_private(last, params);

@@ -1,5 +1,12 @@
-//! Laws of the definitions that contracts cite: each is proved, and its body is empty.
-ghost use Rattle.vt_term.specs.Law.{PlaysInParts, SendsInParts, SentIsAppended, SeenDecides, SendsLittle};
+//! Laws of the definitions that contracts cite, and of every terminal. Nothing here does anything.
+ghost use Rattle.std.specs.Prelude.{◌≡◌, ℕ, ◌<◌, ◌≤◌, true};
+ghost use Rattle.vt_screen.specs.Cells.{blank};
+ghost use Rattle.vt_screen.specs.Picture.{Inside, cell, right_margin};
+ghost use Rattle.vt_term.specs.Law.{PlaysInParts, SendsInParts, SentIsAppended, SeenDecides, SendsLittle, StaysSafe};
+ghost use Rattle.vt_term.specs.Shown.{IsSafe};
+ghost use Rattle.vt_term.specs.Term.{reset_term};
+
+use crate::Terminal;
 
 /// Joined texts are played as their parts in turn, wherever the cut is.
 pub fn plays_in_parts()
@@ -25,3 +32,23 @@ pub fn seen_decides()
 pub fn sends_little()
     ensures { SendsLittle }
 {}
+
+/// The reset term is safe, and a safe term stays so whatever bytes are played.
+pub fn stays_safe()
+    ensures reset { IsSafe reset_term.shown }
+    ensures played { StaysSafe }
+{}
+
+/// What every terminal shows: the cursor is on the screen and within its line's right margin, cells right of that margin
+/// are blank, glyphs are at most 126, and while DECOM is set the cursor is inside the margins.
+pub fn terminals_are_safe(terminal: &Terminal)
+    ensures line { (1 ≤ terminal.now.shown.picture.line) × (terminal.now.shown.picture.line ≤ 24) }
+    ensures column { (1 ≤ terminal.now.shown.picture.column)
+        × (terminal.now.shown.picture.column ≤ right_margin terminal.now.shown.picture terminal.now.shown.picture.line) }
+    ensures blank { (line column : ℕ) → right_margin terminal.now.shown.picture line < column
+        → cell terminal.now.shown.picture line column ≡ blank }
+    ensures glyphs { (line column : ℕ) → (cell terminal.now.shown.picture line column).glyph ≤ 126 }
+    ensures inside { terminal.now.shown.modes.origin ≡ true → Inside terminal.now.shown.picture }
+{
+    let _screen = terminal.screen();
+}

@@ -11,6 +11,7 @@ mod escapes;
 pub mod laws;
 mod modes;
 mod private_modes;
+mod quiet;
 mod replies;
 mod reports;
 mod saved;

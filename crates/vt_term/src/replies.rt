@@ -88,7 +88,8 @@ impl Console {
         params: &[u16],
         sink: &mut Reports,
     ) -> Result<(), OutOfMemory>
-        ensures ok { OnOk result (sink.new ≡ after_sending sink.old (sequence_reply sequence params.now (shown_of self.now))) }
+        ensures ok { OnOk result
+            (sink.new ≡ after_sending sink.old (sequence_reply sequence params.now (shown_of self.now))) }
         ensures err { OnErr result (sink.new ≡ sink.old) }
         ensures room { HasRoom sink.old (sequence_reply sequence params.now (shown_of self.now)) → IsOk result }
     {
@@ -104,11 +105,11 @@ impl Console {
 
     // DSR 6.
     fn answer_position(&self, sink: &mut Reports) -> Result<(), OutOfMemory>
-        ensures ok { OnOk result (sink.new ≡ after_sending sink.old
-            (cursor_position (reported_line self.now.modes.origin self.now.screen.picture) self.now.screen.picture.column)) }
+        ensures ok { let picture = self.now.screen.picture in OnOk result
+            (sink.new ≡ after_sending sink.old (cursor_position (reported_line self.now.modes.origin picture) picture.column)) }
         ensures err { OnErr result (sink.new ≡ sink.old) }
-        ensures room { HasRoom sink.old
-            (cursor_position (reported_line self.now.modes.origin self.now.screen.picture) self.now.screen.picture.column) → IsOk result }
+        ensures room { let picture = self.now.screen.picture in
+            HasRoom sink.old (cursor_position (reported_line self.now.modes.origin picture) picture.column) → IsOk result }
     {
         let (line, column) = self.screen.cursor();
         let (top, _) = self.screen.margins();

@@ -46,12 +46,14 @@ impl Reports {
         }
     }
 
+    /// All that was sent.
     pub fn bytes(&self) -> &[u8]
         ensures { result.now ≡ self.now.bytes }
     {
         self.list.as_slice()
     }
 
+    /// Where the next reply is sent.
     pub fn place(&self) -> usize
         ensures value { result ≡ self.now.place }
         ensures within { result ≤ length self.now.bytes }

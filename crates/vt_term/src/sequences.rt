@@ -126,7 +126,8 @@ impl Console {
     }
 
     fn place(&mut self, line: u16, column: u16)
-        ensures { shown_of self.new ≡ on_picture (placed (counted line) (counted column) self.old.modes.origin) (shown_of self.old) }
+        ensures { shown_of self.new
+            ≡ on_picture (placed (counted line) (counted column) self.old.modes.origin) (shown_of self.old) }
     {
         self.screen.place(
             or_default(1, line),
@@ -153,7 +154,8 @@ impl Console {
 
     // Margins that are none are refused, and nothing changes.
     fn set_margins(&mut self, top: u16, bottom: u16)
-        ensures { shown_of self.new ≡ on_picture (margins_set (or_default 1 top) (or_default 24 bottom) self.old.modes.origin) (shown_of self.old) }
+        ensures { shown_of self.new
+            ≡ on_picture (margins_set (or_default 1 top) (or_default 24 bottom) self.old.modes.origin) (shown_of self.old) }
     {
         let _accepted = self.screen.set_margins(
             or_default(1, top),

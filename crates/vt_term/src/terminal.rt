@@ -1,7 +1,9 @@
 //! The terminal: a parser before a console.
-ghost use Rattle.std.specs.Prelude.{◌≡◌, ℕ, ◌≤◌, ◌<◌, [], ◌∷◌, length, take, IsOk, IfOk, OnOk, OnErr};
+ghost use Rattle.std.specs.Prelude.{◌≡◌, ℕ, ◌≤◌, ◌<◌, true, false, [], ◌∷◌, length, take, IsOk, IfOk, OnOk, OnErr};
+ghost use Rattle.vt_parser.specs.Sequence.{is_control_final};
 
 use crate::console::Console;
+use crate::quiet::{are_quiet, byte_before};
 use crate::{Modes, OutOfMemory, Reports, Saved, Sets};
 use std::marker::Model;
 use vt_parser::{Parser, ParserState, printable_run};
@@ -53,21 +55,25 @@ impl Terminal {
         self.parser.copy_from(&other.parser);
     }
 
-    /// Takes bytes, and sends what they are answered by. Only where a reply may have to join the list does this copy the
-    /// terminal, for the case that memory is refused.
+    /// Takes bytes, and sends what they are answered by. Only where they may end a sequence that is answered does this
+    /// keep a copy of the terminal, for the case that memory is refused.
     pub fn feed(&mut self, bytes: &[u8], sink: &mut Reports) -> Result<(), OutOfMemory>
         // For every term that the terminal shows, it shows that term with the bytes played ..
         ensures shows { (x : Term) → Shows self.old x → OnOk result (Shows self.new (play x bytes.now)) }
         // .. and what they are answered by was sent.
-        ensures sent { (x : Term) → Shows self.old x → OnOk result (sink.new ≡ after_sending sink.old (sent x bytes.now)) }
+        ensures sent { (x : Term) → Shows self.old x
+            → OnOk result (sink.new ≡ after_sending sink.old (sent x bytes.now)) }
 
         ensures err { OnErr result (self.new ≡ self.old) }
         ensures err_sink { OnErr result (sink.new ≡ sink.old) }
         ensures room { (x : Term) → Shows self.old x → HasRoom sink.old (sent x bytes.now) → IsOk result }
     {
+        let place = sink.place();
+        if self.is_quiet(bytes) {
+            return self.feed_in_place(bytes, sink);
+        }
         let mut before = Terminal::reset();
         before.copy_from(self);
-        let place = sink.place();
         let len = sink.bytes().len();
         if self.feed_in_place(bytes, sink).is_err() {
             self.copy_from(&before);
@@ -78,11 +84,12 @@ impl Terminal {
         Ok(())
     }
 
-    /// Feeds as `feed` does, and keeps no copy: after a refusal the terminal is some terminal, and the list begins with what
-    /// it held.
+    /// Feeds as `feed` does, and keeps no copy: after a refusal the terminal is some terminal, and the list begins with
+    /// what it held.
     pub fn feed_in_place(&mut self, bytes: &[u8], sink: &mut Reports) -> Result<(), OutOfMemory>
         ensures shows { (x : Term) → Shows self.old x → OnOk result (Shows self.new (play x bytes.now)) }
-        ensures sent { (x : Term) → Shows self.old x → OnOk result (sink.new ≡ after_sending sink.old (sent x bytes.now)) }
+        ensures sent { (x : Term) → Shows self.old x
+            → OnOk result (sink.new ≡ after_sending sink.old (sent x bytes.now)) }
         ensures front { KeepsFront sink.old sink.new }
         ensures room { (x : Term) → Shows self.old x → HasRoom sink.old (sent x bytes.now) → IsOk result }
     {
@@ -93,6 +100,14 @@ impl Terminal {
         Ok(())
     }
 
+    // Whether a glance tells that the bytes aren't answered, so that nothing can be refused.
+    fn is_quiet(&self, bytes: &[u8]) -> bool
+        ensures quiet { result ≡ true → (x : Term) → Shows self.now x → sent x bytes.now ≡ [] }
+        ensures proper { IsProper self.now }
+    {
+        are_quiet(byte_before(self.parser.state()), bytes)
+    }
+
     // Takes a run of graphic bytes, or one byte, and says how many it took.
     #[inline]
     fn take_some(&mut self, bytes: &[u8], sink: &mut Reports) -> Result<usize, OutOfMemory>
@@ -100,7 +115,8 @@ impl Terminal {
         ensures some { IfOk result (λ n. 0 < n) }
         ensures within { IfOk result (λ n. n ≤ length bytes.now) }
         ensures shows { (x : Term) → Shows self.old x → IfOk result (λ n. Shows self.new (play x (take n bytes.now))) }
-        ensures sent { (x : Term) → Shows self.old x → IfOk result (λ n. sink.new ≡ after_sending sink.old (sent x (take n bytes.now))) }
+        ensures sent { (x : Term) → Shows self.old x
+            → IfOk result (λ n. sink.new ≡ after_sending sink.old (sent x (take n bytes.now))) }
         ensures front { KeepsFront sink.old sink.new }
         ensures room { (x : Term) → Shows self.old x → HasRoom sink.old (sent x (take 1 bytes.now)) → IsOk result }
     {
@@ -140,7 +156,73 @@ impl Terminal {
     #[inline]
     fn take_byte(&mut self, byte: u8, sink: &mut Reports) -> Result<(), OutOfMemory>
         ensures shows { (x : Term) → Shows self.old x → OnOk result (Shows self.new (play x (byte ∷ []))) }
-        ensures sent { (x : Term) → Shows self.old x → OnOk result (sink.new ≡ after_sending sink.old (sent x (byte ∷ []))) }
+        ensures sent { (x : Term) → Shows self.old x
+            → OnOk result (sink.new ≡ after_sending sink.old (sent x (byte ∷ []))) }
+        ensures front { KeepsFront sink.old sink.new }
+        ensures room { (x : Term) → Shows self.old x → HasRoom sink.old (sent x (byte ∷ [])) → IsOk result }
+    {
+        if self.go_on(byte) {
+            return Ok(());
+        }
+        if self.act(byte) {
+            return Ok(());
+        }
+        self.take_command(byte, sink)
+    }
+
+    // Takes a byte with which a sequence begins or goes on, and says whether it did. Else nothing has changed.
+    #[inline]
+    fn go_on(&mut self, byte: u8) -> bool
+        ensures shows { result ≡ true → (x : Term) → Shows self.old x → Shows self.new (play x (byte ∷ [])) }
+        ensures sent { result ≡ true → (x : Term) → Shows self.old x → sent x (byte ∷ []) ≡ [] }
+        ensures left { result ≡ false → self.new ≡ self.old }
+    {
+        self.parser.go_on(self.console.modes.mode, byte)
+    }
+
+    // Takes a control that acts, and says whether it did. Else nothing has changed.
+    #[inline]
+    fn act(&mut self, byte: u8) -> bool
+        ensures shows { result ≡ true → (x : Term) → Shows self.old x → Shows self.new (play x (byte ∷ [])) }
+        ensures sent { result ≡ true → (x : Term) → Shows self.old x → sent x (byte ∷ []) ≡ [] }
+        ensures left { result ≡ false → self.new ≡ self.old }
+    {
+        if !self.parser.acts(byte) {
+            return false;
+        }
+        self.console.control(byte);
+        true
+    }
+
+    // Takes any byte.
+    fn take_command(&mut self, byte: u8, sink: &mut Reports) -> Result<(), OutOfMemory>
+        ensures shows { (x : Term) → Shows self.old x → OnOk result (Shows self.new (play x (byte ∷ []))) }
+        ensures sent { (x : Term) → Shows self.old x
+            → OnOk result (sink.new ≡ after_sending sink.old (sent x (byte ∷ []))) }
+        ensures front { KeepsFront sink.old sink.new }
+        ensures room { (x : Term) → Shows self.old x → HasRoom sink.old (sent x (byte ∷ [])) → IsOk result }
+    {
+        match self.parser.state() {
+            ParserState::Csi {
+                private,
+                params,
+                ..
+            } if is_final(byte) => {
+                let answer = self
+                    .console
+                    .perform_control_sequence(*private, params.as_slice(), byte, sink);
+                self.parser.finish();
+                answer
+            }
+            _ => self.take_step(byte, sink),
+        }
+    }
+
+    // Takes a byte by the parser's step.
+    fn take_step(&mut self, byte: u8, sink: &mut Reports) -> Result<(), OutOfMemory>
+        ensures shows { (x : Term) → Shows self.old x → OnOk result (Shows self.new (play x (byte ∷ []))) }
+        ensures sent { (x : Term) → Shows self.old x
+            → OnOk result (sink.new ≡ after_sending sink.old (sent x (byte ∷ []))) }
         ensures front { KeepsFront sink.old sink.new }
         ensures room { (x : Term) → Shows self.old x → HasRoom sink.old (sent x (byte ∷ [])) → IsOk result }
     {
@@ -167,6 +249,7 @@ impl Terminal {
         self.parser.state()
     }
 
+    /// The modes, and the keypad.
     pub fn modes(&self) -> Modes
         ensures { result ≡ self.now.shown.modes }
     {
@@ -180,6 +263,7 @@ impl Terminal {
         self.console.rendition
     }
 
+    /// The designated sets, which of them is invoked, and VT52 graphics.
     pub fn sets(&self) -> Sets
         ensures { result ≡ self.now.shown.sets }
     {
@@ -199,4 +283,12 @@ impl Terminal {
     {
         self.console.leds
     }
+}
+
+// Whether a byte ends a control sequence.
+#[inline]
+fn is_final(byte: u8) -> bool
+    ensures { result ≡ is_control_final byte }
+{
+    matches!(byte, 64..=126)
 }

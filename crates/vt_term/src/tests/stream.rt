@@ -1,7 +1,7 @@
 //! The same bytes in pieces of several lengths.
 ghost use Rattle.std.specs.Prelude.{◌<◌};
 
-use crate::{Reports, Terminal};
+use crate::{Reports, Terminal, laws};
 use std::alloc::Global;
 use std::process::Abort;
 use std::test::Fail;
@@ -89,4 +89,33 @@ fn runs_in_pieces(rt: HostRuntime) -> Result<(), Fail> {
         assert_equal(&rt, &whole, &parts);
     }
     Ok(())
+}
+
+// A copy has the parser's state and all else, so it goes on as the terminal that it is of.
+#[test]
+fn a_copy_goes_on_alike(rt: HostRuntime) -> Result<(), Fail> {
+    let mut one = feed_pieces(rt.alloc(), b"\x1b[2;5r\x1b[?6hab\x1b[7;", 100)?;
+    let mut other = feed_pieces(rt.alloc(), b"x\x1b[6n", 100)?;
+    other.terminal.copy_from(&one.terminal);
+    other.reports.cut(0);
+    one.terminal.feed_in_place(b"1mc\x1b[6n", &mut one.reports)?;
+    other
+        .terminal
+        .feed_in_place(b"1mc\x1b[6n", &mut other.reports)?;
+    assert_equal(&rt, &one, &other);
+    assert!(rt; one.reports.bytes() == b"\x1b[1;4R".as_slice());
+    assert!(rt; one.terminal.screen().cell(2, 3).rendition.reverse());
+    Ok(())
+}
+
+// The laws are there to be cited, and do nothing.
+#[test]
+fn laws_do_nothing() {
+    laws::plays_in_parts();
+    laws::sends_in_parts();
+    laws::sent_is_appended();
+    laws::seen_decides();
+    laws::sends_little();
+    laws::stays_safe();
+    laws::terminals_are_safe(&Terminal::reset());
 }

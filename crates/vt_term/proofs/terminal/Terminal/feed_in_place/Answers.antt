@@ -1,8 +1,8 @@
-use Rattle.std.proofs.Common.{rules, ◌≡◌, ℕ, ◌+◌, ◌≤◌, List, [], take, drop, length, sym, subst, refl, ap, arith}
+use Rattle.std.proofs.Common.{rules, ◌≡◌, ℕ, List, [], take, sym, subst, arith}
 use Rattle.std.proofs.lemmas.Bool.{false≢true}
 use Rattle.std.proofs.lemmas.List.{take_rest}
 use Rattle.vt_term.specs.Sink.{after_sending, HasRoom}
-use Rattle.vt_term.specs.Term.{Term, play, sent}
+use Rattle.vt_term.specs.Term.{play, sent}
 use Rattle.vt_term.specs.Seen.{Shows}
 use Rattle.vt_term.proofs.Feeding.{play_on, sink_on, room_on}
 use Rattle.vt_term.proofs.Sinks.{keeps_itself, keeps_trans}

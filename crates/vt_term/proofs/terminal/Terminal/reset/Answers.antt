@@ -1,7 +1,4 @@
-use Rattle.std.proofs.Common.{◌≡◌, sym, subst, ap}
-use Rattle.vt_parser.specs.declared.states.ParserState.{ParserState}
-use Rattle.vt_parser.specs.declared.states.ParserState.TheVariants.{Ground}
-use Rattle.vt_term.specs.Shown.{Shown, shown_of, reset_shown}
+use Rattle.std.proofs.Common.{subst}
 use Rattle.vt_term.specs.Term.{reset_term}
 use Rattle.vt_term.specs.Seen.{Seen, Shows, IsProper}
 use Rattle.vt_term.proofs.Taken.{reset_shows, reset_proper, seen_is}

@@ -1,4 +1,4 @@
-use Rattle.std.proofs.Common.{◌≡◌, ℕ, ◌≤◌, arith}
+use Rattle.std.proofs.Common.{arith}
 use Rattle.vt_parser.proofs.ProperLemmas.{runs_are_graphic}
 use Rattle.vt_term.proofs.terminal.Terminal.run_at.Goals as goal
 

@@ -1,8 +1,7 @@
-use Rattle.std.proofs.Common.{◌≡◌, ℕ, List, sym, subst, ap, ◌∙◌}
-use Rattle.vt_term.specs.Shown.{shown_of}
-use Rattle.vt_term.specs.Term.{Term, play}
+use Rattle.std.proofs.Common.{sym, subst, ap, ◌∙◌}
+use Rattle.vt_term.specs.Term.{play}
 use Rattle.vt_term.specs.Seen.{Seen, Shows, IsProper, seen_of}
-use Rattle.vt_term.proofs.Runs.{seen_after_run, shows_run, proper_after_run, graphic_bytes}
+use Rattle.vt_term.proofs.Runs.{shows_run, proper_after_run, graphic_bytes}
 use Rattle.vt_term.proofs.Taken.{seen_is}
 use Rattle.vt_term.proofs.terminal.Terminal.show_run.Goals as goal
 

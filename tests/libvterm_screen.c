@@ -1,0 +1,54 @@
+/* Prints the text screen that libvterm shows after a file's bytes: 24 lines, without the spaces at their ends.
+ *
+ *     libvterm_screen FILE
+ *
+ * It serves compare.py. 80x24, UTF-8 off; a cell of more than one character prints its first.
+ */
+#include <stdio.h>
+#include <string.h>
+#include <vterm.h>
+
+static int put_utf8(unsigned c, char *to)
+{
+	if (c < 0x80)
+		return to[0] = c, 1;
+	if (c < 0x800)
+		return to[0] = 0xc0 | c >> 6, to[1] = 0x80 | (c & 63), 2;
+	return to[0] = 0xe0 | c >> 12, to[1] = 0x80 | (c >> 6 & 63), to[2] = 0x80 | (c & 63), 3;
+}
+
+int main(int argc, char **argv)
+{
+	FILE *file = argc == 2 ? fopen(argv[1], "rb") : NULL;
+	if (!file) {
+		fprintf(stderr, "usage: libvterm_screen FILE\n");
+		return 2;
+	}
+	VTerm *term = vterm_new(24, 80);
+	vterm_set_utf8(term, 0);
+	VTermScreen *screen = vterm_obtain_screen(term);
+	vterm_screen_reset(screen, 1);
+	char bytes[65536];
+	size_t count;
+	while ((count = fread(bytes, 1, sizeof bytes, file)) > 0)
+		vterm_input_write(term, bytes, count);
+	for (int row = 0; row < 24; row++) {
+		char line[80 * 3 + 1];
+		int end = 0, len = 0;
+		for (int col = 0; col < 80; col++) {
+			VTermScreenCell cell;
+			VTermPos pos = {row, col};
+			vterm_screen_get_cell(screen, pos, &cell);
+			unsigned c = cell.chars[0];
+			/* The right half of a wide cell, and a cell that was never written. */
+			if (c == 0 || c == (unsigned)-1)
+				c = ' ';
+			len += put_utf8(c, line + len);
+			if (c != ' ')
+				end = len;
+		}
+		fwrite(line, 1, end, stdout);
+		putchar('\n');
+	}
+	return 0;
+}
