@@ -27,7 +27,7 @@ pub fn write_script<W: Write>(recording: &Recording, writer: &mut Watched<W>) ->
     ensures flushed { OnOk result (is_flushed writer.new ≡ true) }
 {
     writer.put(recording.header())?;
-    put_body(recording.chunks(), writer)?;
+    put_chunks(recording.chunks(), writer)?;
     writer.put(recording.trailer())?;
     writer.finish()?;
     Ok(())
@@ -47,8 +47,9 @@ pub fn write_timing<W: Write>(recording: &Recording, writer: &mut Watched<W>) ->
     Ok(())
 }
 
-/// Writes the bytes of all chunks.
-fn put_body<W: Write>(chunks: &[Chunk], writer: &mut Watched<W>) -> Result<(), Fault>
+/// Writes the bytes of the chunks, one after another, and doesn't flush. Takes no memory. After a write
+/// fault a beginning of them has gone out.
+pub fn put_chunks<W: Write>(chunks: &[Chunk], writer: &mut Watched<W>) -> Result<(), Fault>
     requires { has_failed writer.old ≡ false }
     ensures ok { OnOk result (Took W.contents writer.old writer.new (body chunks.now)) }
     ensures fault { IfErr result (λ fault. (fault ≡ Fault.WriteFault) × StoppedIn W.contents writer.old writer.new (body chunks.now)) }

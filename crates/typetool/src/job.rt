@@ -5,7 +5,7 @@ ghost use Rattle.tape_core.specs.Devices.{inner_of, has_failed, is_flushed, Took
 ghost use Rattle.tape_core.specs.Due.{due};
 ghost use Rattle.tape_core.specs.Faults.{is_stop};
 ghost use Rattle.tape_core.specs.Reading.{fault_of, reads};
-ghost use Rattle.tape_core.specs.Tape.{Tape, body};
+ghost use Rattle.tape_core.specs.Tape.{Tape};
 ghost use Rattle.typetool.specs.Moment.{StopsAt};
 ghost use Rattle.typetool.specs.Output.{Files, Done, Comes, Tells, Wrote, Stopped, takes_requests, writes_timing, is_stopped, is_unwritten, status_of, outcome_by, text_of, IsDoneStatus, TakesMemory};
 
@@ -14,7 +14,7 @@ use std::alloc::Global;
 use std::io::{Read, Write};
 use std::mem::ManuallyDrop;
 use tape_core::laws::due_is_first;
-use tape_core::{Chunk, Fault, Recording, Watched, read_recording, slurp};
+use tape_core::{Fault, Recording, Watched, put_chunks, read_recording, slurp};
 use thiserror::Error;
 use vt_term::OutOfMemory;
 
@@ -213,19 +213,6 @@ fn write_due<O: Write>(recording: &Recording, at: u64, out: &mut Watched<O>) -> 
     let count = recording.due_count(at);
     put_chunks(&recording.chunks()[..count], out)?;
     out.finish()
-}
-
-/// Writes the bytes of the chunks, one after another.
-fn put_chunks<O: Write>(chunks: &[Chunk], out: &mut Watched<O>) -> Result<(), Fault>
-    requires { has_failed out.old ≡ false }
-    ensures ok { OnOk result (Took O.contents out.old out.new (body chunks.now)) }
-    ensures fault { IfErr result (λ fault. (fault ≡ Fault.WriteFault)
-        × StoppedIn O.contents out.old out.new (body chunks.now)) }
-{
-    for chunk in chunks {
-        out.put(chunk.bytes.as_slice())?;
-    }
-    Ok(())
 }
 
 #[cfg(test)]

@@ -7,5 +7,5 @@ use Rattle.typetool.proofs.job.write_due.Goals as goal
 
 pub returns-clause-fault : goal.returns-clause-fault
 returns-clause-fault g c =
-    let took : Took g.O.Write.contents c.args.out.now c.put_chunks.new.out (due c.args.recording.now.chunks c.args.at) = search rules in
+    let took : Took g.O.Write.contents c.args.out.now c.put_chunks.new.writer (due c.args.recording.now.chunks c.args.at) = search rules in
     IfErr-weaker c.finish.result _ _ (λ f h. (h.0, stopped_flushing took h.1)) c.finish.ensures.fault

@@ -1,6 +1,6 @@
 use Rattle.std.proofs.lemmas.Result.{err_from_is_err_and}
 use Rattle.tape_core.proofs.WrittenLemmas.{stopped_in_piece}
-use Rattle.tape_core.proofs.writing.put_body.Goals as goal
+use Rattle.tape_core.proofs.writing.put_chunks.Goals as goal
 
 pub returns-in_err-put-clause-fault : goal.returns-in_err-put-clause-fault
 returns-in_err-put-clause-fault g c =

@@ -1,7 +1,7 @@
 use Rattle.std.proofs.Common.{take}
 use Rattle.tape_core.specs.Devices.{Took}
 use Rattle.tape_core.specs.Tape.{body}
-use Rattle.tape_core.proofs.writing.put_body.Given as goal
+use Rattle.tape_core.proofs.writing.put_chunks.Given as goal
 
 -- the writer has taken the bytes of the chunks so far
 abbrev pub invariant-loop-chunk : goal.invariant-loop-chunk
