@@ -16,11 +16,11 @@ use Rattle.vt_parser.specs.declared.controls.Place.{Place}
 use Rattle.vt_parser.specs.declared.controls.Place.TheVariants as place
 use Rattle.vt_parser.specs.declared.controls.Turn.TheVariants.{Joins}
 use Rattle.arrayvec.specs.ArrayVec.{ArrayVec}
-use Rattle.vt_parser.specs.declared.states.ParserState.TheVariants.{Csi as CsiState}
+use Rattle.vt_parser.specs.declared.states.ParserState.TheVariants.{CsiStart, Csi as CsiState}
 use Rattle.vt_parser.specs.Control.{escape, is_within, is_graphic, class_of, turns_of, turn_at}
 use Rattle.vt_parser.specs.Sequence.{is_intermediate, is_escape_final, is_control_final, begins_control, begins_address, is_lone_escape, is_escape_begun, is_control_begun, is_line_begun, ends_escape, ends_vt52, is_whole, is_semicolon, is_private, after_mark, is_well_formed, parameter, numbers, params, held, escape_meaning, control_meaning, address_meaning}
 use Rattle.vt_parser.specs.Step.{place_of, control_of, command_by, command_of, pending_after}
-use Rattle.vt_parser.specs.Law.{IsFrom, IsProper, CommandsAreProper, GraphicIsShown, RunsAreGraphic, FinalsFinish}
+use Rattle.vt_parser.specs.Law.{IsFrom, IsProper, CommandsAreProper, GraphicIsShown, RunsAreGraphic, FinalsFinish, BareFinalsFinish}
 use Rattle.vt_parser.proofs.Joins.{whole_with, meaning_with, is_whole_push, meaning_push}
 use Rattle.vt_parser.specs.Machine.{Step, stepped, joined, gives}
 use Rattle.vt_parser.proofs.Agrees.{graphic_class, same_command, same_view}
@@ -217,4 +217,15 @@ finals_finish given m p private params over byte view final =
     let step = final_step given private params over byte final in (
       same_command given m p byte (CsiState private params over) view ∙ ap (λ (s : Step). s.command) step,
       same_view given m p byte (CsiState private params over) view ∙ ap (λ (s : Step). Some s.state) step,
+    )
+
+bare_final_step : (given : Mode) (byte : ℕ) → is_control_final byte ≡ true → stepped CsiStart given byte ≡ gives (Some (Csi false (held (0 ∷ [])) byte))
+unfolding stepped joined
+bare_final_step given byte final = let kind = class_graphic byte (final_graphic byte final) in simp (kind, final)
+
+pub bare_finals_finish : BareFinalsFinish
+bare_finals_finish given m p byte view final =
+    let step = bare_final_step given byte final in (
+      same_command given m p byte CsiStart view ∙ ap (λ (s : Step). s.command) step,
+      same_view given m p byte CsiStart view ∙ ap (λ (s : Step). Some s.state) step,
     )

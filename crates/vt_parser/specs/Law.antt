@@ -1,15 +1,15 @@
 -- What holds of every step: the statements of the crate's laws.
-use Rattle.std.specs.Prelude.{◌≡◌, ◌≢◌, ℕ, ◌+◌, ◌≤◌, Bool, true, false, List, [], take, length, Option, Some, None, IfSome, All}
+use Rattle.std.specs.Prelude.{◌≡◌, ◌≢◌, ℕ, ◌+◌, ◌≤◌, Bool, true, false, List, [], ◌∷◌, take, length, Option, Some, None, IfSome, All}
 use Rattle.std.specs.List.{list_all, prefix_len}
 use Rattle.std.specs.Option.{MatchOption}
 use Rattle.vt_parser.specs.declared.commands.Mode.{Mode}
 use Rattle.vt_parser.specs.declared.commands.Command.{Command}
 use Rattle.vt_parser.specs.declared.commands.Command.TheVariants.{Show, Error, Control, Esc, Csi, Vt52, Vt52Address}
 use Rattle.vt_parser.specs.declared.states.ParserState.{ParserState}
-use Rattle.vt_parser.specs.declared.states.ParserState.TheVariants.{Ground, Csi as CsiState}
+use Rattle.vt_parser.specs.declared.states.ParserState.TheVariants.{Ground, CsiStart, Csi as CsiState}
 use Rattle.arrayvec.specs.ArrayVec.{ArrayVec}
 use Rattle.vt_parser.specs.Control.{is_graphic}
-use Rattle.vt_parser.specs.Sequence.{is_control_final}
+use Rattle.vt_parser.specs.Sequence.{is_control_final, held}
 use Rattle.vt_parser.specs.View.{parser_view}
 use Rattle.vt_parser.specs.Step.{command_of, pending_after, mode_after}
 
@@ -111,4 +111,11 @@ FinalsFinish =
     (given m : Mode) (p : List ℕ) (private : Bool) (params : ArrayVec ℕ) (over : Bool) (byte : ℕ)
     → parser_view m p ≡ Some (CsiState private params over) → is_control_final byte ≡ true
     → (command_of m p byte ≡ Some (Csi private params byte))
+    × (parser_view (mode_after given m byte) (pending_after m p byte) ≡ Some Ground)
+
+-- The final ends a control sequence without a text too, whose one parameter is 0.
+abbrev pub BareFinalsFinish : Type 0
+BareFinalsFinish =
+    (given m : Mode) (p : List ℕ) (byte : ℕ) → parser_view m p ≡ Some CsiStart → is_control_final byte ≡ true
+    → (command_of m p byte ≡ Some (Csi false (held (0 ∷ [])) byte))
     × (parser_view (mode_after given m byte) (pending_after m p byte) ≡ Some Ground)

@@ -1,5 +1,5 @@
 //! What holds of every step, for the layers above. Each function's contract is the law, and its body is empty.
-ghost use Rattle.vt_parser.specs.Law.{StateDecides, StaysShown, GroundIsEmpty, FinishedLeavesNothing, PendingPays, GraphicIsShown, RunsAreGraphic, CommandsAreProper, FinalsFinish};
+ghost use Rattle.vt_parser.specs.Law.{StateDecides, StaysShown, GroundIsEmpty, FinishedLeavesNothing, PendingPays, GraphicIsShown, RunsAreGraphic, CommandsAreProper, FinalsFinish, BareFinalsFinish};
 
 /// Pending bytes that show one state give one command after any byte, and show one state again.
 pub fn state_decides()
@@ -44,4 +44,9 @@ pub fn commands_are_proper()
 /// The final ends a control sequence with a well formed text, with the parameters that the state shows.
 pub fn finals_finish()
     ensures { FinalsFinish }
+{}
+
+/// The final ends a control sequence without a text too, whose one parameter is 0.
+pub fn bare_finals_finish()
+    ensures { BareFinalsFinish }
 {}

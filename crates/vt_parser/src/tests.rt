@@ -307,4 +307,5 @@ fn laws_can_be_called() {
     laws::runs_are_graphic();
     laws::commands_are_proper();
     laws::finals_finish();
+    laws::bare_finals_finish();
 }

@@ -203,6 +203,13 @@ impl Terminal {
         ensures room { (x : Term) → Shows self.old x → HasRoom sink.old (sent x (byte ∷ [])) → IsOk result }
     {
         match self.parser.state() {
+            ParserState::CsiStart if is_final(byte) => {
+                let answer = self
+                    .console
+                    .perform_control_sequence(false, &[0], byte, sink);
+                self.parser.finish();
+                answer
+            }
             ParserState::Csi {
                 private,
                 params,

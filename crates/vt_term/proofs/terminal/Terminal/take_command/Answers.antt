@@ -1,18 +1,20 @@
-use Rattle.std.proofs.Common.{◌≡◌, ℕ, Bool, true, List, [], ◌∷◌, sym, subst, ap, ◌∙◌}
-use Rattle.std.specs.Prelude.{Option, Some, IfSome, OnOk}
+use Rattle.std.proofs.Common.{◌≡◌, ℕ, Bool, true, false, refl, List, [], ◌∷◌, sym, subst, ap, ◌∙◌}
+use Rattle.std.specs.Prelude.{Option, Some, IfSome, OnOk, OnErr, Result}
 use Rattle.arrayvec.specs.ArrayVec.{ArrayVec}
 use Rattle.vt_parser.specs.declared.commands.Command.{Command}
 use Rattle.vt_parser.specs.declared.commands.Command.TheVariants.{Csi}
+use Rattle.vt_parser.specs.declared.commands.Mode.{Mode}
 use Rattle.vt_parser.specs.declared.states.ParserState.{ParserState}
-use Rattle.vt_parser.specs.declared.states.ParserState.TheVariants.{Ground, Csi as CsiState}
+use Rattle.vt_parser.specs.declared.states.ParserState.TheVariants.{Ground, CsiStart, Csi as CsiState}
 use Rattle.vt_parser.specs.Law.{IsProper as IsProperCommand}
-use Rattle.vt_parser.specs.Sequence.{is_control_final}
-use Rattle.vt_parser.proofs.ProperLemmas.{commands_are_proper, finals_finish}
-use Rattle.vt_term.specs.Shown.{shown_of}
+use Rattle.vt_parser.specs.Sequence.{is_control_final, held}
+use Rattle.vt_parser.proofs.ProperLemmas.{commands_are_proper, finals_finish, bare_finals_finish}
+use Rattle.vt_term.specs.Shown.{Shown, shown_of}
 use Rattle.vt_term.specs.Effect.{effect, reply, control_sequence_effect, control_sequence_reply}
-use Rattle.vt_term.specs.Term.{mode_of, play, sent}
+use Rattle.vt_term.specs.Term.{Term, mode_of, play, sent}
 use Rattle.vt_term.specs.Seen.{Seen, Shows, IsProper, seen_of}
-use Rattle.vt_term.specs.Sink.{HasRoom, after_sending}
+use Rattle.vt_term.specs.Sink.{HasRoom}
+use Rattle.vt_term.proofs.Sinks.{keeps_either}
 use Rattle.vt_term.proofs.Taken.{Commands, Leads, taken_shows, taken_sent, taken_proper, left_proper, either_proper, shows_at_ok, sent_at_ok}
 use Rattle.vt_term.proofs.terminal.Terminal.take_command.Goals as goal
 
@@ -22,76 +24,131 @@ final_commands : (state : ParserState) (private : Bool) (params : ArrayVec ℕ) 
 final_commands state private params over byte is final m p view =
     sym (finals_finish m m p private params over byte (view ∙ ap Some is) final).0
 
-final_leads : (state : ParserState) (private : Bool) (params : ArrayVec ℕ) (over : Bool) (byte : ℕ) (seen : Seen)
-    → state ≡ CsiState private params over → is_control_final byte ≡ true → Leads seen.shown.modes.mode state byte Ground
-final_leads state private params over byte seen is final m p view =
-    (finals_finish seen.shown.modes.mode m p private params over byte (view ∙ ap Some is) final).1
+final_leads : (state : ParserState) (private : Bool) (params : ArrayVec ℕ) (over : Bool) (byte : ℕ) (mode : Mode)
+    → state ≡ CsiState private params over → is_control_final byte ≡ true → Leads mode state byte Ground
+final_leads state private params over byte mode is final m p view =
+    (finals_finish mode m p private params over byte (view ∙ ap Some is) final).1
+
+-- the same of a control sequence without a text
+bare_commands : (state : ParserState) (byte : ℕ) → state ≡ CsiStart → is_control_final byte ≡ true → Commands state byte (Some (Csi false (held (0 ∷ [])) byte))
+bare_commands state byte is final m p view = sym (bare_finals_finish m m p byte (view ∙ ap Some is) final).0
+
+bare_leads : (state : ParserState) (byte : ℕ) (mode : Mode) → state ≡ CsiStart → is_control_final byte ≡ true → Leads mode state byte Ground
+bare_leads state byte mode is final m p view = (bare_finals_finish mode m p byte (view ∙ ap Some is) final).1
+
+-- what a control sequence sends whose parameters are read where they lie
+module _ (seen : Seen) (byte : ℕ) (private : Bool) (params : ArrayVec ℕ) (read : List ℕ) (same : read ≡ params.items)
+    (commands : Commands seen.state byte (Some (Csi private params byte))) (leads : Leads seen.shown.modes.mode seen.state byte Ground) where
+  sent_by_final : (x : Term) → Shows seen x → sent x (byte ∷ []) ≡ control_sequence_reply private byte read seen.shown
+  unfolding reply
+  sent_by_final x shows =
+      taken_sent seen byte (Some (Csi private params byte)) Ground commands leads x shows
+      ∙ ap (λ (l : List ℕ). control_sequence_reply private byte l seen.shown) (sym same)
+
+  -- and what it leaves
+  module _ {T E : Type 0} (result : Result T E) (shown : Shown) (told : OnOk result (shown ≡ control_sequence_effect private byte read seen.shown))
+      (state : ParserState) (ended : state ≡ Ground) where
+    done : OnOk result (shown ≡ effect (Csi private params byte) seen.shown)
+    unfolding effect
+    done = subst (λ (l : List ℕ). OnOk result (shown ≡ control_sequence_effect private byte l seen.shown)) same told
+
+    ended_proper : OnErr result (shown ≡ seen.shown) → IsProper seen → IsProper (record { shown = shown; state = state })
+    ended_proper kept proper =
+        let x = proper.term.0 in
+        let good : IfSome (Some (Csi private params byte)) IsProperCommand =
+        subst (λ (given : Option Command). IfSome given IsProperCommand) (sym (commands (mode_of x) x.pending proper.term.1.state)) (commands_are_proper (mode_of x) x.pending byte) in
+        subst (λ (s : ParserState). IsProper (record { shown = shown; state = s })) (sym ended)
+        (either_proper result shown (effect (Csi private params byte) seen.shown) seen.shown Ground done kept
+        (taken_proper seen byte (Some (Csi private params byte)) Ground commands leads proper good)
+        (left_proper seen byte (Some (Csi private params byte)) Ground commands leads proper))
+
+    ended_shows : (x : Term) → Shows seen x → OnOk result (Shows (record { shown = shown; state = state }) (play x (byte ∷ [])))
+    ended_shows x shows =
+        subst (λ (s : ParserState). OnOk result (Shows (record { shown = shown; state = s }) (play x (byte ∷ [])))) (sym ended)
+        (shows_at_ok result shown (effect (Csi private params byte) seen.shown) Ground (play x (byte ∷ [])) done
+        (taken_shows seen byte (Some (Csi private params byte)) Ground commands leads x shows))
 
 pub invariant_of-self : goal.invariant_of-self
-unfolding effect
 invariant_of-self c =
     let seen : Seen = seen_of c.self.inside.console c.self.inside.parser in
-    let command : Command = Csi c.in-Csi.private c.in-Csi.params c.args.byte in
-    let is = sym c.state.ensures.value ∙ c.in-Csi.is in
+    let is = sym c.state.ensures.value ∙ c.in-CsiStart.is in
     let final = sym c.is_final.ensures ∙ c.if-is_final.true in
+    let commands = bare_commands c.self.inside.parser c.args.byte is final in
+    let leads = bare_leads c.self.inside.parser c.args.byte seen.shown.modes.mode is final in
+    ended_proper seen c.args.byte false (held (0 ∷ [])) (0 ∷ []) refl commands leads c.perform_control_sequence-answer.result (shown_of c.perform_control_sequence-answer.new.self) c.perform_control_sequence-answer.ensures.shown c.finish.new.self c.finish.ensures c.perform_control_sequence-answer.ensures.err c.self.invariant
+
+pub returns-in-CsiStart-clause-shows : goal.returns-in-CsiStart-clause-shows
+returns-in-CsiStart-clause-shows c x shows =
+    let seen : Seen = seen_of c.self.inside.console c.self.inside.parser in
+    let is = sym c.state.ensures.value ∙ c.in-CsiStart.is in
+    let final = sym c.is_final.ensures ∙ c.if-is_final.true in
+    let commands = bare_commands c.self.inside.parser c.args.byte is final in
+    let leads = bare_leads c.self.inside.parser c.args.byte seen.shown.modes.mode is final in
+    let inside : Shows seen x = subst (λ (s : Seen). Shows s x) (sym c.self.view_is) shows in
+    ended_shows seen c.args.byte false (held (0 ∷ [])) (0 ∷ []) refl commands leads c.perform_control_sequence-answer.result (shown_of c.perform_control_sequence-answer.new.self) c.perform_control_sequence-answer.ensures.shown c.finish.new.self c.finish.ensures x inside
+
+pub returns-in-CsiStart-clause-sent : goal.returns-in-CsiStart-clause-sent
+returns-in-CsiStart-clause-sent c x shows =
+    let seen : Seen = seen_of c.self.inside.console c.self.inside.parser in
+    let is = sym c.state.ensures.value ∙ c.in-CsiStart.is in
+    let final = sym c.is_final.ensures ∙ c.if-is_final.true in
+    let commands = bare_commands c.self.inside.parser c.args.byte is final in
+    let leads = bare_leads c.self.inside.parser c.args.byte seen.shown.modes.mode is final in
+    let inside : Shows seen x = subst (λ (s : Seen). Shows s x) (sym c.self.view_is) shows in
+    sent_at_ok c.perform_control_sequence-answer.result c.perform_control_sequence-answer.new.sink c.args.sink.now (control_sequence_reply false c.args.byte (0 ∷ []) seen.shown) (sent x (c.args.byte ∷ []))
+    c.perform_control_sequence-answer.ensures.sent (sent_by_final seen c.args.byte false (held (0 ∷ [])) (0 ∷ []) refl commands leads x inside)
+
+pub returns-in-CsiStart-clause-room : goal.returns-in-CsiStart-clause-room
+returns-in-CsiStart-clause-room c x shows room =
+    let seen : Seen = seen_of c.self.inside.console c.self.inside.parser in
+    let is = sym c.state.ensures.value ∙ c.in-CsiStart.is in
+    let final = sym c.is_final.ensures ∙ c.if-is_final.true in
+    let commands = bare_commands c.self.inside.parser c.args.byte is final in
+    let leads = bare_leads c.self.inside.parser c.args.byte seen.shown.modes.mode is final in
+    let inside : Shows seen x = subst (λ (s : Seen). Shows s x) (sym c.self.view_is) shows in
+    c.perform_control_sequence-answer.ensures.room (subst (HasRoom c.args.sink.now) (sent_by_final seen c.args.byte false (held (0 ∷ [])) (0 ∷ []) refl commands leads x inside) room)
+
+pub returns-in-CsiStart-clause-front : goal.returns-in-CsiStart-clause-front
+returns-in-CsiStart-clause-front c =
+    keeps_either c.perform_control_sequence-answer.result c.args.sink.now c.perform_control_sequence-answer.new.sink (control_sequence_reply false c.args.byte (0 ∷ []) (shown_of c.self.inside.console))
+    c.perform_control_sequence-answer.ensures.sent c.perform_control_sequence-answer.ensures.err_sink
+
+pub invariant_of-self-then-is_final-2 : goal.invariant_of-self-then-is_final-2
+invariant_of-self-then-is_final-2 c =
+    let seen : Seen = seen_of c.self.inside.console c.self.inside.parser in
+    let is = sym c.state.ensures.value ∙ c.in-Csi.is in
+    let final = sym c.if-is_final-2.ensures in
     let commands = final_commands c.self.inside.parser c.in-Csi.private c.in-Csi.params c.in-Csi.over c.args.byte is final in
-    let leads = final_leads c.self.inside.parser c.in-Csi.private c.in-Csi.params c.in-Csi.over c.args.byte seen is final in
-    let done : OnOk c.perform_control_sequence-answer.result (shown_of c.perform_control_sequence-answer.new.self ≡ effect command seen.shown) =
-    subst (λ (l : List ℕ). OnOk c.perform_control_sequence-answer.result (shown_of c.perform_control_sequence-answer.new.self ≡ control_sequence_effect c.in-Csi.private c.args.byte l seen.shown))
-    c.as_slice.ensures.value c.perform_control_sequence-answer.ensures.shown in
-    let x = c.self.invariant.term.0 in
-    let good : IfSome (Some command) IsProperCommand =
-    subst (λ (given : Option Command). IfSome given IsProperCommand) (sym (commands (mode_of x) x.pending c.self.invariant.term.1.state)) (commands_are_proper (mode_of x) x.pending c.args.byte) in
-    subst (λ (state : ParserState). IsProper (seen_of c.perform_control_sequence-answer.new.self state)) (sym c.finish.ensures)
-    (either_proper c.perform_control_sequence-answer.result (shown_of c.perform_control_sequence-answer.new.self) (effect command seen.shown) seen.shown Ground
-    done c.perform_control_sequence-answer.ensures.err
-    (taken_proper seen c.args.byte (Some command) Ground commands leads c.self.invariant good)
-    (left_proper seen c.args.byte (Some command) Ground commands leads c.self.invariant))
+    let leads = final_leads c.self.inside.parser c.in-Csi.private c.in-Csi.params c.in-Csi.over c.args.byte seen.shown.modes.mode is final in
+    ended_proper seen c.args.byte c.in-Csi.private c.in-Csi.params c.as_slice.result.now c.as_slice.ensures.value commands leads c.perform_control_sequence-answer-in-Csi.result (shown_of c.perform_control_sequence-answer-in-Csi.new.self) c.perform_control_sequence-answer-in-Csi.ensures.shown c.finish-in-Csi.new.self c.finish-in-Csi.ensures c.perform_control_sequence-answer-in-Csi.ensures.err c.self.invariant
 
 pub returns-in-Csi-clause-shows : goal.returns-in-Csi-clause-shows
-unfolding effect
 returns-in-Csi-clause-shows c x shows =
     let seen : Seen = seen_of c.self.inside.console c.self.inside.parser in
-    let command : Command = Csi c.in-Csi.private c.in-Csi.params c.args.byte in
     let is = sym c.state.ensures.value ∙ c.in-Csi.is in
-    let final = sym c.is_final.ensures ∙ c.if-is_final.true in
+    let final = sym c.if-is_final-2.ensures in
     let commands = final_commands c.self.inside.parser c.in-Csi.private c.in-Csi.params c.in-Csi.over c.args.byte is final in
-    let leads = final_leads c.self.inside.parser c.in-Csi.private c.in-Csi.params c.in-Csi.over c.args.byte seen is final in
-    let done : OnOk c.perform_control_sequence-answer.result (shown_of c.perform_control_sequence-answer.new.self ≡ effect command seen.shown) =
-    subst (λ (l : List ℕ). OnOk c.perform_control_sequence-answer.result (shown_of c.perform_control_sequence-answer.new.self ≡ control_sequence_effect c.in-Csi.private c.args.byte l seen.shown))
-    c.as_slice.ensures.value c.perform_control_sequence-answer.ensures.shown in
+    let leads = final_leads c.self.inside.parser c.in-Csi.private c.in-Csi.params c.in-Csi.over c.args.byte seen.shown.modes.mode is final in
     let inside : Shows seen x = subst (λ (s : Seen). Shows s x) (sym c.self.view_is) shows in
-    subst (λ (state : ParserState). OnOk c.perform_control_sequence-answer.result (Shows (seen_of c.perform_control_sequence-answer.new.self state) (play x (c.args.byte ∷ [])))) (sym c.finish.ensures)
-    (shows_at_ok c.perform_control_sequence-answer.result (shown_of c.perform_control_sequence-answer.new.self) (effect command seen.shown) Ground (play x (c.args.byte ∷ []))
-    done (taken_shows seen c.args.byte (Some command) Ground commands leads x inside))
+    ended_shows seen c.args.byte c.in-Csi.private c.in-Csi.params c.as_slice.result.now c.as_slice.ensures.value commands leads c.perform_control_sequence-answer-in-Csi.result (shown_of c.perform_control_sequence-answer-in-Csi.new.self) c.perform_control_sequence-answer-in-Csi.ensures.shown c.finish-in-Csi.new.self c.finish-in-Csi.ensures x inside
 
 pub returns-in-Csi-clause-sent : goal.returns-in-Csi-clause-sent
-unfolding reply
 returns-in-Csi-clause-sent c x shows =
     let seen : Seen = seen_of c.self.inside.console c.self.inside.parser in
-    let command : Command = Csi c.in-Csi.private c.in-Csi.params c.args.byte in
     let is = sym c.state.ensures.value ∙ c.in-Csi.is in
-    let final = sym c.is_final.ensures ∙ c.if-is_final.true in
+    let final = sym c.if-is_final-2.ensures in
     let commands = final_commands c.self.inside.parser c.in-Csi.private c.in-Csi.params c.in-Csi.over c.args.byte is final in
-    let leads = final_leads c.self.inside.parser c.in-Csi.private c.in-Csi.params c.in-Csi.over c.args.byte seen is final in
+    let leads = final_leads c.self.inside.parser c.in-Csi.private c.in-Csi.params c.in-Csi.over c.args.byte seen.shown.modes.mode is final in
     let inside : Shows seen x = subst (λ (s : Seen). Shows s x) (sym c.self.view_is) shows in
-    let sends : OnOk c.perform_control_sequence-answer.result (c.perform_control_sequence-answer.new.sink ≡ after_sending c.args.sink.now (reply command seen.shown)) =
-    subst (λ (l : List ℕ). OnOk c.perform_control_sequence-answer.result (c.perform_control_sequence-answer.new.sink ≡ after_sending c.args.sink.now (control_sequence_reply c.in-Csi.private c.args.byte l seen.shown)))
-    c.as_slice.ensures.value c.perform_control_sequence-answer.ensures.sent in
-    sent_at_ok c.perform_control_sequence-answer.result c.perform_control_sequence-answer.new.sink c.args.sink.now (reply command seen.shown) (sent x (c.args.byte ∷ []))
-    sends (taken_sent seen c.args.byte (Some command) Ground commands leads x inside)
+    sent_at_ok c.perform_control_sequence-answer-in-Csi.result c.perform_control_sequence-answer-in-Csi.new.sink c.args.sink.now (control_sequence_reply c.in-Csi.private c.args.byte c.as_slice.result.now seen.shown) (sent x (c.args.byte ∷ []))
+    c.perform_control_sequence-answer-in-Csi.ensures.sent (sent_by_final seen c.args.byte c.in-Csi.private c.in-Csi.params c.as_slice.result.now c.as_slice.ensures.value commands leads x inside)
 
 pub returns-in-Csi-clause-room : goal.returns-in-Csi-clause-room
-unfolding reply
 returns-in-Csi-clause-room c x shows room =
     let seen : Seen = seen_of c.self.inside.console c.self.inside.parser in
-    let command : Command = Csi c.in-Csi.private c.in-Csi.params c.args.byte in
     let is = sym c.state.ensures.value ∙ c.in-Csi.is in
-    let final = sym c.is_final.ensures ∙ c.if-is_final.true in
+    let final = sym c.if-is_final-2.ensures in
     let commands = final_commands c.self.inside.parser c.in-Csi.private c.in-Csi.params c.in-Csi.over c.args.byte is final in
-    let leads = final_leads c.self.inside.parser c.in-Csi.private c.in-Csi.params c.in-Csi.over c.args.byte seen is final in
+    let leads = final_leads c.self.inside.parser c.in-Csi.private c.in-Csi.params c.in-Csi.over c.args.byte seen.shown.modes.mode is final in
     let inside : Shows seen x = subst (λ (s : Seen). Shows s x) (sym c.self.view_is) shows in
-    let told : HasRoom c.args.sink.now (reply command seen.shown) =
-    subst (HasRoom c.args.sink.now) (taken_sent seen c.args.byte (Some command) Ground commands leads x inside) room in
-    c.perform_control_sequence-answer.ensures.room
-    (subst (λ (l : List ℕ). HasRoom c.args.sink.now (control_sequence_reply c.in-Csi.private c.args.byte l seen.shown)) (sym c.as_slice.ensures.value) told)
+    c.perform_control_sequence-answer-in-Csi.ensures.room (subst (HasRoom c.args.sink.now) (sent_by_final seen c.args.byte c.in-Csi.private c.in-Csi.params c.as_slice.result.now c.as_slice.ensures.value commands leads x inside) room)
