@@ -5,7 +5,7 @@ ghost use Rattle.clap.specs.Words.{kind_of};
 ghost use Rattle.tape_core.specs.Devices.{has_failed};
 ghost use Rattle.typetool.specs.Program.{stop_status};
 
-use crate::job::{Job, JobFault, Outcome, run};
+use crate::job::{JobFault, Outcome, run};
 use crate::words::{Words, WordsFault, read_words};
 use clap::error::ErrorKind;
 use std::alloc::AllocError;
@@ -111,22 +111,18 @@ fn perform<R: Files + Print + AllocGlobal>(rt: &R, words: &Words) -> Result<Outc
 {
     let mut script = open(rt, words.paths[0].as_str())?;
     let mut timing = open(rt, words.paths[1].as_str())?;
-    match words.job {
-        Job::Due { .. } | Job::Screen { .. } | Job::Reports { .. } => {
-            let mut out = standard_output(rt)?;
-            let outcome = run(
-                rt.alloc(),
-                words.job,
-                &mut script,
-                &mut timing,
-                &mut Watched::new(io::empty()),
-                &mut out,
-                &mut Watched::new(io::sink()),
-            );
-            leave(out);
-            Ok(outcome)
-        }
-    }
+    let mut out = standard_output(rt)?;
+    let outcome = run(
+        rt.alloc(),
+        words.job,
+        &mut script,
+        &mut timing,
+        &mut Watched::new(io::empty()),
+        &mut out,
+        &mut Watched::new(io::sink()),
+    );
+    leave(out);
+    Ok(outcome)
 }
 
 /// Opens a file to be read.
