@@ -13,8 +13,8 @@ use Rattle.vt_screen.specs.Lines.{columns_set, margins_set}
 use Rattle.vt_screen.specs.Moves.{moved_home, moved_to_left, placed, put_back}
 use Rattle.vt_screen.specs.Tabs.{tab_made, tabs_cleared}
 use Rattle.vt_screen.specs.Cells.{row_at}
-use Rattle.vt_screen.proofs.SoundRows.{margin_high, columns_high}
-use Rattle.vt_screen.proofs.Soundness.{sound_stepped_up, sound_stepped_down, sound_stepped_right, sound_stepped_left, sound_moved_to_left, sound_placed, sound_moved_home, sound_wrap_cleared, sound_put_back, sound_indexed, sound_reverse_indexed, sound_line_erased, sound_size_set, sound_display_erased, sound_columns_set, sound_aligned, sound_tabbed, sound_tab_made, sound_tabs_cleared, sound_margins_set, sound_shown, sound_reset}
+use Rattle.vt_screen.proofs.LawLemmas.{margin_high, columns_high}
+use Rattle.vt_screen.proofs.LawLemmas.{sound_stepped_up, sound_stepped_down, sound_stepped_right, sound_stepped_left, sound_moved_to_left, sound_placed, sound_moved_home, sound_wrap_cleared, sound_put_back, sound_indexed, sound_reverse_indexed, sound_line_erased, sound_size_set, sound_display_erased, sound_columns_set, sound_aligned, sound_tabbed, sound_tab_made, sound_tabs_cleared, sound_margins_set, sound_shown, sound_reset}
 use Rattle.vt_term.specs.declared.sets.CharacterSet.{CharacterSet}
 use Rattle.vt_term.specs.declared.sets.CharacterSet.TheVariants.{Ascii, Uk, SpecialGraphics}
 use Rattle.vt_term.specs.declared.sets.Slot.{Slot}
@@ -38,7 +38,7 @@ use Rattle.vt_term.specs.Sequences.{sequence_named, sequence_effect, first_of, s
 use Rattle.vt_term.specs.PrivateModes.{private_mode_named, mode_effect, mode_set, private_effect}
 use Rattle.vt_term.specs.Vt52.{vt52_named, vt52_effect}
 use Rattle.vt_term.specs.Effect.{effect, put, glyph_for, control_sequence_effect}
-use Rattle.vt_screen.proofs.Regions.{inside_moved_home, inside_placed, inside_put_back, inside_stepped_up, inside_stepped_down, inside_indexed, inside_reverse_indexed, inside_margins_set, inside_shown}
+use Rattle.vt_screen.proofs.LawLemmas.{inside_moved_home, inside_placed, inside_put_back, inside_stepped_up, inside_stepped_down, inside_indexed, inside_reverse_indexed, inside_margins_set, inside_shown}
 
 -- a picture with the same line and margins is inside as well
 inside_same : (p q : Picture) → q.line ≡ p.line → q.top ≡ p.top → q.bottom ≡ p.bottom → Inside p → Inside q
