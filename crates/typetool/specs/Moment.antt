@@ -1,6 +1,6 @@
 -- A terminal at a moment of a recording, and what it has sent by then.
-use Rattle.std.specs.Prelude.{◌≡◌, ℕ, ◌⊎◌, List, Option, length}
-use Rattle.tape_core.specs.Devices.{StoppedIn}
+use Rattle.std.specs.Prelude.{◌≡◌, ℕ, ◌⊎◌, ◌++◌, List, Option, length}
+use Rattle.tape_core.specs.Devices.{Took, StoppedIn}
 use Rattle.tape_core.specs.Due.{due}
 use Rattle.tape_core.specs.Tape.{Tape}
 use Rattle.tape_core.specs.declared.devices.Watched.{Watched}
@@ -25,7 +25,14 @@ pub record Replays (bytes : List ℕ) (seen : Seen) (sink : Sink) : Type 0 where
   pub list : sink.bytes ≡ sent reset_term bytes
   pub place : sink.place ≡ length (sent reset_term bytes)
 
--- why a job stops on a recording that was read: for want of memory before anything is written, or in the text as the writer fails (profile)
+-- the writer is sound, and has taken a beginning of this text after what it held (profile)
+pub record Began {T : Type 0} (contents : T → Option (List ℕ)) (old new : Watched T) (text : List ℕ) : Type 0 where
+  pub front : List ℕ
+  pub rest : List ℕ
+  pub cut : text ≡ front ++ rest
+  pub took : Took contents old new front
+
+-- why a job stops in the text that it writes on a recording: for want of memory, or as the writer fails (profile)
 abbrev pub StopsAt : {O : Type 0} → (O → Option (List ℕ)) → Watched O → Watched O → List ℕ → JobFault → Type 0
 StopsAt contents old new text f =
-    ((f ≡ Memory) × (new ≡ old)) ⊎ ((f ≡ File WriteFault) × StoppedIn contents old new text)
+    ((f ≡ Memory) × Began contents old new text) ⊎ ((f ≡ File WriteFault) × StoppedIn contents old new text)

@@ -10,7 +10,7 @@ use Rattle.tape_core.specs.Tape.{Tape}
 use Rattle.tape_core.specs.declared.devices.Watched.{Watched}
 use Rattle.tape_core.specs.declared.fault.Fault.{Fault}
 use Rattle.tape_core.specs.declared.fault.Fault.TheVariants as fault
-use Rattle.typetool.specs.Moment.{term_at, sent_by}
+use Rattle.typetool.specs.Moment.{Began, term_at, sent_by}
 use Rattle.typetool.specs.declared.job.Job.{Job}
 use Rattle.typetool.specs.declared.job.Job.TheVariants.{Due, Screen, Reports}
 use Rattle.typetool.specs.declared.job.JobFault.{JobFault}
@@ -92,7 +92,7 @@ outcome_by (Err f) = record { status = status_of f; fault = Some f }
 -- the fault is one that comes before anything is written (profile)
 abbrev pub is_unwritten : Option JobFault → Bool
 is_unwritten None = false
-is_unwritten (Some Memory) = true
+is_unwritten (Some Memory) = false
 is_unwritten (Some (File fault.WriteFault)) = false
 is_unwritten (Some (File fault.OutOfMemory)) = true
 is_unwritten (Some (File fault.ReadFault)) = true
@@ -116,6 +116,12 @@ pub record Tells {S T R : Type 0} (script_left : S → Option (List ℕ)) (timin
 pub record Wrote {O P : Type 0} (contents : O → Option (List ℕ)) (timing_contents : P → Option (List ℕ)) (out out' : Watched O) (out_timing out_timing' : Watched P) (done : Done) : Type 0 where
   pub text : Took contents out out' done.text
   pub timing : Took timing_contents out_timing out_timing' done.timing
+
+-- a beginning of the output went out and no writer failed: of the first text, and nothing of the second, or of the second, and the first is whole (profile)
+abbrev pub Begun : {O P : Type 0} → (O → Option (List ℕ)) → (P → Option (List ℕ)) → Watched O → Watched O → Watched P → Watched P → Done → Type 0
+Begun contents timing_contents out out' out_timing out_timing' done =
+    (Began contents out out' done.text × (out_timing' ≡ out_timing))
+    ⊎ (Took contents out out' done.text × Began timing_contents out_timing out_timing' done.timing)
 
 -- a writer failed: the first one, and nothing of the second text went out, or the second one, and the first text is whole (profile)
 abbrev pub Stopped : {O P : Type 0} → (O → Option (List ℕ)) → (P → Option (List ℕ)) → Watched O → Watched O → Watched P → Watched P → Done → Type 0

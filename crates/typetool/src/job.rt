@@ -7,7 +7,7 @@ ghost use Rattle.tape_core.specs.Faults.{is_stop};
 ghost use Rattle.tape_core.specs.Reading.{fault_of, reads};
 ghost use Rattle.tape_core.specs.Tape.{Tape};
 ghost use Rattle.typetool.specs.Moment.{StopsAt};
-ghost use Rattle.typetool.specs.Output.{Files, Done, Comes, Tells, Wrote, Stopped, takes_requests, writes_timing, is_stopped, is_unwritten, status_of, outcome_by, text_of, IsDoneStatus, TakesMemory};
+ghost use Rattle.typetool.specs.Output.{Files, Done, Comes, Tells, Wrote, Begun, Stopped, takes_requests, writes_timing, is_stopped, is_unwritten, status_of, outcome_by, text_of, IsDoneStatus, TakesMemory};
 
 use crate::moment::{write_reports, write_screen};
 use std::alloc::Global;
@@ -73,8 +73,8 @@ pub struct Outcome {
 
 /// Does a job: reads the script and the timing whole, and then writes.
 ///
-/// Nothing is written where the pair of files has a fault, a reader fails or memory is refused. After a write fault a
-/// beginning of the text has gone out. No fault is retried.
+/// Nothing is written where the pair of files has a fault, or a reader fails or memory is refused while they are read.
+/// After a write fault, or where memory is refused later, a beginning of the text has gone out. No fault is retried.
 pub fn run<S: Read, T: Read, R: Read, O: Write, P: Write>(
     alloc: Global,
     job: Job,
@@ -99,21 +99,32 @@ pub fn run<S: Read, T: Read, R: Read, O: Write, P: Write>(
         → (done : Done) × Comes job files done × (result ≡ done.outcome)
         × Wrote O.contents P.contents out.old out.new out_timing.old out_timing.new done }
     ensures flushed { result.fault ≡ None → is_flushed out.new ≡ true }
+    ensures flushed_timing { result.fault ≡ None → writes_timing job ≡ true → is_flushed out_timing.new ≡ true }
 
     // The status: 3 where the job was stopped, and 1 where the pair of files has a fault.
     ensures done { result.fault ≡ None → IsDoneStatus job result.status }
     ensures status { IfSome result.fault (λ fault. result.status ≡ status_of fault) }
 
-    // Nothing is written where the pair of files has a fault, a reader failed or memory was refused; a beginning of the
-    // text where a writer failed.
+    // Nothing is written where the pair of files has a fault, or a reader failed or memory was refused while they were
+    // read. Where memory was refused later or a writer failed, a beginning of the text went out, and nothing of the
+    // second text unless the first is whole.
     ensures unwritten { is_unwritten result.fault ≡ true → (out.new ≡ out.old)
         × (out_timing.new ≡ out_timing.old) }
     ensures memory { result.fault ≡ Some (JobFault.File Fault.OutOfMemory) → (has_failed script.new ≡ false)
         × (has_failed timing.new ≡ false) × (has_failed requests.new ≡ false) }
+    ensures begun { result.fault ≡ Some JobFault.Memory → (files : Files)
+        → Tells S.remaining T.remaining R.remaining job script.old timing.old requests.old files
+        → (done : Done) × Comes job files done
+        × Begun O.contents P.contents out.old out.new out_timing.old out_timing.new done }
+    ensures stopped { result.fault ≡ Some (JobFault.File Fault.WriteFault) → (files : Files)
+        → Tells S.remaining T.remaining R.remaining job script.old timing.old requests.old files
+        → (done : Done) × Comes job files done
+        × Stopped O.contents P.contents out.old out.new out_timing.old out_timing.new done }
 
     // Once the recording is read, memory is wanted only by a job that keeps replies, and where some are sent.
     ensures growth { result.fault ≡ Some JobFault.Memory → (has_failed script.new ≡ false)
-        × (has_failed timing.new ≡ false) × (has_failed requests.new ≡ false) }
+        × (has_failed timing.new ≡ false) × (has_failed requests.new ≡ false)
+        × (has_failed out.new ≡ false) × (has_failed out_timing.new ≡ false) }
     ensures want { result.fault ≡ Some JobFault.Memory → (files : Files)
         → Tells S.remaining T.remaining R.remaining job script.old timing.old requests.old files
         → (tape : Tape) × reads files.script files.timing tape × TakesMemory job tape }
@@ -123,10 +134,6 @@ pub fn run<S: Read, T: Read, R: Read, O: Write, P: Write>(
         ⊎ ((has_failed timing.new ≡ true) ⊎ (has_failed requests.new ≡ true)) }
     ensures write_fault { result.fault ≡ Some (JobFault.File Fault.WriteFault) → (has_failed out.new ≡ true)
         ⊎ (has_failed out_timing.new ≡ true) }
-    ensures begun { result.fault ≡ Some (JobFault.File Fault.WriteFault) → (files : Files)
-        → Tells S.remaining T.remaining R.remaining job script.old timing.old requests.old files
-        → (done : Done) × Comes job files done
-        × Stopped O.contents P.contents out.old out.new out_timing.old out_timing.new done }
 
     // What a job leaves alone.
     ensures requests { takes_requests job ≡ false → requests.new ≡ requests.old }

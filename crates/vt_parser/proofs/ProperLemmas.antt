@@ -177,7 +177,7 @@ unfolding place_of
 place_none Ansi = refl
 place_none Vt52Mode = refl
 
-class_graphic : (byte : ℕ) → is_graphic byte ≡ true → class_of byte ≡ class.Graphic
+pub class_graphic : (byte : ℕ) → is_graphic byte ≡ true → class_of byte ≡ class.Graphic
 class_graphic byte is =
     let a : (byte == escape) ≡ false = grind (arith, nat_tests) in
     let b : (byte == 7) ≡ false = grind (arith, nat_tests) in

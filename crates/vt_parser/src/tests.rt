@@ -308,4 +308,7 @@ fn laws_can_be_called() {
     laws::commands_are_proper();
     laws::finals_finish();
     laws::bare_finals_finish();
+    laws::same_mode_stays();
+    laws::whole_sequences_finish();
+    laws::decimals_are_read();
 }

@@ -22,8 +22,8 @@ returns-clause-answer g c = λ kind files told. (
   record { text = search rules; timing = search (rules, took_none) },
 )
 
-pub returns-clause-begun : goal.returns-clause-begun
-returns-clause-begun g c = λ kind files told. (
+pub returns-clause-stopped : goal.returns-clause-stopped
+returns-clause-stopped g c = λ kind files told. (
   done_on c.args.job c.in-Ok.recording files.requests,
   comes_done c.args.job files c.in-Ok.recording
       (c.in-Ok.ensures.ok files.script files.timing told.script_told told.timing_told),
@@ -38,3 +38,11 @@ returns-clause-want g c = λ kind files told.
       c.in-Ok.ensures.ok files.script files.timing told.script_told told.timing_told,
       subst (λ tape. TakesMemory c.args.job tape) same (c.write_text.ensures.want wanted),
     )
+
+pub returns-clause-begun : goal.returns-clause-begun
+returns-clause-begun g c = λ kind files told. (
+  done_on c.args.job c.in-Ok.recording files.requests,
+  comes_done c.args.job files c.in-Ok.recording
+      (c.in-Ok.ensures.ok files.script files.timing told.script_told told.timing_told),
+  search (rules, inl),
+)
