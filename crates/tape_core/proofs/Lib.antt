@@ -2,6 +2,7 @@ pub mod DeviceLemmas
 pub mod DigitLemmas
 pub mod SecondsLemmas
 pub mod DueLemmas
+pub mod FirstLemmas
 pub mod FieldLemmas
 pub mod TimingLemmas
 pub mod ChangeLemmas

@@ -1,5 +1,5 @@
 -- A line of the timing format is read as what it says, and what is written is such a line.
-use Rattle.std.proofs.Common.{◌≡◌, ℕ, suc, ◌+◌, ◌-◌, ◌*◌, ◌/◌, ◌%◌, ◌^◌, ◌<◌, ◌≤◌, ◌⊎◌, All, Bool, true, false, cond, List, [], ◌∷◌, ◌++◌, length, get_or, take, drop, filter, map, replicate, Option, Some, None, Result, Ok, nat_lt, nat_eq, zero, refl, ap, sym, ◌∙◌, arith, inl, inr, append_assoc, append-nil, length-append, subst}
+use Rattle.std.proofs.Common.{◌≡◌, ℕ, suc, ◌+◌, ◌-◌, ◌*◌, ◌/◌, ◌%◌, ◌^◌, ◌<◌, ◌≤◌, ◌⊎◌, All, Bool, true, false, cond, List, [], ◌∷◌, ◌++◌, length, get_or, take, drop, filter, map, replicate, Option, Some, None, Result, Ok, nat_lt, nat_eq, zero, refl, ap, sym, ◌∙◌, arith, inl, inr, min, append_assoc, append-nil, length-append, subst}
 use Rattle.std.specs.Char.{is_ascii_digit}
 use Rattle.std.specs.Fmt.{decimal}
 use Rattle.std.specs.List.{AllPass, cons_option, flat_map, list_all, slice_split}
@@ -16,7 +16,7 @@ use Rattle.std.proofs.lemmas.Str.Parse.{digit_at}
 use Rattle.tape_core.specs.declared.chunk.Chunk.{Chunk}
 use Rattle.tape_core.specs.declared.timing.Entry.{Entry}
 use Rattle.tape_core.specs.Tape.{body_len, longest_body, longest_chunk, longest_delay, most_chunks}
-use Rattle.tape_core.specs.Seconds.{SecondsText, micros, micros_of}
+use Rattle.tape_core.specs.Seconds.{SecondsText, last_moment, micros, micros_of, seconds_of}
 use Rattle.tape_core.specs.Timing.{CountText, DelayText, IsWithin, TimingLine, begins_with_letter, count_of, counted_bytes, delay_of, entries_of, entry_in, entry_of, entry_of_fields, fault_after, fault_on, fields, first_fault, is_blank, is_letter, lines_of, without_empty_last}
 use Rattle.tape_core.specs.Reading.{AreTimed, entry_for}
 use Rattle.tape_core.specs.Written.{seconds_form, six_digits, timing_line_of}
@@ -179,6 +179,12 @@ seconds_form_reads us small =
       spelled = inr refl;
       value = omega (arith, whole.1, value);
     }
+
+pub seconds_form_read : (us : ℕ) → us ≤ last_moment → seconds_of (seconds_form us) ≡ Some us
+unfolding seconds_of
+seconds_form_read us le =
+    let fits : min us last_moment ≡ us = omega arith in
+    ap (option_map (λ n. min n last_moment)) (read_seconds_text (seconds_form us) us (seconds_form_reads us (omega arith))) ∙ ap Some fits
 
 -- a chunk's line without its LF
 abbrev pub line_text_of : Chunk → List ℕ

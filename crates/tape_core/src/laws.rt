@@ -1,8 +1,9 @@
 //! Laws over the definitions alone, as functions with empty bodies.
-ghost use Rattle.std.specs.Prelude.{◌≡◌, ◌<◌, ◌^◌, ℕ, List, MatchOption, Ok, Some, min};
+ghost use Rattle.std.specs.Prelude.{◌≡◌, ◌+◌, ◌<◌, ◌≤◌, ◌^◌, ◌↔◌, ◌++◌, ℕ, List, MatchOption, Ok, Some, length, min, slice_index_or};
+ghost use Rattle.tape_core.specs.Changes.{capped, inserted, removed, replaced, retimed};
 ghost use Rattle.tape_core.specs.declared.chunk.Chunk.{Chunk};
 ghost use Rattle.tape_core.specs.declared.timing.Entry.{Entry};
-ghost use Rattle.tape_core.specs.Due.{due, due_count, first};
+ghost use Rattle.tape_core.specs.Due.{bytes_at, due, due_count, due_time, first};
 ghost use Rattle.tape_core.specs.Seconds.{SecondsText, last_moment, seconds_of};
 ghost use Rattle.tape_core.specs.Tape.{Tape, fits};
 ghost use Rattle.tape_core.specs.Reading.{reads};
@@ -12,6 +13,27 @@ ghost use Rattle.tape_core.specs.Written.{script_text, seconds_form, timing_text
 /// As no delay is negative, the bytes due by a moment are those of the first chunks.
 pub fn due_is_first()
     ensures { (chunks : List Chunk) (t : ℕ) → due chunks t ≡ first chunks (due_count chunks t) }
+{}
+
+/// A chunk is due by a moment just where its place is below the count of the chunks due.
+pub fn due_is_below_the_count()
+    ensures { (chunks : List Chunk) (t i : ℕ) → i < length chunks → ((due_time chunks i ≤ t) ↔ (i < due_count chunks t)) }
+{}
+
+/// The first chunks and one more are the first chunks' bytes and those of the next.
+pub fn first_grows_by_a_chunk()
+    ensures at { (chunks : List Chunk) (n : ℕ) → first chunks (n + 1) ≡ first chunks n ++ bytes_at chunks n }
+    ensures of { (chunks : List Chunk) (n : ℕ) (chunk : Chunk) → n < length chunks → slice_index_or chunks n chunk ≡ chunk → first chunks (n + 1) ≡ first chunks n ++ chunk.bytes }
+{}
+
+/// A change of the chunks leaves the bytes of those before its place as they were, and a change of
+/// delays all bytes.
+pub fn first_is_kept()
+    ensures inserted { (tape : Tape) (at n : ℕ) (chunk : Chunk) → n ≤ at → at ≤ length tape.chunks → first (inserted at chunk tape).chunks n ≡ first tape.chunks n }
+    ensures removed { (tape : Tape) (from to n : ℕ) → n ≤ from → from ≤ length tape.chunks → first (removed from to tape).chunks n ≡ first tape.chunks n }
+    ensures replaced { (tape : Tape) (at n : ℕ) (bytes : List ℕ) → n ≤ at → first (replaced at bytes tape).chunks n ≡ first tape.chunks n }
+    ensures retimed { (tape : Tape) (at delay n : ℕ) → first (retimed at delay tape).chunks n ≡ first tape.chunks n }
+    ensures capped { (tape : Tape) (max n : ℕ) → first (capped max tape).chunks n ≡ first tape.chunks n }
 {}
 
 /// A text is read as seconds where it is spelled as seconds, with that value, and nowhere else.
@@ -34,9 +56,11 @@ pub fn a_pair_is_read_once()
     ensures { (script timing : List ℕ) (one other : Tape) → reads script timing one → reads script timing other → other ≡ one }
 {}
 
-/// Microseconds below 2^64, written as seconds, are read back.
+/// Microseconds below 2^64, written as seconds, are spelled seconds with that value; those up to the
+/// greatest moment are read back.
 pub fn seconds_read_back()
-    ensures { (us : ℕ) → us < 2 ^ 64 → SecondsText (seconds_form us) us }
+    ensures spelled { (us : ℕ) → us < 2 ^ 64 → SecondsText (seconds_form us) us }
+    ensures read { (us : ℕ) → us ≤ last_moment → seconds_of (seconds_form us) ≡ Some us }
 {}
 
 /// What is written of a recording that fits is read as that recording and no other.
