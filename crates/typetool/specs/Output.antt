@@ -44,7 +44,7 @@ writes_timing (Reports at) = false
 -- what a job writes on a recording: the bytes that are due, or what the terminal shows or has sent by then (profile)
 abbrev pub text_of : Job → Tape → List ℕ
 text_of (Due at) tape = due tape.chunks at
-text_of (Screen at) tape = plain_text (term_at tape at).shown.picture
+text_of (Screen at) tape = plain_text (term_at tape at).console.picture
 text_of (Reports at) tape = encode_lower (sent_by tape at) ++ 10 ∷ []
 
 -- what a job comes to on a recording and request lines (profile)
