@@ -3,7 +3,7 @@ use Rattle.std.proofs.lemmas.Result.{IfErr-weaker}
 use Rattle.tape_core.specs.Devices.{Took}
 use Rattle.tape_core.specs.Due.{due}
 use Rattle.tape_core.proofs.DeviceLemmas.{stopped_flushing}
-use Rattle.typetool.proofs.job.write_due.Goals as goal
+use Rattle.typetool.proofs.jobs.due.write_due.Goals as goal
 
 pub returns-clause-fault : goal.returns-clause-fault
 returns-clause-fault g c =

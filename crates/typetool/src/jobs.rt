@@ -1,0 +1,4 @@
+//! The jobs, one function each.
+
+pub mod due;
+pub mod info;
