@@ -1,5 +1,5 @@
 -- The command line: the table of subcommands, what clap is told of it, and the job and the paths that its answer means.
-use Rattle.std.specs.Prelude.{◌≡◌, ℕ, ◌⊎◌, ◌++◌, Bool, true, false, List, [], ◌∷◌, map, Option, Some, None, Result, Ok, Err, codes, unwrap_or, string_bytes, find}
+use Rattle.std.specs.Prelude.{◌≡◌, ℕ, ◌⊎◌, ◌++◌, Bool, true, false, List, [], ◌∷◌, map, Option, Some, None, Result, Ok, Err, codes, unwrap_or, string_bytes, find, fold}
 use Rattle.std.specs.Option.{option_and_then, option_map}
 use Rattle.std.specs.Str.{bytes_eq}
 use Rattle.clap.specs.Words.{App, IsAmong, Kinds, Row, Rule, Shape, Text, fault_of, first_of, kind_of, new_app, new_rule, subcommand_of, takes, with_subcommand}
@@ -107,8 +107,7 @@ top_app = record { top = record (new_app (codes "typetool")).top { arg_required_
 
 -- a command with these subcommands (profile)
 abbrev pub with_subcommands : App → List Subcommand → App
-with_subcommands a [] = a
-with_subcommands a (s ∷ rest) = with_subcommands (with_subcommand a (app_in s).top) rest
+with_subcommands a list = fold (λ app s. with_subcommand app (app_in s).top) a list
 
 -- the whole command line (profile)
 unfoldable pub typetool_app : App

@@ -2,3 +2,5 @@
 
 pub mod due;
 pub mod info;
+#[cfg(test)]
+mod tests;

@@ -3,7 +3,7 @@
 ghost use Rattle.std.specs.Prelude.{◌≡◌, ◌∷◌, ◌++◌, [], false, true, OnOk, IfErr};
 ghost use Rattle.std.specs.Fmt.{decimal};
 ghost use Rattle.tape_core.specs.Devices.{has_failed, is_flushed, Took, StoppedIn};
-ghost use Rattle.typetool.specs.Info.{info_text, info_line};
+ghost use Rattle.typetool.specs.Info.{info_text, info_line, info_lines};
 
 use itoa::Buffer;
 use std::io::Write;
@@ -23,17 +23,45 @@ pub fn write_info<O: Write>(recording: &Recording, out: &mut Watched<O>) -> Resu
 }
 
 /// Writes the five lines.
+#[tactic(auto, unfolding(crate::specs::Info::info_text))]
 pub fn put_info<O: Write>(recording: &Recording, out: &mut Watched<O>) -> Result<(), Fault>
     requires { has_failed out.old ≡ false }
     ensures ok { OnOk result (Took O.contents out.old out.new (info_text recording.now)) }
     ensures fault { IfErr result (λ fault. (fault ≡ Fault.WriteFault)
         × StoppedIn O.contents out.old out.new (info_text recording.now)) }
 {
-    put_number(b"chunks ", recording.chunks().len() as u64, out)?;
-    put_number(b"bytes ", recording.body_len(), out)?;
-    put_line(b"length ", seconds_text(recording.length()).as_bytes(), out)?;
-    put_number(b"header ", recording.header().len() as u64, out)?;
-    put_number(b"trailer ", recording.trailer().len() as u64, out)
+    let chunks = recording.chunks().len() as u64;
+    let header = recording.header().len() as u64;
+    let trailer = recording.trailer().len() as u64;
+    put_lines(
+        chunks,
+        recording.body_len(),
+        recording.length(),
+        header,
+        trailer,
+        out,
+    )
+}
+
+/// Writes the five lines of these numbers.
+fn put_lines<O: Write>(
+    chunks: u64,
+    bytes: u64,
+    length: u64,
+    header: u64,
+    trailer: u64,
+    out: &mut Watched<O>,
+) -> Result<(), Fault>
+    requires { has_failed out.old ≡ false }
+    ensures ok { OnOk result (Took O.contents out.old out.new (info_lines chunks bytes length header trailer)) }
+    ensures fault { IfErr result (λ fault. (fault ≡ Fault.WriteFault)
+        × StoppedIn O.contents out.old out.new (info_lines chunks bytes length header trailer)) }
+{
+    put_number(b"chunks ", chunks, out)?;
+    put_number(b"bytes ", bytes, out)?;
+    put_line(b"length ", seconds_text(length).as_bytes(), out)?;
+    put_number(b"header ", header, out)?;
+    put_number(b"trailer ", trailer, out)
 }
 
 /// Writes a line of a name and a number.

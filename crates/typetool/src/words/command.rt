@@ -18,7 +18,8 @@ pub fn typetool_command<'a>(alloc: Global) -> Result<Command<'a>, AllocError>
     let mut command = top_command(alloc);
     let all = subcommands();
     for subcommand in &all {
-        command = command.subcommand(subcommand_command(alloc, *subcommand)?)?;
+        let added = subcommand_command(alloc, *subcommand)?;
+        command = command.subcommand(added)?;
     }
     Ok(command)
 }

@@ -3,7 +3,7 @@
 use super::table::{Argument, Subcommand};
 
 /// What a subcommand does, in one line.
-pub fn about_of(subcommand: Subcommand) -> &'static str {
+pub fn about_of<'a>(subcommand: Subcommand) -> &'a str {
     match subcommand {
         Subcommand::Due => "Write the raw bytes of all chunks that are due by a moment",
         Subcommand::Info => "Tell how many chunks and bytes the recording has, and how long it is",
@@ -15,7 +15,7 @@ pub fn about_of(subcommand: Subcommand) -> &'static str {
 }
 
 /// What help tells of a subcommand after its arguments: more of what it does, and an example.
-pub fn details_of(subcommand: Subcommand) -> &'static str {
+pub fn details_of<'a>(subcommand: Subcommand) -> &'a str {
     match subcommand {
         Subcommand::Due => {
             "A chunk is due at the sum of the delays up to its own.\n\n\
@@ -38,7 +38,7 @@ pub fn details_of(subcommand: Subcommand) -> &'static str {
 }
 
 /// What help calls the value of an argument.
-pub fn value_name_of(argument: Argument) -> &'static str {
+pub fn value_name_of<'a>(argument: Argument) -> &'a str {
     match argument {
         Argument::At => "SECONDS",
         Argument::Script => "SCRIPT",
@@ -47,7 +47,7 @@ pub fn value_name_of(argument: Argument) -> &'static str {
 }
 
 /// What help tells of an argument.
-pub fn help_of(argument: Argument) -> &'static str {
+pub fn help_of<'a>(argument: Argument) -> &'a str {
     match argument {
         Argument::At => {
             "The moment: seconds since the start, as digits with or without decimals, such as 12.5"

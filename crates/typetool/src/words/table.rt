@@ -37,7 +37,7 @@ pub fn subcommands() -> [Subcommand; 4]
 
 /// The name of a subcommand.
 #[tactic(auto, unfolding(crate::specs::CommandLine::name_in))]
-pub fn name_of(subcommand: Subcommand) -> &'static str
+pub fn name_of<'a>(subcommand: Subcommand) -> &'a str
     ensures { result.now ≡ name_in subcommand }
 {
     match subcommand {
@@ -69,7 +69,7 @@ pub fn paths_of(_subcommand: Subcommand) -> &'static [Argument]
 
 /// The name of an argument.
 #[tactic(auto, unfolding(crate::specs::CommandLine::id_in))]
-pub fn id_of(argument: Argument) -> &'static str
+pub fn id_of<'a>(argument: Argument) -> &'a str
     ensures { result.now ≡ id_in argument }
 {
     match argument {

@@ -7,5 +7,5 @@ use Rattle.typetool.proofs.words.command.typetool_command.Given as goal
 -- the subcommands so far were added
 abbrev pub invariant-loop-subcommand : goal.invariant-loop-subcommand
 invariant-loop-subcommand l =
-    (app_of l.command ≡ with_subcommands top_app (take l.subcommand-index l.all))
+    (app_of l.command ≡ with_subcommands top_app (take l.subcommand-index l.subcommand-items))
     × ((fields_of l.command).has_globals ≡ false)
