@@ -6,4 +6,3 @@ pub mod Runs
 pub mod Taken
 pub mod Sinks
 pub mod Feeding
-pub mod Silence

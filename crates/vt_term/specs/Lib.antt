@@ -10,5 +10,4 @@ pub mod Effect
 pub mod Term
 pub mod Seen
 pub mod Sink
-pub mod Quiet
 pub mod Law

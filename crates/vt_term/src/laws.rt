@@ -7,6 +7,7 @@ ghost use Rattle.vt_term.specs.Shown.{IsSafe};
 ghost use Rattle.vt_term.specs.Term.{reset_term};
 
 use crate::Terminal;
+use crate::below::laws_below;
 
 /// Joined texts are played as their parts in turn, wherever the cut is.
 pub fn plays_in_parts()
@@ -26,18 +27,24 @@ pub fn sent_is_appended()
 /// Terms of which the same is seen step alike and send the same.
 pub fn seen_decides()
     ensures { SeenDecides }
-{}
+{
+    laws_below();
+}
 
 /// Three times what is sent from the reset term is at most twenty times the bytes.
 pub fn sends_little()
     ensures { SendsLittle }
-{}
+{
+    laws_below();
+}
 
 /// The reset term is safe, and a safe term stays so whatever bytes are played.
 pub fn stays_safe()
     ensures reset { IsSafe reset_term.shown }
     ensures played { StaysSafe }
-{}
+{
+    laws_below();
+}
 
 /// What every terminal shows: the cursor is on the screen and within its line's right margin, cells right of that margin
 /// are blank, glyphs are at most 126, and while DECOM is set the cursor is inside the margins.
