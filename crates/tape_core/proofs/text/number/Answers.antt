@@ -1,6 +1,6 @@
 use Rattle.std.proofs.Common.{◌∙◌, arith}
 use Rattle.tape_core.proofs.DigitLemmas.{capped_more}
-use Rattle.tape_core.proofs.digits.number.Goals as goal
+use Rattle.tape_core.proofs.text.number.Goals as goal
 
 pub loop-digit-preserved : goal.loop-digit-preserved
 loop-digit-preserved c =

@@ -1,6 +1,6 @@
 use Rattle.std.proofs.Common.{◌≡◌, min, take}
 use Rattle.std.specs.Str.Parse.{digits_value}
-use Rattle.tape_core.proofs.digits.number.Given as goal
+use Rattle.tape_core.proofs.text.number.Given as goal
 
 -- the number that the digits so far write, capped
 abbrev pub invariant-loop-digit : goal.invariant-loop-digit

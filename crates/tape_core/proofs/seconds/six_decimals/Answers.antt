@@ -1,7 +1,7 @@
 use Rattle.std.proofs.Common.{◌≡◌, ◌-◌, ◌∙◌, ap, get_or, arith}
 use Rattle.std.specs.Option.{unwrap_or}
 use Rattle.tape_core.proofs.DigitLemmas.{decimals_more, decimals_small}
-use Rattle.tape_core.proofs.digits.six_decimals.Goals as goal
+use Rattle.tape_core.proofs.seconds.six_decimals.Goals as goal
 
 pub loop-i-preserved : goal.loop-i-preserved
 loop-i-preserved c =

@@ -2,9 +2,9 @@ use Rattle.std.proofs.Common.{◌≡◌, ◌<◌, ◌≤◌, length, drop, refl,
 use Rattle.std.specs.List.{prefix_len}
 use Rattle.std.proofs.lemmas.Bool.Decides.{nat_tests}
 use Rattle.std.proofs.Math.ListN.{drop_of_length-le}
-use Rattle.tape_core.specs.Timing.{fields, is_blank}
+use Rattle.tape_core.specs.Text.{fields, is_blank}
 use Rattle.tape_core.proofs.FieldLemmas.{fields_trimmed, fields_word, trimmed_front}
-use Rattle.tape_core.proofs.fields.next_field.Goals as goal
+use Rattle.tape_core.proofs.text.next_field.Goals as goal
 
 pub returns-then-is_empty : goal.returns-then-is_empty
 returns-then-is_empty c =

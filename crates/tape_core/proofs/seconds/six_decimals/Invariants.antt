@@ -1,6 +1,6 @@
 use Rattle.std.proofs.Common.{◌≡◌, ◌<◌, ◌++◌, ◌^◌, take, replicate}
 use Rattle.std.specs.Str.Parse.{digits_value}
-use Rattle.tape_core.proofs.digits.six_decimals.Given as goal
+use Rattle.tape_core.proofs.seconds.six_decimals.Given as goal
 
 -- the number that the first decimals write, filled with zeros
 abbrev pub invariant-loop-i : goal.invariant-loop-i
