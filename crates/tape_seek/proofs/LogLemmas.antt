@@ -1,5 +1,5 @@
 -- The fields of an edit's line, written one after another.
-use Rattle.std.proofs.Common.{◌≡◌, ℕ, List, [], ◌∷◌, ◌++◌, map, sym, ◌∙◌, ap, append-nil}
+use Rattle.std.proofs.Common.{◌≡◌, ℕ, List, [], ◌∷◌, ◌++◌, map, sym, ap, append-nil}
 use Rattle.std.specs.List.{flat_map, join_with_byte}
 use Rattle.tape_seek.specs.declared.written_log.Field.{Field}
 use Rattle.tape_seek.specs.Fields.{field_text, spaced}

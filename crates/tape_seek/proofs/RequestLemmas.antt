@@ -1,82 +1,75 @@
 -- What is written of an edit is read as that edit.
-use Rattle.std.proofs.Common.{◌≡◌, ℕ, ◌+◌, ◌*◌, ◌<◌, ◌≤◌, ◌^◌, Bool, true, false, not, ◌&&◌, List, [], ◌∷◌, length, get_or, codes, min, nat_eq, Option, Some, None, Ok, refl, ap, sym, ◌∙◌, arith}
-use Rattle.std.specs.Char.{is_ascii_digit}
+use Rattle.std.proofs.Common.{◌≡◌, ◌≢◌, ℕ, ◌<◌, ◌≤◌, All, Bool, true, false, ◌&&◌, List, [], ◌∷◌, length, get_or, codes, map, min, nat_eq, Some, None, Ok, refl, ap, ◌∙◌, arith, append_assoc}
 use Rattle.std.specs.Fmt.{decimal}
-use Rattle.std.specs.List.{AllByRecursion, AllPass, join_with_byte, list_all}
-use Rattle.std.proofs.lemmas.Bool.{false≢true, lt-ltb}
-use Rattle.std.proofs.lemmas.Bool.Decides.{nat_tests}
-use Rattle.std.proofs.lemmas.Fmt.{decimal_is_IsNumeral}
-use Rattle.std.proofs.lemmas.List.Sums.{AllPass-from_list_all, list_all-from_AllPass}
+use Rattle.std.specs.List.{AllByRecursion, join_with_byte, list_all}
+use Rattle.std.specs.Option.{option_map}
 use Rattle.std.specs.Result.{result_ok}
 use Rattle.std.specs.Str.{bytes_eq}
+use Rattle.std.proofs.lemmas.Bool.{lt-ltb}
+use Rattle.std.proofs.lemmas.Bool.Decides.{nat_tests}
+use Rattle.std.proofs.lemmas.List.Elements.{All-append, All-cons, All-head, All-tail}
+use Rattle.std.proofs.lemmas.List.Sums.{AllPass-from_list_all}
 use Rattle.hex.specs.Hex.{IsBytes, decode_of, encode_lower, is_hex_digit}
 use Rattle.hex.proofs.HexLemmas.{decode_of-encode_lower, decode_of-ok}
 use Rattle.tape_core.specs.Seconds.{last_moment}
-use Rattle.tape_core.specs.Timing.{fields, is_blank}
+use Rattle.tape_core.specs.Text.{IsWord, fields, is_plain, lines_of}
 use Rattle.tape_core.specs.Written.{seconds_form}
-use Rattle.tape_core.proofs.ReadBackLemmas.{IsWord, decimal_digits, digits_are_word, fields_before_blank, fields_of_word, seconds_are_word, seconds_form_read, seconds_form_reads}
-use Rattle.tape_core.proofs.WrittenLemmas.{length-seconds_form}
+use Rattle.tape_core.proofs.ReadBackLemmas.{next_line, seconds_form_read}
+use Rattle.tape_core.proofs.WordLemmas.{decimal_read, decimal_word, first_word, one_word, seconds_word}
 use Rattle.tape_seek.specs.declared.edits.Edit.{Edit}
 use Rattle.tape_seek.specs.declared.edits.Edit.TheVariants.{Insert, Delete, Replace, Retime, Cap}
 use Rattle.tape_seek.specs.declared.requests.Request.TheVariants as asks
 use Rattle.tape_seek.specs.Edits.{CanBeLogged}
-use Rattle.tape_seek.specs.Requests.{bytes_of, form_of, place_of, request, request_of_fields}
-use Rattle.tape_seek.specs.WrittenLog.{bytes_in, edit_line, hex_form}
+use Rattle.tape_seek.specs.Requests.{bytes_of, form_of, one_field, place_of, request, request_of_fields}
+use Rattle.tape_seek.specs.WrittenLog.{bytes_in, edit_fields, edit_line, hex_form, log_text}
 
--- a field that is written: it has a byte, and none is a blank
-pub record IsField (text : List ℕ) : Type 0 where
-  pub some : 0 < length text
-  pub plain : IsWord text
+-- a line that has no field or several has not one
+pub not_one : (rest : List (List ℕ)) → length rest ≢ 1 → one_field rest ≡ None
+not_one [] h = refl
+not_one (a ∷ []) h = absurd (h refl)
+not_one (a ∷ b ∷ more) h = refl
 
--- fields joined by one space are found again
-fields_joined : (field : List ℕ) (more : List (List ℕ)) → IsField field → AllByRecursion IsField more → fields (join_with_byte 32 (field ∷ more)) ≡ field ∷ more
-fields_joined field [] is are = fields_of_word field is.some is.plain
-fields_joined field (next ∷ more) is are =
-    fields_before_blank field 32 (join_with_byte 32 (next ∷ more)) is.some is.plain refl ∙ ap (λ l. field ∷ l) (fields_joined next more are.0 are.1)
+-- ---- the words of an edit's line
 
-no_blank : (t : Bool) → not t ≡ true → t ≡ false
-no_blank true h = absurd (false≢true h)
-no_blank false h = refl
+literal_word : (text : List ℕ) → 0 < length text → list_all is_plain text ≡ true → IsWord text
+literal_word text some plain = record { some = some; plain = AllPass-from_list_all is_plain text plain }
 
--- a literal word
-word_is_field : (text : List ℕ) → 0 < length text → list_all (λ b. not (is_blank b)) text ≡ true → IsField text
-word_is_field text some plain = record {
-  some = some;
-  plain = λ k d lt. no_blank (is_blank (get_or text k d)) (AllPass-from_list_all (λ b. not (is_blank b)) text plain k d lt);
-}
+plain_hex : (b : ℕ) → is_hex_digit b ≡ true → is_plain b ≡ true
+plain_hex b h = grind (arith, nat_tests)
 
--- a place
-decimal_is_field : (n : ℕ) → n ≤ last_moment → IsField (decimal n)
-decimal_is_field n small = record {
-  some = (decimal_is_IsNumeral n (omega arith)).0.0;
-  plain = digits_are_word (decimal n) (decimal_digits n (omega arith));
-}
-
-place_read : (n : ℕ) → n ≤ last_moment → place_of (decimal n) ≡ Some n
-place_read n small =
-    let numeral = decimal_is_IsNumeral n (omega arith) in
-    rw (lt-ltb 0 (length (decimal n)) numeral.0.0, list_all-from_AllPass is_ascii_digit (decimal n) (decimal_digits n (omega arith)))
-    (ap Some (omega (arith, numeral.1)))
-
--- a delay
-seconds_are_field : (us : ℕ) → us ≤ last_moment → IsField (seconds_form us)
-seconds_are_field us small = record {
-  some = omega (arith, length-seconds_form us);
-  plain = seconds_are_word (seconds_form us) us (seconds_form_reads us (omega arith));
-}
-
--- bytes
-hex_no_blank : (b : ℕ) → is_hex_digit b ≡ true → is_blank b ≡ false
-hex_no_blank b h = grind (arith, nat_tests)
-
-hex_is_field : (bytes : List ℕ) → IsBytes bytes → IsField (hex_form bytes)
-hex_is_field [] are = word_is_field (codes "-") (omega arith) refl
-hex_is_field (b ∷ bs) are =
+hex_word : (bytes : List ℕ) → IsBytes bytes → IsWord (hex_form bytes)
+hex_word [] are = literal_word (codes "-") (omega arith) refl
+hex_word (b ∷ bs) are =
     let ok = decode_of-ok (encode_lower (b ∷ bs)) (b ∷ bs) (decode_of-encode_lower (b ∷ bs) are) in
     record {
       some = omega (arith, ok.2);
-      plain = λ k d lt. hex_no_blank (get_or (encode_lower (b ∷ bs)) k d) (ok.1 k d lt);
+      plain = λ k d lt. plain_hex (get_or (encode_lower (b ∷ bs)) k d) (ok.1 k d lt);
     }
+
+place_word : (n : ℕ) → n ≤ last_moment → IsWord (decimal n)
+place_word n small = decimal_word n (omega arith)
+
+delay_word : (us : ℕ) → us ≤ last_moment → IsWord (seconds_form us)
+delay_word us small = seconds_word us (omega arith)
+
+line_words : (edit : Edit) → CanBeLogged edit → IsBytes (bytes_in edit) → AllByRecursion IsWord (edit_fields edit)
+line_words (Insert at delay bytes) can are = (literal_word (codes "insert") (omega arith) refl, (place_word at can.0, (delay_word delay can.1, (hex_word bytes are, tt))))
+line_words (Delete from to) can are = (literal_word (codes "delete") (omega arith) refl, (place_word from can.0, (place_word to can.1, tt)))
+line_words (Replace at bytes) can are = (literal_word (codes "replace") (omega arith) refl, (place_word at can, (hex_word bytes are, tt)))
+line_words (Retime at delay) can are = (literal_word (codes "retime") (omega arith) refl, (place_word at can.0, (delay_word delay can.1, tt)))
+line_words (Cap max) can are = (literal_word (codes "cap") (omega arith) refl, (delay_word max can, tt))
+
+-- words joined by one space are found again
+joined_fields : (words : List (List ℕ)) → AllByRecursion IsWord words → fields (join_with_byte 32 words) ≡ words
+joined_fields [] are = refl
+joined_fields (word ∷ []) are = one_word word are.0
+joined_fields (word ∷ next ∷ more) are =
+    first_word word (join_with_byte 32 (next ∷ more)) 32 are.0 refl ∙ ap (λ l. word ∷ l) (joined_fields (next ∷ more) are.1)
+
+-- ---- what the words are read as
+
+place_read : (n : ℕ) → n ≤ last_moment → place_of (decimal n) ≡ Some n
+place_read n small = ap (option_map (λ m. min m last_moment)) (decimal_read n (omega arith)) ∙ ap Some (omega arith)
 
 and_false : (t : Bool) → (t && false) ≡ false
 and_false true = refl
@@ -97,21 +90,50 @@ bytes_read (b ∷ bs) are =
     let ok = decode_of-ok (encode_lower (b ∷ bs)) (b ∷ bs) back in
     pairs_read (encode_lower (b ∷ bs)) (b ∷ bs) (omega (arith, ok.2)) back
 
+words_read : (edit : Edit) → CanBeLogged edit → IsBytes (bytes_in edit) → request_of_fields (edit_fields edit) ≡ Some (asks.Edit edit)
+unfolding form_of
+words_read (Insert at delay bytes) can are = rw (place_read at can.0, seconds_form_read delay can.1, bytes_read bytes are) refl
+words_read (Delete from to) can are = rw (place_read from can.0, place_read to can.1) refl
+words_read (Replace at bytes) can are = rw (place_read at can, bytes_read bytes are) refl
+words_read (Retime at delay) can are = rw (place_read at can.0, seconds_form_read delay can.1) refl
+words_read (Cap max) can are = rw (seconds_form_read max can) refl
+
 -- the line of an edit that a log can hold
 pub written_edit_read : (edit : Edit) → CanBeLogged edit → IsBytes (bytes_in edit) → request (edit_line edit) ≡ Some (asks.Edit edit)
-unfolding request edit_line form_of
-written_edit_read (Insert at delay bytes) can are =
-    ap request_of_fields (fields_joined (codes "insert") (decimal at ∷ seconds_form delay ∷ hex_form bytes ∷ []) (word_is_field (codes "insert") (omega arith) refl) (decimal_is_field at can.0, (seconds_are_field delay can.1, (hex_is_field bytes are, tt))))
-    ∙ rw (place_read at can.0, seconds_form_read delay can.1, bytes_read bytes are) refl
-written_edit_read (Delete from to) can are =
-    ap request_of_fields (fields_joined (codes "delete") (decimal from ∷ decimal to ∷ []) (word_is_field (codes "delete") (omega arith) refl) (decimal_is_field from can.0, (decimal_is_field to can.1, tt)))
-    ∙ rw (place_read from can.0, place_read to can.1) refl
-written_edit_read (Replace at bytes) can are =
-    ap request_of_fields (fields_joined (codes "replace") (decimal at ∷ hex_form bytes ∷ []) (word_is_field (codes "replace") (omega arith) refl) (decimal_is_field at can, (hex_is_field bytes are, tt)))
-    ∙ rw (place_read at can, bytes_read bytes are) refl
-written_edit_read (Retime at delay) can are =
-    ap request_of_fields (fields_joined (codes "retime") (decimal at ∷ seconds_form delay ∷ []) (word_is_field (codes "retime") (omega arith) refl) (decimal_is_field at can.0, (seconds_are_field delay can.1, tt)))
-    ∙ rw (place_read at can.0, seconds_form_read delay can.1) refl
-written_edit_read (Cap max) can are =
-    ap request_of_fields (fields_joined (codes "cap") (seconds_form max ∷ []) (word_is_field (codes "cap") (omega arith) refl) (seconds_are_field max can, tt))
-    ∙ rw (seconds_form_read max can) refl
+unfolding request edit_line
+written_edit_read edit can are = ap request_of_fields (joined_fields (edit_fields edit) (line_words edit can are)) ∙ words_read edit can are
+
+-- ---- the lines of a log
+
+abbrev HasNoFeed : List ℕ → Type 0
+HasNoFeed text = All (λ b. nat_eq b 10 ≡ false) text
+
+no_feed : (b : ℕ) → is_plain b ≡ true → nat_eq b 10 ≡ false
+no_feed b h = grind (arith, nat_tests)
+
+word_has_no_feed : (word : List ℕ) → IsWord word → HasNoFeed word
+word_has_no_feed word is = λ k d lt. no_feed (get_or word k d) (is.plain k d lt)
+
+joined_has_no_feed : (words : List (List ℕ)) → AllByRecursion IsWord words → HasNoFeed (join_with_byte 32 words)
+joined_has_no_feed [] are = λ k d lt. absurd (omega arith)
+joined_has_no_feed (word ∷ []) are = word_has_no_feed word are.0
+joined_has_no_feed (word ∷ next ∷ more) are =
+    All-append (λ b. nat_eq b 10 ≡ false) word (32 ∷ join_with_byte 32 (next ∷ more)) (word_has_no_feed word are.0)
+    (All-cons (λ b. nat_eq b 10 ≡ false) 32 (join_with_byte 32 (next ∷ more)) refl (joined_has_no_feed (next ∷ more) are.1))
+
+line_has_no_feed : (edit : Edit) → CanBeLogged edit → IsBytes (bytes_in edit) → HasNoFeed (edit_line edit)
+unfolding edit_line
+line_has_no_feed edit can are = joined_has_no_feed (edit_fields edit) (line_words edit can are)
+
+-- an edit that a log can hold
+abbrev pub IsWritable : Edit → Type 0
+IsWritable edit = CanBeLogged edit × IsBytes (bytes_in edit)
+
+pub written_log_lines : (edits : List Edit) → All IsWritable edits → lines_of (log_text edits) ≡ map edit_line edits
+unfolding log_text
+written_log_lines [] are = refl
+written_log_lines (edit ∷ more) are =
+    let is : IsWritable edit = All-head IsWritable edit more are in
+    ap lines_of (append_assoc (edit_line edit) (10 ∷ []) (log_text more))
+    ∙ next_line (edit_line edit) (log_text more) (line_has_no_feed edit is.0 is.1)
+    ∙ ap (λ l. edit_line edit ∷ l) (written_log_lines more (All-tail IsWritable edit more are))

@@ -5,7 +5,7 @@ use Rattle.std.specs.Result.{result_ok}
 use Rattle.std.specs.Str.{bytes_eq}
 use Rattle.hex.specs.Hex.{decode_of}
 use Rattle.tape_core.specs.Seconds.{last_moment, seconds_of}
-use Rattle.tape_core.specs.Timing.{count_of, fields}
+use Rattle.tape_core.specs.Text.{fields, number_of}
 use Rattle.tape_seek.specs.declared.edits.Edit.TheVariants as edit
 use Rattle.tape_seek.specs.declared.requests.Form.{Form}
 use Rattle.tape_seek.specs.declared.requests.Form.TheVariants.{Insert, Delete, Replace, Retime, Cap, Screen, Reports, Changes, Info, Log}
@@ -20,7 +20,7 @@ None >>= f = None
 
 -- AT, FROM and TO: one or more digits; a number above 10^18 counts as 10^18.
 abbrev pub place_of : List ℕ → Option ℕ
-place_of text = option_map (λ n. min n last_moment) (count_of text)
+place_of text = option_map (λ n. min n last_moment) (number_of text)
 
 -- The bytes of an even number of hexadecimal digits in either case, at least two.
 abbrev pub pairs_of : List ℕ → Option (List ℕ)

@@ -3,13 +3,12 @@ ghost use Rattle.std.specs.Prelude.{◌≡◌, ◌≢◌, [], is_some, IfOk, IsS
 ghost use Rattle.std.specs.Char.{is_ascii_hexdigit};
 ghost use Rattle.std.specs.List.{list_all};
 ghost use Rattle.std.specs.Option.{option_map};
-ghost use Rattle.tape_core.specs.Timing.{fields};
-ghost use Rattle.tape_seek.specs.Requests.{alone, asked, BringsBytes, bytes_of, cap_of, changes_of, delete_of, form_of, insert_of, one_field, pairs_of, place_of, replace_of, reports_of, request, retime_of, screen_of, from_of, three_fields, two_fields};
+ghost use Rattle.tape_core.specs.Text.{fields};
+ghost use Rattle.tape_seek.specs.Requests.{alone, asked, BringsBytes, bytes_of, cap_of, changes_of, delete_of, form_of, insert_of, pairs_of, place_of, replace_of, reports_of, request, retime_of, screen_of, from_of, three_fields, two_fields};
 
 use crate::edits::Edit;
 use std::alloc::Global;
-use tape_core::digits::{are_digits, number};
-use tape_core::fields::next_field;
+use tape_core::text::{next_field, only_field, read_number};
 use tape_core::{Bytes, read_seconds};
 
 /// What a line asks for. Moments are microseconds. Profile.
@@ -156,26 +155,29 @@ fn read_retime(rest: &[u8]) -> Option<Request>
 }
 
 /// `cap S`
+#[tactic(auto, using(crate::proofs::RequestLemmas::not_one))]
 fn read_cap(rest: &[u8]) -> Option<Request>
     ensures { result ≡ cap_of (fields rest.now) }
 {
-    let max = read_seconds(one_field(rest)?)?;
+    let max = read_seconds(only_field(rest)?)?;
     Some(Request::Edit(Edit::Cap { max }))
 }
 
 /// `screen S`
+#[tactic(auto, using(crate::proofs::RequestLemmas::not_one))]
 fn read_screen(rest: &[u8]) -> Option<Request>
     ensures { result ≡ screen_of (fields rest.now) }
 {
-    let at = read_seconds(one_field(rest)?)?;
+    let at = read_seconds(only_field(rest)?)?;
     Some(Request::Screen(at))
 }
 
 /// `reports S`
+#[tactic(auto, using(crate::proofs::RequestLemmas::not_one))]
 fn read_reports(rest: &[u8]) -> Option<Request>
     ensures { result ≡ reports_of (fields rest.now) }
 {
-    let at = read_seconds(one_field(rest)?)?;
+    let at = read_seconds(only_field(rest)?)?;
     Some(Request::Reports(at))
 }
 
@@ -199,23 +201,13 @@ fn read_alone(asks: Request, rest: &[u8]) -> Option<Request>
     }
 }
 
-/// The only field that is left.
-fn one_field(rest: &[u8]) -> Option<&[u8]>
-    ensures { option_map (λ field. field.now) result ≡ one_field (fields rest.now) }
-{
-    let (field, after) = next_field(rest)?;
-    match next_field(after) {
-        None => Some(field),
-        Some(_) => None,
-    }
-}
-
 /// The two fields that are left.
+#[tactic(auto, using(crate::proofs::RequestLemmas::not_one))]
 fn two_fields(rest: &[u8]) -> Option<(&[u8], &[u8])>
     ensures { option_map (λ pair. (pair.0.now, pair.1.now)) result ≡ two_fields (fields rest.now) }
 {
     let (first, after) = next_field(rest)?;
-    let second = one_field(after)?;
+    let second = only_field(after)?;
     Some((first, second))
 }
 
@@ -232,11 +224,8 @@ fn three_fields(rest: &[u8]) -> Option<(&[u8], &[u8], &[u8])>
 fn read_place(field: &[u8]) -> Option<usize>
     ensures { result ≡ place_of field.now }
 {
-    if !field.is_empty() && are_digits(field) {
-        Some(number(field, 1_000_000_000_000_000_000) as usize)
-    } else {
-        None
-    }
+    let place = read_number(field)?;
+    Some(place as usize)
 }
 
 /// The moment that seconds write, or None within where it is `-`.
