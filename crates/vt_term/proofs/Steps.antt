@@ -38,7 +38,7 @@ control_mode (Some control) s = kept control s
     kept Si s = invoked_mode _ s.modes.mode s
     kept _ s = refl
 
-effect_mode : (command : Command) (s : Console) → is_sequence command ≡ false → (effect command s).modes.mode ≡ s.modes.mode
+pub effect_mode : (command : Command) (s : Console) → is_sequence command ≡ false → (effect command s).modes.mode ≡ s.modes.mode
 unfolding effect
 effect_mode (Show byte) s is = refl
 effect_mode Error s is = refl
@@ -121,7 +121,7 @@ sent_appended x (byte ∷ bytes) =
 -- ---- what stands on the laws of the parser and of the screen
 
 module _ (laws : LawsBelow) where
-  view_of_none : (m n : Mode) (p : List ℕ) (state : ParserState) → p ≡ [] → parser_view m p ≡ Some state → parser_view n p ≡ Some state
+  pub view_of_none : (m n : Mode) (p : List ℕ) (state : ParserState) → p ≡ [] → parser_view m p ≡ Some state → parser_view n p ≡ Some state
   view_of_none m n p state none view =
       let there : parser_view n p ≡ Some Ground = ap (parser_view n) none ∙ laws.ground_is_empty.0 n in
       let here : parser_view m p ≡ Some Ground = ap (parser_view m) none ∙ laws.ground_is_empty.0 m in

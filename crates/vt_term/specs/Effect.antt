@@ -1,7 +1,11 @@
 -- What a command does to a terminal, and what the terminal answers.
-use Rattle.std.specs.Prelude.{ℕ, Bool, true, false, List, [], Option, Some, None}
+use Rattle.std.specs.Prelude.{ℕ, ◌≤◌, Bool, true, false, List, [], map, All, Option, Some, None}
 use Rattle.vt_parser.specs.declared.commands.Command.{Command}
 use Rattle.vt_parser.specs.declared.commands.Command.TheVariants.{Show, Error, Control, Esc, Csi, Vt52, Vt52Address}
+use Rattle.vt_parser.specs.declared.tokens.Token.{Token}
+use Rattle.vt_parser.specs.declared.tokens.Token.TheVariants as token
+use Rattle.vt_parser.specs.Token.{command_of_token}
+use Rattle.vt_parser.specs.Law.{IsProper}
 use Rattle.vt_screen.specs.Puts.{shown, run_shown}
 use Rattle.vt_term.specs.Console.{Console, on_picture, effect_of}
 use Rattle.vt_term.specs.Sets.{glyph_of, checkerboard, set_in_use}
@@ -62,3 +66,27 @@ effect_if (Some command) s = effect command s
 abbrev pub reply_if : Option Command → Console → List ℕ
 reply_if None s = []
 reply_if (Some command) s = reply command s
+
+-- the effect of a token: of a run the glyphs of its characters, of any other that of its command
+abbrev pub token_effect : Token → Console → Console
+token_effect (token.Show run) s = glyphs_shown (map (glyph_for s) run.now) s
+token_effect other s = effect (command_of_token other) s
+
+-- the answer to it
+abbrev pub token_reply : Token → Console → List ℕ
+token_reply (token.Show run) s = []
+token_reply other s = reply (command_of_token other) s
+
+-- the same where the bytes come to none
+abbrev pub token_effect_if : Option Token → Console → Console
+token_effect_if None s = s
+token_effect_if (Some told) s = token_effect told s
+
+abbrev pub token_reply_if : Option Token → Console → List ℕ
+token_reply_if None s = []
+token_reply_if (Some told) s = token_reply told s
+
+-- the numbers of a token are in their ranges
+abbrev pub IsProperToken : Token → Type 0
+IsProperToken (token.Show run) = All (λ byte. byte ≤ 126) run.now
+IsProperToken other = IsProper (command_of_token other)

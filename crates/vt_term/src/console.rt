@@ -63,16 +63,6 @@ impl Console {
         self.screen.show(glyph, self.rendition, self.modes.autowrap);
     }
 
-    /// Shows a byte's glyph.
-    #[inline]
-    pub(crate) fn show(&mut self, byte: u8)
-        requires { byte ≤ 126 }
-        ensures { console_of self.new ≡ glyph_shown (glyph_for (console_of self.old) byte) (console_of self.old) }
-    {
-        let glyph = self.set_in_use().glyph(byte);
-        self.show_glyph(glyph);
-    }
-
     /// Shows the error character.
     pub(crate) fn show_error(&mut self)
         ensures { console_of self.new ≡ glyph_shown CHECKERBOARD (console_of self.old) }
