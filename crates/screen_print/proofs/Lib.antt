@@ -1,2 +1,3 @@
 pub mod GlyphLemmas
 pub mod PlainLemmas
+pub mod RowLemmas

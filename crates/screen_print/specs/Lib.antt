@@ -1,2 +1,4 @@
 pub mod Glyphs
 pub mod PlainText
+pub mod SameRows
+pub mod ChangeLines
