@@ -1,3 +1,4 @@
 pub mod GlyphLemmas
 pub mod PlainLemmas
 pub mod RowLemmas
+pub mod ChangeLemmas

@@ -70,7 +70,7 @@ cell_from_parts one other e f =
 same_cell_decides : (one other : Cell) → Decides (same_cell one other) (one ≡ other)
 same_cell_decides one other = (
   λ h. let parts = and_parts (nat_eq one.glyph other.glyph) (nat_eq (byte_of one.rendition) (byte_of other.rendition)) h in
-  cell_from_parts one other (same_number _ _ parts.0) (byte_apart one.rendition other.rendition (same_number _ _ parts.1)),
+      cell_from_parts one other (same_number _ _ parts.0) (byte_apart one.rendition other.rendition (same_number _ _ parts.1)),
   λ e. rw e (both _ _ (itself other.glyph) (itself (byte_of other.rendition))),
 )
 
@@ -86,9 +86,9 @@ same_row_decides one other =
     let cells = pointwise same_cell one.cells other.cells in
     let cells_decide = slice_eq-Decides same_cell_decides one.cells other.cells cells refl in (
       λ h. let parts = and_parts sizes cells h in
-      row_from_parts one other
-      (sym (size_again one.size) ∙ ap size_with (same_number _ _ parts.0) ∙ size_again other.size)
-      (cells_decide.0 parts.1),
+          row_from_parts one other
+          (sym (size_again one.size) ∙ ap size_with (same_number _ _ parts.0) ∙ size_again other.size)
+          (cells_decide.0 parts.1),
       λ e. both sizes cells (rw e (itself (size_number other.size))) (cells_decide.1 (ap (λ (r : Row). r.cells) e)),
     )
 
@@ -118,7 +118,7 @@ rows_by_line rows these whole whole' same =
 -- ---- the lines that differ
 
 -- the numbers from one on, and the next
-range_more : (a n : ℕ) → range_with_len a (n + 1) ≡ range_with_len a n ++ (a + n) ∷ []
+pub range_more : (a n : ℕ) → range_with_len a (n + 1) ≡ range_with_len a n ++ (a + n) ∷ []
 range_more a zero = ap (λ m. m ∷ []) (sym (add-zero a))
 range_more a (suc n) =
     let next : a + 1 + n ≡ a + suc n = omega arith in

@@ -1,7 +1,7 @@
 -- Which lines of the screen each chunk changes, and how that is written. Profile.
-use Rattle.std.specs.Prelude.{ℕ, ◌+◌, Bool, not, ◌&&◌, List, [], ◌∷◌, ◌++◌, map, filter, Option, None, Some, nat_lt, nat_le}
+use Rattle.std.specs.Prelude.{ℕ, ◌+◌, Bool, not, ◌&&◌, List, [], ◌∷◌, ◌++◌, filter, Option, None, Some, nat_lt, nat_le}
 use Rattle.std.specs.Fmt.{decimal}
-use Rattle.std.specs.List.{flat_map, join_with_byte, range_with_len}
+use Rattle.std.specs.List.{flat_map, range_with_len}
 use Rattle.tape_core.specs.Due.{due_time, places}
 use Rattle.tape_core.specs.Tape.{Tape}
 use Rattle.tape_core.specs.Written.{seconds_form}
@@ -22,10 +22,14 @@ changed_lines before after = filter (is_changed before after) (range_with_len 1 
 abbrev pub rows_after : Tape → ℕ → List Row
 rows_after tape count = (up_to tape count).shown.picture.rows
 
+-- a number with the space before it
+abbrev pub spaced_number : ℕ → List ℕ
+spaced_number n = 32 ∷ decimal n
+
 -- the line of a chunk: its place, when it is due, and the lines that it changes; nothing where it changes none
 abbrev pub change_line : ℕ → ℕ → List ℕ → List ℕ
 change_line index due [] = []
-change_line index due (line ∷ more) = join_with_byte 32 (decimal index ∷ seconds_form due ∷ map decimal (line ∷ more)) ++ 10 ∷ []
+change_line index due (line ∷ more) = (decimal index ++ 32 ∷ seconds_form due) ++ flat_map spaced_number (line ∷ more) ++ 10 ∷ []
 
 -- what is written of one chunk, compared before and after it alone
 abbrev pub chunk_line : Tape → ℕ → List ℕ
