@@ -6,6 +6,7 @@ pub mod LawLemmas
 mod Regions
 mod Rows
 mod Runs
+mod Scrolled
 mod SoundRows
 mod Soundness
 mod Stops
