@@ -48,6 +48,12 @@ check 'an empty recording' 0 '' '' due --at 7 empty.script empty.timing
 check 'flags after paths' 0 'ab' '' due ab.script ab.timing --at=9
 check 'two dashes' 0 'ab' '' due --at 9 -- ab.script ab.timing
 
+check 'what a recording holds' 0 'chunks 2\nbytes 2\nlength 0.500000\nheader 20\ntrailer 0\n' '' info ab.script ab.timing
+check 'what an empty recording holds' 0 'chunks 0\nbytes 0\nlength 0.000000\nheader 20\ntrailer 0\n' '' \
+    info empty.script empty.timing
+check 'info has no moment' 2 '' "error: unexpected argument '--at' found\n\nUsage: typetool info <SCRIPT> <TIMING>\n\nFor more information, try '--help'.\n" \
+    info --at 1 ab.script ab.timing
+
 # screen_of TEXT: the 24 lines of a screen that begins with TEXT, with an LF for each empty line that TEXT leaves out.
 screen_of() {
     local text=$1 plain=${1//'\n'/}

@@ -10,4 +10,5 @@ pub mod WrittenLemmas
 pub mod LineLemmas
 pub mod ReadingLemmas
 pub mod ReadBackLemmas
+pub mod WordLemmas
 pub mod OneReadingLemmas

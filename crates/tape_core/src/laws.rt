@@ -1,5 +1,6 @@
 //! Laws over the definitions alone, as functions with empty bodies.
-ghost use Rattle.std.specs.Prelude.{◌≡◌, ◌+◌, ◌<◌, ◌≤◌, ◌^◌, ◌↔◌, ◌++◌, ℕ, List, MatchOption, Ok, Some, length, min, slice_index_or};
+ghost use Rattle.std.specs.Prelude.{◌≡◌, ◌+◌, ◌<◌, ◌≤◌, ◌^◌, ◌↔◌, ◌++◌, ◌==◌, ◌∷◌, [], ℕ, All, List, MatchOption, Ok, Some, false, length, min, slice_index_or, true};
+ghost use Rattle.std.specs.Fmt.{decimal};
 ghost use Rattle.tape_core.specs.Changes.{capped, inserted, removed, replaced, retimed};
 ghost use Rattle.tape_core.specs.declared.chunk.Chunk.{Chunk};
 ghost use Rattle.tape_core.specs.declared.timing.Entry.{Entry};
@@ -7,6 +8,7 @@ ghost use Rattle.tape_core.specs.Due.{bytes_at, due, due_count, due_time, first}
 ghost use Rattle.tape_core.specs.Seconds.{SecondsText, last_moment, seconds_of};
 ghost use Rattle.tape_core.specs.Tape.{Tape, fits};
 ghost use Rattle.tape_core.specs.Reading.{reads};
+ghost use Rattle.tape_core.specs.Text.{IsWord, NumberText, fields, is_blank, lines_of, number_of};
 ghost use Rattle.tape_core.specs.Timing.{IsWithin, TimingLine, entry_of};
 ghost use Rattle.tape_core.specs.Written.{script_text, seconds_form, timing_text};
 
@@ -36,6 +38,28 @@ pub fn first_is_kept()
     ensures capped { (tape : Tape) (max n : ℕ) → first (capped max tape).chunks n ≡ first tape.chunks n }
 {}
 
+/// A word is one field, and the fields of a word, a blank and a text are the word and the text's.
+pub fn a_word_is_a_field()
+    ensures alone { (word : List ℕ) → IsWord word → fields word ≡ word ∷ [] }
+    ensures first { (word rest : List ℕ) (b : ℕ) → IsWord word → is_blank b ≡ true → fields (word ++ b ∷ rest) ≡ word ∷ fields rest }
+{}
+
+/// The lines of a text without an LF, an LF and another text are the first text and the other's lines.
+pub fn an_lf_ends_a_line()
+    ensures { (text rest : List ℕ) → All (λ b. (b == 10) ≡ false) text → lines_of (text ++ 10 ∷ rest) ≡ text ∷ lines_of rest }
+{}
+
+/// A text is read as a number where it is spelled as one, with that value, and nowhere else.
+pub fn numbers_are_spelled()
+    ensures { (text : List ℕ) → MatchOption (number_of text) ((n : ℕ) → NumberText text n → ⊥) (λ n. NumberText text n) }
+{}
+
+/// Numbers below 2^64 are written as a word of digits, and read back.
+pub fn numbers_read_back()
+    ensures word { (n : ℕ) → n < 2 ^ 64 → IsWord (decimal n) }
+    ensures read { (n : ℕ) → n < 2 ^ 64 → number_of (decimal n) ≡ Some n }
+{}
+
 /// A text is read as seconds where it is spelled as seconds, with that value, and nowhere else.
 pub fn seconds_are_spelled()
     ensures { (text : List ℕ) → MatchOption (seconds_of text) ((us : ℕ) → SecondsText text us → ⊥) (λ us. (value : ℕ) × SecondsText text value × (us ≡ min value last_moment)) }
@@ -56,9 +80,10 @@ pub fn a_pair_is_read_once()
     ensures { (script timing : List ℕ) (one other : Tape) → reads script timing one → reads script timing other → other ≡ one }
 {}
 
-/// Microseconds below 2^64, written as seconds, are spelled seconds with that value; those up to the
-/// greatest moment are read back.
+/// Microseconds below 2^64, written as seconds, are a word and spelled seconds with that value; those
+/// up to the greatest moment are read back.
 pub fn seconds_read_back()
+    ensures word { (us : ℕ) → us < 2 ^ 64 → IsWord (seconds_form us) }
     ensures spelled { (us : ℕ) → us < 2 ^ 64 → SecondsText (seconds_form us) us }
     ensures read { (us : ℕ) → us ≤ last_moment → seconds_of (seconds_form us) ≡ Some us }
 {}

@@ -12,16 +12,27 @@ use Rattle.clap.specs.declared.parser.matches.ArgMatches.TheViews.{out-SubComman
 use Rattle.clap.specs.declared.parser.matches.SubCommand.{SubCommand}
 use Rattle.clap.specs.declared.Error.{Error}
 use Rattle.clap.specs.declared.error.ErrorKind.TheVariants.{OutOfMemory}
-use Rattle.typetool.specs.CommandLine.{typetool_app, clap_faults, clap_takes, subcommand_in, IsNamed}
+use Rattle.std.proofs.Common.{ℕ, ◌+◌, ◌<◌, ◌≤◌, ◌++◌, map, take, length, get_or, fold, Ok, Err, arith, append-nil, append_assoc, lit≤, suc, below_more}
+use Rattle.std.specs.Option.{option_and_then}
+use Rattle.std.specs.Str.{bytes_eq}
+use Rattle.std.proofs.lemmas.List.{get_or_default, map-append, take_all, take_more}
+use Rattle.std.proofs.lemmas.List.Sums.{fold_more}
+use Rattle.clap.specs.Words.{Rule, with_rule, with_subcommand}
+use Rattle.typetool.specs.CommandLine.{typetool_app, clap_faults, clap_takes, subcommand_in, subcommands_in_order, app_in, after, id_in, job_in, meaning_in, meaning_of, meaning_of_words, name_in, paths_in, rule_in, top_app, value_in, with_rules, with_subcommands, flags_in, IsNamed}
+use Rattle.typetool.specs.declared.job.Job.{Job}
+use Rattle.typetool.specs.declared.words.table.Argument.{Argument}
+use Rattle.typetool.specs.declared.words.table.Subcommand.{Subcommand}
+use Rattle.typetool.specs.declared.words.table.Subcommand.TheVariants.{Due, Info, Screen, Reports}
+use Rattle.typetool.specs.declared.words.values.Unreadable.{Unreadable}
 
 -- clap says what such a command's matches are
 pub is_simple_app : is_simple typetool_app ≡ true
-unfolding typetool_app
+unfolding typetool_app app_in name_in flags_in paths_in id_in rule_in
 is_simple_app = refl
 
 -- and what its faults are
 pub is_free_app : is_simple_and_free typetool_app ≡ true
-unfolding typetool_app
+unfolding typetool_app app_in name_in flags_in paths_in id_in rule_in
 is_free_app = refl
 
 -- a subcommand must follow the program's name
@@ -66,7 +77,7 @@ entered_named a (Some p) met e = found_named (λ s. rows_at s p.1) (λ s. refl) 
 
 -- and so has the one in the words
 named_in : (words : List Text) (met : Text × List Row) → subcommand_in words ≡ Some met → IsNamed (Some met.0) typetool_app.subs
-unfolding subcommand_in typetool_app
+unfolding subcommand_in typetool_app app_in
 named_in words met e =
     entered_named (built typetool_app) (stop_after (built typetool_app).top.rules (names_of (built typetool_app)) (argument_words typetool_app words)) met e
 
@@ -88,3 +99,83 @@ pub named_by : (words : List Text) (m : ArgMatches) → subcommand_rows_of m ≡
 named_by words m e some =
     let found = (out-ArgMatches m).subcommand in
     named_if (subcommand_name_of m) (subcommand_rows_of m) words (name_and_rows found) (sym (has_rows found) ∙ some) e
+
+-- a command with no further argument
+pub with_rules_none : (a : App) → a ≡ with_rules a []
+with_rules_none a = ap (λ l. record a { top = record a.top { rules = l } }) (sym (append-nil a.top.rules))
+
+-- a command with one argument more
+pub with_rules_more : (a b : App) (arguments : List Argument) (i : ℕ) (d : Argument) (r : Rule) → i < length arguments → r ≡ rule_in (get_or arguments i d) → a ≡ with_rules b (map rule_in (take i arguments)) → with_rule a r ≡ with_rules b (map rule_in (take (i + 1) arguments))
+with_rules_more a b arguments i d r lt at e =
+    let x = get_or arguments i d in
+    let rules : map rule_in (take (i + 1) arguments) ≡ map rule_in (take i arguments) ++ rule_in x ∷ [] = ap (map rule_in) (take_more arguments i d lt) ∙ map-append rule_in (take i arguments) (x ∷ []) in
+    ap (λ (c : App). with_rule c r) e
+    ∙ ap (λ q. with_rule (with_rules b (map rule_in (take i arguments))) q) at
+    ∙ ap (λ l. record b { top = record b.top { rules = l } })
+    (append_assoc b.top.rules (map rule_in (take i arguments)) (rule_in x ∷ []) ∙ ap (λ l. b.top.rules ++ l) (sym rules))
+
+-- a command with one subcommand more
+pub with_subcommands_more : (a b : App) (subs : List Subcommand) (i : ℕ) (d : Subcommand) (s : Shape) → i < length subs → s ≡ (app_in (get_or subs i d)).top → a ≡ with_subcommands b (take i subs) → with_subcommand a s ≡ with_subcommands b (take (i + 1) subs)
+with_subcommands_more a b subs i d s lt at e =
+    ap (λ (c : App). with_subcommand c s) e
+    ∙ ap (λ q. with_subcommand (with_subcommands b (take i subs)) q) at
+    ∙ sym (fold_more (λ app x. with_subcommand app (app_in x).top) b subs i d lt)
+
+-- with all of them
+pub with_all_subcommands : (a : App) (subs : List Subcommand) (i : ℕ) → subs ≡ subcommands_in_order → length subs ≤ i → a ≡ with_subcommands top_app (take i subs) → a ≡ typetool_app
+unfolding typetool_app
+with_all_subcommands a subs i all le e =
+    e ∙ ap (with_subcommands top_app) (take_all i subs le ∙ all)
+
+-- the first subcommand with the name of one is that one
+pub first_named : (s : Subcommand) → find (λ t. bytes_eq (name_in t) (name_in s)) subcommands_in_order ≡ Some s
+unfolding name_in
+first_named Due = refl
+first_named Info = refl
+first_named Screen = refl
+first_named Reports = refl
+
+-- what words mean by the subcommand that clap finds in them
+pub means : (words : List Text) (s : Subcommand) (rows : List Row) → subcommand_in words ≡ Some (name_in s, rows) → meaning_of_words words ≡ Some (meaning_in s rows)
+unfolding meaning_of_words
+means words s rows e =
+    ap (option_and_then meaning_of) e ∙ ap (option_map (λ t. meaning_in t rows)) (first_named s)
+
+-- where the job and the paths are read
+pub means_job : (s : Subcommand) (rows : List Row) (job : Job) (paths : List Text) → job_in s rows ≡ Ok job → paths ≡ map (λ a. value_in (id_in a) rows) (paths_in s) → meaning_in s rows ≡ Ok (record { job = job; paths = paths })
+means_job s rows job paths e p =
+    ap (λ r. after r (λ j. Ok (record { job = j; paths = map (λ a. value_in (id_in a) rows) (paths_in s) }))) e
+    ∙ ap (λ l. Ok (record { job = job; paths = l })) (sym p)
+
+-- where they aren't
+pub means_fault : (s : Subcommand) (rows : List Row) (fault : Unreadable) → job_in s rows ≡ Err fault → meaning_in s rows ≡ Err fault
+means_fault s rows fault e =
+    ap (λ r. after r (λ j. Ok (record { job = j; paths = map (λ a. value_in (id_in a) rows) (paths_in s) }))) e
+
+-- each subcommand takes the two paths of a recording
+pub two_paths : (s : Subcommand) → 2 ≤ length (paths_in s)
+unfolding paths_in
+two_paths Due = lit≤ tt
+two_paths Info = lit≤ tt
+two_paths Screen = lit≤ tt
+two_paths Reports = lit≤ tt
+
+-- a name that is none of those in a list is named by none of their commands
+unnamed_in : (name : Option Text) (subs : List Subcommand) → ((k : ℕ) → k < length subs → name ≢ Some (name_in (get_or subs k Due))) → IsNamed name (map (λ s. (app_in s).top) subs) → ⊥
+unfolding app_in
+unnamed_in name [] none named = named
+unnamed_in name (s ∷ rest) none (inl e) = none 0 (omega arith) e
+unnamed_in name (s ∷ rest) none (inr later) = unnamed_in name rest (λ k lt. none (suc k) (omega arith)) later
+
+-- and the command line names no other
+pub unnamed : (name : Option Text) (subs : List Subcommand) (i : ℕ) → subs ≡ subcommands_in_order → length subs ≤ i → ((k : ℕ) → k < i → name ≢ Some (name_in (get_or subs k Due))) → IsNamed name typetool_app.subs → ⊥
+unfolding typetool_app
+unnamed name subs i all le none named =
+    unnamed_in name subs (λ k lt. none k (omega arith))
+    (subst (λ l. IsNamed name (map (λ s. (app_in s).top) l)) (sym all) named)
+
+-- a name that is none of one subcommand more
+pub unnamed_more : (name : Option Text) (subs : List Subcommand) (i : ℕ) (d : Subcommand) → i < length subs → ((k : ℕ) → k < i → name ≢ Some (name_in (get_or subs k Due))) → name ≢ Some (name_in (get_or subs i d)) → (k : ℕ) → k < i + 1 → name ≢ Some (name_in (get_or subs k Due))
+unnamed_more name subs i d lt before here =
+    below_more (λ k. name ≢ Some (name_in (get_or subs k Due))) i before
+    (λ e. here (e ∙ ap (λ s. Some (name_in s)) (get_or_default subs i Due d lt)))

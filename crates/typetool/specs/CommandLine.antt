@@ -1,18 +1,54 @@
--- The command line: what clap is told, and the job and the paths that its answer means.
-use Rattle.std.specs.Prelude.{◌≡◌, ℕ, ◌⊎◌, Bool, true, false, List, [], ◌∷◌, map, Option, Some, None, codes, unwrap_or, is_some, not, string_bytes, IsSomeAnd, if◌then◌else◌}
-use Rattle.std.specs.Option.{option_map}
-use Rattle.std.specs.List.{list_any}
+-- The command line: the table of subcommands, what clap is told of it, and the job and the paths that its answer means.
+use Rattle.std.specs.Prelude.{◌≡◌, ℕ, ◌⊎◌, ◌++◌, Bool, true, false, List, [], ◌∷◌, map, Option, Some, None, Result, Ok, Err, codes, unwrap_or, string_bytes, find, fold}
+use Rattle.std.specs.Option.{option_and_then, option_map}
 use Rattle.std.specs.Str.{bytes_eq}
-use Rattle.clap.specs.Words.{App, IsAmong, Kinds, Row, Rule, Shape, Text, fault_of, first_of, kind_of, new_app, new_rule, subcommand_of, takes, with_rule, with_subcommand}
+use Rattle.clap.specs.Words.{App, IsAmong, Kinds, Row, Rule, Shape, Text, fault_of, first_of, kind_of, new_app, new_rule, subcommand_of, takes, with_subcommand}
 use Rattle.clap.specs.declared.builder.ArgAction.TheVariants.{Set}
 use Rattle.tape_core.specs.Seconds.{seconds_of}
 use Rattle.typetool.specs.declared.job.Job.{Job}
-use Rattle.typetool.specs.declared.job.Job.TheVariants.{Due, Screen, Reports}
-use Rattle.typetool.specs.declared.words.Subcommand.{Subcommand}
-use Rattle.typetool.specs.declared.words.Subcommand.TheVariants as subcommand
+use Rattle.typetool.specs.declared.job.Job.TheVariants as job
 use Rattle.typetool.specs.declared.words.Words.{Words}
 use Rattle.typetool.specs.declared.words.WordsFault.{WordsFault}
 use Rattle.typetool.specs.declared.words.WordsFault.TheVariants.{Clap, Memory, BadSeconds}
+use Rattle.typetool.specs.declared.words.table.Argument.{Argument}
+use Rattle.typetool.specs.declared.words.table.Argument.TheVariants.{At, Script, Timing}
+use Rattle.typetool.specs.declared.words.table.Subcommand.{Subcommand}
+use Rattle.typetool.specs.declared.words.table.Subcommand.TheVariants.{Due, Info, Screen, Reports}
+use Rattle.typetool.specs.declared.words.values.Unreadable.{Unreadable}
+use Rattle.typetool.specs.declared.words.values.Unreadable.TheVariants.{Seconds}
+
+-- ---- the table
+
+-- the subcommands, in the order in which help tells them (profile)
+abbrev pub subcommands_in_order : List Subcommand
+subcommands_in_order = Due ∷ Info ∷ Screen ∷ Reports ∷ []
+
+-- the name of a subcommand (profile)
+unfoldable pub name_in : Subcommand → Text
+name_in Due = codes "due"
+name_in Info = codes "info"
+name_in Screen = codes "screen"
+name_in Reports = codes "reports"
+
+-- the flags of a subcommand (profile)
+unfoldable pub flags_in : Subcommand → List Argument
+flags_in Due = At ∷ []
+flags_in Info = []
+flags_in Screen = At ∷ []
+flags_in Reports = At ∷ []
+
+-- the paths of a subcommand, in the line's order (profile)
+unfoldable pub paths_in : Subcommand → List Argument
+paths_in Due = Script ∷ Timing ∷ []
+paths_in Info = Script ∷ Timing ∷ []
+paths_in Screen = Script ∷ Timing ∷ []
+paths_in Reports = Script ∷ Timing ∷ []
+
+-- the name of an argument (profile)
+unfoldable pub id_in : Argument → Text
+id_in At = codes "at"
+id_in Script = codes "script"
+id_in Timing = codes "timing"
 
 -- a flag that takes seconds, such as `--at 12.5`, and must be given (profile)
 abbrev pub seconds_rule : Text → Rule
@@ -22,33 +58,60 @@ seconds_rule id = record (new_rule id) { long = Some id; action = Some Set; requ
 abbrev pub path_rule : Text → Rule
 path_rule id = record (new_rule id) { action = Some Set; required = true; value_names = 1 }
 
--- `NAME --at SECONDS SCRIPT TIMING` (profile)
-abbrev pub moment_app : Text → App
-moment_app name = with_rule (with_rule (with_rule (new_app name) (seconds_rule (codes "at"))) (path_rule (codes "script"))) (path_rule (codes "timing"))
+-- what clap is told of an argument (profile)
+unfoldable pub rule_in : Argument → Rule
+rule_in At = seconds_rule (id_in At)
+rule_in Script = path_rule (id_in Script)
+rule_in Timing = path_rule (id_in Timing)
 
--- `due --at SECONDS SCRIPT TIMING` (profile)
-abbrev pub due_app : App
-due_app = moment_app (codes "due")
+-- ---- values
 
--- `screen --at SECONDS SCRIPT TIMING` (profile)
-abbrev pub screen_app : App
-screen_app = moment_app (codes "screen")
+-- the value of an argument that must be given (profile)
+abbrev pub value_in : Text → List Row → Text
+value_in id rows = unwrap_or (first_of id rows) []
 
--- `reports --at SECONDS SCRIPT TIMING` (profile)
-abbrev pub reports_app : App
-reports_app = moment_app (codes "reports")
+-- what was read, or what isn't readable (profile)
+abbrev pub readable : {A : Type 0} → Unreadable → Option A → Result A Unreadable
+readable fault None = Err fault
+readable fault (Some x) = Ok x
+
+-- what comes after a value that was read (profile)
+abbrev pub after : {A B : Type 0} → Result A Unreadable → (A → Result B Unreadable) → Result B Unreadable
+after (Ok x) next = next x
+after (Err fault) next = Err fault
+
+-- the moment that a flag gives, in microseconds (profile)
+abbrev pub moment_in : Text → List Row → Result ℕ Unreadable
+moment_in id rows = readable Seconds (seconds_of (value_in id rows))
+
+-- the job that a subcommand's values mean, or what of them isn't readable (profile)
+unfoldable pub job_in : Subcommand → List Row → Result Job Unreadable
+job_in Due rows = after (moment_in (id_in At) rows) (λ at. Ok (job.Due at))
+job_in Info rows = Ok job.Info
+job_in Screen rows = after (moment_in (id_in At) rows) (λ at. Ok (job.Screen at))
+job_in Reports rows = after (moment_in (id_in At) rows) (λ at. Ok (job.Reports at))
+
+-- ---- what clap is told
+
+-- a command with more arguments (profile)
+abbrev pub with_rules : App → List Rule → App
+with_rules a rules = record a { top = record a.top { rules = a.top.rules ++ rules } }
+
+-- a subcommand: its flags, and then its paths (profile)
+unfoldable pub app_in : Subcommand → App
+app_in s = with_rules (with_rules (new_app (name_in s)) (map rule_in (flags_in s))) (map rule_in (paths_in s))
 
 -- the program's name, and that a subcommand must follow (profile)
 abbrev pub top_app : App
 top_app = record { top = record (new_app (codes "typetool")).top { arg_required_else_help = true; subcommand_required = true; disable_help_subcommand = true }; subs = [] }
 
--- the first two subcommands (profile)
-abbrev pub due_and_screen_app : App
-due_and_screen_app = with_subcommand (with_subcommand top_app due_app.top) screen_app.top
+-- a command with these subcommands (profile)
+abbrev pub with_subcommands : App → List Subcommand → App
+with_subcommands a list = fold (λ app s. with_subcommand app (app_in s).top) a list
 
 -- the whole command line (profile)
 unfoldable pub typetool_app : App
-typetool_app = with_subcommand due_and_screen_app reports_app.top
+typetool_app = with_subcommands top_app subcommands_in_order
 
 -- the kinds of fault that clap finds in these words: none where it reads them (profile)
 unfoldable pub clap_faults : List Text → Kinds
@@ -67,49 +130,24 @@ abbrev pub IsNamed : Option Text → List Shape → Type 0
 IsNamed name [] = ⊥
 IsNamed name (s ∷ rest) = (name ≡ Some s.name) ⊎ IsNamed name rest
 
--- what a command line means: a job, and the paths in the line's order (profile)
+-- ---- what the words mean
+
+-- a job, and the paths in the line's order (profile)
 pub record Meaning : Type 0 where
   pub job : Job
   pub paths : List Text
 
--- the value of an argument (profile)
-abbrev pub value_of : Text → List Row → Text
-value_of id rows = unwrap_or (first_of id rows) []
-
--- the paths of a recording (profile)
-abbrev pub paths_of : List Row → List Text
-paths_of rows = value_of (codes "script") rows ∷ value_of (codes "timing") rows ∷ []
-
--- what a job at a moment means with these values: nothing where its seconds aren't readable (profile)
-abbrev pub moment_meaning : (ℕ → Job) → List Row → Option Meaning
-moment_meaning job rows = option_map (λ at. record { job = job at; paths = paths_of rows })
-    (seconds_of (value_of (codes "at") rows))
-
--- why such a job isn't read from these values: for want of memory, or its seconds aren't readable (profile)
-abbrev pub IsMomentFault : List Row → WordsFault → Type 0
-IsMomentFault rows fault = (fault ≡ Memory) ⊎ ((fault ≡ BadSeconds) × (seconds_of (value_of (codes "at") rows) ≡ None))
-
--- the name of a subcommand (profile)
-abbrev pub name_of : Subcommand → Text
-name_of subcommand.Due = codes "due"
-name_of subcommand.Screen = codes "screen"
-name_of subcommand.Reports = codes "reports"
+-- what a subcommand means with these values, or what of them isn't readable (profile)
+abbrev pub meaning_in : Subcommand → List Row → Result Meaning Unreadable
+meaning_in s rows = after (job_in s rows) (λ job. Ok (record { job = job; paths = map (λ a. value_in (id_in a) rows) (paths_in s) }))
 
 -- what a subcommand means by its name and its values (profile)
-abbrev pub meaning_of : Text × List Row → Option Meaning
-meaning_of met =
-    if bytes_eq met.0 (codes "due") then moment_meaning (λ at. Due at) met.1
-    else if bytes_eq met.0 (codes "screen") then moment_meaning (λ at. Screen at) met.1
-    else if bytes_eq met.0 (codes "reports") then moment_meaning (λ at. Reports at) met.1
-    else None
+abbrev pub meaning_of : Text × List Row → Option (Result Meaning Unreadable)
+meaning_of met = option_map (λ s. meaning_in s met.1) (find (λ s. bytes_eq (name_in s) met.0) subcommands_in_order)
 
--- the seconds that a subcommand was given (profile)
-abbrev pub seconds_in : Text × List Row → List Text
-seconds_in met = value_of (codes "at") met.1 ∷ []
-
--- some seconds aren't readable (profile)
-abbrev pub has_bad_seconds : Text × List Row → Bool
-has_bad_seconds met = list_any (λ text. not (is_some (seconds_of text))) (seconds_in met)
+-- what a command line means (profile)
+unfoldable pub meaning_of_words : List Text → Option (Result Meaning Unreadable)
+meaning_of_words words = option_and_then meaning_of (subcommand_in words)
 
 -- the job and the paths that were read (profile)
 abbrev pub meaning_read : Words → Meaning
@@ -119,4 +157,4 @@ meaning_read words = record { job = words.job; paths = map string_bytes words.pa
 abbrev pub FailsFor : List Text → WordsFault → Type 0
 FailsFor words (Clap e) = IsAmong (kind_of e) (clap_faults words) × (clap_takes words ≡ false)
 FailsFor words Memory = Unit {0}
-FailsFor words BadSeconds = (clap_faults words ≡ []) × IsSomeAnd (subcommand_in words) (λ met. has_bad_seconds met ≡ true)
+FailsFor words BadSeconds = (clap_faults words ≡ []) × (meaning_of_words words ≡ Some (Err Seconds))

@@ -1,4 +1,5 @@
 pub mod CommandLine
+pub mod Info
 pub mod Moment
 pub mod Output
 pub mod Program

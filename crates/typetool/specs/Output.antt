@@ -10,9 +10,10 @@ use Rattle.tape_core.specs.Tape.{Tape}
 use Rattle.tape_core.specs.declared.devices.Watched.{Watched}
 use Rattle.tape_core.specs.declared.fault.Fault.{Fault}
 use Rattle.tape_core.specs.declared.fault.Fault.TheVariants as fault
+use Rattle.typetool.specs.Info.{info_text}
 use Rattle.typetool.specs.Moment.{Began, term_at, sent_by}
 use Rattle.typetool.specs.declared.job.Job.{Job}
-use Rattle.typetool.specs.declared.job.Job.TheVariants.{Due, Screen, Reports}
+use Rattle.typetool.specs.declared.job.Job.TheVariants.{Due, Info, Screen, Reports}
 use Rattle.typetool.specs.declared.job.JobFault.{JobFault}
 use Rattle.typetool.specs.declared.job.JobFault.TheVariants.{File, Memory}
 use Rattle.typetool.specs.declared.job.Outcome.{Outcome}
@@ -32,18 +33,21 @@ pub record Done : Type 0 where
 -- whether a job reads request lines (profile)
 abbrev pub takes_requests : Job → Bool
 takes_requests (Due at) = false
+takes_requests Info = false
 takes_requests (Screen at) = false
 takes_requests (Reports at) = false
 
 -- whether a job writes a new timing (profile)
 abbrev pub writes_timing : Job → Bool
 writes_timing (Due at) = false
+writes_timing Info = false
 writes_timing (Screen at) = false
 writes_timing (Reports at) = false
 
--- what a job writes on a recording: the bytes that are due, or what the terminal shows or has sent by then (profile)
+-- what a job writes on a recording: the bytes that are due, what the recording holds, or what the terminal shows or has sent by then (profile)
 abbrev pub text_of : Job → Tape → List ℕ
 text_of (Due at) tape = due tape.chunks at
+text_of Info tape = info_text tape
 text_of (Screen at) tape = plain_text (term_at tape at).shown.picture
 text_of (Reports at) tape = encode_lower (sent_by tape at) ++ 10 ∷ []
 
@@ -54,6 +58,7 @@ done_on job tape requests = record { text = text_of job tape; timing = []; outco
 -- the jobs that may take memory once the recording is read: those that keep reports, and where some are sent (profile)
 abbrev pub TakesMemory : Job → Tape → Type 0
 TakesMemory (Due at) tape = ⊥
+TakesMemory Info tape = ⊥
 TakesMemory (Screen at) tape = sent_by tape at ≢ []
 TakesMemory (Reports at) tape = sent_by tape at ≢ []
 
@@ -76,6 +81,7 @@ is_stopped (Some Memory) = true
 -- the status of the program where a job is done (profile)
 abbrev pub IsDoneStatus : Job → ℕ → Type 0
 IsDoneStatus (Due at) status = status ≡ 0
+IsDoneStatus Info status = status ≡ 0
 IsDoneStatus (Screen at) status = status ≡ 0
 IsDoneStatus (Reports at) status = status ≡ 0
 

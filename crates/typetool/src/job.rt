@@ -1,20 +1,20 @@
 //! The jobs: each reads its files whole and then writes its text.
 
 ghost use Rattle.std.specs.Prelude.{◌≡◌, ◌⊎◌, ◌≢◌, ℕ, List, true, false, Some, None, OnOk, IfOk, IfErr, IfSome};
-ghost use Rattle.tape_core.specs.Devices.{inner_of, has_failed, is_flushed, Took, StoppedIn};
-ghost use Rattle.tape_core.specs.Due.{due};
+ghost use Rattle.tape_core.specs.Devices.{inner_of, has_failed, is_flushed, Took};
 ghost use Rattle.tape_core.specs.Faults.{is_stop};
 ghost use Rattle.tape_core.specs.Reading.{fault_of, reads};
 ghost use Rattle.tape_core.specs.Tape.{Tape};
 ghost use Rattle.typetool.specs.Moment.{StopsAt};
 ghost use Rattle.typetool.specs.Output.{Files, Done, Comes, Tells, Wrote, Begun, Stopped, takes_requests, writes_timing, is_stopped, is_unwritten, status_of, outcome_by, text_of, IsDoneStatus, TakesMemory};
 
+use crate::jobs::due::write_due;
+use crate::jobs::info::write_info;
 use crate::moment::{write_reports, write_screen};
 use std::alloc::Global;
 use std::io::{Read, Write};
 use std::mem::ManuallyDrop;
-use tape_core::laws::due_is_first;
-use tape_core::{Fault, Recording, Watched, put_chunks, read_recording, slurp};
+use tape_core::{Fault, Recording, Watched, read_recording, slurp};
 use thiserror::Error;
 use vt_term::OutOfMemory;
 
@@ -23,6 +23,8 @@ use vt_term::OutOfMemory;
 pub enum Job {
     /// Write the bytes of the chunks that are due by a moment.
     Due { at: u64 },
+    /// Write what the recording holds, in five lines.
+    Info,
     /// Write the screen of a moment as plain text.
     Screen { at: u64 },
     /// Write in hexadecimal what the terminal has sent by a moment.
@@ -162,6 +164,7 @@ fn write_text<O: Write>(
 {
     match job {
         Job::Due { at } => write_due(recording, at, out).map_err(JobFault::File),
+        Job::Info => write_info(recording, out).map_err(JobFault::File),
         Job::Screen { at } => write_screen(alloc, recording, at, out),
         Job::Reports { at } => write_reports(alloc, recording, at, out),
     }
@@ -206,20 +209,6 @@ fn read_pair<S: Read, T: Read>(
     let script = slurp(alloc, script)?;
     let timing = slurp(alloc, timing)?;
     read_recording(alloc, &script, &timing)
-}
-
-/// Writes the bytes of the chunks that are due by the moment, and flushes.
-fn write_due<O: Write>(recording: &Recording, at: u64, out: &mut Watched<O>) -> Result<(), Fault>
-    requires { has_failed out.old ≡ false }
-    ensures ok { OnOk result (Took O.contents out.old out.new (due recording.now.chunks at)) }
-    ensures flushed { OnOk result (is_flushed out.new ≡ true) }
-    ensures fault { IfErr result (λ fault. (fault ≡ Fault.WriteFault)
-        × StoppedIn O.contents out.old out.new (due recording.now.chunks at)) }
-{
-    due_is_first();
-    let count = recording.due_count(at);
-    put_chunks(&recording.chunks()[..count], out)?;
-    out.finish()
 }
 
 #[cfg(test)]

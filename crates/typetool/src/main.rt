@@ -2,6 +2,7 @@
 #![tactic(auto)]
 
 mod job;
+mod jobs;
 mod moment;
 mod program;
 mod words;

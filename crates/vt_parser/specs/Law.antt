@@ -9,7 +9,7 @@ use Rattle.vt_parser.specs.declared.commands.Command.TheVariants.{Show, Error, C
 use Rattle.vt_parser.specs.declared.states.ParserState.{ParserState}
 use Rattle.vt_parser.specs.declared.states.ParserState.TheVariants.{Ground, CsiStart, Csi as CsiState}
 use Rattle.arrayvec.specs.ArrayVec.{ArrayVec}
-use Rattle.vt_parser.specs.Control.{escape, is_graphic}
+use Rattle.vt_parser.specs.Control.{escape, is_within, is_graphic}
 use Rattle.vt_parser.specs.Sequence.{is_intermediate, is_escape_final, is_control_text, is_control_final, begins_control, begins_string, params, held, control_meaning, most_params}
 use Rattle.vt_parser.specs.View.{parser_view}
 use Rattle.vt_parser.specs.Step.{command_of, pending_after, mode_after}
@@ -97,6 +97,12 @@ abbrev pub GraphicIsShown : Type 0
 GraphicIsShown =
     (m : Mode) (byte : ℕ) → is_graphic byte ≡ true
     → (command_of m [] byte ≡ Some (Show byte)) × (pending_after m [] byte ≡ [])
+
+-- On ground BS, HT, LF, VT, FF, CR, SO and SI are commands, and the parser stays on ground.
+abbrev pub ControlIsGiven : Type 0
+ControlIsGiven =
+    (m : Mode) (byte : ℕ) → is_within 8 15 byte ≡ true
+    → (command_of m [] byte ≡ Some (Control byte)) × (pending_after m [] byte ≡ [])
 
 -- No byte of a run is anything but a graphic character.
 abbrev pub RunsAreGraphic : Type 0

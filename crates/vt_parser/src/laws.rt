@@ -1,5 +1,5 @@
 //! What holds of every step, for the layers above. Each function's contract is the law, and its body is empty.
-ghost use Rattle.vt_parser.specs.Law.{StateDecides, StaysShown, GroundIsEmpty, FinishedLeavesNothing, PendingPays, GraphicIsShown, RunsAreGraphic, CommandsAreProper, FinalsFinish, BareFinalsFinish, SameModeStays, EscapesFinish, DesignationsFinish, ControlsFinish, DecimalsAreRead, WrittenControlsFinish, WrittenPrivatesFinish};
+ghost use Rattle.vt_parser.specs.Law.{StateDecides, StaysShown, GroundIsEmpty, FinishedLeavesNothing, PendingPays, GraphicIsShown, ControlIsGiven, RunsAreGraphic, CommandsAreProper, FinalsFinish, BareFinalsFinish, SameModeStays, EscapesFinish, DesignationsFinish, ControlsFinish, DecimalsAreRead, WrittenControlsFinish, WrittenPrivatesFinish};
 
 /// Pending bytes that show one state give one command after any byte, and show one state again.
 pub fn state_decides()
@@ -29,6 +29,11 @@ pub fn pending_pays()
 /// On ground a graphic character is shown, and the parser stays on ground.
 pub fn graphic_is_shown()
     ensures { GraphicIsShown }
+{}
+
+/// On ground the controls from BS to SI are commands, and the parser stays on ground.
+pub fn control_is_given()
+    ensures { ControlIsGiven }
 {}
 
 /// No byte of a run is anything but a graphic character.

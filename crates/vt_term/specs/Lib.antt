@@ -1,3 +1,4 @@
+pub mod Rows
 pub mod Sets
 pub mod Shown
 pub mod Controls
@@ -10,4 +11,5 @@ pub mod Effect
 pub mod Term
 pub mod Seen
 pub mod Sink
+pub mod Printing
 pub mod Law

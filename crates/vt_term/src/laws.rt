@@ -3,11 +3,15 @@ ghost use Rattle.std.specs.Prelude.{◌≡◌, ℕ, ◌<◌, ◌≤◌, true};
 ghost use Rattle.vt_screen.specs.Cells.{blank};
 ghost use Rattle.vt_screen.specs.Picture.{Inside, cell, right_margin};
 ghost use Rattle.vt_term.specs.Law.{PlaysInParts, SendsInParts, SentIsAppended, SeenDecides, SendsLittle, StaysSafe};
+ghost use Rattle.vt_term.specs.Printing.{NothingBrings, PartsBring, CharactersBring, ControlsBring, SequencesAct, EscapesBring, DesignationsBring, ControlSequencesBring, PrivateSequencesBring};
 ghost use Rattle.vt_term.specs.Shown.{IsSafe};
 ghost use Rattle.vt_term.specs.Term.{reset_term};
 
 use crate::Terminal;
 use crate::below::laws_below;
+use vt_parser::laws::{
+    control_is_given, decimals_are_read, graphic_is_shown, whole_sequences_finish,
+};
 
 /// Joined texts are played as their parts in turn, wherever the cut is.
 pub fn plays_in_parts()
@@ -58,4 +62,40 @@ pub fn terminals_are_safe(terminal: &Terminal)
     ensures inside { terminal.now.shown.modes.origin ≡ true → Inside terminal.now.shown.picture }
 {
     let _screen = terminal.screen();
+}
+
+/// What bytes bring is joined as the bytes are.
+pub fn parts_bring()
+    ensures none { NothingBrings }
+    ensures joined { PartsBring }
+{}
+
+/// Graphic characters are put as the run of their glyphs.
+pub fn characters_bring()
+    ensures { CharactersBring }
+{
+    graphic_is_shown();
+}
+
+/// A control has its effect, and sends nothing.
+pub fn controls_bring()
+    ensures { ControlsBring }
+{
+    control_is_given();
+}
+
+/// A whole sequence has its effect once, and is answered by its reply.
+pub fn sequences_act()
+    ensures { SequencesAct }
+{}
+
+/// Whole sequences of ANSI mode that aren't answered have their effect once, and send nothing.
+pub fn sequences_bring()
+    ensures escape { EscapesBring }
+    ensures designation { DesignationsBring }
+    ensures control { ControlSequencesBring }
+    ensures private { PrivateSequencesBring }
+{
+    whole_sequences_finish();
+    decimals_are_read();
 }

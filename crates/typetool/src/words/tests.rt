@@ -55,8 +55,10 @@ fn reads_due(rt: HostRuntime) -> Result<(), Fail> {
 }
 
 #[test]
-fn reads_jobs_at_a_moment(rt: HostRuntime) -> Result<(), Fail> {
-    let rows: [(&[&str], Job); 4] = [
+fn reads_other_jobs(rt: HostRuntime) -> Result<(), Fail> {
+    let rows: [(&[&str], Job); 6] = [
+        (&["typetool", "info", "s", "t"], Job::Info),
+        (&["typetool", "info", "--", "s", "t"], Job::Info),
         (
             &["typetool", "screen", "--at", "0.5", "s", "t"],
             Job::Screen { at: 500_000 },
@@ -112,7 +114,11 @@ fn is_bad_seconds(alloc: Global, name: &str, seconds: &str) -> Result<bool, Fail
 
 #[test]
 fn leaves_other_words_to_clap(rt: HostRuntime) -> Result<(), Fail> {
-    let rows: [(&[&str], bool); 20] = [
+    let rows: [(&[&str], bool); 24] = [
+        (&["typetool", "info"], true),
+        (&["typetool", "info", "--at", "1", "s", "t"], true),
+        (&["typetool", "info", "s", "t", "u"], true),
+        (&["typetool", "info", "--help"], false),
         (&["typetool"], true),
         (&["typetool", "dew"], true),
         (&["typetool", "help"], true),

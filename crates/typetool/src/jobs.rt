@@ -1,0 +1,6 @@
+//! The jobs, one function each.
+
+pub mod due;
+pub mod info;
+#[cfg(test)]
+mod tests;

@@ -1,0 +1,27 @@
+//! The job `due`.
+
+ghost use Rattle.std.specs.Prelude.{◌≡◌, false, true, OnOk, IfErr};
+ghost use Rattle.tape_core.specs.Devices.{has_failed, is_flushed, Took, StoppedIn};
+ghost use Rattle.tape_core.specs.Due.{due};
+
+use std::io::Write;
+use tape_core::laws::due_is_first;
+use tape_core::{Fault, Recording, Watched, put_chunks};
+
+/// Writes the bytes of the chunks that are due by the moment, and flushes.
+pub fn write_due<O: Write>(
+    recording: &Recording,
+    at: u64,
+    out: &mut Watched<O>,
+) -> Result<(), Fault>
+    requires { has_failed out.old ≡ false }
+    ensures ok { OnOk result (Took O.contents out.old out.new (due recording.now.chunks at)) }
+    ensures flushed { OnOk result (is_flushed out.new ≡ true) }
+    ensures fault { IfErr result (λ fault. (fault ≡ Fault.WriteFault)
+        × StoppedIn O.contents out.old out.new (due recording.now.chunks at)) }
+{
+    due_is_first();
+    let count = recording.due_count(at);
+    put_chunks(&recording.chunks()[..count], out)?;
+    out.finish()
+}

@@ -1,0 +1,61 @@
+//! What help tells of each subcommand and argument.
+
+use super::table::{Argument, Subcommand};
+
+/// What a subcommand does, in one line.
+pub fn about_of<'a>(subcommand: Subcommand) -> &'a str {
+    match subcommand {
+        Subcommand::Due => "Write the raw bytes of all chunks that are due by a moment",
+        Subcommand::Info => "Tell how many chunks and bytes the recording has, and how long it is",
+        Subcommand::Screen => "Write the screen as it is at a moment: 24 lines of text",
+        Subcommand::Reports => {
+            "Write all that the terminal has answered by a moment, in hexadecimal"
+        }
+    }
+}
+
+/// What help tells of a subcommand after its arguments: more of what it does, and an example.
+pub fn details_of<'a>(subcommand: Subcommand) -> &'a str {
+    match subcommand {
+        Subcommand::Due => {
+            "A chunk is due at the sum of the delays up to its own.\n\n\
+             Example: typetool due --at 12.5 demo.script demo.timing >bytes"
+        }
+        Subcommand::Info => {
+            "Five lines: chunks (their number), bytes (those of all chunks), length (seconds, with six\n\
+             decimals), header and trailer (bytes before the first chunk and after the last).\n\n\
+             Example: typetool info demo.script demo.timing"
+        }
+        Subcommand::Screen => {
+            "UTF-8, without the spaces at the ends of lines.\n\n\
+             Example: typetool screen --at 12.5 demo.script demo.timing"
+        }
+        Subcommand::Reports => {
+            "One line of lower-case digits, empty where nothing was answered.\n\n\
+             Example: typetool reports --at 12.5 demo.script demo.timing"
+        }
+    }
+}
+
+/// What help calls the value of an argument.
+pub fn value_name_of<'a>(argument: Argument) -> &'a str {
+    match argument {
+        Argument::At => "SECONDS",
+        Argument::Script => "SCRIPT",
+        Argument::Timing => "TIMING",
+    }
+}
+
+/// What help tells of an argument.
+pub fn help_of<'a>(argument: Argument) -> &'a str {
+    match argument {
+        Argument::At => {
+            "The moment: seconds since the start, as digits with or without decimals, such as 12.5"
+        }
+        Argument::Script => "The typescript that script(1) wrote: the bytes themselves",
+        Argument::Timing => {
+            "Its timing file, in the classic format: a line of a delay and a count for each chunk. \
+             (A typescript given here is told as 'multi-stream format'.)"
+        }
+    }
+}
