@@ -2,7 +2,6 @@ mod Answers
 mod Drawing
 mod Erased
 mod Index
-pub mod LawLemmas
 mod Regions
 mod Rows
 mod Runs
