@@ -153,8 +153,8 @@ module _ (part : ℕ) (p : Picture) (sound : Sound p) where
     pub erased_all : (wrap : Bool) → erased_whole part p p.line ≡ true → now ≡ with_row p.line (filled_to blank (columns p.wide) (row_at was p.line)) was → wrap ≡ p.wrap && is_single (row_at p.rows p.line).size → record p { rows = now; wrap = wrap } ≡ display_erased part p
     erased_all wrap whole written is_wrap =
         let blanked : filled_to blank (columns p.wide) (row_at was p.line) ≡ blank_row =
-            ap (filled_to blank (columns p.wide)) row_was
-            ∙ cleared p.wide (other_erased p.line) (either_row (SoundRow p.wide) (in_other_lines part p.line p.line) blank_row (row_at p.rows p.line) (sound_blank p.wide) (sound.row p.line)) in
+        ap (filled_to blank (columns p.wide)) row_was
+        ∙ cleared p.wide (other_erased p.line) (either_row (SoundRow p.wide) (in_other_lines part p.line p.line) blank_row (row_at p.rows p.line) (sound_blank p.wide) (sound.row p.line)) in
         ap₂ (λ (rows : List Row) (w : Bool). record p { rows = rows; wrap = w })
         (rows_erased blank_row (written ∙ ap (λ (r : Row). with_row p.line r was) blanked) (row_whole whole))
         (is_wrap ∙ wrap_whole p.wrap (is_single (row_at p.rows p.line).size) (erased_whole part p p.line) whole)

@@ -470,8 +470,7 @@ impl Screen {
             glyph: b'E',
             rendition: Rendition::plain(),
         };
-        self.grid
-            .fill_lines(1, 24, pattern, columns_of(self.wide));
+        self.grid.fill_lines(1, 24, pattern, columns_of(self.wide));
         self.wrap = false;
     }
 

@@ -16,9 +16,9 @@ are_deleted c =
     let count = c.lines_left-count.result in
     let few : count ≡ min c.args.n (p.bottom + 1 - p.line) = c.lines_left-count.ensures ∙ ap (λ (s : ScreenState). min c.args.n (s.picture.bottom + 1 - s.picture.line)) (sym c.self.view_is) in
     let rows : rows_of c.fill_lines.new.self ≡ scrolled_up c.args.n p.line p.bottom p.rows =
-        scrolled p c.self.invariant (line_below count p.line p.bottom) (rows_of c.turn_up.new.self) c.turn_up.ensures.rows _ (p.bottom + 1 - count) (p.bottom + 1) _
-        (filled_with _ _ (p.bottom + 1 - count) (p.bottom + 1) c.blank.result blank c.columns_of.result (columns p.wide) c.blank.ensures c.columns_of.ensures c.fill_lines.ensures.rows)
-        (up_by p.rows c.args.n count p.line p.bottom c.if-self-2.true few _ (omega (arith, few))) in
+    scrolled p c.self.invariant (line_below count p.line p.bottom) (rows_of c.turn_up.new.self) c.turn_up.ensures.rows _ (p.bottom + 1 - count) (p.bottom + 1) _
+    (filled_with _ _ (p.bottom + 1 - count) (p.bottom + 1) c.blank.result blank c.columns_of.result (columns p.wide) c.blank.ensures c.columns_of.ensures c.fill_lines.ensures.rows)
+    (up_by p.rows c.args.n count p.line p.bottom c.if-self-2.true few _ (omega (arith, few))) in
     ap (λ (rs : List Row). moved_to_left (with_rows rs p)) rows ∙ in_region p (moved_to_left (with_rows (scrolled_up c.args.n p.line p.bottom p.rows) p)) c.if-self.true c.if-self-2.true
 
 pub invariant_of-self : goal.invariant_of-self
