@@ -9,7 +9,7 @@ use Rattle.tape_core.proofs.DeviceLemmas.{took-append, stopped-append, stopped_b
 use Rattle.vt_screen.specs.declared.cell.Row.{Row}
 use Rattle.vt_screen.specs.Cells.{blank_row, row_at}
 use Rattle.vt_screen.specs.Picture.{Picture, margin_of}
-use Rattle.vt_screen.proofs.Tables.{nth_is}
+use Rattle.vt_screen.proofs.LawLemmas.{nth_is}
 use Rattle.screen_print.specs.PlainText.{printed, is_space, line_text, plain_text}
 
 -- what is printed of a line: all the cells that are left without the spaces at its end

@@ -1,16 +1,15 @@
 -- What a change does to the limits, to the sum of the bytes and to the due times.
-use Rattle.std.proofs.Common.{◌≡◌, ℕ, suc, ◌+◌, ◌-◌, ◌<◌, ◌≤◌, All, List, [], ◌∷◌, ◌++◌, length, map, min, get_or, set, take, drop, refl, ap, sym, ◌∙◌, arith, subst, add-one, append_assoc, length-append, length-take, length-drop, Vec}
+use Rattle.std.proofs.Common.{◌≡◌, ℕ, ◌+◌, ◌-◌, ◌<◌, ◌≤◌, List, [], ◌∷◌, ◌++◌, length, map, get_or, set, take, drop, ap, sym, ◌∙◌, arith, add-one, append_assoc, length-append, length-take, length-drop, Vec}
 use Rattle.std.specs.List.{sum_by}
 use Rattle.std.specs.Vec.{with_items}
 use Rattle.std.proofs.lemmas.List.Folds.{fold-map}
 use Rattle.std.proofs.lemmas.List.{length-set, drop-drop, drop_more, get_or_default, length-map, map-set, set-get_or, set_split, take-map, get_or-map, with_items_is}
 use Rattle.std.proofs.lemmas.List.Edits.{length-insert}
-use Rattle.std.proofs.lemmas.List.Elements.{All-append, All-cons, All-drop, All-map, All-set, All-take, All-weaker}
+use Rattle.std.proofs.lemmas.List.Elements.{All-append, All-cons, All-drop, All-map, All-set, All-take}
 use Rattle.std.proofs.lemmas.List.Sums.{sum-map, sum_by-append, sum_by-insert, sum_by-set, sum_by-take-drop}
 use Rattle.tape_core.specs.declared.chunk.Chunk.{Chunk}
 use Rattle.tape_core.specs.Tape.{Tape, body_len, fits, longest_body, longest_chunk, longest_delay, most_chunks}
-use Rattle.tape_core.specs.Changes.{capped, capped_chunk, changed_at, inserted, removed, replaced, retimed, with_chunks}
-use Rattle.tape_core.specs.Due.{due_time}
+use Rattle.tape_core.specs.Changes.{capped, capped_chunk, changed_at, inserted, removed, replaced, with_chunks}
 use Rattle.tape_core.specs.Kept.{AreDueTimes}
 
 -- a write to one place is a change of that chunk

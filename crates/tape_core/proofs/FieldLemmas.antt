@@ -8,7 +8,7 @@ use Rattle.std.proofs.lemmas.List.{take_rest, drop-drop}
 use Rattle.std.proofs.lemmas.List.Splits.{slice_split_none, slice_split_first, length-slice_split}
 use Rattle.std.proofs.lemmas.List.Sums.{prefix_len-le-length, fails_before_first, passes_at_first}
 use Rattle.std.proofs.lemmas.Grind.{common_steps}
-use Rattle.tape_core.specs.Timing.{is_blank, fields, lines_of, without_empty_last}
+use Rattle.tape_core.specs.Text.{fields, is_blank, lines_of, without_empty_last}
 
 -- a blank in front changes no field
 pub fields_blank : (b : ℕ) (bs : List ℕ) → is_blank b ≡ true → fields (b ∷ bs) ≡ fields bs

@@ -2,6 +2,7 @@ pub mod DeviceLemmas
 pub mod DigitLemmas
 pub mod SecondsLemmas
 pub mod DueLemmas
+pub mod FirstLemmas
 pub mod FieldLemmas
 pub mod TimingLemmas
 pub mod ChangeLemmas
@@ -9,4 +10,5 @@ pub mod WrittenLemmas
 pub mod LineLemmas
 pub mod ReadingLemmas
 pub mod ReadBackLemmas
+pub mod WordLemmas
 pub mod OneReadingLemmas

@@ -14,7 +14,8 @@ use Rattle.tape_core.specs.declared.timing.LineFault.{LineFault}
 use Rattle.tape_core.specs.declared.timing.LineFault.TheVariants as line
 use Rattle.tape_core.specs.Tape.{longest_delay, longest_chunk}
 use Rattle.tape_core.specs.Seconds.{SecondsText, micros_of}
-use Rattle.tape_core.specs.Timing.{CountText, DelayText, TimingLine, begins_with_letter, count_of, counted, counted_bytes, delay_of, delayed, entries_of, entry_in, entry_of, entry_of_fields, fault_after, fault_on, fields, first_fault, is_blank, only_count, within_limits}
+use Rattle.tape_core.specs.Timing.{DelayText, TimingLine, begins_with_letter, counted, counted_bytes, delay_of, delayed, entries_of, entry_in, entry_of, entry_of_fields, fault_after, fault_on, first_fault, only_count, within_limits}
+use Rattle.tape_core.specs.Text.{fields, is_blank, number_of, NumberText}
 use Rattle.tape_core.specs.Reading.{AreTimed, entry_for}
 use Rattle.tape_core.proofs.FieldLemmas.{fields_trimmed, fields_word, trimmed_front}
 use Rattle.tape_core.proofs.SecondsLemmas.{spelled_seconds}
@@ -79,7 +80,7 @@ pub record Parsed (fs : List (List ℕ)) (e : Entry) : Type 0 where
   pub second : List ℕ
   pub are : fs ≡ first ∷ second ∷ []
   pub delay : delay_of first ≡ Some e.delay
-  pub count : count_of second ≡ Some e.count
+  pub count : number_of second ≡ Some e.count
 
 limited : (delay count : ℕ) (e : Entry) → within_limits delay count ≡ Ok (Some e) → (delay ≡ e.delay) × (count ≡ e.count)
 limited delay count e h = limits (nat_lt longest_delay delay) (nat_lt longest_chunk count) h
@@ -93,9 +94,9 @@ timed : (first : List ℕ) (rest : List (List ℕ)) (e : Entry) (d : Option ℕ)
 timed first rest e None is h = absurd (cc)
 timed first [] e (Some delay) is h = absurd (cc)
 timed first (second ∷ more ∷ rest) e (Some delay) is h = absurd (cc)
-timed first (second ∷ []) e (Some delay) is h = count (count_of second) refl h
+timed first (second ∷ []) e (Some delay) is h = count (number_of second) refl h
   where
-    count : (n : Option ℕ) → count_of second ≡ n → counted delay n ≡ Ok (Some e) → Parsed (first ∷ second ∷ []) e
+    count : (n : Option ℕ) → number_of second ≡ n → counted delay n ≡ Ok (Some e) → Parsed (first ∷ second ∷ []) e
     count None at h = absurd (cc)
     count (Some n) at h = let same = limited delay n e h in
         record { first = first; second = second; are = refl; delay = is ∙ ap Some same.0; count = at ∙ ap Some same.1 }
@@ -136,8 +137,8 @@ pub delay_text : (text : List ℕ) (delay : ℕ) → delay_of text ≡ Some dela
 delay_text [] delay h = absurd (cc)
 delay_text (b ∷ bs) delay h = signed b bs delay (nat_eq b 45) refl h
 
-pub count_text : (text : List ℕ) (count : ℕ) → count_of text ≡ Some count → CountText text count
-count_text text count h =
+pub number_text : (text : List ℕ) (count : ℕ) → number_of text ≡ Some count → NumberText text count
+number_text text count h =
     let got = cond_some _ _ _ h in
     let some = and_parts _ _ got.0 in
     record { some = ltb-true 0 _ some.0; digits = AllPass-from_list_all is_ascii_digit text some.1; value = sym got.1 }
@@ -173,9 +174,9 @@ timing_line text e h =
       blank_before = one.blanks;
       blank_between = two.blanks;
       blank_after = no_fields two.after two.others;
-      apart = parted one.after two.before fs.second two.after two.spelled (count_text fs.second e.count fs.count).some (count_text fs.second e.count fs.count).digits one.apart;
+      apart = parted one.after two.before fs.second two.after two.spelled (number_text fs.second e.count fs.count).some (number_text fs.second e.count fs.count).digits one.apart;
       delayed = delay_text fs.first e.delay fs.delay;
-      counted = count_text fs.second e.count fs.count;
+      counted = number_text fs.second e.count fs.count;
     }
 
 -- a line without a fault has an entry or is blank

@@ -1,19 +1,17 @@
 -- A pair of files is read as one recording and no other, and what is written as the recording that was written.
-use Rattle.std.proofs.Common.{◌≡◌, ℕ, ◌+◌, ◌-◌, ◌<◌, ◌≤◌, All, Bool, true, false, List, [], ◌∷◌, ◌++◌, length, get_or, take, drop, map, Option, Some, None, Ok, nat_eq, refl, ap, sym, ◌∙◌, arith, append_assoc, length-append}
+use Rattle.std.proofs.Common.{◌≡◌, ℕ, ◌+◌, ◌-◌, ◌<◌, All, Bool, true, List, [], ◌∷◌, ◌++◌, length, take, drop, map, None, nat_eq, refl, ap, sym, ◌∙◌, arith, append_assoc, length-append}
 use Rattle.std.specs.List.{position_or_len}
-use Rattle.std.specs.Option.{option_or}
 use Rattle.std.proofs.lemmas.Bool.{lt-ltb}
 use Rattle.std.proofs.lemmas.List.{drop_at, get_or_append_left, take_at}
 use Rattle.std.proofs.lemmas.List.Elements.{All-head, All-tail}
 use Rattle.std.proofs.lemmas.List.Sums.{fails_before_first, passes_at_first, position_or_len_is}
 use Rattle.tape_core.specs.declared.chunk.Chunk.{Chunk}
-use Rattle.tape_core.specs.declared.timing.Entry.{Entry}
-use Rattle.tape_core.specs.Tape.{IsHeader, Tape, body, body_len, fits}
-use Rattle.tape_core.specs.Timing.{TimingLine, entries_of, entry_of, first_fault, lines_of, timing_fault}
-use Rattle.tape_core.specs.Reading.{AreTimed, entry_for, fault_of, first_short, has_header, header_len, reads, script_fault, timed_lines}
-use Rattle.tape_core.specs.Written.{script_text, timing_line_of, timing_text}
+use Rattle.tape_core.specs.Tape.{IsHeader, Tape, body, fits}
+use Rattle.tape_core.specs.Timing.{entries_of, first_fault, timing_fault}
+use Rattle.tape_core.specs.Reading.{AreTimed, entry_for, fault_of, has_header, header_len, reads, timed_lines}
+use Rattle.tape_core.specs.Written.{script_text, timing_text}
 use Rattle.tape_core.proofs.ReadingLemmas.{body_length, counted_for, never_short}
-use Rattle.tape_core.proofs.ReadBackLemmas.{IsWithinLimits, line_text_of, timing_line_read, written_entries, written_faultless, written_lines, written_timed}
+use Rattle.tape_core.proofs.ReadBackLemmas.{IsWithinLimits, timing_line_read, written_entries, written_faultless, written_lines, written_timed}
 
 abbrev is_feed : ℕ → Bool
 is_feed b = nat_eq b 10

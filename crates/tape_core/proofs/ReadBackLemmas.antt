@@ -1,10 +1,10 @@
 -- A line of the timing format is read as what it says, and what is written is such a line.
-use Rattle.std.proofs.Common.{◌≡◌, ℕ, suc, ◌+◌, ◌-◌, ◌*◌, ◌/◌, ◌%◌, ◌^◌, ◌<◌, ◌≤◌, ◌⊎◌, All, Bool, true, false, cond, List, [], ◌∷◌, ◌++◌, length, get_or, take, drop, filter, map, replicate, Option, Some, None, Result, Ok, nat_lt, nat_eq, zero, refl, ap, sym, ◌∙◌, arith, inl, inr, append_assoc, append-nil, length-append, subst}
+use Rattle.std.proofs.Common.{◌≡◌, ℕ, suc, ◌+◌, ◌-◌, ◌/◌, ◌%◌, ◌^◌, ◌<◌, ◌≤◌, All, true, false, List, [], ◌∷◌, ◌++◌, length, get_or, take, filter, map, replicate, Some, None, Ok, nat_lt, nat_eq, zero, refl, ap, sym, ◌∙◌, arith, inl, inr, min, append_assoc, append-nil, length-append, subst}
 use Rattle.std.specs.Char.{is_ascii_digit}
 use Rattle.std.specs.Fmt.{decimal}
-use Rattle.std.specs.List.{AllPass, cons_option, flat_map, list_all, slice_split}
+use Rattle.std.specs.List.{AllPass, cons_option, flat_map, slice_split}
 use Rattle.std.specs.Option.{option_map, option_or}
-use Rattle.std.specs.Str.Parse.{AllDigits, digits_value}
+use Rattle.std.specs.Str.Parse.{digits_value}
 use Rattle.std.proofs.lemmas.Bool.{le-ltb, lt-leb, lt-ltb}
 use Rattle.std.proofs.lemmas.Bool.Decides.{nat_tests}
 use Rattle.std.proofs.lemmas.Fmt.{decimal_is_IsNumeral}
@@ -16,8 +16,9 @@ use Rattle.std.proofs.lemmas.Str.Parse.{digit_at}
 use Rattle.tape_core.specs.declared.chunk.Chunk.{Chunk}
 use Rattle.tape_core.specs.declared.timing.Entry.{Entry}
 use Rattle.tape_core.specs.Tape.{body_len, longest_body, longest_chunk, longest_delay, most_chunks}
-use Rattle.tape_core.specs.Seconds.{SecondsText, micros, micros_of}
-use Rattle.tape_core.specs.Timing.{CountText, DelayText, IsWithin, TimingLine, begins_with_letter, count_of, counted_bytes, delay_of, entries_of, entry_in, entry_of, entry_of_fields, fault_after, fault_on, fields, first_fault, is_blank, is_letter, lines_of, without_empty_last}
+use Rattle.tape_core.specs.Seconds.{SecondsText, last_moment, micros_of, seconds_of}
+use Rattle.tape_core.specs.Timing.{DelayText, IsWithin, TimingLine, begins_with_letter, counted_bytes, delay_of, entries_of, entry_in, entry_of, entry_of_fields, fault_after, fault_on, first_fault, is_letter}
+use Rattle.tape_core.specs.Text.{fields, is_blank, lines_of, number_of, NumberText, without_empty_last}
 use Rattle.tape_core.specs.Reading.{AreTimed, entry_for}
 use Rattle.tape_core.specs.Written.{seconds_form, six_digits, timing_line_of}
 use Rattle.tape_core.proofs.FieldLemmas.{fields_blank, kept_piece}
@@ -26,8 +27,8 @@ use Rattle.tape_core.proofs.SecondsLemmas.{read_seconds_text}
 use Rattle.tape_core.proofs.WrittenLemmas.{length-six_digits}
 
 -- no byte of the text is a blank
-abbrev pub IsWord : List ℕ → Type 0
-IsWord text = All (λ b. is_blank b ≡ false) text
+abbrev pub HasNoBlank : List ℕ → Type 0
+HasNoBlank text = All (λ b. is_blank b ≡ false) text
 
 digit_no_blank : (b : ℕ) → is_ascii_digit b ≡ true → is_blank b ≡ false
 digit_no_blank b h = grind (arith, nat_tests)
@@ -38,7 +39,7 @@ digit_no_letter b h = grind (arith, nat_tests)
 digit_no_minus : (b : ℕ) → is_ascii_digit b ≡ true → nat_eq b 45 ≡ false
 digit_no_minus b h = grind (arith, nat_tests)
 
-digits_are_word : (text : List ℕ) → AllPass is_ascii_digit text → IsWord text
+digits_are_word : (text : List ℕ) → AllPass is_ascii_digit text → HasNoBlank text
 digits_are_word text digits = λ k d lt. digit_no_blank (get_or text k d) (digits k d lt)
 
 -- blanks in front change no field
@@ -50,27 +51,27 @@ fields_after_blanks (b ∷ bs) text blanks =
 fields_of_blanks : (text : List ℕ) → AllPass is_blank text → fields text ≡ []
 fields_of_blanks text blanks = ap fields (sym (append-nil text)) ∙ fields_after_blanks text [] blanks
 
-fields_of_word : (word : List ℕ) → 0 < length word → IsWord word → fields word ≡ word ∷ []
+pub fields_of_word : (word : List ℕ) → 0 < length word → HasNoBlank word → fields word ≡ word ∷ []
 fields_of_word word some plain =
     ap (filter (λ piece. nat_lt 0 (length piece))) (slice_split_none is_blank word plain) ∙ rw (lt-ltb 0 (length word) some) refl
 
-fields_before_blank : (word : List ℕ) (b : ℕ) (rest : List ℕ) → 0 < length word → IsWord word → is_blank b ≡ true → fields (word ++ b ∷ rest) ≡ word ∷ fields rest
+pub fields_before_blank : (word : List ℕ) (b : ℕ) (rest : List ℕ) → 0 < length word → HasNoBlank word → is_blank b ≡ true → fields (word ++ b ∷ rest) ≡ word ∷ fields rest
 fields_before_blank word b rest some plain blank =
     ap (filter (λ piece. nat_lt 0 (length piece))) (slice_split_at is_blank word b rest plain blank) ∙ rw (lt-ltb 0 (length word) some) refl
 
-last_field : (word after : List ℕ) → 0 < length word → IsWord word → AllPass is_blank after → fields (word ++ after) ≡ word ∷ []
+last_field : (word after : List ℕ) → 0 < length word → HasNoBlank word → AllPass is_blank after → fields (word ++ after) ≡ word ∷ []
 last_field word [] some plain blanks = ap fields (append-nil word) ∙ fields_of_word word some plain
 last_field word (b ∷ bs) some plain blanks =
     fields_before_blank word b bs some plain (All-head (λ x. is_blank x ≡ true) b bs blanks) ∙ ap (λ fs. word ∷ fs) (fields_of_blanks bs (All-tail (λ x. is_blank x ≡ true) b bs blanks))
 
-first_field : (word between rest : List ℕ) → 0 < length word → IsWord word → 0 < length between → AllPass is_blank between → fields (word ++ (between ++ rest)) ≡ word ∷ fields rest
+first_field : (word between rest : List ℕ) → 0 < length word → HasNoBlank word → 0 < length between → AllPass is_blank between → fields (word ++ (between ++ rest)) ≡ word ∷ fields rest
 first_field word [] rest some plain apart blanks = absurd (omega arith)
 first_field word (b ∷ bs) rest some plain apart blanks =
     fields_before_blank word b (bs ++ rest) some plain (All-head (λ x. is_blank x ≡ true) b bs blanks) ∙ ap (λ fs. word ∷ fs) (fields_after_blanks bs rest (All-tail (λ x. is_blank x ≡ true) b bs blanks))
 
 -- a line's fields are its delay and its count
-two_fields : (before first between second after : List ℕ) → AllPass is_blank before → 0 < length first → IsWord first → 0 < length between → AllPass is_blank between
-    → 0 < length second → IsWord second → AllPass is_blank after → fields (before ++ first ++ between ++ second ++ after) ≡ first ∷ second ∷ []
+two_fields : (before first between second after : List ℕ) → AllPass is_blank before → 0 < length first → HasNoBlank first → 0 < length between → AllPass is_blank between
+    → 0 < length second → HasNoBlank second → AllPass is_blank after → fields (before ++ first ++ between ++ second ++ after) ≡ first ∷ second ∷ []
 two_fields before first between second after blanks some plain apart blanks' some' plain' blanks'' =
     let grouped : before ++ first ++ between ++ second ++ after ≡ before ++ (first ++ (between ++ (second ++ after))) = simp append_assoc in
     ap fields grouped ∙ fields_after_blanks before (first ++ (between ++ (second ++ after))) blanks ∙ first_field first between (second ++ after) some plain apart blanks'
@@ -93,17 +94,17 @@ seconds_begin text us s = elim s.spelled [
   | inr e ↦ begins_with_digit text s.whole (46 ∷ s.decimals) e s.some s.whole_digits
 ]
 
-seconds_are_word : (text : List ℕ) (us : ℕ) → SecondsText text us → IsWord text
+seconds_are_word : (text : List ℕ) (us : ℕ) → SecondsText text us → HasNoBlank text
 seconds_are_word text us s = elim s.spelled [
-  | inl e ↦ subst IsWord (sym e.0) (digits_are_word s.whole s.whole_digits)
-  | inr e ↦ subst IsWord (sym e) (All-append (λ b. is_blank b ≡ false) s.whole (46 ∷ s.decimals) (digits_are_word s.whole s.whole_digits)
+  | inl e ↦ subst HasNoBlank (sym e.0) (digits_are_word s.whole s.whole_digits)
+  | inr e ↦ subst HasNoBlank (sym e) (All-append (λ b. is_blank b ≡ false) s.whole (46 ∷ s.decimals) (digits_are_word s.whole s.whole_digits)
       (All-cons (λ b. is_blank b ≡ false) 46 s.decimals refl (digits_are_word s.decimals s.decimal_digits)))
 ]
 
 -- what a delay's field is read as
 record ReadDelay (text : List ℕ) (delay : ℕ) : Type 0 where
   some : 0 < length text
-  plain : IsWord text
+  plain : HasNoBlank text
   unlettered : begins_with_letter text ≡ false
   read : delay_of text ≡ Some delay
 
@@ -118,7 +119,7 @@ unsigned_read text us s b = record {
 signed_read : (text seconds : List ℕ) (us delay : ℕ) → text ≡ 45 ∷ seconds → SecondsText seconds us → delay ≡ 0 → ReadDelay text delay
 signed_read text seconds us delay is s none = record {
   some = rw is (omega arith);
-  plain = subst IsWord (sym is) (All-cons (λ b. is_blank b ≡ false) 45 seconds refl (seconds_are_word seconds us s));
+  plain = subst HasNoBlank (sym is) (All-cons (λ b. is_blank b ≡ false) 45 seconds refl (seconds_are_word seconds us s));
   unlettered = ap begins_with_letter is;
   read = ap delay_of is ∙ ap (option_map (λ us. 0)) (read_seconds_text seconds us s) ∙ ap Some (sym none);
 }
@@ -127,8 +128,8 @@ delay_read : (text : List ℕ) (delay : ℕ) → DelayText text delay → ReadDe
 delay_read text delay (inl s) = unsigned_read text delay s (seconds_begin text delay s)
 delay_read text delay (inr n) = signed_read text n.0 n.1 delay n.2 n.3 n.4
 
-count_read : (text : List ℕ) (count : ℕ) → CountText text count → count_of text ≡ Some count
-count_read text count t = rw (lt-ltb 0 (length text) t.some, list_all-from_AllPass is_ascii_digit text t.digits) (ap Some (sym t.value))
+pub number_read : (text : List ℕ) (count : ℕ) → NumberText text count → number_of text ≡ Some count
+number_read text count t = rw (lt-ltb 0 (length text) t.some, list_all-from_AllPass is_ascii_digit text t.digits) (ap Some (sym t.value))
 
 -- a line's fields
 pub line_fields : (text : List ℕ) (delay count : ℕ) (l : TimingLine text delay count) → fields text ≡ l.first ∷ l.second ∷ []
@@ -141,7 +142,7 @@ pub timing_line_read : (text : List ℕ) (entry : Entry) → TimingLine text ent
 timing_line_read text entry l within =
     let d = delay_read l.first entry.delay l.delayed in
     ap entry_of_fields (line_fields text entry.delay entry.count l)
-    ∙ rw (d.unlettered, d.read, count_read l.second entry.count l.counted, le-ltb longest_delay entry.delay within.delay, le-ltb longest_chunk entry.count within.count) refl
+    ∙ rw (d.unlettered, d.read, number_read l.second entry.count l.counted, le-ltb longest_delay entry.delay within.delay, le-ltb longest_chunk entry.count within.count) refl
 
 -- the digits of a number
 in_range_digit : (c : ℕ) → (48 ≤ c) × (c ≤ 57) → is_ascii_digit c ≡ true
@@ -155,7 +156,7 @@ zeros_in_front : (k : ℕ) (digits : List ℕ) → digits_value 10 (replicate k 
 zeros_in_front zero digits = refl
 zeros_in_front (suc k) digits = zeros_in_front k digits
 
-six_digits_are : (us : ℕ) → AllPass is_ascii_digit (six_digits (us % 1000000))
+pub six_digits_are : (us : ℕ) → AllPass is_ascii_digit (six_digits (us % 1000000))
 six_digits_are us =
     All-append (λ b. is_ascii_digit b ≡ true) (replicate (6 - length (decimal (us % 1000000))) 48) (decimal (us % 1000000))
     (All-replicate (λ b. is_ascii_digit b ≡ true) (6 - length (decimal (us % 1000000))) 48 refl) (decimal_digits (us % 1000000) (omega arith))
@@ -179,6 +180,12 @@ seconds_form_reads us small =
       spelled = inr refl;
       value = omega (arith, whole.1, value);
     }
+
+pub seconds_form_read : (us : ℕ) → us ≤ last_moment → seconds_of (seconds_form us) ≡ Some us
+unfolding seconds_of
+seconds_form_read us le =
+    let fits : min us last_moment ≡ us = omega arith in
+    ap (option_map (λ n. min n last_moment)) (read_seconds_text (seconds_form us) us (seconds_form_reads us (omega arith))) ∙ ap Some fits
 
 -- a chunk's line without its LF
 abbrev pub line_text_of : Chunk → List ℕ
@@ -226,7 +233,7 @@ line_unbroken c within =
     (All-cons P 32 (decimal (length c.bytes)) refl (digits (decimal (length c.bytes)) (decimal_digits (length c.bytes) (omega (arith, within.count)))))
 
 -- the lines of what is written are the chunks' lines
-next_line : (line rest : List ℕ) → All (λ b. nat_eq b 10 ≡ false) line → lines_of (line ++ 10 ∷ rest) ≡ line ∷ lines_of rest
+pub next_line : (line rest : List ℕ) → All (λ b. nat_eq b 10 ≡ false) line → lines_of (line ++ 10 ∷ rest) ≡ line ∷ lines_of rest
 next_line line rest unbroken =
     let some : 0 < length (slice_split (λ b. nat_eq b 10) rest) = omega (arith, length-slice_split (λ b. nat_eq b 10) rest) in
     ap without_empty_last (slice_split_at (λ b. nat_eq b 10) line 10 rest unbroken refl) ∙ kept_piece line (slice_split (λ b. nat_eq b 10) rest) some

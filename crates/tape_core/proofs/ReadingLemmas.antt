@@ -11,7 +11,8 @@ use Rattle.std.proofs.lemmas.List.Sums.{position_or_len_is, sum_by-take-le, sum_
 use Rattle.tape_core.specs.declared.chunk.Chunk.{Chunk}
 use Rattle.tape_core.specs.declared.timing.Entry.{Entry}
 use Rattle.tape_core.specs.Tape.{IsHeader, body, body_len}
-use Rattle.tape_core.specs.Timing.{AreWithin, IsWithin, counted_bytes, entries_of, lines_of, timing_fault}
+use Rattle.tape_core.specs.Timing.{AreWithin, IsWithin, counted_bytes, entries_of, timing_fault}
+use Rattle.tape_core.specs.Text.{lines_of}
 use Rattle.tape_core.specs.Reading.{entry_for, fault_of, first_short, has_header, header_len, reads}
 use Rattle.tape_core.proofs.DueLemmas.{length_range}
 use Rattle.tape_core.proofs.LineLemmas.{timed_chunks}

@@ -8,7 +8,8 @@ use Rattle.std.proofs.lemmas.Bool.{lt-leb, le-ltb}
 use Rattle.tape_core.specs.declared.timing.Entry.{Entry}
 use Rattle.tape_core.specs.declared.fault.Fault.{Fault}
 use Rattle.tape_core.specs.Tape.{most_chunks, longest_body}
-use Rattle.tape_core.specs.Timing.{AreWithin, IsWithin, counted_bytes, entries_of, entry_in, entry_of, fault_after, fault_on, first_fault, lines_of, timing_fault}
+use Rattle.tape_core.specs.Timing.{AreWithin, IsWithin, counted_bytes, entries_of, entry_in, entry_of, fault_after, fault_on, first_fault, timing_fault}
+use Rattle.tape_core.specs.Text.{lines_of}
 
 -- Some lines are read, and the rest of the text has the others.
 pub record ReadSoFar (timing rest : List ℕ) (entries : List Entry) (bytes line : ℕ) : Type 0 where

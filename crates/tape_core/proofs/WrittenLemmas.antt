@@ -1,11 +1,11 @@
 -- Texts written from their end, one part before another.
-use Rattle.std.proofs.Common.{◌≡◌, ℕ, suc, ◌+◌, ◌-◌, ◌*◌, ◌/◌, ◌%◌, ◌^◌, ◌<◌, ◌≤◌, List, [], ◌∷◌, ◌++◌, length, get_or, set, take, drop, replicate, refl, ap, sym, ◌∙◌, arith, append_assoc, length-append, length-take, length-drop, Option, subst}
+use Rattle.std.proofs.Common.{◌≡◌, ℕ, suc, ◌+◌, ◌-◌, ◌/◌, ◌%◌, ◌^◌, ◌<◌, ◌≤◌, List, [], ◌∷◌, ◌++◌, length, get_or, set, take, drop, replicate, ap, sym, ◌∙◌, arith, append_assoc, length-append, length-take, length-drop, Option, subst}
 use borrow.Rule.Slice.PartMut.{put_mid}
 use Rattle.std.specs.Fmt.{decimal}
 use Rattle.std.specs.List.{flat_map}
-use Rattle.std.proofs.lemmas.Fmt.{length-decimal-le, decimal_nonempty}
+use Rattle.std.proofs.lemmas.Fmt.{length-decimal-le}
 use Rattle.std.proofs.lemmas.List.Concat.{flat_map-append}
-use Rattle.std.proofs.lemmas.List.{drop_more, drop-append-le, drop-drop, drop-take, drop_at, drop_all, drop-set, length-set, take-append-drop, take-append-le, take-replicate, take_all, length-replicate}
+use Rattle.std.proofs.lemmas.List.{drop_more, drop-append-le, drop-drop, drop-take, drop_at, drop_all, drop-set, take-append-drop, take-append-le, take-replicate, length-replicate}
 use Rattle.tape_core.specs.declared.devices.Watched.{Watched}
 use Rattle.tape_core.specs.Devices.{StoppedIn, Took}
 use Rattle.tape_core.specs.Written.{seconds_form, six_digits}

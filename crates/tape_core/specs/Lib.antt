@@ -2,6 +2,7 @@ pub mod Faults
 pub mod Devices
 pub mod Tape
 pub mod Due
+pub mod Text
 pub mod Seconds
 pub mod Timing
 pub mod Reading

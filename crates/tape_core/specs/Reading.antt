@@ -7,7 +7,8 @@ use Rattle.tape_core.specs.declared.timing.Entry.{Entry}
 use Rattle.tape_core.specs.declared.fault.Fault.{Fault}
 use Rattle.tape_core.specs.declared.fault.Fault.TheVariants as fault
 use Rattle.tape_core.specs.Tape.{Tape, body, fits}
-use Rattle.tape_core.specs.Timing.{TimingLine, fields, lines_of, entries_of, counted_bytes, timing_fault}
+use Rattle.tape_core.specs.Timing.{TimingLine, entries_of, counted_bytes, timing_fault}
+use Rattle.tape_core.specs.Text.{fields, lines_of}
 
 -- How long the first line is with its LF. script(1).
 abbrev pub header_len : List ℕ → ℕ

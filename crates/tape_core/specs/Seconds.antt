@@ -5,9 +5,13 @@ use Rattle.std.specs.List.{AllPass, before_first, after_first, list_all}
 use Rattle.std.specs.Option.{option_map}
 use Rattle.std.specs.Str.Parse.{digits_value}
 
+-- A second, in microseconds.
+abbrev pub second : ℕ
+second = 1000000
+
 -- The microseconds that whole seconds and decimals write: digits past the sixth decimal are dropped, missing ones are zeros. script(1).
 abbrev pub micros : List ℕ → List ℕ → ℕ
-micros whole decimals = 1000000 * digits_value 10 whole + digits_value 10 (take 6 (decimals ++ replicate 6 48))
+micros whole decimals = second * digits_value 10 whole + digits_value 10 (take 6 (decimals ++ replicate 6 48))
 
 -- The text is decimal seconds: one or more digits, optionally a point and zero or more digits. script(1).
 pub record SecondsText (text : List ℕ) (us : ℕ) : Type 0 where

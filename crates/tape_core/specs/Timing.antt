@@ -1,20 +1,15 @@
 -- The timing file, line by line: what a line says, and which fault it has.
-use Rattle.std.specs.Prelude.{◌≡◌, ℕ, ◌+◌, ◌<◌, ◌≤◌, ◌⊎◌, All, Bool, false, ◌||◌, ◌&&◌, List, [], ◌∷◌, ◌++◌, length, filter, Option, Some, None, Result, Ok, Err, ◌==◌, nat_lt, nat_le, if◌then◌else◌, sum_by}
-use Rattle.std.specs.Char.{is_ascii_digit}
-use Rattle.std.specs.List.{AllPass, list_all, slice_split, filter_map}
+use Rattle.std.specs.Prelude.{◌≡◌, ℕ, ◌+◌, ◌<◌, ◌≤◌, ◌⊎◌, All, Bool, false, ◌||◌, ◌&&◌, List, [], ◌∷◌, ◌++◌, length, Option, Some, None, Result, Ok, Err, ◌==◌, nat_lt, nat_le, if◌then◌else◌, sum_by}
+use Rattle.std.specs.List.{AllPass, filter_map}
 use Rattle.std.specs.Option.{option_map, option_or}
-use Rattle.std.specs.Str.Parse.{digits_value}
 use Rattle.tape_core.specs.declared.timing.Entry.{Entry}
 use Rattle.tape_core.specs.declared.timing.LineFault.{LineFault}
 use Rattle.tape_core.specs.declared.timing.LineFault.TheVariants as line
 use Rattle.tape_core.specs.declared.fault.Fault.{Fault}
 use Rattle.tape_core.specs.declared.fault.Fault.TheVariants as fault
 use Rattle.tape_core.specs.Seconds.{SecondsText, micros_of}
+use Rattle.tape_core.specs.Text.{NumberText, fields, is_blank, lines_of, number_of}
 use Rattle.tape_core.specs.Tape.{longest_delay, longest_chunk, longest_body, most_chunks}
-
--- Blanks are space and tab. Profile.
-abbrev pub is_blank : ℕ → Bool
-is_blank b = b == 32 || b == 9
 
 abbrev pub is_letter : ℕ → Bool
 is_letter b = (nat_le 65 b && nat_le b 90) || (nat_le 97 b && nat_le b 122)
@@ -22,12 +17,6 @@ is_letter b = (nat_le 65 b && nat_le b 90) || (nat_le 97 b && nat_le b 122)
 -- The text is a delay: decimal seconds, or `-` and decimal seconds, which is zero. script(1); `-`: profile.
 abbrev pub DelayText : List ℕ → ℕ → Type 0
 DelayText text delay = SecondsText text delay ⊎ ((seconds : List ℕ) × (us : ℕ) × (text ≡ 45 ∷ seconds) × SecondsText seconds us × (delay ≡ 0))
-
--- The text is a count: one or more digits. script(1).
-pub record CountText (text : List ℕ) (count : ℕ) : Type 0 where
-  pub some : 0 < length text
-  pub digits : AllPass is_ascii_digit text
-  pub value : count ≡ digits_value 10 text
 
 -- A line of the classic timing format: blanks, a delay, at least one blank, a count, blanks. script(1); outer blanks: profile.
 pub record TimingLine (text : List ℕ) (delay count : ℕ) : Type 0 where
@@ -42,25 +31,17 @@ pub record TimingLine (text : List ℕ) (delay count : ℕ) : Type 0 where
   pub blank_after : AllPass is_blank after
   pub apart : 0 < length between
   pub delayed : DelayText first delay
-  pub counted : CountText second count
-
--- The fields of a line: its pieces between blanks that are not empty.
-abbrev pub fields : List ℕ → List (List ℕ)
-fields text = filter (λ piece. nat_lt 0 (length piece)) (slice_split is_blank text)
+  pub counted : NumberText second count
 
 -- The delay that a field writes, in microseconds.
 abbrev pub delay_of : List ℕ → Option ℕ
 delay_of [] = None
 delay_of (b ∷ bs) = if b == 45 then option_map (λ us. 0) (micros_of bs) else micros_of (b ∷ bs)
 
--- The count that a field writes.
-abbrev pub count_of : List ℕ → Option ℕ
-count_of text = if nat_lt 0 (length text) && list_all is_ascii_digit text then Some (digits_value 10 text) else None
-
 -- The count where one field is left, and no other.
 abbrev pub only_count : List (List ℕ) → Option ℕ
 only_count [] = None
-only_count (text ∷ []) = count_of text
+only_count (text ∷ []) = number_of text
 only_count (text ∷ more ∷ rest) = None
 
 abbrev pub begins_with_letter : List ℕ → Bool
@@ -89,15 +70,6 @@ entry_of_fields (first ∷ rest) = if begins_with_letter first then Err line.Mul
 -- What a line says: nothing where it is blank, an entry, or its first fault.
 abbrev pub entry_of : List ℕ → Result (Option Entry) LineFault
 entry_of text = entry_of_fields (fields text)
-
--- The lines of a file: its pieces between LFs, without an empty last one.
-abbrev pub without_empty_last : List (List ℕ) → List (List ℕ)
-without_empty_last [] = []
-without_empty_last (piece ∷ []) = if length piece == 0 then [] else piece ∷ []
-without_empty_last (piece ∷ next ∷ more) = piece ∷ without_empty_last (next ∷ more)
-
-abbrev pub lines_of : List ℕ → List (List ℕ)
-lines_of text = without_empty_last (slice_split (λ b. b == 10) text)
 
 -- The entries of the lines that have one, in order.
 abbrev pub entry_in : Result (Option Entry) LineFault → Option Entry

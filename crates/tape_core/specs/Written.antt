@@ -3,6 +3,7 @@ use Rattle.std.specs.Prelude.{ℕ, ◌-◌, ◌/◌, ◌%◌, List, [], ◌∷�
 use Rattle.std.specs.Fmt.{decimal}
 use Rattle.std.specs.List.{flat_map}
 use Rattle.tape_core.specs.declared.chunk.Chunk.{Chunk}
+use Rattle.tape_core.specs.Seconds.{second}
 use Rattle.tape_core.specs.Tape.{Tape, body}
 
 -- A number below a million in six digits, filled with zeros on the left.
@@ -11,7 +12,7 @@ six_digits n = replicate (6 - length (decimal n)) 48 ++ decimal n
 
 -- Microseconds as seconds: the whole ones without needless zeros, a point, six decimals. script(1).
 unfoldable pub seconds_form : ℕ → List ℕ
-seconds_form us = decimal (us / 1000000) ++ 46 ∷ six_digits (us % 1000000)
+seconds_form us = decimal (us / second) ++ 46 ∷ six_digits (us % second)
 
 -- A chunk's line of the timing file, with its LF: its delay, a space, how many bytes it has. script(1).
 abbrev pub timing_line_of : Chunk → List ℕ

@@ -1,17 +1,63 @@
 //! Laws over the definitions alone, as functions with empty bodies.
-ghost use Rattle.std.specs.Prelude.{◌≡◌, ◌<◌, ◌^◌, ℕ, List, MatchOption, Ok, Some, min};
+ghost use Rattle.std.specs.Prelude.{◌≡◌, ◌+◌, ◌<◌, ◌≤◌, ◌^◌, ◌↔◌, ◌++◌, ◌==◌, ◌∷◌, [], ℕ, All, List, MatchOption, Ok, Some, false, length, min, slice_index_or, true};
+ghost use Rattle.std.specs.Fmt.{decimal};
+ghost use Rattle.tape_core.specs.Changes.{capped, inserted, removed, replaced, retimed};
 ghost use Rattle.tape_core.specs.declared.chunk.Chunk.{Chunk};
 ghost use Rattle.tape_core.specs.declared.timing.Entry.{Entry};
-ghost use Rattle.tape_core.specs.Due.{due, due_count, first};
+ghost use Rattle.tape_core.specs.Due.{bytes_at, due, due_count, due_time, first};
 ghost use Rattle.tape_core.specs.Seconds.{SecondsText, last_moment, seconds_of};
 ghost use Rattle.tape_core.specs.Tape.{Tape, fits};
 ghost use Rattle.tape_core.specs.Reading.{reads};
+ghost use Rattle.tape_core.specs.Text.{IsWord, NumberText, fields, is_blank, lines_of, number_of};
 ghost use Rattle.tape_core.specs.Timing.{IsWithin, TimingLine, entry_of};
 ghost use Rattle.tape_core.specs.Written.{script_text, seconds_form, timing_text};
 
 /// As no delay is negative, the bytes due by a moment are those of the first chunks.
 pub fn due_is_first()
     ensures { (chunks : List Chunk) (t : ℕ) → due chunks t ≡ first chunks (due_count chunks t) }
+{}
+
+/// A chunk is due by a moment just where its place is below the count of the chunks due.
+pub fn due_is_below_the_count()
+    ensures { (chunks : List Chunk) (t i : ℕ) → i < length chunks → ((due_time chunks i ≤ t) ↔ (i < due_count chunks t)) }
+{}
+
+/// The first chunks and one more are the first chunks' bytes and those of the next.
+pub fn first_grows_by_a_chunk()
+    ensures at { (chunks : List Chunk) (n : ℕ) → first chunks (n + 1) ≡ first chunks n ++ bytes_at chunks n }
+    ensures of { (chunks : List Chunk) (n : ℕ) (chunk : Chunk) → n < length chunks → slice_index_or chunks n chunk ≡ chunk → first chunks (n + 1) ≡ first chunks n ++ chunk.bytes }
+{}
+
+/// A change of the chunks leaves the bytes of those before its place as they were, and a change of
+/// delays all bytes.
+pub fn first_is_kept()
+    ensures inserted { (tape : Tape) (at n : ℕ) (chunk : Chunk) → n ≤ at → at ≤ length tape.chunks → first (inserted at chunk tape).chunks n ≡ first tape.chunks n }
+    ensures removed { (tape : Tape) (from to n : ℕ) → n ≤ from → from ≤ length tape.chunks → first (removed from to tape).chunks n ≡ first tape.chunks n }
+    ensures replaced { (tape : Tape) (at n : ℕ) (bytes : List ℕ) → n ≤ at → first (replaced at bytes tape).chunks n ≡ first tape.chunks n }
+    ensures retimed { (tape : Tape) (at delay n : ℕ) → first (retimed at delay tape).chunks n ≡ first tape.chunks n }
+    ensures capped { (tape : Tape) (max n : ℕ) → first (capped max tape).chunks n ≡ first tape.chunks n }
+{}
+
+/// A word is one field, and the fields of a word, a blank and a text are the word and the text's.
+pub fn a_word_is_a_field()
+    ensures alone { (word : List ℕ) → IsWord word → fields word ≡ word ∷ [] }
+    ensures first { (word rest : List ℕ) (b : ℕ) → IsWord word → is_blank b ≡ true → fields (word ++ b ∷ rest) ≡ word ∷ fields rest }
+{}
+
+/// The lines of a text without an LF, an LF and another text are the first text and the other's lines.
+pub fn an_lf_ends_a_line()
+    ensures { (text rest : List ℕ) → All (λ b. (b == 10) ≡ false) text → lines_of (text ++ 10 ∷ rest) ≡ text ∷ lines_of rest }
+{}
+
+/// A text is read as a number where it is spelled as one, with that value, and nowhere else.
+pub fn numbers_are_spelled()
+    ensures { (text : List ℕ) → MatchOption (number_of text) ((n : ℕ) → NumberText text n → ⊥) (λ n. NumberText text n) }
+{}
+
+/// Numbers below 2^64 are written as a word of digits, and read back.
+pub fn numbers_read_back()
+    ensures word { (n : ℕ) → n < 2 ^ 64 → IsWord (decimal n) }
+    ensures read { (n : ℕ) → n < 2 ^ 64 → number_of (decimal n) ≡ Some n }
 {}
 
 /// A text is read as seconds where it is spelled as seconds, with that value, and nowhere else.
@@ -34,9 +80,12 @@ pub fn a_pair_is_read_once()
     ensures { (script timing : List ℕ) (one other : Tape) → reads script timing one → reads script timing other → other ≡ one }
 {}
 
-/// Microseconds below 2^64, written as seconds, are read back.
+/// Microseconds below 2^64, written as seconds, are a word and spelled seconds with that value; those
+/// up to the greatest moment are read back.
 pub fn seconds_read_back()
-    ensures { (us : ℕ) → us < 2 ^ 64 → SecondsText (seconds_form us) us }
+    ensures word { (us : ℕ) → us < 2 ^ 64 → IsWord (seconds_form us) }
+    ensures spelled { (us : ℕ) → us < 2 ^ 64 → SecondsText (seconds_form us) us }
+    ensures read { (us : ℕ) → us ≤ last_moment → seconds_of (seconds_form us) ≡ Some us }
 {}
 
 /// What is written of a recording that fits is read as that recording and no other.

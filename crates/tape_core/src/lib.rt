@@ -4,14 +4,14 @@
 mod bytes;
 mod chunk;
 pub mod devices;
-mod digits;
 pub mod fault;
-mod fields;
 pub mod laws;
+pub mod limits;
 mod reading;
 mod recording;
 mod seconds;
 mod seconds_form;
+pub mod text;
 mod timing;
 mod writing;
 

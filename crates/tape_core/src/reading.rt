@@ -8,8 +8,8 @@ ghost use Rattle.tape_core.specs.declared.fault.Fault.TheVariants as fault;
 use crate::bytes::Bytes;
 use crate::chunk::Chunk;
 use crate::fault::Fault;
-use crate::fields::place_of;
 use crate::recording::Recording;
+use crate::text::position_of;
 use crate::timing::{Entry, read_timing};
 use std::alloc::{AllocError, Global};
 
@@ -20,7 +20,7 @@ fn split_header(script: &[u8]) -> Option<(&[u8], &[u8])>
     ensures header { IfSome result (λ cut. cut.0.now ≡ take (header_len script.now) script.now) }
     ensures rest { IfSome result (λ cut. cut.1.now ≡ drop (header_len script.now) script.now) }
 {
-    let end = place_of(script, b'\n');
+    let end = position_of(script, b'\n');
     if end < script.len() {
         Some(script.split_at(end + 1))
     } else {

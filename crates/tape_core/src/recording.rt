@@ -66,7 +66,8 @@ impl Recording {
 
     /// The chunks in order.
     pub fn chunks(&self) -> &[Chunk]
-        ensures { result.now ≡ self.now.chunks }
+        ensures chunks { result.now ≡ self.now.chunks }
+        ensures fitting { fits self.now }
     {
         self.chunks.as_slice()
     }
@@ -80,7 +81,8 @@ impl Recording {
 
     /// How many bytes the chunks hold together.
     pub fn body_len(&self) -> u64
-        ensures { result ≡ body_len self.now.chunks }
+        ensures sum { result ≡ body_len self.now.chunks }
+        ensures within { result ≤ longest_body }
     {
         self.bytes
     }

@@ -2,6 +2,7 @@
 ghost use Rattle.std.specs.Prelude.{◌≡◌, ◌+◌, ◌≤◌, ◌++◌, drop, length};
 ghost use Rattle.tape_core.specs.Written.{seconds_form};
 
+use crate::seconds::SECOND;
 use itoa::write_digits;
 use std::marker::Model;
 
@@ -47,15 +48,15 @@ pub fn seconds_text(us: u64) -> SecondsText
 /// Writes seconds so that they end at `end`, and returns where they start.
 #[tactic(auto, unfolding(crate::specs::Written::seconds_form))]
 pub(crate) fn write_seconds(us: u64, buf: &mut [u8], end: usize) -> usize
-    requires room { 21 ≤ end }
+    requires room { LONGEST_SECONDS ≤ end }
     requires within { end ≤ length buf.old }
     ensures start { result + length (seconds_form us) ≡ end }
     ensures written { drop result buf.new ≡ seconds_form us ++ drop end buf.old }
 {
     let point = end - 7;
     buf[point..end].copy_from_slice(b".000000");
-    let _decimals = write_digits(us % 1_000_000, buf, end);
-    write_digits(us / 1_000_000, buf, point)
+    let _decimals = write_digits(us % SECOND, buf, end);
+    write_digits(us / SECOND, buf, point)
 }
 
 #[cfg(test)]

@@ -3,13 +3,14 @@ ghost use Rattle.std.specs.Prelude.{◌≡◌, ◌≤◌, ◌≢◌, false, None
 ghost use Rattle.std.specs.Option.{option_map};
 ghost use Rattle.tape_core.specs.Faults.{is_stop};
 ghost use Rattle.tape_core.specs.Seconds.{last_moment};
-ghost use Rattle.tape_core.specs.Timing.{AreWithin, IsWithin, at_line, begins_with_letter, count_of, delay_of, entries_of, entry_of, fields, lines_of, only_count, timing_fault};
+ghost use Rattle.tape_core.specs.Timing.{AreWithin, IsWithin, at_line, begins_with_letter, delay_of, entries_of, entry_of, only_count, timing_fault};
+ghost use Rattle.tape_core.specs.Text.{fields, lines_of, number_of};
 ghost use Rattle.tape_core.specs.declared.fault.Fault.TheVariants as fault;
 
-use crate::digits::{are_digits, number};
 use crate::fault::Fault;
-use crate::fields::{next_field, next_line};
+use crate::limits::{LONGEST_BODY, LONGEST_CHUNK, LONGEST_DELAY, MOST_CHUNKS};
 use crate::seconds::read_seconds;
+use crate::text::{next_field, next_line, only_field, read_number};
 use std::alloc::{AllocError, Global};
 
 /// What a timing line says of its chunk: the delay in microseconds, and how many bytes it has.
@@ -56,26 +57,11 @@ fn read_delay(field: &[u8]) -> Option<u64>
     }
 }
 
-/// The count that a field writes, at most 10^18.
-fn read_count(field: &[u8]) -> Option<u64>
-    ensures { result ≡ option_map (λ n. min n last_moment) (count_of field.now) }
-{
-    if !field.is_empty() && are_digits(field) {
-        Some(number(field, 1_000_000_000_000_000_000))
-    } else {
-        None
-    }
-}
-
-/// The count where it is the only field of the text.
+/// The count where it is the only field of the text, at most 10^18.
 fn read_only_count(text: &[u8]) -> Option<u64>
     ensures { result ≡ option_map (λ n. min n last_moment) (only_count (fields text.now)) }
 {
-    let (field, rest) = next_field(text)?;
-    match next_field(rest) {
-        None => read_count(field),
-        Some(_) => None,
-    }
+    read_number(only_field(text)?)
 }
 
 /// Whether the field begins with a letter.
@@ -101,10 +87,10 @@ fn read_entry(text: &[u8]) -> Result<Option<Entry>, LineFault>
     }
     let delay = read_delay(first).ok_or(LineFault::BadDelay)?;
     let count = read_only_count(rest).ok_or(LineFault::BadCount)?;
-    if delay > 1_000_000_000_000 {
+    if delay > LONGEST_DELAY {
         return Err(LineFault::DelayTooLarge);
     }
-    if count > 1_048_576 {
+    if count > LONGEST_CHUNK as u64 {
         return Err(LineFault::ChunkTooLong);
     }
     Ok(Some(Entry { delay, count }))
@@ -129,10 +115,10 @@ pub fn read_timing(alloc: Global, timing: &[u8]) -> Result<Vec<Entry>, Fault>
         match read_entry(text) {
             Err(fault) => return Err(fault.at(line)),
             Ok(None) => {}
-            Ok(Some(_)) if entries.len() >= 1_000_000 => return Err(Fault::TooManyChunks(line)),
+            Ok(Some(_)) if entries.len() >= MOST_CHUNKS => return Err(Fault::TooManyChunks(line)),
             Ok(Some(entry)) => {
                 bytes += entry.count;
-                if bytes > 1_073_741_824 {
+                if bytes > LONGEST_BODY {
                     return Err(Fault::TooManyBytes(line));
                 }
                 entries.push(entry).map_err(AllocError::from)?;

@@ -86,7 +86,7 @@ fn put_line<W: Write>(chunk: &Chunk, writer: &mut Watched<W>) -> Result<(), Faul
 
 /// Writes a timing line so that it ends with the buffer, and returns where it starts.
 fn write_line(delay: u64, count: u64, buf: &mut [u8]) -> usize
-    requires { length buf.old ≡ 43 }
+    requires { length buf.old ≡ LONGEST_LINE }
     ensures start { result ≤ length buf.new }
     ensures written { drop result buf.new ≡ seconds_form delay ++ 32 ∷ decimal count ++ 10 ∷ [] }
 {

@@ -1,0 +1,4 @@
+pub mod Edits
+pub mod Marks
+pub mod Moments
+pub mod State

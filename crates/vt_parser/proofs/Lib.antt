@@ -5,6 +5,9 @@ pub mod Shapes
 pub mod Control
 pub mod Joins
 pub mod Agrees
+pub mod ManyBytes
 pub mod LawLemmas
 pub mod ProperLemmas
+pub mod Whole
+pub mod Written
 pub mod Lanes

@@ -4,7 +4,7 @@ use Rattle.std.specs.List.{slice_split, onto_first}
 use Rattle.std.proofs.lemmas.Bool.{lt-ltb, le-ltb}
 use Rattle.std.proofs.lemmas.List.{map-append, length-append, length-set, length-take, take_all, take-append-le, take-set-le}
 use Rattle.std.proofs.lemmas.List.Sums.{fold-append}
-use Rattle.vt_parser.specs.Sequence.{is_semicolon, decimal, parameter, numbers}
+use Rattle.vt_parser.specs.Sequence.{is_semicolon, decimal_value, parameter, numbers}
 use Rattle.vt_parser.specs.Machine.{with_digit, with_last_digit}
 
 -- ---- the pieces
@@ -58,7 +58,7 @@ capped value digit = omega arith
 parameter_push : (piece : List ℕ) (digit : ℕ) → parameter (piece ++ digit ∷ []) ≡ with_digit (parameter piece) digit
 parameter_push piece digit =
     ap (λ value. min 9999 value) (fold-append (λ value next. 10 * value + (next - 48)) 0 piece (digit ∷ []))
-    ∙ capped (decimal piece) (digit - 48)
+    ∙ capped (decimal_value piece) (digit - 48)
 
 -- with one more digit in the last number, by cases
 abbrev last_grown : List ℕ → ℕ → List ℕ

@@ -20,7 +20,7 @@ use Rattle.vt_parser.specs.declared.states.ParserState.TheVariants.{CsiStart, Cs
 use Rattle.vt_parser.specs.Control.{escape, is_within, is_graphic, class_of, turns_of, turn_at}
 use Rattle.vt_parser.specs.Sequence.{is_intermediate, is_escape_final, is_control_final, begins_control, begins_address, is_lone_escape, is_escape_begun, is_control_begun, is_line_begun, ends_escape, ends_vt52, is_whole, is_semicolon, is_private, after_mark, is_well_formed, parameter, numbers, params, held, escape_meaning, control_meaning, address_meaning}
 use Rattle.vt_parser.specs.Step.{place_of, control_of, command_by, command_of, pending_after}
-use Rattle.vt_parser.specs.Law.{IsFrom, IsProper, CommandsAreProper, GraphicIsShown, RunsAreGraphic, FinalsFinish, BareFinalsFinish}
+use Rattle.vt_parser.specs.Law.{IsFrom, IsProper, CommandsAreProper, GraphicIsShown, ControlIsGiven, RunsAreGraphic, FinalsFinish, BareFinalsFinish}
 use Rattle.vt_parser.proofs.Joins.{whole_with, meaning_with, is_whole_push, meaning_push}
 use Rattle.vt_parser.specs.Machine.{Step, stepped, joined, gives}
 use Rattle.vt_parser.proofs.Agrees.{graphic_class, same_command, same_view}
@@ -177,7 +177,7 @@ unfolding place_of
 place_none Ansi = refl
 place_none Vt52Mode = refl
 
-class_graphic : (byte : ℕ) → is_graphic byte ≡ true → class_of byte ≡ class.Graphic
+pub class_graphic : (byte : ℕ) → is_graphic byte ≡ true → class_of byte ≡ class.Graphic
 class_graphic byte is =
     let a : (byte == escape) ≡ false = grind (arith, nat_tests) in
     let b : (byte == 7) ≡ false = grind (arith, nat_tests) in
@@ -189,6 +189,18 @@ class_graphic byte is =
 pub graphic_is_shown : GraphicIsShown
 unfolding command_of pending_after
 graphic_is_shown m byte is = let kind = class_graphic byte is in let at = place_none m in (simp (kind, at), simp (kind, at))
+
+class_control : (byte : ℕ) → is_within 8 15 byte ≡ true → class_of byte ≡ class.Control
+class_control byte is =
+    let a : (byte == escape) ≡ false = grind (arith, nat_tests) in
+    let b : (byte == 7) ≡ false = grind (arith, nat_tests) in
+    let c : ((byte == 24) || (byte == 26)) ≡ false = grind (arith, nat_tests) in
+    let d : ltb byte 32 ≡ true = grind (arith, nat_tests) in
+    simp (a, b, c, d)
+
+pub control_is_given : ControlIsGiven
+unfolding command_of pending_after
+control_is_given m byte is = let kind = class_control byte is in let at = place_none m in (simp (kind, at, is), simp (kind, at))
 
 run_front : (first : Bool) (n len : ℕ) → suc n ≤ cond first (1 + len) 0 → (first ≡ true) × (n ≤ len)
 run_front true n len le = (refl, omega arith)

@@ -1,17 +1,20 @@
 -- What holds of every step: the statements of the crate's laws.
-use Rattle.std.specs.Prelude.{◌≡◌, ◌≢◌, ℕ, ◌+◌, ◌≤◌, Bool, true, false, List, [], ◌∷◌, take, length, Option, Some, None, IfSome, All}
+use Rattle.std.specs.Prelude.{◌≡◌, ◌≢◌, ℕ, ◌+◌, ◌≤◌, ◌<◌, Bool, true, false, List, [], ◌∷◌, ◌++◌, take, length, Option, Some, None, IfSome, All}
 use Rattle.std.specs.List.{list_all, prefix_len}
 use Rattle.std.specs.Option.{MatchOption}
 use Rattle.vt_parser.specs.declared.commands.Mode.{Mode}
+use Rattle.vt_parser.specs.declared.commands.Mode.TheVariants.{Ansi}
 use Rattle.vt_parser.specs.declared.commands.Command.{Command}
 use Rattle.vt_parser.specs.declared.commands.Command.TheVariants.{Show, Error, Control, Esc, Csi, Vt52, Vt52Address}
 use Rattle.vt_parser.specs.declared.states.ParserState.{ParserState}
 use Rattle.vt_parser.specs.declared.states.ParserState.TheVariants.{Ground, CsiStart, Csi as CsiState}
 use Rattle.arrayvec.specs.ArrayVec.{ArrayVec}
-use Rattle.vt_parser.specs.Control.{is_graphic}
-use Rattle.vt_parser.specs.Sequence.{is_control_final, held}
+use Rattle.vt_parser.specs.Control.{escape, is_within, is_graphic}
+use Rattle.vt_parser.specs.Sequence.{is_intermediate, is_escape_final, is_control_text, is_control_final, begins_control, begins_string, params, held, control_meaning, most_params}
 use Rattle.vt_parser.specs.View.{parser_view}
 use Rattle.vt_parser.specs.Step.{command_of, pending_after, mode_after}
+use Rattle.vt_parser.specs.Fold.{Finishes}
+use Rattle.vt_parser.specs.Decimals.{params_text}
 
 -- ---- words on commands
 
@@ -95,6 +98,12 @@ GraphicIsShown =
     (m : Mode) (byte : ℕ) → is_graphic byte ≡ true
     → (command_of m [] byte ≡ Some (Show byte)) × (pending_after m [] byte ≡ [])
 
+-- On ground BS, HT, LF, VT, FF, CR, SO and SI are commands, and the parser stays on ground.
+abbrev pub ControlIsGiven : Type 0
+ControlIsGiven =
+    (m : Mode) (byte : ℕ) → is_within 8 15 byte ≡ true
+    → (command_of m [] byte ≡ Some (Control byte)) × (pending_after m [] byte ≡ [])
+
 -- No byte of a run is anything but a graphic character.
 abbrev pub RunsAreGraphic : Type 0
 RunsAreGraphic =
@@ -119,3 +128,48 @@ BareFinalsFinish =
     (given m : Mode) (p : List ℕ) (byte : ℕ) → parser_view m p ≡ Some CsiStart → is_control_final byte ≡ true
     → (command_of m p byte ≡ Some (Csi false (held (0 ∷ [])) byte))
     × (parser_view (mode_after given m byte) (pending_after m p byte) ≡ Some Ground)
+
+-- A mode that is given with every byte stays.
+abbrev pub SameModeStays : Type 0
+SameModeStays = (mode : Mode) (byte : ℕ) → mode_after mode mode byte ≡ mode
+
+-- ---- whole sequences of ANSI mode, as printers write them
+
+-- ESC and a final byte that opens nothing longer
+abbrev pub EscapesFinish : Type 0
+EscapesFinish =
+    (last : ℕ) → is_escape_final last ≡ true → begins_control last ≡ false → begins_string last ≡ false
+    → Finishes Ansi (escape ∷ last ∷ []) (Some (Esc None last))
+
+-- ESC, an intermediate and a final byte
+abbrev pub DesignationsFinish : Type 0
+DesignationsFinish =
+    (inter last : ℕ) → is_intermediate inter ≡ true → is_escape_final last ≡ true
+    → Finishes Ansi (escape ∷ inter ∷ last ∷ []) (Some (Esc (Some inter) last))
+
+-- ESC [, a text and a final byte
+abbrev pub ControlsFinish : Type 0
+ControlsFinish =
+    (text : List ℕ) (last : ℕ) → list_all is_control_text text ≡ true → is_control_final last ≡ true
+    → Finishes Ansi (escape ∷ 91 ∷ (text ++ last ∷ [])) (control_meaning text last)
+
+-- numbers that a text can hold as its parameters
+pub record AreParams (numbers : List ℕ) : Type 0 where
+  pub some : 0 < length numbers
+  pub few : length numbers ≤ most_params
+  pub small : All (λ number. number ≤ 9999) numbers
+
+-- Numbers that are written in decimal are the parameters that are read.
+abbrev pub DecimalsAreRead : Type 0
+DecimalsAreRead = (numbers : List ℕ) → AreParams numbers → params (params_text numbers) ≡ numbers
+
+-- ESC [, numbers in decimal and a final byte; and the same with `?` before the numbers
+abbrev pub WrittenControlsFinish : Type 0
+WrittenControlsFinish =
+    (numbers : List ℕ) (last : ℕ) → AreParams numbers → is_control_final last ≡ true
+    → Finishes Ansi (escape ∷ 91 ∷ (params_text numbers ++ last ∷ [])) (Some (Csi false (held numbers) last))
+
+abbrev pub WrittenPrivatesFinish : Type 0
+WrittenPrivatesFinish =
+    (numbers : List ℕ) (last : ℕ) → AreParams numbers → is_control_final last ≡ true
+    → Finishes Ansi (escape ∷ 91 ∷ 63 ∷ (params_text numbers ++ last ∷ [])) (Some (Csi true (held numbers) last))

@@ -1,6 +1,6 @@
 -- The machine on states that the code runs: one byte from a state to a state, with the command that it gives. Only private
 -- contracts cite it; that it agrees with the raw bytes of every sequence is a lemma.
-use Rattle.std.specs.Prelude.{ℕ, ◌+◌, ◌-◌, ◌*◌, min, Bool, true, false, ◌==◌, nat_lt, if◌then◌else◌, List, [], ◌∷◌, ◌++◌, length, slice_index, slice_set, Option, Some, None}
+use Rattle.std.specs.Prelude.{◌≡◌, ℕ, ◌+◌, ◌-◌, ◌*◌, min, Bool, true, false, ◌==◌, nat_lt, if◌then◌else◌, List, [], ◌∷◌, ◌++◌, length, slice_index, slice_set, Option, Some, None}
 use Rattle.arrayvec.specs.ArrayVec.{ArrayVec}
 use Rattle.vt_parser.specs.declared.commands.Mode.{Mode}
 use Rattle.vt_parser.specs.declared.commands.Mode.TheVariants.{Ansi, Vt52 as Vt52Mode}
@@ -131,3 +131,10 @@ stepped_by Cancels state mode byte = gives (Some Error)
 -- one step of the machine
 unfoldable pub stepped : ParserState → Mode → ℕ → Step
 stepped state mode byte = stepped_by (turn_of (place_in state) byte) state mode byte
+
+-- the machine over bytes: with the last of them this step is made, and no command comes before it
+abbrev pub Runs : ParserState → Mode → List ℕ → Step → Type 0
+Runs state mode [] step = goes_on state ≡ step
+Runs state mode (byte ∷ []) step = stepped state mode byte ≡ step
+Runs state mode (byte ∷ next ∷ rest) step =
+    ((stepped state mode byte).command ≡ None) × Runs (stepped state mode byte).state mode (next ∷ rest) step

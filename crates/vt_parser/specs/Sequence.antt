@@ -137,12 +137,12 @@ abbrev pub is_well_formed : List ℕ → Bool
 is_well_formed text = list_all (λ byte. is_digit byte || is_semicolon byte) (after_mark text)
 
 -- the decimal value of digits, and 0 of none
-abbrev pub decimal : List ℕ → ℕ
-decimal digits = fold (λ value digit. 10 * value + (digit - 48)) 0 digits
+abbrev pub decimal_value : List ℕ → ℕ
+decimal_value digits = fold (λ value digit. 10 * value + (digit - 48)) 0 digits
 
 -- a parameter: its decimal value, at most 9,999 (profile)
 abbrev pub parameter : List ℕ → ℕ
-parameter piece = min 9999 (decimal piece)
+parameter piece = min 9999 (decimal_value piece)
 
 -- every parameter of a text without its mark
 unfoldable pub numbers : List ℕ → List ℕ

@@ -1,5 +1,5 @@
 //! What holds of every step, for the layers above. Each function's contract is the law, and its body is empty.
-ghost use Rattle.vt_parser.specs.Law.{StateDecides, StaysShown, GroundIsEmpty, FinishedLeavesNothing, PendingPays, GraphicIsShown, RunsAreGraphic, CommandsAreProper, FinalsFinish, BareFinalsFinish};
+ghost use Rattle.vt_parser.specs.Law.{StateDecides, StaysShown, GroundIsEmpty, FinishedLeavesNothing, PendingPays, GraphicIsShown, ControlIsGiven, RunsAreGraphic, CommandsAreProper, FinalsFinish, BareFinalsFinish, SameModeStays, EscapesFinish, DesignationsFinish, ControlsFinish, DecimalsAreRead, WrittenControlsFinish, WrittenPrivatesFinish};
 
 /// Pending bytes that show one state give one command after any byte, and show one state again.
 pub fn state_decides()
@@ -31,6 +31,11 @@ pub fn graphic_is_shown()
     ensures { GraphicIsShown }
 {}
 
+/// On ground the controls from BS to SI are commands, and the parser stays on ground.
+pub fn control_is_given()
+    ensures { ControlIsGiven }
+{}
+
 /// No byte of a run is anything but a graphic character.
 pub fn runs_are_graphic()
     ensures { RunsAreGraphic }
@@ -49,4 +54,24 @@ pub fn finals_finish()
 /// The final ends a control sequence without a text too, whose one parameter is 0.
 pub fn bare_finals_finish()
     ensures { BareFinalsFinish }
+{}
+
+/// A mode that is given with every byte stays.
+pub fn same_mode_stays()
+    ensures { SameModeStays }
+{}
+
+/// A whole sequence of ANSI mode, fed where nothing is pending, gives its command with its last byte and none before it, and
+/// leaves nothing pending.
+pub fn whole_sequences_finish()
+    ensures escape { EscapesFinish }
+    ensures designation { DesignationsFinish }
+    ensures control { ControlsFinish }
+{}
+
+/// Numbers that are written in decimal are the parameters that are read.
+pub fn decimals_are_read()
+    ensures params { DecimalsAreRead }
+    ensures control { WrittenControlsFinish }
+    ensures private { WrittenPrivatesFinish }
 {}

@@ -65,7 +65,7 @@ not_cursor j k b ne = grind (arith, nat_tests)
 not_other : (k : ℕ) (b : Bool) → not (k == k) && b ≡ false
 not_other k b = grind (arith, nat_tests)
 
-blank_either : (b : Bool) (e : Cell) → e ≡ blank → (if b then blank else e) ≡ blank
+pub blank_either : (b : Bool) (e : Cell) → e ≡ blank → (if b then blank else e) ≡ blank
 blank_either true e is = refl
 blank_either false e is = is
 

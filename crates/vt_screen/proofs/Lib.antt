@@ -1,11 +1,13 @@
-pub mod Answers
-pub mod Erased
-pub mod Index
-pub mod Regions
-pub mod Rows
-pub mod Runs
-pub mod SoundRows
-pub mod Soundness
-pub mod Stops
-pub mod Tables
-pub mod Turns
+mod Answers
+mod Drawing
+mod Erased
+mod Index
+pub mod LawLemmas
+mod Regions
+mod Rows
+mod Runs
+mod SoundRows
+mod Soundness
+mod Stops
+mod Tables
+mod Turns

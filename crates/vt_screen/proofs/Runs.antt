@@ -19,12 +19,12 @@ use Rattle.vt_screen.proofs.Tables.{length-table, nth-table, table_ext, table_is
 use Rattle.vt_screen.proofs.Soundness.{row_put, either_picture}
 use Rattle.vt_screen.proofs.Answers.{put_there, put_on}
 
-with_row_twice : (at : ℕ) (x y : Row) (rows : List Row) → with_row at x (with_row at y rows) ≡ with_row at x rows
+pub with_row_twice : (at : ℕ) (x y : Row) (rows : List Row) → with_row at x (with_row at y rows) ≡ with_row at x rows
 with_row_twice at x y rows = table_ext 24 _ _ (λ k low high.
     let was = nth-table blank_row 24 (λ line. if line == at then y else row_at rows line) k low high in
     elim (cases_eq k at) [ inl e ↦ grind (arith, nat_tests) | inr ne ↦ grind (arith, nat_tests) ])
 
-with_row_same : (at : ℕ) (rows : List Row) → length rows ≡ 24 → rows ≡ with_row at (row_at rows at) rows
+pub with_row_same : (at : ℕ) (rows : List Row) → length rows ≡ 24 → rows ≡ with_row at (row_at rows at) rows
 with_row_same at rows len = table_is blank_row 24 rows len ∙ table_ext 24 _ _ (λ k low high.
     elim (cases_eq k at) [ inl e ↦ (let same = ap (row_at rows) e in grind (arith, nat_tests)) | inr ne ↦ grind (arith, nat_tests) ])
 
@@ -45,7 +45,7 @@ module _ (rendition : Attributes) (autowrap : Bool) where
   abbrev next : ℕ → Picture → Picture
   next glyph p = record p { rows = with_row p.line (with_cell p.column (cell_of glyph) (row_at p.rows p.line)) p.rows; column = p.column + 1 }
 
-  shown_unwrapped : (glyph : ℕ) (p : Picture) → p.wrap ≡ false → shown glyph rendition autowrap p ≡ put (cell_of glyph) autowrap p
+  pub shown_unwrapped : (glyph : ℕ) (p : Picture) → p.wrap ≡ false → shown glyph rendition autowrap p ≡ put (cell_of glyph) autowrap p
   shown_unwrapped glyph p unwrapped = ap (λ (b : Bool). put (cell_of glyph) autowrap (if b then indexed (moved_to_left p) else p)) unwrapped
 
   shown_next : (glyph : ℕ) (p : Picture) → p.wrap ≡ false → p.column ≢ right_margin p p.line → shown glyph rendition autowrap p ≡ next glyph p

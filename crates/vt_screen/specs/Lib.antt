@@ -1,5 +1,6 @@
 pub mod Attributes
 pub mod Cells
+pub mod Drawn
 pub mod Erasures
 pub mod Lines
 pub mod Moves

@@ -1,12 +1,17 @@
 //! Laws of the definitions that contracts cite, for the proofs of the crates above. Nothing runs.
 
-ghost use Rattle.std.specs.Prelude.{◌≡◌, ℕ, ◌≤◌, ◌++◌, [], ◌∷◌, All, Bool, true, List};
+ghost use Rattle.std.specs.Prelude.{◌≡◌, ℕ, ◌+◌, ◌-◌, ◌<◌, ◌≤◌, ◌++◌, [], ◌∷◌, All, Bool, true, false, List, length, min, slice_index_or};
 ghost use Rattle.vt_screen.specs.Attributes.{Attributes};
+ghost use Rattle.vt_screen.specs.Cells.{blank, blank_row, cell_at, row_at, row_by, rows_by};
+ghost use Rattle.vt_screen.specs.declared.cell.Cell.{Cell};
+ghost use Rattle.vt_screen.specs.declared.cell.Row.{Row};
 ghost use Rattle.vt_screen.specs.declared.cell.Size.{Size};
+ghost use Rattle.vt_screen.specs.declared.cell.Size.TheVariants.{Single};
+ghost use Rattle.vt_screen.specs.Drawn.{rows_to, drawn_to};
 ghost use Rattle.vt_screen.specs.Erasures.{display_erased, line_erased};
 ghost use Rattle.vt_screen.specs.Lines.{size_set, columns_set, aligned, margins_set};
 ghost use Rattle.vt_screen.specs.Moves.{stepped_up, stepped_down, stepped_right, stepped_left, moved_to_left, placed, moved_home, wrap_cleared, put_back};
-ghost use Rattle.vt_screen.specs.Picture.{Picture, Sound, Inside, KeepsSound, KeepsInside, GoesInside, reset, right_margin};
+ghost use Rattle.vt_screen.specs.Picture.{Picture, Sound, Inside, KeepsSound, KeepsInside, GoesInside, reset, margin_of, right_margin};
 ghost use Rattle.vt_screen.specs.Puts.{shown, run_shown};
 ghost use Rattle.vt_screen.specs.Scrolls.{indexed, reverse_indexed};
 ghost use Rattle.vt_screen.specs.Tabs.{tabbed, tab_made, tabs_cleared};
@@ -105,4 +110,36 @@ pub fn runs()
         run_shown (glyph ∷ []) rendition autowrap p ≡ shown glyph rendition autowrap p }
     ensures joined { (xs ys : List ℕ) (rendition : Attributes) (autowrap : Bool) (p : Picture) →
         run_shown (xs ++ ys) rendition autowrap p ≡ run_shown ys rendition autowrap (run_shown xs rendition autowrap p) }
+{}
+
+/// Rows are told by line, and cells by column.
+pub fn places_are_told()
+    ensures rows { (rows : List Row) (line : ℕ) → row_at rows line ≡ slice_index_or rows (line - 1) blank_row }
+    ensures cells { (row : Row) (column : ℕ) → cell_at row column ≡ slice_index_or row.cells (column - 1) blank }
+    ensures row { (f : ℕ → Row) (line : ℕ) → 1 ≤ line → line ≤ 24 → row_at (rows_by f) line ≡ f line }
+    ensures cell { (size : Size) (f : ℕ → Cell) (column : ℕ) → 1 ≤ column → column ≤ 132 → cell_at (row_by size f) column ≡ f column }
+{}
+
+/// A picture is drawn on a blank screen line by line.
+pub fn pictures_are_drawn_by_line()
+    ensures wide { columns_set true false reset ≡ record reset { wide = true } }
+    ensures start { (rows : List Row) → rows_by (λ _. blank_row) ≡ rows_to 0 rows }
+    ensures blank { (line : ℕ) (rows : List Row) → 1 ≤ line → row_at rows line ≡ blank_row → rows_to (line - 1) rows ≡ rows_to line rows }
+    ensures line { (line column : ℕ) (rows : List Row) → 1 ≤ line → length (row_at rows line).cells ≡ 132 →
+        ((k : ℕ) → column < k → k ≤ 132 → cell_at (row_at rows line) k ≡ blank) → drawn_to line column rows ≡ rows_to line rows }
+    ensures all { (rows : List Row) → length rows ≡ 24 → rows_to 24 rows ≡ rows }
+    ensures cursor { (line column : ℕ) (p : Picture) → line ≤ 24 → column ≤ right_margin p line →
+        placed line column false p ≡ record p { line = line; column = column; wrap = false } }
+{}
+
+/// A line is drawn cell by cell: from its left, in its size, and without autowrap up to its right margin.
+pub fn lines_are_drawn_by_cell()
+    ensures left { (line : ℕ) (p : Picture) → line ≤ 24 → placed line 1 false p ≡ record p { line = line; column = 1; wrap = false } }
+    ensures single { (line : ℕ) (rows : List Row) → 1 ≤ line → line ≤ 24 → (row_at rows line).size ≡ Single → rows_to (line - 1) rows ≡ drawn_to line 0 rows }
+    ensures size { (p : Picture) (rows : List Row) → 1 ≤ p.line → p.line ≤ 24 → p.column ≡ 1 → p.rows ≡ rows_to (p.line - 1) rows →
+        size_set (row_at rows p.line).size p ≡ record p { rows = drawn_to p.line 0 rows; wrap = false } }
+    ensures cell { (p : Picture) (rows : List Row) → 1 ≤ p.line → p.line ≤ 24 → 1 ≤ p.column →
+        p.column ≤ margin_of p.wide (row_at rows p.line).size → p.wrap ≡ false → p.rows ≡ drawn_to p.line (p.column - 1) rows →
+        shown (cell_at (row_at rows p.line) p.column).glyph (cell_at (row_at rows p.line) p.column).rendition false p
+        ≡ record p { rows = drawn_to p.line p.column rows; column = min (p.column + 1) (margin_of p.wide (row_at rows p.line).size) } }
 {}

@@ -7,14 +7,13 @@ use Rattle.vt_parser.specs.declared.commands.Command.{Command}
 use Rattle.vt_parser.specs.declared.commands.Command.TheVariants.{Show, Error, Control, Esc, Csi, Vt52, Vt52Address}
 use Rattle.vt_parser.specs.Step.{command_of}
 use Rattle.vt_parser.specs.Law.{fewest_bytes, fewest_of}
-use Rattle.vt_parser.proofs.LawLemmas.{pending_pays}
 use Rattle.vt_screen.specs.Picture.{Picture, Sound}
 use Rattle.vt_term.specs.declared.escapes.Escape.{Escape}
-use Rattle.vt_term.specs.declared.escapes.Escape.TheVariants.{Ind, Nel, Ri, Hts, Decid, Ris, Decsc, Decrc, Deckpam, Deckpnm, DecdhlTop, DecdhlBottom, Decswl, Decdwl, Decaln, Scs}
+use Rattle.vt_term.specs.declared.escapes.Escape.TheVariants.{Decid}
 use Rattle.vt_term.specs.declared.sequences.Sequence.{Sequence}
-use Rattle.vt_term.specs.declared.sequences.Sequence.TheVariants.{Cuu, Cud, Cuf, Cub, Cup, Ed, El, Decstbm, Tbc, Sgr, Sm, Rm, Decll, Da, Dsr, Decreqtparm}
+use Rattle.vt_term.specs.declared.sequences.Sequence.TheVariants.{Da, Dsr, Decreqtparm}
 use Rattle.vt_term.specs.declared.vt52.Vt52Sequence.{Vt52Sequence}
-use Rattle.vt_term.specs.declared.vt52.Vt52Sequence.TheVariants.{Up, Down, Right, Left, GraphicsOn, GraphicsOff, Home, ReverseIndex, EraseDisplay, EraseLine, Identify, KeypadApplication, KeypadNumeric, EnterAnsi}
+use Rattle.vt_term.specs.declared.vt52.Vt52Sequence.TheVariants.{Identify}
 use Rattle.vt_term.specs.Shown.{Shown, IsSafe}
 use Rattle.vt_term.specs.Escapes.{escape_named}
 use Rattle.vt_term.specs.Sequences.{sequence_named, first_of}
@@ -22,7 +21,7 @@ use Rattle.vt_term.specs.Vt52.{vt52_named}
 use Rattle.vt_term.specs.Replies.{escape_reply, sequence_reply, vt52_reply, reply_of, cursor_position, reported_line, device_attributes, ready, terminal_parameters}
 use Rattle.vt_term.specs.Effect.{reply, reply_if, control_sequence_reply}
 use Rattle.vt_term.specs.Term.{Term, reset_term, mode_of, answered, step, sent}
-use Rattle.vt_term.proofs.Safe.{safe_reset, column_small}
+use Rattle.vt_term.specs.Law.{LawsBelow}
 use Rattle.vt_term.proofs.Steps.{sent_none, sent_more, safe_step}
 
 -- ---- one reply
@@ -45,14 +44,6 @@ short_if : (b : Bool) (first second : List ℕ) → IsShort first → IsShort se
 short_if true first second short_first short_second = short_first
 short_if false first second short_first short_second = short_second
 
-short_position : (s : Shown) → IsSafe s → IsShort (cursor_position (reported_line s.modes.origin s.picture) s.picture.column)
-unfolding IsShort
-short_position s safe =
-    let line = line_small s.modes.origin s.picture safe.sound in
-    let column = column_small s.picture safe.sound in
-    let nine = length-cursor_position (reported_line s.modes.origin s.picture) s.picture.column line (omega arith) in
-    omega arith
-
 none_short : IsShort []
 unfolding IsShort
 none_short = omega arith
@@ -69,110 +60,90 @@ parameters_short : (solicited : List ℕ) → length solicited ≡ 1 → IsShort
 unfolding IsShort
 parameters_short solicited one = simp length-append (omega arith)
 
-short_sequence : (sequence : Sequence) (params : List ℕ) (s : Shown) → IsSafe s → IsShort (sequence_reply sequence params s)
-short_sequence Da params s safe = short_if (first_of params == 0) device_attributes [] attributes_short none_short
-short_sequence Dsr params s safe = short_if (first_of params == 5) ready _ ready_short (short_if (first_of params == 6) _ [] (short_position s safe) none_short)
-short_sequence Decreqtparm params s safe =
-    short_if (first_of params == 0) (terminal_parameters (codes "2")) _ (parameters_short (codes "2") refl)
-    (short_if (first_of params == 1) (terminal_parameters (codes "3")) [] (parameters_short (codes "3") refl) none_short)
-short_sequence Cuu params s safe = none_short
-short_sequence Cud params s safe = none_short
-short_sequence Cuf params s safe = none_short
-short_sequence Cub params s safe = none_short
-short_sequence Cup params s safe = none_short
-short_sequence Ed params s safe = none_short
-short_sequence El params s safe = none_short
-short_sequence Decstbm params s safe = none_short
-short_sequence Tbc params s safe = none_short
-short_sequence Sgr params s safe = none_short
-short_sequence Sm params s safe = none_short
-short_sequence Rm params s safe = none_short
-short_sequence Decll params s safe = none_short
-
-short_control_sequence : (private : Bool) (last : ℕ) (params : List ℕ) (s : Shown) → IsSafe s → IsShort (control_sequence_reply private last params s)
-short_control_sequence true last params s safe = none_short
-short_control_sequence false last params s safe = short_row (sequence_named last)
-  where
-    short_row : (row : Option Sequence) → IsShort (reply_of (λ row. sequence_reply row params s) row)
-    short_row None = none_short
-    short_row (Some row) = short_sequence row params s safe
-
 -- at most seven bytes answer the shorter sequences
+escape_short : (escape : Escape) → length (escape_reply escape) ≤ 7
+escape_short Decid = omega arith
+escape_short _ = omega arith
+
 escape_at_most : (escape : Option Escape) → length (reply_of escape_reply escape) ≤ 7
 escape_at_most None = omega arith
-escape_at_most (Some Decid) = omega arith
-escape_at_most (Some Ind) = omega arith
-escape_at_most (Some Nel) = omega arith
-escape_at_most (Some Ri) = omega arith
-escape_at_most (Some Hts) = omega arith
-escape_at_most (Some Ris) = omega arith
-escape_at_most (Some Decsc) = omega arith
-escape_at_most (Some Decrc) = omega arith
-escape_at_most (Some Deckpam) = omega arith
-escape_at_most (Some Deckpnm) = omega arith
-escape_at_most (Some DecdhlTop) = omega arith
-escape_at_most (Some DecdhlBottom) = omega arith
-escape_at_most (Some Decswl) = omega arith
-escape_at_most (Some Decdwl) = omega arith
-escape_at_most (Some Decaln) = omega arith
-escape_at_most (Some (Scs slot set)) = omega arith
+escape_at_most (Some escape) = escape_short escape
+
+vt52_short : (sequence : Vt52Sequence) → length (vt52_reply sequence) ≤ 7
+vt52_short Identify = omega arith
+vt52_short _ = omega arith
 
 vt52_at_most : (sequence : Option Vt52Sequence) → length (reply_of vt52_reply sequence) ≤ 7
 vt52_at_most None = omega arith
-vt52_at_most (Some Identify) = omega arith
-vt52_at_most (Some Up) = omega arith
-vt52_at_most (Some Down) = omega arith
-vt52_at_most (Some Right) = omega arith
-vt52_at_most (Some Left) = omega arith
-vt52_at_most (Some GraphicsOn) = omega arith
-vt52_at_most (Some GraphicsOff) = omega arith
-vt52_at_most (Some Home) = omega arith
-vt52_at_most (Some ReverseIndex) = omega arith
-vt52_at_most (Some EraseDisplay) = omega arith
-vt52_at_most (Some EraseLine) = omega arith
-vt52_at_most (Some KeypadApplication) = omega arith
-vt52_at_most (Some KeypadNumeric) = omega arith
-vt52_at_most (Some EnterAnsi) = omega arith
+vt52_at_most (Some sequence) = vt52_short sequence
 
 from_short : (text : List ℕ) → IsShort text → 3 * length text ≤ 60
 unfolding IsShort
 from_short text short = omega arith
 
--- a reply is paid by the bytes that its command takes at least
-pub reply_paid : (command : Command) (s : Shown) → IsSafe s → 3 * length (reply command s) ≤ 20 * fewest_bytes command
-unfolding reply
-reply_paid (Show byte) s safe = omega arith
-reply_paid Error s safe = omega arith
-reply_paid (Control byte) s safe = omega arith
-reply_paid (Esc inter last) s safe = omega (arith, escape_at_most (escape_named inter last))
-reply_paid (Csi private params last) s safe =
-    from_short (control_sequence_reply private last params.items s) (short_control_sequence private last params.items s safe)
-reply_paid (Vt52 last) s safe = omega (arith, vt52_at_most (vt52_named last))
-reply_paid (Vt52Address line column) s safe = omega arith
+-- ---- what stands on the laws of the parser and of the screen
 
--- ---- all replies
+module _ (laws : LawsBelow) where
+  short_position : (s : Shown) → IsSafe s → IsShort (cursor_position (reported_line s.modes.origin s.picture) s.picture.column)
+  unfolding IsShort
+  short_position s safe =
+      let line = line_small s.modes.origin s.picture safe.sound in
+      let column = laws.right_margins s.picture s.picture.line in
+      let within = safe.sound.column_high in
+      let nine = length-cursor_position (reported_line s.modes.origin s.picture) s.picture.column line (omega arith) in
+      omega arith
 
-reply_paid_if : (command : Option Command) (s : Shown) → IsSafe s → 3 * length (reply_if command s) ≤ 20 * fewest_of command
-reply_paid_if None s safe = omega arith
-reply_paid_if (Some command) s safe = reply_paid command s safe
+  short_sequence : (sequence : Sequence) (params : List ℕ) (s : Shown) → IsSafe s → IsShort (sequence_reply sequence params s)
+  short_sequence Da params s safe = short_if (first_of params == 0) device_attributes [] attributes_short none_short
+  short_sequence Dsr params s safe = short_if (first_of params == 5) ready _ ready_short (short_if (first_of params == 6) _ [] (short_position s safe) none_short)
+  short_sequence Decreqtparm params s safe =
+      short_if (first_of params == 0) (terminal_parameters (codes "2")) _ (parameters_short (codes "2") refl)
+      (short_if (first_of params == 1) (terminal_parameters (codes "3")) [] (parameters_short (codes "3") refl) none_short)
+  short_sequence _ params s safe = none_short
 
--- what is pending counts as bytes that are still to be paid
-answer_paid : (x : Term) (byte : ℕ) → IsSafe x.shown → 3 * length (answered x byte) + 20 * length (step x byte).pending ≤ 20 * length x.pending + 20
-answer_paid x byte safe =
-    let paid = reply_paid_if (command_of (mode_of x) x.pending byte) x.shown safe in
-    let pays = pending_pays (mode_of x) x.pending byte in
-    omega arith
+  short_control_sequence : (private : Bool) (last : ℕ) (params : List ℕ) (s : Shown) → IsSafe s → IsShort (control_sequence_reply private last params s)
+  short_control_sequence true last params s safe = none_short
+  short_control_sequence false last params s safe = short_row (sequence_named last)
+    where
+      short_row : (row : Option Sequence) → IsShort (reply_of (λ row. sequence_reply row params s) row)
+      short_row None = none_short
+      short_row (Some row) = short_sequence row params s safe
 
-pub sent_paid : (x : Term) (bytes : List ℕ) → IsSafe x.shown → 3 * length (sent x bytes) ≤ 20 * length x.pending + 20 * length bytes
-sent_paid x [] safe =
-    let none : length (sent x []) ≡ 0 = ap length (sent_none x) in
-    omega arith
-sent_paid x (byte ∷ bytes) safe =
-    let first = answer_paid x byte safe in
-    let rest = sent_paid (step x byte) bytes (safe_step x byte safe) in
-    let parts : length (sent x (byte ∷ bytes)) ≡ length (answered x byte) + length (sent (step x byte) bytes)
-    = ap length (sent_more x byte bytes) ∙ length-append (answered x byte) (sent (step x byte) bytes) in
-    omega arith
+  -- a reply is paid by the bytes that its command takes at least
+  pub reply_paid : (command : Command) (s : Shown) → IsSafe s → 3 * length (reply command s) ≤ 20 * fewest_bytes command
+  unfolding reply
+  reply_paid (Show byte) s safe = omega arith
+  reply_paid Error s safe = omega arith
+  reply_paid (Control byte) s safe = omega arith
+  reply_paid (Esc inter last) s safe = omega (arith, escape_at_most (escape_named inter last))
+  reply_paid (Csi private params last) s safe =
+      from_short (control_sequence_reply private last params.items s) (short_control_sequence private last params.items s safe)
+  reply_paid (Vt52 last) s safe = omega (arith, vt52_at_most (vt52_named last))
+  reply_paid (Vt52Address line column) s safe = omega arith
 
-pub sends_little : (bytes : List ℕ) → 3 * length (sent reset_term bytes) ≤ 20 * length bytes
-sends_little bytes = omega (arith, sent_paid reset_term bytes safe_reset)
+  -- ---- all replies
+
+  reply_paid_if : (command : Option Command) (s : Shown) → IsSafe s → 3 * length (reply_if command s) ≤ 20 * fewest_of command
+  reply_paid_if None s safe = omega arith
+  reply_paid_if (Some command) s safe = reply_paid command s safe
+
+  -- what is pending counts as bytes that are still to be paid
+  answer_paid : (x : Term) (byte : ℕ) → IsSafe x.shown → 3 * length (answered x byte) + 20 * length (step x byte).pending ≤ 20 * length x.pending + 20
+  answer_paid x byte safe =
+      let paid = reply_paid_if (command_of (mode_of x) x.pending byte) x.shown safe in
+      let pays = laws.pending_pays (mode_of x) x.pending byte in
+      omega arith
+
+  pub sent_paid : (x : Term) (bytes : List ℕ) → IsSafe x.shown → 3 * length (sent x bytes) ≤ 20 * length x.pending + 20 * length bytes
+  sent_paid x [] safe =
+      let none : length (sent x []) ≡ 0 = ap length (sent_none x) in
+      omega arith
+  sent_paid x (byte ∷ bytes) safe =
+      let first = answer_paid x byte safe in
+      let rest = sent_paid (step x byte) bytes (safe_step laws x byte safe) in
+      let parts : length (sent x (byte ∷ bytes)) ≡ length (answered x byte) + length (sent (step x byte) bytes)
+      = ap length (sent_more x byte bytes) ∙ length-append (answered x byte) (sent (step x byte) bytes) in
+      omega arith
+
+  pub sends_little : (bytes : List ℕ) → 3 * length (sent reset_term bytes) ≤ 20 * length bytes
+  sends_little bytes = omega (arith, sent_paid reset_term bytes laws.reset_is_safe)

@@ -1,5 +1,5 @@
 -- The crate's laws, for proofs of the layers above.
-use Rattle.vt_term.specs.Law.{PlaysInParts, SendsInParts, SentIsAppended, SeenDecides, SendsLittle, StaysSafe}
+use Rattle.vt_term.specs.Law.{PlaysInParts, SendsInParts, SentIsAppended, SeenDecides, SendsLittle, StaysSafe, LawsBelow}
 use Rattle.vt_term.proofs.Bound as bound
 use Rattle.vt_term.proofs.Steps as steps
 
@@ -12,11 +12,12 @@ sends_in_parts = steps.sent-append
 pub sent_is_appended : SentIsAppended
 sent_is_appended = steps.sent_appended
 
-pub seen_decides : SeenDecides
-seen_decides = steps.seen_decides
+module _ (laws : LawsBelow) where
+  pub seen_decides : SeenDecides
+  seen_decides = steps.seen_decides laws
 
-pub sends_little : SendsLittle
-sends_little = bound.sends_little
+  pub sends_little : SendsLittle
+  sends_little = bound.sends_little laws
 
-pub stays_safe : StaysSafe
-stays_safe = steps.safe_play
+  pub stays_safe : StaysSafe
+  stays_safe = steps.safe_play laws

@@ -6,4 +6,5 @@ pub mod Runs
 pub mod Taken
 pub mod Sinks
 pub mod Feeding
-pub mod Silence
+pub mod Played
+pub mod Printed

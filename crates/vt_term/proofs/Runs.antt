@@ -12,17 +12,16 @@ use Rattle.vt_parser.specs.declared.states.ParserState.TheVariants.{Ground}
 use Rattle.vt_parser.specs.Control.{is_graphic}
 use Rattle.vt_parser.specs.View.{parser_view}
 use Rattle.vt_parser.specs.Step.{command_of, pending_after}
-use Rattle.vt_parser.proofs.LawLemmas.{ground_is_empty}
-use Rattle.vt_parser.proofs.ProperLemmas.{graphic_is_shown}
 use Rattle.vt_screen.specs.Picture.{Picture}
 use Rattle.vt_screen.specs.Puts.{shown}
 use Rattle.vt_term.specs.declared.sets.CharacterSet.{CharacterSet}
-use Rattle.vt_term.specs.Sets.{glyph_of, set_in_use}
+use Rattle.vt_term.specs.Sets.{glyph_of}
 use Rattle.vt_term.specs.Shown.{Shown, IsSafe}
 use Rattle.vt_term.specs.Effect.{effect, reply, run_put, put, glyph_for}
 use Rattle.vt_term.specs.Term.{Term, mode_of, step, play, sent, answered}
 use Rattle.vt_term.specs.Seen.{Seen, Shows, IsProper}
-use Rattle.vt_term.proofs.Safe.{glyph_high, safe_put, safe_else}
+use Rattle.vt_term.specs.Law.{LawsBelow}
+use Rattle.vt_term.proofs.Safe.{glyph_high, safe_else}
 use Rattle.vt_term.proofs.Steps.{seen_after, shows_step, answered_by, play_none, play_more, sent_none, sent_more}
 
 pub glyphs_high : (set : CharacterSet) (bytes : List ℕ) → All (λ byte. byte ≤ 126) bytes → All (λ glyph. glyph ≤ 126) (map (glyph_of set) bytes)
@@ -33,6 +32,9 @@ glyphs_high set bytes high =
 -- graphic bytes are at most 126
 graphic_high : (byte : ℕ) → is_graphic byte ≡ true → byte ≤ 126
 graphic_high byte graphic = grind (arith, nat_tests)
+
+graphic_low : (byte : ℕ) → is_graphic byte ≡ true → 32 ≤ byte
+graphic_low byte graphic = grind (arith, nat_tests)
 
 graphic_each : (bytes : List ℕ) → list_all is_graphic bytes ≡ true → AllByRecursion (λ byte. byte ≤ 126) bytes
 graphic_each [] graphic = tt
@@ -78,37 +80,43 @@ put_reply : (s : Shown) (byte : ℕ) → reply (Show byte) s ≡ []
 unfolding reply
 put_reply s byte = refl
 
-pub shows_run : (seen : Seen) (x : Term) (bytes : List ℕ) → seen.state ≡ Ground → Shows seen x
-    → list_all is_graphic bytes ≡ true
-    → Shows (seen_after_run seen bytes) (play x bytes) × (sent x bytes ≡ [])
-shows_run seen x [] ground shows graphic =
-    (subst (Shows (seen_after_run seen [])) (sym (play_none x)) (record { shown = shows.shown; state = shows.state ∙ ap Some ground }), sent_none x)
-shows_run seen x (byte ∷ bytes) ground shows graphic =
-    let parts = and_parts (is_graphic byte) (list_all is_graphic bytes) graphic in
-    let none : x.pending ≡ [] = ground_is_empty.1 (mode_of x) x.pending (shows.state ∙ ap Some ground) in
-    let told = graphic_is_shown (mode_of x) byte parts.0 in
-    let command : command_of (mode_of x) x.pending byte ≡ Some (Show byte) = ap (λ (p : List ℕ). command_of (mode_of x) p byte) none ∙ told.0 in
-    let pending : pending_after (mode_of x) x.pending byte ≡ [] = ap (λ (p : List ℕ). pending_after (mode_of x) p byte) none ∙ told.1 in
-    let view : parser_view (mode_of x) (pending_after (mode_of x) x.pending byte) ≡ Some Ground = ap (parser_view (mode_of x)) pending ∙ ground_is_empty.0 (mode_of x) in
-    let next : Seen = record { shown = put (glyph_for seen.shown byte) seen.shown; state = Ground } in
-    let same : seen_after seen (Some (Show byte)) Ground ≡ next = ap (λ (s : Shown). let t : Seen = record { shown = s; state = Ground } in t) (put_effect seen.shown byte) in
-    let shows_next : Shows next (step x byte) = subst (λ (t : Seen). Shows t (step x byte)) same (shows_step seen x byte (Some (Show byte)) Ground shows command view) in
-    let rest = shows_run next (step x byte) bytes refl shows_next parts.1 in
-    let answer : answered x byte ≡ [] = answered_by seen x byte (Some (Show byte)) shows command ∙ put_reply seen.shown byte in (
-      subst (Shows (seen_after_run seen (byte ∷ bytes))) (sym (play_more x byte bytes)) rest.0,
-      sent_more x byte bytes ∙ ap (λ (l : List ℕ). l ++ sent (step x byte) bytes) answer ∙ rest.1,
-    )
+-- ---- on ground
 
-safe_run : (bytes : List ℕ) (s : Shown) → list_all is_graphic bytes ≡ true → IsSafe s → IsSafe (run_put (map (glyph_for s) bytes) s)
-safe_run [] s graphic safe = safe_else s _ refl refl refl refl safe
-safe_run (byte ∷ bytes) s graphic safe =
-    let parts = and_parts (is_graphic byte) (list_all is_graphic bytes) graphic in
-    safe_run bytes (put (glyph_for s byte) s) parts.1
-    (safe_put s (glyph_for s byte) (glyph_high (set_in_use s.modes.mode s.sets) byte (graphic_high byte parts.0)) safe)
+module _ (laws : LawsBelow) where
+  pub shows_run : (seen : Seen) (x : Term) (bytes : List ℕ) → seen.state ≡ Ground → Shows seen x
+      → list_all is_graphic bytes ≡ true
+      → Shows (seen_after_run seen bytes) (play x bytes) × (sent x bytes ≡ [])
+  shows_run seen x [] ground shows graphic =
+      (subst (Shows (seen_after_run seen [])) (sym (play_none x)) (record { shown = shows.shown; state = shows.state ∙ ap Some ground }), sent_none x)
+  shows_run seen x (byte ∷ bytes) ground shows graphic =
+      let parts = and_parts (is_graphic byte) (list_all is_graphic bytes) graphic in
+      let none : x.pending ≡ [] = laws.ground_is_empty.1 (mode_of x) x.pending (shows.state ∙ ap Some ground) in
+      let told = laws.graphic_is_shown (mode_of x) byte parts.0 in
+      let command : command_of (mode_of x) x.pending byte ≡ Some (Show byte) = ap (λ (p : List ℕ). command_of (mode_of x) p byte) none ∙ told.0 in
+      let pending : pending_after (mode_of x) x.pending byte ≡ [] = ap (λ (p : List ℕ). pending_after (mode_of x) p byte) none ∙ told.1 in
+      let view : parser_view (mode_of x) (pending_after (mode_of x) x.pending byte) ≡ Some Ground = ap (parser_view (mode_of x)) pending ∙ laws.ground_is_empty.0 (mode_of x) in
+      let next : Seen = record { shown = put (glyph_for seen.shown byte) seen.shown; state = Ground } in
+      let same : seen_after seen (Some (Show byte)) Ground ≡ next = ap (λ (s : Shown). let t : Seen = record { shown = s; state = Ground } in t) (put_effect seen.shown byte) in
+      let shows_next : Shows next (step x byte) = subst (λ (t : Seen). Shows t (step x byte)) same (shows_step laws seen x byte (Some (Show byte)) Ground shows command view) in
+      let rest = shows_run next (step x byte) bytes refl shows_next parts.1 in
+      let answer : answered x byte ≡ [] = answered_by seen x byte (Some (Show byte)) shows command ∙ put_reply seen.shown byte in (
+        subst (Shows (seen_after_run seen (byte ∷ bytes))) (sym (play_more x byte bytes)) rest.0,
+        sent_more x byte bytes ∙ ap (λ (l : List ℕ). l ++ sent (step x byte) bytes) answer ∙ rest.1,
+      )
 
--- a terminal stays proper
-pub proper_after_run : (seen : Seen) (bytes : List ℕ) → seen.state ≡ Ground → list_all is_graphic bytes ≡ true → IsProper seen → IsProper (seen_after_run seen bytes)
-proper_after_run seen bytes ground graphic proper = record {
-  safe = safe_run bytes seen.shown graphic proper.safe;
-  term = (play proper.term.0 bytes, (shows_run seen proper.term.0 bytes ground proper.term.1 graphic).0);
-}
+  safe_byte : (byte : ℕ) (s : Shown) → is_graphic byte ≡ true → IsSafe s → IsSafe (put (glyph_for s byte) s)
+  unfolding effect
+  safe_byte byte s graphic safe = laws.commands_keep_safe (Show byte) s (graphic_low byte graphic, graphic_high byte graphic) safe
+
+  safe_run : (bytes : List ℕ) (s : Shown) → list_all is_graphic bytes ≡ true → IsSafe s → IsSafe (run_put (map (glyph_for s) bytes) s)
+  safe_run [] s graphic safe = safe_else s _ refl refl refl refl safe
+  safe_run (byte ∷ bytes) s graphic safe =
+      let parts = and_parts (is_graphic byte) (list_all is_graphic bytes) graphic in
+      safe_run bytes (put (glyph_for s byte) s) parts.1 (safe_byte byte s parts.0 safe)
+
+  -- a terminal stays proper
+  pub proper_after_run : (seen : Seen) (bytes : List ℕ) → seen.state ≡ Ground → list_all is_graphic bytes ≡ true → IsProper seen → IsProper (seen_after_run seen bytes)
+  proper_after_run seen bytes ground graphic proper = record {
+    safe = safe_run bytes seen.shown graphic proper.safe;
+    term = (play proper.term.0 bytes, (shows_run seen proper.term.0 bytes ground proper.term.1 graphic).0);
+  }

@@ -9,24 +9,24 @@ use Rattle.vt_parser.specs.declared.commands.Mode.{Mode}
 use Rattle.vt_parser.specs.View.{parser_view}
 use Rattle.vt_parser.specs.Step.{command_of, pending_after, mode_after}
 use Rattle.vt_parser.specs.Law.{IsProper as IsProperCommand}
-use Rattle.vt_parser.proofs.LawLemmas.{mode_after_same, ground_is_empty}
 use Rattle.vt_parser.specs.declared.states.ParserState.TheVariants.{Ground}
 use Rattle.vt_term.specs.Shown.{Shown, IsSafe, reset_shown}
 use Rattle.vt_term.specs.Effect.{effect_if, reply_if}
 use Rattle.vt_term.specs.Term.{Term, reset_term, mode_of, play, sent}
 use Rattle.vt_term.specs.Seen.{Seen, Shows, IsProper}
 use Rattle.vt_term.specs.Sink.{Sink, after_sending}
-use Rattle.vt_term.proofs.Safe.{safe_effect, safe_reset}
+use Rattle.vt_term.specs.Law.{LawsBelow}
 use Rattle.vt_term.proofs.Sinks.{same_sink}
-use Rattle.vt_term.proofs.Steps.{seen_after, shows_step, answered_by, mode_shown, play_one, sent_one}
+use Rattle.vt_term.proofs.Steps.{seen_after, shows_step, answered_by, mode_shown, mode_after_same, play_one, sent_one}
 
 -- ---- the reset term
 
-pub reset_shows : Shows (record { shown = reset_shown; state = Ground }) reset_term
-reset_shows = record { shown = refl; state = ground_is_empty.0 _ }
+module _ (laws : LawsBelow) where
+  pub reset_shows : Shows (record { shown = reset_shown; state = Ground }) reset_term
+  reset_shows = record { shown = refl; state = laws.ground_is_empty.0 _ }
 
-pub reset_proper : IsProper (record { shown = reset_shown; state = Ground })
-reset_proper = record { safe = safe_reset; term = (reset_term, reset_shows) }
+  pub reset_proper : IsProper (record { shown = reset_shown; state = Ground })
+  reset_proper = record { safe = laws.reset_is_safe; term = (reset_term, reset_shows) }
 
 -- two parts that are what they are give one value
 pub seen_is : (shown told : Shown) (state stands : ParserState) → shown ≡ told → state ≡ stands
@@ -53,7 +53,7 @@ abbrev pub Leads : Mode → ParserState → ℕ → ParserState → Type 0
 Leads mode state byte next = (m : Mode) (p : List ℕ) → parser_view m p ≡ Some state
     → parser_view (mode_after mode m byte) (pending_after m p byte) ≡ Some next
 
-module _ (seen : Seen) (byte : ℕ) (command : Option Command) (next : ParserState)
+module _ (laws : LawsBelow) (seen : Seen) (byte : ℕ) (command : Option Command) (next : ParserState)
     (commands : Commands seen.state byte command) (leads : Leads seen.shown.modes.mode seen.state byte next) where
   command_there : (x : Term) → Shows seen x → command_of (mode_of x) x.pending byte ≡ command
   command_there x shows = sym (commands (mode_of x) x.pending shows.state)
@@ -67,7 +67,7 @@ module _ (seen : Seen) (byte : ℕ) (command : Option Command) (next : ParserSta
   pub taken_shows : (x : Term) → Shows seen x → Shows (seen_after seen command next) (play x (byte ∷ []))
   taken_shows x shows =
       subst (Shows (seen_after seen command next)) (sym (play_one x byte))
-      (shows_step seen x byte command next shows (command_there x shows) (view_there x shows))
+      (shows_step laws seen x byte command next shows (command_there x shows) (view_there x shows))
 
   pub taken_sent : (x : Term) → Shows seen x → sent x (byte ∷ []) ≡ reply_if command seen.shown
   taken_sent x shows = sent_one x byte ∙ answered_by seen x byte command shows (command_there x shows)
@@ -75,7 +75,7 @@ module _ (seen : Seen) (byte : ℕ) (command : Option Command) (next : ParserSta
   -- the terminal stays proper, with its command's effect and without it
   safe_taken : (c : Option Command) → IfSome c IsProperCommand → IsSafe seen.shown → IsSafe (effect_if c seen.shown)
   safe_taken None proper safe = safe
-  safe_taken (Some c) proper safe = safe_effect c seen.shown proper safe
+  safe_taken (Some c) proper safe = laws.commands_keep_safe c seen.shown proper safe
 
   pub taken_proper : IsProper seen → IfSome command IsProperCommand → IsProper (seen_after seen command next)
   taken_proper proper good = record {

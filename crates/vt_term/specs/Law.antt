@@ -1,6 +1,10 @@
 -- What holds of every term: the statements of the crate's laws.
 use Rattle.std.specs.Prelude.{◌≡◌, ℕ, ◌*◌, ◌≤◌, List, ◌++◌, length}
-use Rattle.vt_term.specs.Shown.{IsSafe}
+use Rattle.vt_parser.specs.declared.commands.Command.{Command}
+use Rattle.vt_parser.specs.Law.{IsProper, StateDecides, StaysShown, GroundIsEmpty, FinishedLeavesNothing, PendingPays, GraphicIsShown, CommandsAreProper}
+use Rattle.vt_screen.specs.Picture.{Picture, right_margin}
+use Rattle.vt_term.specs.Shown.{Shown, IsSafe, reset_shown}
+use Rattle.vt_term.specs.Effect.{effect}
 use Rattle.vt_term.specs.Term.{Term, reset_term, play, sent}
 use Rattle.vt_term.specs.Seen.{Seen, Shows}
 
@@ -30,3 +34,22 @@ SendsLittle = (bytes : List ℕ) → 3 * length (sent reset_term bytes) ≤ 20 *
 -- Whatever bytes a safe term takes, it stays safe.
 abbrev pub StaysSafe : Type 0
 StaysSafe = (x : Term) (bytes : List ℕ) → IsSafe x.shown → IsSafe (play x bytes).shown
+
+-- ---- what these laws stand on
+
+-- A command whose numbers are in their ranges keeps a terminal safe.
+abbrev pub CommandsKeepSafe : Type 0
+CommandsKeepSafe = (command : Command) (s : Shown) → IsProper command → IsSafe s → IsSafe (effect command s)
+
+-- the laws of the parser, and what those of the screen come to
+pub record LawsBelow : Type 0 where
+  pub state_decides : StateDecides
+  pub stays_shown : StaysShown
+  pub ground_is_empty : GroundIsEmpty
+  pub finished_leaves_nothing : FinishedLeavesNothing
+  pub pending_pays : PendingPays
+  pub graphic_is_shown : GraphicIsShown
+  pub commands_are_proper : CommandsAreProper
+  pub right_margins : (p : Picture) (line : ℕ) → right_margin p line ≤ 132
+  pub reset_is_safe : IsSafe reset_shown
+  pub commands_keep_safe : CommandsKeepSafe

@@ -10,5 +10,5 @@ pub mod Effect
 pub mod Term
 pub mod Seen
 pub mod Sink
-pub mod Quiet
+pub mod Printing
 pub mod Law

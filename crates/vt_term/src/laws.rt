@@ -3,10 +3,15 @@ ghost use Rattle.std.specs.Prelude.{◌≡◌, ℕ, ◌<◌, ◌≤◌, true};
 ghost use Rattle.vt_screen.specs.Cells.{blank};
 ghost use Rattle.vt_screen.specs.Picture.{Inside, cell, right_margin};
 ghost use Rattle.vt_term.specs.Law.{PlaysInParts, SendsInParts, SentIsAppended, SeenDecides, SendsLittle, StaysSafe};
+ghost use Rattle.vt_term.specs.Printing.{NothingBrings, PartsBring, CharactersBring, ControlsBring, SequencesAct, EscapesBring, DesignationsBring, ControlSequencesBring, PrivateSequencesBring};
 ghost use Rattle.vt_term.specs.Shown.{IsSafe};
 ghost use Rattle.vt_term.specs.Term.{reset_term};
 
 use crate::Terminal;
+use crate::below::laws_below;
+use vt_parser::laws::{
+    control_is_given, decimals_are_read, graphic_is_shown, whole_sequences_finish,
+};
 
 /// Joined texts are played as their parts in turn, wherever the cut is.
 pub fn plays_in_parts()
@@ -26,18 +31,24 @@ pub fn sent_is_appended()
 /// Terms of which the same is seen step alike and send the same.
 pub fn seen_decides()
     ensures { SeenDecides }
-{}
+{
+    laws_below();
+}
 
 /// Three times what is sent from the reset term is at most twenty times the bytes.
 pub fn sends_little()
     ensures { SendsLittle }
-{}
+{
+    laws_below();
+}
 
 /// The reset term is safe, and a safe term stays so whatever bytes are played.
 pub fn stays_safe()
     ensures reset { IsSafe reset_term.shown }
     ensures played { StaysSafe }
-{}
+{
+    laws_below();
+}
 
 /// What every terminal shows: the cursor is on the screen and within its line's right margin, cells right of that margin
 /// are blank, glyphs are at most 126, and while DECOM is set the cursor is inside the margins.
@@ -51,4 +62,40 @@ pub fn terminals_are_safe(terminal: &Terminal)
     ensures inside { terminal.now.shown.modes.origin ≡ true → Inside terminal.now.shown.picture }
 {
     let _screen = terminal.screen();
+}
+
+/// What bytes bring is joined as the bytes are.
+pub fn parts_bring()
+    ensures none { NothingBrings }
+    ensures joined { PartsBring }
+{}
+
+/// Graphic characters are put as the run of their glyphs.
+pub fn characters_bring()
+    ensures { CharactersBring }
+{
+    graphic_is_shown();
+}
+
+/// A control has its effect, and sends nothing.
+pub fn controls_bring()
+    ensures { ControlsBring }
+{
+    control_is_given();
+}
+
+/// A whole sequence has its effect once, and is answered by its reply.
+pub fn sequences_act()
+    ensures { SequencesAct }
+{}
+
+/// Whole sequences of ANSI mode that aren't answered have their effect once, and send nothing.
+pub fn sequences_bring()
+    ensures escape { EscapesBring }
+    ensures designation { DesignationsBring }
+    ensures control { ControlSequencesBring }
+    ensures private { PrivateSequencesBring }
+{
+    whole_sequences_finish();
+    decimals_are_read();
 }

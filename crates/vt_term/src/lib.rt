@@ -4,6 +4,7 @@
 //! grows, and only where a reply is sent past its end.
 #![tactic(auto)]
 
+mod below;
 mod commands;
 mod console;
 mod controls;
@@ -11,7 +12,6 @@ mod escapes;
 pub mod laws;
 mod modes;
 mod private_modes;
-mod quiet;
 mod replies;
 mod reports;
 mod saved;

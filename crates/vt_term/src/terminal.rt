@@ -2,10 +2,11 @@
 ghost use Rattle.std.specs.Prelude.{◌≡◌, ℕ, ◌≤◌, ◌<◌, true, false, [], ◌∷◌, length, take, IsOk, IfOk, OnOk, OnErr};
 ghost use Rattle.vt_parser.specs.Sequence.{is_control_final};
 
+use crate::below::laws_below;
 use crate::console::Console;
-use crate::quiet::{are_quiet, byte_before};
 use crate::{Modes, OutOfMemory, Reports, Saved, Sets};
 use std::marker::Model;
+use vt_parser::laws::{bare_finals_finish, finals_finish, runs_are_graphic};
 use vt_parser::{Parser, ParserState, printable_run};
 use vt_screen::{Rendition, Screen};
 
@@ -41,6 +42,7 @@ impl Terminal {
     pub fn reset() -> Self
         ensures { Shows result reset_term }
     {
+        laws_below();
         Terminal {
             console: Console::reset(),
             parser: Parser::new(),
@@ -55,8 +57,8 @@ impl Terminal {
         self.parser.copy_from(&other.parser);
     }
 
-    /// Takes bytes, and sends what they are answered by. Only where they may end a sequence that is answered does this
-    /// keep a copy of the terminal, for the case that memory is refused.
+    /// Takes bytes, and sends what they are answered by. It feeds in place, and keeps a copy of the terminal for the case
+    /// that memory is refused.
     pub fn feed(&mut self, bytes: &[u8], sink: &mut Reports) -> Result<(), OutOfMemory>
         // For every term that the terminal shows, it shows that term with the bytes played ..
         ensures shows { (x : Term) → Shows self.old x → OnOk result (Shows self.new (play x bytes.now)) }
@@ -69,9 +71,6 @@ impl Terminal {
         ensures room { (x : Term) → Shows self.old x → HasRoom sink.old (sent x bytes.now) → IsOk result }
     {
         let place = sink.place();
-        if self.is_quiet(bytes) {
-            return self.feed_in_place(bytes, sink);
-        }
         let mut before = Terminal::reset();
         before.copy_from(self);
         let len = sink.bytes().len();
@@ -98,14 +97,6 @@ impl Terminal {
             at += self.take_some(&bytes[at..], sink)?;
         }
         Ok(())
-    }
-
-    // Whether a glance tells that the bytes aren't answered, so that nothing can be refused.
-    fn is_quiet(&self, bytes: &[u8]) -> bool
-        ensures quiet { result ≡ true → (x : Term) → Shows self.now x → sent x bytes.now ≡ [] }
-        ensures proper { IsProper self.now }
-    {
-        are_quiet(byte_before(self.parser.state()), bytes)
     }
 
     // Takes a run of graphic bytes, or one byte, and says how many it took.
@@ -136,6 +127,7 @@ impl Terminal {
         ensures graphic { list_all is_graphic (take result bytes.now) ≡ true }
         ensures ground { 0 < result → self.now.state ≡ ParserState.Ground }
     {
+        runs_are_graphic();
         match self.parser.state() {
             ParserState::Ground => printable_run(bytes),
             _ => 0,
@@ -150,6 +142,7 @@ impl Terminal {
         ensures shows { (x : Term) → Shows self.old x → Shows self.new (play x bytes.now) }
         ensures sent { (x : Term) → Shows self.old x → sent x bytes.now ≡ [] }
     {
+        laws_below();
         self.console.show_bytes(bytes);
     }
 
@@ -177,6 +170,7 @@ impl Terminal {
         ensures sent { result ≡ true → (x : Term) → Shows self.old x → sent x (byte ∷ []) ≡ [] }
         ensures left { result ≡ false → self.new ≡ self.old }
     {
+        laws_below();
         self.parser.go_on(self.console.modes.mode, byte)
     }
 
@@ -187,6 +181,7 @@ impl Terminal {
         ensures sent { result ≡ true → (x : Term) → Shows self.old x → sent x (byte ∷ []) ≡ [] }
         ensures left { result ≡ false → self.new ≡ self.old }
     {
+        laws_below();
         if !self.parser.acts(byte) {
             return false;
         }
@@ -202,6 +197,9 @@ impl Terminal {
         ensures front { KeepsFront sink.old sink.new }
         ensures room { (x : Term) → Shows self.old x → HasRoom sink.old (sent x (byte ∷ [])) → IsOk result }
     {
+        laws_below();
+        finals_finish();
+        bare_finals_finish();
         match self.parser.state() {
             ParserState::CsiStart if is_final(byte) => {
                 let answer = self
@@ -233,6 +231,7 @@ impl Terminal {
         ensures front { KeepsFront sink.old sink.new }
         ensures room { (x : Term) → Shows self.old x → HasRoom sink.old (sent x (byte ∷ [])) → IsOk result }
     {
+        laws_below();
         match self.parser.step(self.console.modes.mode, byte) {
             Some(command) => self.console.perform(&command, sink),
             None => Ok(()),

@@ -118,4 +118,9 @@ fn laws_do_nothing() {
     laws::sends_little();
     laws::stays_safe();
     laws::terminals_are_safe(&Terminal::reset());
+    laws::parts_bring();
+    laws::characters_bring();
+    laws::controls_bring();
+    laws::sequences_act();
+    laws::sequences_bring();
 }

@@ -1,6 +1,4 @@
-use Rattle.std.proofs.Common.{◌≡◌, ◌+◌, ◌-◌, ◌/◌, ◌%◌, ◌≤◌, ◌++◌, length, drop, take, ap, ◌∙◌, arith, length-take, length-drop}
-use Rattle.std.specs.Fmt.{decimal}
-use Rattle.tape_core.specs.Written.{seconds_form}
+use Rattle.std.proofs.Common.{◌-◌, drop, ◌∙◌, arith, length-take, length-drop}
 use Rattle.tape_core.proofs.WrittenLemmas.{length-put_mid, length-seconds_form, seconds_written, short_decimals, short_whole}
 use Rattle.tape_core.proofs.seconds_form.write_seconds.Goals as goal
 

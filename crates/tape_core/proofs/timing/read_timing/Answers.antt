@@ -12,8 +12,8 @@ loop-rest-preserved-in-Ok-None c =
     line_blank c.args.timing.now c.loop-rest.rest.now c.next_line.result.1.now c.next_line.result.0.now c.loop-rest.entries.items c.loop-rest.bytes c.loop-rest.line
     c.loop-rest.invariant c.next_line.ensures.lines c.next_line.ensures.shorter (sym c.in-Ok-None.ensures.said ∙ ap Ok c.in-Ok-None.field-0-is)
 
-pub returns-then-bytes-gt1073741824-clause-fault : goal.returns-then-bytes-gt1073741824-clause-fault
-returns-then-bytes-gt1073741824-clause-fault c = λ _.
+pub returns-then-bytes-gt-LONGEST_BODY-clause-fault : goal.returns-then-bytes-gt-LONGEST_BODY-clause-fault
+returns-then-bytes-gt-LONGEST_BODY-clause-fault c = λ _.
     let timed : entry_of c.next_line.result.0.now ≡ Ok (Some c.in-Ok-Some.field-0-0) = sym c.in-Ok-Some.ensures.said ∙ ap Ok c.in-Ok-Some.field-0-is in
     let few : length c.loop-rest.entries.items < most_chunks = omega arith in
     let large : longest_body < c.loop-rest.bytes + c.in-Ok-Some.field-0-0.count = omega arith in

@@ -7,5 +7,5 @@ pub returns-in_err-finish-clause-fault : goal.returns-in_err-finish-clause-fault
 unfolding timing_text
 returns-in_err-finish-clause-fault g c =
     let p = err_from_is_err_and c.from_residual-in_err-finish.result c.from_residual-in_err-finish.ensures.1 in
-    let took = rw c.chunks.ensures at c.in_ok-put_lines.ensures.ok in
+    let took = rw c.chunks.ensures.chunks at c.in_ok-put_lines.ensures.ok in
     rw (p.1, p.2) (c.in_err-finish.ensures.fault.0, stopped_flushing took c.in_err-finish.ensures.fault.1)

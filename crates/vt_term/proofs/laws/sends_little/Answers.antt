@@ -2,4 +2,4 @@ use Rattle.vt_term.proofs.LawLemmas.{sends_little}
 use Rattle.vt_term.proofs.laws.sends_little.Goals as goal
 
 pub returns : goal.returns
-returns c = sends_little
+returns c = sends_little c.laws_below.ensures

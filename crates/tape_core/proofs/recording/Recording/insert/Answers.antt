@@ -1,6 +1,5 @@
-use Rattle.std.proofs.Common.{◌≡◌, ◌+◌, ◌≤◌, ◌<◌, length, ap, ◌∙◌, arith}
-use Rattle.tape_core.specs.Tape.{Tape, body_len, fits, longest_body, most_chunks}
-use Rattle.tape_core.specs.Changes.{inserted}
+use Rattle.std.proofs.Common.{◌+◌, ◌≤◌, ◌<◌, length, ap, ◌∙◌, arith}
+use Rattle.tape_core.specs.Tape.{Tape, body_len, longest_body, most_chunks}
 use Rattle.tape_core.proofs.ChangeLemmas.{body_len-inserted, due_written, fits-inserted}
 use Rattle.tape_core.proofs.recording.Recording.insert.Goals as goal
 

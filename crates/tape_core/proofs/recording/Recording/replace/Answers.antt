@@ -1,8 +1,8 @@
-use Rattle.std.proofs.Common.{◌≡◌, ◌+◌, ◌≤◌, ◌<◌, length, set, ap, sym, ◌∙◌, refl, arith}
+use Rattle.std.proofs.Common.{◌≤◌, ◌<◌, length, set, ap, ◌∙◌, refl, arith}
 use Rattle.std.proofs.lemmas.List.Sums.{get_or-le-sum_by}
 use Rattle.tape_core.specs.declared.chunk.Chunk.{Chunk}
-use Rattle.tape_core.specs.Tape.{Tape, body_len, fits, longest_body}
-use Rattle.tape_core.specs.Changes.{changed_at, replaced}
+use Rattle.tape_core.specs.Tape.{Tape, body_len, longest_body}
+use Rattle.tape_core.specs.Changes.{replaced}
 use Rattle.tape_core.proofs.ChangeLemmas.{body_len-set, fits-set, same_delays, same_dues, set_is_changed}
 use Rattle.tape_core.proofs.recording.Recording.replace.Goals as goal
 

@@ -1,5 +1,5 @@
-use Rattle.std.proofs.Common.{◌≡◌, ◌<◌, length, ap, ◌∙◌}
-use Rattle.tape_core.specs.Changes.{retimed, with_chunks}
+use Rattle.std.proofs.Common.{◌<◌, length, ap, ◌∙◌}
+use Rattle.tape_core.specs.Changes.{retimed}
 use Rattle.tape_core.proofs.ChangeLemmas.{set_is_changed}
 use Rattle.tape_core.proofs.recording.Recording.retime.Goals as goal
 

@@ -13,7 +13,7 @@ invariant_of-self c =
     let seen : Seen = seen_of c.self.inside.console c.self.inside.parser in
     let ground = ap (λ (s : Seen). s.state) c.self.view_is ∙ c.requires.ground in
     subst IsProper (seen_is _ _ _ _ c.show_bytes.ensures ground)
-    (proper_after_run seen c.args.bytes.now ground c.requires.graphic c.self.invariant)
+    (proper_after_run c.laws_below.ensures seen c.args.bytes.now ground c.requires.graphic c.self.invariant)
 
 pub returns-clause-shows : goal.returns-clause-shows
 returns-clause-shows c x shows =
@@ -21,11 +21,11 @@ returns-clause-shows c x shows =
     let inside : Shows seen x = subst (λ (s : Seen). Shows s x) (sym c.self.view_is) shows in
     let ground = ap (λ (s : Seen). s.state) c.self.view_is ∙ c.requires.ground in
     subst (λ (s : Seen). Shows s (play x c.args.bytes.now)) (seen_is _ _ _ _ c.show_bytes.ensures ground)
-    (shows_run seen x c.args.bytes.now ground inside c.requires.graphic).0
+    (shows_run c.laws_below.ensures seen x c.args.bytes.now ground inside c.requires.graphic).0
 
 pub returns-clause-sent : goal.returns-clause-sent
 returns-clause-sent c x shows =
     let seen : Seen = seen_of c.self.inside.console c.self.inside.parser in
     let inside : Shows seen x = subst (λ (s : Seen). Shows s x) (sym c.self.view_is) shows in
     let ground = ap (λ (s : Seen). s.state) c.self.view_is ∙ c.requires.ground in
-    (shows_run seen x c.args.bytes.now ground inside c.requires.graphic).1
+    (shows_run c.laws_below.ensures seen x c.args.bytes.now ground inside c.requires.graphic).1

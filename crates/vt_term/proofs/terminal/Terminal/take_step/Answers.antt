@@ -14,12 +14,12 @@ invariant_of-self c =
     let seen : Seen = seen_of c.self.inside.console c.self.inside.parser in
     either_proper c.perform.result (shown_of c.perform.new.self) (effect c.in-Some.command seen.shown) seen.shown c.step.new.self
     c.perform.ensures.shown c.perform.ensures.err
-    (taken_proper seen c.args.byte (Some c.in-Some.command) c.step.new.self c.in-Some.ensures.command c.in-Some.ensures.state c.self.invariant c.in-Some.ensures.proper)
-    (left_proper seen c.args.byte (Some c.in-Some.command) c.step.new.self c.in-Some.ensures.command c.in-Some.ensures.state c.self.invariant)
+    (taken_proper c.laws_below.ensures seen c.args.byte (Some c.in-Some.command) c.step.new.self c.in-Some.ensures.command c.in-Some.ensures.state c.self.invariant c.in-Some.ensures.proper)
+    (left_proper c.laws_below.ensures seen c.args.byte (Some c.in-Some.command) c.step.new.self c.in-Some.ensures.command c.in-Some.ensures.state c.self.invariant)
 
 pub invariant_of-self-in-None : goal.invariant_of-self-in-None
 invariant_of-self-in-None c =
-    taken_proper (seen_of c.self.inside.console c.self.inside.parser) c.args.byte None c.step.new.self
+    taken_proper c.laws_below.ensures (seen_of c.self.inside.console c.self.inside.parser) c.args.byte None c.step.new.self
     c.in-None.ensures.command c.in-None.ensures.state c.self.invariant tt
 
 pub returns-in-Some-clause-shows : goal.returns-in-Some-clause-shows
@@ -28,7 +28,7 @@ returns-in-Some-clause-shows c x shows =
     let inside : Shows seen x = subst (λ (s : Seen). Shows s x) (sym c.self.view_is) shows in
     shows_at_ok c.perform.result (shown_of c.perform.new.self) (effect c.in-Some.command seen.shown) c.step.new.self (play x (c.args.byte ∷ []))
     c.perform.ensures.shown
-    (taken_shows seen c.args.byte (Some c.in-Some.command) c.step.new.self c.in-Some.ensures.command c.in-Some.ensures.state x inside)
+    (taken_shows c.laws_below.ensures seen c.args.byte (Some c.in-Some.command) c.step.new.self c.in-Some.ensures.command c.in-Some.ensures.state x inside)
 
 pub returns-in-Some-clause-sent : goal.returns-in-Some-clause-sent
 returns-in-Some-clause-sent c x shows =
@@ -36,7 +36,7 @@ returns-in-Some-clause-sent c x shows =
     let inside : Shows seen x = subst (λ (s : Seen). Shows s x) (sym c.self.view_is) shows in
     sent_at_ok c.perform.result c.perform.new.sink c.args.sink.now (reply c.in-Some.command seen.shown) (sent x (c.args.byte ∷ []))
     c.perform.ensures.sent
-    (taken_sent seen c.args.byte (Some c.in-Some.command) c.step.new.self c.in-Some.ensures.command c.in-Some.ensures.state x inside)
+    (taken_sent c.laws_below.ensures seen c.args.byte (Some c.in-Some.command) c.step.new.self c.in-Some.ensures.command c.in-Some.ensures.state x inside)
 
 pub returns-in-Some-clause-room : goal.returns-in-Some-clause-room
 returns-in-Some-clause-room c x shows room =
@@ -44,21 +44,21 @@ returns-in-Some-clause-room c x shows room =
     let inside : Shows seen x = subst (λ (s : Seen). Shows s x) (sym c.self.view_is) shows in
     c.perform.ensures.room
     (subst (HasRoom c.args.sink.now)
-    (taken_sent seen c.args.byte (Some c.in-Some.command) c.step.new.self c.in-Some.ensures.command c.in-Some.ensures.state x inside)
+    (taken_sent c.laws_below.ensures seen c.args.byte (Some c.in-Some.command) c.step.new.self c.in-Some.ensures.command c.in-Some.ensures.state x inside)
     room)
 
 pub returns-in-None-clause-shows : goal.returns-in-None-clause-shows
 returns-in-None-clause-shows c x shows =
     let seen : Seen = seen_of c.self.inside.console c.self.inside.parser in
     let inside : Shows seen x = subst (λ (s : Seen). Shows s x) (sym c.self.view_is) shows in
-    taken_shows seen c.args.byte None c.step.new.self c.in-None.ensures.command c.in-None.ensures.state x inside
+    taken_shows c.laws_below.ensures seen c.args.byte None c.step.new.self c.in-None.ensures.command c.in-None.ensures.state x inside
 
 pub returns-in-None-clause-sent : goal.returns-in-None-clause-sent
 returns-in-None-clause-sent c x shows =
     let seen : Seen = seen_of c.self.inside.console c.self.inside.parser in
     let inside : Shows seen x = subst (λ (s : Seen). Shows s x) (sym c.self.view_is) shows in
     sends_nothing c.args.sink.now (sent x (c.args.byte ∷ []))
-    (taken_sent seen c.args.byte None c.step.new.self c.in-None.ensures.command c.in-None.ensures.state x inside)
+    (taken_sent c.laws_below.ensures seen c.args.byte None c.step.new.self c.in-None.ensures.command c.in-None.ensures.state x inside)
 
 pub returns-in-Some-clause-front : goal.returns-in-Some-clause-front
 returns-in-Some-clause-front c =

@@ -1,0 +1,37 @@
+-- A session as a plain value, and what each call makes of it.
+use Rattle.std.specs.Prelude.{◌≡◌, ℕ, List, [], ◌∷◌, ◌++◌, Result, MatchResult}
+use Rattle.tape_core.specs.Tape.{Tape}
+use Rattle.tape_seek.specs.declared.edits.Edit.{Edit}
+use Rattle.tape_seek.specs.Edits.{edited}
+use Rattle.tape_seek.specs.Marks.{Marks, first_marks, after_edit, after_seek, after_refused_seek}
+
+-- the recording as edited, the accepted edits in order, how many chunks lie between stored terminals, and both marks
+pub record State : Type 0 where
+  pub recording : Tape
+  pub log : List Edit
+  pub every : ℕ
+  pub marks : Marks
+
+abbrev pub opened : Tape → ℕ → State
+opened tape every = record { recording = tape; log = []; every = every; marks = first_marks }
+
+-- an accepted edit
+abbrev pub accepted : Edit → State → State
+accepted edit s = record {
+  recording = edited s.recording edit;
+  log = s.log ++ edit ∷ [];
+  every = s.every;
+  marks = after_edit s.every edit s.marks;
+}
+
+-- an answered seek
+abbrev pub sought : ℕ → State → State
+sought count s = record s { marks = after_seek count s.marks }
+
+-- a refused seek
+abbrev pub seek_refused : State → State
+seek_refused s = record s { marks = after_refused_seek s.every s.marks }
+
+-- what a seek leaves, by its answer
+abbrev pub Leaves : {T E : Type 0} → Result T E → ℕ → State → State → Type 0
+Leaves result count old new = MatchResult result (λ _. new ≡ sought count old) (λ _. new ≡ seek_refused old)

@@ -1,0 +1,152 @@
+-- Parameters that were written in decimal are read back.
+use Rattle.std.proofs.Common.{◌≡◌, ℕ, ◌+◌, ◌-◌, ◌*◌, ◌/◌, ◌%◌, ◌^◌, ◌<◌, ◌≤◌, Bool, true, false, ◌==◌, ◌||◌, List, [], ◌∷◌, ◌++◌, length, map, take, refl, ap, ap₂, ◌∙◌, subst, arith}
+use Rattle.std.specs.Prelude.{All, Option, Some, decimal}
+use Rattle.std.specs.List.{list_all, AllByRecursion}
+use Rattle.std.proofs.lemmas.Bool.{and_parts}
+use Rattle.std.proofs.lemmas.Bool.Decides.{nat_tests}
+use Rattle.std.proofs.lemmas.Fmt.{decimal_by_steps}
+use Rattle.std.proofs.lemmas.List.{take_all}
+use Rattle.std.proofs.lemmas.List.Elements.{All-from_recursion, recursion_from_All}
+use Rattle.std.proofs.lemmas.List.Folds.{list_all-append}
+use Rattle.std.proofs.lemmas.List.Splits.{slice_split_none, slice_split_at}
+use Rattle.std.proofs.lemmas.List.Sums.{fold-append}
+use Rattle.vt_parser.specs.declared.commands.Mode.TheVariants.{Ansi}
+use Rattle.vt_parser.specs.declared.commands.Command.{Command}
+use Rattle.vt_parser.specs.declared.commands.Command.TheVariants.{Csi}
+use Rattle.vt_parser.specs.Control.{escape}
+use Rattle.vt_parser.specs.Sequence.{is_digit, is_semicolon, is_private, after_mark, is_control_text, decimal_value, parameter, numbers, params, held, control_meaning}
+use Rattle.vt_parser.specs.Decimals.{params_text}
+use Rattle.vt_parser.specs.Fold.{Finishes}
+use Rattle.vt_parser.specs.Law.{DecimalsAreRead, WrittenControlsFinish, WrittenPrivatesFinish}
+use Rattle.vt_parser.proofs.Bytes.{digit_no_semicolon}
+use Rattle.vt_parser.proofs.Lists.{list_all_push}
+use Rattle.vt_parser.proofs.Whole.{control_finishes}
+
+abbrev is_plain : ℕ → Bool
+is_plain byte = is_digit byte || is_semicolon byte
+
+-- ---- one number
+
+record IsDecimalOf (number : ℕ) (digits : List ℕ) : Type 0 where
+  all : list_all is_digit digits ≡ true
+  value : decimal_value digits ≡ number
+
+is_decimal : (number : ℕ) → number < 2 ^ 64 → IsDecimalOf number (decimal number)
+is_decimal = decimal_by_steps IsDecimalOf one more
+  where
+    digit : (number : ℕ) → number < 10 → is_digit (48 + number) ≡ true
+    digit number small = grind (arith, nat_tests)
+
+    one : (number : ℕ) → number < 10 → IsDecimalOf number ((48 + number) ∷ [])
+    one number small = let first = digit number small in record { all = simp first; value = omega arith }
+
+    more : (number : ℕ) (digits : List ℕ) → 10 ≤ number → IsDecimalOf (number / 10) digits → IsDecimalOf number (digits ++ (48 + number % 10) ∷ [])
+    more number digits large front =
+        let last = digit (number % 10) (omega arith) in
+        let all = front.all in
+        let value = front.value in
+        record {
+          all = list_all_push is_digit digits (48 + number % 10) ∙ simp (all, last);
+          value = fold-append (λ value next. 10 * value + (next - 48)) 0 digits ((48 + number % 10) ∷ []) ∙ omega arith;
+        }
+
+parameter-decimal : (number : ℕ) → number ≤ 9999 → parameter (decimal number) ≡ number
+parameter-decimal number small = let value = (is_decimal number (omega arith)).value in omega arith
+
+-- ---- the text
+
+plain_digits : (digits : List ℕ) → list_all is_digit digits ≡ true → list_all is_plain digits ≡ true
+plain_digits [] all = refl
+plain_digits (digit ∷ rest) all =
+    let parts = and_parts (is_digit digit) (list_all is_digit rest) all in
+    let first = parts.0 in
+    simp first (plain_digits rest parts.1)
+
+no_semicolons : (digits : List ℕ) → list_all is_digit digits ≡ true → AllByRecursion (λ byte. is_semicolon byte ≡ false) digits
+no_semicolons [] all = tt
+no_semicolons (digit ∷ rest) all =
+    let parts = and_parts (is_digit digit) (list_all is_digit rest) all in
+    (digit_no_semicolon digit parts.0, no_semicolons rest parts.1)
+
+unbroken : (number : ℕ) → number ≤ 9999 → All (λ byte. is_semicolon byte ≡ false) (decimal number)
+unbroken number small = All-from_recursion _ (decimal number) (no_semicolons (decimal number) (is_decimal number (omega arith)).all)
+
+abbrev Small : List ℕ → Type 0
+Small numbers = AllByRecursion (λ number. number ≤ 9999) numbers
+
+text_plain : (numbers : List ℕ) → Small numbers → list_all is_plain (params_text numbers) ≡ true
+text_plain [] small = refl
+text_plain (number ∷ []) small = plain_digits (decimal number) (is_decimal number (omega (arith, small.0))).all
+text_plain (number ∷ next ∷ rest) small =
+    let first = plain_digits (decimal number) (is_decimal number (omega (arith, small.0))).all in
+    let others = text_plain (next ∷ rest) small.1 in
+    list_all-append is_plain (decimal number) (59 ∷ params_text (next ∷ rest)) ∙ simp (first, others)
+
+numbers-text : (first : ℕ) (rest : List ℕ) → Small (first ∷ rest) → numbers (params_text (first ∷ rest)) ≡ first ∷ rest
+unfolding numbers
+numbers-text first [] small =
+    ap (map parameter) (slice_split_none is_semicolon (decimal first) (unbroken first small.0))
+    ∙ ap (λ number. number ∷ []) (parameter-decimal first small.0)
+numbers-text first (second ∷ rest) small =
+    ap (map parameter) (slice_split_at is_semicolon (decimal first) 59 (params_text (second ∷ rest)) (unbroken first small.0) refl)
+    ∙ ap₂ (λ number numbers. number ∷ numbers) (parameter-decimal first small.0) (numbers-text second rest small.1)
+
+-- ---- what is read
+
+unmarked : (text : List ℕ) → list_all is_plain text ≡ true → (is_private text ≡ false) × (after_mark text ≡ text)
+unmarked [] all = (refl, refl)
+unmarked (byte ∷ rest) all =
+    let plain = (and_parts (is_plain byte) (list_all is_plain rest) all).0 in
+    let other : (byte == 63) ≡ false = no_mark byte plain in
+    (other, simp other)
+  where
+    no_mark : (byte : ℕ) → is_plain byte ≡ true → (byte == 63) ≡ false
+    no_mark byte plain = grind (arith, nat_tests)
+
+pub params-text : (first : ℕ) (rest : List ℕ) → length (first ∷ rest) ≤ 16 → Small (first ∷ rest) → params (params_text (first ∷ rest)) ≡ first ∷ rest
+params-text first rest few small = ap (take 16) (numbers-text first rest small) ∙ take_all 16 (first ∷ rest) few
+
+pub meaning-text : (first : ℕ) (rest : List ℕ) (last : ℕ) → length (first ∷ rest) ≤ 16 → Small (first ∷ rest)
+    → (control_meaning (params_text (first ∷ rest)) last ≡ Some (Csi false (held (first ∷ rest)) last))
+    × (control_meaning (63 ∷ params_text (first ∷ rest)) last ≡ Some (Csi true (held (first ∷ rest)) last))
+meaning-text first rest last few small =
+    let plain = text_plain (first ∷ rest) small in
+    let bare = unmarked (params_text (first ∷ rest)) plain in
+    let no_mark = bare.0 in
+    let whole = bare.1 in
+    let read = params-text first rest few small in
+    (simp (no_mark, whole, plain, read), simp (plain, read))
+
+pub text_joins : (numbers : List ℕ) → Small numbers → list_all is_control_text (params_text numbers) ≡ true
+text_joins numbers small = each (params_text numbers) (text_plain numbers small)
+  where
+    one : (byte : ℕ) → is_plain byte ≡ true → is_control_text byte ≡ true
+    one byte plain = grind (arith, nat_tests)
+
+    each : (text : List ℕ) → list_all is_plain text ≡ true → list_all is_control_text text ≡ true
+    each [] all = refl
+    each (byte ∷ rest) all =
+        let parts = and_parts (is_plain byte) (list_all is_plain rest) all in
+        let first = one byte parts.0 in
+        simp first (each rest parts.1)
+
+-- ---- the laws
+
+pub decimals_are_read : DecimalsAreRead
+decimals_are_read [] are = let no : ⊥ = omega (arith, are.some) in absurd no
+decimals_are_read (first ∷ rest) are = params-text first rest are.few (recursion_from_All _ (first ∷ rest) are.small)
+
+pub written_controls_finish : WrittenControlsFinish
+written_controls_finish [] last are is = let no : ⊥ = omega (arith, are.some) in absurd no
+written_controls_finish (first ∷ rest) last are is =
+    let small = recursion_from_All _ (first ∷ rest) are.small in
+    let P : Option Command → Type 0 = λ command. Finishes Ansi (escape ∷ 91 ∷ (params_text (first ∷ rest) ++ last ∷ [])) command in
+    subst P (meaning-text first rest last are.few small).0 (control_finishes (params_text (first ∷ rest)) last (text_joins (first ∷ rest) small) is)
+
+pub written_privates_finish : WrittenPrivatesFinish
+written_privates_finish [] last are is = let no : ⊥ = omega (arith, are.some) in absurd no
+written_privates_finish (first ∷ rest) last are is =
+    let small = recursion_from_All _ (first ∷ rest) are.small in
+    let joins = text_joins (first ∷ rest) small in
+    let P : Option Command → Type 0 = λ command. Finishes Ansi (escape ∷ 91 ∷ 63 ∷ (params_text (first ∷ rest) ++ last ∷ [])) command in
+    subst P (meaning-text first rest last are.few small).1 (control_finishes (63 ∷ params_text (first ∷ rest)) last (simp joins) is)

@@ -1,0 +1,111 @@
+-- What bytes bring that a printer writes.
+use Rattle.std.proofs.Common.{◌≡◌, ℕ, true, false, ◌++◌, List, [], ◌∷◌, Some, None, refl, sym, ap, subst, ◌∙◌}
+use Rattle.std.proofs.lemmas.Bool.{and_parts}
+use Rattle.std.proofs.lemmas.List.{append-nil}
+use Rattle.std.specs.List.{list_all}
+use Rattle.vt_parser.specs.declared.commands.Mode.{Mode}
+use Rattle.vt_parser.specs.declared.commands.Mode.TheVariants.{Ansi}
+use Rattle.vt_parser.specs.declared.commands.Command.{Command}
+use Rattle.vt_parser.specs.declared.commands.Command.TheVariants.{Show, Control, Esc, Csi}
+use Rattle.vt_parser.specs.Control.{escape, is_graphic}
+use Rattle.vt_parser.specs.Sequence.{held}
+use Rattle.vt_parser.specs.Decimals.{params_text}
+use Rattle.vt_parser.specs.Fold.{Finishes}
+use Rattle.vt_parser.specs.Law.{GraphicIsShown, ControlIsGiven, EscapesFinish, DesignationsFinish, WrittenControlsFinish, WrittenPrivatesFinish}
+use Rattle.vt_term.specs.Shown.{Shown}
+use Rattle.vt_term.specs.Effect.{effect, reply, put, glyph_for}
+use Rattle.vt_term.specs.Term.{Term, play, sent}
+use Rattle.vt_term.specs.Printing.{on_ground, Brings, NothingBrings, PartsBring, CharactersBring, ControlsBring, SequencesAct, EscapesBring, DesignationsBring, ControlSequencesBring, PrivateSequencesBring}
+use Rattle.vt_term.proofs.Played.{played, sent_once}
+use Rattle.vt_term.proofs.Steps.{play_none, sent_none, play-append, sent-append}
+
+pub nothing_brings : NothingBrings
+nothing_brings s = record { played = λ reports. play_none (on_ground s reports); silent = λ reports. sent_none (on_ground s reports) }
+
+pub parts_bring : PartsBring
+parts_bring s t u first second before after = record {
+  played = λ reports.
+      play-append (on_ground s reports) first second
+      ∙ ap (λ (x : Term). play x second) (before.played reports)
+      ∙ after.played reports;
+  silent = λ reports.
+      sent-append (on_ground s reports) first second
+      ∙ ap (λ (l : List ℕ). l ++ sent (play (on_ground s reports) first) second) (before.silent reports)
+      ∙ ap (λ (x : Term). sent x second) (before.played reports)
+      ∙ after.silent reports;
+}
+
+-- ---- one command
+
+pub sequences_act : SequencesAct
+sequences_act s reports bytes command finishes =
+    let mode = s.modes.mode in (
+      played mode mode s [] reports bytes (Some command) refl refl (finishes mode).0
+          ∙ ap (λ (p : List ℕ). let x : Term = record { shown = effect command s; pending = p; reports = reports ++ reply command s } in x) (finishes mode).1,
+      sent_once mode mode s [] reports bytes (Some command) refl refl (finishes mode).0,
+    )
+
+-- a command without a reply
+brings_effect : (s : Shown) (bytes : List ℕ) (command : Command) → Finishes s.modes.mode bytes (Some command) → reply command s ≡ []
+    → Brings s bytes (effect command s)
+brings_effect s bytes command finishes silent = record {
+  played = λ reports.
+      (sequences_act s reports bytes command finishes).0
+      ∙ ap (λ (l : List ℕ). on_ground (effect command s) (reports ++ l)) silent
+      ∙ ap (on_ground (effect command s)) (append-nil reports);
+  silent = λ reports. (sequences_act s reports bytes command finishes).1 ∙ silent;
+}
+
+-- the same in ANSI mode
+brings_in_ansi : (s : Shown) (bytes : List ℕ) (command : Command) → s.modes.mode ≡ Ansi → Finishes Ansi bytes (Some command) → reply command s ≡ []
+    → Brings s bytes (effect command s)
+brings_in_ansi s bytes command ansi finishes silent =
+    brings_effect s bytes command (subst (λ (m : Mode). Finishes m bytes (Some command)) (sym ansi) finishes) silent
+
+brings_is : (s : Shown) (bytes : List ℕ) (t u : Shown) → t ≡ u → Brings s bytes t → Brings s bytes u
+brings_is s bytes t u same brings = subst (Brings s bytes) same brings
+
+no_reply_show : (byte : ℕ) (s : Shown) → reply (Show byte) s ≡ []
+unfolding reply
+no_reply_show byte s = refl
+
+no_reply_control : (byte : ℕ) (s : Shown) → reply (Control byte) s ≡ []
+unfolding reply
+no_reply_control byte s = refl
+
+put_by : (byte : ℕ) (s : Shown) → effect (Show byte) s ≡ put (glyph_for s byte) s
+unfolding effect
+put_by byte s = refl
+
+module _ (graphic_is_shown : GraphicIsShown) where
+  pub characters_bring : CharactersBring
+  characters_bring s [] graphic = nothing_brings s
+  characters_bring s (byte ∷ bytes) graphic =
+      let parts = and_parts (is_graphic byte) (list_all is_graphic bytes) graphic in
+      let first : Brings s (byte ∷ []) (put (glyph_for s byte) s) =
+      brings_is s (byte ∷ []) (effect (Show byte) s) (put (glyph_for s byte) s) (put_by byte s)
+      (brings_effect s (byte ∷ []) (Show byte) (λ mode. graphic_is_shown mode byte parts.0) (no_reply_show byte s)) in
+      parts_bring s _ _ (byte ∷ []) bytes first (characters_bring (put (glyph_for s byte) s) bytes parts.1)
+
+pub controls_bring : ControlIsGiven → ControlsBring
+controls_bring given s byte is = brings_effect s (byte ∷ []) (Control byte) (λ mode. given mode byte is) (no_reply_control byte s)
+
+pub escapes_bring : EscapesFinish → EscapesBring
+unfolding effect reply
+escapes_bring finish s last ansi is no_control no_string silent =
+    brings_in_ansi s (escape ∷ last ∷ []) (Esc None last) ansi (finish last is no_control no_string) silent
+
+pub designations_bring : DesignationsFinish → DesignationsBring
+unfolding effect reply
+designations_bring finish s inter last ansi is_inter is silent =
+    brings_in_ansi s (escape ∷ inter ∷ last ∷ []) (Esc (Some inter) last) ansi (finish inter last is_inter is) silent
+
+pub control_sequences_bring : WrittenControlsFinish → ControlSequencesBring
+unfolding effect reply
+control_sequences_bring finish s numbers last ansi are is silent =
+    brings_in_ansi s (escape ∷ 91 ∷ (params_text numbers ++ last ∷ [])) (Csi false (held numbers) last) ansi (finish numbers last are is) silent
+
+pub private_sequences_bring : WrittenPrivatesFinish → PrivateSequencesBring
+unfolding effect reply
+private_sequences_bring finish s numbers last ansi are is =
+    brings_in_ansi s (escape ∷ 91 ∷ 63 ∷ (params_text numbers ++ last ∷ [])) (Csi true (held numbers) last) ansi (finish numbers last are is) refl
