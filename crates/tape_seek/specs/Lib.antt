@@ -2,3 +2,6 @@ pub mod Edits
 pub mod Marks
 pub mod Moments
 pub mod State
+pub mod Requests
+pub mod WrittenLog
+pub mod Fields

@@ -2,5 +2,12 @@
 #![tactic(auto)]
 
 mod edits;
+mod hex_text;
+pub mod laws;
+mod requests;
+mod written_log;
 
 pub use edits::{Edit, EditFault};
+pub use hex_text::put_hex;
+pub use requests::{LineFault, Request, read_line};
+pub use written_log::write_log;

@@ -8,16 +8,10 @@ use Rattle.vt_parser.specs.declared.commands.Command.TheVariants.{Show, Error, C
 use Rattle.vt_parser.specs.Step.{command_of}
 use Rattle.vt_parser.specs.Law.{fewest_bytes, fewest_of}
 use Rattle.vt_screen.specs.Picture.{Picture, Sound}
-use Rattle.vt_term.specs.declared.escapes.Escape.{Escape}
-use Rattle.vt_term.specs.declared.escapes.Escape.TheVariants.{Decid}
-use Rattle.vt_term.specs.declared.sequences.Sequence.{Sequence}
-use Rattle.vt_term.specs.declared.sequences.Sequence.TheVariants.{Da, Dsr, Decreqtparm}
-use Rattle.vt_term.specs.declared.vt52.Vt52Sequence.{Vt52Sequence}
-use Rattle.vt_term.specs.declared.vt52.Vt52Sequence.TheVariants.{Identify}
 use Rattle.vt_term.specs.Shown.{Shown, IsSafe}
-use Rattle.vt_term.specs.Escapes.{escape_named}
-use Rattle.vt_term.specs.Sequences.{sequence_named, first_of}
-use Rattle.vt_term.specs.Vt52.{vt52_named}
+use Rattle.vt_term.specs.Escapes.{Escape, Decid, escape_named}
+use Rattle.vt_term.specs.Sequences.{Sequence, Da, Dsr, Decreqtparm, sequence_named, first_of}
+use Rattle.vt_term.specs.Vt52.{Vt52Sequence, Identify, vt52_named}
 use Rattle.vt_term.specs.Replies.{escape_reply, sequence_reply, vt52_reply, reply_of, cursor_position, reported_line, device_attributes, ready, terminal_parameters}
 use Rattle.vt_term.specs.Effect.{reply, reply_if, control_sequence_reply}
 use Rattle.vt_term.specs.Term.{Term, reset_term, mode_of, answered, step, sent}

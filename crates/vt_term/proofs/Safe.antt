@@ -20,23 +20,14 @@ use Rattle.vt_term.specs.declared.sets.CharacterSet.TheVariants.{Ascii, Uk, Spec
 use Rattle.vt_term.specs.declared.sets.Slot.{Slot}
 use Rattle.vt_term.specs.declared.modes.Modes.{Modes}
 use Rattle.vt_term.specs.declared.saved.Saved.{Saved}
-use Rattle.vt_term.specs.declared.controls.Control.{Control}
-use Rattle.vt_term.specs.declared.controls.Control.TheVariants.{Bs, Ht, Lf, Cr, So, Si}
-use Rattle.vt_term.specs.declared.escapes.Escape.{Escape}
-use Rattle.vt_term.specs.declared.escapes.Escape.TheVariants.{Ind, Nel, Ri, Hts, Decid, Ris, Decsc, Decrc, Deckpam, Deckpnm, DecdhlTop, DecdhlBottom, Decswl, Decdwl, Decaln, Scs}
-use Rattle.vt_term.specs.declared.sequences.Sequence.{Sequence}
-use Rattle.vt_term.specs.declared.sequences.Sequence.TheVariants.{Cuu, Cud, Cuf, Cub, Cup, Ed, El, Decstbm, Tbc, Sgr, Sm, Rm, Decll}
-use Rattle.vt_term.specs.declared.private_modes.PrivateMode.{PrivateMode}
-use Rattle.vt_term.specs.declared.private_modes.PrivateMode.TheVariants.{Decanm, Deccolm, Decom, Decawm}
-use Rattle.vt_term.specs.declared.vt52.Vt52Sequence.{Vt52Sequence}
-use Rattle.vt_term.specs.declared.vt52.Vt52Sequence.TheVariants.{Up, Down, Right, Left, Home, ReverseIndex, EraseDisplay, EraseLine}
 use Rattle.vt_term.specs.Sets.{glyph_of, checkerboard, set_in_use}
 use Rattle.vt_term.specs.Shown.{Shown, IsSafe, IsSavedWell, reset_shown, on_picture, effect_of, dark}
-use Rattle.vt_term.specs.Controls.{control_named, control_effect, line_fed, invoked}
-use Rattle.vt_term.specs.Escapes.{escape_named, escape_effect, restored}
-use Rattle.vt_term.specs.Sequences.{sequence_named, sequence_effect, first_of, second_of, counted, or_default, leds_set, newline_set}
-use Rattle.vt_term.specs.PrivateModes.{private_mode_named, mode_effect, mode_set, private_effect}
-use Rattle.vt_term.specs.Vt52.{vt52_named, vt52_effect}
+use Rattle.vt_term.specs.Rows.{named}
+use Rattle.vt_term.specs.Controls.{Control, Bs, Ht, Lf, Cr, So, Si, control_named, control_effect, line_fed, invoked}
+use Rattle.vt_term.specs.Escapes.{Escape, Ind, Nel, Ri, Hts, Decid, Ris, Decsc, Decrc, Deckpam, Deckpnm, DecdhlTop, DecdhlBottom, Decswl, Decdwl, Decaln, Scs, escape_named, escape_effect, restored}
+use Rattle.vt_term.specs.Sequences.{Sequence, Cuu, Cud, Cuf, Cub, Cup, Ed, El, Decstbm, Tbc, Sgr, Sm, Rm, Decll, sequence_named, sequence_effect, first_of, second_of, counted, or_default, leds_set, newline_set}
+use Rattle.vt_term.specs.PrivateModes.{PrivateMode, Decanm, Deccolm, Decom, Decawm, private_modes, switches, mode_effect, mode_set, modes_set, private_effect}
+use Rattle.vt_term.specs.Vt52.{Vt52Sequence, Up, Down, Right, Left, Home, ReverseIndex, EraseDisplay, EraseLine, vt52_named, vt52_effect}
 use Rattle.vt_term.specs.Effect.{effect, put, glyph_for, control_sequence_effect}
 use Rattle.vt_term.specs.Law.{CommandsKeepSafe}
 
@@ -164,10 +155,6 @@ safe_row : {Row : Type 0} (change : Row → Shown → Shown) → ((row : Row) (s
 safe_row change each None s safe = safe
 safe_row change each (Some row) s safe = each row s safe
 
-safe_either : (b : Bool) (s t : Shown) → IsSafe s → IsSafe t → IsSafe (if b then s else t)
-safe_either true s t safe_s safe_t = safe_s
-safe_either false s t safe_s safe_t = safe_t
-
 -- ---- what does
 
 module _ (laws : ScreenLaws) where
@@ -263,12 +250,10 @@ module _ (laws : ScreenLaws) where
   safe_modes : (value : Bool) (params : List ℕ) (s : Shown) → IsSafe s → IsSafe (fold (mode_set value) s params)
   safe_modes value [] s safe = safe
   safe_modes value (param ∷ params) s safe =
-      safe_modes value params (mode_set value s param) (safe_row (mode_effect value) (safe_mode value) (private_mode_named param) s safe)
+      safe_modes value params (mode_set value s param) (safe_row (mode_effect value) (safe_mode value) (named private_modes param) s safe)
 
   safe_private : (last : ℕ) (params : List ℕ) (s : Shown) → IsSafe s → IsSafe (private_effect last params s)
-  safe_private last params s safe =
-      safe_either (last == 104) _ _ (safe_modes true params s safe)
-      (safe_either (last == 108) _ _ (safe_modes false params s safe) safe)
+  safe_private last params s safe = safe_row (modes_set params) (λ value. safe_modes value params) (named switches last) s safe
 
   safe_control_sequence : (private : Bool) (last : ℕ) (params : List ℕ) (s : Shown) → IsSafe s → IsSafe (control_sequence_effect private last params s)
   safe_control_sequence true last params s safe = safe_private last params s safe

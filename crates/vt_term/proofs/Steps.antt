@@ -14,11 +14,9 @@ use Rattle.vt_parser.specs.Control.{escape}
 use Rattle.vt_parser.specs.View.{parser_view}
 use Rattle.vt_parser.specs.Step.{command_of, pending_after, mode_after}
 use Rattle.vt_parser.specs.Law.{IsProper as IsProperCommand, is_sequence}
-use Rattle.vt_term.specs.declared.controls.Control.{Control}
-use Rattle.vt_term.specs.declared.controls.Control.TheVariants.{Bs, Ht, Lf, Cr, So, Si}
 use Rattle.vt_term.specs.declared.sets.Slot.{Slot}
 use Rattle.vt_term.specs.Shown.{Shown, IsSafe, effect_of}
-use Rattle.vt_term.specs.Controls.{control_named, control_effect, invoked}
+use Rattle.vt_term.specs.Controls.{Control, So, Si, control_named, control_effect, invoked}
 use Rattle.vt_term.specs.Effect.{effect, effect_if, reply_if}
 use Rattle.vt_term.specs.Term.{Term, mode_of, answered, step, play, sent}
 use Rattle.vt_term.specs.Seen.{Seen, Shows}
@@ -33,12 +31,12 @@ invoked_mode slot Vt52Mode s = refl
 
 control_mode : (control : Option Control) (s : Shown) → (effect_of control_effect control s).modes.mode ≡ s.modes.mode
 control_mode None s = refl
-control_mode (Some Bs) s = refl
-control_mode (Some Ht) s = refl
-control_mode (Some Lf) s = refl
-control_mode (Some Cr) s = refl
-control_mode (Some So) s = invoked_mode _ s.modes.mode s
-control_mode (Some Si) s = invoked_mode _ s.modes.mode s
+control_mode (Some control) s = kept control s
+  where
+    kept : (control : Control) (s : Shown) → (control_effect control s).modes.mode ≡ s.modes.mode
+    kept So s = invoked_mode _ s.modes.mode s
+    kept Si s = invoked_mode _ s.modes.mode s
+    kept _ s = refl
 
 effect_mode : (command : Command) (s : Shown) → is_sequence command ≡ false → (effect command s).modes.mode ≡ s.modes.mode
 unfolding effect

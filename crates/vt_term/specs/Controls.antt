@@ -1,5 +1,5 @@
 -- Control characters (EK-VT100-UG chapter 3). They act in both modes, and inside sequences that aren't finished.
-use Rattle.std.specs.Prelude.{ℕ, Bool, Option, Some, None, ◌==◌, ◌||◌, if◌then◌else◌}
+use Rattle.std.specs.Prelude.{ℕ, Bool, List, [], ◌∷◌, Option, if◌then◌else◌}
 use Rattle.vt_parser.specs.declared.commands.Mode.{Mode}
 use Rattle.vt_parser.specs.declared.commands.Mode.TheVariants.{Ansi, Vt52}
 use Rattle.vt_screen.specs.Picture.{Picture}
@@ -8,20 +8,28 @@ use Rattle.vt_screen.specs.Scrolls.{indexed}
 use Rattle.vt_screen.specs.Tabs.{tabbed}
 use Rattle.vt_term.specs.declared.sets.Slot.{Slot}
 use Rattle.vt_term.specs.declared.sets.Slot.TheVariants.{G0, G1}
-use Rattle.vt_term.specs.declared.controls.Control.{Control}
-use Rattle.vt_term.specs.declared.controls.Control.TheVariants.{Bs, Ht, Lf, Cr, So, Si}
+use Rattle.vt_term.specs.Rows.{named}
 use Rattle.vt_term.specs.Shown.{Shown, on_picture, on_sets}
 
--- the names of the controls: VT and FF are read as LF (EK-VT100-UG chapter 3)
+-- the control characters that have an effect; VT and FF are read as LF (EK-VT100-UG chapter 3)
+pub data Control : Type 0 where
+  Bs Ht Lf Cr So Si : Control
+
+-- their bytes
+abbrev pub controls : List (ℕ × Control)
+controls =
+    (8, Bs) ∷  -- BS
+    (9, Ht) ∷  -- HT
+    (10, Lf) ∷  -- LF
+    (11, Lf) ∷  -- VT
+    (12, Lf) ∷  -- FF
+    (13, Cr) ∷  -- CR
+    (14, So) ∷  -- SO
+    (15, Si) ∷  -- SI
+    []
+
 abbrev pub control_named : ℕ → Option Control
-control_named byte =
-    if byte == 8 then Some Bs
-    else (if byte == 9 then Some Ht
-    else (if (byte == 10) || (byte == 11) || (byte == 12) then Some Lf
-    else (if byte == 13 then Some Cr
-    else (if byte == 14 then Some So
-    else (if byte == 15 then Some Si
-    else None)))))
+control_named = named controls
 
 -- LF: index; where LNM is set the column becomes 1 first (EK-VT100-UG chapter 3, LNM)
 abbrev pub line_fed : Bool → Picture → Picture

@@ -1,63 +1,71 @@
 -- Escape sequences of ANSI mode (EK-VT100-UG chapter 3).
-use Rattle.std.specs.Prelude.{ℕ, Bool, true, false, Option, Some, None, ◌==◌, if◌then◌else◌}
+use Rattle.std.specs.Prelude.{ℕ, Bool, true, false, List, [], ◌∷◌, Option, Some, None, option_map, ◌==◌, if◌then◌else◌}
 use Rattle.vt_screen.specs.declared.cell.Size.TheVariants.{Single, Double, Top, Bottom}
 use Rattle.vt_screen.specs.Attributes.{plain}
 use Rattle.vt_screen.specs.Moves.{moved_to_left, moved_home, put_back}
 use Rattle.vt_screen.specs.Scrolls.{indexed, reverse_indexed}
 use Rattle.vt_screen.specs.Lines.{size_set, aligned}
 use Rattle.vt_screen.specs.Tabs.{tab_made}
+use Rattle.vt_term.specs.declared.sets.CharacterSet.{CharacterSet}
 use Rattle.vt_term.specs.declared.sets.CharacterSet.TheVariants.{Ascii, Uk, SpecialGraphics}
 use Rattle.vt_term.specs.declared.sets.Slot.{Slot}
 use Rattle.vt_term.specs.declared.sets.Slot.TheVariants.{G0, G1}
 use Rattle.vt_term.specs.declared.saved.Saved.{Saved}
-use Rattle.vt_term.specs.declared.escapes.Escape.{Escape}
-use Rattle.vt_term.specs.declared.escapes.Escape.TheVariants.{Ind, Nel, Ri, Hts, Decid, Ris, Decsc, Decrc, Deckpam, Deckpnm, DecdhlTop, DecdhlBottom, Decswl, Decdwl, Decaln, Scs}
+use Rattle.vt_term.specs.Rows.{named}
 use Rattle.vt_term.specs.Sets.{designated}
 use Rattle.vt_term.specs.Shown.{Shown, reset_shown, on_picture, on_modes, on_sets}
 
--- the names of the sequences without an intermediate: D E M H Z c 7 8 = and > (EK-VT100-UG chapter 3)
-abbrev pub plain_escape_named : ℕ → Option Escape
-plain_escape_named last =
-    if last == 68 then Some Ind
-    else (if last == 69 then Some Nel
-    else (if last == 77 then Some Ri
-    else (if last == 72 then Some Hts
-    else (if last == 90 then Some Decid
-    else (if last == 99 then Some Ris
-    else (if last == 55 then Some Decsc
-    else (if last == 56 then Some Decrc
-    else (if last == 61 then Some Deckpam
-    else (if last == 62 then Some Deckpnm
-    else None)))))))))
+-- the escape sequences that have an effect or a reply (EK-VT100-UG chapter 3)
+pub data Escape : Type 0 where
+  Ind Nel Ri Hts Decid Ris Decsc Decrc Deckpam Deckpnm DecdhlTop DecdhlBottom Decswl Decdwl Decaln : Escape
+  Scs : (slot : Slot) (set : CharacterSet) → Escape
 
--- the names of those with the intermediate #: 3 4 5 6 and 8 (EK-VT100-UG chapter 3)
-abbrev pub line_escape_named : ℕ → Option Escape
-line_escape_named last =
-    if last == 51 then Some DecdhlTop
-    else (if last == 52 then Some DecdhlBottom
-    else (if last == 53 then Some Decswl
-    else (if last == 54 then Some Decdwl
-    else (if last == 56 then Some Decaln
-    else None))))
+-- the final bytes of those without an intermediate
+abbrev pub plain_escapes : List (ℕ × Escape)
+plain_escapes =
+    (68, Ind) ∷  -- D
+    (69, Nel) ∷  -- E
+    (77, Ri) ∷  -- M
+    (72, Hts) ∷  -- H
+    (90, Decid) ∷  -- Z
+    (99, Ris) ∷  -- c
+    (55, Decsc) ∷  -- 7
+    (56, Decrc) ∷  -- 8
+    (61, Deckpam) ∷  -- =
+    (62, Deckpnm) ∷  -- >
+    []
 
--- SCS: the finals A, B, 0, 1 and 2 (EK-VT100-UG chapter 3); the alternate ROMs of 1 and 2 are ASCII and special graphics
--- (profile)
-abbrev pub set_escape_named : Slot → ℕ → Option Escape
-set_escape_named slot last =
-    if last == 65 then Some (Scs slot Uk)
-    else (if last == 66 then Some (Scs slot Ascii)
-    else (if last == 48 then Some (Scs slot SpecialGraphics)
-    else (if last == 49 then Some (Scs slot Ascii)
-    else (if last == 50 then Some (Scs slot SpecialGraphics)
-    else None))))
+-- the final bytes of those with the intermediate #
+abbrev pub line_escapes : List (ℕ × Escape)
+line_escapes =
+    (51, DecdhlTop) ∷  -- 3
+    (52, DecdhlBottom) ∷  -- 4
+    (53, Decswl) ∷  -- 5
+    (54, Decdwl) ∷  -- 6
+    (56, Decaln) ∷  -- 8
+    []
 
--- the intermediates are #, ( for G0 and ) for G1 (EK-VT100-UG chapter 3)
+-- the final bytes of SCS; the alternate ROMs of 1 and 2 are ASCII and special graphics (profile)
+abbrev pub character_sets : List (ℕ × CharacterSet)
+character_sets =
+    (65, Uk) ∷  -- A
+    (66, Ascii) ∷  -- B
+    (48, SpecialGraphics) ∷  -- 0
+    (49, Ascii) ∷  -- 1
+    (50, SpecialGraphics) ∷  -- 2
+    []
+
+-- SCS designates a set in a slot
+abbrev pub designation_named : Slot → ℕ → Option Escape
+designation_named slot last = option_map (Scs slot) (named character_sets last)
+
+-- the intermediates
 abbrev pub escape_named : Option ℕ → ℕ → Option Escape
-escape_named None last = plain_escape_named last
+escape_named None last = named plain_escapes last
 escape_named (Some inter) last =
-    if inter == 35 then line_escape_named last
-    else (if inter == 40 then set_escape_named G0 last
-    else (if inter == 41 then set_escape_named G1 last
+    if inter == 35 then named line_escapes last  -- #
+    else (if inter == 40 then designation_named G0 last  -- (
+    else (if inter == 41 then designation_named G1 last  -- )
     else None))
 
 -- DECSC: cursor, rendition and sets (EK-VT100-UG chapter 3), and also the pending wrap and DECOM (profile)

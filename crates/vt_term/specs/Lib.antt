@@ -1,3 +1,4 @@
+pub mod Rows
 pub mod Sets
 pub mod Shown
 pub mod Controls

@@ -1,25 +1,35 @@
 -- Control sequences of ANSI mode with `?`, of which h sets modes and l resets them (EK-VT100-UG chapter 3).
-use Rattle.std.specs.Prelude.{ℕ, Bool, true, false, List, Option, Some, None, ◌==◌, fold, if◌then◌else◌}
+use Rattle.std.specs.Prelude.{ℕ, Bool, true, false, List, [], ◌∷◌, fold, if◌then◌else◌}
 use Rattle.vt_parser.specs.declared.commands.Mode.TheVariants.{Vt52}
 use Rattle.vt_screen.specs.Moves.{moved_home, wrap_cleared}
 use Rattle.vt_screen.specs.Lines.{columns_set}
-use Rattle.vt_term.specs.declared.private_modes.PrivateMode.{PrivateMode}
-use Rattle.vt_term.specs.declared.private_modes.PrivateMode.TheVariants.{Decckm, Decanm, Deccolm, Decsclm, Decscnm, Decom, Decawm, Decarm, Decinlm}
+use Rattle.vt_term.specs.Rows.{named}
 use Rattle.vt_term.specs.Shown.{Shown, on_picture, on_modes, effect_of}
 
--- the names of the modes 1 to 9 (EK-VT100-UG chapter 3)
-abbrev pub private_mode_named : ℕ → Option PrivateMode
-private_mode_named param =
-    if param == 1 then Some Decckm
-    else (if param == 2 then Some Decanm
-    else (if param == 3 then Some Deccolm
-    else (if param == 4 then Some Decsclm
-    else (if param == 5 then Some Decscnm
-    else (if param == 6 then Some Decom
-    else (if param == 7 then Some Decawm
-    else (if param == 8 then Some Decarm
-    else (if param == 9 then Some Decinlm
-    else None))))))))
+-- the modes that have an effect or are kept (EK-VT100-UG chapter 3)
+pub data PrivateMode : Type 0 where
+  Decckm Decanm Deccolm Decsclm Decscnm Decom Decawm Decarm Decinlm : PrivateMode
+
+-- their parameters
+abbrev pub private_modes : List (ℕ × PrivateMode)
+private_modes =
+    (1, Decckm) ∷
+    (2, Decanm) ∷
+    (3, Deccolm) ∷
+    (4, Decsclm) ∷
+    (5, Decscnm) ∷
+    (6, Decom) ∷
+    (7, Decawm) ∷
+    (8, Decarm) ∷
+    (9, Decinlm) ∷
+    []
+
+-- the final bytes that set modes (true) or reset them
+abbrev pub switches : List (ℕ × Bool)
+switches =
+    (104, true) ∷  -- h
+    (108, false) ∷  -- l
+    []
 
 -- DECANM reset: VT52 mode (EK-VT100-UG chapter 3), its graphics off (profile)
 abbrev pub vt52_entered : Shown → Shown
@@ -46,11 +56,12 @@ mode_effect value Decinlm s = on_modes (λ modes. record modes { interlace = val
 
 -- one parameter; a number that names no mode does nothing (EK-VT100-UG chapter 3)
 abbrev pub mode_set : Bool → Shown → ℕ → Shown
-mode_set value s param = effect_of (mode_effect value) (private_mode_named param) s
+mode_set value s param = effect_of (mode_effect value) (named private_modes param) s
 
--- h and l take every parameter, from left to right, and other finals have no effect (EK-VT100-UG chapter 3)
+-- every parameter, from left to right
+abbrev pub modes_set : List ℕ → Bool → Shown → Shown
+modes_set params value s = fold (mode_set value) s params
+
+-- other finals have no effect (EK-VT100-UG chapter 3)
 abbrev pub private_effect : ℕ → List ℕ → Shown → Shown
-private_effect last params s =
-    if last == 104 then fold (mode_set true) s params
-    else (if last == 108 then fold (mode_set false) s params
-    else s)
+private_effect last params s = effect_of (modes_set params) (named switches last) s

@@ -1,13 +1,9 @@
 -- What a terminal answers (EK-VT100-UG chapter 3, reports). All else is answered by nothing.
 use Rattle.std.specs.Prelude.{ℕ, ◌-◌, Bool, List, [], ◌∷◌, ◌++◌, Option, Some, None, ◌==◌, codes, decimal, if◌then◌else◌}
-use Rattle.vt_term.specs.declared.escapes.Escape.{Escape}
-use Rattle.vt_term.specs.declared.escapes.Escape.TheVariants.{Decid}
-use Rattle.vt_term.specs.declared.sequences.Sequence.{Sequence}
-use Rattle.vt_term.specs.declared.sequences.Sequence.TheVariants.{Da, Dsr, Decreqtparm}
-use Rattle.vt_term.specs.declared.vt52.Vt52Sequence.{Vt52Sequence}
-use Rattle.vt_term.specs.declared.vt52.Vt52Sequence.TheVariants.{Identify}
 use Rattle.vt_screen.specs.Picture.{Picture}
-use Rattle.vt_term.specs.Sequences.{first_of}
+use Rattle.vt_term.specs.Escapes.{Escape, Decid}
+use Rattle.vt_term.specs.Vt52.{Vt52Sequence, Identify}
+use Rattle.vt_term.specs.Sequences.{Sequence, Da, Dsr, Decreqtparm, first_of}
 use Rattle.vt_term.specs.Shown.{Shown}
 
 -- ESC and a text
@@ -44,17 +40,29 @@ abbrev pub escape_reply : Escape → List ℕ
 escape_reply Decid = device_attributes
 escape_reply _ = []
 
--- DA 0; DSR 5 and 6; DECREQTPARM 0 and 1 (EK-VT100-UG chapter 3)
+-- DA 0 (EK-VT100-UG chapter 3)
+abbrev pub attributes_reply : ℕ → List ℕ
+attributes_reply param = if param == 0 then device_attributes else []
+
+-- DSR 5 and 6 (EK-VT100-UG chapter 3)
+abbrev pub status_reply : ℕ → Shown → List ℕ
+status_reply param s =
+    if param == 5 then ready
+    else (if param == 6 then cursor_position (reported_line s.modes.origin s.picture) s.picture.column
+    else [])
+
+-- DECREQTPARM 0 and 1 (EK-VT100-UG chapter 3)
+abbrev pub parameters_reply : ℕ → List ℕ
+parameters_reply param =
+    if param == 0 then terminal_parameters (codes "2")
+    else (if param == 1 then terminal_parameters (codes "3")
+    else [])
+
+-- the table of the answers to control sequences
 abbrev pub sequence_reply : Sequence → List ℕ → Shown → List ℕ
-sequence_reply Da params s = if first_of params == 0 then device_attributes else []
-sequence_reply Dsr params s =
-    if first_of params == 5 then ready
-    else (if first_of params == 6 then cursor_position (reported_line s.modes.origin s.picture) s.picture.column
-    else [])
-sequence_reply Decreqtparm params s =
-    if first_of params == 0 then terminal_parameters (codes "2")
-    else (if first_of params == 1 then terminal_parameters (codes "3")
-    else [])
+sequence_reply Da params s = attributes_reply (first_of params)
+sequence_reply Dsr params s = status_reply (first_of params) s
+sequence_reply Decreqtparm params s = parameters_reply (first_of params)
 sequence_reply _ params s = []
 
 -- the identification of VT52 mode (EK-VT100-UG chapter 3)

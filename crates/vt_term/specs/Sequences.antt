@@ -1,5 +1,5 @@
 -- Control sequences of ANSI mode without `?` (EK-VT100-UG chapter 3).
-use Rattle.std.specs.Prelude.{ℕ, ◌-◌, Bool, true, false, List, Option, Some, None, ◌==◌, ◌||◌, nat_le, fold, slice_index, slice_set, if◌then◌else◌}
+use Rattle.std.specs.Prelude.{ℕ, ◌-◌, Bool, true, false, List, [], ◌∷◌, Option, ◌==◌, nat_le, fold, slice_index, slice_set, if◌then◌else◌}
 use Rattle.vt_screen.specs.Attributes.{Attributes, plain}
 use Rattle.vt_screen.specs.Picture.{Picture}
 use Rattle.vt_screen.specs.Moves.{stepped_up, stepped_down, stepped_right, stepped_left, placed}
@@ -7,30 +7,37 @@ use Rattle.vt_screen.specs.Erasures.{display_erased, line_erased}
 use Rattle.vt_screen.specs.Lines.{margins_set}
 use Rattle.vt_screen.specs.Tabs.{tab_made, tabs_cleared}
 use Rattle.vt_term.specs.declared.modes.Modes.{Modes}
-use Rattle.vt_term.specs.declared.sequences.Sequence.{Sequence}
-use Rattle.vt_term.specs.declared.sequences.Sequence.TheVariants.{Cuu, Cud, Cuf, Cub, Cup, Ed, El, Decstbm, Tbc, Sgr, Sm, Rm, Decll, Da, Dsr, Decreqtparm}
+use Rattle.vt_term.specs.Rows.{named}
 use Rattle.vt_term.specs.Shown.{Shown, dark, on_picture, on_modes}
 
--- the names of the finals A B C D H f J K r g m h l q c n and x; HVP is read as CUP (EK-VT100-UG chapter 3)
+-- the control sequences that have an effect or a reply; HVP is read as CUP (EK-VT100-UG chapter 3)
+pub data Sequence : Type 0 where
+  Cuu Cud Cuf Cub Cup Ed El Decstbm Tbc Sgr Sm Rm Decll Da Dsr Decreqtparm : Sequence
+
+-- their final bytes
+abbrev pub sequences : List (ℕ × Sequence)
+sequences =
+    (65, Cuu) ∷  -- A
+    (66, Cud) ∷  -- B
+    (67, Cuf) ∷  -- C
+    (68, Cub) ∷  -- D
+    (72, Cup) ∷  -- H
+    (102, Cup) ∷  -- f
+    (74, Ed) ∷  -- J
+    (75, El) ∷  -- K
+    (114, Decstbm) ∷  -- r
+    (103, Tbc) ∷  -- g
+    (109, Sgr) ∷  -- m
+    (104, Sm) ∷  -- h
+    (108, Rm) ∷  -- l
+    (113, Decll) ∷  -- q
+    (99, Da) ∷  -- c
+    (110, Dsr) ∷  -- n
+    (120, Decreqtparm) ∷  -- x
+    []
+
 abbrev pub sequence_named : ℕ → Option Sequence
-sequence_named last =
-    if last == 65 then Some Cuu
-    else (if last == 66 then Some Cud
-    else (if last == 67 then Some Cuf
-    else (if last == 68 then Some Cub
-    else (if (last == 72) || (last == 102) then Some Cup
-    else (if last == 74 then Some Ed
-    else (if last == 75 then Some El
-    else (if last == 114 then Some Decstbm
-    else (if last == 103 then Some Tbc
-    else (if last == 109 then Some Sgr
-    else (if last == 104 then Some Sm
-    else (if last == 108 then Some Rm
-    else (if last == 113 then Some Decll
-    else (if last == 99 then Some Da
-    else (if last == 110 then Some Dsr
-    else (if last == 120 then Some Decreqtparm
-    else None)))))))))))))))
+sequence_named = named sequences
 
 -- the first and the second parameter; a missing one is 0 (ECMA-48 section 5.4.2)
 abbrev pub first_of : List ℕ → ℕ

@@ -1,32 +1,38 @@
 -- Sequences of VT52 mode (EK-VT100-UG chapter 3, VT52 mode).
-use Rattle.std.specs.Prelude.{ℕ, Bool, true, false, Option, Some, None, ◌==◌, if◌then◌else◌}
+use Rattle.std.specs.Prelude.{ℕ, Bool, true, false, List, [], ◌∷◌, Option}
 use Rattle.vt_parser.specs.declared.commands.Mode.TheVariants.{Ansi}
 use Rattle.vt_screen.specs.Moves.{stepped_up, stepped_down, stepped_right, stepped_left, placed, moved_home}
 use Rattle.vt_screen.specs.Scrolls.{reverse_indexed}
 use Rattle.vt_screen.specs.Erasures.{display_erased, line_erased}
-use Rattle.vt_term.specs.declared.vt52.Vt52Sequence.{Vt52Sequence}
-use Rattle.vt_term.specs.declared.vt52.Vt52Sequence.TheVariants.{Up, Down, Right, Left, GraphicsOn, GraphicsOff, Home, ReverseIndex, EraseDisplay, EraseLine, Identify, KeypadApplication, KeypadNumeric, EnterAnsi}
+use Rattle.vt_term.specs.Rows.{named}
 use Rattle.vt_term.specs.Shown.{Shown, on_picture, on_modes, on_sets}
 use Rattle.vt_term.specs.Escapes.{keypad_set}
 
--- the names of the finals A B C D F G H I J K Z = > and < (EK-VT100-UG chapter 3)
+-- the sequences of VT52 mode that have an effect or a reply (EK-VT100-UG chapter 3)
+pub data Vt52Sequence : Type 0 where
+  Up Down Right Left GraphicsOn GraphicsOff Home ReverseIndex EraseDisplay EraseLine Identify KeypadApplication KeypadNumeric EnterAnsi : Vt52Sequence
+
+-- their final bytes
+abbrev pub vt52_sequences : List (ℕ × Vt52Sequence)
+vt52_sequences =
+    (65, Up) ∷  -- A
+    (66, Down) ∷  -- B
+    (67, Right) ∷  -- C
+    (68, Left) ∷  -- D
+    (70, GraphicsOn) ∷  -- F
+    (71, GraphicsOff) ∷  -- G
+    (72, Home) ∷  -- H
+    (73, ReverseIndex) ∷  -- I
+    (74, EraseDisplay) ∷  -- J
+    (75, EraseLine) ∷  -- K
+    (90, Identify) ∷  -- Z
+    (61, KeypadApplication) ∷  -- =
+    (62, KeypadNumeric) ∷  -- >
+    (60, EnterAnsi) ∷  -- <
+    []
+
 abbrev pub vt52_named : ℕ → Option Vt52Sequence
-vt52_named last =
-    if last == 65 then Some Up
-    else (if last == 66 then Some Down
-    else (if last == 67 then Some Right
-    else (if last == 68 then Some Left
-    else (if last == 70 then Some GraphicsOn
-    else (if last == 71 then Some GraphicsOff
-    else (if last == 72 then Some Home
-    else (if last == 73 then Some ReverseIndex
-    else (if last == 74 then Some EraseDisplay
-    else (if last == 75 then Some EraseLine
-    else (if last == 90 then Some Identify
-    else (if last == 61 then Some KeypadApplication
-    else (if last == 62 then Some KeypadNumeric
-    else (if last == 60 then Some EnterAnsi
-    else None)))))))))))))
+vt52_named = named vt52_sequences
 
 -- VT52 graphics on and off (EK-VT100-UG chapter 3)
 abbrev pub graphics_set : Bool → Shown → Shown

@@ -9,10 +9,6 @@ ghost use Rattle.vt_term.specs.Sink.{after_sending, HasRoom};
 ghost use Rattle.vt_term.specs.Vt52.{vt52_named, vt52_effect};
 
 use crate::console::Console;
-use crate::escapes::escape_named;
-use crate::replies::{answer_escape, answer_vt52};
-use crate::sequences::sequence_named;
-use crate::vt52::vt52_named;
 use crate::{OutOfMemory, Reports};
 use vt_parser::Command;
 
@@ -51,27 +47,6 @@ impl Console {
         Ok(())
     }
 
-    fn perform_escape(
-        &mut self,
-        inter: Option<u8>,
-        last: u8,
-        sink: &mut Reports,
-    ) -> Result<(), OutOfMemory>
-        requires { IsSafe (shown_of self.old) }
-        ensures shown { OnOk result
-            (shown_of self.new ≡ effect_of escape_effect (escape_named inter last) (shown_of self.old)) }
-        ensures sent { OnOk result (sink.new ≡ after_sending sink.old (reply_of escape_reply (escape_named inter last))) }
-        ensures err { OnErr result (shown_of self.new ≡ shown_of self.old) }
-        ensures err_sink { OnErr result (sink.new ≡ sink.old) }
-        ensures room { HasRoom sink.old (reply_of escape_reply (escape_named inter last)) → IsOk result }
-    {
-        if let Some(escape) = escape_named(inter, last) {
-            answer_escape(escape, sink)?;
-            self.do_escape(escape);
-        }
-        Ok(())
-    }
-
     /// Answers a control sequence, and does what it asks for. A refused growth changes nothing.
     #[inline]
     pub(crate) fn perform_control_sequence(
@@ -93,24 +68,9 @@ impl Console {
     {
         if private {
             self.do_private(last, params);
-        } else if let Some(sequence) = sequence_named(last) {
-            self.answer_sequence(sequence, params, sink)?;
-            self.do_sequence(sequence, params);
+            Ok(())
+        } else {
+            self.perform_sequence(last, params, sink)
         }
-        Ok(())
-    }
-
-    fn perform_vt52(&mut self, last: u8, sink: &mut Reports) -> Result<(), OutOfMemory>
-        ensures shown { OnOk result (shown_of self.new ≡ effect_of vt52_effect (vt52_named last) (shown_of self.old)) }
-        ensures sent { OnOk result (sink.new ≡ after_sending sink.old (reply_of vt52_reply (vt52_named last))) }
-        ensures err { OnErr result (shown_of self.new ≡ shown_of self.old) }
-        ensures err_sink { OnErr result (sink.new ≡ sink.old) }
-        ensures room { HasRoom sink.old (reply_of vt52_reply (vt52_named last)) → IsOk result }
-    {
-        if let Some(sequence) = vt52_named(last) {
-            answer_vt52(sequence, sink)?;
-            self.do_vt52(sequence);
-        }
-        Ok(())
     }
 }

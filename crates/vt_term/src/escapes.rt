@@ -1,130 +1,118 @@
 //! Escape sequences of ANSI mode.
-ghost use Rattle.std.specs.Prelude.{◌≡◌, Option, IsOk, OnOk, OnErr};
-ghost use Rattle.vt_term.specs.Escapes.{plain_escape_named, line_escape_named, set_escape_named, escape_named, escape_effect, restored, saved_from, keypad_set};
+ghost use Rattle.std.specs.Prelude.{◌≡◌, [], Option, IsOk, OnOk, OnErr};
+ghost use Rattle.vt_term.specs.Rows.{named};
+ghost use Rattle.vt_term.specs.Escapes.{Nel, Decsc, plain_escapes, line_escapes, character_sets, designation_named, escape_named, escape_effect, restored, saved_from, keypad_set};
+ghost use Rattle.vt_term.specs.Replies.{escape_reply, reply_of};
+ghost use Rattle.vt_term.specs.Sink.{after_sending, HasRoom};
 ghost use Rattle.vt_term.specs.Shown.{shown_of, on_picture, effect_of, IsSavedWell};
 
 use crate::console::Console;
-use crate::{CharacterSet, Saved, Slot};
+use crate::replies::DEVICE_ATTRIBUTES;
+use crate::{CharacterSet, OutOfMemory, Reports, Saved, Slot};
 use vt_screen::{Rendition, Size};
 
-/// The escape sequences that have an effect or a reply.
-#[derive(Clone, Copy)]
-pub(crate) enum Escape {
-    Ind,
-    Nel,
-    Ri,
-    Hts,
-    Decid,
-    Ris,
-    Decsc,
-    Decrc,
-    Deckpam,
-    Deckpnm,
-    DecdhlTop,
-    DecdhlBottom,
-    Decswl,
-    Decdwl,
-    Decaln,
-    Scs(Slot, CharacterSet),
-}
-
+// The set that SCS designates.
 #[inline]
-fn plain_escape_named(last: u8) -> Option<Escape>
-    ensures { result ≡ plain_escape_named last }
+fn set_named(last: u8) -> Option<CharacterSet>
+    ensures { result ≡ named character_sets last }
 {
     match last {
-        b'D' => Some(Escape::Ind),
-        b'E' => Some(Escape::Nel),
-        b'M' => Some(Escape::Ri),
-        b'H' => Some(Escape::Hts),
-        b'Z' => Some(Escape::Decid),
-        b'c' => Some(Escape::Ris),
-        b'7' => Some(Escape::Decsc),
-        b'8' => Some(Escape::Decrc),
-        b'=' => Some(Escape::Deckpam),
-        b'>' => Some(Escape::Deckpnm),
+        b'A' => Some(CharacterSet::Uk),
+        b'B' => Some(CharacterSet::Ascii),
+        b'0' => Some(CharacterSet::SpecialGraphics),
+        b'1' => Some(CharacterSet::Ascii),
+        b'2' => Some(CharacterSet::SpecialGraphics),
         _ => None,
-    }
-}
-
-#[inline]
-fn line_escape_named(last: u8) -> Option<Escape>
-    ensures { result ≡ line_escape_named last }
-{
-    match last {
-        b'3' => Some(Escape::DecdhlTop),
-        b'4' => Some(Escape::DecdhlBottom),
-        b'5' => Some(Escape::Decswl),
-        b'6' => Some(Escape::Decdwl),
-        b'8' => Some(Escape::Decaln),
-        _ => None,
-    }
-}
-
-#[inline]
-fn set_escape_named(slot: Slot, last: u8) -> Option<Escape>
-    ensures { result ≡ set_escape_named slot last }
-{
-    match last {
-        b'A' => Some(Escape::Scs(slot, CharacterSet::Uk)),
-        b'B' => Some(Escape::Scs(slot, CharacterSet::Ascii)),
-        b'0' => Some(Escape::Scs(slot, CharacterSet::SpecialGraphics)),
-        b'1' => Some(Escape::Scs(slot, CharacterSet::Ascii)),
-        b'2' => Some(Escape::Scs(slot, CharacterSet::SpecialGraphics)),
-        _ => None,
-    }
-}
-
-/// The name of an escape sequence.
-#[inline]
-pub(crate) fn escape_named(inter: Option<u8>, last: u8) -> Option<Escape>
-    ensures { result ≡ escape_named inter last }
-{
-    match inter {
-        None => plain_escape_named(last),
-        Some(b'#') => line_escape_named(last),
-        Some(b'(') => set_escape_named(Slot::G0, last),
-        Some(b')') => set_escape_named(Slot::G1, last),
-        Some(_) => None,
     }
 }
 
 impl Console {
-    /// Does what an escape sequence asks for, but its reply.
-    #[inline]
-    pub(crate) fn do_escape(&mut self, escape: Escape)
+    /// Answers an escape sequence, and does what it asks for. A refused growth changes nothing.
+    pub(crate) fn perform_escape(
+        &mut self,
+        inter: Option<u8>,
+        last: u8,
+        sink: &mut Reports,
+    ) -> Result<(), OutOfMemory>
         requires { IsSavedWell self.old.saved }
-        ensures { shown_of self.new ≡ escape_effect escape (shown_of self.old) }
+        ensures shown { OnOk result
+            (shown_of self.new ≡ effect_of escape_effect (escape_named inter last) (shown_of self.old)) }
+        ensures sent { OnOk result (sink.new ≡ after_sending sink.old (reply_of escape_reply (escape_named inter last))) }
+        ensures err { OnErr result (shown_of self.new ≡ shown_of self.old) }
+        ensures err_sink { OnErr result (sink.new ≡ sink.old) }
+        ensures room { HasRoom sink.old (reply_of escape_reply (escape_named inter last)) → IsOk result }
     {
-        match escape {
-            Escape::Ind => self.screen.index(),
-            Escape::Nel => self.next_line(),
-            Escape::Ri => self.screen.reverse_index(),
-            Escape::Hts => self.screen.set_tab(),
-            Escape::Decid => {}
-            Escape::Ris => *self = Console::reset(),
-            Escape::Decsc => self.save(),
-            Escape::Decrc => self.restore(),
-            Escape::Deckpam => self.set_keypad(true),
-            Escape::Deckpnm => self.set_keypad(false),
-            Escape::DecdhlTop => self.screen.set_size(Size::Top),
-            Escape::DecdhlBottom => self.screen.set_size(Size::Bottom),
-            Escape::Decswl => self.screen.set_size(Size::Single),
-            Escape::Decdwl => self.screen.set_size(Size::Double),
-            Escape::Decaln => self.screen.align(),
-            Escape::Scs(slot, set) => self.sets.designate(slot, set),
+        match inter {
+            None => return self.perform_plain(last, sink),
+            Some(b'#') => self.change_line(last),
+            Some(b'(') => self.designate(Slot::G0, last),
+            Some(b')') => self.designate(Slot::G1, last),
+            Some(_) => {}
+        }
+        Ok(())
+    }
+
+    // Those without an intermediate.
+    #[inline]
+    fn perform_plain(&mut self, last: u8, sink: &mut Reports) -> Result<(), OutOfMemory>
+        requires { IsSavedWell self.old.saved }
+        ensures shown { OnOk result
+            (shown_of self.new ≡ effect_of escape_effect (named plain_escapes last) (shown_of self.old)) }
+        ensures sent { OnOk result (sink.new ≡ after_sending sink.old (reply_of escape_reply (named plain_escapes last))) }
+        ensures err { OnErr result (shown_of self.new ≡ shown_of self.old) }
+        ensures err_sink { OnErr result (sink.new ≡ sink.old) }
+        ensures room { HasRoom sink.old (reply_of escape_reply (named plain_escapes last)) → IsOk result }
+    {
+        match last {
+            b'D' => self.screen.index(), // IND
+            b'E' => self.next_line(), // NEL
+            b'M' => self.screen.reverse_index(), // RI
+            b'H' => self.screen.set_tab(), // HTS
+            b'Z' => return sink.send(DEVICE_ATTRIBUTES), // DECID
+            b'c' => *self = Console::reset(), // RIS
+            b'7' => self.save(), // DECSC
+            b'8' => self.restore(), // DECRC
+            b'=' => self.set_keypad(true), // DECKPAM
+            b'>' => self.set_keypad(false), // DECKPNM
+            _ => {}
+        }
+        Ok(())
+    }
+
+    // Those with the intermediate #.
+    fn change_line(&mut self, last: u8)
+        ensures shown { shown_of self.new ≡ effect_of escape_effect (named line_escapes last) (shown_of self.old) }
+        ensures silent { reply_of escape_reply (named line_escapes last) ≡ [] }
+    {
+        match last {
+            b'3' => self.screen.set_size(Size::Top), // DECDHL
+            b'4' => self.screen.set_size(Size::Bottom), // DECDHL
+            b'5' => self.screen.set_size(Size::Single), // DECSWL
+            b'6' => self.screen.set_size(Size::Double), // DECDWL
+            b'8' => self.screen.align(), // DECALN
+            _ => {}
+        }
+    }
+
+    // SCS.
+    fn designate(&mut self, slot: Slot, last: u8)
+        ensures shown { shown_of self.new ≡ effect_of escape_effect (designation_named slot last) (shown_of self.old) }
+        ensures silent { reply_of escape_reply (designation_named slot last) ≡ [] }
+    {
+        if let Some(set) = set_named(last) {
+            self.sets.designate(slot, set);
         }
     }
 
     fn next_line(&mut self)
-        ensures { shown_of self.new ≡ escape_effect Escape.Nel (shown_of self.old) }
+        ensures { shown_of self.new ≡ escape_effect Nel (shown_of self.old) }
     {
         self.screen.to_left();
         self.screen.index();
     }
 
     fn save(&mut self)
-        ensures { shown_of self.new ≡ escape_effect Escape.Decsc (shown_of self.old) }
+        ensures { shown_of self.new ≡ escape_effect Decsc (shown_of self.old) }
     {
         let (line, column) = self.screen.cursor();
         self.saved = Some(Saved {

@@ -1,19 +1,16 @@
 //! What a terminal answers.
 ghost use Rattle.std.specs.Prelude.{◌≡◌, ◌≤◌, ◌-◌, if◌then◌else◌, OnOk, OnErr, IsOk};
-ghost use Rattle.vt_term.specs.Replies.{escape_reply, sequence_reply, vt52_reply, cursor_position, reported_line};
+ghost use Rattle.vt_term.specs.Replies.{attributes_reply, status_reply, parameters_reply, cursor_position, reported_line};
 ghost use Rattle.vt_term.specs.Shown.{shown_of, IsSafe};
 ghost use Rattle.vt_term.specs.Sink.{after_sending, HasRoom};
 
 use crate::console::Console;
-use crate::escapes::Escape;
-use crate::sequences::{Sequence, first_of};
-use crate::vt52::Vt52Sequence;
 use crate::{OutOfMemory, Reports};
 use arrayvec::ArrayVec;
 use itoa::Buffer;
 
-// A VT100 with the Advanced Video Option.
-const DEVICE_ATTRIBUTES: &[u8] = b"\x1b[?1;2c";
+/// A VT100 with the Advanced Video Option.
+pub(crate) const DEVICE_ATTRIBUTES: &[u8] = b"\x1b[?1;2c";
 
 // No malfunction.
 const READY: &[u8] = b"\x1b[0n";
@@ -23,34 +20,11 @@ const UNSOLICITED_PARAMETERS: &[u8] = b"\x1b[2;1;1;112;112;1;0x";
 
 const SOLICITED_PARAMETERS: &[u8] = b"\x1b[3;1;1;112;112;1;0x";
 
-const VT52_IDENTITY: &[u8] = b"\x1b/Z";
+/// A VT100 that acts as a VT52.
+pub(crate) const VT52_IDENTITY: &[u8] = b"\x1b/Z";
 
 /// The longest reply.
 const LONGEST: usize = 20;
-
-/// Answers an escape sequence.
-pub(crate) fn answer_escape(escape: Escape, sink: &mut Reports) -> Result<(), OutOfMemory>
-    ensures ok { OnOk result (sink.new ≡ after_sending sink.old (escape_reply escape)) }
-    ensures err { OnErr result (sink.new ≡ sink.old) }
-    ensures room { HasRoom sink.old (escape_reply escape) → IsOk result }
-{
-    match escape {
-        Escape::Decid => sink.send(DEVICE_ATTRIBUTES),
-        _ => Ok(()),
-    }
-}
-
-/// Answers a sequence of VT52 mode.
-pub(crate) fn answer_vt52(sequence: Vt52Sequence, sink: &mut Reports) -> Result<(), OutOfMemory>
-    ensures ok { OnOk result (sink.new ≡ after_sending sink.old (vt52_reply sequence)) }
-    ensures err { OnErr result (sink.new ≡ sink.old) }
-    ensures room { HasRoom sink.old (vt52_reply sequence) → IsOk result }
-{
-    match sequence {
-        Vt52Sequence::Identify => sink.send(VT52_IDENTITY),
-        _ => Ok(()),
-    }
-}
 
 // The answer to DSR 6, of a line and a column.
 fn cursor_position(line: u8, column: u8) -> ArrayVec<u8, LONGEST>
@@ -79,26 +53,41 @@ fn reported_line(origin: bool, line: u8, top: u8) -> u8
     }
 }
 
+/// DA.
+pub(crate) fn answer_attributes(param: u16, sink: &mut Reports) -> Result<(), OutOfMemory>
+    ensures ok { OnOk result (sink.new ≡ after_sending sink.old (attributes_reply param)) }
+    ensures err { OnErr result (sink.new ≡ sink.old) }
+    ensures room { HasRoom sink.old (attributes_reply param) → IsOk result }
+{
+    match param {
+        0 => sink.send(DEVICE_ATTRIBUTES),
+        _ => Ok(()),
+    }
+}
+
+/// DECREQTPARM.
+pub(crate) fn answer_parameters(param: u16, sink: &mut Reports) -> Result<(), OutOfMemory>
+    ensures ok { OnOk result (sink.new ≡ after_sending sink.old (parameters_reply param)) }
+    ensures err { OnErr result (sink.new ≡ sink.old) }
+    ensures room { HasRoom sink.old (parameters_reply param) → IsOk result }
+{
+    match param {
+        0 => sink.send(UNSOLICITED_PARAMETERS),
+        1 => sink.send(SOLICITED_PARAMETERS),
+        _ => Ok(()),
+    }
+}
+
 impl Console {
-    /// Answers a control sequence.
-    #[inline]
-    pub(crate) fn answer_sequence(
-        &self,
-        sequence: Sequence,
-        params: &[u16],
-        sink: &mut Reports,
-    ) -> Result<(), OutOfMemory>
-        ensures ok { OnOk result
-            (sink.new ≡ after_sending sink.old (sequence_reply sequence params.now (shown_of self.now))) }
+    /// DSR.
+    pub(crate) fn answer_status(&self, param: u16, sink: &mut Reports) -> Result<(), OutOfMemory>
+        ensures ok { OnOk result (sink.new ≡ after_sending sink.old (status_reply param (shown_of self.now))) }
         ensures err { OnErr result (sink.new ≡ sink.old) }
-        ensures room { HasRoom sink.old (sequence_reply sequence params.now (shown_of self.now)) → IsOk result }
+        ensures room { HasRoom sink.old (status_reply param (shown_of self.now)) → IsOk result }
     {
-        match (sequence, first_of(params)) {
-            (Sequence::Da, 0) => sink.send(DEVICE_ATTRIBUTES),
-            (Sequence::Dsr, 5) => sink.send(READY),
-            (Sequence::Dsr, 6) => self.answer_position(sink),
-            (Sequence::Decreqtparm, 0) => sink.send(UNSOLICITED_PARAMETERS),
-            (Sequence::Decreqtparm, 1) => sink.send(SOLICITED_PARAMETERS),
+        match param {
+            5 => sink.send(READY),
+            6 => self.answer_position(sink),
             _ => Ok(()),
         }
     }

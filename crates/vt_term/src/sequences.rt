@@ -1,60 +1,17 @@
 //! Control sequences of ANSI mode without `?`.
-ghost use Rattle.std.specs.Prelude.{◌≡◌, ◌≤◌, fold, slice_index, true, length};
+ghost use Rattle.std.specs.Prelude.{◌≡◌, ◌≤◌, fold, slice_index, true, false, length, OnOk, OnErr, IsOk};
 ghost use Rattle.vt_screen.specs.Erasures.{display_erased, line_erased};
 ghost use Rattle.vt_screen.specs.Moves.{placed};
 ghost use Rattle.vt_screen.specs.Lines.{margins_set};
-ghost use Rattle.vt_term.specs.Sequences.{sequence_named, sequence_effect, first_of, second_of, counted, or_default, erased, tabs_taken, rendition_set, newline_set, leds_set};
+ghost use Rattle.vt_term.specs.Sequences.{Sgr, Decll, sequence_effect, first_of, second_of, counted, or_default, erased, tabs_taken, rendition_set, newline_set, leds_set};
+ghost use Rattle.vt_term.specs.Effect.{control_sequence_effect, control_sequence_reply};
 ghost use Rattle.vt_term.specs.Shown.{shown_of, on_picture, on_modes};
+ghost use Rattle.vt_term.specs.Sink.{after_sending, HasRoom};
 
 use crate::console::Console;
+use crate::replies::{answer_attributes, answer_parameters};
+use crate::{OutOfMemory, Reports};
 use vt_screen::Rendition;
-
-/// The control sequences that have an effect or a reply; HVP is read as CUP.
-#[derive(Clone, Copy)]
-pub(crate) enum Sequence {
-    Cuu,
-    Cud,
-    Cuf,
-    Cub,
-    Cup,
-    Ed,
-    El,
-    Decstbm,
-    Tbc,
-    Sgr,
-    Sm,
-    Rm,
-    Decll,
-    Da,
-    Dsr,
-    Decreqtparm,
-}
-
-/// The name of a control sequence.
-#[inline]
-pub(crate) fn sequence_named(last: u8) -> Option<Sequence>
-    ensures { result ≡ sequence_named last }
-{
-    match last {
-        b'A' => Some(Sequence::Cuu),
-        b'B' => Some(Sequence::Cud),
-        b'C' => Some(Sequence::Cuf),
-        b'D' => Some(Sequence::Cub),
-        b'H' | b'f' => Some(Sequence::Cup),
-        b'J' => Some(Sequence::Ed),
-        b'K' => Some(Sequence::El),
-        b'r' => Some(Sequence::Decstbm),
-        b'g' => Some(Sequence::Tbc),
-        b'm' => Some(Sequence::Sgr),
-        b'h' => Some(Sequence::Sm),
-        b'l' => Some(Sequence::Rm),
-        b'q' => Some(Sequence::Decll),
-        b'c' => Some(Sequence::Da),
-        b'n' => Some(Sequence::Dsr),
-        b'x' => Some(Sequence::Decreqtparm),
-        _ => None,
-    }
-}
 
 /// The first parameter, 0 where it is missing.
 #[inline]
@@ -100,29 +57,45 @@ fn rendition_set(rendition: Rendition, param: u16) -> Rendition
 }
 
 impl Console {
-    /// Does what a control sequence asks for, but its reply.
+    /// Answers a control sequence without `?`, and does what it asks for. A refused growth changes nothing.
     #[inline]
-    pub(crate) fn do_sequence(&mut self, sequence: Sequence, params: &[u16])
+    pub(crate) fn perform_sequence(
+        &mut self,
+        last: u8,
+        params: &[u16],
+        sink: &mut Reports,
+    ) -> Result<(), OutOfMemory>
         requires { length self.old.leds ≡ 4 }
-        ensures { shown_of self.new ≡ sequence_effect sequence params.now (shown_of self.old) }
+        ensures shown { OnOk result
+            (shown_of self.new ≡ control_sequence_effect false last params.now (shown_of self.old)) }
+        ensures sent { OnOk result
+            (sink.new ≡ after_sending sink.old (control_sequence_reply false last params.now (shown_of self.old))) }
+        ensures err { OnErr result (shown_of self.new ≡ shown_of self.old) }
+        ensures err_sink { OnErr result (sink.new ≡ sink.old) }
+        ensures room { HasRoom sink.old (control_sequence_reply false last params.now (shown_of self.old))
+            → IsOk result }
     {
         let first = first_of(params);
-        match sequence {
-            Sequence::Cuu => self.screen.step_up(or_default(1, first)),
-            Sequence::Cud => self.screen.step_down(or_default(1, first)),
-            Sequence::Cuf => self.screen.step_right(or_default(1, first)),
-            Sequence::Cub => self.screen.step_left(or_default(1, first)),
-            Sequence::Cup => self.place(first, second_of(params)),
-            Sequence::Ed => self.erase_display(first),
-            Sequence::El => self.erase_line(first),
-            Sequence::Decstbm => self.set_margins(first, second_of(params)),
-            Sequence::Tbc => self.take_tabs(first),
-            Sequence::Sgr => self.set_rendition(params),
-            Sequence::Sm => self.set_newline(true, params),
-            Sequence::Rm => self.set_newline(false, params),
-            Sequence::Decll => self.set_leds(params),
-            Sequence::Da | Sequence::Dsr | Sequence::Decreqtparm => {}
+        match last {
+            b'A' => self.screen.step_up(or_default(1, first)), // CUU
+            b'B' => self.screen.step_down(or_default(1, first)), // CUD
+            b'C' => self.screen.step_right(or_default(1, first)), // CUF
+            b'D' => self.screen.step_left(or_default(1, first)), // CUB
+            b'H' | b'f' => self.place(first, second_of(params)), // CUP, HVP
+            b'J' => self.erase_display(first), // ED
+            b'K' => self.erase_line(first), // EL
+            b'r' => self.set_margins(first, second_of(params)), // DECSTBM
+            b'g' => self.take_tabs(first), // TBC
+            b'm' => self.set_rendition(params), // SGR
+            b'h' => self.set_newline(true, params), // SM
+            b'l' => self.set_newline(false, params), // RM
+            b'q' => self.set_leds(params), // DECLL
+            b'c' => return answer_attributes(first, sink), // DA
+            b'n' => return self.answer_status(first, sink), // DSR
+            b'x' => return answer_parameters(first, sink), // DECREQTPARM
+            _ => {}
         }
+        Ok(())
     }
 
     fn place(&mut self, line: u16, column: u16)
@@ -175,7 +148,7 @@ impl Console {
     }
 
     fn set_rendition(&mut self, params: &[u16])
-        ensures { shown_of self.new ≡ sequence_effect Sequence.Sgr params.now (shown_of self.old) }
+        ensures { shown_of self.new ≡ sequence_effect Sgr params.now (shown_of self.old) }
     {
         let mut rendition = self.rendition;
         for &param in params {
@@ -196,7 +169,7 @@ impl Console {
 
     fn set_leds(&mut self, params: &[u16])
         requires { length self.old.leds ≡ 4 }
-        ensures { shown_of self.new ≡ sequence_effect Sequence.Decll params.now (shown_of self.old) }
+        ensures { shown_of self.new ≡ sequence_effect Decll params.now (shown_of self.old) }
     {
         let mut leds = self.leds;
         for &param in params {

@@ -1,75 +1,42 @@
 //! Sequences of VT52 mode.
-ghost use Rattle.std.specs.Prelude.{◌≡◌, ◌≤◌};
+ghost use Rattle.std.specs.Prelude.{◌≡◌, ◌≤◌, IsOk, OnOk, OnErr};
 ghost use Rattle.vt_term.specs.Vt52.{vt52_named, vt52_effect, graphics_set, address_effect};
-ghost use Rattle.vt_term.specs.Shown.{shown_of};
+ghost use Rattle.vt_term.specs.Replies.{vt52_reply, reply_of};
+ghost use Rattle.vt_term.specs.Shown.{shown_of, effect_of};
+ghost use Rattle.vt_term.specs.Sink.{after_sending, HasRoom};
 
 use crate::console::Console;
+use crate::replies::VT52_IDENTITY;
+use crate::{OutOfMemory, Reports};
 use vt_parser::Mode;
 
-/// The sequences of VT52 mode that have an effect or a reply.
-#[derive(Clone, Copy)]
-pub(crate) enum Vt52Sequence {
-    Up,
-    Down,
-    Right,
-    Left,
-    GraphicsOn,
-    GraphicsOff,
-    Home,
-    ReverseIndex,
-    EraseDisplay,
-    EraseLine,
-    Identify,
-    KeypadApplication,
-    KeypadNumeric,
-    EnterAnsi,
-}
-
-/// The name of a sequence of VT52 mode.
-#[inline]
-pub(crate) fn vt52_named(last: u8) -> Option<Vt52Sequence>
-    ensures { result ≡ vt52_named last }
-{
-    match last {
-        b'A' => Some(Vt52Sequence::Up),
-        b'B' => Some(Vt52Sequence::Down),
-        b'C' => Some(Vt52Sequence::Right),
-        b'D' => Some(Vt52Sequence::Left),
-        b'F' => Some(Vt52Sequence::GraphicsOn),
-        b'G' => Some(Vt52Sequence::GraphicsOff),
-        b'H' => Some(Vt52Sequence::Home),
-        b'I' => Some(Vt52Sequence::ReverseIndex),
-        b'J' => Some(Vt52Sequence::EraseDisplay),
-        b'K' => Some(Vt52Sequence::EraseLine),
-        b'Z' => Some(Vt52Sequence::Identify),
-        b'=' => Some(Vt52Sequence::KeypadApplication),
-        b'>' => Some(Vt52Sequence::KeypadNumeric),
-        b'<' => Some(Vt52Sequence::EnterAnsi),
-        _ => None,
-    }
-}
-
 impl Console {
-    /// Does what a sequence of VT52 mode asks for, but its reply.
-    pub(crate) fn do_vt52(&mut self, sequence: Vt52Sequence)
-        ensures { shown_of self.new ≡ vt52_effect sequence (shown_of self.old) }
+    /// Answers a sequence of VT52 mode, and does what it asks for. A refused growth changes nothing.
+    pub(crate) fn perform_vt52(&mut self, last: u8, sink: &mut Reports) -> Result<(), OutOfMemory>
+        ensures shown { OnOk result (shown_of self.new ≡ effect_of vt52_effect (vt52_named last) (shown_of self.old)) }
+        ensures sent { OnOk result (sink.new ≡ after_sending sink.old (reply_of vt52_reply (vt52_named last))) }
+        ensures err { OnErr result (shown_of self.new ≡ shown_of self.old) }
+        ensures err_sink { OnErr result (sink.new ≡ sink.old) }
+        ensures room { HasRoom sink.old (reply_of vt52_reply (vt52_named last)) → IsOk result }
     {
-        match sequence {
-            Vt52Sequence::Up => self.screen.step_up(1),
-            Vt52Sequence::Down => self.screen.step_down(1),
-            Vt52Sequence::Right => self.screen.step_right(1),
-            Vt52Sequence::Left => self.screen.step_left(1),
-            Vt52Sequence::GraphicsOn => self.set_graphics(true),
-            Vt52Sequence::GraphicsOff => self.set_graphics(false),
-            Vt52Sequence::Home => self.screen.home(self.modes.origin),
-            Vt52Sequence::ReverseIndex => self.screen.reverse_index(),
-            Vt52Sequence::EraseDisplay => self.screen.erase_display(0),
-            Vt52Sequence::EraseLine => self.screen.erase_line(0),
-            Vt52Sequence::Identify => {}
-            Vt52Sequence::KeypadApplication => self.set_keypad(true),
-            Vt52Sequence::KeypadNumeric => self.set_keypad(false),
-            Vt52Sequence::EnterAnsi => self.modes.mode = Mode::Ansi,
+        match last {
+            b'A' => self.screen.step_up(1),
+            b'B' => self.screen.step_down(1),
+            b'C' => self.screen.step_right(1),
+            b'D' => self.screen.step_left(1),
+            b'F' => self.set_graphics(true),
+            b'G' => self.set_graphics(false),
+            b'H' => self.screen.home(self.modes.origin),
+            b'I' => self.screen.reverse_index(),
+            b'J' => self.screen.erase_display(0),
+            b'K' => self.screen.erase_line(0),
+            b'Z' => return sink.send(VT52_IDENTITY),
+            b'=' => self.set_keypad(true),
+            b'>' => self.set_keypad(false),
+            b'<' => self.modes.mode = Mode::Ansi,
+            _ => {}
         }
+        Ok(())
     }
 
     fn set_graphics(&mut self, value: bool)

@@ -1,0 +1,8 @@
+use Rattle.tape_seek.proofs.RequestLemmas.{written_edit_read, written_log_lines}
+use Rattle.tape_seek.proofs.laws.a_written_edit_is_read.Goals as goal
+
+pub returns-clause-read : goal.returns-clause-read
+returns-clause-read c = written_edit_read
+
+pub returns-clause-lines : goal.returns-clause-lines
+returns-clause-lines c = written_log_lines

@@ -1,0 +1,40 @@
+//! Bytes as hexadecimal text.
+ghost use Rattle.std.specs.Prelude.{◌≡◌, ◌≤◌, ◌*◌, false, OnOk, IfErr, length};
+ghost use Rattle.hex.specs.Hex.{encode_lower};
+ghost use Rattle.tape_core.specs.Devices.{has_failed, Took, StoppedIn};
+
+use std::io::Write;
+use tape_core::{Fault, Watched};
+
+/// How many bytes are turned into digits at once.
+const PIECE: usize = 512;
+
+/// Writes bytes in lower-case hexadecimal, and doesn't flush. Takes no memory. After a write fault a beginning of
+/// the text has gone out.
+pub fn put_hex<W: Write>(bytes: &[u8], writer: &mut Watched<W>) -> Result<(), Fault>
+    requires { has_failed writer.old ≡ false }
+    ensures ok { OnOk result (Took W.contents writer.old writer.new (encode_lower bytes.now)) }
+    ensures fault { IfErr result (λ fault. (fault ≡ Fault.WriteFault)
+        × StoppedIn W.contents writer.old writer.new (encode_lower bytes.now)) }
+{
+    for piece in bytes.chunks(PIECE) {
+        put_piece(piece, writer)?;
+    }
+    Ok(())
+}
+
+/// Writes a piece of at most `PIECE` bytes in lower-case hexadecimal.
+fn put_piece<W: Write>(piece: &[u8], writer: &mut Watched<W>) -> Result<(), Fault>
+    requires short { length piece.now ≤ PIECE }
+    requires sound { has_failed writer.old ≡ false }
+    ensures ok { OnOk result (Took W.contents writer.old writer.new (encode_lower piece.now)) }
+    ensures fault { IfErr result (λ fault. (fault ≡ Fault.WriteFault)
+        × StoppedIn W.contents writer.old writer.new (encode_lower piece.now)) }
+{
+    let mut digits = [0u8; 2 * PIECE];
+    let digits = &mut digits[..2 * piece.len()];
+    let Ok(()) = hex::encode_to_slice(piece, digits) else {
+        unreachable!();
+    };
+    writer.put(digits)
+}
