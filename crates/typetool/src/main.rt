@@ -3,6 +3,7 @@
 
 mod job;
 mod jobs;
+mod mock;
 mod moment;
 mod program;
 mod words;

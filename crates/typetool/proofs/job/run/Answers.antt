@@ -1,13 +1,13 @@
 use Rattle.std.proofs.Common.{◌≡◌, ◌∙◌, ap, arith, rules, inl, subst, sym}
 use Rattle.tape_core.proofs.DeviceLemmas.{took_none}
 use Rattle.typetool.proofs.JobLemmas.{comes_refused, comes_done, stopped_by_memory}
-use Rattle.typetool.specs.Output.{TakesMemory, done_on, refused_by}
+use Rattle.typetool.specs.Output.{TakesMemory, done_on, refused_with}
 use Rattle.typetool.specs.declared.job.Outcome.{Outcome}
 use Rattle.typetool.proofs.job.run.Goals as goal
 
 pub returns-in-Err-clause-answer : goal.returns-in-Err-clause-answer
 returns-in-Err-clause-answer g c = λ kind files told. (
-  refused_by c.in-Err.fault,
+  refused_with c.in-Err.fault,
   comes_refused c.args.job files c.in-Err.fault (search rules),
   grind arith,
   record { text = took_none _ _ c.requires.out; timing = took_none _ _ c.requires.out_timing },
