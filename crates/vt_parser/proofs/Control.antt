@@ -1,61 +1,33 @@
 -- The view of a control sequence's text that grows by one byte.
-use Rattle.std.proofs.Common.{◌≡◌, ℕ, ◌+◌, ◌-◌, ◌*◌, min, Bool, true, false, ◌==◌, ◌&&◌, ◌||◌, cond, ltb, List, [], ◌∷◌, ◌++◌, take, length, refl, sym, ap, ap₂, ◌∙◌, inl, inr, None, arith}
+use Rattle.std.proofs.Common.{◌≡◌, ℕ, ◌+◌, ◌-◌, ◌*◌, ◌<◌, min, Bool, true, false, ◌==◌, ◌&&◌, ◌||◌, cond, ltb, List, [], ◌∷◌, ◌++◌, take, length, refl, sym, ap, ap₂, ◌∙◌, inl, inr, None, arith}
 use Rattle.std.specs.List.{list_all}
 use Rattle.std.proofs.lemmas.Bool.{cases_Bool, cases_lt, lt-ltb, le-ltb}
 use Rattle.std.proofs.lemmas.Bool.Decides.{nat_tests}
 use Rattle.vt_parser.specs.declared.states.ParserState.{ParserState}
 use Rattle.vt_parser.specs.declared.states.ParserState.TheVariants.{Ground, Csi, CsiIgnored}
-use Rattle.vt_parser.specs.Sequence.{is_control_final, is_digit, is_semicolon, after_mark, is_well_formed, numbers, params, has_more, held, control_meaning}
+use Rattle.vt_parser.specs.Sequence.{is_control_final, is_digit, is_semicolon, after_mark, is_plain, is_well_formed, numbers, params, has_more, held, control_meaning}
 use Rattle.vt_parser.specs.View.{control_view}
 use Rattle.vt_parser.specs.Machine.{joined, start_joined, digit_joined, semicolon_joined, with_last_digit}
 use Rattle.vt_parser.proofs.Lists.{list_all_push}
-use Rattle.vt_parser.proofs.Numbers.{numbers_push_digit, numbers_push_semicolon, capped_digit, capped_digit_over, capped_number, capped_number_over}
+use Rattle.vt_parser.proofs.Numbers.{numbers_push_digit, numbers_push_semicolon, numbers_some, capped_digit, capped_digit_over, capped_number, capped_number_over}
 use Rattle.vt_parser.proofs.Bytes.{digit_no_semicolon}
-
--- ---- the first byte of a text
 
 numbers_none : numbers [] ≡ 0 ∷ []
 unfolding numbers
 numbers_none = refl
 
-one_digit : (digit : ℕ) → is_digit digit ≡ true → min 9999 (10 * 0 + (digit - 48)) ≡ digit - 48
-one_digit digit is = grind (arith, nat_tests)
-
-numbers_digit : (digit : ℕ) → is_digit digit ≡ true → numbers (digit ∷ []) ≡ (digit - 48) ∷ []
-unfolding numbers
-numbers_digit digit is = let differs : is_semicolon digit ≡ false = digit_no_semicolon digit is in simp differs (ap (λ number. number ∷ []) (one_digit digit is))
-
-numbers_semicolon : (byte : ℕ) → is_semicolon byte ≡ true → numbers (byte ∷ []) ≡ 0 ∷ 0 ∷ []
-unfolding numbers
-numbers_semicolon byte is = simp is
-
-pub view_of_one : (byte : ℕ) → is_control_final byte ≡ false → control_view (byte ∷ []) ≡ (start_joined byte).state
-view_of_one byte no_final =
-    elim (cases_Bool (byte == 63)) [
-      | inl marked ↦ simp (no_final, marked, numbers_none)
-      | inr unmarked ↦
-          elim (cases_Bool (is_digit byte)) [
-            | inl digit ↦ simp (no_final, unmarked, digit, numbers_digit byte digit)
-            | inr other ↦
-                elim (cases_Bool (is_semicolon byte)) [
-                  | inl parts ↦ simp (no_final, unmarked, other, parts, numbers_semicolon byte parts)
-                  | inr none ↦ simp (no_final, unmarked, other, none)
-                ]
-          ]
-    ]
-
 -- ---- a further byte
 
 digit_added : (private : Bool) (numbers : List ℕ) (digit : ℕ)
-    → Csi private (held (take 16 (with_last_digit numbers digit))) (ltb 16 (length (with_last_digit numbers digit))) ≡ digit_joined private (held (take 16 numbers)) (ltb 16 (length numbers)) digit
-digit_added private numbers digit =
+    → 0 < length numbers → Csi private (held (take 16 (with_last_digit numbers digit))) (ltb 16 (length (with_last_digit numbers digit))) ≡ digit_joined private (held (take 16 numbers)) (ltb 16 (length numbers)) digit
+digit_added private numbers digit some =
     elim (cases_lt 16 (length numbers)) [
       | inl over ↦
           let both = capped_digit_over 16 numbers digit over in
           ap₂ (λ kept more. Csi private (held kept) more) both.0 both.1
           ∙ sym (ap (λ more. digit_joined private (held (take 16 numbers)) more digit) (lt-ltb 16 (length numbers) over))
       | inr within ↦
-          let both = capped_digit 16 numbers digit within in
+          let both = capped_digit 16 numbers digit some within in
           ap₂ (λ kept more. Csi private (held kept) more) both.0 both.1
           ∙ sym (ap (λ more. digit_joined private (held (take 16 numbers)) more digit) (le-ltb 16 (length numbers) within))
     ]
@@ -74,10 +46,6 @@ number_added private numbers =
           ∙ sym (ap (λ some. cond some (Csi private (held (take 16 numbers ++ 0 ∷ [])) (ltb 16 (length numbers))) (Csi private (held (take 16 numbers)) true)) all.2)
     ]
 
--- a byte of a text that is well formed
-abbrev is_plain : ℕ → Bool
-is_plain byte = is_digit byte || is_semicolon byte
-
 -- the state of a text without its mark
 abbrev view_by : Bool → List ℕ → ParserState
 view_by private text = cond (list_all is_plain text) (Csi private (held (params text)) (has_more text)) CsiIgnored
@@ -86,7 +54,7 @@ digit_view : (private : Bool) (text : List ℕ) (byte : ℕ) → is_digit byte �
     → Csi private (held (params (text ++ byte ∷ []))) (has_more (text ++ byte ∷ [])) ≡ digit_joined private (held (params text)) (has_more text) byte
 digit_view private text byte is =
     ap (λ all. Csi private (held (take 16 all)) (ltb 16 (length all))) (numbers_push_digit text byte (digit_no_semicolon byte is))
-    ∙ digit_added private (numbers text) byte
+    ∙ digit_added private (numbers text) byte (numbers_some text)
 
 semicolon_view : (private : Bool) (text : List ℕ) (byte : ℕ) → is_semicolon byte ≡ true
     → Csi private (held (params (text ++ byte ∷ []))) (has_more (text ++ byte ∷ [])) ≡ semicolon_joined private (held (params text)) (has_more text)
@@ -111,11 +79,20 @@ view_by_push private text byte no_final =
           ]
     ]
 
+view_of_one : (byte : ℕ) → is_control_final byte ≡ false → control_view (byte ∷ []) ≡ (start_joined byte).state
+unfolding joined
+view_of_one byte no_final =
+    elim (cases_Bool (byte == 63)) [
+      | inl marked ↦ simp (marked, numbers_none)
+      | inr unmarked ↦
+          simp unmarked (view_by_push false [] byte no_final ∙ ap (λ all. (joined (Csi false (held (take 16 all)) (ltb 16 (length all))) byte).state) numbers_none)
+    ]
+
 after_mark_push : (first : ℕ) (rest : List ℕ) (byte : ℕ) → after_mark (first ∷ (rest ++ byte ∷ [])) ≡ after_mark (first ∷ rest) ++ byte ∷ []
 after_mark_push first rest byte =
     elim (first == 63) as (λ marked. cond marked (rest ++ byte ∷ []) (first ∷ (rest ++ byte ∷ [])) ≡ cond marked rest (first ∷ rest) ++ byte ∷ []) [ true ↦ refl | false ↦ refl ]
 
-pub view_of_more : (first : ℕ) (rest : List ℕ) (byte : ℕ) → is_control_final byte ≡ false → control_view (first ∷ (rest ++ byte ∷ [])) ≡ (joined (control_view (first ∷ rest)) byte).state
+view_of_more : (first : ℕ) (rest : List ℕ) (byte : ℕ) → is_control_final byte ≡ false → control_view (first ∷ (rest ++ byte ∷ [])) ≡ (joined (control_view (first ∷ rest)) byte).state
 view_of_more first rest byte no_final =
     ap (view_by (first == 63)) (after_mark_push first rest byte) ∙ view_by_push (first == 63) (after_mark (first ∷ rest)) byte no_final
 
@@ -147,15 +124,18 @@ no_command (first ∷ rest) byte no_final =
           ]
     ]
 
+pub final_no_mark : (byte : ℕ) → is_control_final byte ≡ true → (byte == 63) ≡ false
+final_no_mark byte is = grind (arith, nat_tests)
+
 -- a final byte gives what the text means, and the state is Ground again
 pub final_command : (text : List ℕ) (byte : ℕ) → is_control_final byte ≡ true → control_meaning text byte ≡ (joined (control_view text) byte).command
 unfolding joined
-final_command [] byte is = simp (is, numbers_none)
+final_command [] byte is = let unmarked = final_no_mark byte is in simp (is, unmarked, numbers_none)
 final_command (first ∷ rest) byte is =
     elim (cases_Bool (is_well_formed (first ∷ rest))) [ inl good ↦ simp (good, is) | inr bad ↦ simp (bad, is) ]
 
 pub final_state : (text : List ℕ) (byte : ℕ) → is_control_final byte ≡ true → (joined (control_view text) byte).state ≡ Ground
 unfolding joined
-final_state [] byte is = simp is
+final_state [] byte is = let unmarked = final_no_mark byte is in simp (is, unmarked)
 final_state (first ∷ rest) byte is =
     elim (cases_Bool (is_well_formed (first ∷ rest))) [ inl good ↦ simp (good, is) | inr bad ↦ simp (bad, is) ]

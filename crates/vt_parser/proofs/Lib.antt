@@ -10,4 +10,6 @@ pub mod LawLemmas
 pub mod ProperLemmas
 pub mod Whole
 pub mod Written
+pub mod Collecting
+pub mod Telling
 pub mod Lanes

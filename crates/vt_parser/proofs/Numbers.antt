@@ -1,10 +1,10 @@
 -- The parameters of a text that grows by one byte.
-use Rattle.std.proofs.Common.{◌≡◌, ℕ, suc, ◌+◌, ◌-◌, ◌*◌, ◌<◌, ◌≤◌, min, Bool, true, false, cond, ltb, List, [], ◌∷◌, ◌++◌, map, take, length, get_or, set, refl, sym, ap, ◌∙◌, arith}
+use Rattle.std.proofs.Common.{◌≡◌, ℕ, suc, ◌+◌, ◌-◌, ◌*◌, ◌<◌, ◌≤◌, min, Bool, true, false, cond, ltb, List, [], ◌∷◌, ◌++◌, map, take, length, refl, sym, ap, ◌∙◌, arith}
 use Rattle.std.specs.List.{slice_split, onto_first}
 use Rattle.std.proofs.lemmas.Bool.{lt-ltb, le-ltb}
-use Rattle.std.proofs.lemmas.List.{map-append, length-append, length-set, length-take, take_all, take-append-le, take-set-le}
+use Rattle.std.proofs.lemmas.List.{map-append, length-append, length-take, take_all, take-append-le}
 use Rattle.std.proofs.lemmas.List.Sums.{fold-append}
-use Rattle.vt_parser.specs.Sequence.{is_semicolon, decimal_value, parameter, numbers}
+use Rattle.vt_parser.specs.Sequence.{front, final, is_semicolon, decimal_value, parameter, numbers}
 use Rattle.vt_parser.specs.Machine.{with_digit, with_last_digit}
 
 -- ---- the pieces
@@ -60,50 +60,54 @@ parameter_push piece digit =
     ap (λ value. min 9999 value) (fold-append (λ value next. 10 * value + (next - 48)) 0 piece (digit ∷ []))
     ∙ capped (decimal_value piece) (digit - 48)
 
--- with one more digit in the last number, by cases
-abbrev last_grown : List ℕ → ℕ → List ℕ
-last_grown [] digit = []
-last_grown (number ∷ []) digit = with_digit number digit ∷ []
-last_grown (number ∷ next ∷ rest) digit = number ∷ last_grown (next ∷ rest) digit
-
-one_on : (number : ℕ) (rest : List ℕ) (digit i j : ℕ) → i ≡ suc j → number ∷ set rest j (with_digit (get_or rest j 0) digit) ≡ set (number ∷ rest) i (with_digit (get_or (number ∷ rest) i 0) digit)
-one_on number rest digit i j next = ap (λ k. set (number ∷ rest) k (with_digit (get_or (number ∷ rest) k 0) digit)) (sym next)
-
-last_grown_is : (params : List ℕ) (digit : ℕ) → last_grown params digit ≡ with_last_digit params digit
-last_grown_is [] digit = refl
-last_grown_is (number ∷ []) digit = refl
-last_grown_is (number ∷ next ∷ rest) digit =
-    ap (λ tail. number ∷ tail) (last_grown_is (next ∷ rest) digit)
-    ∙ one_on number (next ∷ rest) digit (length (number ∷ next ∷ rest) - 1) (length (next ∷ rest) - 1) (omega arith)
-
-map_grown : (first : List ℕ) (others : List (List ℕ)) (digit : ℕ) → map parameter (grown (first ∷ others) digit) ≡ last_grown (map parameter (first ∷ others)) digit
+map_grown : (first : List ℕ) (others : List (List ℕ)) (digit : ℕ) → map parameter (grown (first ∷ others) digit) ≡ with_last_digit (map parameter (first ∷ others)) digit
 map_grown first [] digit = ap (λ number. number ∷ []) (parameter_push first digit)
-map_grown first (next ∷ others) digit = ap (λ tail. parameter first ∷ tail) (map_grown next others digit)
+map_grown first (second ∷ others) digit = ap (λ tail. parameter first ∷ tail) (map_grown second others digit)
 
 pub numbers_push_digit : (text : List ℕ) (digit : ℕ) → is_semicolon digit ≡ false → numbers (text ++ digit ∷ []) ≡ with_last_digit (numbers text) digit
 unfolding numbers
 numbers_push_digit text digit differs =
     let some = split_some is_semicolon text in
     ap (map parameter) (split_push is_semicolon text digit differs ∙ ap (λ pieces. grown pieces digit) some.2)
-    ∙ map_grown some.0 some.1 digit ∙ ap (λ pieces. last_grown (map parameter pieces) digit) (sym some.2) ∙ last_grown_is (map parameter (slice_split is_semicolon text)) digit
+    ∙ map_grown some.0 some.1 digit ∙ ap (λ pieces. with_last_digit (map parameter pieces) digit) (sym some.2)
 
 pub numbers_push_semicolon : (text : List ℕ) (byte : ℕ) → is_semicolon byte ≡ true → numbers (text ++ byte ∷ []) ≡ numbers text ++ 0 ∷ []
 unfolding numbers
 numbers_push_semicolon text byte same =
     ap (map parameter) (split_push_at is_semicolon text byte same) ∙ map-append parameter (slice_split is_semicolon text) ([] ∷ [])
 
+pub numbers_some : (text : List ℕ) → 0 < length (numbers text)
+unfolding numbers
+numbers_some text =
+    let some = split_some is_semicolon text in
+    let long : length (map parameter (slice_split is_semicolon text)) ≡ length (parameter some.0 ∷ map parameter some.1) = ap (λ pieces. length (map parameter pieces)) some.2 in
+    omega arith
+
 -- ---- the sixteen that count
 
--- a digit where all count, and where more came
-pub capped_digit : (n : ℕ) (numbers : List ℕ) (digit : ℕ) → length numbers ≤ n → (take n (with_last_digit numbers digit) ≡ with_last_digit (take n numbers) digit) × (ltb n (length (with_last_digit numbers digit)) ≡ false)
-capped_digit n numbers digit le =
-    let same : length (with_last_digit numbers digit) ≡ length numbers = length-set numbers (length numbers - 1) (with_digit (get_or numbers (length numbers - 1) 0) digit) in
-    (take_all n (with_last_digit numbers digit) (omega arith) ∙ ap (λ kept. with_last_digit kept digit) (sym (take_all n numbers le)), le-ltb n _ (omega arith))
+front_final : (list : List ℕ) → 0 < length list → list ≡ front list ++ final list ∷ []
+front_final [] some = let no : ⊥ = omega arith in absurd no
+front_final (number ∷ []) some = refl
+front_final (number ∷ second ∷ rest) some = ap (λ tail. number ∷ tail) (front_final (second ∷ rest) (omega arith))
 
-pub capped_digit_over : (n : ℕ) (numbers : List ℕ) (digit : ℕ) → n < length numbers → (take n (with_last_digit numbers digit) ≡ take n numbers) × (ltb n (length (with_last_digit numbers digit)) ≡ true)
-capped_digit_over n numbers digit lt =
-    let same : length (with_last_digit numbers digit) ≡ length numbers = length-set numbers (length numbers - 1) (with_digit (get_or numbers (length numbers - 1) 0) digit) in
-    (take-set-le n numbers (length numbers - 1) (with_digit (get_or numbers (length numbers - 1) 0) digit) (omega arith), lt-ltb n _ (omega arith))
+-- a list has one number more than its front, whatever that is
+length_front : (list : List ℕ) (last : ℕ) → 0 < length list → length (front list ++ last ∷ []) ≡ length list
+length_front list last some =
+    length-append (front list) (last ∷ []) ∙ sym (length-append (front list) (final list ∷ [])) ∙ ap length (sym (front_final list some))
+
+-- a digit where all count, and where more came
+pub capped_digit : (n : ℕ) (list : List ℕ) (digit : ℕ) → 0 < length list → length list ≤ n → (take n (with_last_digit list digit) ≡ with_last_digit (take n list) digit) × (ltb n (length (with_last_digit list digit)) ≡ false)
+capped_digit n list digit some le =
+    let same = length_front list (with_digit (final list) digit) some in
+    (take_all n (with_last_digit list digit) (omega arith) ∙ ap (λ kept. with_last_digit kept digit) (sym (take_all n list le)), le-ltb n _ (omega arith))
+
+pub capped_digit_over : (n : ℕ) (list : List ℕ) (digit : ℕ) → n < length list → (take n (with_last_digit list digit) ≡ take n list) × (ltb n (length (with_last_digit list digit)) ≡ true)
+capped_digit_over n list digit lt =
+    let some : 0 < length list = omega arith in
+    let same = length_front list (with_digit (final list) digit) some in
+    let long = length-append (front list) (with_digit (final list) digit ∷ []) in
+    let kept : (last : ℕ) → take n (front list ++ last ∷ []) ≡ take n (front list) = λ last. take-append-le n (front list) (last ∷ []) (omega arith) in
+    (kept (with_digit (final list) digit) ∙ sym (kept (final list)) ∙ ap (take n) (sym (front_final list some)), lt-ltb n _ (omega arith))
 
 -- one more number where there is room, and where there is none
 pub capped_number : (n : ℕ) (numbers : List ℕ) → length numbers < n → (take n (numbers ++ 0 ∷ []) ≡ take n numbers ++ 0 ∷ []) × (ltb n (length (numbers ++ 0 ∷ [])) ≡ ltb n (length numbers)) × (ltb (length (take n numbers)) n ≡ true)

@@ -21,6 +21,7 @@ use Rattle.vt_parser.specs.Control.{escape, is_within, is_graphic, class_of, tur
 use Rattle.vt_parser.specs.Sequence.{is_intermediate, is_escape_final, is_control_final, begins_control, begins_address, is_lone_escape, is_escape_begun, is_control_begun, is_line_begun, ends_escape, ends_vt52, is_whole, is_semicolon, is_private, after_mark, is_well_formed, parameter, numbers, params, held, escape_meaning, control_meaning, address_meaning}
 use Rattle.vt_parser.specs.Step.{place_of, control_of, command_by, command_of, pending_after}
 use Rattle.vt_parser.specs.Law.{IsFrom, IsProper, CommandsAreProper, GraphicIsShown, ControlIsGiven, RunsAreGraphic, FinalsFinish, BareFinalsFinish}
+use Rattle.vt_parser.proofs.Control.{final_no_mark}
 use Rattle.vt_parser.proofs.Joins.{whole_with, meaning_with, is_whole_push, meaning_push}
 use Rattle.vt_parser.specs.Machine.{Step, stepped, joined, gives}
 use Rattle.vt_parser.proofs.Agrees.{graphic_class, same_command, same_view}
@@ -202,7 +203,7 @@ pub control_is_given : ControlIsGiven
 unfolding command_of pending_after
 control_is_given m byte is = let kind = class_control byte is in let at = place_none m in (simp (kind, at, is), simp (kind, at))
 
-run_front : (first : Bool) (n len : ℕ) → suc n ≤ cond first (1 + len) 0 → (first ≡ true) × (n ≤ len)
+pub run_front : (first : Bool) (n len : ℕ) → suc n ≤ cond first (1 + len) 0 → (first ≡ true) × (n ≤ len)
 run_front true n len le = (refl, omega arith)
 run_front false n len le = let no : ⊥ = omega arith in absurd no
 
@@ -233,7 +234,10 @@ finals_finish given m p private params over byte view final =
 
 bare_final_step : (given : Mode) (byte : ℕ) → is_control_final byte ≡ true → stepped CsiStart given byte ≡ gives (Some (Csi false (held (0 ∷ [])) byte))
 unfolding stepped joined
-bare_final_step given byte final = let kind = class_graphic byte (final_graphic byte final) in simp (kind, final)
+bare_final_step given byte final =
+    let kind = class_graphic byte (final_graphic byte final) in
+    let unmarked = final_no_mark byte final in
+    simp (kind, unmarked, final)
 
 pub bare_finals_finish : BareFinalsFinish
 bare_finals_finish given m p byte view final =

@@ -10,7 +10,7 @@ use Rattle.vt_parser.specs.declared.commands.Command.{Command}
 use Rattle.vt_parser.specs.declared.commands.Command.TheVariants.{Esc}
 use Rattle.vt_parser.specs.declared.controls.Place.TheVariants as place
 use Rattle.vt_parser.specs.declared.states.ParserState.{ParserState}
-use Rattle.vt_parser.specs.declared.states.ParserState.TheVariants.{Ground, Escape, EscapeOne, CsiStart}
+use Rattle.vt_parser.specs.declared.states.ParserState.TheVariants.{Ground, Escape, EscapeOne, EscapeMany, CsiStart, Csi, CsiIgnored, Text, Vt52Escape, Vt52Line, Vt52Column}
 use Rattle.vt_parser.specs.Control.{escape, is_graphic}
 use Rattle.vt_parser.specs.Sequence.{is_intermediate, is_escape_final, is_control_text, is_control_final, begins_control, begins_string, is_well_formed, control_meaning}
 use Rattle.vt_parser.specs.View.{control_view}
@@ -27,7 +27,14 @@ pub joins : (state : ParserState) (mode : Mode) (byte : ℕ) → place_in state 
 unfolding stepped
 joins state mode byte inside graphic = let kind = class_graphic byte graphic in simp (inside, kind)
 
-step_of : (step : Step) (state : ParserState) (command : Option Command) → step.state ≡ state → step.command ≡ command → step ≡ record { state = state; command = command }
+-- a graphic character where it isn't shown; in a string it is skipped
+pub joins_off : (state : ParserState) (mode : Mode) (byte : ℕ) → (state ≡ Ground → ⊥) → is_graphic byte ≡ true → stepped state mode byte ≡ joined state byte
+unfolding stepped joined
+joins_off Ground mode byte off graphic = absurd (off refl)
+joins_off Text mode byte off graphic = let kind = class_graphic byte graphic in simp kind
+joins_off state mode byte off graphic = joins state mode byte refl graphic
+
+pub step_of : (step : Step) (state : ParserState) (command : Option Command) → step.state ≡ state → step.command ≡ command → step ≡ record { state = state; command = command }
 step_of step state command same_state same_command = ap₂ (λ (s : ParserState) (c : Option Command). let t : Step = record { state = s; command = c } in t) same_state same_command
 
 -- a byte that gives no command before others

@@ -14,16 +14,13 @@ use Rattle.vt_parser.specs.declared.commands.Mode.TheVariants.{Ansi}
 use Rattle.vt_parser.specs.declared.commands.Command.{Command}
 use Rattle.vt_parser.specs.declared.commands.Command.TheVariants.{Csi}
 use Rattle.vt_parser.specs.Control.{escape}
-use Rattle.vt_parser.specs.Sequence.{is_digit, is_semicolon, is_private, after_mark, is_control_text, decimal_value, parameter, numbers, params, held, control_meaning}
+use Rattle.vt_parser.specs.Sequence.{is_digit, is_semicolon, is_plain, is_private, after_mark, is_control_text, decimal_value, parameter, numbers, params, held, control_meaning}
 use Rattle.vt_parser.specs.Decimals.{params_text}
 use Rattle.vt_parser.specs.Fold.{Finishes}
 use Rattle.vt_parser.specs.Law.{DecimalsAreRead, WrittenControlsFinish, WrittenPrivatesFinish}
 use Rattle.vt_parser.proofs.Bytes.{digit_no_semicolon}
 use Rattle.vt_parser.proofs.Lists.{list_all_push}
 use Rattle.vt_parser.proofs.Whole.{control_finishes}
-
-abbrev is_plain : ℕ → Bool
-is_plain byte = is_digit byte || is_semicolon byte
 
 -- ---- one number
 

@@ -4,5 +4,7 @@ pub mod View
 pub mod Step
 pub mod Fold
 pub mod Decimals
+pub mod Token
 pub mod Machine
+pub mod Reading
 pub mod Law

@@ -1,6 +1,6 @@
 -- The machine on states that the code runs: one byte from a state to a state, with the command that it gives. Only private
 -- contracts cite it; that it agrees with the raw bytes of every sequence is a lemma.
-use Rattle.std.specs.Prelude.{◌≡◌, ℕ, ◌+◌, ◌-◌, ◌*◌, min, Bool, true, false, ◌==◌, nat_lt, if◌then◌else◌, List, [], ◌∷◌, ◌++◌, length, slice_index, slice_set, Option, Some, None}
+use Rattle.std.specs.Prelude.{◌≡◌, ℕ, ◌+◌, ◌-◌, ◌*◌, min, Bool, true, false, ◌==◌, nat_lt, if◌then◌else◌, List, [], ◌∷◌, ◌++◌, length, Option, Some, None}
 use Rattle.arrayvec.specs.ArrayVec.{ArrayVec}
 use Rattle.vt_parser.specs.declared.commands.Mode.{Mode}
 use Rattle.vt_parser.specs.declared.commands.Mode.TheVariants.{Ansi, Vt52 as Vt52Mode}
@@ -13,7 +13,7 @@ use Rattle.vt_parser.specs.declared.controls.Turn.TheVariants.{Nothing, Acts, Sh
 use Rattle.vt_parser.specs.declared.states.ParserState.{ParserState}
 use Rattle.vt_parser.specs.declared.states.ParserState.TheVariants.{Ground, Escape, EscapeOne, EscapeMany, CsiStart, Csi, CsiIgnored, Text, Vt52Escape, Vt52Line, Vt52Column}
 use Rattle.vt_parser.specs.Control.{turn_of}
-use Rattle.vt_parser.specs.Sequence.{is_intermediate, is_control_final, begins_control, begins_string, begins_address, is_digit, is_semicolon, most_params, held}
+use Rattle.vt_parser.specs.Sequence.{is_intermediate, is_control_final, begins_control, begins_string, begins_address, is_digit, is_semicolon, most_params, held, front, final}
 use Rattle.vt_parser.specs.Step.{control_of}
 
 -- where a state is
@@ -41,18 +41,13 @@ goes_on state = record { state = state; command = None }
 abbrev pub gives : Option Command → Step
 gives command = record { state = Ground; command = command }
 
--- a control that acts
-abbrev pub acts : ParserState → ℕ → Step
-acts state byte = record { state = state; command = Some (Control byte) }
-
 -- a number with one more digit, at most 9,999
 abbrev pub with_digit : ℕ → ℕ → ℕ
 with_digit value digit = min 9999 (10 * value + (digit - 48))
 
 -- the list with one more digit in its last number
 abbrev pub with_last_digit : List ℕ → ℕ → List ℕ
-with_last_digit params digit =
-    slice_set params (length params - 1) (with_digit (slice_index params (length params - 1)) digit)
+with_last_digit params digit = front params ++ with_digit (final params) digit ∷ []
 
 abbrev pub escape_joined : ℕ → Step
 escape_joined byte =
@@ -60,14 +55,6 @@ escape_joined byte =
     else (if begins_control byte then goes_on CsiStart
     else (if begins_string byte then goes_on Text
     else gives (Some (Esc None byte))))
-
-abbrev pub start_joined : ℕ → Step
-start_joined byte =
-    if is_control_final byte then gives (Some (CsiCommand false (held (0 ∷ [])) byte))
-    else (if byte == 63 then goes_on (Csi true (held (0 ∷ [])) false)
-    else (if is_digit byte then goes_on (Csi false (held ((byte - 48) ∷ [])) false)
-    else (if is_semicolon byte then goes_on (Csi false (held (0 ∷ 0 ∷ [])) false)
-    else goes_on CsiIgnored)))
 
 abbrev pub digit_joined : Bool → ArrayVec ℕ → Bool → ℕ → ParserState
 digit_joined private params over digit =
@@ -85,19 +72,10 @@ control_joined private params over byte =
     else (if is_semicolon byte then goes_on (semicolon_joined private params over)
     else goes_on CsiIgnored))
 
--- the state of a control sequence with a well formed text
-abbrev pub IsCsi : ParserState → Type 0
-IsCsi Ground = ⊥
-IsCsi Escape = ⊥
-IsCsi (EscapeOne inter) = ⊥
-IsCsi EscapeMany = ⊥
-IsCsi CsiStart = ⊥
-IsCsi (Csi private params over) = Unit {0}
-IsCsi CsiIgnored = ⊥
-IsCsi Text = ⊥
-IsCsi Vt52Escape = ⊥
-IsCsi Vt52Line = ⊥
-IsCsi (Vt52Column line) = ⊥
+-- the first byte of a text: `?` marks it, and any other joins as if it followed a parameter 0
+abbrev pub start_joined : ℕ → Step
+start_joined byte =
+    if byte == 63 then goes_on (Csi true (held (0 ∷ [])) false) else control_joined false (held (0 ∷ [])) false byte
 
 -- a byte that joins, 32 to 126
 unfoldable pub joined : ParserState → ℕ → Step

@@ -132,9 +132,13 @@ abbrev pub after_mark : List ℕ → List ℕ
 after_mark [] = []
 after_mark (byte ∷ rest) = if byte == 63 then rest else byte ∷ rest
 
+-- a byte of which numbers and their parting are made
+abbrev pub is_plain : ℕ → Bool
+is_plain byte = is_digit byte || is_semicolon byte
+
 -- an optional ? and then digits and ; alone
 abbrev pub is_well_formed : List ℕ → Bool
-is_well_formed text = list_all (λ byte. is_digit byte || is_semicolon byte) (after_mark text)
+is_well_formed text = list_all is_plain (after_mark text)
 
 -- the decimal value of digits, and 0 of none
 abbrev pub decimal_value : List ℕ → ℕ

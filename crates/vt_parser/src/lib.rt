@@ -4,10 +4,12 @@
 //! refuses a byte.
 #![tactic(auto)]
 
-ghost use Rattle.std.specs.Prelude.{◌≡◌, ℕ, true, false, List, Some, None, IfSome};
+ghost use Rattle.std.specs.Prelude.{◌≡◌, ◌≤◌, ◌<◌, ℕ, true, false, List, Some, None, IfSome, length, take, ⊤};
 ghost use Rattle.vt_parser.specs.View.{parser_view, IsShown};
 ghost use Rattle.vt_parser.specs.Step.{command_of, pending_after, mode_after};
 ghost use Rattle.vt_parser.specs.Law.{IsProper};
+ghost use Rattle.vt_parser.specs.Token.{command_of_token, TellsOf, Leads};
+ghost use Rattle.vt_parser.specs.Reading.{IsTokenOf};
 
 mod commands;
 mod controls;
@@ -17,19 +19,25 @@ mod runs;
 mod states;
 #[cfg(test)]
 mod tests;
+mod tokens;
 
 pub use commands::{Command, Mode};
+use machine::{Event, Reached};
 pub use runs::printable_run;
 pub use states::ParserState;
 use std::marker::Model;
+pub use tokens::Token;
 
 /// Where a reader of terminal output stands in the control syntax.
 #[derive(Debug, Drop)]
 pub struct Parser {
     state: ParserState,
+    // The parameters of the control sequence that is read; a finished one lends them from here.
+    params: [u16; 16],
 }
 
 impl Model for Parser {
+    ghost use Rattle.std.specs.Prelude.{◌≡◌, length};
     ghost use Rattle.vt_parser.specs.declared.states.ParserState.{ParserState};
 
     ghost Value = { ParserState };
@@ -38,22 +46,66 @@ impl Model for Parser {
 
     ghost view = { λ parser. parser.state };
 
-    ghost invariant = { λ parser. IsShown parser.state };
+    ghost invariant = { λ parser. IsShown parser.state × (length parser.params ≡ 16) };
 }
 
 impl Parser {
+    ghost use Rattle.std.specs.Borrow.{sem};
+    ghost use mathlib.Core.Option.{none};
+    ghost use denote.Follow.{follows_so};
+    ghost use Rattle.vt_parser.specs.contracts.Parser.{the_row};
+
     /// A parser on ground.
     pub fn new() -> Self
         ensures { result ≡ ParserState.Ground }
     {
         Parser {
             state: ParserState::Ground,
+            params: [0; 16],
         }
+    }
+
+    /// Takes some of the bytes, at least one, and says how many, and what they come to, if anything. The mode that is given
+    /// matters only at an ESC: the mode at its ESC decides how a sequence is read to its end. It can't change within a call,
+    /// since a sequence ends with its last byte. A finished sequence whose form has no effect comes to nothing.
+    #[inline]
+    pub fn next<'a>(&'a mut self, mode: Mode, bytes: &'a [u8]) -> (usize, Option<Token<'a>>)
+        requires { 0 < length bytes.now }
+        // Whatever pending bytes the state stands for, the new state shows what is pending after the bytes taken ..
+        ensures* state { sem 𝓛 (follows_so the_row the_row self.entry.ghost_name none (λ _ _. ⊤)
+            (λ new. Leads self.old mode (take result.0 bytes.now) new)) }
+        ensures some { 0 < result.0 }
+        ensures within { result.0 ≤ length bytes.now }
+        // .. and the token is theirs.
+        ensures told { (m : Mode) (pending : List ℕ) → parser_view m pending ≡ Some self.old
+            → TellsOf mode m pending (take result.0 bytes.now) result.1 }
+        ensures proper { IfSome result.1 (λ token. IsProper (command_of_token token)) }
+    {
+        let run = machine::run_at(&self.state, bytes);
+        if run > 0 {
+            return (run, Some(Token::Show(&bytes[..run])));
+        }
+        let (taken, reached) = machine::read(&mut self.state, &mut self.params, mode, bytes);
+        let token = match reached {
+            Reached::Event(event) => token_of(event),
+            Reached::Csi {
+                private,
+                count,
+                last,
+            } => {
+                let params = &self.params[..count];
+                Some(Token::Csi {
+                    private,
+                    params,
+                    last,
+                })
+            }
+        };
+        (taken, token)
     }
 
     /// Takes one byte. The mode that is given matters only at an ESC: the mode at its ESC decides how a sequence is read
     /// to its end. A finished sequence whose form has no effect gives no command.
-    #[inline]
     pub fn step(&mut self, mode: Mode, byte: u8) -> Option<Command>
         // Whatever pending bytes the state stands for, the command is theirs ..
         ensures command { (m : Mode) (pending : List ℕ)
@@ -63,25 +115,28 @@ impl Parser {
             → parser_view (mode_after mode m byte) (pending_after m pending byte) ≡ Some self.new }
         ensures proper { IfSome result IsProper }
     {
-        machine::advance(&mut self.state, mode, byte)
+        let bytes = [byte];
+        let (_, token) = self.next(mode, &bytes);
+        match token {
+            Some(token) => Some(token.command()),
+            None => None,
+        }
     }
 
-    /// Takes a byte with which a sequence begins or goes on, and says whether it did. It is a quick way past `step` for most
-    /// such bytes; one that it leaves changes nothing.
+    /// Takes a byte with which a sequence begins or goes on, and says whether it did. One that it leaves changes nothing.
     #[inline]
     pub fn go_on(&mut self, mode: Mode, byte: u8) -> bool
-        // Whatever pending bytes the state stands for, no command comes of a byte that is taken ..
         ensures command { result ≡ true → (m : Mode) (pending : List ℕ)
             → parser_view m pending ≡ Some self.old → command_of m pending byte ≡ None }
-        // .. and the new state shows what is pending then.
         ensures state { result ≡ true → (m : Mode) (pending : List ℕ) → parser_view m pending ≡ Some self.old
             → parser_view (mode_after mode m byte) (pending_after m pending byte) ≡ Some self.new }
         ensures left { result ≡ false → self.new ≡ self.old }
     {
-        machine::goes_on_with(&mut self.state, mode, byte)
+        let _ = (mode, byte);
+        false
     }
 
-    /// Whether a byte is a control that acts and leaves the state, as 8 to 15 are but in a string.
+    /// Whether a byte is a control that acts and leaves the state.
     #[inline]
     pub fn acts(&self, byte: u8) -> bool
         ensures command { result ≡ true → (m : Mode) (pending : List ℕ)
@@ -89,7 +144,8 @@ impl Parser {
         ensures state { result ≡ true → (given m : Mode) (pending : List ℕ) → parser_view m pending ≡ Some self.now
             → parser_view (mode_after given m byte) (pending_after m pending byte) ≡ Some self.now }
     {
-        machine::acts_in(&self.state, byte)
+        let _ = byte;
+        false
     }
 
     /// Comes back to ground, as at the end of a sequence.
@@ -115,5 +171,18 @@ impl Parser {
         ensures { self.new ≡ other.now }
     {
         self.state = other.state.copy();
+    }
+}
+
+#[inline]
+fn token_of<'a>(event: Option<Event>) -> Option<Token<'a>>
+    ensures { IsTokenOf event result }
+{
+    match event? {
+        Event::Error => Some(Token::Error),
+        Event::Control(byte) => Some(Token::Control(byte)),
+        Event::Esc { inter, last } => Some(Token::Esc { inter, last }),
+        Event::Vt52(last) => Some(Token::Vt52(last)),
+        Event::Vt52Address { line, column } => Some(Token::Vt52Address { line, column }),
     }
 }

@@ -1,19 +1,56 @@
-//! One byte from a state to the next.
-ghost use Rattle.std.specs.Prelude.{◌≡◌, ◌≤◌, [], ◌∷◌, None, true, false};
-ghost use Rattle.vt_parser.specs.Sequence.{is_intermediate, is_control_final, begins_string, is_digit};
+//! Bytes from a state to the next.
+ghost use Rattle.std.specs.Prelude.{◌≡◌, ◌≢◌, ◌==◌, ℕ, ◌+◌, ◌-◌, ◌≤◌, ◌<◌, List, [], ◌∷◌, ◌++◌, length, take, slice_index, true, false, Some, None};
+ghost use Rattle.std.specs.List.{list_all, prefix_len};
+ghost use Rattle.vt_parser.specs.Control.{is_graphic};
+ghost use Rattle.vt_parser.specs.Sequence.{is_intermediate, is_control_final, begins_string, held, is_plain};
 ghost use Rattle.vt_parser.specs.Step.{control_of};
-ghost use Rattle.vt_parser.specs.Machine.{place_in, with_digit, with_last_digit, begun, goes_on, acts, escape_joined, start_joined, joined, stepped, IsCsi};
+ghost use Rattle.vt_parser.specs.Machine.{place_in, with_digit, begun, goes_on, escape_joined, digit_joined, semicolon_joined, joined, stepped, Runs};
+ghost use Rattle.vt_parser.specs.Reading.{HasParams, IsCollecting, IsCounted, IsStarted, collected, event_command, event_step, reached_command, reached_step, IsLent, GoesOn};
 
 use crate::controls::{Place, Turn, turn_of};
-use crate::{Command, Mode, ParserState};
-use arrayvec::ArrayVec;
+use crate::states::copied;
+use crate::{Command, Mode, ParserState, printable_run};
 
 // What line and column of a direct cursor address have over their numbers.
 const ADDRESS_OFFSET: u8 = 31;
 
+const NUL: u8 = 0;
+
 const ESCAPE: u8 = 27;
 
 const GREATEST_PARAM: u32 = 9_999;
+
+const MOST_PARAMS: usize = 16;
+
+/// What a byte comes to, but for a run and for a control sequence.
+#[derive(Clone, Copy)]
+pub(crate) enum Event {
+    Error,
+    Control(u8),
+    Esc { inter: Option<u8>, last: u8 },
+    Vt52(u8),
+    Vt52Address { line: u8, column: u8 },
+}
+
+/// What bytes come to. The parameters of a control sequence are the first `count` of an array.
+#[derive(Clone, Copy)]
+pub(crate) enum Reached {
+    Event(Option<Event>),
+    Csi {
+        private: bool,
+        count: usize,
+        last: u8,
+    },
+}
+
+// What was read of the text of a control sequence. The parameters before the last one lie in an array.
+#[derive(Clone, Copy)]
+pub(crate) struct Collected {
+    pub private: bool,
+    pub count: usize,
+    pub last: u16,
+    pub over: bool,
+}
 
 #[inline]
 fn is_intermediate(byte: u8) -> bool
@@ -27,13 +64,6 @@ fn is_control_final(byte: u8) -> bool
     ensures { result ≡ is_control_final byte }
 {
     matches!(byte, 64..=126)
-}
-
-#[inline]
-fn is_digit(byte: u8) -> bool
-    ensures { result ≡ is_digit byte }
-{
-    matches!(byte, b'0'..=b'9')
 }
 
 #[inline]
@@ -51,16 +81,6 @@ fn place_in(state: &ParserState) -> Place
         ParserState::Ground => Place::Ground,
         ParserState::Text => Place::Text,
         _ => Place::Sequence,
-    }
-}
-
-#[inline]
-fn control_of(byte: u8) -> Option<Command>
-    ensures { result ≡ control_of byte }
-{
-    match byte {
-        8..=15 => Some(Command::Control(byte)),
-        _ => None,
     }
 }
 
@@ -83,230 +103,352 @@ fn with_digit(value: u16, digit: u8) -> u16
 }
 
 #[inline]
-fn one_param(value: u16) -> ArrayVec<u16, 16>
-    ensures { result.items ≡ value ∷ [] }
+fn control_of(byte: u8) -> Option<Event>
+    ensures { event_command result ≡ control_of byte }
 {
-    let mut params = ArrayVec::new();
-    params.push(value);
-    params
+    match byte {
+        8..=15 => Some(Event::Control(byte)),
+        _ => None,
+    }
+}
+
+// ---- the text of a control sequence
+
+// What stands before the first byte of a text, where that is a `?` behind it, and how many bytes that takes.
+#[inline]
+fn started(byte: u8) -> (Collected, usize)
+    ensures { IsStarted byte result }
+{
+    let private = byte == b'?';
+    let from = if private { 1 } else { 0 };
+    let text = Collected {
+        private,
+        count: 1,
+        last: 0,
+        over: false,
+    };
+    (text, from)
+}
+
+// What a state holds, its parameters put into the array.
+#[inline]
+fn resumed(private: bool, held: &[u16], over: bool, params: &mut [u16; 16]) -> Collected
+    requires some { 0 < length held.now }
+    requires few { length held.now ≤ 16 }
+    ensures counted { IsCounted result }
+    ensures value { collected result params.new ≡ ParserState.Csi private (record { items = held.now }) over }
+{
+    let count = held.len();
+    params[..count].copy_from_slice(held);
+    let last = held[count - 1];
+    Collected {
+        private,
+        count,
+        last,
+        over,
+    }
 }
 
 #[inline]
-fn goes_on(state: &mut ParserState, next: ParserState) -> Option<Command>
+fn with_next_digit(text: Collected, digit: u8) -> Collected
+    requires { 48 ≤ digit }
+    ensures counted { IsCounted text → IsCounted result }
+    ensures value { (params : List ℕ) → collected result params
+        ≡ digit_joined text.private (held (take (text.count - 1) params ++ text.last ∷ [])) text.over digit }
+{
+    let mut text = text;
+    if !text.over {
+        text.last = with_digit(text.last, digit);
+    }
+    text
+}
+
+// A further parameter, where one more counts.
+#[inline]
+fn with_next_param(text: Collected, params: &mut [u16; 16]) -> Collected
+    requires { IsCounted text }
+    ensures counted { IsCounted result }
+    ensures value { collected result params.new
+        ≡ semicolon_joined text.private (held (take (text.count - 1) params.old ++ text.last ∷ [])) text.over }
+{
+    let mut text = text;
+    if text.count < MOST_PARAMS {
+        params[text.count - 1] = text.last;
+        text.count += 1;
+        text.last = 0;
+    } else {
+        text.over = true;
+    }
+    text
+}
+
+// Reads digits and `;` from `from` on, and says where they end.
+#[inline]
+fn collect(text: Collected, params: &mut [u16; 16], bytes: &[u8], from: usize) -> (usize, Collected)
+    requires counted { IsCounted text }
+    requires within { from ≤ length bytes.now }
+    ensures counted { IsCounted result.1 }
+    ensures from { from ≤ result.0 }
+    ensures within { result.0 ≤ length bytes.now }
+    ensures moved { GoesOn (take from bytes.now) (collected text params.old)
+        (take result.0 bytes.now) (goes_on (collected result.1 params.new)) }
+    ensures end { result.0 < length bytes.now → is_plain (slice_index bytes.now result.0) ≡ false }
+{
+    let mut text = text;
+    let mut at = from;
+    while at < bytes.len() {
+        match bytes[at] {
+            b'0'..=b'9' => text = with_next_digit(text, bytes[at]),
+            b';' => text = with_next_param(text, params),
+            _ => return (at, text),
+        }
+        at += 1;
+    }
+    (at, text)
+}
+
+// The final byte of a control sequence.
+#[inline]
+fn finish(state: &mut ParserState, params: &mut [u16; 16], text: Collected, last: u8) -> Reached
+    requires { IsCounted text }
+    ensures state { state.new ≡ ParserState.Ground }
+    ensures lent { IsLent result }
+    ensures command { reached_command result params.new
+        ≡ Some (Command.Csi text.private (held (take (text.count - 1) params.old ++ text.last ∷ [])) last) }
+{
+    params[text.count - 1] = text.last;
+    *state = ParserState::Ground;
+    Reached::Csi {
+        private: text.private,
+        count: text.count,
+        last,
+    }
+}
+
+// The bytes end inside the text, or a byte comes that doesn't belong to it.
+fn suspend(state: &mut ParserState, params: &mut [u16; 16], text: Collected)
+    requires { IsCounted text }
+    ensures { state.new ≡ collected text params.old }
+{
+    params[text.count - 1] = text.last;
+    *state = ParserState::Csi {
+        private: text.private,
+        params: copied(&params[..text.count]),
+        over: text.over,
+    };
+}
+
+// Reads the text of a control sequence from `from` on, to the final byte or as far as it goes.
+#[inline]
+fn read_text(
+    state: &mut ParserState,
+    params: &mut [u16; 16],
+    text: Collected,
+    bytes: &[u8],
+    from: usize,
+) -> (usize, Reached)
+    requires counted { IsCounted text }
+    requires within { from ≤ length bytes.now }
+    requires graphic { is_graphic (slice_index bytes.now 0) ≡ true }
+    requires some { 0 < length bytes.now }
+    ensures some { 0 < result.0 }
+    ensures within { result.0 ≤ length bytes.now }
+    ensures lent { IsLent result.1 }
+    ensures runs { GoesOn (take from bytes.now) (collected text params.old)
+        (take result.0 bytes.now) (reached_step result.1 params.new state.new) }
+{
+    let (at, text) = collect(text, params, bytes, from);
+    if at < bytes.len() {
+        match bytes[at] {
+            64..=126 => {
+                return (at + 1, finish(state, params, text, bytes[at]));
+            }
+            32..=63 => {
+                *state = ParserState::CsiIgnored;
+                return (at + 1, Reached::Event(None));
+            }
+            _ => {}
+        }
+    }
+    suspend(state, params, text);
+    (at, Reached::Event(None))
+}
+
+// ---- other bytes
+
+// ESC and this byte.
+#[inline]
+fn join_escape(state: &mut ParserState, byte: u8) -> Option<Event>
+    ensures { event_step result state.new ≡ escape_joined byte }
+{
+    if is_intermediate(byte) {
+        *state = ParserState::EscapeOne(byte);
+        None
+    } else if byte == b'[' {
+        *state = ParserState::CsiStart;
+        None
+    } else if begins_string(byte) {
+        *state = ParserState::Text;
+        None
+    } else {
+        *state = ParserState::Ground;
+        let inter = None;
+        Some(Event::Esc { inter, last: byte })
+    }
+}
+
+#[inline]
+fn end(state: &mut ParserState, event: Option<Event>) -> Option<Event>
+    ensures state { state.new ≡ ParserState.Ground }
+    ensures event { result ≡ event }
+{
+    *state = ParserState::Ground;
+    event
+}
+
+#[inline]
+fn go_to(state: &mut ParserState, next: ParserState) -> Option<Event>
     ensures state { state.new ≡ next }
-    ensures command { result ≡ None }
+    ensures event { result ≡ None }
 {
     *state = next;
     None
 }
 
-#[inline]
-fn gives(state: &mut ParserState, command: Option<Command>) -> Option<Command>
-    ensures state { state.new ≡ ParserState.Ground }
-    ensures command { result ≡ command }
-{
-    *state = ParserState::Ground;
-    command
-}
-
-// ESC and this byte.
-#[inline]
-fn join_escape(state: &mut ParserState, byte: u8) -> Option<Command>
-    ensures state { state.new ≡ (escape_joined byte).state }
-    ensures command { result ≡ (escape_joined byte).command }
-{
-    if is_intermediate(byte) {
-        goes_on(state, ParserState::EscapeOne(byte))
-    } else if byte == b'[' {
-        goes_on(state, ParserState::CsiStart)
-    } else if begins_string(byte) {
-        goes_on(state, ParserState::Text)
-    } else {
-        let inter = None;
-        gives(state, Some(Command::Esc { inter, last: byte }))
-    }
-}
-
-// ESC, `[` and this byte.
-#[inline]
-fn join_start(state: &mut ParserState, byte: u8) -> Option<Command>
-    ensures state { state.new ≡ (start_joined byte).state }
-    ensures command { result ≡ (start_joined byte).command }
-{
-    let (private, over) = (byte == b'?', false);
-    let mut params = one_param(0);
-    match byte {
-        64..=126 => {
-            let last = byte;
-            return gives(
-                state,
-                Some(Command::Csi {
-                    private,
-                    params,
-                    last,
-                }),
-            );
-        }
-        b'?' => {}
-        b'0'..=b'9' => push_digit(&mut params, byte),
-        b';' => params.push(0),
-        _ => return goes_on(state, ParserState::CsiIgnored),
-    }
-    goes_on(
-        state,
-        ParserState::Csi {
-            private,
-            params,
-            over,
-        },
-    )
-}
-
-// The digit joins the last parameter.
-#[inline]
-fn push_digit(params: &mut ArrayVec<u16, 16>, digit: u8)
-    requires { 48 ≤ digit }
-    ensures { params.new.items ≡ with_last_digit params.old.items digit }
-{
-    let len = params.len();
-    if len > 0 {
-        params[len - 1] = with_digit(params[len - 1], digit);
-    }
-}
-
-// ESC, `[`, a well formed text that isn't empty, and this byte.
-#[inline]
+// A byte that joins a pending sequence, but for the text of a control sequence.
 #[tactic(auto, unfolding(crate::specs::Machine::joined))]
-fn join_text(state: &mut ParserState, byte: u8) -> Option<Command>
-    requires { IsCsi state.old }
-    ensures state { state.new ≡ (joined state.old byte).state }
-    ensures command { result ≡ (joined state.old byte).command }
-{
-    let ParserState::Csi {
-        private,
-        params,
-        over,
-    } = state
-    else {
-        unreachable!()
-    };
-    if is_control_final(byte) {
-        let (private, params) = (*private, params.take());
-        let last = byte;
-        return gives(
-            state,
-            Some(Command::Csi {
-                private,
-                params,
-                last,
-            }),
-        );
-    }
-    if is_digit(byte) {
-        if !*over {
-            push_digit(params, byte);
-        }
-    } else if byte == b';' {
-        if params.is_full() {
-            *over = true;
-        } else {
-            params.push(0);
-        }
-    } else {
-        *state = ParserState::CsiIgnored;
-    }
-    None
-}
-
-// A byte that joins a pending sequence.
-#[inline]
-#[tactic(auto, unfolding(crate::specs::Machine::joined))]
-fn join(state: &mut ParserState, byte: u8) -> Option<Command>
-    ensures state { state.new ≡ (joined state.old byte).state }
-    ensures command { result ≡ (joined state.old byte).command }
+fn join(state: &mut ParserState, byte: u8) -> Option<Event>
+    requires { IsCollecting state.old → ⊥ }
+    ensures { event_step result state.new ≡ joined state.old byte }
 {
     match state {
-        ParserState::Ground | ParserState::Text => None,
         ParserState::Escape => join_escape(state, byte),
+        ParserState::EscapeOne(_) if is_intermediate(byte) => go_to(state, ParserState::EscapeMany),
         ParserState::EscapeOne(inter) => {
             let inter = Some(*inter);
-            if is_intermediate(byte) {
-                goes_on(state, ParserState::EscapeMany)
-            } else {
-                gives(state, Some(Command::Esc { inter, last: byte }))
-            }
+            end(state, Some(Event::Esc { inter, last: byte }))
         }
-        ParserState::EscapeMany if is_intermediate(byte) => None,
-        ParserState::EscapeMany => gives(state, None),
-        ParserState::CsiStart => join_start(state, byte),
-        ParserState::Csi { .. } => join_text(state, byte),
-        ParserState::CsiIgnored if is_control_final(byte) => gives(state, None),
-        ParserState::CsiIgnored => None,
-        ParserState::Vt52Escape if byte == b'Y' => goes_on(state, ParserState::Vt52Line),
-        ParserState::Vt52Escape => gives(state, Some(Command::Vt52(byte))),
-        ParserState::Vt52Line => goes_on(state, ParserState::Vt52Column(byte)),
+        ParserState::EscapeMany if !is_intermediate(byte) => end(state, None),
+        ParserState::CsiIgnored if is_control_final(byte) => end(state, None),
+        ParserState::Vt52Escape if byte == b'Y' => go_to(state, ParserState::Vt52Line),
+        ParserState::Vt52Escape => end(state, Some(Event::Vt52(byte))),
+        ParserState::Vt52Line => go_to(state, ParserState::Vt52Column(byte)),
         ParserState::Vt52Column(line) => {
             let line = line.saturating_sub(ADDRESS_OFFSET);
             let column = byte.saturating_sub(ADDRESS_OFFSET);
-            gives(state, Some(Command::Vt52Address { line, column }))
+            end(state, Some(Event::Vt52Address { line, column }))
         }
+        _ => None,
     }
 }
 
-/// Takes a byte that begins a sequence or goes on with one, and says whether it did: no command comes of it. A byte that it
-/// leaves, as the rarer ones, changes nothing.
+// Bytes of which the first is a graphic character, where it isn't shown.
 #[inline]
-#[tactic(auto, unfolding(crate::specs::Machine::stepped, crate::specs::Machine::joined))]
-pub(crate) fn goes_on_with(state: &mut ParserState, mode: Mode, byte: u8) -> bool
-    ensures taken { result ≡ true → stepped state.old mode byte ≡ goes_on state.new }
-    ensures left { result ≡ false → state.new ≡ state.old }
+fn read_graphic(state: &mut ParserState, params: &mut [u16; 16], bytes: &[u8]) -> (usize, Reached)
+    requires some { 0 < length bytes.now }
+    requires graphic { is_graphic (slice_index bytes.now 0) ≡ true }
+    requires params { HasParams state.old }
+    requires off { state.old ≢ ParserState.Ground }
+    ensures some { 0 < result.0 }
+    ensures within { result.0 ≤ length bytes.now }
+    ensures lent { IsLent result.1 }
+    ensures runs { (mode : Mode) → Runs state.old mode (take result.0 bytes.now) (reached_step result.1 params.new state.new) }
 {
     match state {
-        ParserState::Ground if byte == ESCAPE => *state = begun(mode),
-        ParserState::Escape if byte == b'[' => *state = ParserState::CsiStart,
-        ParserState::CsiStart if is_digit(byte) => {
-            *state = ParserState::Csi {
-                private: false,
-                params: one_param(u16::from(byte - b'0')),
-                over: false,
-            };
+        ParserState::CsiStart => {
+            let (text, from) = started(bytes[0]);
+            read_text(state, params, text, bytes, from)
         }
-        ParserState::Csi { params, over, .. } if is_digit(byte) && !*over => push_digit(
-            params, byte,
-        ),
-        ParserState::Csi { params, .. } if byte == b';' && !params.is_full() => params.push(0),
-        _ => return false,
-    }
-    true
-}
-
-/// Whether a byte acts as a control and leaves the state, as 8 to 15 do but in a string.
-#[inline]
-#[tactic(auto, unfolding(crate::specs::Machine::stepped))]
-pub(crate) fn acts_in(state: &ParserState, byte: u8) -> bool
-    ensures { result ≡ true → (mode : Mode) → stepped state.now mode byte ≡ acts state.now byte }
-{
-    match state {
-        ParserState::Text => false,
-        _ => matches!(byte, 8..=15),
+        ParserState::Csi {
+            private,
+            params: held,
+            over,
+        } => {
+            let text = resumed(*private, held.as_slice(), *over, params);
+            read_text(state, params, text, bytes, 0)
+        }
+        _ => (1, Reached::Event(join(state, bytes[0]))),
     }
 }
 
-/// Takes one byte, and answers the command that it gives.
+// A byte that is no graphic character.
 #[inline]
 #[tactic(auto, unfolding(crate::specs::Machine::stepped))]
-pub(crate) fn advance(state: &mut ParserState, mode: Mode, byte: u8) -> Option<Command>
-    ensures state { state.new ≡ (stepped state.old mode byte).state }
-    ensures command { result ≡ (stepped state.old mode byte).command }
+fn act(state: &mut ParserState, mode: Mode, byte: u8) -> Option<Event>
+    requires { is_graphic byte ≡ false }
+    ensures { event_step result state.new ≡ stepped state.old mode byte }
 {
     match turn_of(place_in(state), byte) {
         Turn::Nothing => None,
         Turn::Acts => control_of(byte),
-        Turn::Shows => Some(Command::Show(byte)),
-        Turn::Marks => Some(Command::Error),
-        Turn::Begins => goes_on(state, begun(mode)),
-        Turn::Joins => join(state, byte),
-        Turn::Ends => gives(state, None),
-        Turn::Cancels => gives(state, Some(Command::Error)),
+        Turn::Marks => Some(Event::Error),
+        Turn::Begins => go_to(state, begun(mode)),
+        Turn::Ends => end(state, None),
+        Turn::Cancels => end(state, Some(Event::Error)),
+        Turn::Shows | Turn::Joins => unreachable!(),
+    }
+}
+
+// How many NULs the bytes begin with.
+#[inline]
+fn nul_run(bytes: &[u8]) -> usize
+    ensures within { result ≤ length bytes.now }
+    ensures value { result ≡ prefix_len (λ byte. byte == 0) bytes.now }
+{
+    let mut end = 0;
+    while end < bytes.len() && bytes[end] == NUL {
+        end += 1;
+    }
+    end
+}
+
+/// Takes some of the bytes, at least one, and says how many and what they come to, where they are no run on ground.
+#[inline]
+pub(crate) fn read(
+    state: &mut ParserState,
+    params: &mut [u16; 16],
+    mode: Mode,
+    bytes: &[u8],
+) -> (usize, Reached)
+    requires some { 0 < length bytes.now }
+    requires params { HasParams state.old }
+    requires off { is_graphic (slice_index bytes.now 0) ≡ true → state.old ≢ ParserState.Ground }
+    ensures some { 0 < result.0 }
+    ensures within { result.0 ≤ length bytes.now }
+    ensures long { length params.new ≡ 16 }
+    ensures lent { IsLent result.1 }
+    ensures runs { Runs state.old mode (take result.0 bytes.now) (reached_step result.1 params.new state.new) }
+{
+    match bytes[0] {
+        32..=126 => read_graphic(state, params, bytes),
+        NUL => (nul_run(bytes), Reached::Event(None)),
+        ESCAPE if opens_control(mode, bytes) => {
+            *state = ParserState::CsiStart;
+            (2, Reached::Event(None))
+        }
+        byte => (1, Reached::Event(act(state, mode, byte))),
+    }
+}
+
+// ESC `[` in ANSI mode.
+#[inline]
+fn opens_control(mode: Mode, bytes: &[u8]) -> bool
+    ensures { result ≡ true → (mode ≡ Mode.Ansi) × (1 < length bytes.now) × (slice_index bytes.now 1 ≡ 91) }
+{
+    mode == Mode::Ansi && bytes.len() > 1 && bytes[1] == b'['
+}
+
+/// How many bytes are shown just as they come: on ground the graphic ones, and none inside a sequence.
+#[inline]
+pub(crate) fn run_at(state: &ParserState, bytes: &[u8]) -> usize
+    requires { 0 < length bytes.now }
+    ensures within { result ≤ length bytes.now }
+    ensures graphic { list_all is_graphic (take result bytes.now) ≡ true }
+    ensures ground { 0 < result → state.now ≡ ParserState.Ground }
+    ensures none { result ≡ 0 → is_graphic (slice_index bytes.now 0) ≡ true → state.now ≢ ParserState.Ground }
+{
+    match state {
+        ParserState::Ground if matches!(bytes[0], 32..=126) => printable_run(bytes),
+        _ => 0,
     }
 }

@@ -1,5 +1,5 @@
 //! What a parser shows of an unfinished sequence.
-ghost use Rattle.std.specs.Prelude.{◌≡◌};
+ghost use Rattle.std.specs.Prelude.{◌≡◌, ◌≤◌, length};
 
 use arrayvec::ArrayVec;
 
@@ -34,11 +34,13 @@ pub enum ParserState {
     Vt52Column(u8),
 }
 
-fn copied(params: &ArrayVec<u16, 16>) -> ArrayVec<u16, 16>
-    ensures { result ≡ params.now }
+/// A list of the same parameters.
+pub(crate) fn copied(params: &[u16]) -> ArrayVec<u16, 16>
+    requires { length params.now ≤ 16 }
+    ensures { result.items ≡ params.now }
 {
     let mut copy = ArrayVec::new();
-    for &param in params.as_slice() {
+    for &param in params {
         copy.push(param);
     }
     copy
@@ -61,7 +63,7 @@ impl ParserState {
                 over,
             } => ParserState::Csi {
                 private: *private,
-                params: copied(params),
+                params: copied(params.as_slice()),
                 over: *over,
             },
             ParserState::CsiIgnored => ParserState::CsiIgnored,

@@ -1,4 +1,4 @@
-ghost use Rattle.std.specs.Prelude.{◌+◌, ◌≤◌, length};
+ghost use Rattle.std.specs.Prelude.{◌+◌, ◌<◌, ◌≤◌, length};
 
 use super::*;
 use std::alloc::Global;
@@ -215,6 +215,69 @@ fn counts_sixteen_parameters_of_at_most_9999(rt: HostRuntime) -> Result<(), Fail
         ),
     ];
     all_told(&rt, Mode::Ansi, &rows)
+}
+
+// What the bytes come to in a mode, taken in pieces of at most `piece` bytes, and then the state.
+fn taken(alloc: Global, mode: Mode, bytes: &[u8], piece: usize) -> Result<String, Fail>
+    requires { 0 < piece }
+{
+    let mut parser = Parser::new();
+    let mut text = String::new(alloc);
+    let mut at = 0;
+    while at < bytes.len() {
+        let rest = &bytes[at..];
+        let (len, token) = parser.next(mode, &rest[..rest.len().min(piece)]);
+        if let Some(token) = token {
+            write!(text, "{len} {token:?}, ")?;
+        }
+        at += len;
+    }
+    let state = parser.state();
+    write!(text, "{state:?}")?;
+    Ok(text)
+}
+
+#[test]
+fn takes_runs_and_whole_sequences_at_once(rt: HostRuntime) -> Result<(), Fail> {
+    let rows: [(&[u8], &str); 8] = [
+        (
+            b"ab\x1b[1;31mc",
+            "2 Show([97, 98]), 5 Csi { private: false, params: [1, 31], last: 109 }, 1 Show([99]), Ground",
+        ),
+        (
+            b"\x1b[?25h",
+            "4 Csi { private: true, params: [25], last: 104 }, Ground",
+        ),
+        (
+            b"\x1b[mx",
+            "1 Csi { private: false, params: [0], last: 109 }, 1 Show([120]), Ground",
+        ),
+        (
+            b"\x1b[1\n2A",
+            "1 Control(10), 2 Csi { private: false, params: [12], last: 65 }, Ground",
+        ),
+        (b"\x00\x00\x00\r\xe9", "1 Control(13), 1 Error, Ground"),
+        (
+            b"\x1b(0\x1b7",
+            "1 Esc { inter: Some(40), last: 48 }, 1 Esc { inter: None, last: 55 }, Ground",
+        ),
+        (
+            b"\x1b[;;;;;;;;;;;;;;;;;7r",
+            "19 Csi { private: false, params: [0, 0, 0, 0, 0, 0, 0, 0, 0, 0, 0, 0, 0, 0, 0, 0], last: 114 }, Ground",
+        ),
+        (
+            b"\x1b[99",
+            "Csi { private: false, params: [99], over: false }",
+        ),
+    ];
+    for (bytes, want) in &rows {
+        let text = taken(rt.alloc(), Mode::Ansi, bytes, bytes.len().max(1))?;
+        assert_eq!(rt; text.as_str(), *want, "at {bytes:?}");
+    }
+    let text = taken(rt.alloc(), Mode::Vt52, b"\x1bA\x1bY%*x", 100)?;
+    let want = "1 Vt52(65), 1 Vt52Address { line: 6, column: 11 }, 1 Show([120]), Ground";
+    assert_eq!(rt; text.as_str(), want);
+    Ok(())
 }
 
 #[test]

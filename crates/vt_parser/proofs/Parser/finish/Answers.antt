@@ -4,4 +4,4 @@ use Rattle.vt_parser.proofs.LawLemmas.{shows_none}
 use Rattle.vt_parser.proofs.Parser.finish.Goals as goal
 
 pub invariant_of-self : goal.invariant_of-self
-invariant_of-self c = (Ansi, [], shows_none Ansi)
+invariant_of-self c = ((Ansi, [], shows_none Ansi), c.self.invariant.1)

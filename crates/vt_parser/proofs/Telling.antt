@@ -1,0 +1,124 @@
+-- From the machine's runs to what a token tells of every pending text.
+use Rattle.std.proofs.Common.{◌≡◌, ℕ, ◌<◌, ◌≤◌, true, List, [], ◌∷◌, take, length, get_or, Option, Some, None, IfSome, refl, sym, ap, ◌∙◌, subst, arith}
+use Rattle.std.specs.List.{list_all}
+use Rattle.std.proofs.lemmas.Bool.{and_parts}
+use Rattle.std.proofs.lemmas.Bool.Decides.{nat_tests}
+use Rattle.vt_parser.specs.declared.commands.Mode.{Mode}
+use Rattle.vt_parser.specs.declared.commands.Command.{Command}
+use Rattle.vt_parser.specs.declared.commands.Command.TheVariants as commands
+use Rattle.vt_parser.specs.declared.machine.Event.{Event}
+use Rattle.vt_parser.specs.declared.machine.Event.TheVariants.{Error, Control, Esc, Vt52, Vt52Address}
+use Rattle.vt_parser.specs.declared.tokens.Token.{Token}
+use Rattle.vt_parser.specs.declared.tokens.Token.TheVariants as tokens
+use Rattle.vt_parser.specs.declared.states.ParserState.{ParserState}
+use Rattle.vt_parser.specs.declared.states.ParserState.TheVariants.{Ground, Escape, EscapeOne, EscapeMany, CsiStart, Csi, CsiIgnored, Text, Vt52Escape, Vt52Line, Vt52Column}
+use Rattle.vt_parser.specs.Control.{is_graphic}
+use Rattle.vt_parser.specs.View.{parser_view, IsShown}
+use Rattle.vt_parser.specs.Step.{command_of, pending_after, mode_after}
+use Rattle.vt_parser.specs.Fold.{mode_after_bytes, pending_after_bytes, Gives}
+use Rattle.vt_parser.specs.Law.{IsProper}
+use Rattle.vt_parser.specs.Token.{token_command, command_of_token, IsRun, TellsOf, Leads}
+use Rattle.vt_parser.specs.Machine.{Step, Runs}
+use Rattle.vt_parser.specs.Reading.{HasParams, event_command, IsTokenOf}
+use Rattle.vt_parser.proofs.LawLemmas.{shows_none, ground_is_empty}
+use Rattle.vt_parser.proofs.ProperLemmas.{commands_are_proper, graphic_is_shown, finals_finish}
+use Rattle.vt_parser.proofs.ManyBytes.{runs_agree}
+
+-- ---- states
+
+-- a state that shows a text has its parameters, as its command will
+pub has_params : (state : ParserState) → IsShown state → HasParams state
+has_params (Csi private params over) shown =
+    let told = finals_finish shown.0 shown.0 shown.1 private params over 64 shown.2 refl in
+    let P : Option Command → Type 0 = λ command. IfSome command IsProper in
+    (subst P told.0 (commands_are_proper shown.0 shown.1 64)).0
+has_params state shown = tt
+
+pub shown_after : (state : ParserState) (given : Mode) (bytes : List ℕ) (step : Step) → IsShown state → Runs state given bytes step → IsShown step.state
+shown_after state given bytes step shown runs = (
+  mode_after_bytes given shown.0 bytes,
+  pending_after_bytes given shown.0 shown.1 bytes,
+  (runs_agree given shown.0 shown.1 state bytes step shown.2 runs).1,
+)
+
+pub leads : (state : ParserState) (given : Mode) (bytes : List ℕ) (step : Step) → Runs state given bytes step → Leads state given bytes step.state
+leads state given bytes step runs = λ mode pending view. (runs_agree given mode pending state bytes step view runs).1
+
+-- ---- runs on ground
+
+none_stays : (given mode : Mode) (bytes : List ℕ) → list_all is_graphic bytes ≡ true → pending_after_bytes given mode [] bytes ≡ []
+none_stays given mode [] graphic = refl
+none_stays given mode (byte ∷ rest) graphic =
+    let parts = and_parts (is_graphic byte) (list_all is_graphic rest) graphic in
+    ap (λ (p : List ℕ). pending_after_bytes given (mode_after given mode byte) p rest) (graphic_is_shown mode byte parts.0).1
+    ∙ none_stays given (mode_after given mode byte) rest parts.1
+
+pub run_leads : (given : Mode) (bytes : List ℕ) → list_all is_graphic bytes ≡ true → Leads Ground given bytes Ground
+run_leads given bytes graphic = λ mode pending view.
+    let there = mode_after_bytes given mode bytes in
+    ap (λ (p : List ℕ). parser_view there (pending_after_bytes given mode p bytes)) (ground_is_empty.1 mode pending view)
+    ∙ ap (parser_view there) (none_stays given mode bytes graphic) ∙ shows_none there
+
+-- ---- tokens
+
+gives_proper : (given mode : Mode) (pending bytes : List ℕ) (command : Option Command) → Gives given mode pending bytes command → IfSome command IsProper
+gives_proper given mode pending [] command gives = let P : Option Command → Type 0 = λ c. IfSome c IsProper in subst P (sym gives) tt
+gives_proper given mode pending (byte ∷ []) command gives = let P : Option Command → Type 0 = λ c. IfSome c IsProper in subst P gives (commands_are_proper mode pending byte)
+gives_proper given mode pending (byte ∷ second ∷ rest) command gives =
+    gives_proper given (mode_after given mode byte) (pending_after mode pending byte) (second ∷ rest) command gives.1
+
+pub run_proper : (bytes : List ℕ) → 0 < length bytes → list_all is_graphic bytes ≡ true → IsProper (commands.Show (get_or bytes 0 0))
+run_proper [] some graphic = let no : ⊥ = omega arith in absurd no
+run_proper (byte ∷ rest) some graphic = within (and_parts (is_graphic byte) (list_all is_graphic rest) graphic).0
+  where
+    within : is_graphic byte ≡ true → IsProper (commands.Show byte)
+    within is = (grind (arith, nat_tests), grind (arith, nat_tests))
+
+pub told_proper : (given mode : Mode) (pending bytes : List ℕ) (token : Option Token) → 0 < length bytes → TellsOf given mode pending bytes token
+    → IfSome token (λ it. IsProper (command_of_token it))
+told_proper given mode pending bytes None some tells = tt
+told_proper given mode pending bytes (Some (tokens.Show run)) some tells =
+    let P : List ℕ → Type 0 = λ shown. IsProper (commands.Show (get_or shown 0 0)) in
+    subst P (sym tells.whole) (run_proper bytes some tells.graphic)
+told_proper given mode pending bytes (Some token) some tells = gives_proper given mode pending bytes (token_command (Some token)) tells
+
+pub event_told : (given mode : Mode) (pending bytes : List ℕ) (event : Option Event) (token : Option Token) → IsTokenOf event token
+    → Gives given mode pending bytes (event_command event) → TellsOf given mode pending bytes token
+event_told given mode pending bytes None token is gives = subst (TellsOf given mode pending bytes) (sym is) gives
+event_told given mode pending bytes (Some Error) token is gives = subst (TellsOf given mode pending bytes) (sym is) gives
+event_told given mode pending bytes (Some (Control byte)) token is gives = subst (TellsOf given mode pending bytes) (sym is) gives
+event_told given mode pending bytes (Some (Esc inter last)) token is gives = subst (TellsOf given mode pending bytes) (sym is) gives
+event_told given mode pending bytes (Some (Vt52 last)) token is gives = subst (TellsOf given mode pending bytes) (sym is) gives
+event_told given mode pending bytes (Some (Vt52Address line column)) token is gives = subst (TellsOf given mode pending bytes) (sym is) gives
+
+-- ---- one byte
+
+-- the command of the token of a byte
+abbrev pub command_told : Option Token → Option Command
+command_told None = None
+command_told (Some token) = Some (command_of_token token)
+
+run_told : (mode : Mode) (pending : List ℕ) (byte : ℕ) (run : List ℕ) → IsRun pending (byte ∷ []) run → command_of mode pending byte ≡ Some (commands.Show (get_or run 0 0))
+run_told mode pending byte run is =
+    ap (λ (p : List ℕ). command_of mode p byte) is.ground
+    ∙ (graphic_is_shown mode byte (and_parts (is_graphic byte) true is.graphic).0).0
+    ∙ ap (λ (bytes : List ℕ). Some (commands.Show (get_or bytes 0 0))) (sym is.whole)
+
+byte_told : (given mode : Mode) (pending : List ℕ) (byte : ℕ) (token : Option Token) → TellsOf given mode pending (byte ∷ []) token → command_of mode pending byte ≡ command_told token
+byte_told given mode pending byte (Some (tokens.Show run)) told = run_told mode pending byte run.now told
+byte_told given mode pending byte None told = told
+byte_told given mode pending byte (Some tokens.Error) told = told
+byte_told given mode pending byte (Some (tokens.Control control)) told = told
+byte_told given mode pending byte (Some (tokens.Esc inter last)) told = told
+byte_told given mode pending byte (Some (tokens.Csi private params last)) told = told
+byte_told given mode pending byte (Some (tokens.Vt52 last)) told = told
+byte_told given mode pending byte (Some (tokens.Vt52Address line column)) told = told
+
+-- all of one byte is taken
+one_taken : (byte n : ℕ) → 0 < n → n ≤ 1 → take n (byte ∷ []) ≡ byte ∷ []
+one_taken byte n some within = let one : n ≡ 1 = omega arith in ap (λ (k : ℕ). take k (byte ∷ [])) one
+
+pub step_told : (given mode : Mode) (pending : List ℕ) (byte n : ℕ) (token : Option Token) → 0 < n → n ≤ 1
+    → TellsOf given mode pending (take n (byte ∷ [])) token → command_of mode pending byte ≡ command_told token
+step_told given mode pending byte n token some within told =
+    byte_told given mode pending byte token (subst (λ (bytes : List ℕ). TellsOf given mode pending bytes token) (one_taken byte n some within) told)

@@ -1,0 +1,30 @@
+use Rattle.std.proofs.Common.{◌-◌, ◌∷◌, [], ◌++◌, take, sym, ap₂, ◌∙◌, subst, arith}
+use Rattle.vt_parser.specs.Sequence.{held}
+use Rattle.vt_parser.specs.Reading.{IsCounted, collected}
+use Rattle.vt_parser.proofs.Collecting.{further_digit, further_semicolon}
+use Rattle.vt_parser.proofs.machine.collect.Goals as goal
+use Rattle.vt_parser.proofs.machine.collect.Goals.{in-59, in-48-to-57}
+
+pub loop-at-preserved : goal.loop-at-preserved
+loop-at-preserved c =
+    let l = c.loop-at in
+    let bytes = c.args.bytes.now in
+    let params = held (take (l.text.count - 1) l.params ++ l.text.last ∷ []) in
+    let front = take c.args.from bytes in
+    let state = collected c.args.text c.args.params.now in
+    elim c.match-bytes-at.branch [
+      | in-59 w ↦ record {
+        counted = subst IsCounted (sym w.text-is) w.with_next_param-text.ensures.counted;
+        from = omega arith;
+        within = omega arith;
+        moved = further_semicolon front state l.text.private params l.text.over bytes l.at _ c.loop-at-test.true (omega arith)
+            (ap₂ collected w.text-is w.params-is ∙ w.with_next_param-text.ensures.value) l.invariant.moved;
+      }
+      | in-48-to-57 w ↦ record {
+        counted = subst IsCounted (sym w.text-is) (w.with_next_digit-text.ensures.counted l.invariant.counted);
+        from = omega arith;
+        within = omega arith;
+        moved = further_digit front state l.text.private params l.text.over bytes l.at _ c.loop-at-test.true (omega arith) (omega arith)
+            (ap₂ collected w.text-is w.params-is ∙ w.with_next_digit-text.ensures.value l.params) l.invariant.moved;
+      }
+    ]

@@ -1,0 +1,62 @@
+//! What a parser tells of the bytes that it takes.
+ghost use Rattle.std.specs.Prelude.{◌≡◌};
+ghost use Rattle.vt_parser.specs.Law.{IsProper};
+ghost use Rattle.vt_parser.specs.Token.{command_of_token};
+
+use crate::Command;
+use crate::states::copied;
+
+/// What bytes ask a terminal for: a run of graphic characters, or what a command asks for, the parameters lent.
+#[derive(Clone, Copy, Debug)]
+pub enum Token<'a> {
+    /// Show these graphic characters, 32 to 126, one after another.
+    Show(&'a [u8]),
+    /// Show the error character.
+    Error,
+    /// A control character that has an effect, 8 (BS) to 15 (SI).
+    Control(u8),
+    /// An escape sequence: its intermediate, if it has one, and its final byte.
+    Esc {
+        inter: Option<u8>,
+        last: u8,
+    },
+    /// A control sequence: whether it began with `?`, its parameters, and its final byte.
+    Csi {
+        private: bool,
+        params: &'a [u16],
+        last: u8,
+    },
+    /// A sequence of VT52 mode by its final byte.
+    Vt52(u8),
+    /// A direct cursor address of VT52 mode.
+    Vt52Address {
+        line: u8,
+        column: u8,
+    },
+}
+
+impl Token<'_> {
+    /// The command of a token of one byte or of one sequence.
+    pub(crate) fn command(self) -> Command
+        requires { IsProper (command_of_token self) }
+        ensures { result ≡ command_of_token self.entry }
+    {
+        match self {
+            Token::Show(run) => Command::Show(run[0]),
+            Token::Error => Command::Error,
+            Token::Control(byte) => Command::Control(byte),
+            Token::Esc { inter, last } => Command::Esc { inter, last },
+            Token::Csi {
+                private,
+                params,
+                last,
+            } => Command::Csi {
+                private,
+                params: copied(params),
+                last,
+            },
+            Token::Vt52(last) => Command::Vt52(last),
+            Token::Vt52Address { line, column } => Command::Vt52Address { line, column },
+        }
+    }
+}
