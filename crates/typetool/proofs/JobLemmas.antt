@@ -10,13 +10,13 @@ use Rattle.tape_core.specs.Devices.{Took, StoppedIn, has_failed}
 use Rattle.tape_core.specs.Reading.{fault_of, reads}
 use Rattle.tape_core.specs.Tape.{Tape, body}
 use Rattle.tape_core.proofs.DeviceLemmas.{stopped-append, stopped_before, took_none}
-use Rattle.typetool.specs.Output.{Begun, Comes, Done, EndsAt, Files, Stopped, Wrote, done_on, is_stopped, is_unwritten, outcome_by, refused_with, takes_requests}
+use Rattle.typetool.specs.Output.{Begun, Comes, Done, EndsAt, Files, Stopped, Wrote, done_on, done_with, is_stopped, is_unwritten, outcome_by, refused_with, takes_requests, text_of, writes_timing}
 use Rattle.typetool.specs.declared.job.Job.{Job}
 use Rattle.typetool.specs.declared.job.JobFault.{JobFault}
 use Rattle.typetool.specs.declared.job.JobFault.TheVariants.{File, Line, Memory}
 use Rattle.typetool.specs.declared.job.Job.TheVariants as jobs
 use Rattle.tape_core.specs.declared.fault.Fault.TheVariants as fault
-use Rattle.std.proofs.Common.{◌⊎◌, Bool, true, false, inl, inr, None, OnOk, IfErr, if◌then◌else◌}
+use Rattle.std.proofs.Common.{◌⊎◌, Bool, true, false, inl, inr, [], None, OnOk, IfErr, if◌then◌else◌}
 
 -- the bytes of the chunks before, at and after a place
 pub body_around : (chunks : List Chunk) (i : ℕ) (chunk : Chunk) → i < length chunks → get_or chunks i chunk ≡ chunk → body chunks ≡ (body (take i chunks) ++ chunk.bytes) ++ body (drop (i + 1) chunks)
@@ -135,3 +135,23 @@ same_done jobs.Info tape a b h = refl
 same_done (jobs.Screen at) tape a b h = refl
 same_done (jobs.Reports at) tape a b h = refl
 same_done jobs.Save tape a b h = ap (done_on jobs.Save tape) (h refl)
+
+-- each job but `save` writes one text
+pub other_job : (job : Job) → (job ≡ jobs.Save → ⊥) → writes_timing job ≡ false
+other_job (jobs.Due at) h = refl
+other_job jobs.Info h = refl
+other_job (jobs.Screen at) h = refl
+other_job (jobs.Reports at) h = refl
+other_job jobs.Save h = absurd (h refl)
+
+plain_done : (job : Job) (tape : Tape) (requests : List ℕ) → writes_timing job ≡ false → done_on job tape requests ≡ done_with (text_of job tape) []
+plain_done (jobs.Due at) tape requests h = refl
+plain_done jobs.Info tape requests h = refl
+plain_done (jobs.Screen at) tape requests h = refl
+plain_done (jobs.Reports at) tape requests h = refl
+plain_done jobs.Save tape requests h = absurd (cc)
+
+-- what such a job comes to on a pair that is read
+pub comes_plain : (job : Job) (files : Files) (tape : Tape) → writes_timing job ≡ false → reads files.script files.timing tape → Comes job files (done_with (text_of job tape) [])
+comes_plain job files tape one h =
+    subst (λ done. Comes job files done) (plain_done job tape files.requests one) (comes_done job files tape h)

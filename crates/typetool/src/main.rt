@@ -3,7 +3,6 @@
 
 mod job;
 mod jobs;
-mod mock;
 mod moment;
 mod program;
 mod words;

@@ -11,13 +11,12 @@ ghost use Rattle.typetool.specs.Requests.{StopsEditing, course_after, course_of,
 ghost use Rattle.tape_core.specs.Written.{script_text, timing_text};
 
 use crate::job::JobFault;
-use crate::mock::Session;
 use std::alloc::Global;
 use std::io::Write;
 use std::mem::ManuallyDrop;
 use tape_core::text::next_line;
 use tape_core::{Recording, Watched, write_script, write_timing};
-use tape_seek::{Edit, EditFault, LineFault, Request, read_line};
+use tape_seek::{Edit, EditFault, LineFault, Request, Session, read_line};
 
 /// How many chunks lie between the terminals that a session stores. No terminal is asked for here.
 const EVERY: usize = 100;
