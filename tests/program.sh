@@ -51,9 +51,6 @@ check 'two dashes' 0 'ab' '' due --at 9 -- ab.script ab.timing
 check 'what a recording holds' 0 'chunks 2\nbytes 2\nlength 0.500000\nheader 20\ntrailer 0\n' '' info ab.script ab.timing
 check 'what an empty recording holds' 0 'chunks 0\nbytes 0\nlength 0.000000\nheader 20\ntrailer 0\n' '' \
     info empty.script empty.timing
-check 'info has no moment' 2 '' "error: unexpected argument '--at' found\n\nUsage: typetool info <SCRIPT> <TIMING>\n\nFor more information, try '--help'.\n" \
-    info --at 1 ab.script ab.timing
-
 # screen_of TEXT: the 24 lines of a screen that begins with TEXT, with an LF for each empty line that TEXT leaves out.
 screen_of() {
     local text=$1 plain=${1//'\n'/}
@@ -242,8 +239,8 @@ uncreated 'its own script' ab.script ab.script new.timing
 "$program" save nowhere ab.timing new.script new.timing </dev/null >out.txt 2>err.txt
 verdict 'a missing script' 3 $? '' 'typetool: cannot open nowhere\n'
 [ ! -e new.script ] && passed=$((passed + 1)) || { failed=$((failed + 1)); echo 'FAILED: a script was created'; }
-"$program" save ab.script ab.timing new.script new.timing <&- >out.txt 2>err.txt
-verdict 'a closed standard input' 3 $? '' 'typetool: read fault\n'
+"$program" save ab.script ab.timing new.script new.timing 0>>there >out.txt 2>err.txt
+verdict 'a standard input that is only written' 3 $? '' 'typetool: read fault\n'
 rm -f new.script new.timing
 "$program" save ab.script ab.timing new.script new.timing <. >out.txt 2>err.txt
 verdict 'a directory as standard input' 3 $? '' 'typetool: read fault\n'
@@ -254,6 +251,7 @@ got=$?
 : >out.txt
 verdict 'a limit on file size' 3 $got '' 'typetool: write fault\n'
 holds 'no timing before the script is whole' new.timing ''
+status 'info with a moment' 2 info --at 1 ab.script ab.timing
 status 'save with a moment' 2 save --at 1 ab.script ab.timing new.script new.timing
 status 'save with two paths' 2 save ab.script ab.timing
 status 'help of save' 0 save --help
