@@ -1,8 +1,8 @@
 -- Equal rows, and rows by line.
-use Rattle.std.proofs.Common.{◌≡◌, ◌≢◌, ℕ, zero, suc, ◌+◌, ◌-◌, ◌<◌, ◌≤◌, Bool, true, false, not, ◌&&◌, List, [], ◌∷◌, ◌++◌, length, get_or, set, filter, nat_eq, Decides, refl, ap, sym, ◌∙◌, arith, inl, inr, get_or-set_same, get_or-set_other, add-one, add-zero, cond}
+use Rattle.std.proofs.Common.{◌≡◌, ◌≢◌, ℕ, zero, suc, ◌+◌, ◌-◌, ◌<◌, ◌≤◌, Bool, true, false, ◌&&◌, List, [], ◌∷◌, ◌++◌, length, get_or, set, filter, nat_eq, Decides, refl, ap, sym, ◌∙◌, arith, get_or-set_same, get_or-set_other, add-one, add-zero, cond}
 use Rattle.std.specs.Cmp.Lexicographic.{pointwise}
 use Rattle.std.specs.List.{range_with_len}
-use Rattle.std.proofs.lemmas.Bool.{and_parts, eqb-true, eq-eqb, cases_lt, false≢true}
+use Rattle.std.proofs.lemmas.Bool.{and_parts, eqb-true, eq-eqb}
 use Rattle.std.proofs.lemmas.List.{get_or_default}
 use Rattle.std.proofs.lemmas.List.Elements.{filter-append}
 use Rattle.std.proofs.lemmas.List.FromFn.{fill_by_all}
@@ -13,7 +13,7 @@ use Rattle.vt_screen.specs.declared.cell.Size.{Size}
 use Rattle.vt_screen.specs.declared.cell.Size.TheVariants.{Single, Double, Top, Bottom}
 use Rattle.vt_screen.specs.Attributes.{Attributes, attributes_of, byte_of}
 use Rattle.vt_screen.specs.Cells.{blank_row, row_at}
-use Rattle.vt_screen.proofs.LawLemmas.{nth_is}
+use Rattle.vt_screen.specs.Table.{nth}
 use Rattle.screen_print.specs.ChangeLines.{changed_lines, is_changed}
 use Rattle.screen_print.specs.SameRows.{same_cell, same_row, size_number}
 
@@ -94,19 +94,23 @@ same_row_decides one other =
 
 -- ---- rows by line
 
+nth_is : (rows : List Row) (line : ℕ) → row_at rows line ≡ get_or rows (line - 1) blank_row
+unfolding nth
+nth_is rows line = refl
+
 -- a row that is written
 pub row_set_same : (rows : List Row) (line : ℕ) (row : Row) → 1 ≤ line → line ≤ length rows → row_at (set rows (line - 1) row) line ≡ row
 row_set_same rows line row low high =
     let within : line - 1 < length rows = omega arith in
-    nth_is blank_row (set rows (line - 1) row) line ∙ get_or-set_same rows (line - 1) row blank_row within
+    nth_is (set rows (line - 1) row) line ∙ get_or-set_same rows (line - 1) row blank_row within
 
 pub row_set_other : (rows : List Row) (line k : ℕ) (row : Row) → 1 ≤ line → 1 ≤ k → k ≢ line → row_at (set rows (line - 1) row) k ≡ row_at rows k
 row_set_other rows line k row low here other =
     let apart : k - 1 ≢ line - 1 = omega arith in
-    nth_is blank_row (set rows (line - 1) row) k ∙ get_or-set_other rows (line - 1) (k - 1) row blank_row apart ∙ sym (nth_is blank_row rows k)
+    nth_is (set rows (line - 1) row) k ∙ get_or-set_other rows (line - 1) (k - 1) row blank_row apart ∙ sym (nth_is rows k)
 
 row_next : (rows : List Row) (k : ℕ) → row_at rows (k + 1) ≡ get_or rows k blank_row
-row_next rows k = nth_is blank_row rows (k + 1) ∙ ap (λ (i : ℕ). get_or rows i blank_row) (omega arith)
+row_next rows k = nth_is rows (k + 1) ∙ ap (λ (i : ℕ). get_or rows i blank_row) (omega arith)
 
 -- rows that are the same line by line
 pub rows_by_line : (rows these : List Row) → length rows ≡ 24 → length these ≡ 24 → ((line : ℕ) → 1 ≤ line → line ≤ 24 → row_at rows line ≡ row_at these line) → rows ≡ these
@@ -154,4 +158,4 @@ changed_step before after line here old new low is so_far more =
 pub row_read : (rows : List Row) (line : ℕ) (d : Row) → 1 ≤ line → line ≤ length rows → row_at rows line ≡ get_or rows (line - 1) d
 row_read rows line d low high =
     let within : line - 1 < length rows = omega arith in
-    nth_is blank_row rows line ∙ get_or_default rows (line - 1) blank_row d within
+    nth_is rows line ∙ get_or_default rows (line - 1) blank_row d within

@@ -1,4 +1,4 @@
-use Rattle.std.proofs.Common.{ℕ, ◌+◌, ◌-◌, ◌<◌, ◌≤◌, length, arith, ◌∙◌, inl, inr}
+use Rattle.std.proofs.Common.{◌-◌, arith, ◌∙◌, inl, inr}
 use Rattle.std.proofs.lemmas.Bool.{cases_eq}
 use Rattle.std.proofs.lemmas.List.{length-set}
 use Rattle.screen_print.proofs.RowLemmas.{row_set_same, row_set_other, rows_by_line}

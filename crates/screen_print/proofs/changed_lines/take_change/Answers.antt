@@ -1,4 +1,4 @@
-use Rattle.std.proofs.Common.{◌≡◌, ◌-◌, ◌≤◌, not, length, get_or, ap, sym, ◌∙◌, arith}
+use Rattle.std.proofs.Common.{◌-◌, not, get_or, ap, sym, ◌∙◌, arith}
 use Rattle.vt_screen.specs.Cells.{row_at}
 use Rattle.screen_print.specs.SameRows.{same_row}
 use Rattle.screen_print.proofs.RowLemmas.{row_read, row_set_same, row_set_other, same_row_decides}

@@ -1,6 +1,6 @@
 use Rattle.std.proofs.lemmas.Result.{err_from_is_err_and, IfErr-weaker, on_ok_weaker}
 use Rattle.tape_core.proofs.DeviceLemmas.{stopped-append, stopped_before, took-append}
-use Rattle.std.proofs.Common.{◌≡◌, ◌<◌, ◌++◌, [], ◌∷◌, length, arith}
+use Rattle.std.proofs.Common.{◌<◌, [], ◌∷◌, length, arith}
 use Rattle.std.specs.List.{flat_map}
 use Rattle.std.proofs.lemmas.Bool.Decides.{nat_tests}
 use Rattle.screen_print.specs.ChangeLines.{spaced_number}
