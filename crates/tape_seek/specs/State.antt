@@ -2,7 +2,7 @@
 use Rattle.std.specs.Prelude.{◌≡◌, ℕ, List, [], ◌∷◌, ◌++◌, Result, MatchResult}
 use Rattle.tape_core.specs.Tape.{Tape}
 use Rattle.tape_seek.specs.declared.edits.Edit.{Edit}
-use Rattle.tape_seek.specs.Edits.{edited}
+use Rattle.tape_seek.specs.Edits.{edited, edited_all}
 use Rattle.tape_seek.specs.Marks.{Marks, first_marks, after_edit, after_seek, after_refused_seek}
 
 -- the recording as edited, the accepted edits in order, how many chunks lie between stored terminals, and both marks
@@ -35,3 +35,7 @@ seek_refused s = record s { marks = after_refused_seek s.every s.marks }
 -- what a seek leaves, by its answer
 abbrev pub Leaves : {T E : Type 0} → Result T E → ℕ → State → State → Type 0
 Leaves result count old new = MatchResult result (λ _. new ≡ sought count old) (λ _. new ≡ seek_refused old)
+
+-- Whatever recording the session was opened with: where the recording was that one edited by the log, it is so still.
+abbrev pub KeepsHistory : State → State → Type 0
+KeepsHistory old new = (o : Tape) → old.recording ≡ edited_all o old.log → new.recording ≡ edited_all o new.log

@@ -1,0 +1,437 @@
+-- Replays: more chunks, fewer of them, and what is kept through each.
+use Rattle.std.proofs.Common.{◌≡◌, ◌≢◌, ℕ, zero, suc, ◌+◌, ◌-◌, ◌*◌, ◌/◌, ◌%◌, ◌<◌, ◌≤◌, List, [], ◌∷◌, ◌++◌, length, take, drop, get_or, refl, sym, ap, subst, ◌∙◌, inl, inr, arith, append-nil, length-append}
+use Rattle.std.specs.Prelude.{Box, Vec}
+use Rattle.std.proofs.lemmas.Bool.{cases_lt}
+use Rattle.std.specs.declared.alloc.Global.{Global}
+use Rattle.std.proofs.Math.Seq.{take-add, take-append_seam}
+use Rattle.std.proofs.Math.Nat.{div-eq_of_lt, zero-mul, suc-mul, div-mul-le_self, mul-le-mul_right}
+use Rattle.std.proofs.lemmas.Nat.{div-add-mod', div-mul-add, le-div, mod_below}
+use Rattle.std.proofs.lemmas.Grind.{flat_map-append}
+use Rattle.std.proofs.lemmas.List.{drop_all, get_or_append_left, get_or_default, get_or_push, length-take, length_push, take-take, take_all}
+use Rattle.tape_core.specs.declared.chunk.Chunk.{Chunk}
+use Rattle.tape_core.specs.Due.{first}
+use Rattle.tape_core.specs.Tape.{body}
+use Rattle.tape_core.proofs.FirstLemmas.{first-more_of}
+use Rattle.vt_term.specs.Seen.{Seen, Shows}
+use Rattle.vt_term.specs.Sink.{HasRoom, Sink, after_sending}
+use Rattle.vt_term.specs.Term.{reset_term, play, sent}
+use Rattle.vt_term.proofs.LawLemmas.{plays_in_parts, sends_in_parts}
+use Rattle.tape_seek.specs.declared.replay.Replay.{Replay}
+use Rattle.tape_seek.specs.Kept.{HasSent, HoldsUpTo, IsAhead, IsKept, IsPlaying, IsReplay, SameFront, Stores, played, sent_after}
+use Rattle.tape_seek.specs.Marks.{multiple_below}
+
+-- ---- before the first chunk
+
+pub played_none : (chunks : List Chunk) → played chunks 0 ≡ reset_term
+unfolding play
+played_none chunks = refl
+
+pub sent_none : (chunks : List Chunk) → sent_after chunks 0 ≡ []
+unfolding sent
+sent_none chunks = refl
+
+-- ---- one chunk more
+
+pub played_more : (chunks : List Chunk) (at : ℕ) (c : Chunk) → at < length chunks → get_or chunks at c ≡ c → played chunks (at + 1) ≡ play (played chunks at) c.bytes
+played_more chunks at c lt is = ap (play reset_term) (first-more_of chunks at c lt is) ∙ plays_in_parts reset_term (first chunks at) c.bytes
+
+pub sent_more : (chunks : List Chunk) (at : ℕ) (c : Chunk) → at < length chunks → get_or chunks at c ≡ c → sent_after chunks (at + 1) ≡ sent_after chunks at ++ sent (played chunks at) c.bytes
+sent_more chunks at c lt is = ap (sent reset_term) (first-more_of chunks at c lt is) ∙ sends_in_parts reset_term (first chunks at) c.bytes
+
+-- ---- fewer chunks
+
+-- what was sent by a count begins with what was sent by an earlier one
+sent_split : (chunks : List Chunk) (n m : ℕ) → n ≤ m → sent_after chunks m ≡ sent_after chunks n ++ sent (played chunks n) (body (take (m - n) (drop n chunks)))
+sent_split chunks n m le =
+    let whole : n + (m - n) ≡ m = omega arith in
+    let cut : first chunks m ≡ first chunks n ++ body (take (m - n) (drop n chunks)) =
+    ap (first chunks) (sym whole) ∙ ap body (take-add n (m - n) chunks) ∙ flat_map-append (λ (c : Chunk). c.bytes) (take n chunks) (take (m - n) (drop n chunks)) in
+    ap (sent reset_term) cut ∙ sends_in_parts reset_term (first chunks n) (body (take (m - n) (drop n chunks)))
+
+pub sent_rises : (chunks : List Chunk) (n m : ℕ) → n ≤ m → length (sent_after chunks n) ≤ length (sent_after chunks m)
+sent_rises chunks n m le =
+    let more = sent (played chunks n) (body (take (m - n) (drop n chunks))) in
+    omega (arith, ap length (sent_split chunks n m le), length-append (sent_after chunks n) more)
+
+pub sent_front : (chunks : List Chunk) (n m : ℕ) → n ≤ m → take (length (sent_after chunks n)) (sent_after chunks m) ≡ sent_after chunks n
+sent_front chunks n m le = ap (take (length (sent_after chunks n))) (sent_split chunks n m le) ∙ take-append_seam (sent_after chunks n) _
+
+-- a front of a longer front
+front_of_front : (few many : List ℕ) (list : List ℕ) → length few ≤ length many → take (length many) list ≡ many → take (length few) many ≡ few → take (length few) list ≡ few
+front_of_front few many list le front fewer = sym (take-take (length few) (length many) list le) ∙ ap (take (length few)) front ∙ fewer
+
+-- a front is no longer than its list
+pub front_within : (few list : List ℕ) → take (length few) list ≡ few → length few ≤ length list
+front_within few list front = omega (arith, ap length front, length-take (length few) list)
+
+pub div_rises : (n m every : ℕ) → 0 < every → n ≤ m → n / every ≤ m / every
+div_rises n m every some le = le-div (n / every) m every some (omega (arith, div-mul-le_self n every))
+
+pub holds_less : (chunks : List Chunk) (n m : ℕ) (r : Replay) → n ≤ m → HoldsUpTo chunks m r → HoldsUpTo chunks n r
+holds_less chunks n m r le h =
+    let fewer = div_rises n m r.every h.every le in
+    record {
+      every = h.every;
+      within = omega (arith, h.within);
+      terminals = omega (arith, h.terminals);
+      stored = λ k d lt. h.stored k d (omega arith);
+      counts = omega (arith, h.counts);
+      sent = λ k low. h.sent k (omega arith);
+      reports = front_of_front (sent_after chunks n) (sent_after chunks m) r.reports.bytes (sent_rises chunks n m le) h.reports (sent_front chunks n m le);
+    }
+
+-- what is kept stays right where the list of reports only grew
+pub holds_grown : (chunks : List Chunk) (n : ℕ) (r new : Replay) → new.every ≡ r.every → new.stored ≡ r.stored → new.sent ≡ r.sent
+    → take (length r.reports.bytes) new.reports.bytes ≡ r.reports.bytes → HoldsUpTo chunks n r → HoldsUpTo chunks n new
+holds_grown chunks n r new every stored counts front h = record {
+  every = rw every h.every;
+  within = h.within;
+  terminals = rw (every, stored) h.terminals;
+  stored = rw (every, stored) h.stored;
+  counts = rw counts h.counts;
+  sent = rw counts h.sent;
+  reports = front_of_front (sent_after chunks n) r.reports.bytes new.reports.bytes (front_within (sent_after chunks n) r.reports.bytes h.reports) front h.reports;
+}
+
+-- ---- the head
+
+pub multiple_within : (every count : ℕ) → multiple_below every count ≤ count
+multiple_within every count = div-mul-le_self count every
+
+pub head_reset : (chunks : List Chunk) (every count : ℕ) (seen : Seen) → count / every ≡ 0 → Shows seen reset_term → Shows seen (played chunks (multiple_below every count))
+head_reset chunks every count seen none shows =
+    let place : multiple_below every count ≡ 0 = ap (λ n. n * every) none ∙ zero-mul every in
+    rw (place, played_none chunks) shows
+
+pub head_stored : (chunks : List Chunk) (count : ℕ) (r : Replay) (b : Box Seen Global) → count / r.every ≢ 0 → HoldsUpTo chunks count r
+    → b ≡ get_or r.stored.items (count / r.every - 1) b → Shows b.value (played chunks (multiple_below r.every count))
+head_stored chunks count r b some h is =
+    let back : count / r.every - 1 + 1 ≡ count / r.every = omega arith in
+    let there = h.stored (count / r.every - 1) b (omega arith) in
+    let shows : Shows b.value (played chunks ((count / r.every - 1 + 1) * r.every)) = rw is there in
+    subst (λ (n : ℕ). Shows b.value (played chunks (n * r.every))) back shows
+
+-- ---- the next chunk, by its bytes
+
+pub next_shows : (chunks : List Chunk) (at : ℕ) (c : Chunk) → at < length chunks → get_or chunks at c ≡ c → (seen : Seen) (bytes : List ℕ) → bytes ≡ c.bytes
+    → Shows seen (play (played chunks at) bytes) → Shows seen (played chunks (at + 1))
+next_shows chunks at c lt is seen bytes same shows = subst (Shows seen) (ap (play (played chunks at)) same ∙ sym (played_more chunks at c lt is)) shows
+
+next_length : (chunks : List Chunk) (at : ℕ) (c : Chunk) → at < length chunks → get_or chunks at c ≡ c → (bytes : List ℕ) → bytes ≡ c.bytes
+    → length (sent_after chunks (at + 1)) ≡ length (sent_after chunks at) + length (sent (played chunks at) bytes)
+next_length chunks at c lt is bytes same =
+    ap length (sent_more chunks at c lt is) ∙ length-append (sent_after chunks at) (sent (played chunks at) c.bytes)
+    ∙ ap (λ (l : List ℕ). length (sent_after chunks at) + length (sent (played chunks at) l)) (sym same)
+
+pub next_sent : (chunks : List Chunk) (r new : Replay) (c : Chunk) → r.at < length chunks → get_or chunks r.at c ≡ c → (bytes : List ℕ) → bytes ≡ c.bytes
+    → r.reports.place ≡ length (sent_after chunks r.at) → new.reports ≡ after_sending r.reports (sent (played chunks r.at) bytes) → HasSent chunks r new
+next_sent chunks r new c lt is bytes same place sends =
+    let more = sent (played chunks r.at) bytes in
+    let len = next_length chunks r.at c lt is bytes same in
+    let whole : sent_after chunks (r.at + 1) ≡ sent_after chunks r.at ++ more
+    = sent_more chunks r.at c lt is ∙ ap (λ (l : List ℕ). sent_after chunks r.at ++ sent (played chunks r.at) l) (sym same) in
+    record {
+      place = ap (λ (s : Sink). s.place) sends ∙ ap (λ (n : ℕ). n + length more) place ∙ sym len;
+      within = λ le.
+          let none : drop (length r.reports.bytes - r.reports.place) more ≡ [] = drop_all (length r.reports.bytes - r.reports.place) more (omega arith) in
+          ap (λ (s : Sink). s.bytes) sends ∙ ap (λ (l : List ℕ). r.reports.bytes ++ l) none ∙ append-nil r.reports.bytes;
+      behind = λ all.
+          let none : length r.reports.bytes - r.reports.place ≡ 0 = omega (arith, ap length all) in
+          ap (λ (s : Sink). s.bytes) sends ∙ ap (λ (n : ℕ). r.reports.bytes ++ drop n more) none ∙ ap (λ (l : List ℕ). l ++ more) all ∙ sym whole;
+    }
+
+pub has_room : (chunks : List Chunk) (r : Replay) (c : Chunk) → r.at < length chunks → get_or chunks r.at c ≡ c → (bytes : List ℕ) → bytes ≡ c.bytes
+    → r.reports.place ≡ length (sent_after chunks r.at) → length (sent_after chunks (r.at + 1)) ≤ length r.reports.bytes → HasRoom r.reports (sent (played chunks r.at) bytes)
+has_room chunks r c lt is bytes same place le =
+    let len = next_length chunks r.at c lt is bytes same in
+    omega arith
+
+-- after the chunk was fed within the frontier
+pub fed_within : (chunks : List Chunk) (r new : Replay) → IsPlaying chunks r → new ≡ record r { head = new.head; reports = new.reports; at = r.at + 1; fed = r.fed + 1 }
+    → Shows new.head (played chunks (r.at + 1)) → HasSent chunks r new → new.at ≤ new.frontier → IsPlaying chunks new
+fed_within chunks r new playing rest shows sends within =
+    let kept = playing.replay.kept in
+    let low : r.at + 1 ≤ r.frontier = omega (arith, within, ap (λ (x : Replay). x.at) rest, ap (λ (x : Replay). x.frontier) rest) in
+    let same : new.reports.bytes ≡ r.reports.bytes = sends.within (omega (arith, sent_rises chunks (r.at + 1) r.frontier low, ap length kept.reports)) in
+    let front : take (length r.reports.bytes) new.reports.bytes ≡ r.reports.bytes = ap (take (length r.reports.bytes)) same ∙ take_all (length r.reports.bytes) r.reports.bytes (omega arith) in
+    let moved : Replay = record r { head = new.head; reports = new.reports; at = r.at + 1; fed = r.fed + 1 } in
+    let here : IsPlaying chunks moved = record {
+      replay = record {
+        kept = record {
+          holds = holds_grown chunks r.frontier r moved refl refl refl front kept.holds;
+          terminals = kept.terminals;
+          counts = kept.counts;
+          reports = same ∙ kept.reports;
+        };
+        behind = low;
+        head = shows;
+      };
+      place = sends.place;
+    } in
+    subst (IsPlaying chunks) (sym rest) here
+
+-- after the chunk at the frontier was fed
+pub fed_ahead : (chunks : List Chunk) (r new : Replay) → IsPlaying chunks r → r.at < length chunks → new ≡ record r { head = new.head; reports = new.reports; at = r.at + 1; fed = r.fed + 1 }
+    → Shows new.head (played chunks (r.at + 1)) → HasSent chunks r new → take (length r.reports.bytes) new.reports.bytes ≡ r.reports.bytes → new.frontier < new.at → IsAhead chunks new
+fed_ahead chunks r new playing lt rest shows sends front past =
+    let kept = playing.replay.kept in
+    let at : r.at ≡ r.frontier = omega (arith, past, playing.replay.behind, ap (λ (x : Replay). x.at) rest, ap (λ (x : Replay). x.frontier) rest) in
+    let moved : Replay = record r { head = new.head; reports = new.reports; at = r.at + 1; fed = r.fed + 1 } in
+    let here : IsAhead chunks moved = record {
+      holds = holds_grown chunks r.frontier r moved refl refl refl front kept.holds;
+      terminals = kept.terminals;
+      counts = kept.counts;
+      at = ap (λ n. n + 1) at;
+      within = omega arith;
+      head = shows;
+      reports = sends.behind (kept.reports ∙ ap (sent_after chunks) (sym at));
+      place = sends.place;
+    } in
+    subst (IsAhead chunks) (sym rest) here
+
+-- ---- the frontier moves on
+
+div_next : (n every : ℕ) → 0 < every → (n + 1) % every ≡ 0 → (n + 1) / every ≡ n / every + 1
+div_next n every some whole = from ((n + 1) / every) refl
+  where
+    from : (q : ℕ) → (n + 1) / every ≡ q → (n + 1) / every ≡ n / every + 1
+    from zero is = absurd (let all = div-add-mod' (n + 1) every in let none : (n + 1) / every * every ≡ 0 = ap (λ k. k * every) is ∙ zero-mul every in omega arith)
+    from (suc q) is =
+        let all = div-add-mod' (n + 1) every in
+        let parts : (n + 1) / every * every ≡ q * every + every = ap (λ k. k * every) is ∙ suc-mul q every in
+        let back : n ≡ q * every + (every - 1) = omega arith in
+        let less : n / every ≡ q = ap (λ k. k / every) back ∙ div-mul-add q every (every - 1) (omega arith) in
+        omega arith
+
+div_same : (n every : ℕ) → 0 < every → (n + 1) % every ≢ 0 → (n + 1) / every ≡ n / every
+div_same n every some part =
+    let all = div-add-mod' (n + 1) every in
+    let low = mod_below (n + 1) every some in
+    let back : n ≡ (n + 1) / every * every + ((n + 1) % every - 1) = omega arith in
+    sym (ap (λ k. k / every) back ∙ div-mul-add ((n + 1) / every) every ((n + 1) % every - 1) (omega arith))
+
+-- the terminals up to the head are stored
+pub record IsGrown (chunks : List Chunk) (r grown : Replay) : Type 0 where
+  pub rest : grown ≡ record r { stored = grown.stored }
+  pub terminals : length grown.stored.items ≡ r.at / r.every
+  pub stored : (k : ℕ) (d : Box Seen Global) → k < r.at / r.every → Shows (get_or grown.stored.items k d).value (played chunks ((k + 1) * r.every))
+
+pub grown_same : (chunks : List Chunk) (r : Replay) → IsAhead chunks r → r.at % r.every ≢ 0 → IsGrown chunks r r
+grown_same chunks r ahead part =
+    let same : r.at / r.every ≡ r.frontier / r.every = ap (λ n. n / r.every) ahead.at ∙ div_same r.frontier r.every ahead.holds.every (λ e. part (ap (λ n. n % r.every) ahead.at ∙ e)) in
+    record {
+      rest = refl;
+      terminals = ahead.terminals ∙ sym same;
+      stored = λ k d lt. ahead.holds.stored k d (omega arith);
+    }
+
+stored_more : (items : List (Box Seen Global)) (copy : Box Seen Global) (k n : ℕ) (d : Box Seen Global) → length items ≡ n → k < n → get_or (items ++ copy ∷ []) k d ≡ get_or items k d
+stored_more items copy k n d len lt = get_or_append_left items (copy ∷ []) d k (omega arith)
+
+pub grown_more : (chunks : List Chunk) (r new : Replay) → IsAhead chunks r → r.at % r.every ≡ 0 → Stores r new → new ≡ record r { stored = new.stored } → IsGrown chunks r new
+grown_more chunks r new ahead whole stores rest =
+    let next : r.at / r.every ≡ r.frontier / r.every + 1 = ap (λ n. n / r.every) ahead.at ∙ div_next r.frontier r.every ahead.holds.every (ap (λ n. n % r.every) (sym ahead.at) ∙ whole) in
+    let n = r.frontier / r.every in
+    let place : (n + 1) * r.every ≡ r.at = ap (λ k. k * r.every) (sym next) ∙ exact r.at r.every whole in
+    let at_end : (d : Box Seen Global) → Shows (get_or new.stored.items n d).value (played chunks ((n + 1) * r.every))
+    = λ d. subst (λ (b : Box Seen Global). Shows b.value (played chunks ((n + 1) * r.every))) (sym (ap (λ (l : List (Box Seen Global)). get_or l n d) stores.stored ∙ get_or_push r.stored.items stores.copy d n ahead.terminals))
+    (rw (stores.value, place) ahead.head) in
+    record {
+      rest = rest;
+      terminals = ap length stores.stored ∙ length_push r.stored.items stores.copy ∙ ap (λ k. k + 1) ahead.terminals ∙ sym next;
+      stored = λ k d lt. elim (cases_lt k n) [
+        | inl low ↦ subst (λ (b : Box Seen Global). Shows b.value (played chunks ((k + 1) * r.every))) (sym (ap (λ (l : List (Box Seen Global)). get_or l k d) stores.stored ∙ stored_more r.stored.items stores.copy k n d ahead.terminals low)) (ahead.holds.stored k d low)
+        | inr high ↦ let last : n ≡ k = omega arith in subst (λ (i : ℕ). Shows (get_or new.stored.items i d).value (played chunks ((i + 1) * r.every))) last (at_end d)
+      ];
+    }
+  where
+    exact : (n every : ℕ) → n % every ≡ 0 → n / every * every ≡ n
+    exact n every whole = let all = div-add-mod' n every in omega arith
+
+-- and so is what was sent by then
+pub ahead_kept : (chunks : List Chunk) (r grown : Replay) (place : ℕ) (sent' : Vec ℕ Global) → IsAhead chunks r → IsGrown chunks r grown → place ≡ grown.reports.place
+    → sent'.items ≡ grown.sent.items ++ place ∷ [] → IsPlaying chunks (record grown { frontier = grown.at; sent = sent' })
+ahead_kept chunks r grown place sent' ahead more is push =
+    let n = r.frontier + 1 in
+    let place_is : place ≡ length (sent_after chunks r.at) = is ∙ ap (λ (x : Replay). x.reports.place) more.rest ∙ ahead.place in
+    let items : sent'.items ≡ r.sent.items ++ place ∷ [] = push ∙ ap (λ (x : Replay). x.sent.items ++ place ∷ []) more.rest in
+    let len : length sent'.items ≡ n + 1 = ap length items ∙ length_push r.sent.items place ∙ ap (λ k. k + 1) ahead.counts in
+    let new : Replay = record r { stored = grown.stored; frontier = r.at; sent = sent' } in
+    let here : IsPlaying chunks new = record {
+      replay = record {
+        kept = record {
+          holds = record {
+            every = ahead.holds.every;
+            within = ahead.within;
+            terminals = omega (arith, more.terminals);
+            stored = more.stored;
+            counts = omega (arith, ahead.at);
+            sent = λ k low. elim (cases_lt k n) [
+              | inl lt ↦ ap (λ (l : List ℕ). get_or l k 0) items ∙ get_or_append_left r.sent.items (place ∷ []) 0 k (omega (arith, ahead.counts)) ∙ ahead.holds.sent k (omega arith)
+              | inr high ↦ let last : k ≡ n = omega (arith, ahead.at) in
+                  ap (λ (l : List ℕ). get_or l k 0) items ∙ ap (λ i. get_or (r.sent.items ++ place ∷ []) i 0) last
+                  ∙ get_or_push r.sent.items place 0 n ahead.counts ∙ place_is ∙ ap (λ i. length (sent_after chunks i)) (ahead.at ∙ sym last)
+            ];
+            reports = ap (take (length (sent_after chunks r.at))) ahead.reports ∙ take_all (length (sent_after chunks r.at)) (sent_after chunks r.at) (omega arith);
+          };
+          terminals = more.terminals;
+          counts = len ∙ ap (λ k. k + 1) (sym ahead.at);
+          reports = ahead.reports;
+        };
+        behind = omega arith;
+        head = ahead.head;
+      };
+      place = ahead.place;
+    } in
+    let whole : record grown { frontier = grown.at; sent = sent' } ≡ new = ap (λ (x : Replay). record x { frontier = x.at; sent = sent' }) more.rest in
+    subst (IsPlaying chunks) (sym whole) here
+
+-- what is kept stays right where more is stored behind it
+pub holds_longer : (chunks : List Chunk) (n : ℕ) (r new : Replay) (copies : List (Box Seen Global)) (more : List ℕ) → new.every ≡ r.every → new.reports ≡ r.reports
+    → new.stored.items ≡ r.stored.items ++ copies → new.sent.items ≡ r.sent.items ++ more → HoldsUpTo chunks n r → HoldsUpTo chunks n new
+holds_longer chunks n r new copies more every reports stored counts h =
+    let len = ap length stored ∙ length-append r.stored.items copies in
+    let len_sent = ap length counts ∙ length-append r.sent.items more in
+    record {
+      every = rw every h.every;
+      within = h.within;
+      terminals = rw every (omega (arith, h.terminals));
+      stored = rw every (λ k d lt. subst (λ (b : Box Seen Global). Shows b.value (played chunks ((k + 1) * r.every)))
+          (sym (ap (λ (l : List (Box Seen Global)). get_or l k d) stored ∙ get_or_append_left r.stored.items copies d k (omega (arith, h.terminals)))) (h.stored k d lt));
+      counts = omega (arith, h.counts);
+      sent = λ k low. ap (λ (l : List ℕ). get_or l k 0) counts ∙ get_or_append_left r.sent.items more 0 k (omega (arith, h.counts)) ∙ h.sent k low;
+      reports = rw reports h.reports;
+    }
+
+-- ---- the head goes back
+
+pub back_replay : (chunks : List Chunk) (r new : Replay) (count : ℕ) → IsKept chunks r → count ≤ r.frontier → new ≡ record r { head = new.head; at = multiple_below r.every count }
+    → Shows new.head (played chunks (multiple_below r.every count)) → IsReplay chunks new
+back_replay chunks r new count kept low rest shows =
+    let moved : Replay = record r { head = new.head; at = multiple_below r.every count } in
+    let here : IsReplay chunks moved = record {
+      kept = record {
+        holds = record {
+          every = kept.holds.every;
+          within = kept.holds.within;
+          terminals = kept.holds.terminals;
+          stored = kept.holds.stored;
+          counts = kept.holds.counts;
+          sent = kept.holds.sent;
+          reports = kept.holds.reports;
+        };
+        terminals = kept.terminals;
+        counts = kept.counts;
+        reports = kept.reports;
+      };
+      behind = omega (arith, multiple_within r.every count);
+      head = shows;
+    } in
+    subst (IsReplay chunks) (sym rest) here
+
+-- what was sent by a count, as the list of counts tells it
+pub sent_read : (chunks : List Chunk) (r : Replay) (k place : ℕ) → IsKept chunks r → k ≤ r.frontier → place ≡ get_or r.sent.items k place → place ≡ length (sent_after chunks k)
+sent_read chunks r k place kept low is =
+    is ∙ get_or_default r.sent.items k place 0 (omega (arith, kept.counts)) ∙ kept.holds.sent k low
+
+pub sent_within : (chunks : List Chunk) (r : Replay) (k place : ℕ) → IsKept chunks r → k ≤ r.frontier → place ≡ length (sent_after chunks k) → place ≤ length r.reports.bytes
+sent_within chunks r k place kept low is = omega (arith, sent_rises chunks k r.frontier low, ap length kept.reports)
+
+pub sent_cut : (chunks : List Chunk) (r : Replay) (k place : ℕ) → IsKept chunks r → k ≤ r.frontier → place ≡ length (sent_after chunks k) → take place r.reports.bytes ≡ sent_after chunks k
+sent_cut chunks r k place kept low is =
+    ap (λ n. take n r.reports.bytes) is ∙ ap (take (length (sent_after chunks k))) kept.reports ∙ sent_front chunks k r.frontier low
+
+-- sending goes on where the head stands
+pub placed : (chunks : List Chunk) (r : Replay) (sink : Sink) (place : ℕ) → IsReplay chunks r → place ≡ length (sent_after chunks r.at) → sink ≡ record { bytes = r.reports.bytes; place = place }
+    → IsPlaying chunks (record r { reports = sink; fed = 0 })
+placed chunks r sink place replay is set =
+    let bytes : sink.bytes ≡ r.reports.bytes = ap (λ (s : Sink). s.bytes) set in
+    let kept = replay.kept in
+    record {
+      replay = record {
+        kept = record {
+          holds = holds_grown chunks r.frontier r _ refl refl refl (ap (take (length r.reports.bytes)) bytes ∙ take_all (length r.reports.bytes) r.reports.bytes (omega arith)) kept.holds;
+          terminals = kept.terminals;
+          counts = kept.counts;
+          reports = bytes ∙ kept.reports;
+        };
+        behind = replay.behind;
+        head = replay.head;
+      };
+      place = ap (λ (s : Sink). s.place) set ∙ is;
+    }
+
+-- ---- chunks that come to the same bytes
+
+pub same_holds : (old new : List Chunk) (n : ℕ) (r : Replay) → SameFront old new n → HoldsUpTo old n r → HoldsUpTo new n r
+same_holds old new n r same h =
+    let by = λ (k : ℕ) (low : k ≤ n). sym (same.bytes k low) in
+    record {
+      every = h.every;
+      within = same.within;
+      terminals = h.terminals;
+      stored = λ k d lt.
+          let low : (k + 1) * r.every ≤ n = omega (arith, mul-le-mul_right r.every (least k (n / r.every) lt), div-mul-le_self n r.every) in
+          subst (λ (bytes : List ℕ). Shows (get_or r.stored.items k d).value (play reset_term bytes)) (by ((k + 1) * r.every) low) (h.stored k d lt);
+      counts = h.counts;
+      sent = λ k low. h.sent k low ∙ ap (λ (bytes : List ℕ). length (sent reset_term bytes)) (by k low);
+      reports = subst (λ (bytes : List ℕ). take (length (sent reset_term bytes)) r.reports.bytes ≡ sent reset_term bytes) (by n (omega arith)) h.reports;
+    }
+  where
+    least : (a b : ℕ) → a < b → a + 1 ≤ b
+    least a b lt = omega arith
+
+same_head : (old new : List Chunk) (n at : ℕ) (seen : Seen) → SameFront old new n → at ≤ n → Shows seen (played old at) → Shows seen (played new at)
+same_head old new n at seen same low shows = subst (λ (bytes : List ℕ). Shows seen (play reset_term bytes)) (sym (same.bytes at low)) shows
+
+pub same_replay : (old new : List Chunk) (r : Replay) → SameFront old new r.frontier → IsReplay old r → IsReplay new r
+same_replay old new r same replay = record {
+  kept = record {
+    holds = same_holds old new r.frontier r same replay.kept.holds;
+    terminals = replay.kept.terminals;
+    counts = replay.kept.counts;
+    reports = replay.kept.reports ∙ ap (sent reset_term) (sym (same.bytes r.frontier (omega arith)));
+  };
+  behind = replay.behind;
+  head = same_head old new r.frontier r.at r.head same replay.behind replay.head;
+}
+
+-- cut at a count behind which the head stands
+pub cut_replay : (old new : List Chunk) (r cut : Replay) (n : ℕ) → SameFront old new n → IsReplay old r → IsKept new cut → cut.frontier ≡ n → cut.at ≡ r.at → cut.head ≡ r.head → r.at ≤ n → IsReplay new cut
+cut_replay old new r cut n same replay kept frontier at head low = record {
+  kept = kept;
+  behind = omega arith;
+  head = rw (at, head) (same_head old new n r.at r.head same low replay.head);
+}
+
+-- ---- nothing was played
+
+zero_div : (every : ℕ) → 0 < every → 0 / every ≡ 0
+zero_div every some = let low = div-mul-le_self 0 every in div-eq_of_lt some
+
+pub replay_new : (chunks : List Chunk) (r : Replay) → 0 < r.every → r.frontier ≡ 0 → r.at ≡ 0 → r.stored.items ≡ [] → r.reports ≡ record { bytes = []; place = 0 } → r.sent.items ≡ 0 ∷ []
+    → Shows r.head reset_term → IsReplay chunks r
+replay_new chunks r some frontier at stored reports counts shows =
+    let none : r.frontier / r.every ≡ 0 = ap (λ n. n / r.every) frontier ∙ zero_div r.every some in
+    let empty : r.reports.bytes ≡ [] = ap (λ (s : Sink). s.bytes) reports in
+    let sent_now : sent_after chunks r.frontier ≡ [] = ap (sent_after chunks) frontier ∙ sent_none chunks in
+    record {
+      kept = record {
+        holds = record {
+          every = some;
+          within = omega arith;
+          terminals = omega arith;
+          stored = λ k d lt. absurd (omega arith);
+          counts = omega (arith, ap length counts);
+          sent = λ k low.
+              let first_one : k ≡ 0 = omega arith in
+              ap (λ (l : List ℕ). get_or l k 0) counts ∙ ap (λ i. get_or (0 ∷ []) i 0) first_one ∙ sym (ap length (ap (sent_after chunks) first_one ∙ sent_none chunks));
+          reports = ap (λ (l : List ℕ). take (length l) r.reports.bytes) sent_now ∙ sym sent_now;
+        };
+        terminals = ap length stored ∙ sym none;
+        counts = ap length counts ∙ sym (ap (λ n. n + 1) frontier);
+        reports = empty ∙ sym sent_now;
+      };
+      behind = omega arith;
+      head = rw (at, played_none chunks) shows;
+    }

@@ -1,0 +1,16 @@
+use Rattle.std.proofs.Common.{◌≡◌, ◌+◌, ◌-◌, ◌≤◌, max}
+use Rattle.tape_seek.specs.Kept.{IsPlaying}
+use Rattle.tape_seek.proofs.replay.Replay.feed_to.Given as goal
+
+-- the replay stands somewhere on the way, and has counted what it fed
+abbrev pub invariant-loop-self : goal.invariant-loop-self
+invariant-loop-self l = record {
+  playing : IsPlaying l.chunks l.self;
+  before : l.self.at ≤ l.count;
+  fed : l.self.fed + l.initial.self.at ≡ l.self.at;
+  frontier : l.self.frontier ≡ max l.initial.self.frontier l.self.at;
+  every : l.self.every ≡ l.initial.self.every;
+}
+
+abbrev pub decreases-loop-self : goal.decreases-loop-self
+decreases-loop-self l = l.count - l.self.at

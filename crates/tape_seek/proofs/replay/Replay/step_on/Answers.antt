@@ -1,0 +1,26 @@
+use Rattle.std.proofs.Common.{◌≤◌, ◌+◌, length, ap, arith}
+use Rattle.std.proofs.lemmas.Bool.{false≢true}
+use Rattle.tape_seek.specs.Kept.{sent_after}
+use Rattle.tape_seek.proofs.ReplayLemmas.{fed_ahead, fed_within, sent_rises}
+use Rattle.tape_seek.proofs.replay.Replay.step_on.Goals as goal
+
+pub returns-in_err-feed_next-clause-room : goal.returns-in_err-feed_next-clause-room
+returns-in_err-feed_next-clause-room c = λ low.
+    let chunks = c.args.chunks.now in
+    let r = c.args.self.now in
+    let replay = c.requires.playing.replay in
+    let room : length (sent_after chunks (r.at + 1)) ≤ length r.reports.bytes = omega (arith, sent_rises chunks (r.at + 1) r.frontier (omega arith), ap length replay.kept.reports) in
+    absurd (false≢true (c.in_err-feed_next.ensures.room replay.head c.requires.playing.place room))
+
+pub returns-in_ok-keep_head-clause-ok : goal.returns-in_ok-keep_head-clause-ok
+returns-in_ok-keep_head-clause-ok c =
+    let fed = c.in_ok-feed_next.ensures in
+    let playing = c.requires.playing in
+    c.in_ok-keep_head.ensures.ok c.args.chunks.now
+    (fed_ahead c.args.chunks.now c.args.self.now c.feed_next.new.self playing c.requires.within fed.ok (fed.shows playing.replay.head) (fed.sent playing.replay.head playing.place) fed.front c.if-self.true)
+
+pub returns-else-self-clause-ok : goal.returns-else-self-clause-ok
+returns-else-self-clause-ok c =
+    let fed = c.in_ok-feed_next.ensures in
+    let playing = c.requires.playing in
+    fed_within c.args.chunks.now c.args.self.now c.feed_next.new.self playing fed.ok (fed.shows playing.replay.head) (fed.sent playing.replay.head playing.place) c.if-self.false

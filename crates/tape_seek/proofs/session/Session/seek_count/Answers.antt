@@ -1,0 +1,30 @@
+use Rattle.std.proofs.Common.{refl, sym, ap, ◌∙◌}
+use Rattle.tape_seek.specs.Edits.{edited_all}
+use Rattle.tape_seek.specs.Marks.{fed_by}
+use Rattle.tape_seek.specs.State.{sought}
+use Rattle.tape_seek.proofs.SessionLemmas.{reports_up_to, same_marks, shows_up_to}
+use Rattle.tape_seek.proofs.session.Session.seek_count.Goals as goal
+
+pub returns : goal.returns
+returns c =
+    let count = c.args.count in
+    let chunks = c.chunks.result.now in
+    let same = c.chunks.ensures.chunks ∙ ap (λ s. s.recording.chunks) c.self.view_is in
+    let went = c.in_ok-seek.ensures in (
+      (
+        refl,
+        λ _. tt,
+        (
+          same_marks _ _ refl refl went.every went.frontier went.at ∙ ap (sought count) c.self.view_is,
+          λ o old. ap (λ s. s.recording) c.self.view_is ∙ old ∙ sym (ap (λ s. edited_all o s.log) c.self.view_is),
+        ),
+      ),
+      record {
+        state = tt;
+        shows = shows_up_to chunks c.args.self.now.recording c.seek.new.self count same went.replay went.at;
+        reports = reports_up_to chunks c.args.self.now.recording c.sent_by.result.now count same (c.sent_by.ensures chunks went.replay);
+        count = refl;
+        fed = went.fed ∙ ap (λ s. fed_by s.every count s.marks) c.self.view_is;
+        room = λ _. refl;
+      },
+    )

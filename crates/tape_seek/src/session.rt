@@ -1,0 +1,252 @@
+//! Sessions over a recording.
+ghost use Rattle.std.specs.Prelude.{◌≡◌, ◌+◌, ◌/◌, ◌<◌, ◌≤◌, ℕ, None, All, length, unwrap_or, vec_capacity, vec_len, IfOk, IfErr, OnOk, OnErr, IsOk, ⊤};
+ghost use Rattle.tape_core.specs.Due.{due_count};
+ghost use Rattle.tape_core.specs.Tape.{Tape, fits};
+ghost use Rattle.tape_seek.specs.Edits.{CanBeLogged, edit_fault, edited, edited_all};
+ghost use Rattle.tape_seek.specs.Kept.{IsReplay, marks_of};
+ghost use Rattle.tape_seek.specs.Marks.{after_edit, fed_by};
+ghost use Rattle.vt_term.specs.Seen.{Shows};
+
+use crate::changes::{fault_of, make, touched_first};
+use crate::edits::{Edit, EditFault};
+use crate::replay::Replay;
+use std::alloc::{AllocError, Global};
+use std::marker::Model;
+use tape_core::Recording;
+use vt_term::{OutOfMemory, Terminal};
+
+/// An edit that was refused, and why.
+#[derive(Debug, Drop)]
+pub struct Refused {
+    pub edit: Edit,
+    pub fault: EditFault,
+}
+
+/// A recording that is edited and sought in. Contracts see the recording as edited, the log, how many chunks lie between
+/// stored terminals, the frontier and the head.
+#[derive(Debug, Drop)]
+pub struct Session {
+    recording: Recording,
+    log: Vec<Edit>,
+    replay: Replay,
+}
+
+impl Model for Session {
+    ghost use Rattle.tape_seek.specs.State.{State};
+
+    ghost Value = { State };
+
+    ghost use Rattle.tape_seek.specs.Kept.{IsSound};
+
+    ghost view = { λ s. record {
+      recording = s.recording;
+      log = s.log.items;
+      every = s.replay.every;
+      marks = record { frontier = s.replay.frontier; head = s.replay.at };
+    } };
+
+    ghost invariant = { λ s. IsSound s.recording s.log.items s.replay };
+}
+
+/// The terminal at a count of chunks, and all reports by then.
+#[derive(Debug, Drop)]
+pub struct View<'a> {
+    terminal: &'a Terminal,
+    reports: &'a [u8],
+    count: usize,
+    fed: usize,
+}
+
+impl Session {
+    ghost use Rattle.std.specs.Borrow.{sem};
+    ghost use denote.Follow.{follows_so};
+    ghost use mathlib.Core.Option.{none};
+    ghost use Rattle.tape_seek.specs.contracts.session.Session.{the_row};
+    ghost use Rattle.tape_seek.specs.Moments.{term_at, up_to};
+    ghost use Rattle.tape_seek.specs.State.{KeepsHistory, Leaves, accepted, opened};
+
+    /// Opens a session, with a terminal stored at every so many chunks. For want of memory the recording comes back.
+    pub fn open(alloc: Global, recording: Recording, every: usize) -> Result<Self, Recording>
+        requires low { 1 ≤ every }
+        requires high { every ≤ 1000000 }
+        ensures ok { IfOk result (λ session. session ≡ opened recording every) }
+        ensures history { (o : Tape) → recording ≡ o
+            → IfOk result (λ session. session.recording ≡ edited_all o session.log) }
+        ensures err { IfErr result (λ back. back ≡ recording) }
+    {
+        let Ok(replay) = Replay::new(alloc, every) else {
+            return Err(recording);
+        };
+        let _chunks = recording.chunks();
+        Ok(Session {
+            recording,
+            log: Vec::new(alloc),
+            replay,
+        })
+    }
+
+    /// Makes an edit, and appends it to the log. A refused edit comes back, and nothing has changed.
+    pub fn apply(&mut self, edit: Edit) -> Result<(), Refused>
+        ensures ok { OnOk result (self.new ≡ accepted edit self.old) }
+        ensures sound { OnOk result (edit_fault self.old.recording edit ≡ None) }
+        ensures err { OnErr result (self.new ≡ self.old) }
+        ensures returned { IfErr result (λ refused. refused.edit ≡ edit) }
+        // The fault is the edit's first; want of memory only where it has none.
+        ensures fault { IfErr result (λ refused. refused.fault
+            ≡ unwrap_or (edit_fault self.old.recording edit) EditFault.OutOfMemory) }
+        ensures history { KeepsHistory self.old self.new }
+    {
+        if let Some(fault) = fault_of(&self.recording, &edit) {
+            return Err(Refused { edit, fault });
+        }
+        if grow(self.replay.alloc, &mut self.log, &mut self.recording, &edit).is_err() {
+            return Err(Refused {
+                edit,
+                fault: EditFault::OutOfMemory,
+            });
+        }
+        cut(&mut self.replay, &edit);
+        self.log.push_reserved(edit);
+        Ok(())
+    }
+
+    /// Goes to a moment, in microseconds: to the chunks that are due by then.
+    pub fn seek(&mut self, moment: u64) -> Result<View<'_>, OutOfMemory>
+        ensures* state { sem 𝓛 (follows_so the_row the_row self.entry.ghost_name none (λ _ _. ⊤)
+            (λ new. Leaves result (due_count self.old.recording.chunks moment) self.old new × KeepsHistory self.old new)) }
+        ensures shows { IfOk result (λ view. Shows view.terminal.now (term_at self.old.recording moment)) }
+        ensures reports { IfOk result (λ view. view.reports.now ≡ (term_at self.old.recording moment).reports) }
+        ensures count { IfOk result (λ view. view.count ≡ due_count self.old.recording.chunks moment) }
+        ensures fed { IfOk result (λ view. view.fed
+            ≡ fed_by self.old.every (due_count self.old.recording.chunks moment) self.old.marks) }
+        ensures room { due_count self.old.recording.chunks moment ≤ self.old.marks.frontier → IsOk result }
+    {
+        let count = self.recording.due_count(moment);
+        self.replay.seek(self.recording.chunks(), count)?;
+        let replay = &self.replay;
+        Ok(View {
+            terminal: &replay.head,
+            reports: replay.sent_by(count),
+            count,
+            fed: replay.fed,
+        })
+    }
+
+    /// Goes to a count of chunks.
+    pub fn seek_count(&mut self, count: usize) -> Result<View<'_>, OutOfMemory>
+        requires { count ≤ length self.old.recording.chunks }
+        ensures* state { sem 𝓛 (follows_so the_row the_row self.entry.ghost_name none (λ _ _. ⊤)
+            (λ new. Leaves result count self.old new × KeepsHistory self.old new)) }
+        ensures shows { IfOk result (λ view. Shows view.terminal.now (up_to self.old.recording count)) }
+        ensures reports { IfOk result (λ view. view.reports.now ≡ (up_to self.old.recording count).reports) }
+        ensures count { IfOk result (λ view. view.count ≡ count) }
+        ensures fed { IfOk result (λ view. view.fed ≡ fed_by self.old.every count self.old.marks) }
+        ensures room { count ≤ self.old.marks.frontier → IsOk result }
+    {
+        self.replay.seek(self.recording.chunks(), count)?;
+        let replay = &self.replay;
+        Ok(View {
+            terminal: &replay.head,
+            reports: replay.sent_by(count),
+            count,
+            fed: replay.fed,
+        })
+    }
+
+    /// The count up to which every chunk was fed, and what the seeks kept is still right.
+    pub fn frontier(&self) -> usize
+        ensures { result ≡ self.now.marks.frontier }
+    {
+        self.replay.frontier
+    }
+
+    /// The count at which the working terminal stands.
+    pub fn head(&self) -> usize
+        ensures { result ≡ self.now.marks.head }
+    {
+        self.replay.at
+    }
+
+    /// How many terminals are kept, the working one included.
+    pub fn held(&self) -> usize
+        ensures { result ≡ self.now.marks.frontier / self.now.every + 1 }
+    {
+        self.replay.stored.len() + 1
+    }
+
+    /// The recording as edited.
+    pub fn recording(&self) -> &Recording
+        ensures { result.now ≡ self.now.recording }
+    {
+        &self.recording
+    }
+
+    /// The accepted edits in order.
+    pub fn log(&self) -> &[Edit]
+        ensures value { result.now ≡ self.now.log }
+        ensures writable { All CanBeLogged result.now }
+    {
+        self.log.as_slice()
+    }
+}
+
+/// Makes room for the edit in the log, and makes it. For want of memory neither log nor recording has changed.
+fn grow(
+    alloc: Global,
+    log: &mut Vec<Edit>,
+    recording: &mut Recording,
+    edit: &Edit,
+) -> Result<(), AllocError>
+    requires { edit_fault recording.old edit.now ≡ None }
+    ensures log { log.new.items ≡ log.old.items }
+    ensures room { OnOk result (vec_len log.new < vec_capacity log.new) }
+    ensures fitting { fits recording.old → fits recording.new }
+    ensures ok { OnOk result (recording.new ≡ edited recording.old edit.now) }
+    ensures err { OnErr result (recording.new ≡ recording.old) }
+{
+    log.reserve(1)?;
+    make(alloc, recording, edit)
+}
+
+/// Gives up what was kept past the chunk that the edit touches first, if it touches the bytes of any.
+fn cut(replay: &mut Replay, edit: &Edit)
+    requires { (tape : Tape) × IsReplay tape.chunks replay.old }
+    ensures replay { (tape : Tape) → IsReplay tape.chunks replay.old → edit_fault tape edit.now ≡ None
+        → IsReplay (edited tape edit.now).chunks replay.new }
+    ensures every { replay.new.every ≡ replay.old.every }
+    ensures marks { marks_of replay.new ≡ after_edit replay.old.every edit.now (marks_of replay.old) }
+{
+    if let Some(first) = touched_first(edit) {
+        replay.cut(first);
+    }
+}
+
+impl<'a> View<'a> {
+    /// The terminal at the count.
+    pub fn terminal(&self) -> &'a Terminal
+        ensures { result.now ≡ self.now.terminal.now }
+    {
+        self.terminal
+    }
+
+    /// All that it has sent by then.
+    pub fn reports(&self) -> &'a [u8]
+        ensures { result.now ≡ self.now.reports.now }
+    {
+        self.reports
+    }
+
+    /// The count of chunks.
+    pub fn count(&self) -> usize
+        ensures { result ≡ self.now.count }
+    {
+        self.count
+    }
+
+    /// How many chunks the seek fed.
+    pub fn fed(&self) -> usize
+        ensures { result ≡ self.now.fed }
+    {
+        self.fed
+    }
+}
