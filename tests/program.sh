@@ -51,9 +51,6 @@ check 'two dashes' 0 'ab' '' due --at 9 -- ab.script ab.timing
 check 'what a recording holds' 0 'chunks 2\nbytes 2\nlength 0.500000\nheader 20\ntrailer 0\n' '' info ab.script ab.timing
 check 'what an empty recording holds' 0 'chunks 0\nbytes 0\nlength 0.000000\nheader 20\ntrailer 0\n' '' \
     info empty.script empty.timing
-check 'info has no moment' 2 '' "error: unexpected argument '--at' found\n\nUsage: typetool info <SCRIPT> <TIMING>\n\nFor more information, try '--help'.\n" \
-    info --at 1 ab.script ab.timing
-
 # screen_of TEXT: the 24 lines of a screen that begins with TEXT, with an LF for each empty line that TEXT leaves out.
 screen_of() {
     local text=$1 plain=${1//'\n'/}
@@ -177,6 +174,87 @@ status 'a screen of no moment' 2 screen ab.script ab.timing
 status 'reports escaped' 2 reports --at 1 --escaped ab.script ab.timing
 check 'bad seconds of a screen' 2 '' 'typetool: bad seconds\n' screen --at 1e3 nowhere nowhere
 check 'bad seconds of reports' 2 '' 'typetool: bad seconds\n' reports --at '' nowhere nowhere
+
+# saved NAME STATUS ERR LINES SCRIPT TIMING: saves what LINES ask for into new.script and new.timing.
+saved() {
+    rm -f new.script new.timing
+    printf '%b' "$4" | "$program" save "$5" "$6" new.script new.timing >out.txt 2>err.txt
+    verdict "$1" "$2" $? '' "$3"
+}
+
+# holds NAME FILE TEXT: a file has this text.
+holds() {
+    printf '%b' "$3" >want.bin
+    if cmp -s "$2" want.bin; then
+        passed=$((passed + 1))
+    else
+        failed=$((failed + 1))
+        echo "FAILED $1: $2"
+    fi
+}
+
+saved 'an insert' 0 '' 'insert 1 0.25 58\n' ab.script ab.timing
+holds 'an insert' new.script "$head"aXb
+holds 'an insert' new.timing '0.000000 1\n0.250000 1\n0.500000 1\n'
+check 'what was saved is read' 0 'aXb' '' due --at 1 new.script new.timing
+printf '%babc' "$head" >abc.script
+printf ' 0.1\t2 \n\n-0.5 1' >loose.timing
+saved 'no edits' 0 '' '' abc.script loose.timing
+holds 'no edits' new.script "$head"abc
+holds 'no edits' new.timing '0.100000 2\n0.000000 1\n'
+printf '0.5 1\n3 1\n2 1\n' >slow.timing
+saved 'a cap' 0 '' 'cap 2\n' abc.script slow.timing
+holds 'a cap' new.timing '0.500000 1\n2.000000 1\n2.000000 1\n'
+saved 'a bad range' 1 'typetool: request line 3: E6 BadRange\n' 'delete 0 1\n\ndelete 5 6\n' ab.script ab.timing
+holds 'a bad range' new.script ''
+holds 'a bad range' new.timing ''
+saved 'a question' 1 'typetool: request line 1: E8 BadLine\n' 'info\n' ab.script ab.timing
+saved 'no such chunk' 1 'typetool: request line 1: E1 NoSuchChunk\n' 'insert 11 0 -' ab.script ab.timing
+saved 'too large a delay' 1 'typetool: request line 1: E2 DelayTooLarge\n' 'insert 0 1000000.000001 -' ab.script ab.timing
+saved 'a CR' 1 'typetool: request line 1: E8 BadLine\n' 'cap 1\r\n' ab.script ab.timing
+saved 'a short script' 1 'typetool: typescript ends inside chunk 0\n' 'nonsense' empty.script ab.timing
+holds 'a short script' new.script ''
+
+# Creating is exclusive, and what was there stays as it is.
+# uncreated NAME PATH NEWSCRIPT NEWTIMING: PATH can't be created.
+uncreated() {
+    "$program" save ab.script ab.timing "$3" "$4" </dev/null >out.txt 2>err.txt
+    verdict "$1" 3 $? '' "typetool: cannot create $2\n"
+}
+rm -f new.script new.timing
+echo kept >there
+ln -s nowhere dangling
+uncreated 'an existing script' there there new.timing
+holds 'an existing script' there 'kept\n'
+[ ! -e new.timing ] && passed=$((passed + 1)) || { failed=$((failed + 1)); echo 'FAILED: a timing was created'; }
+uncreated 'an existing timing' there new.script there
+holds 'a script created before' new.script ''
+rm -f new.script
+uncreated 'a dangling link' dangling dangling new.timing
+uncreated 'the same path twice' new.script new.script new.script
+rm -f new.script
+uncreated 'a directory' . . new.timing
+uncreated 'no such directory' nowhere/new nowhere/new new.timing
+uncreated 'its own script' ab.script ab.script new.timing
+"$program" save nowhere ab.timing new.script new.timing </dev/null >out.txt 2>err.txt
+verdict 'a missing script' 3 $? '' 'typetool: cannot open nowhere\n'
+[ ! -e new.script ] && passed=$((passed + 1)) || { failed=$((failed + 1)); echo 'FAILED: a script was created'; }
+"$program" save ab.script ab.timing new.script new.timing 0>>there >out.txt 2>err.txt
+verdict 'a standard input that is only written' 3 $? '' 'typetool: read fault\n'
+rm -f new.script new.timing
+"$program" save ab.script ab.timing new.script new.timing <. >out.txt 2>err.txt
+verdict 'a directory as standard input' 3 $? '' 'typetool: read fault\n'
+rm -f new.script new.timing
+head -c 4000 /dev/zero | od -An -v -tx1 | tr -d ' \n' | sed 's/^/insert 0 0 /' >long.requests
+(ulimit -f 1; trap '' XFSZ; exec "$program" save ab.script ab.timing new.script new.timing <long.requests >out.txt 2>err.txt)
+got=$?
+: >out.txt
+verdict 'a limit on file size' 3 $got '' 'typetool: write fault\n'
+holds 'no timing before the script is whole' new.timing ''
+status 'info with a moment' 2 info --at 1 ab.script ab.timing
+status 'save with a moment' 2 save --at 1 ab.script ab.timing new.script new.timing
+status 'save with two paths' 2 save ab.script ab.timing
+status 'help of save' 0 save --help
 
 "$program" due --at 1 ab.script ab.timing >/dev/full 2>err.txt
 got=$?

@@ -18,11 +18,12 @@ use Rattle.std.specs.Str.{bytes_eq}
 use Rattle.std.proofs.lemmas.List.{get_or_default, map-append, take_all, take_more}
 use Rattle.std.proofs.lemmas.List.Sums.{fold_more}
 use Rattle.clap.specs.Words.{Rule, with_rule, with_subcommand}
-use Rattle.typetool.specs.CommandLine.{typetool_app, clap_faults, clap_takes, subcommand_in, subcommands_in_order, app_in, after, id_in, job_in, meaning_in, meaning_of, meaning_of_words, name_in, paths_in, rule_in, top_app, value_in, with_rules, with_subcommands, flags_in, IsNamed}
+use Rattle.typetool.specs.CommandLine.{typetool_app, clap_faults, clap_takes, subcommand_in, subcommands_in_order, app_in, after, id_in, job_in, meaning_in, meaning_of, meaning_of_words, name_in, path_count, paths_in, rule_in, top_app, value_in, with_rules, with_subcommands, flags_in, IsNamed}
 use Rattle.typetool.specs.declared.job.Job.{Job}
+use Rattle.typetool.specs.declared.job.Job.TheVariants as jobs
 use Rattle.typetool.specs.declared.words.table.Argument.{Argument}
 use Rattle.typetool.specs.declared.words.table.Subcommand.{Subcommand}
-use Rattle.typetool.specs.declared.words.table.Subcommand.TheVariants.{Due, Info, Screen, Reports}
+use Rattle.typetool.specs.declared.words.table.Subcommand.TheVariants.{Due, Info, Screen, Reports, Save}
 use Rattle.typetool.specs.declared.words.values.Unreadable.{Unreadable}
 
 -- clap says what such a command's matches are
@@ -134,6 +135,7 @@ first_named Due = refl
 first_named Info = refl
 first_named Screen = refl
 first_named Reports = refl
+first_named Save = refl
 
 -- what words mean by the subcommand that clap finds in them
 pub means : (words : List Text) (s : Subcommand) (rows : List Row) → subcommand_in words ≡ Some (name_in s, rows) → meaning_of_words words ≡ Some (meaning_in s rows)
@@ -152,13 +154,21 @@ pub means_fault : (s : Subcommand) (rows : List Row) (fault : Unreadable) → jo
 means_fault s rows fault e =
     ap (λ r. after r (λ j. Ok (record { job = j; paths = map (λ a. value_in (id_in a) rows) (paths_in s) }))) e
 
--- each subcommand takes the two paths of a recording
-pub two_paths : (s : Subcommand) → 2 ≤ length (paths_in s)
-unfolding paths_in
-two_paths Due = lit≤ tt
-two_paths Info = lit≤ tt
-two_paths Screen = lit≤ tt
-two_paths Reports = lit≤ tt
+-- a job at a moment that was read
+at_moment : (moment : Result ℕ Unreadable) (job_at : ℕ → Job) (job : Job) (n : ℕ) → ((at : ℕ) → path_count (job_at at) ≤ n) → after moment (λ at. Ok (job_at at)) ≡ Ok job → path_count job ≤ n
+at_moment (Ok at) job_at job n few e =
+    let same : job_at at ≡ job = cc in
+    subst (λ j. path_count j ≤ n) same (few at)
+at_moment (Err fault) job_at job n few e = absurd (cc)
+
+-- each subcommand has the paths that its job needs
+pub enough_paths : (s : Subcommand) (rows : List Row) (job : Job) → job_in s rows ≡ Ok job → path_count job ≤ length (paths_in s)
+unfolding paths_in job_in
+enough_paths Due rows job e = at_moment _ (λ at. jobs.Due at) job 2 (λ at. lit≤ tt) e
+enough_paths Info rows job e = let same : jobs.Info ≡ job = cc in subst (λ j. path_count j ≤ 2) same (lit≤ tt)
+enough_paths Screen rows job e = at_moment _ (λ at. jobs.Screen at) job 2 (λ at. lit≤ tt) e
+enough_paths Reports rows job e = at_moment _ (λ at. jobs.Reports at) job 2 (λ at. lit≤ tt) e
+enough_paths Save rows job e = let same : jobs.Save ≡ job = cc in subst (λ j. path_count j ≤ 4) same (lit≤ tt)
 
 -- a name that is none of those in a list is named by none of their commands
 unnamed_in : (name : Option Text) (subs : List Subcommand) → ((k : ℕ) → k < length subs → name ≢ Some (name_in (get_or subs k Due))) → IsNamed name (map (λ s. (app_in s).top) subs) → ⊥

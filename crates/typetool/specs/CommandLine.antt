@@ -11,9 +11,9 @@ use Rattle.typetool.specs.declared.words.Words.{Words}
 use Rattle.typetool.specs.declared.words.WordsFault.{WordsFault}
 use Rattle.typetool.specs.declared.words.WordsFault.TheVariants.{Clap, Memory, BadSeconds}
 use Rattle.typetool.specs.declared.words.table.Argument.{Argument}
-use Rattle.typetool.specs.declared.words.table.Argument.TheVariants.{At, Script, Timing}
+use Rattle.typetool.specs.declared.words.table.Argument.TheVariants.{At, Script, Timing, NewScript, NewTiming}
 use Rattle.typetool.specs.declared.words.table.Subcommand.{Subcommand}
-use Rattle.typetool.specs.declared.words.table.Subcommand.TheVariants.{Due, Info, Screen, Reports}
+use Rattle.typetool.specs.declared.words.table.Subcommand.TheVariants.{Due, Info, Screen, Reports, Save}
 use Rattle.typetool.specs.declared.words.values.Unreadable.{Unreadable}
 use Rattle.typetool.specs.declared.words.values.Unreadable.TheVariants.{Seconds}
 
@@ -21,7 +21,7 @@ use Rattle.typetool.specs.declared.words.values.Unreadable.TheVariants.{Seconds}
 
 -- the subcommands, in the order in which help tells them (profile)
 abbrev pub subcommands_in_order : List Subcommand
-subcommands_in_order = Due ∷ Info ∷ Screen ∷ Reports ∷ []
+subcommands_in_order = Due ∷ Info ∷ Screen ∷ Reports ∷ Save ∷ []
 
 -- the name of a subcommand (profile)
 unfoldable pub name_in : Subcommand → Text
@@ -29,6 +29,7 @@ name_in Due = codes "due"
 name_in Info = codes "info"
 name_in Screen = codes "screen"
 name_in Reports = codes "reports"
+name_in Save = codes "save"
 
 -- the flags of a subcommand (profile)
 unfoldable pub flags_in : Subcommand → List Argument
@@ -36,6 +37,7 @@ flags_in Due = At ∷ []
 flags_in Info = []
 flags_in Screen = At ∷ []
 flags_in Reports = At ∷ []
+flags_in Save = []
 
 -- the paths of a subcommand, in the line's order (profile)
 unfoldable pub paths_in : Subcommand → List Argument
@@ -43,12 +45,15 @@ paths_in Due = Script ∷ Timing ∷ []
 paths_in Info = Script ∷ Timing ∷ []
 paths_in Screen = Script ∷ Timing ∷ []
 paths_in Reports = Script ∷ Timing ∷ []
+paths_in Save = Script ∷ Timing ∷ NewScript ∷ NewTiming ∷ []
 
 -- the name of an argument (profile)
 unfoldable pub id_in : Argument → Text
 id_in At = codes "at"
 id_in Script = codes "script"
 id_in Timing = codes "timing"
+id_in NewScript = codes "new-script"
+id_in NewTiming = codes "new-timing"
 
 -- a flag that takes seconds, such as `--at 12.5`, and must be given (profile)
 abbrev pub seconds_rule : Text → Rule
@@ -63,6 +68,8 @@ unfoldable pub rule_in : Argument → Rule
 rule_in At = seconds_rule (id_in At)
 rule_in Script = path_rule (id_in Script)
 rule_in Timing = path_rule (id_in Timing)
+rule_in NewScript = path_rule (id_in NewScript)
+rule_in NewTiming = path_rule (id_in NewTiming)
 
 -- ---- values
 
@@ -90,6 +97,7 @@ job_in Due rows = after (moment_in (id_in At) rows) (λ at. Ok (job.Due at))
 job_in Info rows = Ok job.Info
 job_in Screen rows = after (moment_in (id_in At) rows) (λ at. Ok (job.Screen at))
 job_in Reports rows = after (moment_in (id_in At) rows) (λ at. Ok (job.Reports at))
+job_in Save rows = Ok job.Save
 
 -- ---- what clap is told
 
@@ -152,6 +160,14 @@ meaning_of_words words = option_and_then meaning_of (subcommand_in words)
 -- the job and the paths that were read (profile)
 abbrev pub meaning_read : Words → Meaning
 meaning_read words = record { job = words.job; paths = map string_bytes words.paths.items }
+
+-- how many paths a job has (profile)
+abbrev pub path_count : Job → ℕ
+path_count (job.Due at) = 2
+path_count job.Info = 2
+path_count (job.Screen at) = 2
+path_count (job.Reports at) = 2
+path_count job.Save = 4
 
 -- why words aren't a job: clap finds a fault of that kind in them and doesn't promise to take them, or it reads them and some seconds aren't readable; memory may always be refused (profile)
 abbrev pub FailsFor : List Text → WordsFault → Type 0

@@ -3,3 +3,4 @@ pub mod Info
 pub mod Moment
 pub mod Output
 pub mod Program
+pub mod Requests

@@ -7,15 +7,19 @@ use Rattle.tape_core.specs.Due.{due}
 use Rattle.tape_core.specs.Faults.{is_stop}
 use Rattle.tape_core.specs.Reading.{fault_of, reads}
 use Rattle.tape_core.specs.Tape.{Tape}
+use Rattle.tape_core.specs.Text.{lines_of}
+use Rattle.tape_core.specs.Written.{script_text, timing_text}
+use Rattle.tape_seek.specs.declared.edits.EditFault.{EditFault}
 use Rattle.tape_core.specs.declared.devices.Watched.{Watched}
 use Rattle.tape_core.specs.declared.fault.Fault.{Fault}
 use Rattle.tape_core.specs.declared.fault.Fault.TheVariants as fault
 use Rattle.typetool.specs.Info.{info_text}
 use Rattle.typetool.specs.Moment.{Began, term_at, sent_by}
+use Rattle.typetool.specs.Requests.{saved, started}
 use Rattle.typetool.specs.declared.job.Job.{Job}
-use Rattle.typetool.specs.declared.job.Job.TheVariants.{Due, Info, Screen, Reports}
+use Rattle.typetool.specs.declared.job.Job.TheVariants.{Due, Info, Screen, Reports, Save}
 use Rattle.typetool.specs.declared.job.JobFault.{JobFault}
-use Rattle.typetool.specs.declared.job.JobFault.TheVariants.{File, Memory}
+use Rattle.typetool.specs.declared.job.JobFault.TheVariants.{File, Line, Memory}
 use Rattle.typetool.specs.declared.job.Outcome.{Outcome}
 
 -- the texts that a job is given (profile)
@@ -36,6 +40,7 @@ takes_requests (Due at) = false
 takes_requests Info = false
 takes_requests (Screen at) = false
 takes_requests (Reports at) = false
+takes_requests Save = true
 
 -- whether a job writes a new timing (profile)
 abbrev pub writes_timing : Job → Bool
@@ -43,6 +48,7 @@ writes_timing (Due at) = false
 writes_timing Info = false
 writes_timing (Screen at) = false
 writes_timing (Reports at) = false
+writes_timing Save = true
 
 -- what a job writes on a recording: the bytes that are due, what the recording holds, or what the terminal shows or has sent by then (profile)
 abbrev pub text_of : Job → Tape → List ℕ
@@ -50,10 +56,28 @@ text_of (Due at) tape = due tape.chunks at
 text_of Info tape = info_text tape
 text_of (Screen at) tape = plain_text (term_at tape at).console.picture
 text_of (Reports at) tape = encode_lower (sent_by tape at) ++ 10 ∷ []
+text_of Save tape = []
+
+-- what a job comes to that is done with these texts (profile)
+abbrev pub done_with : List ℕ → List ℕ → Done
+done_with text timing = record { text = text; timing = timing; outcome = record { status = 0; fault = None } }
+
+-- what a job comes to at a fault of its own: nothing is written (profile)
+abbrev pub refused_with : JobFault → Done
+refused_with f = record { text = []; timing = []; outcome = record { status = 1; fault = Some f } }
+
+-- what `save` comes to: both files anew, or the fault of the first line that is refused, with nothing written (profile)
+abbrev pub done_saving : Result Tape (ℕ × EditFault) → Done
+done_saving (Ok tape) = done_with (script_text tape) (timing_text tape)
+done_saving (Err refused) = refused_with (Line refused.0 refused.1)
 
 -- what a job comes to on a recording and request lines (profile)
 abbrev pub done_on : Job → Tape → List ℕ → Done
-done_on job tape requests = record { text = text_of job tape; timing = []; outcome = record { status = 0; fault = None } }
+done_on (Due at) tape requests = done_with (text_of (Due at) tape) []
+done_on Info tape requests = done_with (text_of Info tape) []
+done_on (Screen at) tape requests = done_with (text_of (Screen at) tape) []
+done_on (Reports at) tape requests = done_with (text_of (Reports at) tape) []
+done_on Save tape requests = done_saving (saved 1 (started tape) (lines_of requests))
 
 -- the jobs that may take memory once the recording is read: those that keep reports, and where some are sent (profile)
 abbrev pub TakesMemory : Job → Tape → Type 0
@@ -61,22 +85,20 @@ TakesMemory (Due at) tape = ⊥
 TakesMemory Info tape = ⊥
 TakesMemory (Screen at) tape = sent_by tape at ≢ []
 TakesMemory (Reports at) tape = sent_by tape at ≢ []
-
--- what a job comes to where the pair of files has a fault: nothing is written (profile)
-abbrev pub refused_by : Fault → Done
-refused_by f = record { text = []; timing = []; outcome = record { status = 1; fault = Some (File f) } }
+TakesMemory Save tape = Unit {0}
 
 -- a job comes to this on these files: the fault of the pair where it has one, and else what it comes to on the recording (profile)
 abbrev pub Comes : Job → Files → Done → Type 0
 Comes job files done = MatchOption (fault_of files.script files.timing)
     ((tape : Tape) × reads files.script files.timing tape × (done ≡ done_on job tape files.requests))
-    (λ f. done ≡ refused_by f)
+    (λ f. done ≡ refused_with (File f))
 
 -- a device or want of memory stopped the job (profile)
 abbrev pub is_stopped : Option JobFault → Bool
 is_stopped None = false
 is_stopped (Some (File f)) = is_stop f
 is_stopped (Some Memory) = true
+is_stopped (Some (Line line f)) = false
 
 -- the status of the program where a job is done (profile)
 abbrev pub IsDoneStatus : Job → ℕ → Type 0
@@ -84,11 +106,13 @@ IsDoneStatus (Due at) status = status ≡ 0
 IsDoneStatus Info status = status ≡ 0
 IsDoneStatus (Screen at) status = status ≡ 0
 IsDoneStatus (Reports at) status = status ≡ 0
+IsDoneStatus Save status = status ≡ 0
 
 -- the status of the program where a job isn't done: 3 where a device or want of memory stopped it, and else 1 (profile)
 abbrev pub status_of : JobFault → ℕ
 status_of (File f) = if is_stop f then 3 else 1
 status_of Memory = 3
+status_of (Line line f) = 1
 
 -- how a job ends that is done, or is stopped by a fault (profile)
 abbrev pub outcome_by : Result (Unit {0}) JobFault → Outcome
@@ -99,6 +123,7 @@ outcome_by (Err f) = record { status = status_of f; fault = Some f }
 abbrev pub is_unwritten : Option JobFault → Bool
 is_unwritten None = false
 is_unwritten (Some Memory) = false
+is_unwritten (Some (Line line f)) = true
 is_unwritten (Some (File fault.WriteFault)) = false
 is_unwritten (Some (File fault.OutOfMemory)) = true
 is_unwritten (Some (File fault.ReadFault)) = true
@@ -134,3 +159,10 @@ abbrev pub Stopped : {O P : Type 0} → (O → Option (List ℕ)) → (P → Opt
 Stopped contents timing_contents out out' out_timing out_timing' done =
     (StoppedIn contents out out' done.text × (out_timing' ≡ out_timing))
     ⊎ (Took contents out out' done.text × StoppedIn timing_contents out_timing out_timing' done.timing)
+
+-- how a job ends that isn't done: for want of memory, as a writer fails, or at a fault of its own before anything is written (profile)
+abbrev pub EndsAt : {O P : Type 0} → (O → Option (List ℕ)) → (P → Option (List ℕ)) → Watched O → Watched O → Watched P → Watched P → Done → JobFault → Type 0
+EndsAt contents timing_contents out out' out_timing out_timing' done f =
+    ((f ≡ Memory) × Begun contents timing_contents out out' out_timing out_timing' done)
+    ⊎ (((f ≡ File fault.WriteFault) × Stopped contents timing_contents out out' out_timing out_timing' done)
+    ⊎ ((is_stopped (Some f) ≡ false) × (done ≡ refused_with f) × (out' ≡ out) × (out_timing' ≡ out_timing)))

@@ -5,7 +5,7 @@ use Rattle.clap.specs.declared.error.ErrorKind.{ErrorKind}
 use Rattle.clap.specs.declared.error.ErrorKind.TheVariants.{DisplayHelp, DisplayVersion}
 use Rattle.typetool.specs.Output.{status_of}
 use Rattle.typetool.specs.declared.program.Stop.{Stop}
-use Rattle.typetool.specs.declared.program.Stop.TheVariants.{Words, NotText, Memory, CannotOpen, Job}
+use Rattle.typetool.specs.declared.program.Stop.TheVariants.{Words, NotText, Memory, CannotOpen, CannotCreate, Job}
 use Rattle.typetool.specs.declared.words.WordsFault.TheVariants as words
 
 -- 0 where help is asked for, and 2 for a mistake (profile)
@@ -22,4 +22,5 @@ stop_status (Words words.Memory) = 3
 stop_status NotText = 2
 stop_status Memory = 3
 stop_status (CannotOpen path) = 3
+stop_status (CannotCreate path) = 3
 stop_status (Job fault) = status_of fault

@@ -1,7 +1,7 @@
 //! The jobs: each reads its files whole and then writes its text.
 
 ghost use Rattle.std.specs.Prelude.{◌≡◌, ◌⊎◌, ◌≢◌, ℕ, List, true, false, Some, None, OnOk, IfOk, IfErr, IfSome};
-ghost use Rattle.tape_core.specs.Devices.{inner_of, has_failed, is_flushed, Took};
+ghost use Rattle.tape_core.specs.Devices.{inner_of, has_failed, is_flushed, StopsReading, Took};
 ghost use Rattle.tape_core.specs.Faults.{is_stop};
 ghost use Rattle.tape_core.specs.Reading.{fault_of, reads};
 ghost use Rattle.tape_core.specs.Tape.{Tape};
@@ -10,11 +10,13 @@ ghost use Rattle.typetool.specs.Output.{Files, Done, Comes, Tells, Wrote, Begun,
 
 use crate::jobs::due::write_due;
 use crate::jobs::info::write_info;
+use crate::jobs::save::{name_of, save};
 use crate::moment::{write_reports, write_screen};
 use std::alloc::Global;
 use std::io::{Read, Write};
 use std::mem::ManuallyDrop;
 use tape_core::{Fault, Recording, Watched, read_recording, slurp};
+use tape_seek::EditFault;
 use thiserror::Error;
 use vt_term::OutOfMemory;
 
@@ -29,6 +31,8 @@ pub enum Job {
     Screen { at: u64 },
     /// Write in hexadecimal what the terminal has sent by a moment.
     Reports { at: u64 },
+    /// Make the edits of request lines, and write both files anew.
+    Save,
 }
 
 /// Why a job wasn't done.
@@ -37,7 +41,10 @@ pub enum JobFault {
     /// The pair of files has a fault, memory was refused or a device failed.
     #[error("{0}")]
     File(Fault),
-    /// Memory was refused to the terminal's list of reports.
+    /// A request line was refused: its number, counted from 1 with the blank ones, and why.
+    #[error("request line {line}: {}", name_of(*fault))]
+    Line { line: u64, fault: EditFault },
+    /// Memory was refused once the recording was read.
     #[error("out of memory")]
     Memory,
 }
@@ -60,7 +67,7 @@ impl JobFault {
     {
         match self {
             JobFault::File(Fault::OutOfMemory | Fault::ReadFault | Fault::WriteFault) => 3,
-            JobFault::File(_) => 1,
+            JobFault::File(_) | JobFault::Line { .. } => 1,
             JobFault::Memory => 3,
         }
     }
@@ -141,12 +148,19 @@ pub fn run<S: Read, T: Read, R: Read, O: Write, P: Write>(
     ensures requests { takes_requests job ≡ false → requests.new ≡ requests.old }
     ensures out_timing { writes_timing job ≡ false → out_timing.new ≡ out_timing.old }
 {
-    let recording = match read_pair(alloc, script, timing) {
-        // The program ends with its job: to free a million chunks one by one would take as long as to write them.
-        Ok(recording) => ManuallyDrop::new(recording),
+    let given = match read_files(alloc, job, script, timing, requests) {
+        Ok(given) => given,
         Err(fault) => return outcome_of(Err(JobFault::File(fault))),
     };
-    outcome_of(write_text(alloc, job, &recording, out))
+    let Given {
+        recording,
+        requests,
+    } = given;
+    match job {
+        Job::Save => outcome_of(save(alloc, recording, &requests, out, out_timing)),
+        // The program ends with its job: to free a million chunks one by one would take as long as to write them.
+        _ => outcome_of(write_text(alloc, job, &ManuallyDrop::new(recording), out)),
+    }
 }
 
 /// Writes the text of a job on a recording, and flushes.
@@ -156,7 +170,8 @@ fn write_text<O: Write>(
     recording: &Recording,
     out: &mut Watched<O>,
 ) -> Result<(), JobFault>
-    requires { has_failed out.old ≡ false }
+    requires one { writes_timing job ≡ false }
+    requires out { has_failed out.old ≡ false }
     ensures ok { OnOk result (Took O.contents out.old out.new (text_of job recording.now)) }
     ensures flushed { OnOk result (is_flushed out.new ≡ true) }
     ensures fault { IfErr result (StopsAt O.contents out.old out.new (text_of job recording.now)) }
@@ -167,6 +182,7 @@ fn write_text<O: Write>(
         Job::Info => write_info(recording, out).map_err(JobFault::File),
         Job::Screen { at } => write_screen(alloc, recording, at, out),
         Job::Reports { at } => write_reports(alloc, recording, at, out),
+        Job::Save => unreachable!(),
     }
 }
 
@@ -186,29 +202,68 @@ fn outcome_of(done: Result<(), JobFault>) -> Outcome
     }
 }
 
-/// Reads both files whole, and then the recording in them.
-fn read_pair<S: Read, T: Read>(
+/// What a job is given: the recording, and the request lines where it takes them.
+#[derive(Drop)]
+struct Given {
+    recording: Recording,
+    requests: Vec<u8>,
+}
+
+/// Reads both files whole, then the request lines where the job takes them, and then the recording.
+fn read_files<S: Read, T: Read, R: Read>(
     alloc: Global,
+    job: Job,
     script: &mut Watched<S>,
     timing: &mut Watched<T>,
-) -> Result<Recording, Fault>
+    requests: &mut Watched<R>,
+) -> Result<Given, Fault>
     requires script { has_failed script.old ≡ false }
     requires timing { has_failed timing.old ≡ false }
-    ensures ok { IfOk result (λ recording. (s : List ℕ) (t : List ℕ)
+    requires requests { has_failed requests.old ≡ false }
+    ensures ok { IfOk result (λ given. (s : List ℕ) (t : List ℕ)
         → S.remaining (inner_of script.old) ≡ Some s → T.remaining (inner_of timing.old) ≡ Some t
-        → reads s t recording) }
+        → reads s t given.recording) }
+    ensures requests { IfOk result (λ given. takes_requests job ≡ true → (r : List ℕ)
+        → R.remaining (inner_of requests.old) ≡ Some r → given.requests.items ≡ r) }
     ensures fault { IfErr result (λ fault. is_stop fault ≡ false → (s : List ℕ) (t : List ℕ)
         → S.remaining (inner_of script.old) ≡ Some s → T.remaining (inner_of timing.old) ≡ Some t
         → fault_of s t ≡ Some fault) }
     ensures sound { result ≢ Err Fault.ReadFault → (has_failed script.new ≡ false)
-        × (has_failed timing.new ≡ false) }
+        × (has_failed timing.new ≡ false) × (has_failed requests.new ≡ false) }
     ensures read_fault { IfErr result (λ fault. fault ≡ Fault.ReadFault → (has_failed script.new ≡ true)
-        ⊎ (has_failed timing.new ≡ true)) }
+        ⊎ ((has_failed timing.new ≡ true) ⊎ (has_failed requests.new ≡ true))) }
     ensures no_write_fault { IfErr result (λ fault. fault ≢ Fault.WriteFault) }
+    ensures alone { takes_requests job ≡ false → requests.new ≡ requests.old }
 {
     let script = slurp(alloc, script)?;
     let timing = slurp(alloc, timing)?;
-    read_recording(alloc, &script, &timing)
+    let requests = read_requests(alloc, job, requests)?;
+    let recording = read_recording(alloc, &script, &timing)?;
+    Ok(Given {
+        recording,
+        requests,
+    })
+}
+
+/// Reads the request lines whole where the job takes them.
+fn read_requests<R: Read>(
+    alloc: Global,
+    job: Job,
+    requests: &mut Watched<R>,
+) -> Result<Vec<u8>, Fault>
+    requires { has_failed requests.old ≡ false }
+    ensures ok { IfOk result (λ text. takes_requests job ≡ true → (r : List ℕ)
+        → R.remaining (inner_of requests.old) ≡ Some r → text.items ≡ r) }
+    ensures sound { IfOk result (λ text. has_failed requests.new ≡ false) }
+    ensures fault { IfErr result (λ fault. StopsReading fault (has_failed requests.new)) }
+    ensures alone { takes_requests job ≡ false → requests.new ≡ requests.old }
+{
+    match job {
+        Job::Save => slurp(alloc, requests),
+        Job::Due { .. } | Job::Info | Job::Screen { .. } | Job::Reports { .. } => Ok(Vec::new(
+            alloc,
+        )),
+    }
 }
 
 #[cfg(test)]

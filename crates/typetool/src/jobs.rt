@@ -2,5 +2,6 @@
 
 pub mod due;
 pub mod info;
+pub mod save;
 #[cfg(test)]
 mod tests;

@@ -3,13 +3,14 @@
 ghost use Rattle.std.specs.Prelude.{◌≡◌, ◌≢◌, ◌≤◌, false, IfOk, vec_len};
 ghost use Rattle.clap.specs.Words.{kind_of};
 ghost use Rattle.tape_core.specs.Devices.{has_failed};
+ghost use Rattle.typetool.specs.CommandLine.{path_count};
 ghost use Rattle.typetool.specs.Program.{stop_status};
 
-use crate::job::{JobFault, Outcome, run};
+use crate::job::{Job, JobFault, Outcome, run};
 use crate::words::{Words, WordsFault, read_words};
 use clap::error::ErrorKind;
 use std::alloc::AllocError;
-use std::fs::File;
+use std::fs::OpenOptions;
 use std::io::BufWriter;
 use std::rt::{Env, Files};
 use std::{env, fs, io};
@@ -30,6 +31,8 @@ pub enum Stop {
     Memory,
     #[error("cannot open {0}")]
     CannotOpen(String),
+    #[error("cannot create {0}")]
+    CannotCreate(String),
     #[error("{0}")]
     Job(JobFault),
 }
@@ -64,13 +67,16 @@ fn status_of(stop: &Stop) -> u8
     match stop {
         Stop::Words(WordsFault::Clap(error)) => { if error.use_stderr() { 2 } else { 0 } }
         Stop::Words(WordsFault::BadSeconds) | Stop::NotText => 2,
-        Stop::Words(WordsFault::Memory) | Stop::Memory | Stop::CannotOpen(_) => 3,
+        Stop::Words(WordsFault::Memory)
+        | Stop::Memory
+        | Stop::CannotOpen(_)
+        | Stop::CannotCreate(_) => 3,
         Stop::Job(fault) => fault.status(),
     }
 }
 
 /// Runs the program, and answers its status.
-pub fn start<R: Files + Env + Print + Eprint + AllocGlobal>(rt: &R) -> u8 {
+pub fn start<R: Files + Env + Input + Print + Eprint + AllocGlobal>(rt: &R) -> u8 {
     match attempt(rt) {
         Ok(
             Outcome {
@@ -90,7 +96,7 @@ pub fn start<R: Files + Env + Print + Eprint + AllocGlobal>(rt: &R) -> u8 {
 }
 
 /// Reads the command line, opens the files and does the job.
-fn attempt<R: Files + Env + Print + AllocGlobal>(rt: &R) -> Result<Outcome, Stop> {
+fn attempt<R: Files + Env + Input + Print + AllocGlobal>(rt: &R) -> Result<Outcome, Stop> {
     let words = arguments(rt)?;
     let read = read_words(rt.alloc(), words.as_slice())?;
     perform(rt, &read)
@@ -105,23 +111,70 @@ fn arguments<R: Env + AllocGlobal>(rt: &R) -> Result<Vec<String>, Stop> {
     }
 }
 
-/// Opens the files in order, before anything is read, and does the job.
-fn perform<R: Files + Print + AllocGlobal>(rt: &R, words: &Words) -> Result<Outcome, Stop>
-    requires { 2 ≤ vec_len words.now.paths }
+/// Opens the files in order, and does the job.
+fn perform<R: Files + Input + Print + AllocGlobal>(rt: &R, words: &Words) -> Result<Outcome, Stop>
+    requires { path_count words.now.job ≤ vec_len words.now.paths }
 {
     let mut script = open(rt, words.paths[0].as_str())?;
     let mut timing = open(rt, words.paths[1].as_str())?;
-    let mut out = standard_output(rt)?;
+    match words.job {
+        Job::Save => {
+            let out = create(rt, words.paths[2].as_str())?;
+            let out_timing = create(rt, words.paths[3].as_str())?;
+            save_into(rt, &mut script, &mut timing, out, out_timing)
+        }
+        job => print(rt, job, &mut script, &mut timing),
+    }
+}
+
+/// Does a job that reads no requests, over standard output.
+fn print<R: Files + Print + AllocGlobal>(
+    rt: &R,
+    job: Job,
+    script: &mut Watched<R::File>,
+    timing: &mut Watched<R::File>,
+) -> Result<Outcome, Stop>
+    requires script { has_failed script.old ≡ false }
+    requires timing { has_failed timing.old ≡ false }
+{
+    let mut out = buffered(rt, io::writer(rt))?;
     let outcome = run(
         rt.alloc(),
-        words.job,
-        &mut script,
-        &mut timing,
+        job,
+        script,
+        timing,
         &mut Watched::new(io::empty()),
         &mut out,
         &mut Watched::new(io::sink()),
     );
     leave(out);
+    Ok(outcome)
+}
+
+/// Saves what standard input asks for into two files that were created.
+fn save_into<R: Files + Input + AllocGlobal>(
+    rt: &R,
+    script: &mut Watched<R::File>,
+    timing: &mut Watched<R::File>,
+    new_script: R::File,
+    new_timing: R::File,
+) -> Result<Outcome, Stop>
+    requires script { has_failed script.old ≡ false }
+    requires timing { has_failed timing.old ≡ false }
+{
+    let mut out = buffered(rt, new_script)?;
+    let mut out_timing = buffered(rt, new_timing)?;
+    let outcome = run(
+        rt.alloc(),
+        Job::Save,
+        script,
+        timing,
+        &mut Watched::new(rt.reader()),
+        &mut out,
+        &mut out_timing,
+    );
+    leave(out);
+    leave(out_timing);
     Ok(outcome)
 }
 
@@ -135,13 +188,26 @@ fn open<R: Files + AllocGlobal>(rt: &R, path: &str) -> Result<Watched<R::File>, 
     }
 }
 
-/// Standard output, behind a buffer.
-fn standard_output<'a, R: Print + AllocGlobal>(
-    rt: &'a R,
-) -> Result<Watched<BufWriter<io::Printer<'a, R>>>, Stop>
+/// Creates a file to be written. Where there is one of this name, it stays as it is.
+fn create<R: Files + AllocGlobal>(rt: &R, path: &str) -> Result<R::File, Stop> {
+    match OpenOptions::new()
+        .write(true)
+        .create_new(true)
+        .open(rt, path)
+    {
+        Ok(file) => Ok(file),
+        Err(_) => Err(Stop::CannotCreate(String::from_str(rt.alloc(), path)?)),
+    }
+}
+
+/// A writer behind a buffer.
+fn buffered<R: AllocGlobal, W: io::Write + Drop>(
+    rt: &R,
+    writer: W,
+) -> Result<Watched<BufWriter<W>>, Stop>
     ensures { IfOk result (λ out. has_failed out ≡ false) }
 {
-    match BufWriter::with_capacity(rt.alloc(), HELD_BACK, io::writer(rt)) {
+    match BufWriter::with_capacity(rt.alloc(), HELD_BACK, writer) {
         Ok(writer) => Ok(Watched::new(writer)),
         Err(_) => Err(Stop::Memory),
     }

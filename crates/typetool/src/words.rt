@@ -2,7 +2,7 @@
 
 ghost use Rattle.std.specs.Prelude.{◌≡◌, ◌≢◌, ◌≤◌, [], Some, None, Ok, map, vec_len, IfSome, IfOk, IfErr, OnOk, string_bytes};
 ghost use Rattle.clap.specs.Words.{found_of, rows_of, subcommand_name_of, subcommand_rows_of};
-ghost use Rattle.typetool.specs.CommandLine.{FailsFor, IsNamed, clap_faults, subcommand_in, typetool_app, name_in, meaning_of_words, meaning_read};
+ghost use Rattle.typetool.specs.CommandLine.{FailsFor, IsNamed, clap_faults, subcommand_in, typetool_app, name_in, meaning_of_words, meaning_read, path_count};
 
 mod command;
 mod help;
@@ -55,7 +55,7 @@ pub fn read_words(alloc: Global, words: &[String]) -> Result<Words, WordsFault>
     ensures taken { OnOk result (clap_faults (map string_bytes words.now) ≡ []) }
     ensures meaning { IfOk result (λ read.
         meaning_of_words (map string_bytes words.now) ≡ Some (Ok (meaning_read read))) }
-    ensures paths { IfOk result (λ read. 2 ≤ vec_len read.paths) }
+    ensures paths { IfOk result (λ read. path_count read.job ≤ vec_len read.paths) }
     ensures fault { IfErr result (FailsFor (map string_bytes words.now)) }
 {
     let matches = parse(alloc, words)?;

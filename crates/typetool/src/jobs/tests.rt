@@ -2,6 +2,7 @@ use crate::job::{Job, JobFault, Outcome, run};
 use std::process::Abort;
 use std::test::Fail;
 use tape_core::{Fault, Watched};
+use tape_seek::EditFault;
 
 const HEADER: &[u8] = b"Script started on X\n";
 
@@ -68,6 +69,108 @@ fn info_tells_what_a_recording_holds(rt: HostRuntime) -> Result<(), Fail> {
                 body: "",
                 timing: "0 1\n",
                 requests: "",
+                text: "",
+                new_timing: "",
+                outcome: Outcome {
+                    status: 1,
+                    fault: Some(JobFault::File(Fault::ScriptShort(0))),
+                },
+            },
+        ],
+    )
+}
+
+/// A row of `save` over a body, a timing and request lines, which is done: the new script and the new timing.
+fn saved<'a>(
+    body: &'a str,
+    timing: &'a str,
+    requests: &'a str,
+    new_body: &'a str,
+    new_timing: &'a str,
+) -> Row<'a> {
+    Row {
+        job: Job::Save,
+        body,
+        timing,
+        requests,
+        text: new_body,
+        new_timing,
+        outcome: DONE,
+    }
+}
+
+/// A row of `save` over two chunks, whose line of this number is refused.
+fn refused<'a>(requests: &'a str, line: u64, fault: EditFault) -> Row<'a> {
+    Row {
+        job: Job::Save,
+        body: "ab",
+        timing: AB,
+        requests,
+        text: "",
+        new_timing: "",
+        outcome: Outcome {
+            status: 1,
+            fault: Some(JobFault::Line { line, fault }),
+        },
+    }
+}
+
+#[test]
+fn save_writes_both_files(rt: HostRuntime) -> Result<(), Fail> {
+    compare(
+        &rt,
+        &[
+            saved("ab", AB, "", "Script started on X\nab", AB),
+            saved(
+                "ab",
+                AB,
+                "insert 1 0.25 58\n",
+                "Script started on X\naXb",
+                "0.000000 1\n0.250000 1\n0.500000 1\n",
+            ),
+            saved(
+                "abc",
+                " 0.1\t2 \n\n-0.5 1",
+                "",
+                "Script started on X\nabc",
+                "0.100000 2\n0.000000 1\n",
+            ),
+            saved(
+                "abc",
+                "0.5 1\n3 1\n2 1\n",
+                "cap 2",
+                "Script started on X\nabc",
+                "0.500000 1\n2.000000 1\n2.000000 1\n",
+            ),
+            saved(
+                "abctrailer",
+                "1 1\n1 1\n1 1\n",
+                "\n \t\ndelete 0 1\nreplace 0 4142\n\nretime 1 0.5\n",
+                "Script started on X\nABctrailer",
+                "1.000000 2\n0.500000 1\n",
+            ),
+        ],
+    )
+}
+
+#[test]
+fn save_refuses_a_line_and_writes_nothing(rt: HostRuntime) -> Result<(), Fail> {
+    compare(
+        &rt,
+        &[
+            refused("delete 0 1\n\ndelete 5 6\n", 3, EditFault::BadRange),
+            refused("info\n", 1, EditFault::BadLine),
+            refused("insert 3 0 -", 1, EditFault::NoSuchChunk),
+            refused("insert 0 1000000.000001 -", 1, EditFault::DelayTooLarge),
+            refused("\n\ncap 1000000.000001\n", 3, EditFault::DelayTooLarge),
+            refused("cap 1\ncap\n", 2, EditFault::BadLine),
+            refused("cap 1 2\n", 1, EditFault::BadLine),
+            refused("insert 0 0 61\r\n", 1, EditFault::BadLine),
+            Row {
+                job: Job::Save,
+                body: "ab",
+                timing: "0 3\n",
+                requests: "nonsense",
                 text: "",
                 new_timing: "",
                 outcome: Outcome {

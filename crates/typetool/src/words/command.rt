@@ -86,7 +86,7 @@ fn arg_of<'a>(alloc: Global, argument: Argument) -> Arg<'a>
             value_name_of(argument),
             help_of(argument),
         ),
-        Argument::Script | Argument::Timing => path(
+        Argument::Script | Argument::Timing | Argument::NewScript | Argument::NewTiming => path(
             alloc,
             id_of(argument),
             value_name_of(argument),

@@ -11,6 +11,8 @@ pub fn about_of<'a>(subcommand: Subcommand) -> &'a str {
         Subcommand::Reports => {
             "Write all that the terminal has answered by a moment, in hexadecimal"
         }
+        Subcommand::Save =>
+            "Make the edits that standard input asks for, and write both files anew",
     }
 }
 
@@ -34,6 +36,14 @@ pub fn details_of<'a>(subcommand: Subcommand) -> &'a str {
             "One line of lower-case digits, empty where nothing was answered.\n\n\
              Example: typetool reports --at 12.5 demo.script demo.timing"
         }
+        Subcommand::Save => {
+            "One request a line: insert AT SECONDS HEX, delete FROM TO, replace AT HEX, retime AT SECONDS,\n\
+             cap SECONDS. AT, FROM and TO count chunks from 0; TO is the first that stays. HEX is the bytes\n\
+             as hexadecimal digits, or - for none.\n\n\
+             Both new files are created before anything is read, and must not exist. Nothing is written into\n\
+             them where a line is refused (status 1, with the line's number).\n\n\
+             Example: echo 'cap 2' | typetool save demo.script demo.timing new.script new.timing"
+        }
     }
 }
 
@@ -43,6 +53,8 @@ pub fn value_name_of<'a>(argument: Argument) -> &'a str {
         Argument::At => "SECONDS",
         Argument::Script => "SCRIPT",
         Argument::Timing => "TIMING",
+        Argument::NewScript => "NEWSCRIPT",
+        Argument::NewTiming => "NEWTIMING",
     }
 }
 
@@ -57,5 +69,7 @@ pub fn help_of<'a>(argument: Argument) -> &'a str {
             "Its timing file, in the classic format: a line of a delay and a count for each chunk. \
              (A typescript given here is told as 'multi-stream format'.)"
         }
+        Argument::NewScript => "The typescript to be written; it must not exist",
+        Argument::NewTiming => "Its timing file, to be written; it must not exist",
     }
 }

@@ -10,6 +10,7 @@ pub enum Subcommand {
     Info,
     Screen,
     Reports,
+    Save,
 }
 
 /// The arguments of subcommands: flags and paths.
@@ -21,10 +22,14 @@ pub enum Argument {
     Script,
     /// Its timing file.
     Timing,
+    /// The typescript that is to be written.
+    NewScript,
+    /// The timing file that is to be written.
+    NewTiming,
 }
 
 /// The subcommands, in the order in which help tells them.
-pub fn subcommands() -> [Subcommand; 4]
+pub fn subcommands() -> [Subcommand; 5]
     ensures { result ≡ subcommands_in_order }
 {
     [
@@ -32,6 +37,7 @@ pub fn subcommands() -> [Subcommand; 4]
         Subcommand::Info,
         Subcommand::Screen,
         Subcommand::Reports,
+        Subcommand::Save,
     ]
 }
 
@@ -45,6 +51,7 @@ pub fn name_of<'a>(subcommand: Subcommand) -> &'a str
         Subcommand::Info => "info",
         Subcommand::Screen => "screen",
         Subcommand::Reports => "reports",
+        Subcommand::Save => "save",
     }
 }
 
@@ -55,16 +62,26 @@ pub fn flags_of(subcommand: Subcommand) -> &'static [Argument]
 {
     match subcommand {
         Subcommand::Due | Subcommand::Screen | Subcommand::Reports => &[Argument::At],
-        Subcommand::Info => &[],
+        Subcommand::Info | Subcommand::Save => &[],
     }
 }
 
 /// The paths of a subcommand, in the line's order.
 #[tactic(auto, unfolding(crate::specs::CommandLine::paths_in))]
-pub fn paths_of(_subcommand: Subcommand) -> &'static [Argument]
-    ensures { result.now ≡ paths_in _subcommand }
+pub fn paths_of(subcommand: Subcommand) -> &'static [Argument]
+    ensures { result.now ≡ paths_in subcommand }
 {
-    &[Argument::Script, Argument::Timing]
+    match subcommand {
+        Subcommand::Due | Subcommand::Info | Subcommand::Screen | Subcommand::Reports => {
+            &[Argument::Script, Argument::Timing]
+        }
+        Subcommand::Save => &[
+            Argument::Script,
+            Argument::Timing,
+            Argument::NewScript,
+            Argument::NewTiming,
+        ],
+    }
 }
 
 /// The name of an argument.
@@ -76,5 +93,7 @@ pub fn id_of<'a>(argument: Argument) -> &'a str
         Argument::At => "at",
         Argument::Script => "script",
         Argument::Timing => "timing",
+        Argument::NewScript => "new-script",
+        Argument::NewTiming => "new-timing",
     }
 }

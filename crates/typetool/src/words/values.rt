@@ -33,6 +33,7 @@ pub fn read_job(subcommand: Subcommand, values: &ArgMatches<'_>) -> Result<Job, 
         Subcommand::Reports => Ok(Job::Reports {
             at: read_moment(values, Argument::At)?,
         }),
+        Subcommand::Save => Ok(Job::Save),
     }
 }
 

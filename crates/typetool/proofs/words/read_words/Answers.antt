@@ -3,7 +3,7 @@ use Rattle.clap.specs.Words.{found_of, rows_of}
 use Rattle.typetool.specs.CommandLine.{job_in, paths_in}
 use Rattle.typetool.specs.declared.words.values.Unreadable.{Unreadable}
 use Rattle.typetool.specs.declared.words.values.Unreadable.TheVariants.{Seconds}
-use Rattle.typetool.proofs.CommandLemmas.{means, means_job, means_fault, two_paths}
+use Rattle.typetool.proofs.CommandLemmas.{means, means_job, means_fault, enough_paths}
 use Rattle.typetool.proofs.words.read_words.Goals as goal
 
 -- nothing else can't be read
@@ -19,7 +19,9 @@ returns-in-Ok-clause-meaning c =
 
 pub returns-in-Ok-clause-paths : goal.returns-in-Ok-clause-paths
 returns-in-Ok-clause-paths c =
-    omega (arith, c.in_ok-paths-in-Ok.ensures.len, two_paths c.subcommand_of-subcommand.result.0)
+    let s = c.subcommand_of-subcommand.result.0 in
+    let rows = rows_of (found_of c.subcommand_of-subcommand.result.1.now) in
+    omega (arith, c.in_ok-paths-in-Ok.ensures.len, enough_paths s rows c.in-Ok.job (sym c.in-Ok.ensures))
 
 pub returns-clause-fault : goal.returns-clause-fault
 returns-clause-fault c =
