@@ -12,8 +12,8 @@ loop-rest-preserved c =
     let rest = lines_of c.next_line.result.1.now in
     let line = c.loop-rest.line + 1 in (
       c.loop-rest.invariant.0
-      ∙ saved_next line course (lines_of c.loop-rest.rest.now) rest c.next_line.result.0.now c.next_line.ensures.lines c.in_default.ensures.ok
-      ∙ ap (λ k. saved (line + 1) k rest) (sym c.in_default.ensures.course),
+          ∙ saved_next line course (lines_of c.loop-rest.rest.now) rest c.next_line.result.0.now c.next_line.ensures.lines c.in_default.ensures.ok
+          ∙ ap (λ k. saved (line + 1) k rest) (sym c.in_default.ensures.course),
       omega (arith, c.next_line.ensures.shorter),
     )
 
@@ -22,12 +22,12 @@ returns-in-Err-clause-fault c =
     let line = c.loop-rest.line + 1 in
     rw c.fault_at.ensures
     (stops_at _ line c.in-Err.fault (λ other. c.loop-rest.invariant.0
-        ∙ saved_refused line (course_of c.loop-rest.session) (lines_of c.loop-rest.rest.now) (lines_of c.next_line.result.1.now) c.next_line.result.0.now c.in-Err.fault
-            c.next_line.ensures.lines (c.in-Err.ensures.fault other)))
+    ∙ saved_refused line (course_of c.loop-rest.session) (lines_of c.loop-rest.rest.now) (lines_of c.next_line.result.1.now) c.next_line.result.0.now c.in-Err.fault
+    c.next_line.ensures.lines (c.in-Err.ensures.fault other)))
 
 pub returns-clause-ok : goal.returns-clause-ok
 returns-clause-ok c =
     let none : length c.loop-rest.rest.now ≡ 0 = grind (arith, nat_tests) in
     c.loop-rest.invariant.0
     ∙ saved_all (c.loop-rest.line + 1) (course_of c.loop-rest.session) (lines_of c.loop-rest.rest.now)
-        (ap lines_of (nil_from_length c.loop-rest.rest.now none))
+    (ap lines_of (nil_from_length c.loop-rest.rest.now none))
