@@ -9,7 +9,7 @@ use Rattle.tape_core.proofs.DeviceLemmas.{took-append, stopped-append, stopped_b
 use Rattle.vt_screen.specs.declared.cell.Row.{Row}
 use Rattle.vt_screen.specs.Cells.{blank_row, row_at}
 use Rattle.vt_screen.specs.Picture.{Picture, margin_of}
-use Rattle.vt_screen.proofs.LawLemmas.{nth_is}
+use Rattle.vt_screen.specs.Table.{nth}
 use Rattle.screen_print.specs.PlainText.{printed, is_space, line_text, plain_text}
 
 -- what is printed of a line: all the cells that are left without the spaces at its end
@@ -26,6 +26,7 @@ first_lines p n = flat_map (line_text p.wide) (take n p.rows)
 
 -- one line more
 first_lines_more : (p : Picture) (line : ℕ) → length p.rows ≡ 24 → 1 ≤ line → line ≤ 24 → first_lines p line ≡ first_lines p (line - 1) ++ line_text p.wide (row_at p.rows line)
+unfolding nth
 first_lines_more p line whole low high =
     let before : line - 1 < length p.rows = omega arith in
     let next : line - 1 + 1 ≡ line = omega arith in
@@ -33,7 +34,6 @@ first_lines_more p line whole low high =
     ap (flat_map (line_text p.wide)) more
     ∙ flat_map-append (line_text p.wide) (take (line - 1) p.rows) (get_or p.rows (line - 1) blank_row ∷ [])
     ∙ ap (λ t. first_lines p (line - 1) ++ t) (append-nil (line_text p.wide (get_or p.rows (line - 1) blank_row)))
-    ∙ ap (λ row. first_lines p (line - 1) ++ line_text p.wide row) (sym (nth_is blank_row p.rows line))
 
 -- the lines before, at and after a line
 plain_text_around : (p : Picture) (line : ℕ) → length p.rows ≡ 24 → 1 ≤ line → line ≤ 24 → plain_text p ≡ (first_lines p (line - 1) ++ line_text p.wide (row_at p.rows line)) ++ flat_map (line_text p.wide) (drop line p.rows)

@@ -1,12 +1,12 @@
 -- From the fields that a body leaves to the picture that a contract names.
 use Rattle.std.proofs.Common.{◌≡◌, ◌≢◌, ℕ, ◌+◌, ◌-◌, ◌<◌, ◌≤◌, Bool, true, false, List, length, get_or, set, sym, ap, ap₂, ◌∙◌, arith}
-use Rattle.std.specs.Prelude.{if◌then◌else◌, ◌==◌, ◌&&◌, nat_le}
+use Rattle.std.specs.Prelude.{if◌then◌else◌, ◌==◌}
 use Rattle.std.proofs.lemmas.Bool.Decides.{nat_tests}
 use Rattle.std.proofs.lemmas.List.{get_or_default}
 use Rattle.vt_screen.specs.declared.cell.Cell.{Cell}
 use Rattle.vt_screen.specs.declared.cell.Row.{Row}
-use Rattle.vt_screen.specs.Cells.{blank, blank_row, cell_at, row_at}
-use Rattle.vt_screen.specs.Picture.{Picture, Sound, margin_of, right_margin}
+use Rattle.vt_screen.specs.Cells.{blank, blank_row, cell_at, row_at, rows_by}
+use Rattle.vt_screen.specs.Picture.{Picture, Sound, SoundRow, with_rows, margin_of, right_margin}
 use Rattle.vt_screen.specs.Puts.{with_row, with_cell, put}
 use Rattle.vt_screen.specs.Scrolls.{scrolled_up, scrolled_down}
 use Rattle.vt_screen.specs.Tabs.{stop_at, tab_made}
@@ -15,11 +15,11 @@ use Rattle.vt_screen.proofs.SoundRows.{margin_high, columns_high}
 use Rattle.vt_screen.proofs.Soundness.{sound_all, sound_scrolled_up, sound_scrolled_down}
 
 -- the rows are these
-pub with_rows : (p : Picture) (rows : List Row) → p.rows ≡ rows → p ≡ record p { rows = rows }
-with_rows p rows same = ap (λ (rs : List Row). record p { rows = rs }) same
+pub rows_are : (p : Picture) (rows : List Row) → p.rows ≡ rows → p ≡ with_rows rows p
+rows_are p rows same = ap (λ (rs : List Row). record p { rows = rs }) same
 
-pub with_rows_and_column : (p : Picture) (rows : List Row) (column : ℕ) → p.rows ≡ rows → p.column ≡ column → p ≡ record p { rows = rows; column = column }
-with_rows_and_column p rows column same same' = ap₂ (λ (rs : List Row) (k : ℕ). record p { rows = rs; column = k }) same same'
+pub rows_and_column_are : (p : Picture) (rows : List Row) (column : ℕ) → p.rows ≡ rows → p.column ≡ column → p ≡ record p { rows = rows; column = column }
+rows_and_column_are p rows column same same' = ap₂ (λ (rs : List Row) (k : ℕ). record p { rows = rs; column = k }) same same'
 
 -- a cell that the code read, by column
 pub cell_read : (row : Row) (column : ℕ) (d : Cell) → length row.cells ≡ 132 → 1 ≤ column → column ≤ 132 → get_or row.cells (column - 1) d ≡ cell_at row column
@@ -37,30 +37,19 @@ tab_written p stops sound =
     (set_is false 132 p.tabs (p.column - 1) stops sound.tabs (column_below p sound)
     ∙ table_ext 132 _ _ (λ k low high. ap (λ (j : ℕ). if k == j then stops else stop_at p.tabs k) (omega (arith, sound.column_low))))
 
-at_bottom : (top bottom : ℕ) (x y z : Row) → top < bottom → (if nat_le top bottom && nat_le bottom bottom then (if bottom == bottom then x else y) else z) ≡ x
-at_bottom top bottom x y z apart = grind (arith, nat_tests)
+-- the region scrolled while the cursor is at its edge: a blank line there
+module _ (p : Picture) (sound : Sound p) where
+  sound_edge : (f : ℕ → Row) → ((k : ℕ) → SoundRow p.wide (row_at (rows_by f) k)) → f p.line ≡ blank_row → Sound (record p { rows = rows_by f })
+  sound_edge f rows entered =
+      let margin = ap (λ (r : Row). margin_of p.wide r.size) (nth-table blank_row 24 f p.line sound.line_low sound.line_high ∙ entered) in
+      sound_all p sound (rows_by f) p.line p.column p.wrap (length-table 24 f) rows sound.line_low sound.line_high sound.column_low
+      (omega (arith, margin, margin_high p.wide (row_at p.rows p.line).size, sound.column_high))
 
-at_top : (top bottom : ℕ) (x y z : Row) → top < bottom → (if nat_le top top && nat_le top bottom then (if top == top then x else y) else z) ≡ x
-at_top top bottom x y z apart = grind (arith, nat_tests)
+  pub sound_rolled_up : p.line ≡ p.bottom → Sound (with_rows (scrolled_up 1 p.top p.bottom p.rows) p)
+  sound_rolled_up edge = sound_edge _ (sound_scrolled_up p sound 1 p.top p.bottom) (grind (arith, nat_tests, sound.apart))
 
--- the region scrolled while the cursor is at its edge
-pub sound_rolled_up : (p : Picture) → Sound p → p.line ≡ p.bottom → Sound (record p { rows = scrolled_up p.top p.bottom p.rows })
-sound_rolled_up p sound edge =
-    let rows = scrolled_up p.top p.bottom p.rows in
-    let f : ℕ → Row = λ line. if nat_le p.top line && nat_le line p.bottom then (if line == p.bottom then blank_row else row_at p.rows (line + 1)) else row_at p.rows line in
-    let entered : f p.line ≡ blank_row = ap f edge ∙ at_bottom p.top p.bottom blank_row (row_at p.rows (p.bottom + 1)) (row_at p.rows p.bottom) sound.apart in
-    let margin = ap (λ (r : Row). margin_of p.wide r.size) (nth-table blank_row 24 f p.line sound.line_low sound.line_high ∙ entered) in
-    sound_all p sound rows p.line p.column p.wrap (length-table 24 f) (sound_scrolled_up p sound) sound.line_low sound.line_high sound.column_low
-    (omega (arith, margin, margin_high p.wide (row_at p.rows p.line).size, sound.column_high))
-
-pub sound_rolled_down : (p : Picture) → Sound p → p.line ≡ p.top → Sound (record p { rows = scrolled_down p.top p.bottom p.rows })
-sound_rolled_down p sound edge =
-    let rows = scrolled_down p.top p.bottom p.rows in
-    let f : ℕ → Row = λ line. if nat_le p.top line && nat_le line p.bottom then (if line == p.top then blank_row else row_at p.rows (line - 1)) else row_at p.rows line in
-    let entered : f p.line ≡ blank_row = ap f edge ∙ at_top p.top p.bottom blank_row (row_at p.rows (p.top - 1)) (row_at p.rows p.top) sound.apart in
-    let margin = ap (λ (r : Row). margin_of p.wide r.size) (nth-table blank_row 24 f p.line sound.line_low sound.line_high ∙ entered) in
-    sound_all p sound rows p.line p.column p.wrap (length-table 24 f) (sound_scrolled_down p sound) sound.line_low sound.line_high sound.column_low
-    (omega (arith, margin, margin_high p.wide (row_at p.rows p.line).size, sound.column_high))
+  pub sound_rolled_down : p.line ≡ p.top → Sound (with_rows (scrolled_down 1 p.top p.bottom p.rows) p)
+  sound_rolled_down edge = sound_edge _ (sound_scrolled_down p sound 1 p.top p.bottom) (grind (arith, nat_tests, sound.apart))
 
 -- the two ends of a put
 chosen_picture : (x y : Picture) (b c : Bool) → b ≡ c → (if c then x else y) ≡ (if b then x else y)

@@ -1,26 +1,24 @@
 -- A picture that is drawn line by line and cell by cell.
-use Rattle.std.proofs.Common.{◌≡◌, ℕ, ◌+◌, ◌-◌, ◌<◌, ◌≤◌, Bool, true, false, List, length, min, refl, sym, ap, ap₂, inl, inr, ◌∙◌, arith}
-use Rattle.std.specs.Prelude.{if◌then◌else◌, ◌==◌, ◌&&◌, nat_le, nat_lt, not}
+use Rattle.std.proofs.Common.{◌≡◌, ℕ, ◌+◌, ◌-◌, ◌<◌, ◌≤◌, Bool, false, List, length, min, sym, ap, ap₂, inl, inr, ◌∙◌, arith}
+use Rattle.std.specs.Prelude.{if◌then◌else◌, ◌&&◌, nat_le, nat_lt, not}
 use Rattle.std.proofs.lemmas.Bool.{cases_eq, cases_lt}
 use Rattle.std.proofs.lemmas.Bool.Decides.{nat_tests}
 use Rattle.vt_screen.specs.declared.cell.Cell.{Cell}
 use Rattle.vt_screen.specs.declared.cell.Row.{Row}
 use Rattle.vt_screen.specs.declared.cell.Size.{Size}
 use Rattle.vt_screen.specs.declared.cell.Size.TheVariants.{Single}
-use Rattle.vt_screen.specs.Attributes.{Attributes}
-use Rattle.vt_screen.specs.Cells.{blank, blank_cells, blank_row, cell_at, row_at, row_by, rows_by, is_single}
+use Rattle.vt_screen.specs.Cells.{blank, blank_cells, blank_row, cell_at, row_at, rows_by, is_single}
 use Rattle.vt_screen.specs.Drawn.{rows_to, cells_to, drawn_to}
 use Rattle.vt_screen.specs.Lines.{resized, size_set}
 use Rattle.vt_screen.specs.Moves.{placed}
 use Rattle.vt_screen.specs.Picture.{Picture, right_margin, margin_of}
-use Rattle.vt_screen.specs.Puts.{with_row, with_cell, put, shown}
+use Rattle.vt_screen.specs.Puts.{with_row, with_cell, shown}
 use Rattle.vt_screen.proofs.Answers.{put_there, put_on}
 use Rattle.vt_screen.proofs.Rows.{row_is, blank_whole}
 use Rattle.vt_screen.proofs.Runs.{with_row_twice, with_row_same, shown_unwrapped}
 use Rattle.vt_screen.proofs.Soundness.{row_put}
-use Rattle.vt_screen.proofs.SoundRows.{blank_at, margin_low}
+use Rattle.vt_screen.proofs.SoundRows.{blank_at, blank_either, margin_low}
 use Rattle.vt_screen.proofs.Tables.{length-table, nth-table, table_ext, table_is}
-use Rattle.vt_screen.proofs.Erased.{blank_either}
 
 -- no line, one line more, a line that is blank, all of them
 pub no_rows : (rows : List Row) → rows_by (λ _. blank_row) ≡ rows_to 0 rows

@@ -1,6 +1,6 @@
 -- A part of the display, line by line.
 use Rattle.std.proofs.Common.{◌≡◌, ◌≢◌, ℕ, zero, suc, ◌+◌, ◌<◌, ◌≤◌, Bool, true, false, List, length, refl, sym, ap, ap₂, inl, inr, ◌∙◌, arith}
-use Rattle.std.specs.Prelude.{if◌then◌else◌, ◌==◌, ◌&&◌, ◌||◌, not}
+use Rattle.std.specs.Prelude.{if◌then◌else◌, ◌==◌, ◌&&◌, ◌||◌, nat_le, nat_lt, not}
 use Rattle.std.specs.List.{range_with_len, list_all}
 use Rattle.std.proofs.lemmas.Bool.{cases_eq, cases_lt}
 use Rattle.std.proofs.lemmas.Bool.Decides.{nat_tests}
@@ -8,14 +8,15 @@ use Rattle.vt_screen.specs.declared.cell.Cell.{Cell}
 use Rattle.vt_screen.specs.declared.cell.Size.TheVariants.{Single}
 use Rattle.vt_screen.specs.declared.cell.Row.{Row}
 use Rattle.vt_screen.specs.Table.{table, nth}
-use Rattle.vt_screen.specs.Cells.{blank, blank_cells, blank_row, cell_at, row_at, row_by, rows_by, is_single}
-use Rattle.vt_screen.specs.Picture.{Picture, Sound, margin_of, right_margin}
+use Rattle.vt_screen.specs.Cells.{blank, blank_row, cell_at, row_at, row_by, rows_by, is_single}
+use Rattle.vt_screen.specs.Picture.{Picture, Sound, SoundRow, columns, margin_of, right_margin}
 use Rattle.vt_screen.specs.Puts.{with_row}
 use Rattle.vt_screen.specs.Erasures.{in_line_part, in_other_lines, in_part, erased_whole, part_erased, display_erased}
-use Rattle.vt_screen.specs.Written.{others_erased}
+use Rattle.vt_screen.specs.Lines.{filled_to}
+use Rattle.vt_screen.specs.Written.{lines_changed}
 use Rattle.vt_screen.proofs.Tables.{nth-table, table_ext, table_is}
-use Rattle.vt_screen.proofs.Rows.{blank_whole, row_is, other_erased}
-use Rattle.vt_screen.proofs.SoundRows.{blank_at, margin_low}
+use Rattle.vt_screen.proofs.Rows.{row_is}
+use Rattle.vt_screen.proofs.SoundRows.{all_blank, blank_either, cleared, either_row, margin_low, sound_blank}
 
 -- a test of all numbers of a range
 all_hold : (test : ℕ → Bool) (a n : ℕ) → ((k : ℕ) → a ≤ k → k < a + n → test k ≡ true) → list_all test (range_with_len a n) ≡ true
@@ -59,20 +60,10 @@ itself k x y = grind (arith, nat_tests)
 elsewhere : (j k : ℕ) (x y : Bool) → j ≢ k → (if j == k then x else y) ≡ y
 elsewhere j k x y ne = grind (arith, nat_tests)
 
-not_cursor : (j k : ℕ) (b : Bool) → j ≢ k → b ≡ not (j == k) && b
-not_cursor j k b ne = grind (arith, nat_tests)
-
-not_other : (k : ℕ) (b : Bool) → not (k == k) && b ≡ false
-not_other k b = grind (arith, nat_tests)
-
-pub blank_either : (b : Bool) (e : Cell) → e ≡ blank → (if b then blank else e) ≡ blank
-blank_either true e is = refl
-blank_either false e is = is
-
--- a row of which the part has each column or none
-all_blank : (f : ℕ → Cell) → ((k : ℕ) → 1 ≤ k → k ≤ 132 → f k ≡ blank) → row_by Single f ≡ blank_row
-all_blank f each =
-    row_is Single (table 132 f) blank_cells (table_ext 132 f (nth blank blank_cells) (λ k low high. each k low high ∙ sym (blank_at k)) ∙ sym (table_is blank 132 blank_cells blank_whole))
+not_other : (part k : ℕ) → part ≤ 1 → in_other_lines part k k ≡ false
+not_other zero k small = grind (arith, nat_tests)
+not_other (suc zero) k small = grind (arith, nat_tests)
+not_other (suc (suc part)) k small = absurd (omega arith)
 
 blank_or_same : (row : Row) (test : ℕ → Bool) (b : Bool) → length row.cells ≡ 132 → ((k : ℕ) → test k ≡ b) → row_by (if b then Single else row.size) (λ k. if test k then blank else cell_at row k) ≡ (if b then blank_row else row)
 blank_or_same row test true whole each = all_blank (λ k. if test k then blank else cell_at row k) (λ k low high. ap (λ (t : Bool). if t then blank else cell_at row k) (each k))
@@ -113,12 +104,15 @@ module _ (part : ℕ) (p : Picture) (sound : Sound p) where
   erased_row line =
       row_by (if erased_whole part p line then Single else (row_at p.rows line).size) (λ column. if in_part part p line column then blank else cell_at (row_at p.rows line) column)
 
-  other_row : (line : ℕ) → line ≢ p.line → erased_row line ≡ other_erased part p.line line (row_at p.rows line)
+  -- the lines as they are once the others are filled
+  abbrev other_erased : ℕ → Row
+  other_erased line = if in_other_lines part p.line line then blank_row else row_at p.rows line
+
+  other_row : (line : ℕ) → line ≢ p.line → erased_row line ≡ other_erased line
   other_row line ne =
       let row = row_at p.rows line in
       ap (λ (b : Bool). row_by (if b then Single else row.size) (λ column. if in_part part p line column then blank else cell_at row column)) (other_whole line ne)
       ∙ blank_or_same row (in_part part p line) (in_other_lines part p.line line) (sound.row line).cells (λ k. there line k ne)
-      ∙ ap (λ (b : Bool). if b then blank_row else row) (not_cursor line p.line (in_other_lines part p.line line) ne)
 
   pub row_whole : erased_whole part p p.line ≡ true → erased_row p.line ≡ blank_row
   row_whole whole =
@@ -136,35 +130,40 @@ module _ (part : ℕ) (p : Picture) (sound : Sound p) where
       ap (λ (b : Bool). row_by (if b then Single else row.size) (λ column. if in_part part p p.line column then blank else cell_at row column)) whole
       ∙ row_is row.size _ _ (table_ext 132 _ _ (λ k low high. ap (λ (b : Bool). if b then blank else cell_at row k) (here k)))
 
-  -- the cursor's line stays while the others are erased
-  row_stays : row_at (others_erased part p.line p.rows) p.line ≡ row_at p.rows p.line
-  row_stays =
-      nth-table blank_row 24 (λ line. other_erased part p.line line (row_at p.rows line)) p.line sound.line_low sound.line_high
-      ∙ ap (λ (b : Bool). if b then blank_row else row_at p.rows p.line) (not_other p.line (in_other_lines part p.line p.line))
+  module _ (was now : List Row) (first last : ℕ) (told : (line : ℕ) → 1 ≤ line → line ≤ 24 → nat_le first line && nat_lt line (last + 1) ≡ in_other_lines part p.line line)
+      (others : was ≡ lines_changed (filled_to blank (columns p.wide)) first (last + 1) p.rows) where
+    others_erased : was ≡ rows_by other_erased
+    others_erased = others ∙ table_ext 24 _ _ (λ k low high.
+        ap (λ (b : Bool). if b then filled_to blank (columns p.wide) (row_at p.rows k) else row_at p.rows k) (told k low high)
+        ∙ ap (λ (r : Row). if in_other_lines part p.line k then r else row_at p.rows k) (cleared p.wide (row_at p.rows k) (sound.row k)))
 
-  module _ (was now : List Row) (others : was ≡ others_erased part p.line p.rows) where
-    pub row_was : row_at was p.line ≡ row_at p.rows p.line
-    row_was = ap (λ (rows : List Row). row_at rows p.line) others ∙ row_stays
+    row_was : row_at was p.line ≡ other_erased p.line
+    row_was = ap (λ (rows : List Row). row_at rows p.line) others_erased ∙ nth-table blank_row 24 other_erased p.line sound.line_low sound.line_high
 
     rows_erased : (row : Row) → now ≡ with_row p.line row was → erased_row p.line ≡ row → now ≡ rows_by erased_row
     rows_erased row written is_row =
-        written ∙ ap (with_row p.line row) others
+        written ∙ ap (with_row p.line row) others_erased
         ∙ table_ext 24 _ _ (λ k low high.
-        let other = nth-table blank_row 24 (λ line. other_erased part p.line line (row_at p.rows line)) k low high in
+        let other = nth-table blank_row 24 other_erased k low high in
         elim (cases_eq k p.line) [
           | inl e ↦ (let same = ap erased_row e in grind (arith, nat_tests))
           | inr ne ↦ (let same = other_row k ne in grind (arith, nat_tests))
         ])
 
-    pub erased_all : (wrap : Bool) → erased_whole part p p.line ≡ true → now ≡ with_row p.line blank_row was → wrap ≡ p.wrap && is_single (row_at was p.line).size → record p { rows = now; wrap = wrap } ≡ display_erased part p
+    pub erased_all : (wrap : Bool) → erased_whole part p p.line ≡ true → now ≡ with_row p.line (filled_to blank (columns p.wide) (row_at was p.line)) was → wrap ≡ p.wrap && is_single (row_at p.rows p.line).size → record p { rows = now; wrap = wrap } ≡ display_erased part p
     erased_all wrap whole written is_wrap =
-        ap₂ (λ (rows : List Row) (w : Bool). record p { rows = rows; wrap = w }) (rows_erased blank_row written (row_whole whole))
-        (is_wrap ∙ ap (λ (r : Row). p.wrap && is_single r.size) row_was ∙ wrap_whole p.wrap (is_single (row_at p.rows p.line).size) (erased_whole part p p.line) whole)
-
-    pub erased_in_part : erased_whole part p p.line ≡ false → now ≡ with_row p.line (part_erased part p.column (row_at was p.line)) was → record p { rows = now } ≡ display_erased part p
-    erased_in_part whole written =
+        let blanked : filled_to blank (columns p.wide) (row_at was p.line) ≡ blank_row =
+        ap (filled_to blank (columns p.wide)) row_was
+        ∙ cleared p.wide (other_erased p.line) (either_row (SoundRow p.wide) (in_other_lines part p.line p.line) blank_row (row_at p.rows p.line) (sound_blank p.wide) (sound.row p.line)) in
         ap₂ (λ (rows : List Row) (w : Bool). record p { rows = rows; wrap = w })
-        (rows_erased (part_erased part p.column (row_at p.rows p.line)) (written ∙ ap (λ (r : Row). with_row p.line (part_erased part p.column r) was) row_was) (row_part whole))
+        (rows_erased blank_row (written ∙ ap (λ (r : Row). with_row p.line r was) blanked) (row_whole whole))
+        (is_wrap ∙ wrap_whole p.wrap (is_single (row_at p.rows p.line).size) (erased_whole part p p.line) whole)
+
+    pub erased_in_part : part ≤ 1 → erased_whole part p p.line ≡ false → now ≡ with_row p.line (part_erased part p.column (row_at was p.line)) was → record p { rows = now } ≡ display_erased part p
+    erased_in_part small whole written =
+        let stays : row_at was p.line ≡ row_at p.rows p.line = row_was ∙ ap (λ (b : Bool). if b then blank_row else row_at p.rows p.line) (not_other part p.line small) in
+        ap₂ (λ (rows : List Row) (w : Bool). record p { rows = rows; wrap = w })
+        (rows_erased (part_erased part p.column (row_at p.rows p.line)) (written ∙ ap (λ (r : Row). with_row p.line (part_erased part p.column r) was) stays) (row_part whole))
         (wrap_part p.wrap (is_single (row_at p.rows p.line).size) (erased_whole part p p.line) whole)
 
   -- which parts have the whole of the cursor's line

@@ -2,10 +2,10 @@ mod Answers
 mod Drawing
 mod Erased
 mod Index
-pub mod LawLemmas
 mod Regions
 mod Rows
 mod Runs
+mod Scrolled
 mod SoundRows
 mod Soundness
 mod Stops

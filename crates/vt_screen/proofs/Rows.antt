@@ -1,22 +1,24 @@
 -- Rows of 132 cells, and what is written to them.
-use Rattle.std.proofs.Common.{◌≡◌, ℕ, ◌+◌, ◌-◌, ◌<◌, ◌≤◌, Bool, true, false, List, length, get_or, set, drop, refl, sym, ap, inl, inr, ◌∙◌, arith}
+use Rattle.std.proofs.Common.{◌≡◌, ℕ, ◌+◌, ◌-◌, ◌<◌, ◌≤◌, Bool, true, false, List, length, min, get_or, set, drop, refl, sym, ap, inl, inr, ◌∙◌, arith}
 use Rattle.std.specs.Prelude.{if◌then◌else◌, ◌==◌, ◌&&◌, not, nat_le, nat_lt}
-use Rattle.std.proofs.lemmas.Bool.{cases_eq}
+use Rattle.std.proofs.lemmas.Bool.{cases_eq, cases_lt}
 use Rattle.std.proofs.lemmas.Bool.Decides.{nat_tests}
 use Rattle.std.proofs.lemmas.List.{at_drop_more}
+use Rattle.std.specs.List.{CopiedTo, SameBelow, SameFrom}
 use Rattle.vt_screen.specs.declared.cell.Cell.{Cell}
 use Rattle.vt_screen.specs.declared.cell.Size.{Size}
 use Rattle.vt_screen.specs.declared.cell.Row.{Row}
 use Rattle.vt_screen.specs.Attributes.{Attributes}
 use Rattle.vt_screen.specs.Table.{table}
-use Rattle.vt_screen.specs.Cells.{blank, blank_cells, blank_row, cell_at, row_at, rows_by, is_single}
+use Rattle.vt_screen.specs.CellEdits.{taken_out, moved_right}
+use Rattle.vt_screen.specs.Cells.{blank, blank_cells, blank_row, cell_at, row_at, is_single}
 use Rattle.vt_screen.specs.Puts.{with_cell, with_row}
 use Rattle.vt_screen.specs.declared.cell.Size.TheVariants.{Single}
-use Rattle.vt_screen.specs.Erasures.{in_line_part, in_other_lines, part_erased}
-use Rattle.vt_screen.specs.Lines.{pattern, patterned, resized}
+use Rattle.vt_screen.specs.Erasures.{in_line_part, part_erased}
+use Rattle.vt_screen.specs.Lines.{filled_to, resized}
 use Rattle.vt_screen.specs.Picture.{margin_of}
-use Rattle.vt_screen.specs.Written.{filled, written}
-use Rattle.vt_screen.proofs.Tables.{length-table, nth-table, table_ext, table_is, set_is}
+use Rattle.vt_screen.specs.Written.{filled, written, lines_changed}
+use Rattle.vt_screen.proofs.Tables.{length-table, nth-table, nth_is, nth_next, is_table, table_ext, table_is, set_is}
 
 pub blank_whole : length blank_cells ≡ 132
 unfolding blank_cells
@@ -87,10 +89,10 @@ module _ (part cursor : ℕ) (row new : Row) (cell : Cell) where
   erased_all is_part is_blank is_new =
       part_filled 1 132 is_blank is_new (λ k low high. all_columns k low high ∙ ap (λ (n : ℕ). in_line_part n cursor k) (sym is_part))
 
--- a fill from column 1 and another size is the pattern
-pub pattern_filled : (row : Row) (to : ℕ) → (let r : Row = record { size = Single; cells = (filled 1 to pattern row).cells } in r) ≡ patterned to row
-pattern_filled row to =
-    row_is Single _ _ (table_ext 132 _ _ (λ k low high. ap (λ (b : Bool). if b then pattern else cell_at row k) (from_the_start to k low)))
+-- a fill from column 1, single width
+pub filled_single : (row : Row) (cell : Cell) (to : ℕ) → (let r : Row = record { size = Single; cells = (filled 1 to cell row).cells } in r) ≡ filled_to cell to row
+filled_single row cell to =
+    row_is Single _ _ (table_ext 132 _ _ (λ k low high. ap (λ (b : Bool). if b then cell else cell_at row k) (from_the_start to k low)))
 
 right_of : (margin k : ℕ) → k ≤ 132 → nat_le (margin + 1) k && nat_le k 132 ≡ nat_lt margin k
 right_of margin k high = grind (arith, nat_tests)
@@ -108,51 +110,72 @@ resized_cut row wide size cuts =
     ap (λ (b : Bool). if b then blank else cell_at row k) right
     ∙ ap (λ (b : Bool). if b && nat_lt (margin_of wide size) k then blank else cell_at row k) (sym cuts)))
 
-not_yet : (x y : Row) (i : ℕ) → (if nat_lt i i then x else y) ≡ y
-not_yet x y i = grind (arith, nat_tests)
+-- Lines that are changed one after another, from the first on.
+pub changed_none : (change : Row → Row) (first : ℕ) (rows : List Row) → length rows ≡ 24 → rows ≡ lines_changed change first first rows
+changed_none change first rows len = table_is blank_row 24 rows len ∙ table_ext 24 _ _ (λ k low high. grind (arith, nat_tests))
 
--- Rows that are changed one after another, from line 1 on: those before line i are done.
-abbrev pub so_far : (ℕ → Row → Row) → ℕ → List Row → List Row
-so_far op i rows = rows_by (λ k. if nat_lt k i then op k (row_at rows k) else row_at rows k)
-
-pub so_far_none : (op : ℕ → Row → Row) (rows : List Row) → length rows ≡ 24 → rows ≡ so_far op 1 rows
-so_far_none op rows len = table_is blank_row 24 rows len ∙ table_ext 24 _ _ (λ k low high. grind (arith, nat_tests))
-
-pub so_far_more : (op : ℕ → Row → Row) (rows : List Row) (i : ℕ) → 1 ≤ i → i ≤ 24 → with_row i (op i (row_at (so_far op i rows) i)) (so_far op i rows) ≡ so_far op (i + 1) rows
-so_far_more op rows i low high =
-    let f : ℕ → Row = λ k. if nat_lt k i then op k (row_at rows k) else row_at rows k in
-    let here : row_at (so_far op i rows) i ≡ row_at rows i = nth-table blank_row 24 f i low high ∙ not_yet (op i (row_at rows i)) (row_at rows i) i in
-    table_ext 24 _ _ (λ k klow khigh.
+pub changed_more : (change : Row → Row) (first line : ℕ) (rows was now : List Row) → first ≤ line → 1 ≤ line → line ≤ 24 → was ≡ lines_changed change first line rows → now ≡ with_row line (change (row_at was line)) was → now ≡ lines_changed change first (line + 1) rows
+changed_more change first line rows was now from low high before written =
+    let f : ℕ → Row = λ k. if nat_le first k && nat_lt k line then change (row_at rows k) else row_at rows k in
+    let here : row_at (lines_changed change first line rows) line ≡ row_at rows line = nth-table blank_row 24 f line low high ∙ not_yet first line (change (row_at rows line)) (row_at rows line) in
+    written ∙ ap (λ (rs : List Row). with_row line (change (row_at rs line)) rs) before
+    ∙ table_ext 24 _ _ (λ k klow khigh.
     let was = nth-table blank_row 24 f k klow khigh in
-    let new = ap (op i) here in
-    elim (cases_eq k i) [
-      | inl e ↦ let same = ap (λ (j : ℕ). op j (row_at rows j)) e in grind (arith, nat_tests)
+    let new = ap change here in
+    elim (cases_eq k line) [
+      | inl e ↦ let same = ap (λ (j : ℕ). change (row_at rows j)) e in grind (arith, nat_tests)
+      | inr ne ↦ grind (arith, nat_tests)
+    ])
+  where
+    not_yet : (first line : ℕ) (x y : Row) → (if nat_le first line && nat_lt line line then x else y) ≡ y
+    not_yet first line x y = grind (arith, nat_tests)
+
+-- a line alone
+pub changed_one : (change : Row → Row) (line : ℕ) (rows : List Row) → with_row line (change (row_at rows line)) rows ≡ lines_changed change line (line + 1) rows
+changed_one change line rows = table_ext 24 _ _ (λ k low high.
+    elim (cases_eq k line) [
+      | inl e ↦ let same = ap (λ (j : ℕ). change (row_at rows j)) e in grind (arith, nat_tests)
       | inr ne ↦ grind (arith, nat_tests)
     ])
 
--- a line that stays is done too
-pub so_far_same : (op : ℕ → Row → Row) (rows : List Row) (i : ℕ) → 1 ≤ i → i ≤ 24 → op i (row_at rows i) ≡ row_at rows i → so_far op i rows ≡ so_far op (i + 1) rows
-so_far_same op rows i low high stays =
-    table_ext 24 _ _ (λ k klow khigh.
-    elim (cases_eq k i) [
-      | inl e ↦ let same = ap (λ (j : ℕ). op j (row_at rows j)) e in let here = ap (row_at rows) e in grind (arith, nat_tests)
-      | inr ne ↦ grind (arith, nat_tests)
-    ])
+-- Cells that were copied within a row, by column.
+module _ (row : Row) (after : List Cell) (from margin : ℕ) (whole : length after ≡ 132) (low : 1 ≤ from) where
+  -- one to the right
+  pub right_copied : from ≤ margin → CopiedTo row.cells after (from - 1) from (margin - 1 - (from - 1)) → SameBelow row.cells after from → SameFrom row.cells after (from + (margin - 1 - (from - 1))) → (let r : Row = record { size = row.size; cells = after } in r) ≡ moved_right from margin row
+  right_copied within copied below above = row_is row.size _ _ (is_table blank 132 after _ whole (λ k inside.
+      let here = nth_next blank row.cells k in
+      let before = nth_is blank row.cells (k + 1 - 1) in
+      elim (cases_lt k from) [
+        | inl left ↦ (let same = below k blank left in grind (arith, nat_tests))
+        | inr from_on ↦ elim (cases_lt k margin) [
+          | inl moved ↦ (let is = copied k blank from_on (omega arith) in
+              let same : get_or row.cells (from - 1 + (k - from)) blank ≡ get_or row.cells (k + 1 - 1 - 1) blank = ap (λ (i : ℕ). get_or row.cells i blank) (omega arith) in
+              grind (arith, nat_tests))
+          | inr right ↦ (let same = above k blank (omega arith) in grind (arith, nat_tests))
+        ]
+      ]))
 
-pub so_far_all : (op : ℕ → Row → Row) (rows : List Row) → so_far op 25 rows ≡ rows_by (λ k. op k (row_at rows k))
-so_far_all op rows = table_ext 24 _ _ (λ k low high. grind (arith, nat_tests))
+  -- n to the left, and blank cells where they came from
+  pub left_copied : (n : ℕ) (cell : Cell) (new : Row) → from + n ≤ margin + 1 → margin ≤ 132 → cell ≡ blank → CopiedTo row.cells after (from + n - 1) (from - 1) (margin - (from + n - 1)) → SameBelow row.cells after (from - 1) → SameFrom row.cells after (from - 1 + (margin - (from + n - 1)))
+      → (let r : Row = record { size = row.size; cells = after } in new ≡ filled (margin + 1 - n) margin cell r) → new ≡ taken_out n from margin row
+  left_copied n cell new room high is_blank copied below above is_new =
+      is_new ∙ row_is row.size _ _ (table_ext 132 _ _ (λ column clow chigh.
+      let here = nth_is blank row.cells column in
+      let there = nth_is blank after column in
+      let next = nth_is blank row.cells (column + n) in
+      elim (cases_lt (column - 1) (from - 1)) [
+        | inl left ↦ (let same = below (column - 1) blank left in grind (arith, nat_tests))
+        | inr from_on ↦ elim (cases_lt margin column) [
+          | inl right ↦ (let same = above (column - 1) blank (omega arith) in grind (arith, nat_tests))
+          | inr within ↦ elim (cases_lt margin (column + n)) [
+            | inl past ↦ grind (arith, nat_tests)
+            | inr moved ↦ (let is = copied (column - 1) blank from_on (omega arith) in
+                let same : get_or row.cells (from + n - 1 + (column - 1 - (from - 1))) blank ≡ get_or row.cells (column + n - 1) blank = ap (λ (i : ℕ). get_or row.cells i blank) (omega arith) in
+                grind (arith, nat_tests))
+          ]
+        ]
+      ]))
 
--- the same as a loop meets them: at its start, at a line that is written, and at its end
-pub so_far_start : (op : ℕ → Row → Row) (f : ℕ → Row) → rows_by f ≡ so_far op 1 (rows_by f)
-so_far_start op f = so_far_none op (rows_by f) (length-table 24 f)
-
-pub so_far_step : (op : ℕ → Row → Row) (rows was now : List Row) (i : ℕ) → 1 ≤ i → i ≤ 24 → was ≡ so_far op i rows → now ≡ with_row i (op i (row_at was i)) was → now ≡ so_far op (i + 1) rows
-so_far_step op rows was now i low high before written =
-    written ∙ ap (λ (rs : List Row). with_row i (op i (row_at rs i)) rs) before ∙ so_far_more op rows i low high
-
-pub so_far_end : (op : ℕ → Row → Row) (rows was : List Row) (i : ℕ) → i ≡ 25 → was ≡ so_far op i rows → was ≡ rows_by (λ k. op k (row_at rows k))
-so_far_end op rows was i all before = before ∙ ap (λ (j : ℕ). so_far op j rows) all ∙ so_far_all op rows
-
--- a line other than the cursor's, as a part of the display leaves it
-abbrev pub other_erased : ℕ → ℕ → ℕ → Row → Row
-other_erased part cursor line row = if not (line == cursor) && in_other_lines part cursor line then blank_row else row
+-- a count, or all cells up to the margin
+pub taken_few : (row : Row) (n count from margin : ℕ) → from ≤ margin → count ≡ min n (margin + 1 - from) → taken_out count from margin row ≡ taken_out n from margin row
+taken_few row n count from margin within few = row_is row.size _ _ (table_ext 132 _ _ (λ k low high. grind (arith, nat_tests)))

@@ -1,5 +1,5 @@
 -- A run of characters on one line, written at once.
-use Rattle.std.proofs.Common.{◌≡◌, ◌≢◌, ℕ, zero, suc, ◌+◌, ◌<◌, ◌≤◌, Bool, true, false, List, [], ◌∷◌, length, take, drop, refl, sym, ap, ap₂, inl, inr, ◌∙◌, arith}
+use Rattle.std.proofs.Common.{◌≡◌, ◌≢◌, ℕ, ◌+◌, ◌<◌, ◌≤◌, Bool, true, false, List, [], ◌∷◌, length, take, drop, refl, sym, ap, ap₂, inl, inr, ◌∙◌, arith}
 use Rattle.std.specs.Prelude.{if◌then◌else◌, ◌==◌}
 use Rattle.std.proofs.lemmas.Bool.{cases_eq}
 use Rattle.std.proofs.lemmas.Bool.Decides.{nat_tests}
@@ -13,7 +13,6 @@ use Rattle.vt_screen.specs.Picture.{Picture, margin_of, right_margin}
 use Rattle.vt_screen.specs.Moves.{moved_to_left, on_line}
 use Rattle.vt_screen.specs.Scrolls.{indexed, scrolled_up}
 use Rattle.vt_screen.specs.Puts.{with_row, with_cell, put, wrap_taken, shown, run_shown}
-use Rattle.vt_screen.specs.Places.{order_indexed, order_shown, order_run_shown}
 use Rattle.vt_screen.specs.Written.{written}
 use Rattle.vt_screen.proofs.Tables.{length-table, nth-table, table_ext, table_is}
 use Rattle.vt_screen.proofs.Soundness.{row_put, either_picture}
@@ -30,7 +29,7 @@ with_row_same at rows len = table_is blank_row 24 rows len ∙ table_ext 24 _ _ 
 
 indexed_unwrapped : (p : Picture) → (indexed p).wrap ≡ false
 indexed_unwrapped p =
-    either_picture (λ q. q.wrap ≡ false) (p.line == p.bottom) (on_line p.line (record p { rows = scrolled_up p.top p.bottom p.rows })) (if p.line == 24 then on_line 24 p else on_line (p.line + 1) p) refl
+    either_picture (λ q. q.wrap ≡ false) (p.line == p.bottom) (on_line p.line (record p { rows = scrolled_up 1 p.top p.bottom p.rows })) (if p.line == 24 then on_line 24 p else on_line (p.line + 1) p) refl
     (either_picture (λ q. q.wrap ≡ false) (p.line == 24) (on_line 24 p) (on_line (p.line + 1) p) refl refl)
 
 -- the glyphs as one write from the cursor on
@@ -107,33 +106,3 @@ module _ (rendition : Attributes) (autowrap : Bool) where
   pub run_step : (n : ℕ) (glyphs : List ℕ) (p now : Picture) → 0 < length glyphs → now ≡ run_shown (take n glyphs) rendition autowrap (wrap_taken p) → run_shown (drop n glyphs) rendition autowrap now ≡ run_shown glyphs rendition autowrap p
   run_step n glyphs p now some written =
       ap (run_shown (drop n glyphs) rendition autowrap) written ∙ run_parts n glyphs (wrap_taken p) ∙ run_wrapped glyphs p some
-
-  -- The names of the places, while a run is shown.
-  order_unwrapped : (p : Picture) (order : List ℕ) → p.wrap ≡ false → order_shown p order ≡ order
-  order_unwrapped p order unwrapped = ap (λ (b : Bool). if b then order_indexed p order else order) unwrapped
-
-  -- a part of one line turns no names
-  pub order_stays : (glyphs : List ℕ) (p : Picture) (order : List ℕ) → p.wrap ≡ false → 1 ≤ p.line → p.line ≤ 24 → p.column + length glyphs ≤ right_margin p p.line + 1 → order_run_shown glyphs rendition autowrap p order ≡ order
-  order_stays [] p order unwrapped low high fits = refl
-  order_stays (glyph ∷ []) p order unwrapped low high fits = order_unwrapped p order unwrapped
-  order_stays (glyph ∷ other ∷ glyphs) p order unwrapped low high fits =
-      ap₂ (order_run_shown (other ∷ glyphs) rendition autowrap) (shown_next glyph p unwrapped (omega arith)) (order_unwrapped p order unwrapped)
-      ∙ order_stays (other ∷ glyphs) (next glyph p) order unwrapped low high (omega (arith, margin_next glyph p low high))
-
-  order_parts : (n : ℕ) (glyphs : List ℕ) (p : Picture) (order : List ℕ) → order_run_shown (drop n glyphs) rendition autowrap (run_shown (take n glyphs) rendition autowrap p) (order_run_shown (take n glyphs) rendition autowrap p order) ≡ order_run_shown glyphs rendition autowrap p order
-  order_parts zero glyphs p order = refl
-  order_parts (suc n) [] p order = refl
-  order_parts (suc n) (glyph ∷ glyphs) p order = order_parts n glyphs (shown glyph rendition autowrap p) (order_shown p order)
-
-  order_wrapped : (glyphs : List ℕ) (p : Picture) (order : List ℕ) → 0 < length glyphs → order_run_shown glyphs rendition autowrap (wrap_taken p) (order_shown p order) ≡ order_run_shown glyphs rendition autowrap p order
-  order_wrapped [] p order some = absurd (omega arith)
-  order_wrapped (glyph ∷ glyphs) p order some =
-      ap₂ (order_run_shown glyphs rendition autowrap) (shown_unwrapped glyph (wrap_taken p) (wrap_gone p)) (order_unwrapped (wrap_taken p) (order_shown p order) (wrap_gone p))
-
-  -- a loop's step
-  pub order_step : (n : ℕ) (glyphs : List ℕ) (p q now : Picture) (order turned order' : List ℕ) → 0 < length glyphs → q ≡ wrap_taken p → turned ≡ order_shown p order → now ≡ run_shown (take n glyphs) rendition autowrap q → order' ≡ order_run_shown (take n glyphs) rendition autowrap q turned → order_run_shown (drop n glyphs) rendition autowrap now order' ≡ order_run_shown glyphs rendition autowrap p order
-  order_step n glyphs p q now order turned order' some taken turned_so written order_so =
-      ap₂ (order_run_shown (drop n glyphs) rendition autowrap) written order_so
-      ∙ order_parts n glyphs q turned
-      ∙ ap₂ (order_run_shown glyphs rendition autowrap) taken turned_so
-      ∙ order_wrapped glyphs p order some

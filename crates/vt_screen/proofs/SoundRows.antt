@@ -1,5 +1,5 @@
 -- Rows stay sound.
-use Rattle.std.proofs.Common.{◌≡◌, ℕ, ◌-◌, ◌<◌, ◌≤◌, Bool, true, false, List, replicate, refl, sym, ap, inl, inr, ◌∙◌, subst, arith}
+use Rattle.std.proofs.Common.{◌≡◌, ℕ, ◌+◌, ◌-◌, ◌<◌, ◌≤◌, Bool, true, false, List, replicate, refl, sym, ap, inl, inr, ◌∙◌, subst, arith}
 use Rattle.std.specs.Prelude.{if◌then◌else◌, ◌==◌, ◌&&◌, not, nat_le, nat_lt}
 use Rattle.std.proofs.lemmas.Bool.{cases_lt}
 use Rattle.std.proofs.lemmas.Bool.Decides.{nat_tests}
@@ -8,14 +8,15 @@ use Rattle.vt_screen.specs.declared.cell.Cell.{Cell}
 use Rattle.vt_screen.specs.declared.cell.Size.{Size}
 use Rattle.vt_screen.specs.declared.cell.Size.TheVariants.{Single, Double, Top, Bottom}
 use Rattle.vt_screen.specs.declared.cell.Row.{Row}
-use Rattle.vt_screen.specs.Table.{table}
+use Rattle.vt_screen.specs.Table.{table, nth}
+use Rattle.vt_screen.specs.CellEdits.{taken_out, moved_right}
 use Rattle.vt_screen.specs.Cells.{blank, blank_cells, blank_row, cell_at, row_at, row_by, rows_by, is_single}
 use Rattle.vt_screen.specs.Erasures.{in_line_part, part_erased}
-use Rattle.vt_screen.specs.Lines.{pattern, patterned, resized}
+use Rattle.vt_screen.specs.Lines.{filled_to, resized}
 use Rattle.vt_screen.specs.Picture.{SoundRow, columns, margin_of}
 use Rattle.vt_screen.specs.Puts.{with_cell, with_row}
-use Rattle.vt_screen.proofs.Rows.{blank_whole}
-use Rattle.vt_screen.proofs.Tables.{length-table, nth-table, nth_is, nth_keeps}
+use Rattle.vt_screen.proofs.Rows.{blank_whole, row_is}
+use Rattle.vt_screen.proofs.Tables.{length-table, nth-table, nth_is, nth_keeps, table_ext, table_is}
 
 pub margin_low : (wide : Bool) (size : Size) → 40 ≤ margin_of wide size
 margin_low true Single = omega arith
@@ -55,6 +56,15 @@ blank_at column = nth_is blank (replicate 132 blank) column ∙ elim (cases_lt (
   | inr past ↦ get_or_past (replicate 132 blank) (column - 1) blank past
 ]
 
+-- a single row of blank cells
+pub blank_either : (b : Bool) (e : Cell) → e ≡ blank → (if b then blank else e) ≡ blank
+blank_either true e is = refl
+blank_either false e is = is
+
+pub all_blank : (f : ℕ → Cell) → ((k : ℕ) → 1 ≤ k → k ≤ 132 → f k ≡ blank) → row_by Single f ≡ blank_row
+all_blank f each =
+    row_is Single (table 132 f) blank_cells (table_ext 132 f (nth blank blank_cells) (λ k low high. each k low high ∙ sym (blank_at k)) ∙ sym (table_is blank 132 blank_cells blank_whole))
+
 -- a row told by place is sound where its cells are
 pub sound_by : (wide : Bool) (size : Size) (f : ℕ → Cell) → ((k : ℕ) → margin_of wide size < k → f k ≡ blank) → ((k : ℕ) → (f k).glyph ≤ 126) → SoundRow wide (row_by size f)
 sound_by wide size f right glyphs = record {
@@ -91,13 +101,33 @@ module _ (wide : Bool) (row : Row) (sound : SoundRow wide row) where
       (λ k above. either (λ e. e ≡ blank) (in_line_part part cursor k) blank (cell_at row k) refl (sound.blank_right k above))
       (λ k. either (λ e. e.glyph ≤ 126) (in_line_part part cursor k) blank (cell_at row k) (omega arith) (sound.glyphs k))
 
-  pub sound_patterned : SoundRow wide (patterned (columns wide) row)
-  sound_patterned =
+  pub sound_filled : (cell : Cell) → cell.glyph ≤ 126 → SoundRow wide (filled_to cell (columns wide) row)
+  sound_filled cell glyph =
       sound_by wide Single _
       (λ k above.
       let right = sound.blank_right k (omega (arith, margin_high wide row.size)) in
       grind (arith, nat_tests))
-      (λ k. either (λ e. e.glyph ≤ 126) (nat_le k (columns wide)) pattern (cell_at row k) (omega arith) (sound.glyphs k))
+      (λ k. either (λ e. e.glyph ≤ 126) (nat_le k (columns wide)) cell (cell_at row k) glyph (sound.glyphs k))
+
+  -- filled with blank cells it is a blank row
+  pub cleared : filled_to blank (columns wide) row ≡ blank_row
+  cleared = all_blank _ (λ k low high. elim (cases_lt (columns wide) k) [
+    | inl past ↦ blank_either (nat_le k (columns wide)) (cell_at row k) (sound.blank_right k (omega (arith, margin_high wide row.size)))
+    | inr within ↦ grind (arith, nat_tests)
+  ])
+
+  pub sound_taken_out : (n from : ℕ) → SoundRow wide (taken_out n from (margin_of wide row.size) row)
+  sound_taken_out n from =
+      sound_by wide row.size _
+      (λ k above. let same = sound.blank_right k above in grind (arith, nat_tests))
+      (λ k. either (λ e. e.glyph ≤ 126) (nat_le from k && nat_le k (margin_of wide row.size)) _ (cell_at row k)
+      (either (λ e. e.glyph ≤ 126) (nat_le (k + n) (margin_of wide row.size)) (cell_at row (k + n)) blank (sound.glyphs (k + n)) (omega arith)) (sound.glyphs k))
+
+  pub sound_moved_right : (from : ℕ) → SoundRow wide (moved_right from (margin_of wide row.size) row)
+  sound_moved_right from =
+      sound_by wide row.size _
+      (λ k above. let same = sound.blank_right k above in grind (arith, nat_tests))
+      (λ k. either (λ e. e.glyph ≤ 126) (nat_lt from k && nat_le k (margin_of wide row.size)) (cell_at row (k - 1)) (cell_at row k) (sound.glyphs (k - 1)) (sound.glyphs k))
 
   resized_right : (size : Size) (k : ℕ) (was is : Bool) → is_single row.size ≡ was → is_single size ≡ is → margin_of wide size < k → (if was && not is && nat_lt (margin_of wide size) k then blank else cell_at row k) ≡ blank
   resized_right size k true true a b above = sound.blank_right k (omega (arith, single_margin wide row.size a, single_margin wide size b))
@@ -115,7 +145,7 @@ module _ (wide : Bool) (row : Row) (sound : SoundRow wide row) where
 pub sound_rows_by : (wide : Bool) (f : ℕ → Row) → ((line : ℕ) → 1 ≤ line → line ≤ 24 → SoundRow wide (f line)) → (line : ℕ) → SoundRow wide (row_at (rows_by f) line)
 sound_rows_by wide f each = nth_keeps (SoundRow wide) blank_row 24 f (sound_blank wide) each
 
-either_row : (P : Row → Type 0) (b : Bool) (x y : Row) → P x → P y → P (if b then x else y)
+pub either_row : (P : Row → Type 0) (b : Bool) (x y : Row) → P x → P y → P (if b then x else y)
 either_row P true x y px py = px
 either_row P false x y px py = py
 

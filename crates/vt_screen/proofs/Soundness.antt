@@ -9,21 +9,18 @@ use Rattle.vt_screen.specs.declared.cell.Size.{Size}
 use Rattle.vt_screen.specs.declared.cell.Size.TheVariants.{Single}
 use Rattle.vt_screen.specs.declared.cell.Row.{Row}
 use Rattle.vt_screen.specs.Attributes.{Attributes}
+use Rattle.vt_screen.specs.CellEdits.{taken_out, cells_deleted, moved_right, room_made, shown_inserting}
 use Rattle.vt_screen.specs.Cells.{blank, blank_row, cell_at, row_at, row_by, rows_by}
 use Rattle.vt_screen.specs.Picture.{Picture, Sound, SoundRow, columns, margin_of, right_margin, reset}
-use Rattle.vt_screen.specs.Moves.{on_line, stepped_up, stepped_down, stepped_right, stepped_left, moved_to_left, at_place, placed, moved_home, wrap_cleared, put_back}
-use Rattle.vt_screen.specs.Scrolls.{scrolled_up, scrolled_down, indexed, reverse_indexed}
+use Rattle.vt_screen.specs.Moves.{on_line, stepped_up, stepped_down, stepped_right, stepped_left, moved_to_left, moved_to, placed, moved_home, wrap_cleared, put_back}
+use Rattle.vt_screen.specs.Scrolls.{scrolled_up, scrolled_down, indexed, reverse_indexed, is_in_region, lines_deleted, lines_inserted}
 use Rattle.vt_screen.specs.Puts.{with_row, with_cell, wrap_taken, put, shown, run_shown}
 use Rattle.vt_screen.specs.Erasures.{in_part, part_erased, erased_whole, display_erased, line_erased}
-use Rattle.vt_screen.specs.Lines.{resized, size_set, columns_set, patterned, aligned, are_margins, margins_set}
+use Rattle.vt_screen.specs.Lines.{resized, size_set, columns_set, pattern, filled_to, aligned, are_margins, margins_set}
 use Rattle.vt_screen.specs.Tabs.{stop_after, tabbed, tab_made, tabs_cleared}
 use Rattle.vt_screen.proofs.Tables.{length-table, nth-table}
 use Rattle.vt_screen.proofs.Stops.{stop_low, stop_high}
-use Rattle.vt_screen.proofs.SoundRows.{margin_low, margin_high, sound_by, sound_blank, sound_with_cell, sound_erased, sound_patterned, sound_resized, sound_rows_by, sound_with_row}
-
-either_row : (P : Row → Type 0) (b : Bool) (x y : Row) → P x → P y → P (if b then x else y)
-either_row P true x y px py = px
-either_row P false x y px py = py
+use Rattle.vt_screen.proofs.SoundRows.{margin_low, margin_high, sound_by, sound_blank, sound_with_cell, sound_erased, sound_filled, sound_taken_out, sound_moved_right, sound_resized, sound_rows_by, sound_with_row, either_row}
 
 pub either_picture : (P : Picture → Type 0) (b : Bool) (x y : Picture) → P x → P y → P (if b then x else y)
 either_picture P true x y px py = px
@@ -88,14 +85,14 @@ module _ (p : Picture) (sound : Sound p) where
   pub sound_moved_to_left : Sound (moved_to_left p)
   sound_moved_to_left = sound_cursor p.line 1 false sound.line_low sound.line_high (omega arith) (omega (arith, margin_low p.wide (row_at p.rows p.line).size))
 
-  pub sound_at_place : (line column : ℕ) → 1 ≤ line → line ≤ 24 → 1 ≤ column → Sound (at_place line column p)
-  sound_at_place line column low high column_low =
+  pub sound_moved_to : (line column : ℕ) → 1 ≤ line → line ≤ 24 → 1 ≤ column → Sound (moved_to line column p)
+  sound_moved_to line column low high column_low =
       let margin = margin_low p.wide (row_at p.rows line).size in
       sound_cursor line (min column (right_margin p line)) false low high (omega arith) (omega arith)
 
   pub sound_placed : (line column : ℕ) (origin : Bool) → 1 ≤ line → 1 ≤ column → Sound (placed line column origin p)
-  sound_placed line column true low column_low = sound_at_place _ column (omega (arith, sound.top_low, sound.apart)) (omega (arith, sound.bottom_high)) column_low
-  sound_placed line column false low column_low = sound_at_place _ column (omega arith) (omega arith) column_low
+  sound_placed line column true low column_low = sound_moved_to _ column (omega (arith, sound.top_low, sound.apart)) (omega (arith, sound.bottom_high)) column_low
+  sound_placed line column false low column_low = sound_moved_to _ column (omega arith) (omega arith) column_low
 
   pub sound_moved_home : (origin : Bool) → Sound (moved_home origin p)
   sound_moved_home true = sound_cursor p.top 1 false sound.top_low (omega (arith, sound.apart, sound.bottom_high)) (omega arith) (omega (arith, margin_low p.wide (row_at p.rows p.top).size))
@@ -116,33 +113,48 @@ module _ (p : Picture) (sound : Sound p) where
       let margin = margin_low p.wide (row_at p.rows line).size in
       sound_cursor line (min column (right_margin p line)) _ low high (omega arith) (omega arith)
 
-  pub sound_scrolled_up : (line : ℕ) → SoundRow p.wide (row_at (scrolled_up p.top p.bottom p.rows) line)
-  sound_scrolled_up = sound_rows_by p.wide _ (λ line low high.
-      either_row (SoundRow p.wide) (nat_le p.top line && nat_le line p.bottom) (if line == p.bottom then blank_row else row_at p.rows (line + 1)) (row_at p.rows line)
-      (either_row (SoundRow p.wide) (line == p.bottom) blank_row (row_at p.rows (line + 1)) (sound_blank p.wide) (sound.row (line + 1)))
+  pub sound_scrolled_up : (n top bottom line : ℕ) → SoundRow p.wide (row_at (scrolled_up n top bottom p.rows) line)
+  sound_scrolled_up n top bottom = sound_rows_by p.wide _ (λ line low high.
+      either_row (SoundRow p.wide) (nat_le top line && nat_le line bottom) (if nat_le (line + n) bottom then row_at p.rows (line + n) else blank_row) (row_at p.rows line)
+      (either_row (SoundRow p.wide) (nat_le (line + n) bottom) (row_at p.rows (line + n)) blank_row (sound.row (line + n)) (sound_blank p.wide))
       (sound.row line))
 
-  pub sound_scrolled_down : (line : ℕ) → SoundRow p.wide (row_at (scrolled_down p.top p.bottom p.rows) line)
-  sound_scrolled_down = sound_rows_by p.wide _ (λ line low high.
-      either_row (SoundRow p.wide) (nat_le p.top line && nat_le line p.bottom) (if line == p.top then blank_row else row_at p.rows (line - 1)) (row_at p.rows line)
-      (either_row (SoundRow p.wide) (line == p.top) blank_row (row_at p.rows (line - 1)) (sound_blank p.wide) (sound.row (line - 1)))
+  pub sound_scrolled_down : (n top bottom line : ℕ) → SoundRow p.wide (row_at (scrolled_down n top bottom p.rows) line)
+  sound_scrolled_down n top bottom = sound_rows_by p.wide _ (λ line low high.
+      either_row (SoundRow p.wide) (nat_le top line && nat_le line bottom) (if nat_le (top + n) line then row_at p.rows (line - n) else blank_row) (row_at p.rows line)
+      (either_row (SoundRow p.wide) (nat_le (top + n) line) (row_at p.rows (line - n)) blank_row (sound.row (line - n)) (sound_blank p.wide))
       (sound.row line))
 
   pub sound_indexed : Sound (indexed p)
   sound_indexed =
-      either_picture Sound (p.line == p.bottom) (on_line p.line (record p { rows = scrolled_up p.top p.bottom p.rows })) (if p.line == 24 then on_line 24 p else on_line (p.line + 1) p)
-      (sound_rows_on_line (scrolled_up p.top p.bottom p.rows) p.line (length-table 24 _) sound_scrolled_up sound.line_low sound.line_high)
+      either_picture Sound (p.line == p.bottom) (on_line p.line (record p { rows = scrolled_up 1 p.top p.bottom p.rows })) (if p.line == 24 then on_line 24 p else on_line (p.line + 1) p)
+      (sound_rows_on_line (scrolled_up 1 p.top p.bottom p.rows) p.line (length-table 24 _) (sound_scrolled_up 1 p.top p.bottom) sound.line_low sound.line_high)
       (by_test Sound (p.line == 24) (on_line 24 p) (on_line (p.line + 1) p)
       (λ e. sound_on_line 24 (omega arith) (omega arith))
       (λ e. sound_on_line (p.line + 1) (omega arith) (grind (arith, nat_tests, sound.line_high))))
 
   pub sound_reverse_indexed : Sound (reverse_indexed p)
   sound_reverse_indexed =
-      either_picture Sound (p.line == p.top) (on_line p.line (record p { rows = scrolled_down p.top p.bottom p.rows })) (if p.line == 1 then on_line 1 p else on_line (p.line - 1) p)
-      (sound_rows_on_line (scrolled_down p.top p.bottom p.rows) p.line (length-table 24 _) sound_scrolled_down sound.line_low sound.line_high)
+      either_picture Sound (p.line == p.top) (on_line p.line (record p { rows = scrolled_down 1 p.top p.bottom p.rows })) (if p.line == 1 then on_line 1 p else on_line (p.line - 1) p)
+      (sound_rows_on_line (scrolled_down 1 p.top p.bottom p.rows) p.line (length-table 24 _) (sound_scrolled_down 1 p.top p.bottom) sound.line_low sound.line_high)
       (by_test Sound (p.line == 1) (on_line 1 p) (on_line (p.line - 1) p)
       (λ e. sound_on_line 1 (omega arith) (omega arith))
       (λ e. sound_on_line (p.line - 1) (grind (arith, nat_tests, sound.line_low)) (omega (arith, sound.line_high))))
+
+  -- other rows, and the cursor at column 1
+  sound_rows_at_left : (rows : List Row) → length rows ≡ 24 → ((k : ℕ) → SoundRow p.wide (row_at rows k)) → Sound (moved_to_left (record p { rows = rows }))
+  sound_rows_at_left rows len row =
+      sound_all rows p.line 1 false len row sound.line_low sound.line_high (omega arith) (omega (arith, margin_low p.wide (row_at rows p.line).size))
+
+  pub sound_lines_deleted : (n : ℕ) → Sound (lines_deleted n p)
+  sound_lines_deleted n =
+      either_picture Sound (is_in_region p) (moved_to_left (record p { rows = scrolled_up n p.line p.bottom p.rows })) p
+      (sound_rows_at_left (scrolled_up n p.line p.bottom p.rows) (length-table 24 _) (sound_scrolled_up n p.line p.bottom)) sound
+
+  pub sound_lines_inserted : (n : ℕ) → Sound (lines_inserted n p)
+  sound_lines_inserted n =
+      either_picture Sound (is_in_region p) (moved_to_left (record p { rows = scrolled_down n p.line p.bottom p.rows })) p
+      (sound_rows_at_left (scrolled_down n p.line p.bottom p.rows) (length-table 24 _) (sound_scrolled_down n p.line p.bottom)) sound
 
   -- the right margin of the cursor's line, once it has another row
   margin_there : (row : Row) → margin_of p.wide (row_at (with_row p.line row p.rows) p.line).size ≡ margin_of p.wide row.size
@@ -162,6 +174,14 @@ module _ (p : Picture) (sound : Sound p) where
       by_test Sound (p.column == right_margin p p.line) (record p { rows = rows; wrap = autowrap }) (record p { rows = rows; column = p.column + 1 })
       (λ e. sound_row_there row p.column autowrap sound_row sound.column_low sound.column_high)
       (λ e. sound_row_there row (p.column + 1) p.wrap sound_row (omega arith) (grind (arith, nat_tests, sound.column_high)))
+
+  pub sound_cells_deleted : (n : ℕ) → Sound (cells_deleted n p)
+  sound_cells_deleted n =
+      sound_row_there (taken_out n p.column (right_margin p p.line) (row_at p.rows p.line)) p.column p.wrap (sound_taken_out p.wide (row_at p.rows p.line) (sound.row p.line) n p.column) sound.column_low sound.column_high
+
+  pub sound_room_made : Sound (room_made p)
+  sound_room_made =
+      sound_row_there (moved_right p.column (right_margin p p.line) (row_at p.rows p.line)) p.column p.wrap (sound_moved_right p.wide (row_at p.rows p.line) (sound.row p.line) p.column) sound.column_low sound.column_high
 
   pub sound_line_erased : (part : ℕ) → Sound (line_erased part p)
   sound_line_erased part =
@@ -218,10 +238,10 @@ module _ (p : Picture) (sound : Sound p) where
 
   pub sound_aligned : Sound (aligned p)
   sound_aligned =
-      let f : ℕ → Row = λ line. patterned (columns p.wide) (row_at p.rows line) in
+      let f : ℕ → Row = λ line. filled_to pattern (columns p.wide) (row_at p.rows line) in
       let here = ap (λ (r : Row). margin_of p.wide r.size) (nth-table blank_row 24 f p.line sound.line_low sound.line_high) in
       sound_all (rows_by f) p.line p.column false (length-table 24 f)
-      (sound_rows_by p.wide f (λ line low high. sound_patterned p.wide (row_at p.rows line) (sound.row line)))
+      (sound_rows_by p.wide f (λ line low high. sound_filled p.wide (row_at p.rows line) (sound.row line) pattern (omega arith)))
       sound.line_low sound.line_high sound.column_low
       (omega (arith, here, margin_high p.wide (row_at p.rows p.line).size, sound.column_high))
 
@@ -278,6 +298,10 @@ sound_wrap_taken p sound = either_picture Sound p.wrap (indexed (moved_to_left p
 
 pub sound_shown : (glyph : ℕ) (rendition : Attributes) (autowrap : Bool) (p : Picture) → glyph ≤ 126 → Sound p → Sound (shown glyph rendition autowrap p)
 sound_shown glyph rendition autowrap p low sound = sound_put (wrap_taken p) (sound_wrap_taken p sound) (record { glyph = glyph; rendition = rendition }) autowrap low
+
+pub sound_shown_inserting : (glyph : ℕ) (rendition : Attributes) (autowrap : Bool) (p : Picture) → glyph ≤ 126 → Sound p → Sound (shown_inserting glyph rendition autowrap p)
+sound_shown_inserting glyph rendition autowrap p low sound =
+    sound_put (room_made (wrap_taken p)) (sound_room_made (wrap_taken p) (sound_wrap_taken p sound)) (record { glyph = glyph; rendition = rendition }) autowrap low
 
 pub sound_run : (glyphs : List ℕ) (rendition : Attributes) (autowrap : Bool) (p : Picture) → AllByRecursion (λ glyph. glyph ≤ 126) glyphs → Sound p → Sound (run_shown glyphs rendition autowrap p)
 sound_run [] rendition autowrap p all sound = sound

@@ -44,11 +44,6 @@ is_table d n xs g len each =
 pub table_is : {X : Type 0} (d : X) (n : ℕ) (xs : List X) → length xs ≡ n → xs ≡ table n (nth d xs)
 table_is d n xs len = is_table d n xs (nth d xs) len (λ k below. sym (nth_next d xs k))
 
--- two lists that have the same at every place
-pub same_places : {X : Type 0} (d : X) (n : ℕ) (xs ys : List X) → length xs ≡ n → length ys ≡ n → ((k : ℕ) → 1 ≤ k → k ≤ n → nth d xs k ≡ nth d ys k) → xs ≡ ys
-same_places d n xs ys len len' same =
-    table_is d n xs len ∙ table_ext n (nth d xs) (nth d ys) same ∙ sym (table_is d n ys len')
-
 -- a write, by place
 pub get_or-set : {X : Type 0} (d : X) (xs : List X) (i : ℕ) (x : X) (k : ℕ) → i < length xs → get_or (set xs i x) k d ≡ (if k == i then x else get_or xs k d)
 get_or-set d xs i x k below =

@@ -1,11 +1,12 @@
 pub mod Attributes
+pub mod CellEdits
 pub mod Cells
 pub mod Drawn
 pub mod Erasures
 pub mod Lines
 pub mod Moves
 pub mod Picture
-pub mod Places
+pub mod Slots
 pub mod Puts
 pub mod RenditionByte
 pub mod Scrolls

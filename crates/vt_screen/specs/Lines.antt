@@ -35,15 +35,15 @@ columns_set wide origin p =
 abbrev pub pattern : Cell
 pattern = record { glyph = 69; rendition = plain }
 
--- a row that is filled with it to a column (EK-VT100-UG chapter 3, DECALN)
-abbrev pub patterned : ℕ → Row → Row
-patterned to row = row_by Single (λ column. if nat_le column to then pattern else cell_at row column)
+-- a row that is filled with one cell to a column, single width
+abbrev pub filled_to : Cell → ℕ → Row → Row
+filled_to cell to row = row_by Single (λ column. if nat_le column to then cell else cell_at row column)
 
 -- DECALN: every cell to the number of columns is the letter E, all lines single; cursor and margins
 -- stay (EK-VT100-UG chapter 3; what stays: profile)
 abbrev pub aligned : Picture → Picture
 aligned p = record p {
-  rows = rows_by (λ line. patterned (columns p.wide) (row_at p.rows line));
+  rows = rows_by (λ line. filled_to pattern (columns p.wide) (row_at p.rows line));
   wrap = false;
 }
 

@@ -29,14 +29,14 @@ abbrev pub moved_to_left : Picture → Picture
 moved_to_left p = record p { column = 1; wrap = false }
 
 -- to a line and at most to a column of it (the cut: profile)
-abbrev pub at_place : ℕ → ℕ → Picture → Picture
-at_place line column p = record p { line = line; column = min column (right_margin p line); wrap = false }
+abbrev pub moved_to : ℕ → ℕ → Picture → Picture
+moved_to line column p = record p { line = line; column = min column (right_margin p line); wrap = false }
 
 -- CUP: lines are counted from the top margin and end at the bottom one where the origin is there
 -- (EK-VT100-UG chapter 3, CUP and DECOM)
 abbrev pub placed : ℕ → ℕ → Bool → Picture → Picture
 placed line column origin p =
-    at_place (if origin then min (p.top + (line - 1)) p.bottom else min line 24) column p
+    moved_to (if origin then min (p.top + (line - 1)) p.bottom else min line 24) column p
 
 -- column 1 of line 1, or of the top margin where the origin is there (EK-VT100-UG chapter 3, DECOM)
 abbrev pub moved_home : Bool → Picture → Picture

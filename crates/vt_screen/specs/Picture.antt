@@ -35,6 +35,10 @@ margin_of wide size =
 abbrev pub right_margin : Picture → ℕ → ℕ
 right_margin p line = margin_of p.wide (row_at p.rows line).size
 
+-- a picture with these rows
+abbrev pub with_rows : List Row → Picture → Picture
+with_rows rows p = record p { rows = rows }
+
 -- the cell at a line and a column
 abbrev pub cell : Picture → ℕ → ℕ → Cell
 cell p line column = cell_at (row_at p.rows line) column

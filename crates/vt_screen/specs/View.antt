@@ -1,7 +1,7 @@
 -- What the fields of a screen stand for.
 use Rattle.vt_screen.specs.declared.screen.Screen.TheInside.{Inside}
 use Rattle.vt_screen.specs.Picture.{Picture}
-use Rattle.vt_screen.specs.Places.{Shown, rows_of}
+use Rattle.vt_screen.specs.Slots.{ScreenState, rows_of}
 
 abbrev pub picture_of : Inside → Picture
 picture_of s = record {
@@ -15,5 +15,5 @@ picture_of s = record {
   tabs = s.tabs;
 }
 
-abbrev pub shown_of : Inside → Shown
-shown_of s = record { picture = picture_of s; order = s.grid.order; places = s.grid.places }
+abbrev pub state_of : Inside → ScreenState
+state_of s = record { picture = picture_of s; order = s.grid.order; slots = s.grid.slots }

@@ -1,9 +1,10 @@
 //! Cells, and rows of 132 of them.
 
 ghost use Rattle.std.specs.Prelude.{◌≡◌, ◌+◌, ◌≤◌, length};
+ghost use Rattle.vt_screen.specs.CellEdits.{taken_out, moved_right};
 ghost use Rattle.vt_screen.specs.Cells.{blank, blank_row, is_single};
 ghost use Rattle.vt_screen.specs.Erasures.{part_erased};
-ghost use Rattle.vt_screen.specs.Lines.{resized, patterned};
+ghost use Rattle.vt_screen.specs.Lines.{resized, filled_to};
 ghost use Rattle.vt_screen.specs.Picture.{columns, margin_of};
 ghost use Rattle.vt_screen.specs.Puts.{with_cell};
 ghost use Rattle.vt_screen.specs.Written.{filled, written};
@@ -101,7 +102,7 @@ impl Row {
     pub(crate) fn fill(&mut self, from: u8, to: u8, cell: Cell)
         requires whole { length self.old.cells ≡ 132 }
         requires low { 1 ≤ from }
-        requires some { from ≤ to }
+        requires apart { from ≤ to + 1 }
         requires high { to ≤ 132 }
         ensures { self.new ≡ filled from to cell self.old }
     {
@@ -137,22 +138,40 @@ impl Row {
         }
     }
 
-    /// Fills the row to a column with the letter E, single width.
-    pub(crate) fn align(&mut self, to: u8)
+    /// Fills the row to a column with one cell, single width.
+    pub(crate) fn fill_to(&mut self, cell: Cell, to: u8)
         requires whole { length self.old.cells ≡ 132 }
-        requires low { 1 ≤ to }
         requires high { to ≤ 132 }
-        ensures { self.new ≡ patterned to self.old }
+        ensures { self.new ≡ filled_to cell to self.old }
     {
-        self.fill(
-            1,
-            to,
-            Cell {
-                glyph: b'E',
-                rendition: Rendition::plain(),
-            },
-        );
+        self.fill(1, to, cell);
         self.size = Size::Single;
+    }
+
+    /// Takes out `n` cells from a column on: those right of them up to the margin move left, and blank
+    /// cells come in at the margin.
+    pub(crate) fn take_out(&mut self, n: u8, from: u8, margin: u8)
+        requires whole { length self.old.cells ≡ 132 }
+        requires low { 1 ≤ from }
+        requires room { from + n ≤ margin + 1 }
+        requires high { margin ≤ 132 }
+        ensures { self.new ≡ taken_out n from margin self.old }
+    {
+        let source = (from + n) as usize - 1..margin as usize;
+        self.cells.copy_within(source, from as usize - 1);
+        self.fill(margin + 1 - n, margin, Cell::blank());
+    }
+
+    /// Moves the cells from a column on one to the right; the one at the margin is lost.
+    pub(crate) fn move_right(&mut self, from: u8, margin: u8)
+        requires whole { length self.old.cells ≡ 132 }
+        requires low { 1 ≤ from }
+        requires within { from ≤ margin }
+        requires high { margin ≤ 132 }
+        ensures { self.new ≡ moved_right from margin self.old }
+    {
+        let source = from as usize - 1..margin as usize - 1;
+        self.cells.copy_within(source, from as usize);
     }
 }
 

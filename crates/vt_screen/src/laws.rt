@@ -2,6 +2,7 @@
 
 ghost use Rattle.std.specs.Prelude.{◌≡◌, ℕ, ◌+◌, ◌-◌, ◌<◌, ◌≤◌, ◌++◌, [], ◌∷◌, All, Bool, true, false, List, length, min, slice_index_or};
 ghost use Rattle.vt_screen.specs.Attributes.{Attributes};
+ghost use Rattle.vt_screen.specs.CellEdits.{cells_deleted, shown_inserting};
 ghost use Rattle.vt_screen.specs.Cells.{blank, blank_row, cell_at, row_at, row_by, rows_by};
 ghost use Rattle.vt_screen.specs.declared.cell.Cell.{Cell};
 ghost use Rattle.vt_screen.specs.declared.cell.Row.{Row};
@@ -13,7 +14,7 @@ ghost use Rattle.vt_screen.specs.Lines.{size_set, columns_set, aligned, margins_
 ghost use Rattle.vt_screen.specs.Moves.{stepped_up, stepped_down, stepped_right, stepped_left, moved_to_left, placed, moved_home, wrap_cleared, put_back};
 ghost use Rattle.vt_screen.specs.Picture.{Picture, Sound, Inside, KeepsSound, KeepsInside, GoesInside, reset, margin_of, right_margin};
 ghost use Rattle.vt_screen.specs.Puts.{shown, run_shown};
-ghost use Rattle.vt_screen.specs.Scrolls.{indexed, reverse_indexed};
+ghost use Rattle.vt_screen.specs.Scrolls.{indexed, reverse_indexed, lines_deleted, lines_inserted};
 ghost use Rattle.vt_screen.specs.Tabs.{tabbed, tab_made, tabs_cleared};
 
 use crate::screen::Screen;
@@ -60,6 +61,19 @@ pub fn shows_keep_sound()
         KeepsSound (run_shown glyphs rendition autowrap) }
     ensures index { KeepsSound indexed }
     ensures reverse_index { KeepsSound reverse_indexed }
+{}
+
+/// What inserts and deletes keeps a picture sound, with its cursor inside the margins where it is there.
+pub fn edits_keep_sound()
+    ensures insert_lines { (n : ℕ) → KeepsSound (lines_inserted n) }
+    ensures delete_lines { (n : ℕ) → KeepsSound (lines_deleted n) }
+    ensures delete_cells { (n : ℕ) → KeepsSound (cells_deleted n) }
+    ensures show_inserting { (glyph : ℕ) (rendition : Attributes) (autowrap : Bool) → glyph ≤ 126 →
+        KeepsSound (shown_inserting glyph rendition autowrap) }
+    ensures insert_lines_inside { (n : ℕ) → KeepsInside (lines_inserted n) }
+    ensures delete_lines_inside { (n : ℕ) → KeepsInside (lines_deleted n) }
+    ensures delete_cells_inside { (n : ℕ) → KeepsInside (cells_deleted n) }
+    ensures show_inserting_inside { (glyph : ℕ) (rendition : Attributes) (autowrap : Bool) → KeepsInside (shown_inserting glyph rendition autowrap) }
 {}
 
 /// What erases, sizes and sets keeps a picture sound.

@@ -1,14 +1,15 @@
 //! The screen and its operations. Lines and columns are counted from 1.
 
-ghost use Rattle.std.specs.Prelude.{◌≡◌, ◌<◌, ◌≤◌, All, length, take, true, false};
-ghost use Rattle.vt_screen.specs.Cells.{row_at, cell_at};
-ghost use Rattle.vt_screen.specs.Erasures.{display_erased, erased_whole, line_erased};
+ghost use Rattle.std.specs.Prelude.{◌≡◌, ℕ, ◌+◌, ◌-◌, ◌<◌, ◌≤◌, ◌&&◌, nat_le, nat_lt, min, All, length, slice_set, take, true, false};
+ghost use Rattle.vt_screen.specs.CellEdits.{cells_deleted, room_made, shown_inserting};
+ghost use Rattle.vt_screen.specs.Cells.{blank_row, row_at, cell_at};
+ghost use Rattle.vt_screen.specs.Erasures.{display_erased, erased_whole, in_other_lines, line_erased};
 ghost use Rattle.vt_screen.specs.Lines.{size_set, columns_set, aligned, are_margins, margins_set};
 ghost use Rattle.vt_screen.specs.Moves.{stepped_up, stepped_down, stepped_right, stepped_left, moved_to_left, placed, moved_home, wrap_cleared, put_back, on_line};
-ghost use Rattle.vt_screen.specs.Picture.{Sound, SoundRow, first_tabs, reset, cell, columns, right_margin};
-ghost use Rattle.vt_screen.specs.Places.{OncePerPlace, first_order, place_at, row_in, order_indexed, places_indexed, order_reverse_indexed, places_reverse_indexed, order_shown, order_run_shown};
-ghost use Rattle.vt_screen.specs.Puts.{shown, run_shown, wrap_taken};
-ghost use Rattle.vt_screen.specs.Scrolls.{indexed, reverse_indexed};
+ghost use Rattle.vt_screen.specs.Picture.{Sound, SoundRow, with_rows, first_tabs, reset, cell, columns, right_margin};
+ghost use Rattle.vt_screen.specs.Slots.{OncePerSlot, first_order, slot_at, row_in, turned_up, turned_down, order_indexed, slots_indexed, order_reverse_indexed, slots_reverse_indexed, order_lines_deleted, order_lines_inserted};
+ghost use Rattle.vt_screen.specs.Puts.{put, shown, run_shown, wrap_taken};
+ghost use Rattle.vt_screen.specs.Scrolls.{indexed, reverse_indexed, lines_deleted, lines_inserted, scrolled_up, scrolled_down};
 ghost use Rattle.vt_screen.specs.Tabs.{stop_at, stop_after, tabbed, tab_made, tabs_cleared};
 
 use crate::cell::{Cell, Row, Size, columns_of, margin_of};
@@ -17,7 +18,7 @@ use crate::rendition::Rendition;
 use std::marker::Model;
 
 /// 24 lines of 80 or 132 columns with a cursor, a pending wrap, margins, tab stops and a size for each
-/// line. Contracts see a `Shown`: the picture, told by line and column, and where its rows lie.
+/// line. Contracts see a `ScreenState`: the picture, told by line and column, and where its rows lie.
 #[derive(Debug, Drop)]
 pub struct Screen {
     grid: Grid,
@@ -33,14 +34,14 @@ pub struct Screen {
 const _: () = prove!(size_of::<Screen>() < 7000);
 
 impl Model for Screen {
-    ghost use Rattle.vt_screen.specs.Places.{Shown};
+    ghost use Rattle.vt_screen.specs.Slots.{ScreenState};
     ghost use Rattle.vt_screen.specs.Picture.{Sound};
 
-    ghost Value = { Shown };
+    ghost Value = { ScreenState };
 
-    ghost use Rattle.vt_screen.specs.View.{picture_of, shown_of};
+    ghost use Rattle.vt_screen.specs.View.{picture_of, state_of};
 
-    ghost view = { shown_of };
+    ghost view = { state_of };
 
     ghost invariant = { λ s. Sound (picture_of s) };
 }
@@ -91,7 +92,7 @@ impl Screen {
         requires col_low { 1 ≤ col }
         requires col_high { col ≤ 132 }
         ensures value { result ≡ cell self.now.picture row col }
-        ensures place { result ≡ cell_at (row_in self.now.places (place_at self.now.order row)) col }
+        ensures place { result ≡ cell_at (row_in self.now.slots (slot_at self.now.order row)) col }
         ensures glyph { result.glyph ≤ 126 }
     {
         self.grid.row(row).cells[col as usize - 1]
@@ -164,11 +165,11 @@ impl Screen {
     pub fn place_of(&self, row: u8) -> u8
         requires low { 1 ≤ row }
         requires high { row ≤ 24 }
-        ensures value { result ≡ place_at self.now.order row }
+        ensures value { result ≡ slot_at self.now.order row }
         ensures within { result < 24 }
-        ensures once { OncePerPlace (record { order = self.now.order; places = self.now.places }) }
+        ensures once { OncePerSlot (record { order = self.now.order; slots = self.now.slots }) }
     {
-        self.grid.place_of(row)
+        self.grid.slot_of(row)
     }
 
     /// The cell in a place: `cell(row, col)` is `place_cell(place_of(row), col)`.
@@ -176,7 +177,7 @@ impl Screen {
         requires place { place < 24 }
         requires low { 1 ≤ col }
         requires high { col ≤ 132 }
-        ensures { result ≡ cell_at (row_in self.now.places place) col }
+        ensures { result ≡ cell_at (row_in self.now.slots place) col }
     {
         self.grid.row_in(place).cells[col as usize - 1]
     }
@@ -185,24 +186,15 @@ impl Screen {
     pub fn show(&mut self, glyph: u8, rendition: Rendition, autowrap: bool)
         requires { glyph ≤ 126 }
         ensures picture { self.new.picture ≡ shown glyph rendition autowrap self.old.picture }
-        ensures order { self.new.order ≡ order_shown self.old.picture self.old.order }
     {
         self.take_wrap();
-        let margin = self.margin();
-        self.grid
-            .write(self.line, self.column, Cell { glyph, rendition });
-        if self.column == margin {
-            self.wrap = autowrap;
-        } else {
-            self.column += 1;
-        }
+        self.put(Cell { glyph, rendition }, autowrap);
     }
 
     /// Leaves what `show` of each glyph in turn leaves; it writes a line's part at once.
     pub fn show_run(&mut self, glyphs: &[u8], rendition: Rendition, autowrap: bool)
         requires { All (λ glyph. glyph ≤ 126) glyphs.now }
         ensures picture { self.new.picture ≡ run_shown glyphs.now rendition autowrap self.old.picture }
-        ensures order { self.new.order ≡ order_run_shown glyphs.now rendition autowrap self.old.picture self.old.order }
     {
         let mut rest = glyphs;
         while !rest.is_empty() {
@@ -215,7 +207,6 @@ impl Screen {
     /// CUU: `n` lines up, at most to the top margin from it or below, else to line 1.
     pub fn step_up(&mut self, n: u16)
         ensures picture { self.new.picture ≡ stepped_up n self.old.picture }
-        ensures order { self.new.order ≡ self.old.order }
     {
         let stop = if self.top <= self.line { self.top } else { 1 };
         let up = n.min(24) as u8;
@@ -225,7 +216,6 @@ impl Screen {
     /// CUD: `n` lines down, at most to the bottom margin from it or above, else to line 24.
     pub fn step_down(&mut self, n: u16)
         ensures picture { self.new.picture ≡ stepped_down n self.old.picture }
-        ensures order { self.new.order ≡ self.old.order }
     {
         let stop = if self.line <= self.bottom {
             self.bottom
@@ -239,7 +229,6 @@ impl Screen {
     /// CUF: `n` columns right, at most to the right margin.
     pub fn step_right(&mut self, n: u16)
         ensures picture { self.new.picture ≡ stepped_right n self.old.picture }
-        ensures order { self.new.order ≡ self.old.order }
     {
         let right = n.min(132);
         let margin = u16::from(self.margin());
@@ -250,7 +239,6 @@ impl Screen {
     /// CUB and BS: `n` columns left, at least column 1.
     pub fn step_left(&mut self, n: u16)
         ensures picture { self.new.picture ≡ stepped_left n self.old.picture }
-        ensures order { self.new.order ≡ self.old.order }
     {
         let left = n.min(132) as u8;
         self.column = self.column.saturating_sub(left).max(1);
@@ -260,7 +248,6 @@ impl Screen {
     /// CR: column 1.
     pub fn to_left(&mut self)
         ensures picture { self.new.picture ≡ moved_to_left self.old.picture }
-        ensures order { self.new.order ≡ self.old.order }
     {
         self.column = 1;
         self.wrap = false;
@@ -272,7 +259,6 @@ impl Screen {
         requires line { 1 ≤ line }
         requires col { 1 ≤ col }
         ensures picture { self.new.picture ≡ placed line col origin self.old.picture }
-        ensures order { self.new.order ≡ self.old.order }
     {
         let line = line.min(24) as u8;
         let to = if origin {
@@ -288,7 +274,6 @@ impl Screen {
     /// Column 1 of line 1, or of the top margin with `origin`.
     pub fn home(&mut self, origin: bool)
         ensures picture { self.new.picture ≡ moved_home origin self.old.picture }
-        ensures order { self.new.order ≡ self.old.order }
     {
         self.line = if origin { self.top } else { 1 };
         self.column = 1;
@@ -299,10 +284,10 @@ impl Screen {
     pub fn index(&mut self)
         ensures picture { self.new.picture ≡ indexed self.old.picture }
         ensures order { self.new.order ≡ order_indexed self.old.picture self.old.order }
-        ensures places { self.new.places ≡ places_indexed self.old.picture self.old.order self.old.places }
+        ensures slots { self.new.slots ≡ slots_indexed self.old.picture self.old.order self.old.slots }
     {
         if self.line == self.bottom {
-            self.grid.roll_up(self.top, self.bottom);
+            self.scroll_up();
             self.go_to_line(self.line);
         } else {
             self.go_to_line((self.line + 1).min(24));
@@ -313,20 +298,76 @@ impl Screen {
     pub fn reverse_index(&mut self)
         ensures picture { self.new.picture ≡ reverse_indexed self.old.picture }
         ensures order { self.new.order ≡ order_reverse_indexed self.old.picture self.old.order }
-        ensures places { self.new.places ≡ places_reverse_indexed self.old.picture self.old.order self.old.places }
+        ensures slots { self.new.slots ≡ slots_reverse_indexed self.old.picture self.old.order self.old.slots }
     {
         if self.line == self.top {
-            self.grid.roll_down(self.top, self.bottom);
+            self.scroll_down();
             self.go_to_line(self.line);
         } else {
             self.go_to_line((self.line - 1).max(1));
         }
     }
 
+    /// IL: `n` lines come in at the cursor's, blank and single; those from it on move down, at most to
+    /// the bottom margin, and the cursor goes to column 1. Outside the margins nothing.
+    pub fn insert_lines(&mut self, n: u16)
+        ensures picture { self.new.picture ≡ lines_inserted n self.old.picture }
+        ensures order { self.new.order ≡ order_lines_inserted n self.old.picture self.old.order }
+    {
+        if self.top <= self.line && self.line <= self.bottom {
+            let count = self.lines_left(n);
+            let last = self.line + count - 1;
+            self.grid.turn_down(count, self.line, self.bottom);
+            self.grid
+                .fill_lines(self.line, last, Cell::blank(), columns_of(self.wide));
+            self.column = 1;
+            self.wrap = false;
+        }
+    }
+
+    /// DL: `n` lines from the cursor's on go away; those below move up, blank and single ones come in
+    /// at the bottom margin, and the cursor goes to column 1. Outside the margins nothing.
+    pub fn delete_lines(&mut self, n: u16)
+        ensures picture { self.new.picture ≡ lines_deleted n self.old.picture }
+        ensures order { self.new.order ≡ order_lines_deleted n self.old.picture self.old.order }
+    {
+        if self.top <= self.line && self.line <= self.bottom {
+            let count = self.lines_left(n);
+            let first = self.bottom + 1 - count;
+            self.grid.turn_up(count, self.line, self.bottom);
+            self.grid
+                .fill_lines(first, self.bottom, Cell::blank(), columns_of(self.wide));
+            self.column = 1;
+            self.wrap = false;
+        }
+    }
+
+    /// DCH: `n` cells from the cursor on go away, at most to the right margin; those right of them move
+    /// left, and blank ones come in at the margin.
+    pub fn delete_cells(&mut self, n: u16)
+        ensures picture { self.new.picture ≡ cells_deleted n self.old.picture }
+    {
+        let margin = self.margin();
+        let count = n.min(u16::from(margin + 1 - self.column)) as u8;
+        let mut row = *self.grid.row(self.line);
+        row.take_out(count, self.column, margin);
+        self.grid.set_row(self.line, row);
+    }
+
+    /// Shows a glyph in insert mode: after a pending wrap was taken, the cells from the cursor on move
+    /// one to the right, and the one at the right margin is lost.
+    pub fn show_inserting(&mut self, glyph: u8, rendition: Rendition, autowrap: bool)
+        requires { glyph ≤ 126 }
+        ensures picture { self.new.picture ≡ shown_inserting glyph rendition autowrap self.old.picture }
+    {
+        self.take_wrap();
+        self.make_room();
+        self.put(Cell { glyph, rendition }, autowrap);
+    }
+
     /// HT: to the next tab stop, at most to the right margin.
     pub fn tab_forward(&mut self)
         ensures picture { self.new.picture ≡ tabbed self.old.picture }
-        ensures order { self.new.order ≡ self.old.order }
     {
         let margin = self.margin();
         self.column = next_stop(&self.tabs, self.column, margin);
@@ -336,7 +377,6 @@ impl Screen {
     /// HTS: a tab stop at the cursor's column.
     pub fn set_tab(&mut self)
         ensures picture { self.new.picture ≡ tab_made true self.old.picture }
-        ensures order { self.new.order ≡ self.old.order }
     {
         self.tabs[self.column as usize - 1] = true;
     }
@@ -344,7 +384,6 @@ impl Screen {
     /// TBC: no tab stop at the cursor's column.
     pub fn clear_tab(&mut self)
         ensures picture { self.new.picture ≡ tab_made false self.old.picture }
-        ensures order { self.new.order ≡ self.old.order }
     {
         self.tabs[self.column as usize - 1] = false;
     }
@@ -352,7 +391,6 @@ impl Screen {
     /// TBC of all: no tab stop at any of the 132 columns.
     pub fn clear_tabs(&mut self)
         ensures picture { self.new.picture ≡ tabs_cleared self.old.picture }
-        ensures order { self.new.order ≡ self.old.order }
     {
         self.tabs = [false; 132];
     }
@@ -362,7 +400,6 @@ impl Screen {
     pub fn set_margins(&mut self, top: u16, bottom: u16, origin: bool) -> bool
         ensures answer { result ≡ are_margins top bottom }
         ensures picture { self.new.picture ≡ margins_set top bottom origin self.old.picture }
-        ensures order { self.new.order ≡ self.old.order }
     {
         if top < 1 || bottom <= top || 24 < bottom {
             return false;
@@ -378,13 +415,14 @@ impl Screen {
     pub fn erase_display(&mut self, part: u8)
         requires { part ≤ 2 }
         ensures picture { self.new.picture ≡ display_erased part self.old.picture }
-        ensures order { self.new.order ≡ self.old.order }
     {
         let whole = self.erases_line(part);
-        self.grid.erase_others(part, self.line);
+        let was_single = self.size(self.line).is_single();
+        let columns = columns_of(self.wide);
+        let (first, last) = other_lines(part, self.line);
+        self.grid.fill_lines(first, last, Cell::blank(), columns);
         if whole {
-            let was_single = self.grid.row(self.line).size.is_single();
-            self.grid.clear(self.line);
+            self.grid.fill_line(self.line, Cell::blank(), columns);
             self.wrap = self.wrap && was_single;
         } else {
             self.grid.erase_part(part, self.line, self.column);
@@ -395,7 +433,6 @@ impl Screen {
     pub fn erase_line(&mut self, part: u8)
         requires { part ≤ 2 }
         ensures picture { self.new.picture ≡ line_erased part self.old.picture }
-        ensures order { self.new.order ≡ self.old.order }
     {
         self.grid.erase_part(part, self.line, self.column);
     }
@@ -404,9 +441,10 @@ impl Screen {
     /// the middle become blank.
     pub fn set_size(&mut self, size: Size)
         ensures picture { self.new.picture ≡ size_set size self.old.picture }
-        ensures order { self.new.order ≡ self.old.order }
     {
-        self.grid.resize(self.line, size, self.wide);
+        let mut row = *self.grid.row(self.line);
+        row.resize(size, self.wide);
+        self.grid.set_row(self.line, row);
         self.column = self.column.min(margin_of(self.wide, size));
         self.wrap = false;
     }
@@ -414,9 +452,8 @@ impl Screen {
     /// DECCOLM: 132 columns, or 80; all blank and single, margins 1 and 24, home. Tabs stay.
     pub fn set_columns(&mut self, wide: bool, origin: bool)
         ensures picture { self.new.picture ≡ columns_set wide origin self.old.picture }
-        ensures order { self.new.order ≡ self.old.order }
     {
-        self.grid.clear_all();
+        self.grid.fill_lines(1, 24, Cell::blank(), 132);
         self.wide = wide;
         self.top = 1;
         self.bottom = 24;
@@ -428,16 +465,18 @@ impl Screen {
     /// DECALN: every cell to the number of columns is the letter E, all lines single width.
     pub fn align(&mut self)
         ensures picture { self.new.picture ≡ aligned self.old.picture }
-        ensures order { self.new.order ≡ self.old.order }
     {
-        self.grid.align(columns_of(self.wide));
+        let pattern = Cell {
+            glyph: b'E',
+            rendition: Rendition::plain(),
+        };
+        self.grid.fill_lines(1, 24, pattern, columns_of(self.wide));
         self.wrap = false;
     }
 
     /// Takes the pending wrap away, for what else clears it.
     pub fn clear_wrap(&mut self)
         ensures picture { self.new.picture ≡ wrap_cleared self.old.picture }
-        ensures order { self.new.order ≡ self.old.order }
     {
         self.wrap = false;
     }
@@ -450,7 +489,6 @@ impl Screen {
         requires row_high { row ≤ 24 }
         requires col { 1 ≤ col }
         ensures picture { self.new.picture ≡ put_back row col wrap origin autowrap self.old.picture }
-        ensures order { self.new.order ≡ self.old.order }
     {
         self.line = if origin {
             row.min(self.bottom).max(self.top)
@@ -476,22 +514,78 @@ impl Screen {
         requires high { line ≤ 24 }
         ensures picture { self.new.picture ≡ on_line line self.old.picture }
         ensures order { self.new.order ≡ self.old.order }
-        ensures places { self.new.places ≡ self.old.places }
+        ensures slots { self.new.slots ≡ self.old.slots }
     {
         self.column = self.column.min(self.right_margin(line));
         self.line = line;
         self.wrap = false;
     }
 
+    /// Scrolls the region up by one, with the cursor at the bottom margin.
+    fn scroll_up(&mut self)
+        requires { self.old.picture.line ≡ self.old.picture.bottom }
+        ensures picture { self.new.picture ≡ with_rows (scrolled_up 1 self.old.picture.top self.old.picture.bottom self.old.picture.rows) self.old.picture }
+        ensures order { self.new.order ≡ turned_up 1 self.old.picture.top self.old.picture.bottom self.old.order }
+        ensures slots { self.new.slots ≡ slice_set self.old.slots (slot_at self.old.order self.old.picture.top) blank_row }
+    {
+        self.grid.turn_up(1, self.top, self.bottom);
+        self.grid
+            .fill_line(self.bottom, Cell::blank(), columns_of(self.wide));
+    }
+
+    /// Scrolls the region down by one, with the cursor at the top margin.
+    fn scroll_down(&mut self)
+        requires { self.old.picture.line ≡ self.old.picture.top }
+        ensures picture { self.new.picture ≡ with_rows (scrolled_down 1 self.old.picture.top self.old.picture.bottom self.old.picture.rows) self.old.picture }
+        ensures order { self.new.order ≡ turned_down 1 self.old.picture.top self.old.picture.bottom self.old.order }
+        ensures slots { self.new.slots ≡ slice_set self.old.slots (slot_at self.old.order self.old.picture.bottom) blank_row }
+    {
+        self.grid.turn_down(1, self.top, self.bottom);
+        self.grid
+            .fill_line(self.top, Cell::blank(), columns_of(self.wide));
+    }
+
     /// Takes a pending wrap: column 1 of the next line.
     fn take_wrap(&mut self)
         ensures picture { self.new.picture ≡ wrap_taken self.old.picture }
-        ensures order { self.new.order ≡ order_shown self.old.picture self.old.order }
     {
         if self.wrap {
             self.to_left();
             self.index();
         }
+    }
+
+    /// Writes the cell at the cursor; at the right margin the cursor stays, and the wrap becomes pending
+    /// with `autowrap`, else it goes one to the right.
+    fn put(&mut self, cell: Cell, autowrap: bool)
+        requires { cell.glyph ≤ 126 }
+        ensures picture { self.new.picture ≡ put cell autowrap self.old.picture }
+    {
+        let margin = self.margin();
+        self.grid.write(self.line, self.column, cell);
+        if self.column == margin {
+            self.wrap = autowrap;
+        } else {
+            self.column += 1;
+        }
+    }
+
+    /// Moves the cells from the cursor on one to the right.
+    fn make_room(&mut self)
+        ensures picture { self.new.picture ≡ room_made self.old.picture }
+    {
+        let margin = self.margin();
+        let mut row = *self.grid.row(self.line);
+        row.move_right(self.column, margin);
+        self.grid.set_row(self.line, row);
+    }
+
+    /// At most the number of lines from the cursor's to the bottom margin.
+    fn lines_left(&self, n: u16) -> u8
+        requires { self.now.picture.line ≤ self.now.picture.bottom }
+        ensures { result ≡ min n (self.now.picture.bottom + 1 - self.now.picture.line) }
+    {
+        n.min(u16::from(self.bottom + 1 - self.line)) as u8
     }
 
     /// Shows the glyphs that the cursor's line has room for, at least one, and says how many.
@@ -502,7 +596,6 @@ impl Screen {
         ensures some { 0 < result }
         ensures within { result ≤ length glyphs.now }
         ensures picture { self.new.picture ≡ run_shown (take result glyphs.now) rendition autowrap self.old.picture }
-        ensures order { self.new.order ≡ order_run_shown (take result glyphs.now) rendition autowrap self.old.picture self.old.order }
     {
         let margin = self.margin();
         let room = (margin - self.column) as usize + 1;
@@ -528,6 +621,23 @@ impl Screen {
             1 => self.column == self.margin(),
             _ => true,
         }
+    }
+}
+
+/// The lines other than the cursor's that a part of the display has, from the first to the last.
+fn other_lines(part: u8, cursor: u8) -> (u8, u8)
+    requires part { part ≤ 2 }
+    requires low { 1 ≤ cursor }
+    requires high { cursor ≤ 24 }
+    ensures told { (line : ℕ) → 1 ≤ line → line ≤ 24 → nat_le result.0 line && nat_lt line (result.1 + 1) ≡ in_other_lines part cursor line }
+    ensures low { 1 ≤ result.0 }
+    ensures apart { result.0 ≤ result.1 + 1 }
+    ensures high { result.1 ≤ 24 }
+{
+    match part {
+        0 => (cursor + 1, 24),
+        1 => (1, cursor - 1),
+        _ => (1, 24),
     }
 }
 

@@ -1,24 +1,7 @@
-use Rattle.std.proofs.Common.{ap, length, arith}
+use Rattle.std.proofs.Common.{◌∙◌, ap, length}
 use Rattle.vt_screen.specs.declared.cell.Row.{Row}
-use Rattle.vt_screen.specs.Erasures.{part_erased}
-use Rattle.std.proofs.Common.{◌∙◌}
 use Rattle.vt_screen.proofs.Tables.{length-table}
-use Rattle.vt_screen.proofs.Index.{place_below, read_whole, row_changed, changed_once}
 use Rattle.vt_screen.proofs.grid.Grid.erase_part.Goals as goal
 
-pub listed : goal.listed
-listed c = omega (arith, place_below _ _ c.self.invariant c.self.view_is c.args.line c.requires.line_low c.requires.line_high, c.self.invariant.places)
-
-pub bounds-self-inside-place : goal.bounds-self-inside-place
-bounds-self-inside-place c = place_below _ _ c.self.invariant c.self.view_is c.args.line c.requires.line_low c.requires.line_high
-
-pub erase_part-requires-clause-whole : goal.erase_part-requires-clause-whole
-erase_part-requires-clause-whole c = read_whole _ _ c.self.invariant c.self.view_is c.args.line c.requires.line_low c.requires.line_high _
-
-pub invariant_of-self : goal.invariant_of-self
-invariant_of-self c =
-    changed_once _ _ c.self.invariant c.self.view_is c.args.line c.requires.line_low c.requires.line_high _ (ap (λ (r : Row). length r.cells) c.erase_part.ensures ∙ length-table 132 _)
-
-pub returns-clause-rows : goal.returns-clause-rows
-returns-clause-rows c =
-    row_changed _ _ c.self.invariant c.self.view_is c.args.line c.requires.line_low c.requires.line_high (part_erased c.args.part c.args.column) _ _ c.erase_part.ensures
+pub set_row-requires-clause-whole : goal.set_row-requires-clause-whole
+set_row-requires-clause-whole c = ap (λ (r : Row). length r.cells) c.erase_part.ensures ∙ length-table 132 _

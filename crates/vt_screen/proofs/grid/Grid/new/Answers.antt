@@ -1,7 +1,7 @@
 use Rattle.std.proofs.Common.{length, ap, ◌∙◌}
 use Rattle.vt_screen.specs.declared.cell.Row.{Row}
 use Rattle.vt_screen.specs.Table.{table}
-use Rattle.vt_screen.specs.Places.{Held, first_order}
+use Rattle.vt_screen.specs.Slots.{Held, first_order}
 use Rattle.vt_screen.proofs.Rows.{blank_whole}
 use Rattle.vt_screen.proofs.Turns.{first_once}
 use Rattle.vt_screen.proofs.grid.Grid.new.Goals as goal
@@ -12,4 +12,4 @@ invariant_of-result c = first_once c.blank.result (ap (λ (r : Row). length r.ce
 
 pub returns : goal.returns
 unfolding table
-returns c = ap (λ (r : Row). let h : Held = record { order = first_order; places = table 24 (λ _. r) } in h) c.blank.ensures
+returns c = ap (λ (r : Row). let h : Held = record { order = first_order; slots = table 24 (λ _. r) } in h) c.blank.ensures

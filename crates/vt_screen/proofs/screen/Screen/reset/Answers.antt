@@ -1,7 +1,7 @@
 use Rattle.std.proofs.Common.{◌≡◌, List, Bool, sym, ap, ap₂, subst, ◌∙◌}
 use Rattle.vt_screen.specs.declared.cell.Row.{Row}
 use Rattle.vt_screen.specs.Picture.{Sound, reset}
-use Rattle.vt_screen.specs.Places.{rows_of}
+use Rattle.vt_screen.specs.Slots.{rows_of}
 use Rattle.vt_screen.proofs.Soundness.{sound_reset}
 use Rattle.vt_screen.proofs.Turns.{first_rows}
 use Rattle.vt_screen.proofs.screen.Screen.reset.Goals as goal

@@ -3,9 +3,8 @@ use Rattle.std.specs.Prelude.{All}
 use Rattle.std.proofs.lemmas.List.{take_rest}
 use Rattle.std.proofs.lemmas.List.Elements.{All-drop}
 use Rattle.vt_screen.specs.Picture.{Picture}
-use Rattle.vt_screen.specs.Places.{order_run_shown}
 use Rattle.vt_screen.specs.Puts.{run_shown}
-use Rattle.vt_screen.proofs.Runs.{run_step, order_step}
+use Rattle.vt_screen.proofs.Runs.{run_step}
 use Rattle.vt_screen.proofs.screen.Screen.show_run.Goals as goal
 
 pub loop-rest-preserved : goal.loop-rest-preserved
@@ -15,12 +14,6 @@ loop-rest-preserved c =
     let left = take_rest rest taken in
     record {
       glyphs = subst (All (λ glyph. glyph ≤ 126)) (sym left) (All-drop (λ glyph. glyph ≤ 126) taken rest c.loop-rest.invariant.glyphs);
-      order =
-          ap (λ (gs : List ℕ). order_run_shown gs c.args.rendition c.args.autowrap c.show_part-taken.new.self.picture c.show_part-taken.new.self.order) left
-          ∙ order_step c.args.rendition c.args.autowrap taken rest c.loop-rest.self.picture c.take_wrap.new.self.picture c.show_part-taken.new.self.picture
-          c.loop-rest.self.order c.take_wrap.new.self.order c.show_part-taken.new.self.order (omega arith)
-          c.take_wrap.ensures.picture c.take_wrap.ensures.order c.show_part-taken.ensures.picture c.show_part-taken.ensures.order
-          ∙ c.loop-rest.invariant.order;
       shown =
           ap (λ (gs : List ℕ). run_shown gs c.args.rendition c.args.autowrap c.show_part-taken.new.self.picture) left
           ∙ run_step c.args.rendition c.args.autowrap taken rest c.loop-rest.self.picture c.show_part-taken.new.self.picture (omega arith)

@@ -1,6 +1,5 @@
 use Rattle.std.proofs.Common.{◌≡◌, ◌≤◌, length}
 use Rattle.std.specs.Prelude.{All}
-use Rattle.vt_screen.specs.Places.{order_run_shown}
 use Rattle.vt_screen.specs.Puts.{run_shown}
 use Rattle.vt_screen.proofs.screen.Screen.show_run.Given as goal
 
@@ -8,7 +7,6 @@ use Rattle.vt_screen.proofs.screen.Screen.show_run.Given as goal
 abbrev pub invariant-loop-rest : goal.invariant-loop-rest
 invariant-loop-rest l = record {
   glyphs : All (λ glyph. glyph ≤ 126) l.rest;
-  order : order_run_shown l.rest l.rendition l.autowrap l.self.picture l.self.order ≡ order_run_shown l.glyphs l.rendition l.autowrap l.fn.self.picture l.fn.self.order;
   shown : run_shown l.rest l.rendition l.autowrap l.self.picture ≡ run_shown l.glyphs l.rendition l.autowrap l.fn.self.picture;
 }
 
