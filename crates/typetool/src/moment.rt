@@ -29,10 +29,10 @@ pub fn write_screen<O: Write>(
 ) -> Result<(), JobFault>
     requires { has_failed out.old ≡ false }
     ensures ok { OnOk result (Took O.contents out.old out.new
-        (plain_text (term_at recording.now at).shown.picture)) }
+        (plain_text (term_at recording.now at).console.picture)) }
     ensures flushed { OnOk result (is_flushed out.new ≡ true) }
     ensures fault { IfErr result (StopsAt O.contents out.old out.new
-        (plain_text (term_at recording.now at).shown.picture)) }
+        (plain_text (term_at recording.now at).console.picture)) }
     ensures want { result ≡ Err JobFault.Memory → sent_by recording.now at ≢ [] }
 {
     let mut terminal = Terminal::reset();
