@@ -4,3 +4,4 @@ pub mod EditLemmas
 pub mod HexLemmas
 pub mod RequestLemmas
 pub mod LogLemmas
+pub mod MarkLemmas
