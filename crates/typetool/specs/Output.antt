@@ -55,7 +55,7 @@ writes_timing Save = true
 abbrev pub text_of : Job → Tape → List ℕ
 text_of (Due at) tape = due tape.chunks at
 text_of Info tape = info_text tape
-text_of (Screen at) tape = plain_text (term_at tape at).shown.picture
+text_of (Screen at) tape = plain_text (term_at tape at).console.picture
 text_of (Reports at) tape = encode_lower (term_at tape at).reports ++ 10 ∷ []
 text_of Save tape = []
 

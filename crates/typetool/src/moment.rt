@@ -25,10 +25,10 @@ pub fn write_screen<O: Write>(
 ) -> Result<(), JobFault>
     requires { has_failed out.old ≡ false }
     ensures ok { OnOk result (Took O.contents out.old out.new
-        (plain_text (term_at recording at).shown.picture)) }
+        (plain_text (term_at recording at).console.picture)) }
     ensures flushed { OnOk result (is_flushed out.new ≡ true) }
     ensures fault { IfErr result (StopsAt O.contents out.old out.new
-        (plain_text (term_at recording at).shown.picture)) }
+        (plain_text (term_at recording at).console.picture)) }
 {
     let Ok(session) = Session::open(alloc, recording, EVERY) else {
         return Err(JobFault::Memory);
