@@ -1,9 +1,9 @@
 -- One piece after another, of what a reader tells or a writer takes.
-use Rattle.std.proofs.Common.{◌≡◌, ℕ, false, List, [], ◌++◌, take, drop, refl, sym, ◌∙◌, ap, subst, append_assoc, append-nil, Option, Some, None, IfSome}
-use Rattle.std.specs.Io.KnownBytes.{Appends, Consumes, IsAtEnd}
+use Rattle.std.proofs.Common.{◌≡◌, ℕ, false, List, [], ◌++◌, take, drop, sym, ◌∙◌, ap, subst, append_assoc, append-nil, Option, Some, None}
+use Rattle.std.specs.Io.KnownBytes.{Appends, Consumes}
 use Rattle.std.proofs.lemmas.List.{take-append-drop}
 use Rattle.tape_core.specs.declared.devices.Watched.{Watched}
-use Rattle.tape_core.specs.Devices.{inner_of, has_failed, Told, ToldAll, Took, StoppedIn}
+use Rattle.tape_core.specs.Devices.{inner_of, has_failed, Took, StoppedIn}
 
 -- known bytes that grow by x and then by y grow by both
 pub appends-append : (a b c : Option (List ℕ)) (x y : List ℕ) → Appends a b x → Appends b c y → Appends a c (x ++ y)
@@ -16,24 +16,6 @@ appends-append (Some s) (Some t) (Some u) x y h k = rw (k, h) (append_assoc s x 
 pub appends-none : (a : Option (List ℕ)) → Appends a a []
 appends-none None = tt
 appends-none (Some s) = sym (append-nil s)
-
--- known bytes that lose x and then y have lost both
-pub consumes-append : (a b c : Option (List ℕ)) (x y : List ℕ) → Consumes a b x → Consumes b c y → Consumes a c (x ++ y)
-consumes-append None b c x y h k = tt
-consumes-append (Some s) None c x y h k = absurd h
-consumes-append (Some s) (Some t) None x y h k = absurd k
-consumes-append (Some s) (Some t) (Some u) x y h k = rw (h, k) (sym (append_assoc x y u))
-
--- known bytes that stay have lost nothing
-pub consumes-none : (a : Option (List ℕ)) → Consumes a a []
-consumes-none None = tt
-consumes-none (Some s) = refl
-
--- where none is left, what was lost is all
-pub consumes-all : (a b : Option (List ℕ)) (x : List ℕ) → Consumes a b x → IsAtEnd b → IfSome a (λ left. x ≡ left)
-consumes-all None b x h e = tt
-consumes-all (Some s) None x h e = absurd h
-consumes-all (Some s) (Some t) x h e = rw (h, e) (sym (append-nil x))
 
 -- a writer that is sound has taken nothing yet
 pub took_none : {T : Type 0} (contents : T → Option (List ℕ)) (a : Watched T) → has_failed a ≡ false → Took contents a a []
@@ -82,14 +64,6 @@ pub record PutBefore {T : Type 0} (contents : T → Option (List ℕ)) (old new 
   pub cut : text ≡ gone ++ rest
   pub took : Took contents old new gone
 
--- before the first piece
-pub put_none : {T : Type 0} (contents : T → Option (List ℕ)) (a : Watched T) (text : List ℕ) → has_failed a ≡ false → PutBefore contents a a text text
-put_none contents a text sound = record {
-  gone = [];
-  cut = refl;
-  took = took_none contents a sound;
-}
-
 -- one more piece
 pub put_more : {T : Type 0} {contents : T → Option (List ℕ)} {a b c : Watched T} {text rest : List ℕ} (n : ℕ) → PutBefore contents a b text rest → Took contents b c (take n rest) → PutBefore contents a c text (drop n rest)
 put_more {rest = rest} n h k = record {
@@ -97,11 +71,6 @@ put_more {rest = rest} n h k = record {
   cut = h.cut ∙ ap (λ t. h.gone ++ t) (sym (take-append-drop n rest)) ∙ sym (append_assoc h.gone (take n rest) (drop n rest));
   took = took-append h.took k;
 }
-
--- after the last piece
-pub put_all : {T : Type 0} {contents : T → Option (List ℕ)} {a b : Watched T} {text rest : List ℕ} → PutBefore contents a b text rest → rest ≡ [] → Took contents a b text
-put_all {contents = contents} {a = a} {b = b} {rest = rest} h e =
-    subst (λ t. Took contents a b t) (sym (h.cut ∙ ap (λ t. h.gone ++ t) e ∙ append-nil h.gone)) h.took
 
 -- stopped before a piece or in it
 pub put_stopped : {T : Type 0} {contents : T → Option (List ℕ)} {a b c : Watched T} {text rest : List ℕ} → PutBefore contents a b text rest → StoppedIn contents b c [] → StoppedIn contents a c text
@@ -112,26 +81,3 @@ put_stopped {contents = contents} {a = a} {c = c} {rest = rest} h k =
 pub record ToldFront {T : Type 0} (remaining : T → Option (List ℕ)) (old new : Watched T) (text : List ℕ) : Type 0 where
   pub sound : has_failed new ≡ false
   pub told : Consumes (remaining (inner_of old)) (remaining (inner_of new)) text
-
--- before the first piece
-pub told_none : {T : Type 0} (remaining : T → Option (List ℕ)) (a : Watched T) → has_failed a ≡ false → ToldFront remaining a a []
-told_none remaining a sound = record { sound = sound; told = consumes-none (remaining (inner_of a)) }
-
--- one more piece
-pub told_more : {T : Type 0} {remaining : T → Option (List ℕ)} {a b c : Watched T} {text piece : List ℕ} {n : ℕ} → ToldFront remaining a b text → Told remaining b c piece n → ToldFront remaining a c (text ++ take n piece)
-told_more {remaining = remaining} {a = a} {b = b} {c = c} {text = text} {piece = piece} {n = n} h k = record {
-  sound = k.sound;
-  told = consumes-append (remaining (inner_of a)) (remaining (inner_of b)) (remaining (inner_of c)) text (take n piece) h.told k.told;
-}
-
--- at the end
-pub told_all : {T : Type 0} {remaining : T → Option (List ℕ)} {a b c : Watched T} {text piece : List ℕ} {n : ℕ} → ToldFront remaining a b text → Told remaining b c piece n → n ≡ 0 → ToldAll remaining a c text
-told_all {remaining = remaining} {a = a} {b = b} {c = c} {text = text} {piece = piece} {n = n} h k e =
-    let last : ToldFront remaining a c (text ++ take n piece) = told_more h k in
-    let none : text ++ take n piece ≡ text = rw e (append-nil text) in
-    record {
-      sound = k.sound;
-      whole = subst (λ t. IfSome (remaining (inner_of a)) (λ left. t ≡ left)) none
-          (consumes-all (remaining (inner_of a)) (remaining (inner_of c)) (text ++ take n piece) last.told (k.end e));
-      end = k.end e;
-    }

@@ -10,5 +10,6 @@ pub mod WrittenLemmas
 pub mod LineLemmas
 pub mod ReadingLemmas
 pub mod ReadBackLemmas
+pub mod FaultLemmas
 pub mod WordLemmas
 pub mod OneReadingLemmas

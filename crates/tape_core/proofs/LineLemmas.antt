@@ -158,10 +158,9 @@ parted text [] [] after e some digits blank = absurd (omega arith)
 parted text [] (c ∷ cs) after e some digits blank =
     absurd (digit_or_blank c (digits 0 0 (omega arith)) (rw e at (blank 0 (rw e (omega arith)))))
 
--- what is read as an entry is a line of the format
-pub timing_line : (text : List ℕ) (e : Entry) → entry_of text ≡ Ok (Some e) → TimingLine text e.delay e.count
-timing_line text e h =
-    let fs = parsed (fields text) e h in
+-- a line with the two fields of an entry is a line of the format
+pub format_line : (text : List ℕ) (e : Entry) → Parsed (fields text) e → TimingLine text e.delay e.count
+format_line text e fs =
     let one = fields_cut text fs.first (fs.second ∷ []) fs.are in
     let two = fields_cut one.after fs.second [] one.others in
     record {
@@ -178,6 +177,10 @@ timing_line text e h =
       delayed = delay_text fs.first e.delay fs.delay;
       counted = number_text fs.second e.count fs.count;
     }
+
+-- what is read as an entry is a line of the format
+pub timing_line : (text : List ℕ) (e : Entry) → entry_of text ≡ Ok (Some e) → TimingLine text e.delay e.count
+timing_line text e h = format_line text e (parsed (fields text) e h)
 
 -- a line without a fault has an entry or is blank
 faultless_line : (before : List (List ℕ)) (text : List ℕ) (r : Result (Option Entry) LineFault) → entry_of text ≡ r → fault_after before text ≡ None → (o : Option Entry) × (r ≡ Ok o)

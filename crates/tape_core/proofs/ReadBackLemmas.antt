@@ -48,7 +48,7 @@ fields_after_blanks [] text blanks = refl
 fields_after_blanks (b ∷ bs) text blanks =
     fields_blank b (bs ++ text) (All-head (λ x. is_blank x ≡ true) b bs blanks) ∙ fields_after_blanks bs text (All-tail (λ x. is_blank x ≡ true) b bs blanks)
 
-fields_of_blanks : (text : List ℕ) → AllPass is_blank text → fields text ≡ []
+pub fields_of_blanks : (text : List ℕ) → AllPass is_blank text → fields text ≡ []
 fields_of_blanks text blanks = ap fields (sym (append-nil text)) ∙ fields_after_blanks text [] blanks
 
 pub fields_of_word : (word : List ℕ) → 0 < length word → HasNoBlank word → fields word ≡ word ∷ []
@@ -102,11 +102,11 @@ seconds_are_word text us s = elim s.spelled [
 ]
 
 -- what a delay's field is read as
-record ReadDelay (text : List ℕ) (delay : ℕ) : Type 0 where
-  some : 0 < length text
-  plain : HasNoBlank text
-  unlettered : begins_with_letter text ≡ false
-  read : delay_of text ≡ Some delay
+pub record ReadDelay (text : List ℕ) (delay : ℕ) : Type 0 where
+  pub some : 0 < length text
+  pub plain : HasNoBlank text
+  pub unlettered : begins_with_letter text ≡ false
+  pub read : delay_of text ≡ Some delay
 
 unsigned_read : (text : List ℕ) (us : ℕ) → SecondsText text us → Begins text → ReadDelay text us
 unsigned_read text us s b = record {
@@ -124,7 +124,7 @@ signed_read text seconds us delay is s none = record {
   read = ap delay_of is ∙ ap (option_map (λ us. 0)) (read_seconds_text seconds us s) ∙ ap Some (sym none);
 }
 
-delay_read : (text : List ℕ) (delay : ℕ) → DelayText text delay → ReadDelay text delay
+pub delay_read : (text : List ℕ) (delay : ℕ) → DelayText text delay → ReadDelay text delay
 delay_read text delay (inl s) = unsigned_read text delay s (seconds_begin text delay s)
 delay_read text delay (inr n) = signed_read text n.0 n.1 delay n.2 n.3 n.4
 

@@ -22,23 +22,6 @@ pub record ReadSoFar (timing rest : List ℕ) (entries : List Entry) (bytes line
   pub fault : timing_fault timing ≡ first_fault before (lines_of rest)
   pub behind : line + length rest ≤ length timing
 
-pub nothing_read : (timing : List ℕ) → ReadSoFar timing timing [] 0 0
-nothing_read timing = record {
-  before = [];
-  number = refl;
-  read = refl;
-  counted = refl;
-  within = record { few = omega arith; each = λ k d h. absurd (omega arith); bytes = omega arith };
-  cut = refl;
-  fault = refl;
-  behind = omega arith;
-}
-
-pub all_read : (timing rest : List ℕ) (entries : List Entry) (bytes line : ℕ) → length rest ≡ 0 → ReadSoFar timing rest entries bytes line
-    → (entries ≡ entries_of (lines_of timing)) × (timing_fault timing ≡ None)
-all_read timing [] entries bytes line none r = (r.read ∙ ap entries_of (sym (r.cut ∙ append-nil r.before)), r.fault)
-all_read timing (x ∷ xs) entries bytes line none r = absurd (omega arith)
-
 one_entry : (o : Option Entry) → cons_option o [] ≡ option_to_list o
 one_entry None = refl
 one_entry (Some e) = refl

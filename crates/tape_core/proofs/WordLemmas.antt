@@ -1,5 +1,5 @@
 -- Words as fields, and written numbers as words.
-use Rattle.std.proofs.Common.{◌≡◌, ℕ, ◌+◌, ◌/◌, ◌%◌, ◌^◌, ◌<◌, ◌⊎◌, All, true, false, List, [], ◌∷◌, ◌++◌, length, Option, Some, None, MatchOption, nat_eq, refl, ap, ◌∙◌, sym, arith, length-append, inl, inr}
+use Rattle.std.proofs.Common.{◌≡◌, ℕ, ◌/◌, ◌%◌, ◌^◌, ◌<◌, true, false, List, [], ◌∷◌, ◌++◌, Option, Some, None, MatchOption, refl, ◌∙◌, sym, arith, length-append}
 use Rattle.std.specs.Char.{is_ascii_digit}
 use Rattle.std.specs.Fmt.{decimal}
 use Rattle.std.specs.List.{AllPass}

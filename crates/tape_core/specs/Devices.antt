@@ -13,7 +13,7 @@ inner_of watched = watched.inner
 abbrev pub has_failed : {T : Type 0} → Watched T → Bool
 has_failed watched = watched.failed
 
--- whether the writer's last call was a flush that didn't fail (profile)
+-- whether the writer was flushed without a fault, and nothing was put behind that, not even no bytes (profile)
 abbrev pub is_flushed : {T : Type 0} → Watched T → Bool
 is_flushed watched = watched.flushed
 

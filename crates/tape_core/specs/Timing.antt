@@ -1,5 +1,5 @@
 -- The timing file, line by line: what a line says, and which fault it has.
-use Rattle.std.specs.Prelude.{◌≡◌, ℕ, ◌+◌, ◌<◌, ◌≤◌, ◌⊎◌, All, Bool, false, ◌||◌, ◌&&◌, List, [], ◌∷◌, ◌++◌, length, Option, Some, None, Result, Ok, Err, ◌==◌, nat_lt, nat_le, if◌then◌else◌, sum_by}
+use Rattle.std.specs.Prelude.{◌≡◌, ℕ, ◌+◌, ◌<◌, ◌≤◌, ◌⊎◌, All, Bool, false, true, ◌||◌, ◌&&◌, List, [], ◌∷◌, ◌++◌, length, Option, Some, None, Result, Ok, Err, ◌==◌, nat_lt, nat_le, if◌then◌else◌, sum_by}
 use Rattle.std.specs.List.{AllPass, filter_map}
 use Rattle.std.specs.Option.{option_map, option_or}
 use Rattle.tape_core.specs.declared.timing.Entry.{Entry}
@@ -120,3 +120,11 @@ pub record AreWithin (entries : List Entry) : Type 0 where
   pub few : length entries ≤ most_chunks
   pub each : All IsWithin entries
   pub bytes : counted_bytes entries ≤ longest_body
+
+-- What each fault of a line means: its first field begins with a letter; that field is no delay; it is one, and what stands behind it is not just a count; the line is one of the format, and its delay or, where that is within the limit, its count is too large. script(1); limits: profile.
+abbrev pub IsFaulty : List ℕ → LineFault → Type 0
+IsFaulty text line.MultiStream = (first : List ℕ) × (rest : List (List ℕ)) × (fields text ≡ first ∷ rest) × (begins_with_letter first ≡ true)
+IsFaulty text line.BadDelay = (first : List ℕ) × (rest : List (List ℕ)) × (fields text ≡ first ∷ rest) × (begins_with_letter first ≡ false) × ((delay : ℕ) → DelayText first delay → ⊥)
+IsFaulty text line.BadCount = (first : List ℕ) × (rest : List (List ℕ)) × (delay : ℕ) × (fields text ≡ first ∷ rest) × DelayText first delay × ((second : List ℕ) (count : ℕ) → rest ≡ second ∷ [] → NumberText second count → ⊥)
+IsFaulty text line.DelayTooLarge = (delay : ℕ) × (count : ℕ) × TimingLine text delay count × (longest_delay < delay)
+IsFaulty text line.ChunkTooLong = (delay : ℕ) × (count : ℕ) × TimingLine text delay count × (delay ≤ longest_delay) × (longest_chunk < count)

@@ -13,7 +13,7 @@ use std::io::{Read, Write};
 /// How many bytes `slurp` asks a reader for at a time.
 const PIECE: usize = 65536;
 
-/// A reader or a writer, whether it has failed, and whether a writer's last call was a flush that didn't.
+/// A reader or a writer, whether it has failed, and whether a flush of it, behind which nothing was put, didn't.
 #[derive(Drop)]
 pub struct Watched<T> {
     inner: T,

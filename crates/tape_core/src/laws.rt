@@ -1,16 +1,22 @@
 //! Laws over the definitions alone, as functions with empty bodies.
-ghost use Rattle.std.specs.Prelude.{◌≡◌, ◌+◌, ◌<◌, ◌≤◌, ◌^◌, ◌↔◌, ◌++◌, ◌==◌, ◌∷◌, [], ℕ, All, List, MatchOption, Ok, Some, false, length, min, slice_index_or, true};
+ghost use Rattle.std.specs.Prelude.{◌≡◌, ◌+◌, ◌<◌, ◌≤◌, ◌^◌, ◌↔◌, ◌++◌, ◌==◌, ◌∷◌, [], ℕ, All, List, MatchOption, Ok, Some, false, length, min, slice_index_or, take, true};
 ghost use Rattle.std.specs.Fmt.{decimal};
+ghost use Rattle.std.specs.List.{AllPass, flat_map};
 ghost use Rattle.tape_core.specs.Changes.{capped, inserted, removed, replaced, retimed};
 ghost use Rattle.tape_core.specs.declared.chunk.Chunk.{Chunk};
+ghost use Rattle.tape_core.specs.declared.devices.Watched.{Watched};
 ghost use Rattle.tape_core.specs.declared.timing.Entry.{Entry};
+ghost use Rattle.tape_core.specs.declared.timing.LineFault.{LineFault};
+ghost use Rattle.tape_core.specs.Devices.{StoppedIn, Took, has_failed};
 ghost use Rattle.tape_core.specs.Due.{bytes_at, due, due_count, due_time, first};
 ghost use Rattle.tape_core.specs.Seconds.{SecondsText, last_moment, seconds_of};
 ghost use Rattle.tape_core.specs.Tape.{Tape, fits};
 ghost use Rattle.tape_core.specs.Reading.{reads};
 ghost use Rattle.tape_core.specs.Text.{IsWord, NumberText, fields, is_blank, lines_of, number_of};
-ghost use Rattle.tape_core.specs.Timing.{IsWithin, TimingLine, entry_of};
+ghost use Rattle.tape_core.specs.Timing.{IsFaulty, IsWithin, TimingLine, entry_of};
 ghost use Rattle.tape_core.specs.Written.{script_text, seconds_form, timing_text};
+
+use std::io::Write;
 
 /// As no delay is negative, the bytes due by a moment are those of the first chunks.
 pub fn due_is_first()
@@ -70,6 +76,19 @@ pub fn an_entry_is_a_timing_line()
     ensures { (text : List ℕ) (entry : Entry) → entry_of text ≡ Ok (Some entry) → TimingLine text entry.delay entry.count }
 {}
 
+/// A line is blank, or an entry within the limits, or has just the fault that is told.
+pub fn a_line_is_blank_timed_or_faulty()
+    ensures blank { (text : List ℕ) → entry_of text ≡ Ok None → AllPass is_blank text }
+    ensures timed { (text : List ℕ) (entry : Entry) → entry_of text ≡ Ok (Some entry) → TimingLine text entry.delay entry.count × IsWithin entry }
+    ensures faulty { (text : List ℕ) (fault : LineFault) → entry_of text ≡ Err fault → IsFaulty text fault }
+{}
+
+/// A blank line is told as one, and a fault that a line has is the one that is told.
+pub fn a_fault_is_told()
+    ensures blank { (text : List ℕ) → AllPass is_blank text → entry_of text ≡ Ok None }
+    ensures faulty { (text : List ℕ) (fault : LineFault) → IsFaulty text fault → entry_of text ≡ Err fault }
+{}
+
 /// A line of the timing format within the limits is read as the entry that it says.
 pub fn a_timing_line_is_read()
     ensures { (text : List ℕ) (entry : Entry) → TimingLine text entry.delay entry.count → IsWithin entry → entry_of text ≡ Ok (Some entry) }
@@ -92,4 +111,22 @@ pub fn seconds_read_back()
 pub fn what_is_written_reads_back()
     ensures reads { (tape : Tape) → fits tape → reads (script_text tape) (timing_text tape) tape }
     ensures alone { (tape other : Tape) → fits tape → reads (script_text tape) (timing_text tape) other → other ≡ tape }
+{}
+
+/// What a writer took of texts one after another. Where it stopped in one of them, or at the flush
+/// behind them, a beginning of them all went out.
+pub fn writers_join<W: Write>()
+    ensures nothing { (a : Watched W) → has_failed a ≡ false → Took W.contents a a [] }
+    ensures both { (a b c : Watched W) (x y : List ℕ) → Took W.contents b c y → Took W.contents a b x → Took W.contents a c (x ++ y) }
+    ensures flushed { (a b c : Watched W) (x : List ℕ) → Took W.contents b c [] → Took W.contents a b x → Took W.contents a c x }
+    ensures in_first { (a b : Watched W) (x y : List ℕ) → StoppedIn W.contents a b x → StoppedIn W.contents a b (x ++ y) }
+    ensures in_first_of_three { (a b : Watched W) (x y z : List ℕ) → StoppedIn W.contents a b x → StoppedIn W.contents a b (x ++ y ++ z) }
+    ensures in_second { (a b c : Watched W) (x y : List ℕ) → StoppedIn W.contents b c y → Took W.contents a b x → StoppedIn W.contents a c (x ++ y) }
+    ensures within { (a b c : Watched W) (text x y z : List ℕ) → text ≡ x ++ y ++ z → StoppedIn W.contents b c y → Took W.contents a b x → StoppedIn W.contents a c text }
+    ensures at_flush { (a b c : Watched W) (x : List ℕ) → StoppedIn W.contents b c [] → Took W.contents a b x → StoppedIn W.contents a c x }
+{}
+
+/// What a writer took of the pieces of a list, one after another, where it stopped in piece i.
+pub fn pieces_join<W: Write, X>()
+    ensures { (a b c : Watched W) (f : X → List ℕ) (pieces : List X) (i : ℕ) (piece : X) → i < length pieces → piece ≡ slice_index_or pieces i piece → Took W.contents a b (flat_map f (take i pieces)) → StoppedIn W.contents b c (f piece) → StoppedIn W.contents a c (flat_map f pieces) }
 {}

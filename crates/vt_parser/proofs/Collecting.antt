@@ -7,14 +7,14 @@ use Rattle.std.proofs.lemmas.List.{take_more}
 use Rattle.arrayvec.specs.ArrayVec.{ArrayVec}
 use Rattle.vt_parser.specs.declared.commands.Mode.{Mode}
 use Rattle.vt_parser.specs.declared.commands.Mode.TheVariants.{Ansi}
-use Rattle.vt_parser.specs.declared.controls.Place.{Place}
-use Rattle.vt_parser.specs.declared.controls.Place.TheVariants as place
+use Rattle.vt_parser.specs.declared.controls.Context.{Context}
+use Rattle.vt_parser.specs.declared.controls.Context.TheVariants as context
 use Rattle.vt_parser.specs.declared.commands.Command.TheVariants as command
 use Rattle.vt_parser.specs.declared.states.ParserState.{ParserState}
 use Rattle.vt_parser.specs.declared.states.ParserState.TheVariants.{Escape, CsiStart, Csi, CsiIgnored}
-use Rattle.vt_parser.specs.Control.{escape, is_graphic, class_of, turns_of, turn_at}
+use Rattle.vt_parser.specs.Control.{escape, is_graphic, actions_of, action_at}
 use Rattle.vt_parser.specs.Sequence.{is_control_final, is_digit, is_semicolon, is_plain, front, final, held}
-use Rattle.vt_parser.specs.Machine.{Step, goes_on, gives, with_digit, with_last_digit, digit_joined, semicolon_joined, joined, begun, place_in, stepped_by, stepped, Runs}
+use Rattle.vt_parser.specs.Machine.{Step, moves_to, gives, with_digit, with_last_digit, digit_joined, semicolon_joined, joined, begun, context_in, stepped_by, stepped, Runs}
 use Rattle.vt_parser.specs.Reading.{GoesOn}
 use Rattle.vt_parser.proofs.Lists.{front_push, final_push}
 use Rattle.vt_parser.proofs.ManyBytes.{runs_push}
@@ -27,7 +27,7 @@ digit_facts : (byte : ℕ) → is_digit byte ≡ true → (is_graphic byte ≡ t
 digit_facts byte is = (grind (arith, nat_tests), grind (arith, nat_tests))
 
 digit_step : (private : Bool) (params : ArrayVec ℕ) (over : Bool) (mode : Mode) (byte : ℕ) → is_digit byte ≡ true
-    → stepped (Csi private params over) mode byte ≡ goes_on (digit_joined private params over byte)
+    → stepped (Csi private params over) mode byte ≡ moves_to (digit_joined private params over byte)
 unfolding joined
 digit_step private params over mode byte is =
     let facts = digit_facts byte is in
@@ -35,7 +35,7 @@ digit_step private params over mode byte is =
     joins (Csi private params over) mode byte refl facts.0 ∙ simp (no_final, is)
 
 semicolon_step : (private : Bool) (params : ArrayVec ℕ) (over : Bool) (mode : Mode)
-    → stepped (Csi private params over) mode 59 ≡ goes_on (semicolon_joined private params over)
+    → stepped (Csi private params over) mode 59 ≡ moves_to (semicolon_joined private params over)
 unfolding joined
 semicolon_step private params over mode = joins (Csi private params over) mode 59 refl refl
 
@@ -46,7 +46,7 @@ final_step private params over mode byte graphic is = joins (Csi private params 
 
 ignored_step : (private : Bool) (params : ArrayVec ℕ) (over : Bool) (mode : Mode) (byte : ℕ)
     → is_graphic byte ≡ true → is_control_final byte ≡ false → is_digit byte ≡ false → is_semicolon byte ≡ false
-    → stepped (Csi private params over) mode byte ≡ goes_on CsiIgnored
+    → stepped (Csi private params over) mode byte ≡ moves_to CsiIgnored
 unfolding joined
 ignored_step private params over mode byte graphic no_final no_digit no_semicolon =
     joins (Csi private params over) mode byte refl graphic ∙ simp (no_final, no_digit, no_semicolon)
@@ -56,7 +56,7 @@ ignored_step private params over mode byte graphic no_final no_digit no_semicolo
 -- one byte more
 goes_further : (front : List ℕ) (state there : ParserState) (bytes : List ℕ) (at : ℕ) (step : Step) → at < length bytes
     → ((mode : Mode) → stepped there mode (get_or bytes at 0) ≡ step)
-    → GoesOn front state (take at bytes) (goes_on there) → GoesOn front state (take (at + 1) bytes) step
+    → GoesOn front state (take at bytes) (moves_to there) → GoesOn front state (take (at + 1) bytes) step
 goes_further front state there bytes at step within steps led = λ start mode runs.
     let P : List ℕ → Type 0 = λ taken. Runs start mode taken step in
     let Q : Step → Type 0 = λ other. Runs start mode (take at bytes ++ get_or bytes at 0 ∷ []) other in
@@ -64,24 +64,24 @@ goes_further front state there bytes at step within steps led = λ start mode ru
 
 pub further_digit : (front : List ℕ) (state : ParserState) (private : Bool) (params : ArrayVec ℕ) (over : Bool) (bytes : List ℕ) (at : ℕ) (after : ParserState) → at < length bytes
     → 48 ≤ get_or bytes at 0 → get_or bytes at 0 ≤ 57 → after ≡ digit_joined private params over (get_or bytes at 0)
-    → GoesOn front state (take at bytes) (goes_on (Csi private params over)) → GoesOn front state (take (at + 1) bytes) (goes_on after)
+    → GoesOn front state (take at bytes) (moves_to (Csi private params over)) → GoesOn front state (take (at + 1) bytes) (moves_to after)
 further_digit front state private params over bytes at after within low high same led =
-    goes_further front state (Csi private params over) bytes at (goes_on after) within
-    (λ mode. digit_step private params over mode (get_or bytes at 0) (digit (get_or bytes at 0) low high) ∙ ap goes_on (sym same)) led
+    goes_further front state (Csi private params over) bytes at (moves_to after) within
+    (λ mode. digit_step private params over mode (get_or bytes at 0) (digit (get_or bytes at 0) low high) ∙ ap moves_to (sym same)) led
   where
     digit : (byte : ℕ) → 48 ≤ byte → byte ≤ 57 → is_digit byte ≡ true
     digit byte low high = grind (arith, nat_tests)
 
 pub further_semicolon : (front : List ℕ) (state : ParserState) (private : Bool) (params : ArrayVec ℕ) (over : Bool) (bytes : List ℕ) (at : ℕ) (after : ParserState) → at < length bytes
     → get_or bytes at 0 ≡ 59 → after ≡ semicolon_joined private params over
-    → GoesOn front state (take at bytes) (goes_on (Csi private params over)) → GoesOn front state (take (at + 1) bytes) (goes_on after)
+    → GoesOn front state (take at bytes) (moves_to (Csi private params over)) → GoesOn front state (take (at + 1) bytes) (moves_to after)
 further_semicolon front state private params over bytes at after within is same led =
-    goes_further front state (Csi private params over) bytes at (goes_on after) within
-    (λ mode. ap (stepped (Csi private params over) mode) is ∙ semicolon_step private params over mode ∙ ap goes_on (sym same)) led
+    goes_further front state (Csi private params over) bytes at (moves_to after) within
+    (λ mode. ap (stepped (Csi private params over) mode) is ∙ semicolon_step private params over mode ∙ ap moves_to (sym same)) led
 
 pub further_final : (front : List ℕ) (state : ParserState) (private : Bool) (params : ArrayVec ℕ) (over : Bool) (bytes : List ℕ) (at : ℕ) (step : Step) → at < length bytes
     → 64 ≤ get_or bytes at 0 → get_or bytes at 0 ≤ 126 → step ≡ gives (Some (command.Csi private params (get_or bytes at 0)))
-    → GoesOn front state (take at bytes) (goes_on (Csi private params over)) → GoesOn front state (take (at + 1) bytes) step
+    → GoesOn front state (take at bytes) (moves_to (Csi private params over)) → GoesOn front state (take (at + 1) bytes) step
 further_final front state private params over bytes at step within low high same led =
     let facts = last (get_or bytes at 0) low high in
     goes_further front state (Csi private params over) bytes at step within
@@ -92,11 +92,11 @@ further_final front state private params over bytes at step within low high same
 
 pub further_ignored : (front : List ℕ) (state : ParserState) (private : Bool) (params : ArrayVec ℕ) (over : Bool) (bytes : List ℕ) (at : ℕ) → at < length bytes
     → 32 ≤ get_or bytes at 0 → get_or bytes at 0 ≤ 63 → is_plain (get_or bytes at 0) ≡ false
-    → GoesOn front state (take at bytes) (goes_on (Csi private params over)) → GoesOn front state (take (at + 1) bytes) (goes_on CsiIgnored)
+    → GoesOn front state (take at bytes) (moves_to (Csi private params over)) → GoesOn front state (take (at + 1) bytes) (moves_to CsiIgnored)
 further_ignored front state private params over bytes at within low high other led =
     let facts = ignored (get_or bytes at 0) low high in
     let plain = or_false (is_digit (get_or bytes at 0)) (is_semicolon (get_or bytes at 0)) other in
-    goes_further front state (Csi private params over) bytes at (goes_on CsiIgnored) within
+    goes_further front state (Csi private params over) bytes at (moves_to CsiIgnored) within
     (λ mode. ignored_step private params over mode (get_or bytes at 0) facts.0 facts.1 plain.0 plain.1) led
   where
     ignored : (byte : ℕ) → 32 ≤ byte → byte ≤ 63 → (is_graphic byte ≡ true) × (is_control_final byte ≡ false)
@@ -129,12 +129,12 @@ start_runs mode (byte ∷ rest) (suc n) from step some within graphic begins led
     elim (cases_Bool (byte == 63)) [
       | inl marked ↦
           let at : from ≡ 1 = begins ∙ ap (λ (b : Bool). cond b 1 0) marked in
-          let P : ℕ → Type 0 = λ k. Runs CsiStart mode (take k (byte ∷ rest)) (goes_on (Csi (byte == 63) (held (0 ∷ [])) false)) in
+          let P : ℕ → Type 0 = λ k. Runs CsiStart mode (take k (byte ∷ rest)) (moves_to (Csi (byte == 63) (held (0 ∷ [])) false)) in
           led CsiStart mode (subst P (sym at) (joins CsiStart mode byte refl graphic ∙ simp marked))
       | inr unmarked ↦
           let at : from ≡ 0 = begins ∙ ap (λ (b : Bool). cond b 1 0) unmarked in
           let start : ParserState = Csi (byte == 63) (held (0 ∷ [])) false in
-          let P : ℕ → Type 0 = λ k. Runs start mode (take k (byte ∷ rest)) (goes_on start) in
+          let P : ℕ → Type 0 = λ k. Runs start mode (take k (byte ∷ rest)) (moves_to start) in
           same_first start CsiStart mode byte (take n rest) step
           (joins start mode byte refl graphic ∙ sym (joins CsiStart mode byte refl graphic ∙ simp unmarked))
           (led start mode (subst P (sym at) refl))
@@ -147,44 +147,44 @@ runs_one state mode [] step some is = let no : ⊥ = omega arith in absurd no
 runs_one state mode (byte ∷ rest) step some is = is
 
 -- ESC begins a sequence, and NUL leaves all as it is, wherever they come
-escape_begins : (state : ParserState) (mode : Mode) → stepped state mode escape ≡ goes_on (begun mode)
+escape_begins : (state : ParserState) (mode : Mode) → stepped state mode escape ≡ moves_to (begun mode)
 unfolding stepped
-escape_begins state mode = at (place_in state)
+escape_begins state mode = at (context_in state)
   where
-    at : (there : Place) → stepped_by (turn_at (turns_of (class_of escape)) there) state mode escape ≡ goes_on (begun mode)
-    at place.Ground = refl
-    at place.Sequence = refl
-    at place.Text = refl
+    at : (there : Context) → stepped_by (action_at (actions_of escape) there) state mode escape ≡ moves_to (begun mode)
+    at context.Ground = refl
+    at context.Sequence = refl
+    at context.Text = refl
 
-nul_stays : (state : ParserState) (mode : Mode) → stepped state mode 0 ≡ goes_on state
+nul_stays : (state : ParserState) (mode : Mode) → stepped state mode 0 ≡ moves_to state
 unfolding stepped
-nul_stays state mode = at (place_in state)
+nul_stays state mode = at (context_in state)
   where
-    at : (there : Place) → stepped_by (turn_at (turns_of (class_of 0)) there) state mode 0 ≡ goes_on state
-    at place.Ground = refl
-    at place.Sequence = refl
-    at place.Text = refl
+    at : (there : Context) → stepped_by (action_at (actions_of 0) there) state mode 0 ≡ moves_to state
+    at context.Ground = refl
+    at context.Sequence = refl
+    at context.Text = refl
 
 -- ESC `[` in ANSI mode
 pub opening_runs : (state : ParserState) (mode : Mode) (bytes : List ℕ) → mode ≡ Ansi → 1 < length bytes → get_or bytes 0 0 ≡ escape → get_or bytes 1 0 ≡ 91
-    → Runs state mode (take 2 bytes) (goes_on CsiStart)
+    → Runs state mode (take 2 bytes) (moves_to CsiStart)
 unfolding joined
 opening_runs state mode [] ansi long first second = let no : ⊥ = omega arith in absurd no
 opening_runs state mode (byte ∷ []) ansi long first second = let no : ⊥ = omega arith in absurd no
 opening_runs state mode (byte ∷ other ∷ rest) ansi long first second =
-    let begins : stepped state mode byte ≡ goes_on Escape = ap (stepped state mode) first ∙ escape_begins state mode ∙ ap (λ (m : Mode). goes_on (begun m)) ansi in (
+    let begins : stepped state mode byte ≡ moves_to Escape = ap (stepped state mode) first ∙ escape_begins state mode ∙ ap (λ (m : Mode). moves_to (begun m)) ansi in (
       ap (λ (s : Step). s.command) begins,
       ap (λ (s : Step). stepped s.state mode other) begins ∙ ap (stepped Escape mode) second ∙ joins Escape mode 91 refl refl,
     )
 
-stays_more : (state : ParserState) (mode : Mode) (byte : ℕ) (rest : List ℕ) → stepped state mode byte ≡ goes_on state
-    → Runs state mode rest (goes_on state) → Runs state mode (byte ∷ rest) (goes_on state)
+stays_more : (state : ParserState) (mode : Mode) (byte : ℕ) (rest : List ℕ) → stepped state mode byte ≡ moves_to state
+    → Runs state mode rest (moves_to state) → Runs state mode (byte ∷ rest) (moves_to state)
 stays_more state mode byte [] stays runs = stays
 stays_more state mode byte (second ∷ rest) stays runs =
-    let P : Step → Type 0 = λ s. (s.command ≡ None) × Runs s.state mode (second ∷ rest) (goes_on state) in
+    let P : Step → Type 0 = λ s. (s.command ≡ None) × Runs s.state mode (second ∷ rest) (moves_to state) in
     subst P (sym stays) (refl, runs)
 
-pub nuls_run : (state : ParserState) (mode : Mode) (bytes : List ℕ) (n : ℕ) → n ≤ prefix_len (λ byte. byte == 0) bytes → Runs state mode (take n bytes) (goes_on state)
+pub nuls_run : (state : ParserState) (mode : Mode) (bytes : List ℕ) (n : ℕ) → n ≤ prefix_len (λ byte. byte == 0) bytes → Runs state mode (take n bytes) (moves_to state)
 nuls_run state mode bytes zero le = refl
 nuls_run state mode [] (suc n) le = refl
 nuls_run state mode (byte ∷ rest) (suc n) le =

@@ -6,7 +6,7 @@ use Rattle.vt_parser.specs.declared.commands.Mode.{Mode}
 use Rattle.vt_parser.specs.declared.commands.Mode.TheVariants.{Ansi, Vt52 as Vt52Mode}
 use Rattle.vt_parser.specs.declared.commands.Command.{Command}
 use Rattle.vt_parser.specs.declared.commands.Command.TheVariants.{Vt52}
-use Rattle.vt_parser.specs.declared.controls.Turn.TheVariants.{Joins}
+use Rattle.vt_parser.specs.declared.controls.Action.TheVariants.{Join}
 use Rattle.vt_parser.specs.declared.states.ParserState.{ParserState}
 use Rattle.vt_parser.specs.declared.states.ParserState.TheVariants.{Ground, Escape, EscapeOne, EscapeMany, Vt52Escape, Vt52Line, Vt52Column}
 use Rattle.vt_parser.specs.Control.{escape, is_graphic}
@@ -14,14 +14,15 @@ use Rattle.vt_parser.specs.Sequence.{is_intermediate, is_escape_final, is_contro
 use Rattle.vt_parser.specs.View.{escape_view, control_view, parser_view}
 use Rattle.vt_parser.specs.Step.{command_by, pending_by}
 use Rattle.vt_parser.specs.Machine.{joined}
+use Rattle.vt_parser.proofs.Shapes.{shows_none}
 use Rattle.vt_parser.proofs.Lists.{front_push, final_push, list_all_push}
 use Rattle.vt_parser.proofs.Control.{view_push, no_command, final_command, final_state}
 use Rattle.vt_parser.proofs.Bytes.{intermediate_no_control, intermediate_no_string, intermediate_no_final, graphic_final, graphic_text}
 
 -- the machine does what the bytes say
 pub record JoinAgrees (mode : Mode) (pending : List ℕ) (byte : ℕ) (state : ParserState) : Type 0 where
-  pub command : command_by Joins mode pending byte ≡ (joined state byte).command
-  pub view : parser_view mode (pending_by Joins mode pending byte) ≡ Some (joined state byte).state
+  pub command : command_by Join mode pending byte ≡ (joined state byte).command
+  pub view : parser_view mode (pending_by Join mode pending byte) ≡ Some (joined state byte).state
 
 -- whether a byte makes the pending bytes whole, and what they mean then
 abbrev pub whole_with : Mode → List ℕ → ℕ → Bool
@@ -44,11 +45,6 @@ meaning_push Ansi pending byte =
 meaning_push Vt52Mode pending byte =
     ap₂ (λ begun last. cond (is_line_begun begun) (address_meaning (get_or begun 2 0) last) (Some (Vt52 last))) (front_push pending byte) (final_push pending byte)
 
-parser_view_none : (mode : Mode) → parser_view mode [] ≡ Some Ground
-unfolding parser_view
-parser_view_none Ansi = refl
-parser_view_none Vt52Mode = refl
-
 -- a byte that ends the sequence
 finishes : (mode : Mode) (pending : List ℕ) (byte : ℕ) (state : ParserState)
     → whole_with mode pending byte ≡ true → meaning_with mode pending byte ≡ (joined state byte).command → (joined state byte).state ≡ Ground
@@ -57,14 +53,14 @@ finishes mode pending byte state whole means grounded =
     let is : is_whole mode (pending ++ byte ∷ []) ≡ true = is_whole_push mode pending byte ∙ whole in
     record {
       command = ap (λ b. cond b (meaning mode (pending ++ byte ∷ [])) None) is ∙ meaning_push mode pending byte ∙ means;
-      view = ap (λ b. parser_view mode (cond b [] (pending ++ byte ∷ []))) is ∙ parser_view_none mode ∙ ap Some (sym grounded);
+      view = ap (λ b. parser_view mode (cond b [] (pending ++ byte ∷ []))) is ∙ shows_none mode ∙ ap Some (sym grounded);
     }
 
 -- a byte after which it goes on
-goes_on : (mode : Mode) (pending : List ℕ) (byte : ℕ) (state : ParserState)
+moves_to : (mode : Mode) (pending : List ℕ) (byte : ℕ) (state : ParserState)
     → whole_with mode pending byte ≡ false → (joined state byte).command ≡ None → parser_view mode (pending ++ byte ∷ []) ≡ Some (joined state byte).state
     → JoinAgrees mode pending byte state
-goes_on mode pending byte state whole gives shows =
+moves_to mode pending byte state whole gives shows =
     let is : is_whole mode (pending ++ byte ∷ []) ≡ false = is_whole_push mode pending byte ∙ whole in
     record {
       command = ap (λ b. cond b (meaning mode (pending ++ byte ∷ [])) None) is ∙ sym gives;
@@ -77,13 +73,13 @@ pub join_vt52 : (byte : ℕ) → is_graphic byte ≡ true → JoinAgrees Vt52Mod
 unfolding parser_view joined
 join_vt52 byte graphic =
     elim (cases_Bool (begins_address byte)) [
-      | inl is ↦ goes_on Vt52Mode (escape ∷ []) byte Vt52Escape (simp (graphic, is)) (simp is) (simp is)
+      | inl is ↦ moves_to Vt52Mode (escape ∷ []) byte Vt52Escape (simp (graphic, is)) (simp is) (simp is)
       | inr is ↦ finishes Vt52Mode (escape ∷ []) byte Vt52Escape (simp (graphic, is)) (simp is) (simp is)
     ]
 
 pub join_address : (byte : ℕ) → is_graphic byte ≡ true → JoinAgrees Vt52Mode (escape ∷ 89 ∷ []) byte Vt52Line
 unfolding parser_view joined
-join_address byte graphic = goes_on Vt52Mode (escape ∷ 89 ∷ []) byte Vt52Line refl refl (simp graphic)
+join_address byte graphic = moves_to Vt52Mode (escape ∷ 89 ∷ []) byte Vt52Line refl refl (simp graphic)
 
 pub join_line : (line byte : ℕ) → is_graphic line ≡ true → is_graphic byte ≡ true → JoinAgrees Vt52Mode (escape ∷ 89 ∷ line ∷ []) byte (Vt52Column line)
 unfolding parser_view joined
@@ -99,14 +95,14 @@ join_escape [] byte all graphic =
           let no_control : begins_control byte ≡ false = intermediate_no_control byte is in
           let no_string : begins_string byte ≡ false = intermediate_no_string byte is in
           let no_final : is_escape_final byte ≡ false = intermediate_no_final byte is in
-          goes_on Ansi (escape ∷ []) byte Escape (simp no_final) (simp is) (simp (no_control, no_string, is))
+          moves_to Ansi (escape ∷ []) byte Escape (simp no_final) (simp is) (simp (no_control, no_string, is))
       | inr is ↦
           let final_byte : is_escape_final byte ≡ true = graphic_final byte graphic is in
           elim (cases_Bool (begins_control byte)) [
-            | inl opens ↦ goes_on Ansi (escape ∷ []) byte Escape (simp (final_byte, opens)) (simp (is, opens)) (simp (is, opens))
+            | inl opens ↦ moves_to Ansi (escape ∷ []) byte Escape (simp (final_byte, opens)) (simp (is, opens)) (simp (is, opens))
             | inr closed ↦
                 elim (cases_Bool (begins_string byte)) [
-                  | inl opens ↦ goes_on Ansi (escape ∷ []) byte Escape (simp (final_byte, closed, opens)) (simp (is, closed, opens)) (simp (is, closed, opens))
+                  | inl opens ↦ moves_to Ansi (escape ∷ []) byte Escape (simp (final_byte, closed, opens)) (simp (is, closed, opens)) (simp (is, closed, opens))
                   | inr plain ↦ finishes Ansi (escape ∷ []) byte Escape (simp (final_byte, closed, plain)) (simp (is, closed, plain)) (simp (is, closed, plain))
                 ]
           ]
@@ -117,7 +113,7 @@ join_escape (inter ∷ []) byte all graphic =
     elim (cases_Bool (is_intermediate byte)) [
       | inl is ↦
           let no_final : is_escape_final byte ≡ false = intermediate_no_final byte is in
-          goes_on Ansi (escape ∷ inter ∷ []) byte (EscapeOne inter) (simp (no_control, first, no_final)) (simp is) (simp (no_control, first, is))
+          moves_to Ansi (escape ∷ inter ∷ []) byte (EscapeOne inter) (simp (no_control, first, no_final)) (simp is) (simp (no_control, first, is))
       | inr is ↦
           let final_byte : is_escape_final byte ≡ true = graphic_final byte graphic is in
           finishes Ansi (escape ∷ inter ∷ []) byte (EscapeOne inter) (simp (no_control, first, final_byte)) (simp (no_control, is)) (simp is)
@@ -132,7 +128,7 @@ join_escape (inter ∷ third ∷ rest) byte all graphic =
     elim (cases_Bool (is_intermediate byte)) [
       | inl is ↦
           let no_final : is_escape_final byte ≡ false = intermediate_no_final byte is in
-          goes_on Ansi (escape ∷ inter ∷ third ∷ rest) byte EscapeMany (simp (no_control, first, second, more, no_final)) (simp is) (simp (no_control, first, second, pushed, more, is))
+          moves_to Ansi (escape ∷ inter ∷ third ∷ rest) byte EscapeMany (simp (no_control, first, second, more, no_final)) (simp is) (simp (no_control, first, second, pushed, more, is))
       | inr is ↦
           let final_byte : is_escape_final byte ≡ true = graphic_final byte graphic is in
           finishes Ansi (escape ∷ inter ∷ third ∷ rest) byte EscapeMany (simp (no_control, first, second, more, final_byte)) (simp (no_control, is)) (simp is)
@@ -148,5 +144,5 @@ join_control text byte all graphic =
       | inr more ↦
           let joins : is_control_text byte ≡ true = graphic_text byte graphic more in
           let pushed : list_all is_control_text (text ++ byte ∷ []) ≡ (list_all is_control_text text && is_control_text byte) = list_all_push is_control_text text byte in
-          goes_on Ansi (escape ∷ 91 ∷ text) byte (control_view text) (simp (all, more)) (no_command text byte more) (simp (pushed, all, joins) (ap Some (view_push text byte more)))
+          moves_to Ansi (escape ∷ 91 ∷ text) byte (control_view text) (simp (all, more)) (no_command text byte more) (simp (pushed, all, joins) (ap Some (view_push text byte more)))
     ]

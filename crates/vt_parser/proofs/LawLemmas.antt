@@ -8,17 +8,17 @@ use Rattle.vt_parser.specs.declared.commands.Mode.{Mode}
 use Rattle.vt_parser.specs.declared.commands.Mode.TheVariants.{Ansi, Vt52 as Vt52Mode}
 use Rattle.vt_parser.specs.declared.commands.Command.{Command}
 use Rattle.vt_parser.specs.declared.commands.Command.TheVariants.{Show, Error, Control}
-use Rattle.vt_parser.specs.declared.controls.Turn.{Turn}
-use Rattle.vt_parser.specs.declared.controls.Turn.TheVariants.{Nothing, Acts, Shows, Marks, Begins, Joins, Ends, Cancels}
+use Rattle.vt_parser.specs.declared.controls.Action.{Action}
+use Rattle.vt_parser.specs.declared.controls.Action.TheVariants.{Ignore, Execute, Print, Mark, Begin, Join, End, Cancel}
 use Rattle.vt_parser.specs.declared.states.ParserState.{ParserState}
 use Rattle.vt_parser.specs.declared.states.ParserState.TheVariants.{Ground, Csi as CsiState, CsiIgnored, Text, Vt52Escape, Vt52Line, Vt52Column}
-use Rattle.vt_parser.specs.Control.{escape, is_within, is_graphic, turn_of}
+use Rattle.vt_parser.specs.Control.{escape, is_within, is_graphic, action_of}
 use Rattle.vt_parser.specs.Sequence.{is_intermediate, is_escape_final, is_control_text, is_lone_escape, is_escape_begun, is_control_begun, is_line_begun, ends_escape, ends_vt52, is_whole, is_well_formed, escape_meaning, control_meaning, meaning}
 use Rattle.vt_parser.specs.View.{escape_view, control_view, parser_view}
-use Rattle.vt_parser.specs.Step.{place_of, control_of, command_by, pending_by, command_of, pending_after, mode_after}
+use Rattle.vt_parser.specs.Step.{context_of, control_of, command_by, pending_by, command_of, pending_after, mode_after}
 use Rattle.vt_parser.specs.Machine.{stepped}
 use Rattle.vt_parser.specs.Law.{is_sequence, fewest_of, StateDecides, StaysShown, GroundIsEmpty, FinishedLeavesNothing, PendingPays}
-use Rattle.vt_parser.proofs.Shapes.{by_form}
+use Rattle.vt_parser.proofs.Shapes.{shows_none, by_form}
 use Rattle.vt_parser.proofs.Joins.{whole_with, meaning_with, is_whole_push, meaning_push}
 use Rattle.vt_parser.proofs.Agrees.{same_command, same_view}
 
@@ -36,11 +36,6 @@ pub stays_shown : StaysShown
 stays_shown given m p state byte shown = ((stepped state given byte).state, same_view given m p byte state shown)
 
 -- ---- nothing pending
-
-pub shows_none : (mode : Mode) → parser_view mode [] ≡ Some Ground
-unfolding parser_view
-shows_none Ansi = refl
-shows_none Vt52Mode = refl
 
 abbrev NoneAtGround : Mode → List ℕ → ParserState → Type 0
 NoneAtGround mode pending state = state ≡ Ground → pending ≡ []
@@ -89,25 +84,25 @@ ground_is_empty = (shows_none, λ m p shown. none_at_ground m p Ground shown ref
 no_sequence : (command other : Command) → is_sequence command ≡ false → command ≡ other → is_sequence other ≡ true → ⊥
 no_sequence command other alone same is = false≢true (sym alone ∙ ap is_sequence same ∙ is)
 
-finished_by : (turn : Turn) (mode : Mode) (pending : List ℕ) (byte : ℕ) (command : Command)
-    → command_by turn mode pending byte ≡ Some command → is_sequence command ≡ true → pending_by turn mode pending byte ≡ []
-finished_by Nothing mode pending byte command gives is = absurd (none-some command gives)
-finished_by Acts mode pending byte command gives is =
+finished_by : (action : Action) (mode : Mode) (pending : List ℕ) (byte : ℕ) (command : Command)
+    → command_by action mode pending byte ≡ Some command → is_sequence command ≡ true → pending_by action mode pending byte ≡ []
+finished_by Ignore mode pending byte command gives is = absurd (none-some command gives)
+finished_by Execute mode pending byte command gives is =
     absurd (no_sequence (Control byte) command refl (cond_some _ (Control byte) command gives).1 is)
-finished_by Shows mode pending byte command gives is = absurd (no_sequence (Show byte) command refl (cc) is)
-finished_by Marks mode pending byte command gives is = absurd (no_sequence Error command refl (cc) is)
-finished_by Begins mode pending byte command gives is = absurd (none-some command gives)
-finished_by Joins mode pending byte command gives is =
+finished_by Print mode pending byte command gives is = absurd (no_sequence (Show byte) command refl (cc) is)
+finished_by Mark mode pending byte command gives is = absurd (no_sequence Error command refl (cc) is)
+finished_by Begin mode pending byte command gives is = absurd (none-some command gives)
+finished_by Join mode pending byte command gives is =
     elim (cases_Bool (is_whole mode (pending ++ byte ∷ []))) [
       | inl whole ↦ simp whole
       | inr more ↦ absurd (none-some command (simp more at gives))
     ]
-finished_by Ends mode pending byte command gives is = refl
-finished_by Cancels mode pending byte command gives is = refl
+finished_by End mode pending byte command gives is = refl
+finished_by Cancel mode pending byte command gives is = refl
 
 pub finished_leaves_nothing : FinishedLeavesNothing
 unfolding command_of pending_after
-finished_leaves_nothing m p byte command gives is = finished_by (turn_of (place_of m p) byte) m p byte command gives is
+finished_leaves_nothing m p byte command gives is = finished_by (action_of (context_of m p) byte) m p byte command gives is
 
 -- ---- what commands take
 
@@ -165,13 +160,13 @@ fewest_with Vt52Mode pending byte whole =
 fewest_of_control : (byte : ℕ) → fewest_of (control_of byte) ≤ 1
 fewest_of_control byte = elim (is_within 8 15 byte) as (λ b. fewest_of (cond b (Some (Control byte)) None) ≤ 1) [ true ↦ omega arith | false ↦ omega arith ]
 
-pays_by : (turn : Turn) (mode : Mode) (pending : List ℕ) (byte : ℕ) → fewest_of (command_by turn mode pending byte) + length (pending_by turn mode pending byte) ≤ length pending + 1
-pays_by Nothing mode pending byte = omega arith
-pays_by Acts mode pending byte = let few = fewest_of_control byte in omega arith
-pays_by Shows mode pending byte = omega arith
-pays_by Marks mode pending byte = omega arith
-pays_by Begins mode pending byte = omega arith
-pays_by Joins mode pending byte =
+pays_by : (action : Action) (mode : Mode) (pending : List ℕ) (byte : ℕ) → fewest_of (command_by action mode pending byte) + length (pending_by action mode pending byte) ≤ length pending + 1
+pays_by Ignore mode pending byte = omega arith
+pays_by Execute mode pending byte = let few = fewest_of_control byte in omega arith
+pays_by Print mode pending byte = omega arith
+pays_by Mark mode pending byte = omega arith
+pays_by Begin mode pending byte = omega arith
+pays_by Join mode pending byte =
     elim (cases_Bool (is_whole mode (pending ++ byte ∷ []))) [
       | inl whole ↦
           let few = fewest_with mode pending byte (sym (is_whole_push mode pending byte) ∙ whole) in
@@ -179,9 +174,9 @@ pays_by Joins mode pending byte =
           simp whole (omega arith)
       | inr more ↦ let long = length_push pending byte in simp more (omega arith)
     ]
-pays_by Ends mode pending byte = omega arith
-pays_by Cancels mode pending byte = omega arith
+pays_by End mode pending byte = omega arith
+pays_by Cancel mode pending byte = omega arith
 
 pub pending_pays : PendingPays
 unfolding command_of pending_after
-pending_pays m p byte = pays_by (turn_of (place_of m p) byte) m p byte
+pending_pays m p byte = pays_by (action_of (context_of m p) byte) m p byte

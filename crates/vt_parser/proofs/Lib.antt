@@ -1,6 +1,7 @@
 pub mod Lists
 pub mod Numbers
 pub mod Bytes
+pub mod Table
 pub mod Shapes
 pub mod Control
 pub mod Joins

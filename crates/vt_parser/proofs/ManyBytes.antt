@@ -5,12 +5,12 @@ use Rattle.vt_parser.specs.declared.states.ParserState.{ParserState}
 use Rattle.vt_parser.specs.View.{parser_view}
 use Rattle.vt_parser.specs.Step.{pending_after, mode_after}
 use Rattle.vt_parser.specs.Fold.{mode_after_bytes, pending_after_bytes, Gives}
-use Rattle.vt_parser.specs.Machine.{Step, goes_on, stepped, Runs}
+use Rattle.vt_parser.specs.Machine.{Step, moves_to, stepped, Runs}
 use Rattle.vt_parser.proofs.Agrees.{same_command, same_view}
 
 -- bytes that give no command, and one byte more
 pub runs_push : (state : ParserState) (mode : Mode) (front : List ℕ) (after : ParserState) (byte : ℕ)
-    → Runs state mode front (goes_on after) → Runs state mode (front ++ byte ∷ []) (stepped after mode byte)
+    → Runs state mode front (moves_to after) → Runs state mode (front ++ byte ∷ []) (stepped after mode byte)
 runs_push state mode [] after byte runs = ap (λ (s : Step). stepped s.state mode byte) runs
 runs_push state mode (first ∷ []) after byte runs =
     (ap (λ (s : Step). s.command) runs, ap (λ (s : Step). stepped s.state mode byte) runs)

@@ -10,21 +10,20 @@ use Rattle.vt_parser.specs.declared.commands.Mode.{Mode}
 use Rattle.vt_parser.specs.declared.commands.Mode.TheVariants.{Ansi, Vt52 as Vt52Mode}
 use Rattle.vt_parser.specs.declared.commands.Command.{Command}
 use Rattle.vt_parser.specs.declared.commands.Command.TheVariants.{Csi}
-use Rattle.vt_parser.specs.declared.controls.ByteClass.{ByteClass}
-use Rattle.vt_parser.specs.declared.controls.ByteClass.TheVariants as class
-use Rattle.vt_parser.specs.declared.controls.Place.{Place}
-use Rattle.vt_parser.specs.declared.controls.Place.TheVariants as place
-use Rattle.vt_parser.specs.declared.controls.Turn.TheVariants.{Joins}
+use Rattle.vt_parser.specs.declared.controls.Context.{Context}
+use Rattle.vt_parser.specs.declared.controls.Action.{Action}
+use Rattle.vt_parser.specs.declared.controls.Action.TheVariants.{Ignore, Execute, Print, Mark, Begin, Join, End, Cancel}
 use Rattle.arrayvec.specs.ArrayVec.{ArrayVec}
 use Rattle.vt_parser.specs.declared.states.ParserState.TheVariants.{CsiStart, Csi as CsiState}
-use Rattle.vt_parser.specs.Control.{escape, is_within, is_graphic, class_of, turns_of, turn_at}
+use Rattle.vt_parser.specs.Control.{escape, is_within, is_graphic, action_of}
 use Rattle.vt_parser.specs.Sequence.{is_intermediate, is_escape_final, is_control_final, begins_control, begins_address, is_lone_escape, is_escape_begun, is_control_begun, is_line_begun, ends_escape, ends_vt52, is_whole, is_semicolon, is_private, after_mark, is_well_formed, parameter, numbers, params, held, escape_meaning, control_meaning, address_meaning}
-use Rattle.vt_parser.specs.Step.{place_of, control_of, command_by, command_of, pending_after}
+use Rattle.vt_parser.specs.Step.{context_of, control_of, command_by, command_of, pending_after}
 use Rattle.vt_parser.specs.Law.{IsFrom, IsProper, CommandsAreProper, GraphicIsShown, ControlIsGiven, RunsAreGraphic, FinalsFinish, BareFinalsFinish}
 use Rattle.vt_parser.proofs.Control.{final_no_mark}
 use Rattle.vt_parser.proofs.Joins.{whole_with, meaning_with, is_whole_push, meaning_push}
 use Rattle.vt_parser.specs.Machine.{Step, stepped, joined, gives}
-use Rattle.vt_parser.proofs.Agrees.{graphic_class, same_command, same_view}
+use Rattle.vt_parser.proofs.Table.{IsFit, fit, graphic_actions, control_actions}
+use Rattle.vt_parser.proofs.Agrees.{context_none, same_command, same_view}
 
 -- a test of a range, as a fact
 within : (low high byte : ℕ) → is_within low high byte ≡ true → IsFrom low high byte
@@ -127,7 +126,7 @@ meaning_proper Vt52Mode pending byte whole =
           simp other (within 32 126 byte parts.1, eqb-false byte 89 (not-true (begins_address byte) ended.1))
     ]
 
-join_proper : (mode : Mode) (pending : List ℕ) (byte : ℕ) → IfSome (command_by Joins mode pending byte) IsProper
+join_proper : (mode : Mode) (pending : List ℕ) (byte : ℕ) → IfSome (command_by Join mode pending byte) IsProper
 join_proper mode pending byte =
     elim (cases_Bool (is_whole mode (pending ++ byte ∷ []))) [
       | inl whole ↦
@@ -143,65 +142,30 @@ control_of_proper : (byte : ℕ) → IfSome (control_of byte) IsProper
 control_of_proper byte =
     elim (cases_Bool (is_within 8 15 byte)) [ inl is ↦ simp is (within 8 15 byte is) | inr other ↦ simp other tt ]
 
-proper_by : (mode : Mode) (pending : List ℕ) (byte : ℕ) (kind : ByteClass) (at : Place) → (kind ≡ class.Graphic → is_graphic byte ≡ true)
-    → IfSome (command_by (turn_at (turns_of kind) at) mode pending byte) IsProper
-proper_by mode pending byte class.Control place.Ground graphic = control_of_proper byte
-proper_by mode pending byte class.Control place.Sequence graphic = control_of_proper byte
-proper_by mode pending byte class.Control place.Text graphic = tt
-proper_by mode pending byte class.Bell place.Ground graphic = tt
-proper_by mode pending byte class.Bell place.Sequence graphic = tt
-proper_by mode pending byte class.Bell place.Text graphic = tt
-proper_by mode pending byte class.Cancel place.Ground graphic = tt
-proper_by mode pending byte class.Cancel place.Sequence graphic = tt
-proper_by mode pending byte class.Cancel place.Text graphic = tt
-proper_by mode pending byte class.Escape place.Ground graphic = tt
-proper_by mode pending byte class.Escape place.Sequence graphic = tt
-proper_by mode pending byte class.Escape place.Text graphic = tt
-proper_by mode pending byte class.Graphic place.Ground graphic = within 32 126 byte (graphic refl)
-proper_by mode pending byte class.Graphic place.Sequence graphic = join_proper mode pending byte
-proper_by mode pending byte class.Graphic place.Text graphic = tt
-proper_by mode pending byte class.Delete place.Ground graphic = tt
-proper_by mode pending byte class.Delete place.Sequence graphic = tt
-proper_by mode pending byte class.Delete place.Text graphic = tt
-proper_by mode pending byte class.High place.Ground graphic = tt
-proper_by mode pending byte class.High place.Sequence graphic = tt
-proper_by mode pending byte class.High place.Text graphic = tt
+proper_by : (mode : Mode) (pending : List ℕ) (byte : ℕ) (at : Context) (action : Action) → IsFit byte at action
+    → IfSome (command_by action mode pending byte) IsProper
+proper_by mode pending byte at Ignore fits = tt
+proper_by mode pending byte at Execute fits = control_of_proper byte
+proper_by mode pending byte at Print fits = within 32 126 byte fits.0
+proper_by mode pending byte at Mark fits = tt
+proper_by mode pending byte at Begin fits = tt
+proper_by mode pending byte at Join fits = join_proper mode pending byte
+proper_by mode pending byte at End fits = tt
+proper_by mode pending byte at Cancel fits = tt
 
 pub commands_are_proper : CommandsAreProper
 unfolding command_of
-commands_are_proper m p byte = proper_by m p byte (class_of byte) (place_of m p) (graphic_class byte)
+commands_are_proper m p byte = let at = context_of m p in proper_by m p byte at (action_of at byte) (fit at byte)
 
 -- ---- shown on ground
 
-place_none : (mode : Mode) → place_of mode [] ≡ place.Ground
-unfolding place_of
-place_none Ansi = refl
-place_none Vt52Mode = refl
-
-pub class_graphic : (byte : ℕ) → is_graphic byte ≡ true → class_of byte ≡ class.Graphic
-class_graphic byte is =
-    let a : (byte == escape) ≡ false = grind (arith, nat_tests) in
-    let b : (byte == 7) ≡ false = grind (arith, nat_tests) in
-    let c : ((byte == 24) || (byte == 26)) ≡ false = grind (arith, nat_tests) in
-    let d : ltb byte 32 ≡ false = grind (arith, nat_tests) in
-    let e : ltb byte 127 ≡ true = grind (arith, nat_tests) in
-    simp (a, b, c, d, e)
-
 pub graphic_is_shown : GraphicIsShown
 unfolding command_of pending_after
-graphic_is_shown m byte is = let kind = class_graphic byte is in let at = place_none m in (simp (kind, at), simp (kind, at))
-
-class_control : (byte : ℕ) → is_within 8 15 byte ≡ true → class_of byte ≡ class.Control
-class_control byte is =
-    let a : (byte == escape) ≡ false = grind (arith, nat_tests) in
-    let b : (byte == 7) ≡ false = grind (arith, nat_tests) in
-    let c : ((byte == 24) || (byte == 26)) ≡ false = grind (arith, nat_tests) in
-    let d : ltb byte 32 ≡ true = grind (arith, nat_tests) in
-    simp (a, b, c, d)
+graphic_is_shown m byte is = let kind = graphic_actions byte is in let at = context_none m in (simp (kind, at), simp (kind, at))
 
 pub control_is_given : ControlIsGiven
 unfolding command_of pending_after
-control_is_given m byte is = let kind = class_control byte is in let at = place_none m in (simp (kind, at, is), simp (kind, at))
+control_is_given m byte is = let kind = control_actions byte is in let at = context_none m in (simp (kind, at, is), simp (kind, at))
 
 pub run_front : (first : Bool) (n len : ℕ) → suc n ≤ cond first (1 + len) 0 → (first ≡ true) × (n ≤ len)
 run_front true n len le = (refl, omega arith)
@@ -223,7 +187,7 @@ final_graphic byte is = grind (arith, nat_tests)
 final_step : (given : Mode) (private : Bool) (params : ArrayVec ℕ) (over : Bool) (byte : ℕ) → is_control_final byte ≡ true → stepped (CsiState private params over) given byte ≡ gives (Some (Csi private params byte))
 unfolding stepped joined
 final_step given private params over byte final =
-    let kind = class_graphic byte (final_graphic byte final) in simp (kind, final)
+    let kind = graphic_actions byte (final_graphic byte final) in simp (kind, final)
 
 pub finals_finish : FinalsFinish
 finals_finish given m p private params over byte view final =
@@ -235,7 +199,7 @@ finals_finish given m p private params over byte view final =
 bare_final_step : (given : Mode) (byte : ℕ) → is_control_final byte ≡ true → stepped CsiStart given byte ≡ gives (Some (Csi false (held (0 ∷ [])) byte))
 unfolding stepped joined
 bare_final_step given byte final =
-    let kind = class_graphic byte (final_graphic byte final) in
+    let kind = graphic_actions byte (final_graphic byte final) in
     let unmarked = final_no_mark byte final in
     simp (kind, unmarked, final)
 

@@ -10,6 +10,12 @@ use Rattle.vt_parser.specs.Control.{escape, is_graphic}
 use Rattle.vt_parser.specs.Sequence.{is_intermediate, is_control_text, begins_control, begins_string, begins_address, is_lone_escape, is_escape_begun, is_control_begun, is_string_begun, is_address_begun, is_line_begun}
 use Rattle.vt_parser.specs.View.{escape_view, control_view, parser_view}
 
+-- nothing pending is Ground
+pub shows_none : (mode : Mode) → parser_view mode [] ≡ Some Ground
+unfolding parser_view
+shows_none Ansi = refl
+shows_none Vt52 = refl
+
 -- which of three tests chose a view
 chosen : (P : Type 0) (a b c : Bool) (x y z state : ParserState) → (a ≡ true → x ≡ state → P) → (b ≡ true → y ≡ state → P) → (c ≡ true → z ≡ state → P)
     → cond a (Some x) (cond b (Some y) (cond c (Some z) None)) ≡ Some state → P

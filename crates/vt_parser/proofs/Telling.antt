@@ -20,7 +20,8 @@ use Rattle.vt_parser.specs.Law.{IsProper}
 use Rattle.vt_parser.specs.Token.{token_command, command_of_token, IsRun, TellsOf, Leads}
 use Rattle.vt_parser.specs.Machine.{Step, Runs}
 use Rattle.vt_parser.specs.Reading.{HasParams, event_command, IsTokenOf}
-use Rattle.vt_parser.proofs.LawLemmas.{shows_none, ground_is_empty}
+use Rattle.vt_parser.proofs.Shapes.{shows_none}
+use Rattle.vt_parser.proofs.LawLemmas.{ground_is_empty}
 use Rattle.vt_parser.proofs.ProperLemmas.{commands_are_proper, graphic_is_shown, finals_finish}
 use Rattle.vt_parser.proofs.ManyBytes.{runs_agree}
 

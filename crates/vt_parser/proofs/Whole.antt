@@ -8,30 +8,31 @@ use Rattle.vt_parser.specs.declared.commands.Mode.{Mode}
 use Rattle.vt_parser.specs.declared.commands.Mode.TheVariants.{Ansi}
 use Rattle.vt_parser.specs.declared.commands.Command.{Command}
 use Rattle.vt_parser.specs.declared.commands.Command.TheVariants.{Esc}
-use Rattle.vt_parser.specs.declared.controls.Place.TheVariants as place
+use Rattle.vt_parser.specs.declared.controls.Context.TheVariants as context
 use Rattle.vt_parser.specs.declared.states.ParserState.{ParserState}
 use Rattle.vt_parser.specs.declared.states.ParserState.TheVariants.{Ground, Escape, EscapeOne, EscapeMany, CsiStart, Csi, CsiIgnored, Text, Vt52Escape, Vt52Line, Vt52Column}
 use Rattle.vt_parser.specs.Control.{escape, is_graphic}
 use Rattle.vt_parser.specs.Sequence.{is_intermediate, is_escape_final, is_control_text, is_control_final, begins_control, begins_string, is_well_formed, control_meaning}
 use Rattle.vt_parser.specs.View.{control_view}
 use Rattle.vt_parser.specs.Fold.{Finishes}
-use Rattle.vt_parser.specs.Machine.{Step, place_in, goes_on, gives, joined, begun, stepped, Runs}
+use Rattle.vt_parser.specs.Machine.{Step, context_in, moves_to, gives, joined, begun, stepped, Runs}
 use Rattle.vt_parser.proofs.Control.{view_push, no_command, final_command, final_state}
 use Rattle.vt_parser.proofs.ManyBytes.{runs_agree}
-use Rattle.vt_parser.proofs.LawLemmas.{shows_none, ground_is_empty}
-use Rattle.vt_parser.proofs.ProperLemmas.{class_graphic}
+use Rattle.vt_parser.proofs.Shapes.{shows_none}
+use Rattle.vt_parser.proofs.LawLemmas.{ground_is_empty}
+use Rattle.vt_parser.proofs.Table.{graphic_actions}
 
 -- ---- steps of the machine
 
-pub joins : (state : ParserState) (mode : Mode) (byte : ℕ) → place_in state ≡ place.Sequence → is_graphic byte ≡ true → stepped state mode byte ≡ joined state byte
+pub joins : (state : ParserState) (mode : Mode) (byte : ℕ) → context_in state ≡ context.Sequence → is_graphic byte ≡ true → stepped state mode byte ≡ joined state byte
 unfolding stepped
-joins state mode byte inside graphic = let kind = class_graphic byte graphic in simp (inside, kind)
+joins state mode byte inside graphic = let kind = graphic_actions byte graphic in simp (inside, kind)
 
 -- a graphic character where it isn't shown; in a string it is skipped
 pub joins_off : (state : ParserState) (mode : Mode) (byte : ℕ) → (state ≡ Ground → ⊥) → is_graphic byte ≡ true → stepped state mode byte ≡ joined state byte
 unfolding stepped joined
 joins_off Ground mode byte off graphic = absurd (off refl)
-joins_off Text mode byte off graphic = let kind = class_graphic byte graphic in simp kind
+joins_off Text mode byte off graphic = let kind = graphic_actions byte graphic in simp kind
 joins_off state mode byte off graphic = joins state mode byte refl graphic
 
 pub step_of : (step : Step) (state : ParserState) (command : Option Command) → step.state ≡ state → step.command ≡ command → step ≡ record { state = state; command = command }
@@ -39,7 +40,7 @@ step_of step state command same_state same_command = ap₂ (λ (s : ParserState)
 
 -- a byte that gives no command before others
 runs_more : (state after : ParserState) (mode : Mode) (byte : ℕ) (rest : List ℕ) (step : Step) → 0 < length rest
-    → stepped state mode byte ≡ goes_on after → Runs after mode rest step → Runs state mode (byte ∷ rest) step
+    → stepped state mode byte ≡ moves_to after → Runs after mode rest step → Runs state mode (byte ∷ rest) step
 runs_more state after mode byte [] step some taken runs = let no : ⊥ = omega arith in absurd no
 runs_more state after mode byte (second ∷ rest) step some taken runs =
     let P : ParserState → Type 0 = λ there. Runs there mode (second ∷ rest) step in
@@ -83,14 +84,14 @@ pub designation_finishes : (inter last : ℕ) → is_intermediate inter ≡ true
 unfolding joined
 designation_finishes inter last first is =
     let other = escape_final_joins last is in
-    let first_step : joined Escape inter ≡ goes_on (EscapeOne inter) = simp first in
+    let first_step : joined Escape inter ≡ moves_to (EscapeOne inter) = simp first in
     let final_step : joined (EscapeOne inter) last ≡ gives (Some (Esc (Some inter) last)) = simp other in
     finishes Ansi (escape ∷ inter ∷ last ∷ []) (Some (Esc (Some inter) last))
     (runs_escape Ansi (inter ∷ last ∷ []) _ (omega arith)
     (runs_more Escape (EscapeOne inter) Ansi inter (last ∷ []) _ (omega arith) (joins Escape Ansi inter refl (intermediate_graphic inter first) ∙ first_step)
     (joins (EscapeOne inter) Ansi last refl (escape_final_graphic last is) ∙ final_step)))
 
-text_inside : (text : List ℕ) → place_in (control_view text) ≡ place.Sequence
+text_inside : (text : List ℕ) → context_in (control_view text) ≡ context.Sequence
 text_inside [] = refl
 text_inside (first ∷ rest) = elim (cases_Bool (is_well_formed (first ∷ rest))) [ inl good ↦ simp good | inr bad ↦ simp bad ]
 

@@ -1,12 +1,10 @@
--- The control syntax: what is done with a byte, by its class and by where it comes.
-use Rattle.std.specs.Prelude.{ℕ, Bool, not, ◌==◌, ◌||◌, ◌&&◌, nat_le, nat_lt, if◌then◌else◌}
-use Rattle.vt_parser.specs.declared.controls.ByteClass.{ByteClass}
-use Rattle.vt_parser.specs.declared.controls.ByteClass.TheVariants.{Control, Bell, Cancel, Escape, Graphic, Delete, High}
-use Rattle.vt_parser.specs.declared.controls.Place.{Place}
-use Rattle.vt_parser.specs.declared.controls.Place.TheVariants.{Ground, Sequence, Text}
-use Rattle.vt_parser.specs.declared.controls.Turn.{Turn}
-use Rattle.vt_parser.specs.declared.controls.Turn.TheVariants.{Nothing, Acts, Shows, Marks, Begins, Joins, Ends, Cancels}
-use Rattle.vt_parser.specs.declared.controls.Turns.{Turns}
+-- The control syntax: what is done with a byte, by the byte and by where it comes.
+use Rattle.std.specs.Prelude.{ℕ, Bool, not, ◌==◌, ◌&&◌, nat_le, if◌then◌else◌, List, [], ◌∷◌}
+use Rattle.vt_parser.specs.declared.controls.Context.{Context}
+use Rattle.vt_parser.specs.declared.controls.Context.TheVariants.{Ground, Sequence, Text}
+use Rattle.vt_parser.specs.declared.controls.Action.{Action}
+use Rattle.vt_parser.specs.declared.controls.Action.TheVariants.{Ignore, Execute, Print, Mark, Begin, Join, End, Cancel}
+use Rattle.vt_parser.specs.declared.controls.Actions.{Actions}
 
 -- the byte ESC (ECMA-48 section 5.2)
 abbrev pub escape : ℕ
@@ -20,42 +18,54 @@ is_within low high byte = nat_le low byte && nat_le byte high
 abbrev pub is_graphic : ℕ → Bool
 is_graphic byte = is_within 32 126 byte
 
--- the class of a byte: BEL is 7, CAN and SUB are 24 and 26, ESC is 27, DEL is 127 (ECMA-48 section 8.3)
-abbrev pub class_of : ℕ → ByteClass
-class_of byte =
-    if byte == escape then Escape
-    else (if byte == 7 then Bell
-    else (if (byte == 24) || (byte == 26) then Cancel
-    else (if nat_lt byte 32 then Control
-    else (if nat_lt byte 127 then Graphic
-    else (if byte == 127 then Delete
-    else High)))))
-
--- one row of the table: on ground, inside a sequence, inside a string
-abbrev pub row : Turn → Turn → Turn → Turns
-row on_ground in_sequence in_string = record { on_ground = on_ground; in_sequence = in_sequence; in_string = in_string }
-
--- The table of the control syntax (EK-VT100-UG chapter 3; BEL in a string, CAN and SUB, and the bytes from 128 on: profile).
---                   on ground  in a sequence  in a string
-abbrev pub turns_of : ByteClass → Turns
-turns_of Control = row Acts Acts Nothing
-turns_of Bell = row Nothing Nothing Ends
-turns_of Cancel = row Nothing Cancels Cancels
-turns_of Escape = row Begins Begins Begins
-turns_of Graphic = row Shows Joins Nothing
-turns_of Delete = row Nothing Nothing Nothing
-turns_of High = row Marks Nothing Nothing
-
--- the cell of a row for a place
-abbrev pub turn_at : Turns → Place → Turn
-turn_at turns Ground = turns.on_ground
-turn_at turns Sequence = turns.in_sequence
-turn_at turns Text = turns.in_string
-
--- what is done with a byte that comes at a place
-abbrev pub turn_of : Place → ℕ → Turn
-turn_of place byte = turn_at (turns_of (class_of byte)) place
-
 -- no graphic character
 abbrev pub is_other : ℕ → Bool
 is_other byte = not (is_graphic byte)
+
+-- what is done with a byte on ground, inside a sequence and inside a string
+abbrev pub actions_by : Action → Action → Action → Actions
+actions_by on_ground in_sequence in_string = record { on_ground = on_ground; in_sequence = in_sequence; in_string = in_string }
+
+-- a row of the table: the bytes from first to last, and what is done with each of them
+pub record Row : Type 0 where
+  pub first : ℕ
+  pub last : ℕ
+  pub actions : Actions
+
+abbrev pub row : ℕ → ℕ → Action → Action → Action → Row
+row first last on_ground in_sequence in_string = record { first = first; last = last; actions = actions_by on_ground in_sequence in_string }
+
+-- The table of the control syntax (EK-VT100-UG chapter 3; BEL in a string, CAN and SUB, and the bytes from 128 on: profile).
+abbrev pub table : List Row
+table =
+    -- bytes    on ground  in a sequence  in a string
+    row 0 6 Execute Execute Ignore ∷  -- NUL to ACK
+    row 7 7 Ignore Ignore End ∷  -- BEL
+    row 8 23 Execute Execute Ignore ∷  -- BS to ETB
+    row 24 24 Ignore Cancel Cancel ∷  -- CAN
+    row 25 25 Execute Execute Ignore ∷  -- EM
+    row 26 26 Ignore Cancel Cancel ∷  -- SUB
+    row 27 27 Begin Begin Begin ∷  -- ESC
+    row 28 31 Execute Execute Ignore ∷  -- FS to US
+    row 32 126 Print Join Ignore ∷  -- the graphic characters
+    row 127 127 Ignore Ignore Ignore ∷  -- DEL
+    row 128 255 Mark Ignore Ignore ∷  -- all others
+    []
+
+-- the row that has a byte
+abbrev pub actions_in : List Row → ℕ → Actions
+actions_in [] byte = actions_by Ignore Ignore Ignore
+actions_in (row ∷ rest) byte = if is_within row.first row.last byte then row.actions else actions_in rest byte
+
+abbrev pub actions_of : ℕ → Actions
+actions_of byte = actions_in table byte
+
+-- its cell for where the byte comes
+abbrev pub action_at : Actions → Context → Action
+action_at actions Ground = actions.on_ground
+action_at actions Sequence = actions.in_sequence
+action_at actions Text = actions.in_string
+
+-- what is done with a byte
+abbrev pub action_of : Context → ℕ → Action
+action_of context byte = action_at (actions_of byte) context

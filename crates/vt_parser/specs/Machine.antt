@@ -6,37 +6,37 @@ use Rattle.vt_parser.specs.declared.commands.Mode.{Mode}
 use Rattle.vt_parser.specs.declared.commands.Mode.TheVariants.{Ansi, Vt52 as Vt52Mode}
 use Rattle.vt_parser.specs.declared.commands.Command.{Command}
 use Rattle.vt_parser.specs.declared.commands.Command.TheVariants.{Show, Error, Control, Esc, Csi as CsiCommand, Vt52, Vt52Address}
-use Rattle.vt_parser.specs.declared.controls.Place.{Place}
-use Rattle.vt_parser.specs.declared.controls.Place.TheVariants as place
-use Rattle.vt_parser.specs.declared.controls.Turn.{Turn}
-use Rattle.vt_parser.specs.declared.controls.Turn.TheVariants.{Nothing, Acts, Shows, Marks, Begins, Joins, Ends, Cancels}
+use Rattle.vt_parser.specs.declared.controls.Context.{Context}
+use Rattle.vt_parser.specs.declared.controls.Context.TheVariants as context
+use Rattle.vt_parser.specs.declared.controls.Action.{Action}
+use Rattle.vt_parser.specs.declared.controls.Action.TheVariants.{Ignore, Execute, Print, Mark, Begin, Join, End, Cancel}
 use Rattle.vt_parser.specs.declared.states.ParserState.{ParserState}
 use Rattle.vt_parser.specs.declared.states.ParserState.TheVariants.{Ground, Escape, EscapeOne, EscapeMany, CsiStart, Csi, CsiIgnored, Text, Vt52Escape, Vt52Line, Vt52Column}
-use Rattle.vt_parser.specs.Control.{turn_of}
+use Rattle.vt_parser.specs.Control.{action_of}
 use Rattle.vt_parser.specs.Sequence.{is_intermediate, is_control_final, begins_control, begins_string, begins_address, is_digit, is_semicolon, most_params, held, front, final}
 use Rattle.vt_parser.specs.Step.{control_of}
 
 -- where a state is
-abbrev pub place_in : ParserState → Place
-place_in Ground = place.Ground
-place_in Text = place.Text
-place_in Escape = place.Sequence
-place_in (EscapeOne inter) = place.Sequence
-place_in EscapeMany = place.Sequence
-place_in CsiStart = place.Sequence
-place_in (Csi private params over) = place.Sequence
-place_in CsiIgnored = place.Sequence
-place_in Vt52Escape = place.Sequence
-place_in Vt52Line = place.Sequence
-place_in (Vt52Column line) = place.Sequence
+abbrev pub context_in : ParserState → Context
+context_in Ground = context.Ground
+context_in Text = context.Text
+context_in Escape = context.Sequence
+context_in (EscapeOne inter) = context.Sequence
+context_in EscapeMany = context.Sequence
+context_in CsiStart = context.Sequence
+context_in (Csi private params over) = context.Sequence
+context_in CsiIgnored = context.Sequence
+context_in Vt52Escape = context.Sequence
+context_in Vt52Line = context.Sequence
+context_in (Vt52Column line) = context.Sequence
 
 -- the state after a byte, and its command
 pub record Step : Type 0 where
   pub state : ParserState
   pub command : Option Command
 
-abbrev pub goes_on : ParserState → Step
-goes_on state = record { state = state; command = None }
+abbrev pub moves_to : ParserState → Step
+moves_to state = record { state = state; command = None }
 
 abbrev pub gives : Option Command → Step
 gives command = record { state = Ground; command = command }
@@ -51,9 +51,9 @@ with_last_digit params digit = front params ++ with_digit (final params) digit �
 
 abbrev pub escape_joined : ℕ → Step
 escape_joined byte =
-    if is_intermediate byte then goes_on (EscapeOne byte)
-    else (if begins_control byte then goes_on CsiStart
-    else (if begins_string byte then goes_on Text
+    if is_intermediate byte then moves_to (EscapeOne byte)
+    else (if begins_control byte then moves_to CsiStart
+    else (if begins_string byte then moves_to Text
     else gives (Some (Esc None byte))))
 
 abbrev pub digit_joined : Bool → ArrayVec ℕ → Bool → ℕ → ParserState
@@ -68,27 +68,27 @@ semicolon_joined private params over =
 abbrev pub control_joined : Bool → ArrayVec ℕ → Bool → ℕ → Step
 control_joined private params over byte =
     if is_control_final byte then gives (Some (CsiCommand private params byte))
-    else (if is_digit byte then goes_on (digit_joined private params over byte)
-    else (if is_semicolon byte then goes_on (semicolon_joined private params over)
-    else goes_on CsiIgnored))
+    else (if is_digit byte then moves_to (digit_joined private params over byte)
+    else (if is_semicolon byte then moves_to (semicolon_joined private params over)
+    else moves_to CsiIgnored))
 
 -- the first byte of a text: `?` marks it, and any other joins as if it followed a parameter 0
 abbrev pub start_joined : ℕ → Step
 start_joined byte =
-    if byte == 63 then goes_on (Csi true (held (0 ∷ [])) false) else control_joined false (held (0 ∷ [])) false byte
+    if byte == 63 then moves_to (Csi true (held (0 ∷ [])) false) else control_joined false (held (0 ∷ [])) false byte
 
 -- a byte that joins, 32 to 126
 unfoldable pub joined : ParserState → ℕ → Step
-joined Ground byte = goes_on Ground
-joined Text byte = goes_on Text
+joined Ground byte = moves_to Ground
+joined Text byte = moves_to Text
 joined Escape byte = escape_joined byte
-joined (EscapeOne inter) byte = if is_intermediate byte then goes_on EscapeMany else gives (Some (Esc (Some inter) byte))
-joined EscapeMany byte = if is_intermediate byte then goes_on EscapeMany else gives None
+joined (EscapeOne inter) byte = if is_intermediate byte then moves_to EscapeMany else gives (Some (Esc (Some inter) byte))
+joined EscapeMany byte = if is_intermediate byte then moves_to EscapeMany else gives None
 joined CsiStart byte = start_joined byte
 joined (Csi private params over) byte = control_joined private params over byte
-joined CsiIgnored byte = if is_control_final byte then gives None else goes_on CsiIgnored
-joined Vt52Escape byte = if begins_address byte then goes_on Vt52Line else gives (Some (Vt52 byte))
-joined Vt52Line byte = goes_on (Vt52Column byte)
+joined CsiIgnored byte = if is_control_final byte then gives None else moves_to CsiIgnored
+joined Vt52Escape byte = if begins_address byte then moves_to Vt52Line else gives (Some (Vt52 byte))
+joined Vt52Line byte = moves_to (Vt52Column byte)
 joined (Vt52Column line) byte = gives (Some (Vt52Address (line - 31) (byte - 31)))
 
 -- ESC in a mode
@@ -96,23 +96,23 @@ abbrev pub begun : Mode → ParserState
 begun Ansi = Escape
 begun Vt52Mode = Vt52Escape
 
-abbrev pub stepped_by : Turn → ParserState → Mode → ℕ → Step
-stepped_by Nothing state mode byte = goes_on state
-stepped_by Acts state mode byte = record { state = state; command = control_of byte }
-stepped_by Shows state mode byte = record { state = state; command = Some (Show byte) }
-stepped_by Marks state mode byte = record { state = state; command = Some Error }
-stepped_by Begins state mode byte = goes_on (begun mode)
-stepped_by Joins state mode byte = joined state byte
-stepped_by Ends state mode byte = goes_on Ground
-stepped_by Cancels state mode byte = gives (Some Error)
+abbrev pub stepped_by : Action → ParserState → Mode → ℕ → Step
+stepped_by Ignore state mode byte = moves_to state
+stepped_by Execute state mode byte = record { state = state; command = control_of byte }
+stepped_by Print state mode byte = record { state = state; command = Some (Show byte) }
+stepped_by Mark state mode byte = record { state = state; command = Some Error }
+stepped_by Begin state mode byte = moves_to (begun mode)
+stepped_by Join state mode byte = joined state byte
+stepped_by End state mode byte = moves_to Ground
+stepped_by Cancel state mode byte = gives (Some Error)
 
 -- one step of the machine
 unfoldable pub stepped : ParserState → Mode → ℕ → Step
-stepped state mode byte = stepped_by (turn_of (place_in state) byte) state mode byte
+stepped state mode byte = stepped_by (action_of (context_in state) byte) state mode byte
 
 -- the machine over bytes: with the last of them this step is made, and no command comes before it
 abbrev pub Runs : ParserState → Mode → List ℕ → Step → Type 0
-Runs state mode [] step = goes_on state ≡ step
+Runs state mode [] step = moves_to state ≡ step
 Runs state mode (byte ∷ []) step = stepped state mode byte ≡ step
 Runs state mode (byte ∷ next ∷ rest) step =
     ((stepped state mode byte).command ≡ None) × Runs (stepped state mode byte).state mode (next ∷ rest) step

@@ -13,7 +13,7 @@ use Rattle.vt_parser.specs.declared.tokens.Token.TheVariants as tokens
 use Rattle.vt_parser.specs.declared.states.ParserState.{ParserState}
 use Rattle.vt_parser.specs.declared.states.ParserState.TheVariants.{CsiStart, Csi as CsiState}
 use Rattle.vt_parser.specs.Sequence.{most_params, held}
-use Rattle.vt_parser.specs.Machine.{Step, goes_on, Runs}
+use Rattle.vt_parser.specs.Machine.{Step, moves_to, Runs}
 
 -- ---- states
 
@@ -73,7 +73,7 @@ IsLent (reached.Csi private count last) = count ≤ most_params
 
 -- from wherever bytes led to a state, more of them lead to another one
 abbrev pub GoesOn : List ℕ → ParserState → List ℕ → Step → Type 0
-GoesOn front state bytes step = (start : ParserState) (mode : Mode) → Runs start mode front (goes_on state) → Runs start mode bytes step
+GoesOn front state bytes step = (start : ParserState) (mode : Mode) → Runs start mode front (moves_to state) → Runs start mode bytes step
 
 -- ---- tokens
 

@@ -1,29 +1,24 @@
-//! The table of the control syntax: what is done with a byte, by its class and by where it comes.
+//! The table of the control syntax: what is done with a byte, by the byte and by where it comes.
 ghost use Rattle.std.specs.Prelude.{◌≡◌};
-ghost use Rattle.vt_parser.specs.Control.{class_of, turns_of, turn_at, turn_of, row};
+ghost use Rattle.vt_parser.specs.Control.{actions_by, actions_of, action_at, action_of};
 
-/// The classes of bytes that the control syntax tells apart.
-#[derive(Clone, Copy)]
-pub enum ByteClass {
-    /// 0 to 31 without those of the next three.
-    Control,
-    /// BEL (7).
-    Bell,
-    /// CAN (24) and SUB (26).
-    Cancel,
-    /// ESC (27).
-    Escape,
-    /// 32 to 126.
-    Graphic,
-    /// DEL (127).
-    Delete,
-    /// 128 to 255.
-    High,
-}
+pub(crate) const NUL: u8 = 0;
+
+const BEL: u8 = 7;
+
+const CAN: u8 = 24;
+
+const EM: u8 = 25;
+
+const SUB: u8 = 26;
+
+pub(crate) const ESC: u8 = 27;
+
+const DEL: u8 = 127;
 
 /// Where a byte comes.
 #[derive(Clone, Copy)]
-pub enum Place {
+pub enum Context {
     Ground,
     Sequence,
     /// Inside a string.
@@ -32,52 +27,39 @@ pub enum Place {
 
 /// What is done with a byte.
 #[derive(Clone, Copy)]
-pub enum Turn {
-    Nothing,
-    /// It acts as a control, and what is pending stays.
-    Acts,
+pub enum Action {
+    Ignore,
+    /// It is executed as a control, and what is pending stays.
+    Execute,
     /// It is shown.
-    Shows,
+    Print,
     /// The error character is shown.
-    Marks,
+    Mark,
     /// It begins a sequence; what was pending is dropped.
-    Begins,
+    Begin,
     /// It joins the pending sequence, and may end it.
-    Joins,
+    Join,
     /// It ends the string.
-    Ends,
+    End,
     /// It ends what is pending unexecuted, and the error character is shown.
-    Cancels,
+    Cancel,
 }
 
-/// A row of the table.
+use Action::{Begin, Cancel, End, Execute, Ignore, Join, Mark, Print};
+
+/// A row of the table, without its bytes.
 #[derive(Clone, Copy)]
-pub struct Turns {
-    pub on_ground: Turn,
-    pub in_sequence: Turn,
-    pub in_string: Turn,
+pub struct Actions {
+    pub on_ground: Action,
+    pub in_sequence: Action,
+    pub in_string: Action,
 }
 
 #[inline]
-fn class_of(byte: u8) -> ByteClass
-    ensures { result ≡ class_of byte }
+fn actions_by(on_ground: Action, in_sequence: Action, in_string: Action) -> Actions
+    ensures { result ≡ actions_by on_ground in_sequence in_string }
 {
-    match byte {
-        27 => ByteClass::Escape,
-        7 => ByteClass::Bell,
-        24 | 26 => ByteClass::Cancel,
-        0..=31 => ByteClass::Control,
-        32..=126 => ByteClass::Graphic,
-        127 => ByteClass::Delete,
-        128..=255 => ByteClass::High,
-    }
-}
-
-#[inline]
-fn row(on_ground: Turn, in_sequence: Turn, in_string: Turn) -> Turns
-    ensures { result ≡ row on_ground in_sequence in_string }
-{
-    Turns {
+    Actions {
         on_ground,
         in_sequence,
         in_string,
@@ -86,35 +68,39 @@ fn row(on_ground: Turn, in_sequence: Turn, in_string: Turn) -> Turns
 
 // On ground, inside a sequence, inside a string.
 #[inline]
-fn turns_of(class: ByteClass) -> Turns
-    ensures { result ≡ turns_of class }
+fn actions_of(byte: u8) -> Actions
+    ensures { result ≡ actions_of byte }
 {
-    match class {
-        ByteClass::Control => row(Turn::Acts, Turn::Acts, Turn::Nothing),
-        ByteClass::Bell => row(Turn::Nothing, Turn::Nothing, Turn::Ends),
-        ByteClass::Cancel => row(Turn::Nothing, Turn::Cancels, Turn::Cancels),
-        ByteClass::Escape => row(Turn::Begins, Turn::Begins, Turn::Begins),
-        ByteClass::Graphic => row(Turn::Shows, Turn::Joins, Turn::Nothing),
-        ByteClass::Delete => row(Turn::Nothing, Turn::Nothing, Turn::Nothing),
-        ByteClass::High => row(Turn::Marks, Turn::Nothing, Turn::Nothing),
+    match byte {
+        0..=6 => actions_by(Execute, Execute, Ignore),
+        BEL => actions_by(Ignore, Ignore, End),
+        8..=23 => actions_by(Execute, Execute, Ignore),
+        CAN => actions_by(Ignore, Cancel, Cancel),
+        EM => actions_by(Execute, Execute, Ignore),
+        SUB => actions_by(Ignore, Cancel, Cancel),
+        ESC => actions_by(Begin, Begin, Begin),
+        28..=31 => actions_by(Execute, Execute, Ignore),
+        b' '..=b'~' => actions_by(Print, Join, Ignore),
+        DEL => actions_by(Ignore, Ignore, Ignore),
+        128..=255 => actions_by(Mark, Ignore, Ignore),
     }
 }
 
 #[inline]
-fn turn_at(turns: Turns, place: Place) -> Turn
-    ensures { result ≡ turn_at turns place }
+fn action_at(actions: Actions, context: Context) -> Action
+    ensures { result ≡ action_at actions context }
 {
-    match place {
-        Place::Ground => turns.on_ground,
-        Place::Sequence => turns.in_sequence,
-        Place::Text => turns.in_string,
+    match context {
+        Context::Ground => actions.on_ground,
+        Context::Sequence => actions.in_sequence,
+        Context::Text => actions.in_string,
     }
 }
 
-/// What is done with a byte that comes at a place.
+/// What is done with a byte that comes in a context.
 #[inline]
-pub(crate) fn turn_of(place: Place, byte: u8) -> Turn
-    ensures { result ≡ turn_of place byte }
+pub(crate) fn action_of(context: Context, byte: u8) -> Action
+    ensures { result ≡ action_of context byte }
 {
-    turn_at(turns_of(class_of(byte)), place)
+    action_at(actions_of(byte), context)
 }

@@ -4,19 +4,15 @@ ghost use Rattle.std.specs.List.{list_all, prefix_len};
 ghost use Rattle.vt_parser.specs.Control.{is_graphic};
 ghost use Rattle.vt_parser.specs.Sequence.{is_intermediate, is_control_final, begins_string, held, is_plain};
 ghost use Rattle.vt_parser.specs.Step.{control_of};
-ghost use Rattle.vt_parser.specs.Machine.{place_in, with_digit, begun, goes_on, escape_joined, digit_joined, semicolon_joined, joined, stepped, Runs};
+ghost use Rattle.vt_parser.specs.Machine.{context_in, with_digit, begun, moves_to, escape_joined, digit_joined, semicolon_joined, joined, stepped, Runs};
 ghost use Rattle.vt_parser.specs.Reading.{HasParams, IsCollecting, IsCounted, IsStarted, collected, event_command, event_step, reached_command, reached_step, IsLent, GoesOn};
 
-use crate::controls::{Place, Turn, turn_of};
+use crate::controls::{Action, Context, ESC, NUL, action_of};
 use crate::states::copied;
 use crate::{Command, Mode, ParserState, printable_run};
 
 // What line and column of a direct cursor address have over their numbers.
 const ADDRESS_OFFSET: u8 = 31;
-
-const NUL: u8 = 0;
-
-const ESCAPE: u8 = 27;
 
 const GREATEST_PARAM: u32 = 9_999;
 
@@ -74,13 +70,13 @@ fn begins_string(byte: u8) -> bool
 }
 
 #[inline]
-fn place_in(state: &ParserState) -> Place
-    ensures { result ≡ place_in state.now }
+fn context_in(state: &ParserState) -> Context
+    ensures { result ≡ context_in state.now }
 {
     match state {
-        ParserState::Ground => Place::Ground,
-        ParserState::Text => Place::Text,
-        _ => Place::Sequence,
+        ParserState::Ground => Context::Ground,
+        ParserState::Text => Context::Text,
+        _ => Context::Sequence,
     }
 }
 
@@ -191,7 +187,7 @@ fn collect(text: Collected, params: &mut [u16; 16], bytes: &[u8], from: usize) -
     ensures from { from ≤ result.0 }
     ensures within { result.0 ≤ length bytes.now }
     ensures moved { GoesOn (take from bytes.now) (collected text params.old)
-        (take result.0 bytes.now) (goes_on (collected result.1 params.new)) }
+        (take result.0 bytes.now) (moves_to (collected result.1 params.new)) }
     ensures end { result.0 < length bytes.now → is_plain (slice_index bytes.now result.0) ≡ false }
 {
     let mut text = text;
@@ -378,14 +374,14 @@ fn act(state: &mut ParserState, mode: Mode, byte: u8) -> Option<Event>
     requires { is_graphic byte ≡ false }
     ensures { event_step result state.new ≡ stepped state.old mode byte }
 {
-    match turn_of(place_in(state), byte) {
-        Turn::Nothing => None,
-        Turn::Acts => control_of(byte),
-        Turn::Marks => Some(Event::Error),
-        Turn::Begins => go_to(state, begun(mode)),
-        Turn::Ends => end(state, None),
-        Turn::Cancels => end(state, Some(Event::Error)),
-        Turn::Shows | Turn::Joins => unreachable!(),
+    match action_of(context_in(state), byte) {
+        Action::Ignore => None,
+        Action::Execute => control_of(byte),
+        Action::Mark => Some(Event::Error),
+        Action::Begin => go_to(state, begun(mode)),
+        Action::End => end(state, None),
+        Action::Cancel => end(state, Some(Event::Error)),
+        Action::Print | Action::Join => unreachable!(),
     }
 }
 
@@ -422,7 +418,7 @@ pub(crate) fn read(
     match bytes[0] {
         32..=126 => read_graphic(state, params, bytes),
         NUL => (nul_run(bytes), Reached::Event(None)),
-        ESCAPE if opens_control(mode, bytes) => {
+        ESC if opens_control(mode, bytes) => {
             *state = ParserState::CsiStart;
             (2, Reached::Event(None))
         }

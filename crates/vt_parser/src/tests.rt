@@ -179,6 +179,117 @@ fn takes_controls_and_other_bytes_as_the_table_says(rt: HostRuntime) -> Result<(
 }
 
 #[test]
+fn ignores_texts_that_are_not_well_formed(rt: HostRuntime) -> Result<(), Fail> {
+    let rows: [(&[u8], &str); 16] = [
+        (b"\x1b[4:3m", "Ground"),
+        (b"\x1b[4:3", "CsiIgnored"),
+        (b"\x1b[:", "CsiIgnored"),
+        (b"\x1b[>c", "Ground"),
+        (b"\x1b[>", "CsiIgnored"),
+        (b"\x1b[=c", "Ground"),
+        (b"\x1b[=", "CsiIgnored"),
+        (b"\x1b[<0c", "Ground"),
+        (b"\x1b[1/c", "Ground"),
+        (b"\x1b[1?h", "Ground"),
+        (b"\x1b[1?", "CsiIgnored"),
+        (b"\x1b[?1?2h", "Ground"),
+        (b"\x1b[??h", "Ground"),
+        (b"\x1b[;?h", "Ground"),
+        (b"\x1b[3 1mx", "Show(120), Ground"),
+        (b"\x1b/x", "Esc { inter: Some(47), last: 120 }, Ground"),
+    ];
+    all_told(&rt, Mode::Ansi, &rows)
+}
+
+// What a byte that is no graphic character gives where it comes, and the state after it.
+fn in_sequence(alloc: Global, byte: u8, escaped: &str, state: &str) -> Result<String, Fail> {
+    let mut text = String::new(alloc);
+    match byte {
+        8..=15 => write!(text, "Control({byte}), {state}")?,
+        24 | 26 => text.push_str("Error, Ground")?,
+        27 => text.push_str(escaped)?,
+        _ => text.push_str(state)?,
+    }
+    Ok(text)
+}
+
+fn in_string(byte: u8) -> &'static str {
+    match byte {
+        7 => "Ground",
+        24 | 26 => "Error, Ground",
+        27 => "Escape",
+        _ => "Text",
+    }
+}
+
+fn on_ground(alloc: Global, byte: u8, escaped: &str) -> Result<String, Fail> {
+    let mut text = String::new(alloc);
+    match byte {
+        8..=15 => write!(text, "Control({byte}), Ground")?,
+        27 => text.push_str(escaped)?,
+        128..=255 => text.push_str("Error, Ground")?,
+        _ => text.push_str("Ground")?,
+    }
+    Ok(text)
+}
+
+// What the bytes and one more give in a mode, and then the state.
+fn told_with(alloc: Global, mode: Mode, start: &[u8], byte: u8) -> Result<String, Fail> {
+    let mut bytes = Vec::from_slice(alloc, start)?;
+    bytes.push(byte)?;
+    told(alloc, mode, &bytes)
+}
+
+#[test]
+fn takes_every_other_byte_in_every_context_as_the_table_says(rt: HostRuntime) -> Result<(), Fail> {
+    let sequences: [(Mode, &[u8], &str); 10] = [
+        (Mode::Ansi, b"\x1b", "Escape"),
+        (Mode::Ansi, b"\x1b(", "EscapeOne(40)"),
+        (Mode::Ansi, b"\x1b()", "EscapeMany"),
+        (Mode::Ansi, b"\x1b[", "CsiStart"),
+        (
+            Mode::Ansi,
+            b"\x1b[2;7",
+            "Csi { private: false, params: [2, 7], over: false }",
+        ),
+        (
+            Mode::Ansi,
+            b"\x1b[?3",
+            "Csi { private: true, params: [3], over: false }",
+        ),
+        (Mode::Ansi, b"\x1b[1 ", "CsiIgnored"),
+        (Mode::Vt52, b"\x1b", "Vt52Escape"),
+        (Mode::Vt52, b"\x1bY", "Vt52Line"),
+        (Mode::Vt52, b"\x1bY%", "Vt52Column(37)"),
+    ];
+    let alloc = rt.alloc();
+    for byte in 0..=255u8 {
+        if matches!(byte, 32..=126) {
+            continue;
+        }
+        for (mode, start, state) in &sequences {
+            let escaped = match mode {
+                Mode::Ansi => "Escape",
+                Mode::Vt52 => "Vt52Escape",
+            };
+            let text = told_with(alloc, *mode, start, byte)?;
+            let want = in_sequence(alloc, byte, escaped, state)?;
+            assert_eq!(rt; text.as_str(), want.as_str(), "{byte} after {start:?}");
+        }
+        for (mode, escaped) in [(Mode::Ansi, "Escape"), (Mode::Vt52, "Vt52Escape")] {
+            let text = told_with(alloc, mode, b"", byte)?;
+            let want = on_ground(alloc, byte, escaped)?;
+            assert_eq!(rt; text.as_str(), want.as_str(), "{byte} on ground");
+        }
+        for start in [b"\x1bP", b"\x1bX", b"\x1b]", b"\x1b^", b"\x1b_"] {
+            let text = told_with(alloc, Mode::Ansi, start, byte)?;
+            assert_eq!(rt; text.as_str(), in_string(byte), "{byte} after {start:?}");
+        }
+    }
+    Ok(())
+}
+
+#[test]
 fn counts_sixteen_parameters_of_at_most_9999(rt: HostRuntime) -> Result<(), Fail> {
     let rows: [(&[u8], &str); 8] = [
         (

@@ -4,7 +4,7 @@ ghost use Rattle.vt_parser.specs.Law.{IsProper};
 ghost use Rattle.vt_term.specs.Effect.{effect, reply, control_sequence_effect, control_sequence_reply};
 ghost use Rattle.vt_term.specs.Escapes.{escape_named, escape_effect};
 ghost use Rattle.vt_term.specs.Replies.{escape_reply, vt52_reply, reply_of};
-ghost use Rattle.vt_term.specs.Shown.{shown_of, effect_of, IsSafe};
+ghost use Rattle.vt_term.specs.Console.{console_of, effect_of, IsSafe};
 ghost use Rattle.vt_term.specs.Sink.{after_sending, HasRoom};
 ghost use Rattle.vt_term.specs.Vt52.{vt52_named, vt52_effect};
 
@@ -22,12 +22,12 @@ impl Console {
         sink: &mut Reports,
     ) -> Result<(), OutOfMemory>
         requires proper { IsProper command.now }
-        requires safe { IsSafe (shown_of self.old) }
-        ensures shown { OnOk result (shown_of self.new ≡ effect command.now (shown_of self.old)) }
-        ensures sent { OnOk result (sink.new ≡ after_sending sink.old (reply command.now (shown_of self.old))) }
-        ensures err { OnErr result (shown_of self.new ≡ shown_of self.old) }
+        requires safe { IsSafe (console_of self.old) }
+        ensures done { OnOk result (console_of self.new ≡ effect command.now (console_of self.old)) }
+        ensures sent { OnOk result (sink.new ≡ after_sending sink.old (reply command.now (console_of self.old))) }
+        ensures err { OnErr result (console_of self.new ≡ console_of self.old) }
         ensures err_sink { OnErr result (sink.new ≡ sink.old) }
-        ensures room { HasRoom sink.old (reply command.now (shown_of self.old)) → IsOk result }
+        ensures room { HasRoom sink.old (reply command.now (console_of self.old)) → IsOk result }
     {
         match command {
             Command::Show(byte) => self.show(*byte),
@@ -56,14 +56,14 @@ impl Console {
         last: u8,
         sink: &mut Reports,
     ) -> Result<(), OutOfMemory>
-        requires { IsSafe (shown_of self.old) }
-        ensures shown { OnOk result
-            (shown_of self.new ≡ control_sequence_effect private last params.now (shown_of self.old)) }
+        requires { IsSafe (console_of self.old) }
+        ensures done { OnOk result
+            (console_of self.new ≡ control_sequence_effect private last params.now (console_of self.old)) }
         ensures sent { OnOk result
-            (sink.new ≡ after_sending sink.old (control_sequence_reply private last params.now (shown_of self.old))) }
-        ensures err { OnErr result (shown_of self.new ≡ shown_of self.old) }
+            (sink.new ≡ after_sending sink.old (control_sequence_reply private last params.now (console_of self.old))) }
+        ensures err { OnErr result (console_of self.new ≡ console_of self.old) }
         ensures err_sink { OnErr result (sink.new ≡ sink.old) }
-        ensures room { HasRoom sink.old (control_sequence_reply private last params.now (shown_of self.old))
+        ensures room { HasRoom sink.old (control_sequence_reply private last params.now (console_of self.old))
             → IsOk result }
     {
         if private {

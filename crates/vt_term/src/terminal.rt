@@ -23,11 +23,11 @@ impl Model for Terminal {
 
     ghost Value = { Seen };
 
-    ghost use Rattle.vt_term.specs.Seen.{seen_of, IsProper};
+    ghost use Rattle.vt_term.specs.Seen.{seen_of, IsTerminal};
 
     ghost view = { λ t. seen_of t.console t.parser };
 
-    ghost invariant = { λ t. IsProper (seen_of t.console t.parser) };
+    ghost invariant = { λ t. IsTerminal (seen_of t.console t.parser) };
 }
 
 impl Terminal {
@@ -35,7 +35,7 @@ impl Terminal {
     ghost use Rattle.std.specs.List.{list_all};
     ghost use Rattle.vt_parser.specs.Control.{is_graphic};
     ghost use Rattle.vt_term.specs.Term.{Term, reset_term, play, sent};
-    ghost use Rattle.vt_term.specs.Seen.{Shows, IsProper};
+    ghost use Rattle.vt_term.specs.Seen.{Shows, IsTerminal};
     ghost use Rattle.vt_term.specs.Sink.{after_sending, HasRoom, KeepsFront};
 
     /// The initial state: 80 columns, all blank, ANSI mode, DECAWM set and every other mode reset.
@@ -240,10 +240,10 @@ impl Terminal {
 
     /// The cells, sizes, cursor, pending wrap, margins and tabs.
     pub fn screen(&self) -> &Screen
-        ensures value { result.now.picture ≡ self.now.shown.picture }
+        ensures value { result.now.picture ≡ self.now.console.picture }
         // The cursor is within its line's right margin, cells right of it are blank, glyphs are at most 126, and while DECOM
         // is set the cursor is inside the margins.
-        ensures proper { IsProper self.now }
+        ensures proper { IsTerminal self.now }
     {
         &self.console.screen
     }
@@ -257,35 +257,35 @@ impl Terminal {
 
     /// The modes, and the keypad.
     pub fn modes(&self) -> Modes
-        ensures { result ≡ self.now.shown.modes }
+        ensures { result ≡ self.now.console.modes }
     {
         self.console.modes
     }
 
     /// The rendition of the characters that come.
     pub fn rendition(&self) -> Rendition
-        ensures { result ≡ self.now.shown.rendition }
+        ensures { result ≡ self.now.console.rendition }
     {
         self.console.rendition
     }
 
     /// The designated sets, which of them is invoked, and VT52 graphics.
     pub fn sets(&self) -> Sets
-        ensures { result ≡ self.now.shown.sets }
+        ensures { result ≡ self.now.console.sets }
     {
         self.console.sets
     }
 
     /// What DECSC saved, if it was ever sent.
     pub fn saved(&self) -> Option<Saved>
-        ensures { result ≡ self.now.shown.saved }
+        ensures { result ≡ self.now.console.saved }
     {
         self.console.saved
     }
 
     /// L1 to L4.
     pub fn leds(&self) -> [bool; 4]
-        ensures { result ≡ self.now.shown.leds }
+        ensures { result ≡ self.now.console.leds }
     {
         self.console.leds
     }

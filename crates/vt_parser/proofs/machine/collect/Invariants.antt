@@ -1,5 +1,5 @@
 use Rattle.std.proofs.Common.{◌-◌, ◌≤◌, length, take}
-use Rattle.vt_parser.specs.Machine.{goes_on}
+use Rattle.vt_parser.specs.Machine.{moves_to}
 use Rattle.vt_parser.specs.Reading.{IsCounted, collected, GoesOn}
 use Rattle.vt_parser.proofs.machine.collect.Given as goal
 
@@ -9,7 +9,7 @@ invariant-loop-at l = record {
   counted : IsCounted l.text;
   from : l.from ≤ l.at;
   within : l.at ≤ length l.bytes;
-  moved : GoesOn (take l.from l.bytes) (collected l.fn.text l.fn.params) (take l.at l.bytes) (goes_on (collected l.text l.params));
+  moved : GoesOn (take l.from l.bytes) (collected l.fn.text l.fn.params) (take l.at l.bytes) (moves_to (collected l.text l.params));
 }
 
 abbrev pub decreases-loop-at : goal.decreases-loop-at

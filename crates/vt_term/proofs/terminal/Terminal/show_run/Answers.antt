@@ -1,6 +1,6 @@
 use Rattle.std.proofs.Common.{sym, subst, ap, ◌∙◌}
 use Rattle.vt_term.specs.Term.{play}
-use Rattle.vt_term.specs.Seen.{Seen, Shows, IsProper, seen_of}
+use Rattle.vt_term.specs.Seen.{Seen, Shows, IsTerminal, seen_of}
 use Rattle.vt_term.proofs.Runs.{shows_run, proper_after_run, graphic_bytes}
 use Rattle.vt_term.proofs.Taken.{seen_is}
 use Rattle.vt_term.proofs.terminal.Terminal.show_run.Goals as goal
@@ -12,7 +12,7 @@ pub invariant_of-self : goal.invariant_of-self
 invariant_of-self c =
     let seen : Seen = seen_of c.self.inside.console c.self.inside.parser in
     let ground = ap (λ (s : Seen). s.state) c.self.view_is ∙ c.requires.ground in
-    subst IsProper (seen_is _ _ _ _ c.show_bytes.ensures ground)
+    subst IsTerminal (seen_is _ _ _ _ c.show_bytes.ensures ground)
     (proper_after_run c.laws_below.ensures seen c.args.bytes.now ground c.requires.graphic c.self.invariant)
 
 pub returns-clause-shows : goal.returns-clause-shows

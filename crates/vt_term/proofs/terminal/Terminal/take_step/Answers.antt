@@ -1,6 +1,6 @@
 use Rattle.std.proofs.Common.{[], ◌∷◌, sym, subst}
 use Rattle.std.specs.Prelude.{Some, None}
-use Rattle.vt_term.specs.Shown.{shown_of}
+use Rattle.vt_term.specs.Console.{console_of}
 use Rattle.vt_term.specs.Effect.{effect, reply}
 use Rattle.vt_term.specs.Term.{play, sent}
 use Rattle.vt_term.specs.Seen.{Seen, Shows, seen_of}
@@ -12,8 +12,8 @@ use Rattle.vt_term.proofs.terminal.Terminal.take_step.Goals as goal
 pub invariant_of-self : goal.invariant_of-self
 invariant_of-self c =
     let seen : Seen = seen_of c.self.inside.console c.self.inside.parser in
-    either_proper c.perform.result (shown_of c.perform.new.self) (effect c.in-Some.command seen.shown) seen.shown c.step.new.self
-    c.perform.ensures.shown c.perform.ensures.err
+    either_proper c.perform.result (console_of c.perform.new.self) (effect c.in-Some.command seen.console) seen.console c.step.new.self
+    c.perform.ensures.done c.perform.ensures.err
     (taken_proper c.laws_below.ensures seen c.args.byte (Some c.in-Some.command) c.step.new.self c.in-Some.ensures.command c.in-Some.ensures.state c.self.invariant c.in-Some.ensures.proper)
     (left_proper c.laws_below.ensures seen c.args.byte (Some c.in-Some.command) c.step.new.self c.in-Some.ensures.command c.in-Some.ensures.state c.self.invariant)
 
@@ -26,15 +26,15 @@ pub returns-in-Some-clause-shows : goal.returns-in-Some-clause-shows
 returns-in-Some-clause-shows c x shows =
     let seen : Seen = seen_of c.self.inside.console c.self.inside.parser in
     let inside : Shows seen x = subst (λ (s : Seen). Shows s x) (sym c.self.view_is) shows in
-    shows_at_ok c.perform.result (shown_of c.perform.new.self) (effect c.in-Some.command seen.shown) c.step.new.self (play x (c.args.byte ∷ []))
-    c.perform.ensures.shown
+    shows_at_ok c.perform.result (console_of c.perform.new.self) (effect c.in-Some.command seen.console) c.step.new.self (play x (c.args.byte ∷ []))
+    c.perform.ensures.done
     (taken_shows c.laws_below.ensures seen c.args.byte (Some c.in-Some.command) c.step.new.self c.in-Some.ensures.command c.in-Some.ensures.state x inside)
 
 pub returns-in-Some-clause-sent : goal.returns-in-Some-clause-sent
 returns-in-Some-clause-sent c x shows =
     let seen : Seen = seen_of c.self.inside.console c.self.inside.parser in
     let inside : Shows seen x = subst (λ (s : Seen). Shows s x) (sym c.self.view_is) shows in
-    sent_at_ok c.perform.result c.perform.new.sink c.args.sink.now (reply c.in-Some.command seen.shown) (sent x (c.args.byte ∷ []))
+    sent_at_ok c.perform.result c.perform.new.sink c.args.sink.now (reply c.in-Some.command seen.console) (sent x (c.args.byte ∷ []))
     c.perform.ensures.sent
     (taken_sent c.laws_below.ensures seen c.args.byte (Some c.in-Some.command) c.step.new.self c.in-Some.ensures.command c.in-Some.ensures.state x inside)
 
@@ -62,7 +62,7 @@ returns-in-None-clause-sent c x shows =
 
 pub returns-in-Some-clause-front : goal.returns-in-Some-clause-front
 returns-in-Some-clause-front c =
-    keeps_either c.perform.result c.args.sink.now c.perform.new.sink (reply c.in-Some.command (shown_of c.self.inside.console))
+    keeps_either c.perform.result c.args.sink.now c.perform.new.sink (reply c.in-Some.command (console_of c.self.inside.console))
     c.perform.ensures.sent c.perform.ensures.err_sink
 
 pub returns-in-None-clause-front : goal.returns-in-None-clause-front

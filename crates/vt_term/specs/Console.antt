@@ -6,10 +6,10 @@ use Rattle.vt_screen.specs.Picture.{Picture, Sound, Inside, reset}
 use Rattle.vt_term.specs.declared.modes.Modes.{Modes}
 use Rattle.vt_term.specs.declared.sets.Sets.{Sets}
 use Rattle.vt_term.specs.declared.saved.Saved.{Saved}
-use Rattle.vt_term.specs.declared.console.Console.{Console}
+use Rattle.vt_term.specs.declared.console.Console.{Console as Fields}
 use Rattle.vt_term.specs.Sets.{first_sets}
 
-pub record Shown : Type 0 where
+pub record Console : Type 0 where
   -- columns, rows, cursor, pending wrap, margins and tabs
   pub picture : Picture
   -- the modes, and the keypad
@@ -43,8 +43,8 @@ abbrev pub dark : List Bool
 dark = false ∷ false ∷ false ∷ false ∷ []
 
 -- the initial state (profile)
-abbrev pub reset_shown : Shown
-reset_shown = record {
+abbrev pub reset_console : Console
+reset_console = record {
   picture = reset;
   modes = first_modes;
   rendition = plain;
@@ -54,31 +54,31 @@ reset_shown = record {
 }
 
 -- the picture alone changes
-abbrev pub on_picture : (Picture → Picture) → Shown → Shown
+abbrev pub on_picture : (Picture → Picture) → Console → Console
 on_picture change s = record s { picture = change s.picture }
 
 -- the modes alone change
-abbrev pub on_modes : (Modes → Modes) → Shown → Shown
+abbrev pub on_modes : (Modes → Modes) → Console → Console
 on_modes change s = record s { modes = change s.modes }
 
 -- the sets alone change
-abbrev pub on_sets : (Sets → Sets) → Shown → Shown
+abbrev pub on_sets : (Sets → Sets) → Console → Console
 on_sets change s = record s { sets = change s.sets }
 
 -- What stands in no table has no effect (profile).
-abbrev pub effect_of : {Row : Type 0} → (Row → Shown → Shown) → Option Row → Shown → Shown
+abbrev pub effect_of : {Row : Type 0} → (Row → Console → Console) → Option Row → Console → Console
 effect_of effect None s = s
 effect_of effect (Some row) s = effect row s
 
 -- what the fields of the code's console stand for
-abbrev pub shown_of : Console → Shown
-shown_of console = record {
-  picture = console.screen.picture;
-  modes = console.modes;
-  rendition = console.rendition;
-  sets = console.sets;
-  saved = console.saved;
-  leds = console.leds;
+abbrev pub console_of : Fields → Console
+console_of fields = record {
+  picture = fields.screen.picture;
+  modes = fields.modes;
+  rendition = fields.rendition;
+  sets = fields.sets;
+  saved = fields.saved;
+  leds = fields.leds;
 }
 
 -- a saved cursor stands on the screen (profile)
@@ -89,7 +89,7 @@ IsSavedWell (Some saved) = (1 ≤ saved.line) × (saved.line ≤ 24) × (1 ≤ s
 -- What every terminal keeps: the screen is sound (the cursor is at most at its line's right margin, cells right of it are
 -- blank, glyphs are at most 126), and the cursor is inside the margins while DECOM is set (EK-VT100-UG
 -- chapter 3, DECOM; the cut at the right margin: profile).
-pub record IsSafe (s : Shown) : Type 0 where
+pub record IsSafe (s : Console) : Type 0 where
   pub sound : Sound s.picture
   pub inside : s.modes.origin ≡ true → Inside s.picture
   pub saved : IsSavedWell s.saved
