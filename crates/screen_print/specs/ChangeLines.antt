@@ -20,7 +20,7 @@ changed_lines before after = filter (is_changed before after) (range_with_len 1 
 
 -- the rows of the screen after so many chunks
 abbrev pub rows_after : Tape → ℕ → List Row
-rows_after tape count = (up_to tape count).shown.picture.rows
+rows_after tape count = (up_to tape count).console.picture.rows
 
 -- a number with the space before it
 abbrev pub spaced_number : ℕ → List ℕ

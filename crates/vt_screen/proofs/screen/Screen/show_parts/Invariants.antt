@@ -1,7 +1,7 @@
 use Rattle.std.proofs.Common.{◌≡◌, ◌≤◌, length}
 use Rattle.std.specs.Prelude.{All}
 use Rattle.vt_screen.specs.Puts.{run_shown}
-use Rattle.vt_screen.proofs.screen.Screen.show_run.Given as goal
+use Rattle.vt_screen.proofs.screen.Screen.show_parts.Given as goal
 
 -- what is left to show leads to the whole
 abbrev pub invariant-loop-rest : goal.invariant-loop-rest
