@@ -129,7 +129,7 @@ module _ (laws : LawsBelow) where
       = ap (λ (p : List ℕ). pending_after_bytes given (mode_of x) p bytes) is.ground ∙ run_leaves_nothing given (mode_of x) bytes is.graphic in
       let view : Some Ground ≡ Some state
       = sym (laws.ground_is_empty.0 (mode_after_bytes given (mode_of x) bytes)) ∙ ap (parser_view (mode_after_bytes given (mode_of x) bytes)) (sym pending)
-          ∙ leads (mode_of x) x.pending shows.state in
+      ∙ leads (mode_of x) x.pending shows.state in
       let there : Ground ≡ state = some_is _ _ view in
       (subst (λ (seen : Seen). Shows seen (play x bytes)) (seen_is _ _ _ _ (ap (λ (l : List ℕ). glyphs_shown (map (glyph_for seen.console) l) seen.console) is.whole) (sym there)) after.0, after.1)
 
