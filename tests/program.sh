@@ -141,7 +141,9 @@ refused 'too many bytes' 1 'timing line 1025: too many bytes' empty.script long.
 refused 'no header line' 1 'typescript has no header line' headless.script empty.timing
 refused 'a missing file' 3 'cannot open nowhere' nowhere ab.timing
 refused 'a missing timing' 3 'cannot open nowhere' ab.script nowhere
+refused 'both missing: the script is opened first' 3 'cannot open neither' neither nowhere
 refused 'a directory' 3 'read fault' . ab.timing
+refused 'script and timing swapped' 1 'timing line 1: multi-stream format' ab.timing ab.script
 
 check 'bad seconds' 2 '' 'typetool: bad seconds\n' due --at .5 nowhere nowhere
 check 'no seconds' 2 '' 'typetool: bad seconds\n' due --at '' nowhere nowhere
@@ -269,20 +271,62 @@ got=$?
 : >out.txt
 verdict 'a closed standard output' 3 $got '' 'typetool: write fault\n'
 
-# The shipped recording, against a count of its timing file's bytes.
-cp "$examples/tour.script" "$examples/tour.timing" .
-for at in 0 1 2.5 7 100; do
-    "$program" due --at $at tour.script tour.timing >out.txt 2>err.txt
-    got=$?
-    bytes=$(awk -v at=$at '{ due += $1; if (due <= at + 0.0000001) n += $2 } END { print n + 0 }' tour.timing)
-    tail -n +2 tour.script | head -c "$bytes" >want.bin
-    : >want_err.txt
-    if [ $got = 0 ] && cmp -s out.txt want.bin && [ ! -s err.txt ]; then
+# same NAME WORD..: status 0, and just the bytes of want.bin.
+same() {
+    local name=$1
+    shift
+    if "$program" "$@" >out.txt 2>err.txt && cmp -s out.txt want.bin && [ ! -s err.txt ]; then
         passed=$((passed + 1))
     else
         failed=$((failed + 1))
-        echo "FAILED the tour at $at"
+        echo "FAILED $name"
     fi
+}
+
+# 40 MiB in chunks of the greatest length, each of its own digits.
+printf '%b' "$head" >long.script
+for chunk in $(seq 10 49); do
+    yes "$chunk" | tr -d '\n' | head -c 1048576 >>long.script
+done
+yes '0.5 1048576' | head -n 40 >long.timing
+tail -n +2 long.script >want.bin
+same 'a long recording' due --at 20 long.script long.timing
+tail -n +2 long.script | head -c 7340032 >want.bin
+same 'a part of a long recording' due --at 3.5 long.script long.timing
+# The end of the last chunk fills the screen.
+for line in $(seq 24); do yes 49 | tr -d '\n' | head -c 80; echo; done >want.bin
+same 'the screen of a long recording' screen --at 20 long.script long.timing
+
+# 8 MiB that are answered by 53 MiB. Where there is room to read the pair and not to keep its replies, memory is refused to
+# them alone.
+printf "$E[x%.0s" $(seq 349525) >asked.bin
+{
+    printf '%b' "$head"
+    for chunk in $(seq 8); do cat asked.bin; done
+} >asked.script
+yes '0 1048575' | head -n 8 >asked.timing
+{
+    yes 1b5b323b313b313b3131323b3131323b313b3078 | head -n 2796200 | tr -d '\n'
+    echo
+} >want.bin
+same 'many replies' reports --at 0 asked.script asked.timing
+tail -n +2 asked.script >want.bin
+(
+    ulimit -v 60000
+    passed=0 failed=0
+    same 'a pair that memory is there for' due --at 0 asked.script asked.timing
+    check 'memory refused to replies' 3 '' 'typetool: out of memory\n' reports --at 0 asked.script asked.timing
+    [ "$passed" = 2 ]
+)
+if [ $? = 0 ]; then passed=$((passed + 2)); else failed=$((failed + 1)); fi
+rm long.script asked.script asked.bin want.bin
+
+# The shipped recording, against a count of its timing file's bytes.
+cp "$examples/tour.script" "$examples/tour.timing" .
+for at in 0 1 2.5 7 100; do
+    bytes=$(awk -v at=$at '{ due += $1; if (due <= at + 0.0000001) n += $2 } END { print n + 0 }' tour.timing)
+    tail -n +2 tour.script | head -c "$bytes" >want.bin
+    same "the tour at $at" due --at $at tour.script tour.timing
 done
 if cmp -s tour.script "$examples/tour.script" && cmp -s tour.timing "$examples/tour.timing"; then
     passed=$((passed + 1))

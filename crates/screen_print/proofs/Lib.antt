@@ -1,2 +1,4 @@
 pub mod GlyphLemmas
 pub mod PlainLemmas
+pub mod RowLemmas
+pub mod ChangeLemmas

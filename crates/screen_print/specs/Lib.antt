@@ -1,2 +1,5 @@
 pub mod Glyphs
 pub mod PlainText
+pub mod SameRows
+pub mod ChangeLines
+pub mod Stops

@@ -20,9 +20,9 @@ const LINE_BYTES: usize = 397;
 /// memory. After a write fault a beginning of the text has gone out.
 pub fn plain<W: Write>(terminal: &Terminal, writer: &mut Watched<W>) -> Result<(), Fault>
     requires { has_failed writer.old ≡ false }
-    ensures ok { OnOk result (Took W.contents writer.old writer.new (plain_text terminal.now.shown.picture)) }
+    ensures ok { OnOk result (Took W.contents writer.old writer.new (plain_text terminal.now.console.picture)) }
     ensures fault { IfErr result (λ fault. (fault ≡ Fault.WriteFault)
-        × StoppedIn W.contents writer.old writer.new (plain_text terminal.now.shown.picture)) }
+        × StoppedIn W.contents writer.old writer.new (plain_text terminal.now.console.picture)) }
     ensures flushed { OnOk result (is_flushed writer.new ≡ true) }
 {
     let screen = terminal.screen();

@@ -1,4 +1,3 @@
 pub mod CommandLemmas
 pub mod JobLemmas
-pub mod MomentLemmas
 pub mod RequestLemmas

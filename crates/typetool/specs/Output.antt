@@ -9,12 +9,13 @@ use Rattle.tape_core.specs.Reading.{fault_of, reads}
 use Rattle.tape_core.specs.Tape.{Tape}
 use Rattle.tape_core.specs.Text.{lines_of}
 use Rattle.tape_core.specs.Written.{script_text, timing_text}
+use Rattle.tape_seek.specs.Moments.{term_at}
 use Rattle.tape_seek.specs.declared.edits.EditFault.{EditFault}
 use Rattle.tape_core.specs.declared.devices.Watched.{Watched}
 use Rattle.tape_core.specs.declared.fault.Fault.{Fault}
 use Rattle.tape_core.specs.declared.fault.Fault.TheVariants as fault
 use Rattle.typetool.specs.Info.{info_text}
-use Rattle.typetool.specs.Moment.{Began, term_at, sent_by}
+use Rattle.typetool.specs.Moment.{Began}
 use Rattle.typetool.specs.Requests.{saved, started}
 use Rattle.typetool.specs.declared.job.Job.{Job}
 use Rattle.typetool.specs.declared.job.Job.TheVariants.{Due, Info, Screen, Reports, Save}
@@ -54,8 +55,8 @@ writes_timing Save = true
 abbrev pub text_of : Job → Tape → List ℕ
 text_of (Due at) tape = due tape.chunks at
 text_of Info tape = info_text tape
-text_of (Screen at) tape = plain_text (term_at tape at).shown.picture
-text_of (Reports at) tape = encode_lower (sent_by tape at) ++ 10 ∷ []
+text_of (Screen at) tape = plain_text (term_at tape at).console.picture
+text_of (Reports at) tape = encode_lower (term_at tape at).reports ++ 10 ∷ []
 text_of Save tape = []
 
 -- what a job comes to that is done with these texts (profile)
@@ -79,13 +80,13 @@ done_on (Screen at) tape requests = done_with (text_of (Screen at) tape) []
 done_on (Reports at) tape requests = done_with (text_of (Reports at) tape) []
 done_on Save tape requests = done_saving (saved 1 (started tape) (lines_of requests))
 
--- the jobs that may take memory once the recording is read: those that keep reports, and where some are sent (profile)
-abbrev pub TakesMemory : Job → Tape → Type 0
-TakesMemory (Due at) tape = ⊥
-TakesMemory Info tape = ⊥
-TakesMemory (Screen at) tape = sent_by tape at ≢ []
-TakesMemory (Reports at) tape = sent_by tape at ≢ []
-TakesMemory Save tape = Unit {0}
+-- the jobs that may take memory once the recording is read: those that open a session (profile)
+abbrev pub TakesMemory : Job → Type 0
+TakesMemory (Due at) = ⊥
+TakesMemory Info = ⊥
+TakesMemory (Screen at) = Unit {0}
+TakesMemory (Reports at) = Unit {0}
+TakesMemory Save = Unit {0}
 
 -- a job comes to this on these files: the fault of the pair where it has one, and else what it comes to on the recording (profile)
 abbrev pub Comes : Job → Files → Done → Type 0

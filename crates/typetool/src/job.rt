@@ -130,13 +130,11 @@ pub fn run<S: Read, T: Read, R: Read, O: Write, P: Write>(
         → (done : Done) × Comes job files done
         × Stopped O.contents P.contents out.old out.new out_timing.old out_timing.new done }
 
-    // Once the recording is read, memory is wanted only by a job that keeps replies, and where some are sent.
+    // Once the recording is read, memory is wanted only by a job that opens a session.
     ensures growth { result.fault ≡ Some JobFault.Memory → (has_failed script.new ≡ false)
         × (has_failed timing.new ≡ false) × (has_failed requests.new ≡ false)
         × (has_failed out.new ≡ false) × (has_failed out_timing.new ≡ false) }
-    ensures want { result.fault ≡ Some JobFault.Memory → (files : Files)
-        → Tells S.remaining T.remaining R.remaining job script.old timing.old requests.old files
-        → (tape : Tape) × reads files.script files.timing tape × TakesMemory job tape }
+    ensures want { result.fault ≡ Some JobFault.Memory → TakesMemory job }
 
     // A device fault comes only where that device failed.
     ensures read_fault { result.fault ≡ Some (JobFault.File Fault.ReadFault) → (has_failed script.new ≡ true)
@@ -158,28 +156,30 @@ pub fn run<S: Read, T: Read, R: Read, O: Write, P: Write>(
     } = given;
     match job {
         Job::Save => outcome_of(save(alloc, recording, &requests, out, out_timing)),
-        // The program ends with its job: to free a million chunks one by one would take as long as to write them.
-        _ => outcome_of(write_text(alloc, job, &ManuallyDrop::new(recording), out)),
+        _ => outcome_of(write_text(alloc, job, recording, out)),
     }
 }
 
-/// Writes the text of a job on a recording, and flushes.
+/// Writes the text of a job on a recording, and flushes. The program ends with its job: to free a million chunks one by
+/// one would take as long as to write them.
 fn write_text<O: Write>(
     alloc: Global,
     job: Job,
-    recording: &Recording,
+    recording: Recording,
     out: &mut Watched<O>,
 ) -> Result<(), JobFault>
     requires one { writes_timing job ≡ false }
     requires out { has_failed out.old ≡ false }
-    ensures ok { OnOk result (Took O.contents out.old out.new (text_of job recording.now)) }
+    ensures ok { OnOk result (Took O.contents out.old out.new (text_of job recording)) }
     ensures flushed { OnOk result (is_flushed out.new ≡ true) }
-    ensures fault { IfErr result (StopsAt O.contents out.old out.new (text_of job recording.now)) }
-    ensures want { result ≡ Err JobFault.Memory → TakesMemory job recording.now }
+    ensures fault { IfErr result (StopsAt O.contents out.old out.new (text_of job recording)) }
+    ensures want { result ≡ Err JobFault.Memory → TakesMemory job }
 {
     match job {
-        Job::Due { at } => write_due(recording, at, out).map_err(JobFault::File),
-        Job::Info => write_info(recording, out).map_err(JobFault::File),
+        Job::Due { at } => {
+            write_due(&ManuallyDrop::new(recording), at, out).map_err(JobFault::File)
+        }
+        Job::Info => write_info(&ManuallyDrop::new(recording), out).map_err(JobFault::File),
         Job::Screen { at } => write_screen(alloc, recording, at, out),
         Job::Reports { at } => write_reports(alloc, recording, at, out),
         Job::Save => unreachable!(),

@@ -196,11 +196,13 @@ impl Screen {
         requires { All (λ glyph. glyph ≤ 126) glyphs.now }
         ensures picture { self.new.picture ≡ run_shown glyphs.now rendition autowrap self.old.picture }
     {
-        let mut rest = glyphs;
-        while !rest.is_empty() {
-            self.take_wrap();
-            let taken = self.show_part(rest, rendition, autowrap);
-            rest = &rest[taken..];
+        let room = (self.margin() - self.column) as usize;
+        if !self.wrap && glyphs.len() <= room {
+            self.grid
+                .write_run(self.line, self.column, glyphs, rendition);
+            self.column += glyphs.len() as u8;
+        } else {
+            self.show_parts(glyphs, rendition, autowrap);
         }
     }
 
@@ -552,6 +554,19 @@ impl Screen {
         if self.wrap {
             self.to_left();
             self.index();
+        }
+    }
+
+    /// Shows a run part by part, each up to the right margin of its line.
+    fn show_parts(&mut self, glyphs: &[u8], rendition: Rendition, autowrap: bool)
+        requires { All (λ glyph. glyph ≤ 126) glyphs.now }
+        ensures picture { self.new.picture ≡ run_shown glyphs.now rendition autowrap self.old.picture }
+    {
+        let mut rest = glyphs;
+        while !rest.is_empty() {
+            self.take_wrap();
+            let taken = self.show_part(rest, rendition, autowrap);
+            rest = &rest[taken..];
         }
     }
 

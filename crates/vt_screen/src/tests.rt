@@ -739,13 +739,18 @@ fn lettered(line: u16, col: u16) -> Screen
     screen
 }
 
-/// Whether lines 1 to 4 have these letters.
-fn has_letters(screen: &Screen, letters: &[u8; 4]) -> bool {
-    has_text(screen, 1, &letters[..1])
-        && has_text(screen, 2, &letters[1..2])
-        && has_text(screen, 3, &letters[2..3])
-        && has_text(screen, 4, &letters[3..])
-        && have_text(screen, 5, 24, b"")
+/// Whether the first lines have these letters, and the others nothing.
+fn has_letters(screen: &Screen, letters: &[u8]) -> bool {
+    for line in 1..25 {
+        let glyph = match letters.get(line as usize - 1) {
+            Some(glyph) => *glyph,
+            None => b' ',
+        };
+        if !has_text(screen, line, &[glyph]) {
+            return false;
+        }
+    }
+    true
 }
 
 #[test]
@@ -757,33 +762,33 @@ fn inserts_and_deletes_lines(rt: HostRuntime) {
         (3, 1, b"ab d", b"ab d"),
         (3, 9999, b"ab d", b"ab d"),
     ] {
-        let line: u16 = line;
-        let inserted: &[u8; 4] = inserted;
-        let deleted: &[u8; 4] = deleted;
+        let line: u8 = line;
+        let inserted: &[u8] = inserted;
+        let deleted: &[u8] = deleted;
         assert!(rt; 1 <= line);
-        let mut screen = lettered(line, 7);
+        let mut screen = lettered(u16::from(line), 7);
         screen.insert_lines(count);
         assert!(rt; has_letters(&screen, inserted), "{count} in at {line}");
-        assert_eq!(rt; screen.cursor(), (line as u8, 1));
-        let mut screen = lettered(line, 7);
+        assert_eq!(rt; screen.cursor(), (line, 1));
+        let mut screen = lettered(u16::from(line), 7);
         screen.delete_lines(count);
         assert!(rt; has_letters(&screen, deleted), "{count} out at {line}");
-        assert_eq!(rt; screen.cursor(), (line as u8, 1));
+        assert_eq!(rt; screen.cursor(), (line, 1));
     }
 }
 
 #[test]
 fn leaves_lines_outside_the_margins(rt: HostRuntime) {
     for line in [1, 4, 24] {
-        let line: u16 = line;
+        let line: u8 = line;
         assert!(rt; 1 <= line);
-        let mut screen = lettered(line, 80);
+        let mut screen = lettered(u16::from(line), 80);
         type_text(&mut screen, b"x");
         screen.insert_lines(1);
         screen.delete_lines(1);
-        assert_eq!(rt; screen.cursor(), (line as u8, 80));
+        assert_eq!(rt; screen.cursor(), (line, 80));
         assert!(rt; screen.wrap());
-        screen.place(line, 80, false);
+        screen.place(u16::from(line), 80, false);
         screen.show(b' ', Rendition::plain(), false);
         assert!(rt; has_letters(&screen, b"abcd"));
     }

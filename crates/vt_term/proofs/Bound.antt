@@ -8,7 +8,7 @@ use Rattle.vt_parser.specs.declared.commands.Command.TheVariants.{Show, Error, C
 use Rattle.vt_parser.specs.Step.{command_of}
 use Rattle.vt_parser.specs.Law.{fewest_bytes, fewest_of}
 use Rattle.vt_screen.specs.Picture.{Picture, Sound}
-use Rattle.vt_term.specs.Shown.{Shown, IsSafe}
+use Rattle.vt_term.specs.Console.{Console, IsSafe}
 use Rattle.vt_term.specs.Escapes.{Escape, Decid, escape_named}
 use Rattle.vt_term.specs.Sequences.{Sequence, Da, Dsr, Decreqtparm, sequence_named, first_of}
 use Rattle.vt_term.specs.Vt52.{Vt52Sequence, Identify, vt52_named}
@@ -26,7 +26,7 @@ length-cursor_position line column low high =
     let three : length (decimal column) ≤ 3 = length-decimal-le 3 column (omega arith) (omega arith) (omega arith) in
     simp length-append (omega arith)
 
-line_small : (origin : Bool) (p : Picture) → Sound p → reported_line origin p < 100
+line_small : (origin : Bool) (p : Picture) → Sound p → reported_line origin p.line p.top < 100
 line_small true p sound = omega (arith, sound.line_high)
 line_small false p sound = omega (arith, sound.line_high)
 
@@ -78,16 +78,16 @@ from_short text short = omega arith
 -- ---- what stands on the laws of the parser and of the screen
 
 module _ (laws : LawsBelow) where
-  short_position : (s : Shown) → IsSafe s → IsShort (cursor_position (reported_line s.modes.origin s.picture) s.picture.column)
+  short_position : (s : Console) → IsSafe s → IsShort (cursor_position (reported_line s.modes.origin s.picture.line s.picture.top) s.picture.column)
   unfolding IsShort
   short_position s safe =
       let line = line_small s.modes.origin s.picture safe.sound in
       let column = laws.right_margins s.picture s.picture.line in
       let within = safe.sound.column_high in
-      let nine = length-cursor_position (reported_line s.modes.origin s.picture) s.picture.column line (omega arith) in
+      let nine = length-cursor_position (reported_line s.modes.origin s.picture.line s.picture.top) s.picture.column line (omega arith) in
       omega arith
 
-  short_sequence : (sequence : Sequence) (params : List ℕ) (s : Shown) → IsSafe s → IsShort (sequence_reply sequence params s)
+  short_sequence : (sequence : Sequence) (params : List ℕ) (s : Console) → IsSafe s → IsShort (sequence_reply sequence params s)
   short_sequence Da params s safe = short_if (first_of params == 0) device_attributes [] attributes_short none_short
   short_sequence Dsr params s safe = short_if (first_of params == 5) ready _ ready_short (short_if (first_of params == 6) _ [] (short_position s safe) none_short)
   short_sequence Decreqtparm params s safe =
@@ -95,7 +95,7 @@ module _ (laws : LawsBelow) where
       (short_if (first_of params == 1) (terminal_parameters (codes "3")) [] (parameters_short (codes "3") refl) none_short)
   short_sequence _ params s safe = none_short
 
-  short_control_sequence : (private : Bool) (last : ℕ) (params : List ℕ) (s : Shown) → IsSafe s → IsShort (control_sequence_reply private last params s)
+  short_control_sequence : (private : Bool) (last : ℕ) (params : List ℕ) (s : Console) → IsSafe s → IsShort (control_sequence_reply private last params s)
   short_control_sequence true last params s safe = none_short
   short_control_sequence false last params s safe = short_row (sequence_named last)
     where
@@ -104,7 +104,7 @@ module _ (laws : LawsBelow) where
       short_row (Some row) = short_sequence row params s safe
 
   -- a reply is paid by the bytes that its command takes at least
-  pub reply_paid : (command : Command) (s : Shown) → IsSafe s → 3 * length (reply command s) ≤ 20 * fewest_bytes command
+  pub reply_paid : (command : Command) (s : Console) → IsSafe s → 3 * length (reply command s) ≤ 20 * fewest_bytes command
   unfolding reply
   reply_paid (Show byte) s safe = omega arith
   reply_paid Error s safe = omega arith
@@ -117,18 +117,18 @@ module _ (laws : LawsBelow) where
 
   -- ---- all replies
 
-  reply_paid_if : (command : Option Command) (s : Shown) → IsSafe s → 3 * length (reply_if command s) ≤ 20 * fewest_of command
+  reply_paid_if : (command : Option Command) (s : Console) → IsSafe s → 3 * length (reply_if command s) ≤ 20 * fewest_of command
   reply_paid_if None s safe = omega arith
   reply_paid_if (Some command) s safe = reply_paid command s safe
 
   -- what is pending counts as bytes that are still to be paid
-  answer_paid : (x : Term) (byte : ℕ) → IsSafe x.shown → 3 * length (answered x byte) + 20 * length (step x byte).pending ≤ 20 * length x.pending + 20
+  answer_paid : (x : Term) (byte : ℕ) → IsSafe x.console → 3 * length (answered x byte) + 20 * length (step x byte).pending ≤ 20 * length x.pending + 20
   answer_paid x byte safe =
-      let paid = reply_paid_if (command_of (mode_of x) x.pending byte) x.shown safe in
+      let paid = reply_paid_if (command_of (mode_of x) x.pending byte) x.console safe in
       let pays = laws.pending_pays (mode_of x) x.pending byte in
       omega arith
 
-  pub sent_paid : (x : Term) (bytes : List ℕ) → IsSafe x.shown → 3 * length (sent x bytes) ≤ 20 * length x.pending + 20 * length bytes
+  pub sent_paid : (x : Term) (bytes : List ℕ) → IsSafe x.console → 3 * length (sent x bytes) ≤ 20 * length x.pending + 20 * length bytes
   sent_paid x [] safe =
       let none : length (sent x []) ≡ 0 = ap length (sent_none x) in
       omega arith

@@ -31,13 +31,16 @@ length-sent x at bytes =
     ∙ ap length (sent-append x (take at bytes) (drop at bytes))
     ∙ length-append (sent x (take at bytes)) (sent (play x (take at bytes)) (drop at bytes))
 
--- room for all is room for the next byte
+-- room for all is room for what a front of the bytes is answered by ..
+pub room_for_front : (x : Term) (bytes : List ℕ) (at : ℕ) (sink : Sink) → HasRoom sink (sent x bytes) → HasRoom sink (sent x (take at bytes))
+room_for_front x bytes at sink room = let all = length-sent x at bytes in omega arith
+
+-- .. and for the rest of them
 pub room_on : (x : Term) (bytes : List ℕ) (at : ℕ) (first then_ : Sink)
     → then_ ≡ after_sending first (sent x (take at bytes)) → KeepsFront first then_ → HasRoom first (sent x bytes)
-    → HasRoom then_ (sent (play x (take at bytes)) (take 1 (drop at bytes)))
+    → HasRoom then_ (sent (play x (take at bytes)) (drop at bytes))
 room_on x bytes at first then_ before keeps room =
     let all = length-sent x at bytes in
-    let rest = length-sent (play x (take at bytes)) 1 (drop at bytes) in
     let place : then_.place ≡ first.place + length (sent x (take at bytes)) = ap (λ (s : Sink). s.place) before in
     let longer = keeps_length first then_ keeps in
     omega arith

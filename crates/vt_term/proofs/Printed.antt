@@ -12,8 +12,8 @@ use Rattle.vt_parser.specs.Sequence.{held}
 use Rattle.vt_parser.specs.Decimals.{params_text}
 use Rattle.vt_parser.specs.Fold.{Finishes}
 use Rattle.vt_parser.specs.Law.{GraphicIsShown, ControlIsGiven, EscapesFinish, DesignationsFinish, WrittenControlsFinish, WrittenPrivatesFinish}
-use Rattle.vt_term.specs.Shown.{Shown}
-use Rattle.vt_term.specs.Effect.{effect, reply, put, glyph_for}
+use Rattle.vt_term.specs.Console.{Console}
+use Rattle.vt_term.specs.Effect.{effect, reply, glyph_shown, glyph_for}
 use Rattle.vt_term.specs.Term.{Term, play, sent}
 use Rattle.vt_term.specs.Printing.{on_ground, Brings, NothingBrings, PartsBring, CharactersBring, ControlsBring, SequencesAct, EscapesBring, DesignationsBring, ControlSequencesBring, PrivateSequencesBring}
 use Rattle.vt_term.proofs.Played.{played, sent_once}
@@ -41,12 +41,12 @@ pub sequences_act : SequencesAct
 sequences_act s reports bytes command finishes =
     let mode = s.modes.mode in (
       played mode mode s [] reports bytes (Some command) refl refl (finishes mode).0
-          ∙ ap (λ (p : List ℕ). let x : Term = record { shown = effect command s; pending = p; reports = reports ++ reply command s } in x) (finishes mode).1,
+          ∙ ap (λ (p : List ℕ). let x : Term = record { console = effect command s; pending = p; reports = reports ++ reply command s } in x) (finishes mode).1,
       sent_once mode mode s [] reports bytes (Some command) refl refl (finishes mode).0,
     )
 
 -- a command without a reply
-brings_effect : (s : Shown) (bytes : List ℕ) (command : Command) → Finishes s.modes.mode bytes (Some command) → reply command s ≡ []
+brings_effect : (s : Console) (bytes : List ℕ) (command : Command) → Finishes s.modes.mode bytes (Some command) → reply command s ≡ []
     → Brings s bytes (effect command s)
 brings_effect s bytes command finishes silent = record {
   played = λ reports.
@@ -57,23 +57,23 @@ brings_effect s bytes command finishes silent = record {
 }
 
 -- the same in ANSI mode
-brings_in_ansi : (s : Shown) (bytes : List ℕ) (command : Command) → s.modes.mode ≡ Ansi → Finishes Ansi bytes (Some command) → reply command s ≡ []
+brings_in_ansi : (s : Console) (bytes : List ℕ) (command : Command) → s.modes.mode ≡ Ansi → Finishes Ansi bytes (Some command) → reply command s ≡ []
     → Brings s bytes (effect command s)
 brings_in_ansi s bytes command ansi finishes silent =
     brings_effect s bytes command (subst (λ (m : Mode). Finishes m bytes (Some command)) (sym ansi) finishes) silent
 
-brings_is : (s : Shown) (bytes : List ℕ) (t u : Shown) → t ≡ u → Brings s bytes t → Brings s bytes u
+brings_is : (s : Console) (bytes : List ℕ) (t u : Console) → t ≡ u → Brings s bytes t → Brings s bytes u
 brings_is s bytes t u same brings = subst (Brings s bytes) same brings
 
-no_reply_show : (byte : ℕ) (s : Shown) → reply (Show byte) s ≡ []
+no_reply_show : (byte : ℕ) (s : Console) → reply (Show byte) s ≡ []
 unfolding reply
 no_reply_show byte s = refl
 
-no_reply_control : (byte : ℕ) (s : Shown) → reply (Control byte) s ≡ []
+no_reply_control : (byte : ℕ) (s : Console) → reply (Control byte) s ≡ []
 unfolding reply
 no_reply_control byte s = refl
 
-put_by : (byte : ℕ) (s : Shown) → effect (Show byte) s ≡ put (glyph_for s byte) s
+put_by : (byte : ℕ) (s : Console) → effect (Show byte) s ≡ glyph_shown (glyph_for s byte) s
 unfolding effect
 put_by byte s = refl
 
@@ -82,10 +82,10 @@ module _ (graphic_is_shown : GraphicIsShown) where
   characters_bring s [] graphic = nothing_brings s
   characters_bring s (byte ∷ bytes) graphic =
       let parts = and_parts (is_graphic byte) (list_all is_graphic bytes) graphic in
-      let first : Brings s (byte ∷ []) (put (glyph_for s byte) s) =
-      brings_is s (byte ∷ []) (effect (Show byte) s) (put (glyph_for s byte) s) (put_by byte s)
+      let first : Brings s (byte ∷ []) (glyph_shown (glyph_for s byte) s) =
+      brings_is s (byte ∷ []) (effect (Show byte) s) (glyph_shown (glyph_for s byte) s) (put_by byte s)
       (brings_effect s (byte ∷ []) (Show byte) (λ mode. graphic_is_shown mode byte parts.0) (no_reply_show byte s)) in
-      parts_bring s _ _ (byte ∷ []) bytes first (characters_bring (put (glyph_for s byte) s) bytes parts.1)
+      parts_bring s _ _ (byte ∷ []) bytes first (characters_bring (glyph_shown (glyph_for s byte) s) bytes parts.1)
 
 pub controls_bring : ControlIsGiven → ControlsBring
 controls_bring given s byte is = brings_effect s (byte ∷ []) (Control byte) (λ mode. given mode byte is) (no_reply_control byte s)

@@ -21,14 +21,14 @@ use Rattle.vt_term.specs.declared.sets.Slot.{Slot}
 use Rattle.vt_term.specs.declared.modes.Modes.{Modes}
 use Rattle.vt_term.specs.declared.saved.Saved.{Saved}
 use Rattle.vt_term.specs.Sets.{glyph_of, checkerboard, set_in_use}
-use Rattle.vt_term.specs.Shown.{Shown, IsSafe, IsSavedWell, reset_shown, on_picture, effect_of, dark}
+use Rattle.vt_term.specs.Console.{Console, IsSafe, IsSavedWell, reset_console, on_picture, effect_of, dark}
 use Rattle.vt_term.specs.Rows.{named}
 use Rattle.vt_term.specs.Controls.{Control, Bs, Ht, Lf, Cr, So, Si, control_named, control_effect, line_fed, invoked}
 use Rattle.vt_term.specs.Escapes.{Escape, Ind, Nel, Ri, Hts, Decid, Ris, Decsc, Decrc, Deckpam, Deckpnm, DecdhlTop, DecdhlBottom, Decswl, Decdwl, Decaln, Scs, escape_named, escape_effect, restored}
 use Rattle.vt_term.specs.Sequences.{Sequence, Cuu, Cud, Cuf, Cub, Cup, Ed, El, Decstbm, Tbc, Sgr, Sm, Rm, Decll, sequence_named, sequence_effect, first_of, second_of, counted, or_default, leds_set, newline_set}
 use Rattle.vt_term.specs.PrivateModes.{PrivateMode, Decanm, Deccolm, Decom, Decawm, private_modes, switches, mode_effect, mode_set, modes_set, private_effect}
 use Rattle.vt_term.specs.Vt52.{Vt52Sequence, Up, Down, Right, Left, Home, ReverseIndex, EraseDisplay, EraseLine, vt52_named, vt52_effect}
-use Rattle.vt_term.specs.Effect.{effect, put, glyph_for, control_sequence_effect}
+use Rattle.vt_term.specs.Effect.{effect, glyph_shown, glyph_for, control_sequence_effect}
 use Rattle.vt_term.specs.Law.{CommandsKeepSafe}
 
 -- ---- what the screen's laws say
@@ -80,7 +80,7 @@ pub record ScreenLaws : Type 0 where
 while_set : (P : Bool → Type 0) (origin : Bool) → P true → origin ≡ true → P origin
 while_set P origin there is = subst P (sym is) there
 
-safe_on : (s : Shown) (op : Picture → Picture) → Keeps op → IsSafe s → IsSafe (on_picture op s)
+safe_on : (s : Console) (op : Picture → Picture) → Keeps op → IsSafe s → IsSafe (on_picture op s)
 safe_on s op keeps safe = record {
   sound = keeps.sound s.picture safe.sound;
   inside = λ is. keeps.inside s.picture safe.sound (safe.inside is);
@@ -88,7 +88,7 @@ safe_on s op keeps safe = record {
   leds = safe.leds;
 }
 
-safe_by : (s : Shown) (op : Bool → Picture → Picture) → KeepsBy op → IsSafe s → IsSafe (on_picture (op s.modes.origin) s)
+safe_by : (s : Console) (op : Bool → Picture → Picture) → KeepsBy op → IsSafe s → IsSafe (on_picture (op s.modes.origin) s)
 safe_by s op keeps safe = record {
   sound = keeps.sound s.modes.origin s.picture safe.sound;
   inside = λ is. while_set (λ (o : Bool). Inside (op o s.picture)) s.modes.origin (keeps.inside s.picture safe.sound (safe.inside is)) is;
@@ -97,7 +97,7 @@ safe_by s op keeps safe = record {
 }
 
 -- a change after which DECOM may be another
-safe_goes : (s t : Shown) (op : Bool → Picture → Picture) → GoesBy op → t.picture ≡ op t.modes.origin s.picture → t.saved ≡ s.saved → t.leds ≡ s.leds → IsSafe s → IsSafe t
+safe_goes : (s t : Console) (op : Bool → Picture → Picture) → GoesBy op → t.picture ≡ op t.modes.origin s.picture → t.saved ≡ s.saved → t.leds ≡ s.leds → IsSafe s → IsSafe t
 safe_goes s t op goes picture saved leds safe = record {
   sound = subst Sound (sym picture) (goes.sound t.modes.origin s.picture safe.sound);
   inside = λ is. subst Inside (sym picture) (while_set (λ (o : Bool). Inside (op o s.picture)) t.modes.origin (goes.inside s.picture safe.sound) is);
@@ -106,7 +106,7 @@ safe_goes s t op goes picture saved leds safe = record {
 }
 
 -- a change of what the screen doesn't know, which leaves DECOM, the save and the LEDs
-pub safe_else : (s t : Shown) → t.picture ≡ s.picture → t.modes.origin ≡ s.modes.origin → t.saved ≡ s.saved → t.leds ≡ s.leds → IsSafe s → IsSafe t
+pub safe_else : (s t : Console) → t.picture ≡ s.picture → t.modes.origin ≡ s.modes.origin → t.saved ≡ s.saved → t.leds ≡ s.leds → IsSafe s → IsSafe t
 safe_else s t picture origin saved leds safe = record {
   sound = subst Sound (sym picture) safe.sound;
   inside = λ is. subst Inside (sym picture) (safe.inside (let e : s.modes.origin ≡ true = cc in e));
@@ -146,29 +146,29 @@ origin_kept value (param ∷ params) modes =
     let rest = origin_kept value params (newline_set value modes param) in
     cc
 
-safe_invoked : (slot : Slot) (mode : Mode) (s : Shown) → IsSafe s → IsSafe (invoked slot mode s)
+safe_invoked : (slot : Slot) (mode : Mode) (s : Console) → IsSafe s → IsSafe (invoked slot mode s)
 safe_invoked slot Ansi s safe = safe_else s _ refl refl refl refl safe
 safe_invoked slot Vt52Mode s safe = safe
 
 -- a row of a table, or none
-safe_row : {Row : Type 0} (change : Row → Shown → Shown) → ((row : Row) (s : Shown) → IsSafe s → IsSafe (change row s)) → (row : Option Row) (s : Shown) → IsSafe s → IsSafe (effect_of change row s)
+safe_row : {Row : Type 0} (change : Row → Console → Console) → ((row : Row) (s : Console) → IsSafe s → IsSafe (change row s)) → (row : Option Row) (s : Console) → IsSafe s → IsSafe (effect_of change row s)
 safe_row change each None s safe = safe
 safe_row change each (Some row) s safe = each row s safe
 
 -- ---- what does
 
 module _ (laws : ScreenLaws) where
-  pub safe_reset : IsSafe reset_shown
+  pub safe_reset : IsSafe reset_console
   safe_reset = record { sound = laws.reset; inside = λ is. absurd (cc is); saved = tt; leds = refl }
 
-  pub safe_put : (s : Shown) (glyph : ℕ) → glyph ≤ 126 → IsSafe s → IsSafe (put glyph s)
+  pub safe_put : (s : Console) (glyph : ℕ) → glyph ≤ 126 → IsSafe s → IsSafe (glyph_shown glyph s)
   safe_put s glyph high safe = safe_on s _ (laws.show glyph s.rendition s.modes.autowrap high) safe
 
-  safe_lf : (newline : Bool) (s : Shown) → IsSafe s → IsSafe (on_picture (line_fed newline) s)
+  safe_lf : (newline : Bool) (s : Console) → IsSafe s → IsSafe (on_picture (line_fed newline) s)
   safe_lf true s safe = safe_on (on_picture moved_to_left s) _ laws.index (safe_on s _ laws.to_left safe)
   safe_lf false s safe = safe_on s _ laws.index safe
 
-  safe_control : (control : Control) (s : Shown) → IsSafe s → IsSafe (control_effect control s)
+  safe_control : (control : Control) (s : Console) → IsSafe s → IsSafe (control_effect control s)
   safe_control Bs s safe = safe_on s _ (laws.left 1) safe
   safe_control Ht s safe = safe_on s _ laws.tab safe
   safe_control Lf s safe = safe_lf s.modes.newline s safe
@@ -176,13 +176,13 @@ module _ (laws : ScreenLaws) where
   safe_control So s safe = safe_invoked _ s.modes.mode s safe
   safe_control Si s safe = safe_invoked _ s.modes.mode s safe
 
-  safe_restored : (saved : Option Saved) (s : Shown) → IsSavedWell saved → IsSafe s → IsSafe (restored saved s)
+  safe_restored : (saved : Option Saved) (s : Console) → IsSavedWell saved → IsSafe s → IsSafe (restored saved s)
   safe_restored None s well safe = safe_goes s _ moved_home laws.home refl refl refl safe
   safe_restored (Some saved) s well safe =
       safe_goes s _ (λ origin. put_back saved.line saved.column saved.wrap origin s.modes.autowrap)
       (laws.put_back saved.line saved.column saved.wrap s.modes.autowrap well.0 well.1 well.2) refl refl refl safe
 
-  safe_escape : (escape : Escape) (s : Shown) → IsSafe s → IsSafe (escape_effect escape s)
+  safe_escape : (escape : Escape) (s : Console) → IsSafe s → IsSafe (escape_effect escape s)
   safe_escape Ind s safe = safe_lf false s safe
   safe_escape Nel s safe = safe_lf true s safe
   safe_escape Ri s safe = safe_on s _ laws.reverse_index safe
@@ -205,16 +205,16 @@ module _ (laws : ScreenLaws) where
   safe_escape Decaln s safe = safe_on s _ laws.align safe
   safe_escape (Scs slot set) s safe = safe_else s _ refl refl refl refl safe
 
-  safe_erased : (b : Bool) (op : Picture → Picture) (s : Shown) → Keeps op → IsSafe s → IsSafe (record s { picture = (if b then op s.picture else s.picture) })
+  safe_erased : (b : Bool) (op : Picture → Picture) (s : Console) → Keeps op → IsSafe s → IsSafe (record s { picture = (if b then op s.picture else s.picture) })
   safe_erased true op s keeps safe = safe_on s op keeps safe
   safe_erased false op s keeps safe = safe
 
-  safe_tabs : (a b : Bool) (s : Shown) → IsSafe s → IsSafe (record s { picture = (if a then tab_made false s.picture else (if b then tabs_cleared s.picture else s.picture)) })
+  safe_tabs : (a b : Bool) (s : Console) → IsSafe s → IsSafe (record s { picture = (if a then tab_made false s.picture else (if b then tabs_cleared s.picture else s.picture)) })
   safe_tabs true b s safe = safe_on s _ (laws.set_tab false) safe
   safe_tabs false true s safe = safe_on s _ laws.clear_tabs safe
   safe_tabs false false s safe = safe
 
-  safe_sequence : (sequence : Sequence) (params : List ℕ) (s : Shown) → IsSafe s → IsSafe (sequence_effect sequence params s)
+  safe_sequence : (sequence : Sequence) (params : List ℕ) (s : Console) → IsSafe s → IsSafe (sequence_effect sequence params s)
   safe_sequence Cuu params s safe = safe_on s _ (laws.up _) safe
   safe_sequence Cud params s safe = safe_on s _ (laws.down _) safe
   safe_sequence Cuf params s safe = safe_on s _ (laws.right _) safe
@@ -232,34 +232,34 @@ module _ (laws : ScreenLaws) where
   safe_sequence Decll params s safe = record { sound = safe.sound; inside = safe.inside; saved = safe.saved; leds = leds_kept params s.leds safe.leds }
   safe_sequence _ params s safe = safe
 
-  safe_vt52_entered : (value : Bool) (s : Shown) → IsSafe s → IsSafe (mode_effect value Decanm s)
+  safe_vt52_entered : (value : Bool) (s : Console) → IsSafe s → IsSafe (mode_effect value Decanm s)
   safe_vt52_entered true s safe = safe
   safe_vt52_entered false s safe = safe_else s _ refl refl refl refl safe
 
-  safe_autowrap : (value : Bool) (s : Shown) → IsSafe s → IsSafe (mode_effect value Decawm s)
+  safe_autowrap : (value : Bool) (s : Console) → IsSafe s → IsSafe (mode_effect value Decawm s)
   safe_autowrap true s safe = safe_else s _ refl refl refl refl safe
   safe_autowrap false s safe = safe_else (on_picture wrap_cleared s) _ refl refl refl refl (safe_on s _ laws.clear_wrap safe)
 
-  safe_mode : (value : Bool) (mode : PrivateMode) (s : Shown) → IsSafe s → IsSafe (mode_effect value mode s)
+  safe_mode : (value : Bool) (mode : PrivateMode) (s : Console) → IsSafe s → IsSafe (mode_effect value mode s)
   safe_mode value Decanm s safe = safe_vt52_entered value s safe
   safe_mode value Deccolm s safe = safe_goes s _ (columns_set value) (laws.columns value) refl refl refl safe
   safe_mode value Decom s safe = safe_goes s _ moved_home laws.home refl refl refl safe
   safe_mode value Decawm s safe = safe_autowrap value s safe
   safe_mode value _ s safe = safe_else s _ refl refl refl refl safe
 
-  safe_modes : (value : Bool) (params : List ℕ) (s : Shown) → IsSafe s → IsSafe (fold (mode_set value) s params)
+  safe_modes : (value : Bool) (params : List ℕ) (s : Console) → IsSafe s → IsSafe (fold (mode_set value) s params)
   safe_modes value [] s safe = safe
   safe_modes value (param ∷ params) s safe =
       safe_modes value params (mode_set value s param) (safe_row (mode_effect value) (safe_mode value) (named private_modes param) s safe)
 
-  safe_private : (last : ℕ) (params : List ℕ) (s : Shown) → IsSafe s → IsSafe (private_effect last params s)
+  safe_private : (last : ℕ) (params : List ℕ) (s : Console) → IsSafe s → IsSafe (private_effect last params s)
   safe_private last params s safe = safe_row (modes_set params) (λ value. safe_modes value params) (named switches last) s safe
 
-  safe_control_sequence : (private : Bool) (last : ℕ) (params : List ℕ) (s : Shown) → IsSafe s → IsSafe (control_sequence_effect private last params s)
+  safe_control_sequence : (private : Bool) (last : ℕ) (params : List ℕ) (s : Console) → IsSafe s → IsSafe (control_sequence_effect private last params s)
   safe_control_sequence true last params s safe = safe_private last params s safe
   safe_control_sequence false last params s safe = safe_row (λ row. sequence_effect row params) (λ row. safe_sequence row params) (sequence_named last) s safe
 
-  safe_vt52 : (sequence : Vt52Sequence) (s : Shown) → IsSafe s → IsSafe (vt52_effect sequence s)
+  safe_vt52 : (sequence : Vt52Sequence) (s : Console) → IsSafe s → IsSafe (vt52_effect sequence s)
   safe_vt52 Up s safe = safe_on s _ (laws.up 1) safe
   safe_vt52 Down s safe = safe_on s _ (laws.down 1) safe
   safe_vt52 Right s safe = safe_on s _ (laws.right 1) safe

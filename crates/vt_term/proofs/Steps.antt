@@ -13,9 +13,9 @@ use Rattle.vt_parser.specs.declared.states.ParserState.TheVariants.{Ground}
 use Rattle.vt_parser.specs.Control.{escape}
 use Rattle.vt_parser.specs.View.{parser_view}
 use Rattle.vt_parser.specs.Step.{command_of, pending_after, mode_after}
-use Rattle.vt_parser.specs.Law.{IsProper as IsProperCommand, is_sequence}
+use Rattle.vt_parser.specs.Law.{IsProper, is_sequence}
 use Rattle.vt_term.specs.declared.sets.Slot.{Slot}
-use Rattle.vt_term.specs.Shown.{Shown, IsSafe, effect_of}
+use Rattle.vt_term.specs.Console.{Console, IsSafe, effect_of}
 use Rattle.vt_term.specs.Controls.{Control, So, Si, control_named, control_effect, invoked}
 use Rattle.vt_term.specs.Effect.{effect, effect_if, reply_if}
 use Rattle.vt_term.specs.Term.{Term, mode_of, answered, step, play, sent}
@@ -25,20 +25,20 @@ use Rattle.vt_term.specs.Law.{LawsBelow}
 -- ---- the mode
 
 -- characters and controls leave the mode
-invoked_mode : (slot : Slot) (mode : Mode) (s : Shown) → (invoked slot mode s).modes.mode ≡ s.modes.mode
+invoked_mode : (slot : Slot) (mode : Mode) (s : Console) → (invoked slot mode s).modes.mode ≡ s.modes.mode
 invoked_mode slot Ansi s = refl
 invoked_mode slot Vt52Mode s = refl
 
-control_mode : (control : Option Control) (s : Shown) → (effect_of control_effect control s).modes.mode ≡ s.modes.mode
+control_mode : (control : Option Control) (s : Console) → (effect_of control_effect control s).modes.mode ≡ s.modes.mode
 control_mode None s = refl
 control_mode (Some control) s = kept control s
   where
-    kept : (control : Control) (s : Shown) → (control_effect control s).modes.mode ≡ s.modes.mode
+    kept : (control : Control) (s : Console) → (control_effect control s).modes.mode ≡ s.modes.mode
     kept So s = invoked_mode _ s.modes.mode s
     kept Si s = invoked_mode _ s.modes.mode s
     kept _ s = refl
 
-effect_mode : (command : Command) (s : Shown) → is_sequence command ≡ false → (effect command s).modes.mode ≡ s.modes.mode
+pub effect_mode : (command : Command) (s : Console) → is_sequence command ≡ false → (effect command s).modes.mode ≡ s.modes.mode
 unfolding effect
 effect_mode (Show byte) s is = refl
 effect_mode Error s is = refl
@@ -60,17 +60,17 @@ mode_after_same mode byte = elim (byte == escape) as (λ b. cond b mode mode ≡
 
 -- what is seen after a byte, by the state of the parser then
 abbrev pub seen_after : Seen → Option Command → ParserState → Seen
-seen_after seen command state = record { shown = effect_if command seen.shown; state = state }
+seen_after seen command state = record { console = effect_if command seen.console; state = state }
 
 -- a terminal's mode is that of the terms that it shows
-pub mode_shown : (seen : Seen) (x : Term) → Shows seen x → mode_of x ≡ seen.shown.modes.mode
-mode_shown seen x shows = ap (λ (s : Shown). s.modes.mode) shows.shown
+pub mode_shown : (seen : Seen) (x : Term) → Shows seen x → mode_of x ≡ seen.console.modes.mode
+mode_shown seen x shows = ap (λ (s : Console). s.modes.mode) shows.console
 
 -- the answer to a byte, by its command and what is seen
 pub answered_by : (seen : Seen) (x : Term) (byte : ℕ) (command : Option Command) → Shows seen x
-    → command_of (mode_of x) x.pending byte ≡ command → answered x byte ≡ reply_if command seen.shown
+    → command_of (mode_of x) x.pending byte ≡ command → answered x byte ≡ reply_if command seen.console
 answered_by seen x byte command shows is =
-    ap (λ (c : Option Command). reply_if c x.shown) is ∙ ap (reply_if command) shows.shown
+    ap (λ (c : Option Command). reply_if c x.console) is ∙ ap (reply_if command) shows.console
 
 -- ---- many bytes
 
@@ -121,14 +121,14 @@ sent_appended x (byte ∷ bytes) =
 -- ---- what stands on the laws of the parser and of the screen
 
 module _ (laws : LawsBelow) where
-  view_of_none : (m n : Mode) (p : List ℕ) (state : ParserState) → p ≡ [] → parser_view m p ≡ Some state → parser_view n p ≡ Some state
+  pub view_of_none : (m n : Mode) (p : List ℕ) (state : ParserState) → p ≡ [] → parser_view m p ≡ Some state → parser_view n p ≡ Some state
   view_of_none m n p state none view =
       let there : parser_view n p ≡ Some Ground = ap (parser_view n) none ∙ laws.ground_is_empty.0 n in
       let here : parser_view m p ≡ Some Ground = ap (parser_view m) none ∙ laws.ground_is_empty.0 m in
       there ∙ sym here ∙ view
 
   -- after a command's effect what is pending shows what it showed before it
-  pub view_after : (m : Mode) (p : List ℕ) (byte : ℕ) (s : Shown) (state : ParserState) (command : Option Command)
+  pub view_after : (m : Mode) (p : List ℕ) (byte : ℕ) (s : Console) (state : ParserState) (command : Option Command)
       → command_of m p byte ≡ command → s.modes.mode ≡ m → parser_view m (pending_after m p byte) ≡ Some state
       → parser_view (effect_if command s).modes.mode (pending_after m p byte) ≡ Some state
   view_after m p byte s state None is same view = view_in m s.modes.mode (pending_after m p byte) state same view
@@ -142,8 +142,8 @@ module _ (laws : LawsBelow) where
       → parser_view (mode_of x) (pending_after (mode_of x) x.pending byte) ≡ Some state
       → Shows (seen_after seen command state) (step x byte)
   shows_step seen x byte command state shows is view = record {
-    shown = ap (λ (c : Option Command). effect_if c x.shown) is ∙ ap (effect_if command) shows.shown;
-    state = view_after (mode_of x) x.pending byte x.shown state (command_of (mode_of x) x.pending byte) refl refl view;
+    console = ap (λ (c : Option Command). effect_if c x.console) is ∙ ap (effect_if command) shows.console;
+    state = view_after (mode_of x) x.pending byte x.console state (command_of (mode_of x) x.pending byte) refl refl view;
   }
 
   -- ---- terms of which the same is seen
@@ -187,16 +187,16 @@ module _ (laws : LawsBelow) where
 
   -- ---- every term from the reset term is safe
 
-  proper_command : (x : Term) (byte : ℕ) → IfSome (command_of (mode_of x) x.pending byte) IsProperCommand
+  proper_command : (x : Term) (byte : ℕ) → IfSome (command_of (mode_of x) x.pending byte) IsProper
   proper_command x byte = laws.commands_are_proper (mode_of x) x.pending byte
 
-  safe_if : (command : Option Command) (s : Shown) → IfSome command IsProperCommand → IsSafe s → IsSafe (effect_if command s)
+  safe_if : (command : Option Command) (s : Console) → IfSome command IsProper → IsSafe s → IsSafe (effect_if command s)
   safe_if None s proper safe = safe
   safe_if (Some command) s proper safe = laws.commands_keep_safe command s proper safe
 
-  pub safe_step : (x : Term) (byte : ℕ) → IsSafe x.shown → IsSafe (step x byte).shown
-  safe_step x byte safe = safe_if (command_of (mode_of x) x.pending byte) x.shown (proper_command x byte) safe
+  pub safe_step : (x : Term) (byte : ℕ) → IsSafe x.console → IsSafe (step x byte).console
+  safe_step x byte safe = safe_if (command_of (mode_of x) x.pending byte) x.console (proper_command x byte) safe
 
-  pub safe_play : (x : Term) (bytes : List ℕ) → IsSafe x.shown → IsSafe (play x bytes).shown
-  safe_play x [] safe = subst (λ (y : Term). IsSafe y.shown) (sym (play_none x)) safe
-  safe_play x (byte ∷ bytes) safe = subst (λ (y : Term). IsSafe y.shown) (sym (play_more x byte bytes)) (safe_play (step x byte) bytes (safe_step x byte safe))
+  pub safe_play : (x : Term) (bytes : List ℕ) → IsSafe x.console → IsSafe (play x bytes).console
+  safe_play x [] safe = subst (λ (y : Term). IsSafe y.console) (sym (play_none x)) safe
+  safe_play x (byte ∷ bytes) safe = subst (λ (y : Term). IsSafe y.console) (sym (play_more x byte bytes)) (safe_play (step x byte) bytes (safe_step x byte safe))

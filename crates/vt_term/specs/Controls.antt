@@ -9,7 +9,7 @@ use Rattle.vt_screen.specs.Tabs.{tabbed}
 use Rattle.vt_term.specs.declared.sets.Slot.{Slot}
 use Rattle.vt_term.specs.declared.sets.Slot.TheVariants.{G0, G1}
 use Rattle.vt_term.specs.Rows.{named}
-use Rattle.vt_term.specs.Shown.{Shown, on_picture, on_sets}
+use Rattle.vt_term.specs.Console.{Console, on_picture, on_sets}
 
 -- the control characters that have an effect; VT and FF are read as LF (EK-VT100-UG chapter 3)
 pub data Control : Type 0 where
@@ -36,12 +36,12 @@ abbrev pub line_fed : Bool → Picture → Picture
 line_fed newline p = indexed (if newline then moved_to_left p else p)
 
 -- SO and SI: the other slot is invoked; nothing in VT52 mode (profile)
-abbrev pub invoked : Slot → Mode → Shown → Shown
+abbrev pub invoked : Slot → Mode → Console → Console
 invoked slot Ansi s = on_sets (λ sets. record sets { invoked = slot }) s
 invoked slot Vt52 s = s
 
 -- the table of their effects (EK-VT100-UG chapter 3; SO and SI in VT52 mode: profile)
-abbrev pub control_effect : Control → Shown → Shown
+abbrev pub control_effect : Control → Console → Console
 control_effect Bs s = on_picture (stepped_left 1) s
 control_effect Ht s = on_picture tabbed s
 control_effect Lf s = on_picture (line_fed s.modes.newline) s

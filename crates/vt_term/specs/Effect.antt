@@ -1,9 +1,13 @@
 -- What a command does to a terminal, and what the terminal answers.
-use Rattle.std.specs.Prelude.{ℕ, Bool, true, false, List, [], Option, Some, None}
+use Rattle.std.specs.Prelude.{ℕ, ◌≤◌, Bool, true, false, List, [], map, All, Option, Some, None}
 use Rattle.vt_parser.specs.declared.commands.Command.{Command}
 use Rattle.vt_parser.specs.declared.commands.Command.TheVariants.{Show, Error, Control, Esc, Csi, Vt52, Vt52Address}
+use Rattle.vt_parser.specs.declared.tokens.Token.{Token}
+use Rattle.vt_parser.specs.declared.tokens.Token.TheVariants as token
+use Rattle.vt_parser.specs.Token.{command_of_token}
+use Rattle.vt_parser.specs.Law.{IsProper}
 use Rattle.vt_screen.specs.Puts.{shown, run_shown}
-use Rattle.vt_term.specs.Shown.{Shown, on_picture, effect_of}
+use Rattle.vt_term.specs.Console.{Console, on_picture, effect_of}
 use Rattle.vt_term.specs.Sets.{glyph_of, checkerboard, set_in_use}
 use Rattle.vt_term.specs.Controls.{control_named, control_effect}
 use Rattle.vt_term.specs.Escapes.{escape_named, escape_effect}
@@ -13,26 +17,26 @@ use Rattle.vt_term.specs.Vt52.{vt52_named, vt52_effect, address_effect}
 use Rattle.vt_term.specs.Replies.{escape_reply, sequence_reply, vt52_reply, reply_of}
 
 -- a glyph is shown with the current rendition
-abbrev pub put : ℕ → Shown → Shown
-put glyph s = on_picture (shown glyph s.rendition s.modes.autowrap) s
+abbrev pub glyph_shown : ℕ → Console → Console
+glyph_shown glyph s = on_picture (shown glyph s.rendition s.modes.autowrap) s
 
 -- glyphs are shown one after another
-abbrev pub run_put : List ℕ → Shown → Shown
-run_put glyphs s = on_picture (run_shown glyphs s.rendition s.modes.autowrap) s
+abbrev pub glyphs_shown : List ℕ → Console → Console
+glyphs_shown glyphs s = on_picture (run_shown glyphs s.rendition s.modes.autowrap) s
 
 -- the glyph of a byte in the set in use
-abbrev pub glyph_for : Shown → ℕ → ℕ
+abbrev pub glyph_for : Console → ℕ → ℕ
 glyph_for s byte = glyph_of (set_in_use s.modes.mode s.sets) byte
 
 -- a control sequence, with `?` or without
-abbrev pub control_sequence_effect : Bool → ℕ → List ℕ → Shown → Shown
+abbrev pub control_sequence_effect : Bool → ℕ → List ℕ → Console → Console
 control_sequence_effect true last params s = private_effect last params s
 control_sequence_effect false last params s = effect_of (λ row. sequence_effect row params) (sequence_named last) s
 
 -- the effect of a command: of a whole sequence, a control, a character or the error character
-unfoldable pub effect : Command → Shown → Shown
-effect (Show byte) s = put (glyph_for s byte) s
-effect Error s = put checkerboard s
+unfoldable pub effect : Command → Console → Console
+effect (Show byte) s = glyph_shown (glyph_for s byte) s
+effect Error s = glyph_shown checkerboard s
 effect (Control byte) s = effect_of control_effect (control_named byte) s
 effect (Esc inter last) s = effect_of escape_effect (escape_named inter last) s
 effect (Csi private params last) s = control_sequence_effect private last params.items s
@@ -40,12 +44,12 @@ effect (Vt52 last) s = effect_of vt52_effect (vt52_named last) s
 effect (Vt52Address line column) s = address_effect line column s
 
 -- the answer to a control sequence: to none with `?`
-abbrev pub control_sequence_reply : Bool → ℕ → List ℕ → Shown → List ℕ
+abbrev pub control_sequence_reply : Bool → ℕ → List ℕ → Console → List ℕ
 control_sequence_reply true last params s = []
 control_sequence_reply false last params s = reply_of (λ row. sequence_reply row params s) (sequence_named last)
 
 -- the answer to a command, which is sent before its effect
-unfoldable pub reply : Command → Shown → List ℕ
+unfoldable pub reply : Command → Console → List ℕ
 reply (Show byte) s = []
 reply Error s = []
 reply (Control byte) s = []
@@ -55,10 +59,34 @@ reply (Vt52 last) s = reply_of vt52_reply (vt52_named last)
 reply (Vt52Address line column) s = []
 
 -- where a byte gives no command, nothing changes and nothing is answered
-abbrev pub effect_if : Option Command → Shown → Shown
+abbrev pub effect_if : Option Command → Console → Console
 effect_if None s = s
 effect_if (Some command) s = effect command s
 
-abbrev pub reply_if : Option Command → Shown → List ℕ
+abbrev pub reply_if : Option Command → Console → List ℕ
 reply_if None s = []
 reply_if (Some command) s = reply command s
+
+-- the effect of a token: of a run the glyphs of its characters, of any other that of its command
+abbrev pub token_effect : Token → Console → Console
+token_effect (token.Show run) s = glyphs_shown (map (glyph_for s) run.now) s
+token_effect other s = effect (command_of_token other) s
+
+-- the answer to it
+abbrev pub token_reply : Token → Console → List ℕ
+token_reply (token.Show run) s = []
+token_reply other s = reply (command_of_token other) s
+
+-- the same where the bytes come to none
+abbrev pub token_effect_if : Option Token → Console → Console
+token_effect_if None s = s
+token_effect_if (Some told) s = token_effect told s
+
+abbrev pub token_reply_if : Option Token → Console → List ℕ
+token_reply_if None s = []
+token_reply_if (Some told) s = token_reply told s
+
+-- the numbers of a token are in their ranges
+abbrev pub IsProperToken : Token → Type 0
+IsProperToken (token.Show run) = All (λ byte. byte ≤ 126) run.now
+IsProperToken other = IsProper (command_of_token other)

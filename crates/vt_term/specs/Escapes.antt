@@ -13,7 +13,7 @@ use Rattle.vt_term.specs.declared.sets.Slot.TheVariants.{G0, G1}
 use Rattle.vt_term.specs.declared.saved.Saved.{Saved}
 use Rattle.vt_term.specs.Rows.{named}
 use Rattle.vt_term.specs.Sets.{designated}
-use Rattle.vt_term.specs.Shown.{Shown, reset_shown, on_picture, on_modes, on_sets}
+use Rattle.vt_term.specs.Console.{Console, reset_console, on_picture, on_modes, on_sets}
 
 -- the escape sequences that have an effect or a reply (EK-VT100-UG chapter 3)
 pub data Escape : Type 0 where
@@ -69,7 +69,7 @@ escape_named (Some inter) last =
     else None))
 
 -- DECSC: cursor, rendition and sets (EK-VT100-UG chapter 3), and also the pending wrap and DECOM (profile)
-abbrev pub saved_from : Shown → Saved
+abbrev pub saved_from : Console → Saved
 saved_from s = record {
   line = s.picture.line;
   column = s.picture.column;
@@ -83,7 +83,7 @@ saved_from s = record {
 
 -- DECRC (profile): what was saved comes back and stays saved; without a save home with DECOM reset, no wrap and no
 -- rendition, ASCII in G0 and G1, and G0 invoked
-abbrev pub restored : Option Saved → Shown → Shown
+abbrev pub restored : Option Saved → Console → Console
 restored None s = record s {
   picture = moved_home false s.picture;
   modes = record s.modes { origin = false };
@@ -98,17 +98,17 @@ restored (Some saved) s = record s {
 }
 
 -- DECKPAM and DECKPNM (EK-VT100-UG chapter 3)
-abbrev pub keypad_set : Bool → Shown → Shown
+abbrev pub keypad_set : Bool → Console → Console
 keypad_set application s = on_modes (λ modes. record modes { application_keypad = application }) s
 
 -- the table of their effects; DECID replies and has none (EK-VT100-UG chapter 3)
-abbrev pub escape_effect : Escape → Shown → Shown
+abbrev pub escape_effect : Escape → Console → Console
 escape_effect Ind s = on_picture indexed s
 escape_effect Nel s = on_picture (λ p. indexed (moved_to_left p)) s
 escape_effect Ri s = on_picture reverse_indexed s
 escape_effect Hts s = on_picture (tab_made true) s
 escape_effect Decid s = s
-escape_effect Ris s = reset_shown
+escape_effect Ris s = reset_console
 escape_effect Decsc s = record s { saved = Some (saved_from s) }
 escape_effect Decrc s = restored s.saved s
 escape_effect Deckpam s = keypad_set true s

@@ -3,7 +3,7 @@ use Rattle.std.specs.Prelude.{◌≡◌, ℕ, ◌*◌, ◌≤◌, List, ◌++◌
 use Rattle.vt_parser.specs.declared.commands.Command.{Command}
 use Rattle.vt_parser.specs.Law.{IsProper, StateDecides, StaysShown, GroundIsEmpty, FinishedLeavesNothing, PendingPays, GraphicIsShown, CommandsAreProper}
 use Rattle.vt_screen.specs.Picture.{Picture, right_margin}
-use Rattle.vt_term.specs.Shown.{Shown, IsSafe, reset_shown}
+use Rattle.vt_term.specs.Console.{Console, IsSafe, reset_console}
 use Rattle.vt_term.specs.Effect.{effect}
 use Rattle.vt_term.specs.Term.{Term, reset_term, play, sent}
 use Rattle.vt_term.specs.Seen.{Seen, Shows}
@@ -33,13 +33,13 @@ SendsLittle = (bytes : List ℕ) → 3 * length (sent reset_term bytes) ≤ 20 *
 
 -- Whatever bytes a safe term takes, it stays safe.
 abbrev pub StaysSafe : Type 0
-StaysSafe = (x : Term) (bytes : List ℕ) → IsSafe x.shown → IsSafe (play x bytes).shown
+StaysSafe = (x : Term) (bytes : List ℕ) → IsSafe x.console → IsSafe (play x bytes).console
 
 -- ---- what these laws stand on
 
 -- A command whose numbers are in their ranges keeps a terminal safe.
 abbrev pub CommandsKeepSafe : Type 0
-CommandsKeepSafe = (command : Command) (s : Shown) → IsProper command → IsSafe s → IsSafe (effect command s)
+CommandsKeepSafe = (command : Command) (s : Console) → IsProper command → IsSafe s → IsSafe (effect command s)
 
 -- the laws of the parser, and what those of the screen come to
 pub record LawsBelow : Type 0 where
@@ -51,5 +51,5 @@ pub record LawsBelow : Type 0 where
   pub graphic_is_shown : GraphicIsShown
   pub commands_are_proper : CommandsAreProper
   pub right_margins : (p : Picture) (line : ℕ) → right_margin p line ≤ 132
-  pub reset_is_safe : IsSafe reset_shown
+  pub reset_is_safe : IsSafe reset_console
   pub commands_keep_safe : CommandsKeepSafe

@@ -1,6 +1,6 @@
 pub mod Rows
 pub mod Sets
-pub mod Shown
+pub mod Console
 pub mod Controls
 pub mod Escapes
 pub mod Sequences

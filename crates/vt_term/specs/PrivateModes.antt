@@ -4,7 +4,7 @@ use Rattle.vt_parser.specs.declared.commands.Mode.TheVariants.{Vt52}
 use Rattle.vt_screen.specs.Moves.{moved_home, wrap_cleared}
 use Rattle.vt_screen.specs.Lines.{columns_set}
 use Rattle.vt_term.specs.Rows.{named}
-use Rattle.vt_term.specs.Shown.{Shown, on_picture, on_modes, effect_of}
+use Rattle.vt_term.specs.Console.{Console, on_picture, on_modes, effect_of}
 
 -- the modes that have an effect or are kept (EK-VT100-UG chapter 3)
 pub data PrivateMode : Type 0 where
@@ -32,7 +32,7 @@ switches =
     []
 
 -- DECANM reset: VT52 mode (EK-VT100-UG chapter 3), its graphics off (profile)
-abbrev pub vt52_entered : Shown → Shown
+abbrev pub vt52_entered : Console → Console
 vt52_entered s = record s {
   modes = record s.modes { mode = Vt52 };
   sets = record s.sets { vt52_graphics = false };
@@ -40,7 +40,7 @@ vt52_entered s = record s {
 
 -- The table of their effects, set (true) or reset. DECCKM, DECSCLM, DECARM and DECINLM are kept and have no other effect
 -- (EK-VT100-UG chapter 3; what they keep: profile).
-abbrev pub mode_effect : Bool → PrivateMode → Shown → Shown
+abbrev pub mode_effect : Bool → PrivateMode → Console → Console
 mode_effect value Decckm s = on_modes (λ modes. record modes { cursor_keys = value }) s
 mode_effect value Decanm s = if value then s else vt52_entered s
 mode_effect value Deccolm s = on_picture (columns_set value s.modes.origin) s
@@ -55,13 +55,13 @@ mode_effect value Decarm s = on_modes (λ modes. record modes { auto_repeat = va
 mode_effect value Decinlm s = on_modes (λ modes. record modes { interlace = value }) s
 
 -- one parameter; a number that names no mode does nothing (EK-VT100-UG chapter 3)
-abbrev pub mode_set : Bool → Shown → ℕ → Shown
+abbrev pub mode_set : Bool → Console → ℕ → Console
 mode_set value s param = effect_of (mode_effect value) (named private_modes param) s
 
 -- every parameter, from left to right
-abbrev pub modes_set : List ℕ → Bool → Shown → Shown
+abbrev pub modes_set : List ℕ → Bool → Console → Console
 modes_set params value s = fold (mode_set value) s params
 
 -- other finals have no effect (EK-VT100-UG chapter 3)
-abbrev pub private_effect : ℕ → List ℕ → Shown → Shown
+abbrev pub private_effect : ℕ → List ℕ → Console → Console
 private_effect last params s = effect_of (modes_set params) (named switches last) s

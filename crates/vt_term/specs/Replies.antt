@@ -1,39 +1,35 @@
 -- What a terminal answers (EK-VT100-UG chapter 3, reports). All else is answered by nothing.
 use Rattle.std.specs.Prelude.{ℕ, ◌-◌, Bool, List, [], ◌∷◌, ◌++◌, Option, Some, None, ◌==◌, codes, decimal, if◌then◌else◌}
-use Rattle.vt_screen.specs.Picture.{Picture}
+use Rattle.vt_parser.specs.Control.{escape}
 use Rattle.vt_term.specs.Escapes.{Escape, Decid}
 use Rattle.vt_term.specs.Vt52.{Vt52Sequence, Identify}
 use Rattle.vt_term.specs.Sequences.{Sequence, Da, Dsr, Decreqtparm, first_of}
-use Rattle.vt_term.specs.Shown.{Shown}
-
--- ESC and a text
-abbrev pub escaped : List ℕ → List ℕ
-escaped text = 27 ∷ text
+use Rattle.vt_term.specs.Console.{Console}
 
 -- DA: a VT100 with the Advanced Video Option (EK-VT100-UG chapter 3)
 abbrev pub device_attributes : List ℕ
-device_attributes = escaped (codes "[?1;2c")
+device_attributes = escape ∷ codes "[?1;2c"
 
 -- DSR: no malfunction (EK-VT100-UG chapter 3)
 abbrev pub ready : List ℕ
-ready = escaped (codes "[0n")
+ready = escape ∷ codes "[0n"
 
 -- the cursor's line, counted from the top margin where DECOM is set (EK-VT100-UG chapter 3)
-abbrev pub reported_line : Bool → Picture → ℕ
-reported_line origin p = if origin then p.line - (p.top - 1) else p.line
+abbrev pub reported_line : Bool → ℕ → ℕ → ℕ
+reported_line origin line top = if origin then line - (top - 1) else line
 
 -- CPR: line and column (EK-VT100-UG chapter 3)
 abbrev pub cursor_position : ℕ → ℕ → List ℕ
 cursor_position line column =
-    escaped (codes "[" ++ decimal line ++ codes ";" ++ decimal column ++ codes "R")
+    escape ∷ codes "[" ++ decimal line ++ codes ";" ++ decimal column ++ codes "R"
 
 -- DECREPTPARM: no parity, 8 bits, 9,600 baud both ways (the values: profile)
 abbrev pub terminal_parameters : List ℕ → List ℕ
-terminal_parameters solicited = escaped (codes "[" ++ solicited ++ codes ";1;1;112;112;1;0x")
+terminal_parameters solicited = escape ∷ codes "[" ++ solicited ++ codes ";1;1;112;112;1;0x"
 
 -- a VT100 that acts as a VT52 (EK-VT100-UG chapter 3)
 abbrev pub vt52_identity : List ℕ
-vt52_identity = escaped (codes "/Z")
+vt52_identity = escape ∷ codes "/Z"
 
 -- DECID (EK-VT100-UG chapter 3)
 abbrev pub escape_reply : Escape → List ℕ
@@ -45,10 +41,10 @@ abbrev pub attributes_reply : ℕ → List ℕ
 attributes_reply param = if param == 0 then device_attributes else []
 
 -- DSR 5 and 6 (EK-VT100-UG chapter 3)
-abbrev pub status_reply : ℕ → Shown → List ℕ
+abbrev pub status_reply : ℕ → Console → List ℕ
 status_reply param s =
     if param == 5 then ready
-    else (if param == 6 then cursor_position (reported_line s.modes.origin s.picture) s.picture.column
+    else (if param == 6 then cursor_position (reported_line s.modes.origin s.picture.line s.picture.top) s.picture.column
     else [])
 
 -- DECREQTPARM 0 and 1 (EK-VT100-UG chapter 3)
@@ -59,7 +55,7 @@ parameters_reply param =
     else [])
 
 -- the table of the answers to control sequences
-abbrev pub sequence_reply : Sequence → List ℕ → Shown → List ℕ
+abbrev pub sequence_reply : Sequence → List ℕ → Console → List ℕ
 sequence_reply Da params s = attributes_reply (first_of params)
 sequence_reply Dsr params s = status_reply (first_of params) s
 sequence_reply Decreqtparm params s = parameters_reply (first_of params)

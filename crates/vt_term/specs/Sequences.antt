@@ -8,7 +8,7 @@ use Rattle.vt_screen.specs.Lines.{margins_set}
 use Rattle.vt_screen.specs.Tabs.{tab_made, tabs_cleared}
 use Rattle.vt_term.specs.declared.modes.Modes.{Modes}
 use Rattle.vt_term.specs.Rows.{named}
-use Rattle.vt_term.specs.Shown.{Shown, dark, on_picture, on_modes}
+use Rattle.vt_term.specs.Console.{Console, dark, on_picture, on_modes}
 
 -- the control sequences that have an effect or a reply; HVP is read as CUP (EK-VT100-UG chapter 3)
 pub data Sequence : Type 0 where
@@ -88,7 +88,7 @@ leds_set leds param =
 
 -- The table of their effects. SGR, SM, RM and DECLL take every parameter, from left to right; the others take the first
 -- one, or two, and drop the rest (profile). DA, DSR and DECREQTPARM reply and have no effect.
-abbrev pub sequence_effect : Sequence → List ℕ → Shown → Shown
+abbrev pub sequence_effect : Sequence → List ℕ → Console → Console
 sequence_effect Cuu params s = on_picture (stepped_up (counted (first_of params))) s
 sequence_effect Cud params s = on_picture (stepped_down (counted (first_of params))) s
 sequence_effect Cuf params s = on_picture (stepped_right (counted (first_of params))) s

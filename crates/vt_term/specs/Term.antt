@@ -2,31 +2,31 @@
 use Rattle.std.specs.Prelude.{ℕ, List, [], ◌∷◌, ◌++◌, fold}
 use Rattle.vt_parser.specs.declared.commands.Mode.{Mode}
 use Rattle.vt_parser.specs.Step.{command_of, pending_after}
-use Rattle.vt_term.specs.Shown.{Shown, reset_shown}
+use Rattle.vt_term.specs.Console.{Console, reset_console}
 use Rattle.vt_term.specs.Effect.{effect_if, reply_if}
 
 -- what it shows, the bytes of the sequence that isn't finished from its ESC on, and all bytes sent so far
 pub record Term : Type 0 where
-  pub shown : Shown
+  pub console : Console
   pub pending : List ℕ
   pub reports : List ℕ
 
 -- the reset term: the initial state, nothing pending, nothing sent
 abbrev pub reset_term : Term
-reset_term = record { shown = reset_shown; pending = []; reports = [] }
+reset_term = record { console = reset_console; pending = []; reports = [] }
 
 -- the mode in which the pending bytes are read: it changes only as a sequence finishes
 abbrev pub mode_of : Term → Mode
-mode_of x = x.shown.modes.mode
+mode_of x = x.console.modes.mode
 
 -- what one byte is answered by
 abbrev pub answered : Term → ℕ → List ℕ
-answered x byte = reply_if (command_of (mode_of x) x.pending byte) x.shown
+answered x byte = reply_if (command_of (mode_of x) x.pending byte) x.console
 
 -- the step of a byte
 abbrev pub step : Term → ℕ → Term
 step x byte = record {
-  shown = effect_if (command_of (mode_of x) x.pending byte) x.shown;
+  console = effect_if (command_of (mode_of x) x.pending byte) x.console;
   pending = pending_after (mode_of x) x.pending byte;
   reports = x.reports ++ answered x byte;
 }

@@ -5,7 +5,7 @@ use Rattle.vt_screen.specs.Moves.{stepped_up, stepped_down, stepped_right, stepp
 use Rattle.vt_screen.specs.Scrolls.{reverse_indexed}
 use Rattle.vt_screen.specs.Erasures.{display_erased, line_erased}
 use Rattle.vt_term.specs.Rows.{named}
-use Rattle.vt_term.specs.Shown.{Shown, on_picture, on_modes, on_sets}
+use Rattle.vt_term.specs.Console.{Console, on_picture, on_modes, on_sets}
 use Rattle.vt_term.specs.Escapes.{keypad_set}
 
 -- the sequences of VT52 mode that have an effect or a reply (EK-VT100-UG chapter 3)
@@ -35,12 +35,12 @@ abbrev pub vt52_named : ℕ → Option Vt52Sequence
 vt52_named = named vt52_sequences
 
 -- VT52 graphics on and off (EK-VT100-UG chapter 3)
-abbrev pub graphics_set : Bool → Shown → Shown
+abbrev pub graphics_set : Bool → Console → Console
 graphics_set value s = on_sets (λ sets. record sets { vt52_graphics = value }) s
 
 -- The table of their effects. Identify replies and has none; in ANSI mode again, G0, G1 and the invoked set are as they were
 -- (EK-VT100-UG chapter 3; what stays: profile).
-abbrev pub vt52_effect : Vt52Sequence → Shown → Shown
+abbrev pub vt52_effect : Vt52Sequence → Console → Console
 vt52_effect Up s = on_picture (stepped_up 1) s
 vt52_effect Down s = on_picture (stepped_down 1) s
 vt52_effect Right s = on_picture (stepped_right 1) s
@@ -57,5 +57,5 @@ vt52_effect KeypadNumeric s = keypad_set false s
 vt52_effect EnterAnsi s = on_modes (λ modes. record modes { mode = Ansi }) s
 
 -- a direct cursor address: CUP with line and column (EK-VT100-UG chapter 3)
-abbrev pub address_effect : ℕ → ℕ → Shown → Shown
+abbrev pub address_effect : ℕ → ℕ → Console → Console
 address_effect line column s = on_picture (placed line column s.modes.origin) s

@@ -1,8 +1,8 @@
 //! A terminal without its parser: the screen, the modes, the sets and what else commands change.
 ghost use Rattle.std.specs.Prelude.{◌≡◌, ◌≤◌, All, map, length, take};
 ghost use Rattle.vt_term.specs.Sets.{glyph_of, set_in_use};
-ghost use Rattle.vt_term.specs.Shown.{reset_shown, shown_of};
-ghost use Rattle.vt_term.specs.Effect.{put, run_put, glyph_for};
+ghost use Rattle.vt_term.specs.Console.{reset_console, console_of};
+ghost use Rattle.vt_term.specs.Effect.{glyph_shown, glyphs_shown, glyph_for};
 
 use crate::sets::CHECKERBOARD;
 use crate::{CharacterSet, Modes, Saved, Sets};
@@ -24,7 +24,7 @@ pub(crate) struct Console {
 
 impl Console {
     pub(crate) fn reset() -> Self
-        ensures { shown_of result ≡ reset_shown }
+        ensures { console_of result ≡ reset_console }
     {
         Console {
             screen: Screen::reset(),
@@ -37,7 +37,7 @@ impl Console {
     }
 
     pub(crate) fn copy_from(&mut self, other: &Console)
-        ensures { shown_of self.new ≡ shown_of other.now }
+        ensures { console_of self.new ≡ console_of other.now }
     {
         self.screen.copy_from(&other.screen);
         self.modes = other.modes;
@@ -56,35 +56,25 @@ impl Console {
 
     /// Shows a glyph with the current rendition.
     #[inline]
-    fn put(&mut self, glyph: u8)
+    fn show_glyph(&mut self, glyph: u8)
         requires { glyph ≤ 126 }
-        ensures { shown_of self.new ≡ put glyph (shown_of self.old) }
+        ensures { console_of self.new ≡ glyph_shown glyph (console_of self.old) }
     {
         self.screen.show(glyph, self.rendition, self.modes.autowrap);
     }
 
-    /// Shows a byte's glyph.
-    #[inline]
-    pub(crate) fn show(&mut self, byte: u8)
-        requires { byte ≤ 126 }
-        ensures { shown_of self.new ≡ put (glyph_for (shown_of self.old) byte) (shown_of self.old) }
-    {
-        let glyph = self.set_in_use().glyph(byte);
-        self.put(glyph);
-    }
-
     /// Shows the error character.
     pub(crate) fn show_error(&mut self)
-        ensures { shown_of self.new ≡ put CHECKERBOARD (shown_of self.old) }
+        ensures { console_of self.new ≡ glyph_shown CHECKERBOARD (console_of self.old) }
     {
-        self.put(CHECKERBOARD);
+        self.show_glyph(CHECKERBOARD);
     }
 
     /// Shows the glyphs of a run of bytes.
     #[inline]
     pub(crate) fn show_bytes(&mut self, bytes: &[u8])
         requires { All (λ byte. byte ≤ 126) bytes.now }
-        ensures { shown_of self.new ≡ run_put (map (glyph_for (shown_of self.old)) bytes.now) (shown_of self.old) }
+        ensures { console_of self.new ≡ glyphs_shown (map (glyph_for (console_of self.old)) bytes.now) (console_of self.old) }
     {
         match self.set_in_use() {
             CharacterSet::Ascii => self
@@ -97,7 +87,7 @@ impl Console {
     // Shows the glyphs that a run of bytes has in a set, a line's at a time.
     fn show_glyphs(&mut self, set: CharacterSet, bytes: &[u8])
         requires { All (λ byte. byte ≤ 126) bytes.now }
-        ensures { shown_of self.new ≡ run_put (map (glyph_of set) bytes.now) (shown_of self.old) }
+        ensures { console_of self.new ≡ glyphs_shown (map (glyph_of set) bytes.now) (console_of self.old) }
     {
         let mut rest = bytes;
         while !rest.is_empty() {
@@ -110,7 +100,7 @@ impl Console {
     fn show_piece(&mut self, set: CharacterSet, bytes: &[u8])
         requires short { length bytes.now ≤ 132 }
         requires graphic { All (λ byte. byte ≤ 126) bytes.now }
-        ensures { shown_of self.new ≡ run_put (map (glyph_of set) bytes.now) (shown_of self.old) }
+        ensures { console_of self.new ≡ glyphs_shown (map (glyph_of set) bytes.now) (console_of self.old) }
     {
         let mut glyphs = [0; PIECE];
         write_glyphs(set, bytes, &mut glyphs);

@@ -1,7 +1,7 @@
 //! Control characters.
 ghost use Rattle.std.specs.Prelude.{◌≡◌};
 ghost use Rattle.vt_term.specs.Controls.{control_named, control_effect, line_fed, invoked};
-ghost use Rattle.vt_term.specs.Shown.{shown_of, on_picture, effect_of};
+ghost use Rattle.vt_term.specs.Console.{console_of, on_picture, effect_of};
 
 use crate::Slot;
 use crate::console::Console;
@@ -11,7 +11,7 @@ impl Console {
     /// Does what a control character asks for.
     #[inline]
     pub(crate) fn control(&mut self, byte: u8)
-        ensures { shown_of self.new ≡ effect_of control_effect (control_named byte) (shown_of self.old) }
+        ensures { console_of self.new ≡ effect_of control_effect (control_named byte) (console_of self.old) }
     {
         match byte {
             8 => self.screen.step_left(1), // BS
@@ -26,7 +26,7 @@ impl Console {
 
     #[inline]
     fn feed_line(&mut self)
-        ensures { shown_of self.new ≡ on_picture (line_fed self.old.modes.newline) (shown_of self.old) }
+        ensures { console_of self.new ≡ on_picture (line_fed self.old.modes.newline) (console_of self.old) }
     {
         if self.modes.newline {
             self.screen.to_left();
@@ -35,7 +35,7 @@ impl Console {
     }
 
     fn invoke(&mut self, slot: Slot)
-        ensures { shown_of self.new ≡ invoked slot self.old.modes.mode (shown_of self.old) }
+        ensures { console_of self.new ≡ invoked slot self.old.modes.mode (console_of self.old) }
     {
         match self.modes.mode {
             Mode::Ansi => self.sets.invoked = slot,

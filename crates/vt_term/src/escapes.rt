@@ -4,7 +4,7 @@ ghost use Rattle.vt_term.specs.Rows.{named};
 ghost use Rattle.vt_term.specs.Escapes.{Nel, Decsc, plain_escapes, line_escapes, character_sets, designation_named, escape_named, escape_effect, restored, saved_from, keypad_set};
 ghost use Rattle.vt_term.specs.Replies.{escape_reply, reply_of};
 ghost use Rattle.vt_term.specs.Sink.{after_sending, HasRoom};
-ghost use Rattle.vt_term.specs.Shown.{shown_of, on_picture, effect_of, IsSavedWell};
+ghost use Rattle.vt_term.specs.Console.{console_of, on_picture, effect_of, IsSavedWell};
 
 use crate::console::Console;
 use crate::replies::DEVICE_ATTRIBUTES;
@@ -35,10 +35,10 @@ impl Console {
         sink: &mut Reports,
     ) -> Result<(), OutOfMemory>
         requires { IsSavedWell self.old.saved }
-        ensures shown { OnOk result
-            (shown_of self.new ≡ effect_of escape_effect (escape_named inter last) (shown_of self.old)) }
+        ensures done { OnOk result
+            (console_of self.new ≡ effect_of escape_effect (escape_named inter last) (console_of self.old)) }
         ensures sent { OnOk result (sink.new ≡ after_sending sink.old (reply_of escape_reply (escape_named inter last))) }
-        ensures err { OnErr result (shown_of self.new ≡ shown_of self.old) }
+        ensures err { OnErr result (console_of self.new ≡ console_of self.old) }
         ensures err_sink { OnErr result (sink.new ≡ sink.old) }
         ensures room { HasRoom sink.old (reply_of escape_reply (escape_named inter last)) → IsOk result }
     {
@@ -56,10 +56,10 @@ impl Console {
     #[inline]
     fn perform_plain(&mut self, last: u8, sink: &mut Reports) -> Result<(), OutOfMemory>
         requires { IsSavedWell self.old.saved }
-        ensures shown { OnOk result
-            (shown_of self.new ≡ effect_of escape_effect (named plain_escapes last) (shown_of self.old)) }
+        ensures done { OnOk result
+            (console_of self.new ≡ effect_of escape_effect (named plain_escapes last) (console_of self.old)) }
         ensures sent { OnOk result (sink.new ≡ after_sending sink.old (reply_of escape_reply (named plain_escapes last))) }
-        ensures err { OnErr result (shown_of self.new ≡ shown_of self.old) }
+        ensures err { OnErr result (console_of self.new ≡ console_of self.old) }
         ensures err_sink { OnErr result (sink.new ≡ sink.old) }
         ensures room { HasRoom sink.old (reply_of escape_reply (named plain_escapes last)) → IsOk result }
     {
@@ -81,7 +81,7 @@ impl Console {
 
     // Those with the intermediate #.
     fn change_line(&mut self, last: u8)
-        ensures shown { shown_of self.new ≡ effect_of escape_effect (named line_escapes last) (shown_of self.old) }
+        ensures done { console_of self.new ≡ effect_of escape_effect (named line_escapes last) (console_of self.old) }
         ensures silent { reply_of escape_reply (named line_escapes last) ≡ [] }
     {
         match last {
@@ -96,7 +96,7 @@ impl Console {
 
     // SCS.
     fn designate(&mut self, slot: Slot, last: u8)
-        ensures shown { shown_of self.new ≡ effect_of escape_effect (designation_named slot last) (shown_of self.old) }
+        ensures done { console_of self.new ≡ effect_of escape_effect (designation_named slot last) (console_of self.old) }
         ensures silent { reply_of escape_reply (designation_named slot last) ≡ [] }
     {
         if let Some(set) = set_named(last) {
@@ -105,14 +105,14 @@ impl Console {
     }
 
     fn next_line(&mut self)
-        ensures { shown_of self.new ≡ escape_effect Nel (shown_of self.old) }
+        ensures { console_of self.new ≡ escape_effect Nel (console_of self.old) }
     {
         self.screen.to_left();
         self.screen.index();
     }
 
     fn save(&mut self)
-        ensures { shown_of self.new ≡ escape_effect Decsc (shown_of self.old) }
+        ensures { console_of self.new ≡ escape_effect Decsc (console_of self.old) }
     {
         let (line, column) = self.screen.cursor();
         self.saved = Some(Saved {
@@ -129,7 +129,7 @@ impl Console {
 
     fn restore(&mut self)
         requires { IsSavedWell self.old.saved }
-        ensures { shown_of self.new ≡ restored self.old.saved (shown_of self.old) }
+        ensures { console_of self.new ≡ restored self.old.saved (console_of self.old) }
     {
         match self.saved {
             None => self.restore_nothing(),
@@ -139,7 +139,7 @@ impl Console {
 
     // Where nothing was saved: home, no rendition, and the sets of the initial state.
     fn restore_nothing(&mut self)
-        ensures { shown_of self.new ≡ restored Option.None (shown_of self.old) }
+        ensures { console_of self.new ≡ restored Option.None (console_of self.old) }
     {
         self.screen.home(false);
         self.modes.origin = false;
@@ -151,7 +151,7 @@ impl Console {
 
     fn restore_saved(&mut self, saved: Saved)
         requires { IsSavedWell (Option.Some saved) }
-        ensures { shown_of self.new ≡ restored (Option.Some saved) (shown_of self.old) }
+        ensures { console_of self.new ≡ restored (Option.Some saved) (console_of self.old) }
     {
         self.screen.put_back(
             saved.line,
@@ -169,7 +169,7 @@ impl Console {
 
     /// DECKPAM and DECKPNM.
     pub(crate) fn set_keypad(&mut self, application: bool)
-        ensures { shown_of self.new ≡ keypad_set application (shown_of self.old) }
+        ensures { console_of self.new ≡ keypad_set application (console_of self.old) }
     {
         self.modes.application_keypad = application;
     }

@@ -4,7 +4,7 @@ ghost use Rattle.vt_screen.specs.Cells.{blank};
 ghost use Rattle.vt_screen.specs.Picture.{Inside, cell, right_margin};
 ghost use Rattle.vt_term.specs.Law.{PlaysInParts, SendsInParts, SentIsAppended, SeenDecides, SendsLittle, StaysSafe};
 ghost use Rattle.vt_term.specs.Printing.{NothingBrings, PartsBring, CharactersBring, ControlsBring, SequencesAct, EscapesBring, DesignationsBring, ControlSequencesBring, PrivateSequencesBring};
-ghost use Rattle.vt_term.specs.Shown.{IsSafe};
+ghost use Rattle.vt_term.specs.Console.{IsSafe};
 ghost use Rattle.vt_term.specs.Term.{reset_term};
 
 use crate::Terminal;
@@ -44,7 +44,7 @@ pub fn sends_little()
 
 /// The reset term is safe, and a safe term stays so whatever bytes are played.
 pub fn stays_safe()
-    ensures reset { IsSafe reset_term.shown }
+    ensures reset { IsSafe reset_term.console }
     ensures played { StaysSafe }
 {
     laws_below();
@@ -53,13 +53,13 @@ pub fn stays_safe()
 /// What every terminal shows: the cursor is on the screen and within its line's right margin, cells right of that margin
 /// are blank, glyphs are at most 126, and while DECOM is set the cursor is inside the margins.
 pub fn terminals_are_safe(terminal: &Terminal)
-    ensures line { (1 ≤ terminal.now.shown.picture.line) × (terminal.now.shown.picture.line ≤ 24) }
-    ensures column { (1 ≤ terminal.now.shown.picture.column)
-        × (terminal.now.shown.picture.column ≤ right_margin terminal.now.shown.picture terminal.now.shown.picture.line) }
-    ensures blank { (line column : ℕ) → right_margin terminal.now.shown.picture line < column
-        → cell terminal.now.shown.picture line column ≡ blank }
-    ensures glyphs { (line column : ℕ) → (cell terminal.now.shown.picture line column).glyph ≤ 126 }
-    ensures inside { terminal.now.shown.modes.origin ≡ true → Inside terminal.now.shown.picture }
+    ensures line { (1 ≤ terminal.now.console.picture.line) × (terminal.now.console.picture.line ≤ 24) }
+    ensures column { (1 ≤ terminal.now.console.picture.column)
+        × (terminal.now.console.picture.column ≤ right_margin terminal.now.console.picture terminal.now.console.picture.line) }
+    ensures blank { (line column : ℕ) → right_margin terminal.now.console.picture line < column
+        → cell terminal.now.console.picture line column ≡ blank }
+    ensures glyphs { (line column : ℕ) → (cell terminal.now.console.picture line column).glyph ≤ 126 }
+    ensures inside { terminal.now.console.modes.origin ≡ true → Inside terminal.now.console.picture }
 {
     let _screen = terminal.screen();
 }

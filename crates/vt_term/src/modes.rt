@@ -1,6 +1,6 @@
 //! The modes of a terminal.
 ghost use Rattle.std.specs.Prelude.{◌≡◌};
-ghost use Rattle.vt_term.specs.Shown.{first_modes};
+ghost use Rattle.vt_term.specs.Console.{first_modes};
 
 use vt_parser::Mode;
 

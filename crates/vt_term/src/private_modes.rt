@@ -1,7 +1,7 @@
 //! Control sequences of ANSI mode with `?`.
 ghost use Rattle.std.specs.Prelude.{◌≡◌};
 ghost use Rattle.vt_term.specs.PrivateModes.{Decanm, Decom, Decawm, mode_effect, mode_set, modes_set, private_effect, vt52_entered};
-ghost use Rattle.vt_term.specs.Shown.{shown_of, on_picture};
+ghost use Rattle.vt_term.specs.Console.{console_of, on_picture};
 
 use crate::console::Console;
 use vt_parser::Mode;
@@ -9,7 +9,7 @@ use vt_parser::Mode;
 impl Console {
     /// Does what a control sequence with `?` asks for.
     pub(crate) fn do_private(&mut self, last: u8, params: &[u16])
-        ensures { shown_of self.new ≡ private_effect last params.now (shown_of self.old) }
+        ensures { console_of self.new ≡ private_effect last params.now (console_of self.old) }
     {
         match last {
             b'h' => self.set_modes(true, params),
@@ -19,7 +19,7 @@ impl Console {
     }
 
     fn set_modes(&mut self, value: bool, params: &[u16])
-        ensures { shown_of self.new ≡ modes_set params.now value (shown_of self.old) }
+        ensures { console_of self.new ≡ modes_set params.now value (console_of self.old) }
     {
         for &param in params {
             self.set_mode(value, param);
@@ -27,7 +27,7 @@ impl Console {
     }
 
     fn set_mode(&mut self, value: bool, param: u16)
-        ensures { shown_of self.new ≡ mode_set value (shown_of self.old) param }
+        ensures { console_of self.new ≡ mode_set value (console_of self.old) param }
     {
         match param {
             1 => self.modes.cursor_keys = value, // DECCKM
@@ -44,7 +44,7 @@ impl Console {
     }
 
     fn set_ansi(&mut self, value: bool)
-        ensures { shown_of self.new ≡ mode_effect value Decanm (shown_of self.old) }
+        ensures { console_of self.new ≡ mode_effect value Decanm (console_of self.old) }
     {
         if !value {
             self.enter_vt52();
@@ -52,21 +52,21 @@ impl Console {
     }
 
     fn enter_vt52(&mut self)
-        ensures { shown_of self.new ≡ vt52_entered (shown_of self.old) }
+        ensures { console_of self.new ≡ vt52_entered (console_of self.old) }
     {
         self.modes.mode = Mode::Vt52;
         self.sets.vt52_graphics = false;
     }
 
     fn set_origin(&mut self, value: bool)
-        ensures { shown_of self.new ≡ mode_effect value Decom (shown_of self.old) }
+        ensures { console_of self.new ≡ mode_effect value Decom (console_of self.old) }
     {
         self.modes.origin = value;
         self.screen.home(value);
     }
 
     fn set_autowrap(&mut self, value: bool)
-        ensures { shown_of self.new ≡ mode_effect value Decawm (shown_of self.old) }
+        ensures { console_of self.new ≡ mode_effect value Decawm (console_of self.old) }
     {
         self.modes.autowrap = value;
         if !value {

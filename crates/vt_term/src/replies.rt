@@ -1,7 +1,7 @@
 //! What a terminal answers.
-ghost use Rattle.std.specs.Prelude.{◌≡◌, ◌≤◌, ◌-◌, if◌then◌else◌, OnOk, OnErr, IsOk};
+ghost use Rattle.std.specs.Prelude.{◌≡◌, ◌≤◌, OnOk, OnErr, IsOk};
 ghost use Rattle.vt_term.specs.Replies.{attributes_reply, status_reply, parameters_reply, cursor_position, reported_line};
-ghost use Rattle.vt_term.specs.Shown.{shown_of, IsSafe};
+ghost use Rattle.vt_term.specs.Console.{console_of, IsSafe};
 ghost use Rattle.vt_term.specs.Sink.{after_sending, HasRoom};
 
 use crate::console::Console;
@@ -44,7 +44,7 @@ fn cursor_position(line: u8, column: u8) -> ArrayVec<u8, LONGEST>
 
 // A line, counted from the top margin where DECOM is set.
 fn reported_line(origin: bool, line: u8, top: u8) -> u8
-    ensures { result ≡ (if origin then line - (top - 1) else line) }
+    ensures { result ≡ reported_line origin line top }
 {
     if origin {
         line.saturating_sub(top.saturating_sub(1))
@@ -81,9 +81,9 @@ pub(crate) fn answer_parameters(param: u16, sink: &mut Reports) -> Result<(), Ou
 impl Console {
     /// DSR.
     pub(crate) fn answer_status(&self, param: u16, sink: &mut Reports) -> Result<(), OutOfMemory>
-        ensures ok { OnOk result (sink.new ≡ after_sending sink.old (status_reply param (shown_of self.now))) }
+        ensures ok { OnOk result (sink.new ≡ after_sending sink.old (status_reply param (console_of self.now))) }
         ensures err { OnErr result (sink.new ≡ sink.old) }
-        ensures room { HasRoom sink.old (status_reply param (shown_of self.now)) → IsOk result }
+        ensures room { HasRoom sink.old (status_reply param (console_of self.now)) → IsOk result }
     {
         match param {
             5 => sink.send(READY),
@@ -95,10 +95,10 @@ impl Console {
     // DSR 6.
     fn answer_position(&self, sink: &mut Reports) -> Result<(), OutOfMemory>
         ensures ok { let picture = self.now.screen.picture in OnOk result
-            (sink.new ≡ after_sending sink.old (cursor_position (reported_line self.now.modes.origin picture) picture.column)) }
+            (sink.new ≡ after_sending sink.old (cursor_position (reported_line self.now.modes.origin picture.line picture.top) picture.column)) }
         ensures err { OnErr result (sink.new ≡ sink.old) }
         ensures room { let picture = self.now.screen.picture in
-            HasRoom sink.old (cursor_position (reported_line self.now.modes.origin picture) picture.column) → IsOk result }
+            HasRoom sink.old (cursor_position (reported_line self.now.modes.origin picture.line picture.top) picture.column) → IsOk result }
     {
         let (line, column) = self.screen.cursor();
         let (top, _) = self.screen.margins();

@@ -5,7 +5,7 @@ ghost use Rattle.vt_screen.specs.Moves.{placed};
 ghost use Rattle.vt_screen.specs.Lines.{margins_set};
 ghost use Rattle.vt_term.specs.Sequences.{Sgr, Decll, sequence_effect, first_of, second_of, counted, or_default, erased, tabs_taken, rendition_set, newline_set, leds_set};
 ghost use Rattle.vt_term.specs.Effect.{control_sequence_effect, control_sequence_reply};
-ghost use Rattle.vt_term.specs.Shown.{shown_of, on_picture, on_modes};
+ghost use Rattle.vt_term.specs.Console.{console_of, on_picture, on_modes};
 ghost use Rattle.vt_term.specs.Sink.{after_sending, HasRoom};
 
 use crate::console::Console;
@@ -66,13 +66,13 @@ impl Console {
         sink: &mut Reports,
     ) -> Result<(), OutOfMemory>
         requires { length self.old.leds ≡ 4 }
-        ensures shown { OnOk result
-            (shown_of self.new ≡ control_sequence_effect false last params.now (shown_of self.old)) }
+        ensures done { OnOk result
+            (console_of self.new ≡ control_sequence_effect false last params.now (console_of self.old)) }
         ensures sent { OnOk result
-            (sink.new ≡ after_sending sink.old (control_sequence_reply false last params.now (shown_of self.old))) }
-        ensures err { OnErr result (shown_of self.new ≡ shown_of self.old) }
+            (sink.new ≡ after_sending sink.old (control_sequence_reply false last params.now (console_of self.old))) }
+        ensures err { OnErr result (console_of self.new ≡ console_of self.old) }
         ensures err_sink { OnErr result (sink.new ≡ sink.old) }
-        ensures room { HasRoom sink.old (control_sequence_reply false last params.now (shown_of self.old))
+        ensures room { HasRoom sink.old (control_sequence_reply false last params.now (console_of self.old))
             → IsOk result }
     {
         let first = first_of(params);
@@ -99,8 +99,8 @@ impl Console {
     }
 
     fn place(&mut self, line: u16, column: u16)
-        ensures { shown_of self.new
-            ≡ on_picture (placed (counted line) (counted column) self.old.modes.origin) (shown_of self.old) }
+        ensures { console_of self.new
+            ≡ on_picture (placed (counted line) (counted column) self.old.modes.origin) (console_of self.old) }
     {
         self.screen.place(
             or_default(1, line),
@@ -110,7 +110,7 @@ impl Console {
     }
 
     fn erase_display(&mut self, part: u16)
-        ensures { shown_of self.new ≡ on_picture (erased display_erased part) (shown_of self.old) }
+        ensures { console_of self.new ≡ on_picture (erased display_erased part) (console_of self.old) }
     {
         if part <= 2 {
             self.screen.erase_display(part as u8);
@@ -118,7 +118,7 @@ impl Console {
     }
 
     fn erase_line(&mut self, part: u16)
-        ensures { shown_of self.new ≡ on_picture (erased line_erased part) (shown_of self.old) }
+        ensures { console_of self.new ≡ on_picture (erased line_erased part) (console_of self.old) }
     {
         if part <= 2 {
             self.screen.erase_line(part as u8);
@@ -127,8 +127,8 @@ impl Console {
 
     // Margins that are none are refused, and nothing changes.
     fn set_margins(&mut self, top: u16, bottom: u16)
-        ensures { shown_of self.new
-            ≡ on_picture (margins_set (or_default 1 top) (or_default 24 bottom) self.old.modes.origin) (shown_of self.old) }
+        ensures { console_of self.new
+            ≡ on_picture (margins_set (or_default 1 top) (or_default 24 bottom) self.old.modes.origin) (console_of self.old) }
     {
         let _accepted = self.screen.set_margins(
             or_default(1, top),
@@ -138,7 +138,7 @@ impl Console {
     }
 
     fn take_tabs(&mut self, param: u16)
-        ensures { shown_of self.new ≡ on_picture (tabs_taken param) (shown_of self.old) }
+        ensures { console_of self.new ≡ on_picture (tabs_taken param) (console_of self.old) }
     {
         match param {
             0 => self.screen.clear_tab(),
@@ -148,7 +148,7 @@ impl Console {
     }
 
     fn set_rendition(&mut self, params: &[u16])
-        ensures { shown_of self.new ≡ sequence_effect Sgr params.now (shown_of self.old) }
+        ensures { console_of self.new ≡ sequence_effect Sgr params.now (console_of self.old) }
     {
         let mut rendition = self.rendition;
         for &param in params {
@@ -158,7 +158,7 @@ impl Console {
     }
 
     fn set_newline(&mut self, value: bool, params: &[u16])
-        ensures { shown_of self.new ≡ on_modes (λ modes. fold (newline_set value) modes params.now) (shown_of self.old) }
+        ensures { console_of self.new ≡ on_modes (λ modes. fold (newline_set value) modes params.now) (console_of self.old) }
     {
         for &param in params {
             if param == 20 {
@@ -169,7 +169,7 @@ impl Console {
 
     fn set_leds(&mut self, params: &[u16])
         requires { length self.old.leds ≡ 4 }
-        ensures { shown_of self.new ≡ sequence_effect Decll params.now (shown_of self.old) }
+        ensures { console_of self.new ≡ sequence_effect Decll params.now (console_of self.old) }
     {
         let mut leds = self.leds;
         for &param in params {

@@ -2,7 +2,7 @@
 ghost use Rattle.std.specs.Prelude.{◌≡◌, ◌≤◌, IsOk, OnOk, OnErr};
 ghost use Rattle.vt_term.specs.Vt52.{vt52_named, vt52_effect, graphics_set, address_effect};
 ghost use Rattle.vt_term.specs.Replies.{vt52_reply, reply_of};
-ghost use Rattle.vt_term.specs.Shown.{shown_of, effect_of};
+ghost use Rattle.vt_term.specs.Console.{console_of, effect_of};
 ghost use Rattle.vt_term.specs.Sink.{after_sending, HasRoom};
 
 use crate::console::Console;
@@ -13,9 +13,9 @@ use vt_parser::Mode;
 impl Console {
     /// Answers a sequence of VT52 mode, and does what it asks for. A refused growth changes nothing.
     pub(crate) fn perform_vt52(&mut self, last: u8, sink: &mut Reports) -> Result<(), OutOfMemory>
-        ensures shown { OnOk result (shown_of self.new ≡ effect_of vt52_effect (vt52_named last) (shown_of self.old)) }
+        ensures done { OnOk result (console_of self.new ≡ effect_of vt52_effect (vt52_named last) (console_of self.old)) }
         ensures sent { OnOk result (sink.new ≡ after_sending sink.old (reply_of vt52_reply (vt52_named last))) }
-        ensures err { OnErr result (shown_of self.new ≡ shown_of self.old) }
+        ensures err { OnErr result (console_of self.new ≡ console_of self.old) }
         ensures err_sink { OnErr result (sink.new ≡ sink.old) }
         ensures room { HasRoom sink.old (reply_of vt52_reply (vt52_named last)) → IsOk result }
     {
@@ -40,7 +40,7 @@ impl Console {
     }
 
     fn set_graphics(&mut self, value: bool)
-        ensures { shown_of self.new ≡ graphics_set value (shown_of self.old) }
+        ensures { console_of self.new ≡ graphics_set value (console_of self.old) }
     {
         self.sets.vt52_graphics = value;
     }
@@ -49,7 +49,7 @@ impl Console {
     pub(crate) fn go_to_address(&mut self, line: u8, column: u8)
         requires line { 1 ≤ line }
         requires column { 1 ≤ column }
-        ensures { shown_of self.new ≡ address_effect line column (shown_of self.old) }
+        ensures { console_of self.new ≡ address_effect line column (console_of self.old) }
     {
         self.screen
             .place(u16::from(line), u16::from(column), self.modes.origin);

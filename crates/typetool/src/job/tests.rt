@@ -120,13 +120,15 @@ impl Read for SlowReader<'_> {
     }
 }
 
-/// A writer that takes one byte a call, and whose call of a number fails or takes nothing. A flush may fail.
+/// A writer that takes one byte a call, and whose call of a number fails or takes nothing. The first flush may fail, and
+/// it alone.
 #[derive(Drop)]
 struct SlowWriter {
     taken: Vec<u8>,
     calls: usize,
     failing: usize,
     takes_nothing: bool,
+    flushes: usize,
     flush_fails: bool,
 }
 
@@ -150,7 +152,9 @@ impl Write for SlowWriter {
     }
 
     fn flush(&mut self) -> io::Result<()> {
-        if self.flush_fails {
+        let flush = self.flushes;
+        self.flushes = flush.saturating_add(1);
+        if self.flush_fails && flush == 0 {
             return Err(io::Error::from(ErrorKind::Other));
         }
         Ok(())
@@ -200,6 +204,11 @@ fn run_slowly<R: Abort + AllocGlobal>(
         &mut Watched::new(io::sink()),
     );
     assert_eq!(rt; script.failed(), script_failing <= SCRIPT.len());
+    let timing_calls = timing.into_inner().calls;
+    assert!(rt;
+        !script.failed() || timing_calls == 0,
+        "scripts are read before timings"
+    );
     (outcome, out)
 }
 
@@ -209,6 +218,7 @@ fn slow_writer<R: AllocGlobal>(rt: &R, failing: usize, takes_nothing: bool) -> S
         calls: 0,
         failing,
         takes_nothing,
+        flushes: 0,
         flush_fails: false,
     }
 }
@@ -282,7 +292,9 @@ fn a_writer_that_fails_stops_the_job(rt: HostRuntime) {
         writer.flush_fails = true;
         let (outcome, out) = run_slowly(&rt, job, usize::MAX, usize::MAX, writer);
         assert_eq!(rt; outcome, stopped, "{job:?} at the flush");
-        assert_eq!(rt; out.into_inner().taken.as_slice(), text);
+        let inner = out.into_inner();
+        assert_eq!(rt; inner.taken.as_slice(), text);
+        assert_eq!(rt; inner.flushes, 1, "no flush is tried again");
     }
 }
 

@@ -11,15 +11,13 @@ ghost use Rattle.typetool.specs.Requests.{StopsEditing, course_after, course_of,
 ghost use Rattle.tape_core.specs.Written.{script_text, timing_text};
 
 use crate::job::JobFault;
+use crate::jobs::EVERY;
 use std::alloc::Global;
 use std::io::Write;
 use std::mem::ManuallyDrop;
 use tape_core::text::next_line;
 use tape_core::{Recording, Watched, write_script, write_timing};
 use tape_seek::{Edit, EditFault, LineFault, Request, Session, read_line};
-
-/// How many chunks lie between the terminals that a session stores. No terminal is asked for here.
-const EVERY: usize = 100;
 
 /// Makes every edit, and then writes the whole script, and after it the timing. Nothing is written where a line is
 /// refused.

@@ -26,10 +26,7 @@ fn shows_moves_and_erases(rt: HostRuntime) -> Result<(), Fail> {
         (b"\xc3\xa9", "1:<2><2> at 1 3"),
         (b"abc\x1b[2D\x1b[K", "1:a at 1 2"),
         (b"\x1b[24;1Hx\r\n", "23:x at 24 1"),
-        (
-            b"\x1b[99;79Hxy",
-            "24:                                                                              xy at 24 80 wrap",
-        ),
+        (b"\x1b[99;79Hxy", "24: {78}xy at 24 80 wrap"),
         (b"ab\r\ncd\x1b[A\x1b[J", "1:ab at 1 3"),
         (b"ab\r\ncd\x1b[1J", "at 2 3"),
         (b"ab\r\ncd\x1b[2J", "at 2 3"),
@@ -53,20 +50,17 @@ fn keeps_margins_tabs_saves_sets_and_sizes(rt: HostRuntime) -> Result<(), Fail> 
             "1:a 2:c 4:d at 3 1 margins 2 3",
         ),
         (b"\x1b[7m\x1b[5;5H\x1b8X", "1:X at 1 2"),
+        (b"\x1b[?3h\x1b[1;132HAB", "1: {131}A 2:B wide at 2 2"),
         (
-            b"\x1b[?3h\x1b[1;132HAB",
-            "1:                                                                                                                                   A 2:B wide at 2 2",
+            b"\x1b[1;5H\x1bH\r\tx",
+            "1:    x at 1 6 tabs 5 9 17 25 33 41 49 57 65 73 81 89 97 105 113 121 129",
         ),
-        (b"\x1b[1;5H\x1bH\r\tx", "1:    x at 1 6"),
         (b"\x1b[2;4r\x1b[?6h\x1b[9Ax", "2:x at 2 2 margins 2 4 DECOM"),
         (b"ab\x1b#3\r\nab\x1b#4\x1b[1J", "2(Bottom): at 2 3"),
         (b"\x1b[2;3r\x1bMx", "1:x at 1 2 margins 2 3"),
         (b"\x1b(A#", "1:<30> at 1 2 G0 Uk"),
         (b"\x1b[?2l\x1bFa\x1b<a", "1:<2>a at 1 3 graphics"),
-        (
-            b"\x1b[?2l\x1bY%*X\x1bZ",
-            "6:          X at 6 12 VT52 sent E/Z",
-        ),
+        (b"\x1b[?2l\x1bY%*X\x1bZ", "6: {10}X at 6 12 VT52 sent E/Z"),
         (b"\x1b[?2;7l", "at 1 1 VT52 no DECAWM"),
     ];
     all_leave(&rt, rt.alloc(), &rows)
@@ -90,60 +84,20 @@ fn answers(rt: HostRuntime) -> Result<(), Fail> {
 #[test]
 fn wraps_late(rt: HostRuntime) -> Result<(), Fail> {
     let rows: [(&[u8], usize, &[u8], &str); 9] = [
-        (
-            b"",
-            80,
-            b"",
-            "1:AAAAAAAAAAAAAAAAAAAAAAAAAAAAAAAAAAAAAAAAAAAAAAAAAAAAAAAAAAAAAAAAAAAAAAAAAAAAAAAA at 1 80 wrap",
-        ),
-        (
-            b"",
-            80,
-            b"\x1b[6nB",
-            "1:AAAAAAAAAAAAAAAAAAAAAAAAAAAAAAAAAAAAAAAAAAAAAAAAAAAAAAAAAAAAAAAAAAAAAAAAAAAAAAAA 2:B at 2 2 sent E[1;80R",
-        ),
-        (
-            b"",
-            80,
-            b"\x08B",
-            "1:AAAAAAAAAAAAAAAAAAAAAAAAAAAAAAAAAAAAAAAAAAAAAAAAAAAAAAAAAAAAAAAAAAAAAAAAAAAAAABA at 1 80",
-        ),
-        (
-            b"",
-            50,
-            b"\x1b#6",
-            "1(Double):AAAAAAAAAAAAAAAAAAAAAAAAAAAAAAAAAAAAAAAA at 1 40",
-        ),
-        (
-            b"\x1b[?7l",
-            80,
-            b"B",
-            "1:AAAAAAAAAAAAAAAAAAAAAAAAAAAAAAAAAAAAAAAAAAAAAAAAAAAAAAAAAAAAAAAAAAAAAAAAAAAAAAAB at 1 80 no DECAWM",
-        ),
-        (
-            b"\x1b[?7l",
-            200,
-            b"B",
-            "1:AAAAAAAAAAAAAAAAAAAAAAAAAAAAAAAAAAAAAAAAAAAAAAAAAAAAAAAAAAAAAAAAAAAAAAAAAAAAAAAB at 1 80 no DECAWM",
-        ),
-        (
-            b"",
-            80,
-            b"\x1b[0mB",
-            "1:AAAAAAAAAAAAAAAAAAAAAAAAAAAAAAAAAAAAAAAAAAAAAAAAAAAAAAAAAAAAAAAAAAAAAAAAAAAAAAAA 2:B at 2 2",
-        ),
+        (b"", 80, b"", "1:A{80} at 1 80 wrap"),
+        (b"", 80, b"\x1b[6nB", "1:A{80} 2:B at 2 2 sent E[1;80R"),
+        (b"", 80, b"\x08B", "1:A{78}BA at 1 80"),
+        (b"", 50, b"\x1b#6", "1(Double):A{40} at 1 40"),
+        (b"\x1b[?7l", 80, b"B", "1:A{79}B at 1 80 no DECAWM"),
+        (b"\x1b[?7l", 200, b"B", "1:A{79}B at 1 80 no DECAWM"),
+        (b"", 80, b"\x1b[0mB", "1:A{80} 2:B at 2 2"),
         (
             b"",
             80,
             b"\x1b7\x1b[5;1H\x1b8B",
-            "1:AAAAAAAAAAAAAAAAAAAAAAAAAAAAAAAAAAAAAAAAAAAAAAAAAAAAAAAAAAAAAAAAAAAAAAAAAAAAAAAA 2:B at 2 2 saved",
+            "1:A{80} 2:B at 2 2 saved(1 80 wrap)",
         ),
-        (
-            b"\x1b[3g\t",
-            1,
-            b"",
-            "1:                                                                               A at 1 80 wrap",
-        ),
+        (b"\x1b[3g\t", 1, b"", "1: {79}A at 1 80 wrap tabs"),
     ];
     for (head, count, tail, want) in rows {
         let bytes = joined(rt.alloc(), head, count, tail)?;

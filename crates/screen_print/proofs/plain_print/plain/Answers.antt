@@ -8,7 +8,7 @@ use Rattle.screen_print.proofs.plain_print.plain.Goals as goal
 
 pub returns-in_err-put-clause-fault : goal.returns-in_err-put-clause-fault
 returns-in_err-put-clause-fault g c =
-    let p = c.args.terminal.now.shown.picture in
+    let p = c.args.terminal.now.console.picture in
     let line = c.loop-line.line in
     let text : c.as_bytes.result.now ≡ line_text p.wide (row_at p.rows line) = cc in
     let stopped : StoppedIn g.W.Write.contents c.loop-line.writer c.put.new.self (line_text p.wide (row_at p.rows line)) =
@@ -21,7 +21,7 @@ returns-in_err-put-clause-fault g c =
 
 pub loop-line-preserved : goal.loop-line-preserved
 loop-line-preserved g c =
-    let p = c.args.terminal.now.shown.picture in
+    let p = c.args.terminal.now.console.picture in
     let line = c.loop-line.line in
     let text : c.as_bytes.result.now ≡ line_text p.wide (row_at p.rows line) = cc in
     let took : Took g.W.Write.contents c.loop-line.writer c.put.new.self (line_text p.wide (row_at p.rows line)) =
@@ -32,7 +32,7 @@ loop-line-preserved g c =
 
 pub returns-in_err-finish-clause-fault : goal.returns-in_err-finish-clause-fault
 returns-in_err-finish-clause-fault g c =
-    let p = c.args.terminal.now.shown.picture in
+    let p = c.args.terminal.now.console.picture in
     let last : c.loop-line.line - 1 ≡ 24 = omega arith in
     let lines : Took g.W.Write.contents c.args.writer.now c.loop-line.writer (first_lines p 24) =
     subst (λ n. Took g.W.Write.contents c.args.writer.now c.loop-line.writer (first_lines p n)) last c.loop-line.invariant in
@@ -44,7 +44,7 @@ returns-in_err-finish-clause-fault g c =
 
 pub returns-clause-ok : goal.returns-clause-ok
 returns-clause-ok g c =
-    let p = c.args.terminal.now.shown.picture in
+    let p = c.args.terminal.now.console.picture in
     let last : c.loop-line.line - 1 ≡ 24 = omega arith in
     let lines : Took g.W.Write.contents c.args.writer.now c.loop-line.writer (first_lines p 24) =
     subst (λ n. Took g.W.Write.contents c.args.writer.now c.loop-line.writer (first_lines p n)) last c.loop-line.invariant in

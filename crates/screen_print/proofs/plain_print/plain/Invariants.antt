@@ -6,4 +6,4 @@ use Rattle.screen_print.proofs.plain_print.plain.Given as goal
 -- the lines before this one have gone out
 abbrev pub invariant-loop-line : goal.invariant-loop-line
 invariant-loop-line g l =
-    Took g.W.Write.contents l.fn.writer l.writer (first_lines l.fn.terminal.shown.picture (l.line - 1))
+    Took g.W.Write.contents l.fn.writer l.writer (first_lines l.fn.terminal.console.picture (l.line - 1))

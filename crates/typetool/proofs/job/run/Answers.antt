@@ -1,7 +1,7 @@
-use Rattle.std.proofs.Common.{◌≡◌, ◌∙◌, [], ap, arith, rules, inl, subst, sym}
+use Rattle.std.proofs.Common.{◌∙◌, [], ap, arith, rules, inl, sym}
 use Rattle.tape_core.proofs.DeviceLemmas.{took_none}
 use Rattle.typetool.proofs.JobLemmas.{comes_refused, comes_plain, other_job, stopped_by_memory}
-use Rattle.typetool.specs.Output.{TakesMemory, done_with, refused_with, text_of}
+use Rattle.typetool.specs.Output.{done_with, refused_with, text_of}
 use Rattle.typetool.specs.declared.job.JobFault.TheVariants.{File}
 use Rattle.typetool.specs.declared.job.Outcome.{Outcome}
 use Rattle.typetool.proofs.job.run.Goals as goal
@@ -12,13 +12,6 @@ returns-in-Err-clause-answer g c = λ kind files told. (
   comes_refused c.args.job files c.in-Err.fault (search rules),
   grind arith,
   record { text = took_none _ _ c.requires.out; timing = took_none _ _ c.requires.out_timing },
-)
-
-pub returns-in-Save-clause-want : goal.returns-in-Save-clause-want
-returns-in-Save-clause-want g c = λ kind files told. (
-  c.in-Ok.given.recording,
-  c.in-Ok.ensures.ok files.script files.timing told.script_told told.timing_told,
-  search rules,
 )
 
 pub returns-clause-answer : goal.returns-clause-answer
@@ -39,13 +32,8 @@ returns-clause-stopped g c = λ kind files told. (
 )
 
 pub returns-clause-want : goal.returns-clause-want
-returns-clause-want g c = λ kind files told.
-    let wanted = stopped_by_memory c.write_text.result (ap (λ (o : Outcome). o.fault) (sym c.outcome_of-in_default.ensures) ∙ kind) in
-    let same : c.deref-in_default.result.now ≡ c.in-Ok.given.recording = search rules in (
-      c.in-Ok.given.recording,
-      c.in-Ok.ensures.ok files.script files.timing told.script_told told.timing_told,
-      subst (λ tape. TakesMemory c.args.job tape) same (c.write_text.ensures.want wanted),
-    )
+returns-clause-want g c = λ kind.
+    c.write_text.ensures.want (stopped_by_memory c.write_text.result (ap (λ (o : Outcome). o.fault) (sym c.outcome_of-in_default.ensures) ∙ kind))
 
 pub returns-clause-begun : goal.returns-clause-begun
 returns-clause-begun g c = λ kind files told. (

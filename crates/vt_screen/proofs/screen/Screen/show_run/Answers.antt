@@ -1,22 +1,24 @@
-use Rattle.std.proofs.Common.{◌≤◌, List, ℕ, take, sym, ap, subst, ◌∙◌, arith}
-use Rattle.std.specs.Prelude.{All}
-use Rattle.std.proofs.lemmas.List.{take_rest}
-use Rattle.std.proofs.lemmas.List.Elements.{All-drop}
-use Rattle.vt_screen.specs.Picture.{Picture}
+use Rattle.std.proofs.Common.{◌≡◌, ◌+◌, List, length, sym, ap, subst, ◌∙◌, arith}
+use Rattle.vt_screen.specs.declared.cell.Row.{Row}
+use Rattle.vt_screen.specs.Picture.{Picture, Sound, right_margin}
 use Rattle.vt_screen.specs.Puts.{run_shown}
-use Rattle.vt_screen.proofs.Runs.{run_step}
+use Rattle.vt_screen.specs.Slots.{ScreenState, rows_of}
+use Rattle.vt_screen.specs.View.{picture_of}
+use Rattle.vt_screen.proofs.Runs.{run_within}
+use Rattle.vt_screen.proofs.Soundness.{sound_run_shown}
 use Rattle.vt_screen.proofs.screen.Screen.show_run.Goals as goal
 
-pub loop-rest-preserved : goal.loop-rest-preserved
-loop-rest-preserved c =
-    let rest = c.loop-rest.rest.now in
-    let taken = c.show_part-taken.result in
-    let left = take_rest rest taken in
-    record {
-      glyphs = subst (All (λ glyph. glyph ≤ 126)) (sym left) (All-drop (λ glyph. glyph ≤ 126) taken rest c.loop-rest.invariant.glyphs);
-      shown =
-          ap (λ (gs : List ℕ). run_shown gs c.args.rendition c.args.autowrap c.show_part-taken.new.self.picture) left
-          ∙ run_step c.args.rendition c.args.autowrap taken rest c.loop-rest.self.picture c.show_part-taken.new.self.picture (omega arith)
-          (c.show_part-taken.ensures.picture ∙ ap (λ (p : Picture). run_shown (take taken rest) c.args.rendition c.args.autowrap p) c.take_wrap.ensures.picture)
-          ∙ c.loop-rest.invariant.shown;
-    }
+-- all of them stand left of the right margin
+fits : (c : goal.After-self-1) → record (picture_of c.self.inside) { rows = rows_of c.write_run.new.self; column = c.self.inside.column + length c.args.glyphs.now } ≡ run_shown c.args.glyphs.now c.args.rendition c.args.autowrap (picture_of c.self.inside)
+fits c =
+    let p = picture_of c.self.inside in
+    let margin : c.margin.result ≡ right_margin p p.line = c.margin.ensures.value ∙ ap (λ (s : ScreenState). right_margin s.picture s.picture.line) (sym c.self.view_is) in
+    ap (λ (rows : List Row). let q : Picture = record p { rows = rows; column = p.column + length c.args.glyphs.now } in q) c.write_run.ensures
+    ∙ sym (run_within c.args.rendition c.args.autowrap c.args.glyphs.now p c.self.invariant.rows c.if-not-self.true c.self.invariant.line_low c.self.invariant.line_high (omega (arith, c.self.invariant.column_high)))
+
+pub invariant_of-self : goal.invariant_of-self
+invariant_of-self c =
+    subst Sound (sym (fits c)) (sound_run_shown c.args.glyphs.now c.args.rendition c.args.autowrap (picture_of c.self.inside) c.requires c.self.invariant)
+
+pub returns-then-glyphs-room : goal.returns-then-glyphs-room
+returns-then-glyphs-room c = record { picture = fits c ∙ ap (λ (s : ScreenState). run_shown c.args.glyphs.now c.args.rendition c.args.autowrap s.picture) c.self.view_is }

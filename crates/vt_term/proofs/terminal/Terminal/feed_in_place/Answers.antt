@@ -38,7 +38,7 @@ loop-at-preserved c = record {
 pub returns-in_err-at-clause-room : goal.returns-in_err-at-clause-room
 returns-in_err-at-clause-room c x shows room =
     absurd (false≢true (c.in_err-at.ensures.room (play x (take c.loop-at.at c.args.bytes.now)) (c.loop-at.invariant.shows x shows)
-    (subst (λ (l : List ℕ). HasRoom c.loop-at.sink (sent (play x (take c.loop-at.at c.args.bytes.now)) (take 1 l)))
+    (subst (λ (l : List ℕ). HasRoom c.loop-at.sink (sent (play x (take c.loop-at.at c.args.bytes.now)) l))
     (sym (take_rest c.args.bytes.now c.loop-at.at))
     (room_on x c.args.bytes.now c.loop-at.at c.args.sink.now c.loop-at.sink (c.loop-at.invariant.sent x shows) c.loop-at.invariant.front room))))
 

@@ -1,11 +1,11 @@
 use Rattle.std.proofs.Common.{subst}
 use Rattle.vt_term.specs.Term.{reset_term}
-use Rattle.vt_term.specs.Seen.{Seen, Shows, IsProper}
+use Rattle.vt_term.specs.Seen.{Seen, Shows, IsTerminal}
 use Rattle.vt_term.proofs.Taken.{reset_shows, reset_proper, seen_is}
 use Rattle.vt_term.proofs.terminal.Terminal.reset.Goals as goal
 
 pub invariant_of-result : goal.invariant_of-result
-invariant_of-result c = subst IsProper (seen_is _ _ _ _ c.reset.ensures c.new.ensures) (reset_proper c.laws_below.ensures)
+invariant_of-result c = subst IsTerminal (seen_is _ _ _ _ c.reset.ensures c.new.ensures) (reset_proper c.laws_below.ensures)
 
 pub returns : goal.returns
 returns c = subst (λ (seen : Seen). Shows seen reset_term) (seen_is _ _ _ _ c.reset.ensures c.new.ensures) (reset_shows c.laws_below.ensures)

@@ -1,0 +1,33 @@
+-- How the writing of change lines ends early, and what it leaves of a session.
+use Rattle.std.specs.Prelude.{◌≡◌, ℕ, ◌≤◌, List, ◌++◌, Option, None, Some}
+use Rattle.tape_core.specs.Devices.{Took, StoppedIn}
+use Rattle.tape_core.specs.Due.{due_count}
+use Rattle.tape_core.specs.declared.chunk.Chunk.{Chunk}
+use Rattle.tape_core.specs.declared.devices.Watched.{Watched}
+use Rattle.tape_seek.specs.State.{State}
+use Rattle.screen_print.specs.declared.chunk_changes.ChangesFault.{ChangesFault}
+use Rattle.screen_print.specs.declared.chunk_changes.ChangesFault.TheVariants.{Write, Memory}
+
+-- the writer is sound, and has taken a beginning of this text after what it held
+pub record Began {T : Type 0} (contents : T → Option (List ℕ)) (old new : Watched T) (text : List ℕ) : Type 0 where
+  pub front : List ℕ
+  pub rest : List ℕ
+  pub cut : text ≡ front ++ rest
+  pub took : Took contents old new front
+
+-- the writer failed in the text, or it has taken a beginning and memory was refused
+abbrev pub StopsChanges : {T : Type 0} → (T → Option (List ℕ)) → Watched T → Watched T → List ℕ → ChangesFault → Type 0
+StopsChanges contents old new text Write = StoppedIn contents old new text
+StopsChanges contents old new text Memory = Began contents old new text
+
+-- seeks alone were made: the recording and the log stay, and the frontier isn't lowered
+pub record GoesOn (old new : State) : Type 0 where
+  pub recording : new.recording ≡ old.recording
+  pub log : new.log ≡ old.log
+  pub every : new.every ≡ old.every
+  pub frontier : old.marks.frontier ≤ new.marks.frontier
+
+-- the first chunk that is due after the moment, or chunk 0
+abbrev pub first_asked : List Chunk → Option ℕ → ℕ
+first_asked chunks None = 0
+first_asked chunks (Some from) = due_count chunks from

@@ -1,0 +1,62 @@
+//! Which lines of a screen have changed, told by a copy of its rows.
+
+ghost use Rattle.std.specs.Prelude.{◌≡◌, ◌≢◌, ◌≤◌, ℕ, length, not};
+ghost use Rattle.vt_screen.specs.Cells.{row_at};
+ghost use Rattle.screen_print.specs.ChangeLines.{changed_lines, is_changed};
+ghost use Rattle.screen_print.specs.SameRows.{same_row};
+
+use arrayvec::ArrayVec;
+use vt_screen::laws::screens_are_sound;
+use vt_screen::{Row, Screen};
+
+/// A copy of the screen's rows.
+pub(crate) fn rows_of(screen: &Screen) -> [Row; 24]
+    ensures { result ≡ screen.now.picture.rows }
+{
+    screens_are_sound(screen);
+    let mut rows = [Row::blank(); 24];
+    for line in 1..25u8 {
+        rows[line as usize - 1] = *screen.row(line);
+    }
+    rows
+}
+
+/// The lines that differ from the rows, which become those of the screen.
+pub(crate) fn take_changes(rows: &mut [Row; 24], screen: &Screen) -> ArrayVec<u8, 24>
+    ensures rows { rows.new ≡ screen.now.picture.rows }
+    ensures changed { result.items ≡ changed_lines rows.old screen.now.picture.rows }
+{
+    screens_are_sound(screen);
+    let mut changed = ArrayVec::new();
+    for line in 1..25u8 {
+        if take_change(rows, screen, line) {
+            changed.push(line);
+        }
+    }
+    changed
+}
+
+/// Whether a line differs from its row, which becomes that of the screen.
+fn take_change(rows: &mut [Row; 24], screen: &Screen, line: u8) -> bool
+    requires low { 1 ≤ line }
+    requires high { line ≤ 24 }
+    ensures changed { result ≡ is_changed rows.old screen.now.picture.rows line }
+    ensures taken { row_at rows.new line ≡ row_at screen.now.picture.rows line }
+    ensures whole { length rows.new ≡ 24 }
+    ensures others { (k : ℕ) → 1 ≤ k → k ≢ line → row_at rows.new k ≡ row_at rows.old k }
+{
+    let row = screen.row(line);
+    let at = line as usize - 1;
+    if same_row(&rows[at], row) {
+        return false;
+    }
+    rows[at] = *row;
+    true
+}
+
+/// Whether two rows have the same size and the same cells.
+fn same_row(one: &Row, other: &Row) -> bool
+    ensures { result ≡ same_row one.now other.now }
+{
+    one.size == other.size && one.cells == other.cells
+}

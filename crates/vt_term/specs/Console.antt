@@ -1,0 +1,96 @@
+-- What a terminal shows beside its parser: a plain value, on which effects are told.
+use Rattle.std.specs.Prelude.{◌≡◌, ◌≤◌, Bool, true, false, List, [], ◌∷◌, length, Option, Some, None}
+use Rattle.vt_parser.specs.declared.commands.Mode.TheVariants.{Ansi}
+use Rattle.vt_screen.specs.Attributes.{Attributes, plain}
+use Rattle.vt_screen.specs.Picture.{Picture, Sound, Inside, reset}
+use Rattle.vt_term.specs.declared.modes.Modes.{Modes}
+use Rattle.vt_term.specs.declared.sets.Sets.{Sets}
+use Rattle.vt_term.specs.declared.saved.Saved.{Saved}
+use Rattle.vt_term.specs.declared.console.Console.{Console as Fields}
+use Rattle.vt_term.specs.Sets.{first_sets}
+
+pub record Console : Type 0 where
+  -- columns, rows, cursor, pending wrap, margins and tabs
+  pub picture : Picture
+  -- the modes, and the keypad
+  pub modes : Modes
+  -- the rendition of the characters that come
+  pub rendition : Attributes
+  -- G0, G1, which of them is invoked, and VT52 graphics
+  pub sets : Sets
+  -- what DECSC saved, if it was ever sent
+  pub saved : Option Saved
+  -- L1 to L4
+  pub leds : List Bool
+
+-- ANSI mode and DECAWM set, every other mode reset, numeric keypad (profile)
+abbrev pub first_modes : Modes
+first_modes = record {
+  mode = Ansi;
+  cursor_keys = false;
+  smooth_scroll = false;
+  reverse_screen = false;
+  origin = false;
+  autowrap = true;
+  auto_repeat = false;
+  interlace = false;
+  newline = false;
+  application_keypad = false;
+}
+
+-- all four LEDs off (EK-VT100-UG chapter 3, DECLL)
+abbrev pub dark : List Bool
+dark = false ∷ false ∷ false ∷ false ∷ []
+
+-- the initial state (profile)
+abbrev pub reset_console : Console
+reset_console = record {
+  picture = reset;
+  modes = first_modes;
+  rendition = plain;
+  sets = first_sets;
+  saved = None;
+  leds = dark;
+}
+
+-- the picture alone changes
+abbrev pub on_picture : (Picture → Picture) → Console → Console
+on_picture change s = record s { picture = change s.picture }
+
+-- the modes alone change
+abbrev pub on_modes : (Modes → Modes) → Console → Console
+on_modes change s = record s { modes = change s.modes }
+
+-- the sets alone change
+abbrev pub on_sets : (Sets → Sets) → Console → Console
+on_sets change s = record s { sets = change s.sets }
+
+-- What stands in no table has no effect (profile).
+abbrev pub effect_of : {Row : Type 0} → (Row → Console → Console) → Option Row → Console → Console
+effect_of effect None s = s
+effect_of effect (Some row) s = effect row s
+
+-- what the fields of the code's console stand for
+abbrev pub console_of : Fields → Console
+console_of fields = record {
+  picture = fields.screen.picture;
+  modes = fields.modes;
+  rendition = fields.rendition;
+  sets = fields.sets;
+  saved = fields.saved;
+  leds = fields.leds;
+}
+
+-- a saved cursor stands on the screen (profile)
+abbrev pub IsSavedWell : Option Saved → Type 0
+IsSavedWell None = Unit {0}
+IsSavedWell (Some saved) = (1 ≤ saved.line) × (saved.line ≤ 24) × (1 ≤ saved.column) × (saved.column ≤ 132)
+
+-- What every terminal keeps: the screen is sound (the cursor is at most at its line's right margin, cells right of it are
+-- blank, glyphs are at most 126), and the cursor is inside the margins while DECOM is set (EK-VT100-UG
+-- chapter 3, DECOM; the cut at the right margin: profile).
+pub record IsSafe (s : Console) : Type 0 where
+  pub sound : Sound s.picture
+  pub inside : s.modes.origin ≡ true → Inside s.picture
+  pub saved : IsSavedWell s.saved
+  pub leds : length s.leds ≡ 4
