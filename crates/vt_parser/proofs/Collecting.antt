@@ -1,5 +1,5 @@
 -- The text of a control sequence, read byte by byte with its last parameter apart.
-use Rattle.std.proofs.Common.{◌≡◌, ℕ, zero, suc, ◌+◌, ◌-◌, ◌<◌, ◌≤◌, Bool, true, false, ◌==◌, ◌||◌, cond, List, [], ◌∷◌, ◌++◌, take, length, get_or, Some, None, refl, sym, ap, ap₂, ◌∙◌, subst, inl, inr, arith}
+use Rattle.std.proofs.Common.{◌≡◌, ℕ, zero, suc, ◌+◌, ◌<◌, ◌≤◌, Bool, true, false, ◌==◌, ◌||◌, cond, List, [], ◌∷◌, ◌++◌, take, length, get_or, Some, None, refl, sym, ap, ap₂, ◌∙◌, subst, inl, inr, arith}
 use Rattle.std.specs.List.{prefix_len}
 use Rattle.std.proofs.lemmas.Bool.{cases_Bool, eqb-true}
 use Rattle.std.proofs.lemmas.Bool.Decides.{nat_tests}
@@ -13,8 +13,8 @@ use Rattle.vt_parser.specs.declared.commands.Command.TheVariants as command
 use Rattle.vt_parser.specs.declared.states.ParserState.{ParserState}
 use Rattle.vt_parser.specs.declared.states.ParserState.TheVariants.{Escape, CsiStart, Csi, CsiIgnored}
 use Rattle.vt_parser.specs.Control.{escape, is_graphic, actions_of, action_at}
-use Rattle.vt_parser.specs.Sequence.{is_control_final, is_digit, is_semicolon, is_plain, front, final, held}
-use Rattle.vt_parser.specs.Machine.{Step, moves_to, gives, with_digit, with_last_digit, digit_joined, semicolon_joined, joined, begun, context_in, stepped_by, stepped, Runs}
+use Rattle.vt_parser.specs.Sequence.{is_control_final, is_digit, is_semicolon, is_plain, front, held}
+use Rattle.vt_parser.specs.Machine.{Step, moves_to, gives, with_digit, digit_joined, semicolon_joined, joined, begun, context_in, stepped_by, stepped, Runs}
 use Rattle.vt_parser.specs.Reading.{GoesOn}
 use Rattle.vt_parser.proofs.Lists.{front_push, final_push}
 use Rattle.vt_parser.proofs.ManyBytes.{runs_push}
@@ -39,7 +39,7 @@ semicolon_step : (private : Bool) (params : ArrayVec ℕ) (over : Bool) (mode : 
 unfolding joined
 semicolon_step private params over mode = joins (Csi private params over) mode 59 refl refl
 
-final_step : (private : Bool) (params : ArrayVec ℕ) (over : Bool) (mode : Mode) (byte : ℕ) → is_graphic byte ≡ true → is_control_final byte ≡ true
+pub final_step : (private : Bool) (params : ArrayVec ℕ) (over : Bool) (mode : Mode) (byte : ℕ) → is_graphic byte ≡ true → is_control_final byte ≡ true
     → stepped (Csi private params over) mode byte ≡ gives (Some (command.Csi private params byte))
 unfolding joined
 final_step private params over mode byte graphic is = joins (Csi private params over) mode byte refl graphic ∙ simp is

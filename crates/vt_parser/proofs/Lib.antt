@@ -1,16 +1,16 @@
-pub mod Lists
-pub mod Numbers
-pub mod Bytes
-pub mod Table
-pub mod Shapes
-pub mod Control
-pub mod Joins
-pub mod Agrees
-pub mod ManyBytes
-pub mod LawLemmas
-pub mod ProperLemmas
-pub mod Whole
-pub mod Written
-pub mod Collecting
-pub mod Telling
-pub mod Lanes
+mod Lists
+mod Numbers
+mod Bytes
+mod Table
+mod Shapes
+mod Control
+mod Joins
+mod Agrees
+mod ManyBytes
+mod LawLemmas
+mod ProperLemmas
+mod Whole
+mod Written
+mod Collecting
+mod Telling
+mod Lanes

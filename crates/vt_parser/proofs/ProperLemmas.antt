@@ -1,5 +1,5 @@
 -- The numbers of every command are in their ranges, and graphic characters are shown on ground.
-use Rattle.std.proofs.Common.{◌≡◌, ℕ, zero, suc, ◌+◌, ◌-◌, ◌≤◌, Bool, true, false, not, ◌==◌, ◌||◌, ◌&&◌, cond, ltb, List, [], ◌∷◌, ◌++◌, map, take, drop, length, get_or, Option, Some, None, IfSome, refl, sym, ap, ◌∙◌, subst, inl, inr, arith}
+use Rattle.std.proofs.Common.{◌≡◌, ℕ, zero, suc, ◌+◌, ◌-◌, ◌≤◌, Bool, true, false, not, ◌==◌, ◌&&◌, cond, List, [], ◌∷◌, ◌++◌, map, take, drop, length, get_or, Option, Some, None, IfSome, refl, sym, ◌∙◌, subst, inl, inr, arith}
 use Rattle.std.specs.List.{list_all, prefix_len, slice_split, All, AllByRecursion}
 use Rattle.std.proofs.lemmas.Bool.{cases_Bool, and_parts, eqb-false, not-true, false≢true}
 use Rattle.std.proofs.lemmas.Bool.Decides.{nat_tests}
@@ -13,17 +13,13 @@ use Rattle.vt_parser.specs.declared.commands.Command.TheVariants.{Csi}
 use Rattle.vt_parser.specs.declared.controls.Context.{Context}
 use Rattle.vt_parser.specs.declared.controls.Action.{Action}
 use Rattle.vt_parser.specs.declared.controls.Action.TheVariants.{Ignore, Execute, Print, Mark, Begin, Join, End, Cancel}
-use Rattle.arrayvec.specs.ArrayVec.{ArrayVec}
-use Rattle.vt_parser.specs.declared.states.ParserState.TheVariants.{CsiStart, Csi as CsiState}
 use Rattle.vt_parser.specs.Control.{escape, is_within, is_graphic, action_of}
 use Rattle.vt_parser.specs.Sequence.{is_intermediate, is_escape_final, is_control_final, begins_control, begins_address, is_lone_escape, is_escape_begun, is_control_begun, is_line_begun, ends_escape, ends_vt52, is_whole, is_semicolon, is_private, after_mark, is_well_formed, parameter, numbers, params, held, escape_meaning, control_meaning, address_meaning}
 use Rattle.vt_parser.specs.Step.{context_of, control_of, command_by, command_of, pending_after}
-use Rattle.vt_parser.specs.Law.{IsFrom, IsProper, CommandsAreProper, GraphicIsShown, ControlIsGiven, RunsAreGraphic, FinalsFinish, BareFinalsFinish}
-use Rattle.vt_parser.proofs.Control.{final_no_mark}
+use Rattle.vt_parser.specs.Law.{IsFrom, IsProper, CommandsAreProper, GraphicIsShown, ControlIsGiven}
 use Rattle.vt_parser.proofs.Joins.{whole_with, meaning_with, is_whole_push, meaning_push}
-use Rattle.vt_parser.specs.Machine.{Step, stepped, joined, gives}
 use Rattle.vt_parser.proofs.Table.{IsFit, fit, graphic_actions, control_actions}
-use Rattle.vt_parser.proofs.Agrees.{context_none, same_command, same_view}
+use Rattle.vt_parser.proofs.Agrees.{context_none}
 
 -- a test of a range, as a fact
 within : (low high byte : ℕ) → is_within low high byte ≡ true → IsFrom low high byte
@@ -171,41 +167,11 @@ pub run_front : (first : Bool) (n len : ℕ) → suc n ≤ cond first (1 + len) 
 run_front true n len le = (refl, omega arith)
 run_front false n len le = let no : ⊥ = omega arith in absurd no
 
-pub runs_are_graphic : RunsAreGraphic
+-- no byte of a run is anything but a graphic character
+pub runs_are_graphic : (bytes : List ℕ) (n : ℕ) → n ≤ prefix_len is_graphic bytes → list_all is_graphic (take n bytes) ≡ true
 runs_are_graphic bytes zero le = refl
 runs_are_graphic [] (suc n) le = refl
 runs_are_graphic (byte ∷ rest) (suc n) le =
     let both = run_front (is_graphic byte) n (prefix_len is_graphic rest) le in
     let first : is_graphic byte ≡ true = both.0 in
     simp first (runs_are_graphic rest n both.1)
-
--- ---- the end of a control sequence
-
-final_graphic : (byte : ℕ) → is_control_final byte ≡ true → is_graphic byte ≡ true
-final_graphic byte is = grind (arith, nat_tests)
-
-final_step : (given : Mode) (private : Bool) (params : ArrayVec ℕ) (over : Bool) (byte : ℕ) → is_control_final byte ≡ true → stepped (CsiState private params over) given byte ≡ gives (Some (Csi private params byte))
-unfolding stepped joined
-final_step given private params over byte final =
-    let kind = graphic_actions byte (final_graphic byte final) in simp (kind, final)
-
-pub finals_finish : FinalsFinish
-finals_finish given m p private params over byte view final =
-    let step = final_step given private params over byte final in (
-      same_command given m p byte (CsiState private params over) view ∙ ap (λ (s : Step). s.command) step,
-      same_view given m p byte (CsiState private params over) view ∙ ap (λ (s : Step). Some s.state) step,
-    )
-
-bare_final_step : (given : Mode) (byte : ℕ) → is_control_final byte ≡ true → stepped CsiStart given byte ≡ gives (Some (Csi false (held (0 ∷ [])) byte))
-unfolding stepped joined
-bare_final_step given byte final =
-    let kind = graphic_actions byte (final_graphic byte final) in
-    let unmarked = final_no_mark byte final in
-    simp (kind, unmarked, final)
-
-pub bare_finals_finish : BareFinalsFinish
-bare_finals_finish given m p byte view final =
-    let step = bare_final_step given byte final in (
-      same_command given m p byte CsiStart view ∙ ap (λ (s : Step). s.command) step,
-      same_view given m p byte CsiStart view ∙ ap (λ (s : Step). Some s.state) step,
-    )

@@ -6,7 +6,7 @@ use Rattle.std.proofs.lemmas.Bool.Decides.{nat_tests}
 use Rattle.vt_parser.specs.declared.controls.Context.{Context}
 use Rattle.vt_parser.specs.declared.controls.Context.TheVariants.{Ground, Sequence, Text}
 use Rattle.vt_parser.specs.declared.controls.Action.{Action}
-use Rattle.vt_parser.specs.declared.controls.Action.TheVariants.{Ignore, Execute, Print, Mark, Begin, Join, End, Cancel}
+use Rattle.vt_parser.specs.declared.controls.Action.TheVariants.{Ignore, Execute, Print, Begin, Join, End, Cancel}
 use Rattle.vt_parser.specs.declared.controls.Actions.{Actions}
 use Rattle.vt_parser.specs.Control.{escape, is_within, is_graphic, actions_by, Row, table, actions_in, actions_of, action_at, action_of}
 

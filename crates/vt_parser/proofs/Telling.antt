@@ -11,7 +11,7 @@ use Rattle.vt_parser.specs.declared.machine.Event.TheVariants.{Error, Control, E
 use Rattle.vt_parser.specs.declared.tokens.Token.{Token}
 use Rattle.vt_parser.specs.declared.tokens.Token.TheVariants as tokens
 use Rattle.vt_parser.specs.declared.states.ParserState.{ParserState}
-use Rattle.vt_parser.specs.declared.states.ParserState.TheVariants.{Ground, Escape, EscapeOne, EscapeMany, CsiStart, Csi, CsiIgnored, Text, Vt52Escape, Vt52Line, Vt52Column}
+use Rattle.vt_parser.specs.declared.states.ParserState.TheVariants.{Ground, Csi}
 use Rattle.vt_parser.specs.Control.{is_graphic}
 use Rattle.vt_parser.specs.View.{parser_view, IsShown}
 use Rattle.vt_parser.specs.Step.{command_of, pending_after, mode_after}
@@ -22,7 +22,9 @@ use Rattle.vt_parser.specs.Machine.{Step, Runs}
 use Rattle.vt_parser.specs.Reading.{HasParams, event_command, IsTokenOf}
 use Rattle.vt_parser.proofs.Shapes.{shows_none}
 use Rattle.vt_parser.proofs.LawLemmas.{ground_is_empty}
-use Rattle.vt_parser.proofs.ProperLemmas.{commands_are_proper, graphic_is_shown, finals_finish}
+use Rattle.vt_parser.proofs.ProperLemmas.{commands_are_proper, graphic_is_shown}
+use Rattle.vt_parser.proofs.Agrees.{same_command}
+use Rattle.vt_parser.proofs.Collecting.{final_step}
 use Rattle.vt_parser.proofs.ManyBytes.{runs_agree}
 
 -- ---- states
@@ -30,9 +32,9 @@ use Rattle.vt_parser.proofs.ManyBytes.{runs_agree}
 -- a state that shows a text has its parameters, as its command will
 pub has_params : (state : ParserState) → IsShown state → HasParams state
 has_params (Csi private params over) shown =
-    let told = finals_finish shown.0 shown.0 shown.1 private params over 64 shown.2 refl in
+    let told = same_command shown.0 shown.0 shown.1 64 (Csi private params over) shown.2 ∙ ap (λ (s : Step). s.command) (final_step private params over shown.0 64 refl refl) in
     let P : Option Command → Type 0 = λ command. IfSome command IsProper in
-    (subst P told.0 (commands_are_proper shown.0 shown.1 64)).0
+    (subst P told (commands_are_proper shown.0 shown.1 64)).0
 has_params state shown = tt
 
 pub shown_after : (state : ParserState) (given : Mode) (bytes : List ℕ) (step : Step) → IsShown state → Runs state given bytes step → IsShown step.state

@@ -10,7 +10,7 @@ use Rattle.vt_parser.specs.declared.commands.Command.{Command}
 use Rattle.vt_parser.specs.declared.commands.Command.TheVariants.{Esc}
 use Rattle.vt_parser.specs.declared.controls.Context.TheVariants as context
 use Rattle.vt_parser.specs.declared.states.ParserState.{ParserState}
-use Rattle.vt_parser.specs.declared.states.ParserState.TheVariants.{Ground, Escape, EscapeOne, EscapeMany, CsiStart, Csi, CsiIgnored, Text, Vt52Escape, Vt52Line, Vt52Column}
+use Rattle.vt_parser.specs.declared.states.ParserState.TheVariants.{Ground, Escape, EscapeOne, CsiStart, Text}
 use Rattle.vt_parser.specs.Control.{escape, is_graphic}
 use Rattle.vt_parser.specs.Sequence.{is_intermediate, is_escape_final, is_control_text, is_control_final, begins_control, begins_string, is_well_formed, control_meaning}
 use Rattle.vt_parser.specs.View.{control_view}

@@ -1,5 +1,5 @@
 -- The control syntax: what is done with a byte, by the byte and by where it comes.
-use Rattle.std.specs.Prelude.{ℕ, Bool, not, ◌==◌, ◌&&◌, nat_le, if◌then◌else◌, List, [], ◌∷◌}
+use Rattle.std.specs.Prelude.{ℕ, Bool, not, ◌&&◌, nat_le, if◌then◌else◌, List, [], ◌∷◌}
 use Rattle.vt_parser.specs.declared.controls.Context.{Context}
 use Rattle.vt_parser.specs.declared.controls.Context.TheVariants.{Ground, Sequence, Text}
 use Rattle.vt_parser.specs.declared.controls.Action.{Action}

@@ -1,14 +1,13 @@
 -- What holds of every step: the statements of the crate's laws.
-use Rattle.std.specs.Prelude.{◌≡◌, ◌≢◌, ℕ, ◌+◌, ◌≤◌, ◌<◌, Bool, true, false, List, [], ◌∷◌, ◌++◌, take, length, Option, Some, None, IfSome, All}
-use Rattle.std.specs.List.{list_all, prefix_len}
+use Rattle.std.specs.Prelude.{◌≡◌, ◌≢◌, ℕ, ◌+◌, ◌≤◌, ◌<◌, Bool, true, false, List, [], ◌∷◌, ◌++◌, length, Option, Some, None, IfSome, All}
+use Rattle.std.specs.List.{list_all}
 use Rattle.std.specs.Option.{MatchOption}
 use Rattle.vt_parser.specs.declared.commands.Mode.{Mode}
 use Rattle.vt_parser.specs.declared.commands.Mode.TheVariants.{Ansi}
 use Rattle.vt_parser.specs.declared.commands.Command.{Command}
 use Rattle.vt_parser.specs.declared.commands.Command.TheVariants.{Show, Error, Control, Esc, Csi, Vt52, Vt52Address}
 use Rattle.vt_parser.specs.declared.states.ParserState.{ParserState}
-use Rattle.vt_parser.specs.declared.states.ParserState.TheVariants.{Ground, CsiStart, Csi as CsiState}
-use Rattle.arrayvec.specs.ArrayVec.{ArrayVec}
+use Rattle.vt_parser.specs.declared.states.ParserState.TheVariants.{Ground}
 use Rattle.vt_parser.specs.Control.{escape, is_within, is_graphic}
 use Rattle.vt_parser.specs.Sequence.{is_intermediate, is_escape_final, is_control_text, is_control_final, begins_control, begins_string, params, held, control_meaning, most_params}
 use Rattle.vt_parser.specs.View.{parser_view}
@@ -104,30 +103,10 @@ ControlIsGiven =
     (m : Mode) (byte : ℕ) → is_within 8 15 byte ≡ true
     → (command_of m [] byte ≡ Some (Control byte)) × (pending_after m [] byte ≡ [])
 
--- No byte of a run is anything but a graphic character.
-abbrev pub RunsAreGraphic : Type 0
-RunsAreGraphic =
-    (bytes : List ℕ) (n : ℕ) → n ≤ prefix_len is_graphic bytes → list_all is_graphic (take n bytes) ≡ true
-
 -- The numbers of every command are in their ranges.
 abbrev pub CommandsAreProper : Type 0
 CommandsAreProper =
     (m : Mode) (p : List ℕ) (byte : ℕ) → IfSome (command_of m p byte) IsProper
-
--- The final ends a control sequence with a well formed text: its command has the parameters that the state shows, and nothing is pending.
-abbrev pub FinalsFinish : Type 0
-FinalsFinish =
-    (given m : Mode) (p : List ℕ) (private : Bool) (params : ArrayVec ℕ) (over : Bool) (byte : ℕ)
-    → parser_view m p ≡ Some (CsiState private params over) → is_control_final byte ≡ true
-    → (command_of m p byte ≡ Some (Csi private params byte))
-    × (parser_view (mode_after given m byte) (pending_after m p byte) ≡ Some Ground)
-
--- The final ends a control sequence without a text too, whose one parameter is 0.
-abbrev pub BareFinalsFinish : Type 0
-BareFinalsFinish =
-    (given m : Mode) (p : List ℕ) (byte : ℕ) → parser_view m p ≡ Some CsiStart → is_control_final byte ≡ true
-    → (command_of m p byte ≡ Some (Csi false (held (0 ∷ [])) byte))
-    × (parser_view (mode_after given m byte) (pending_after m p byte) ≡ Some Ground)
 
 -- A mode that is given with every byte stays.
 abbrev pub SameModeStays : Type 0

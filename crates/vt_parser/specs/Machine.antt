@@ -5,7 +5,7 @@ use Rattle.arrayvec.specs.ArrayVec.{ArrayVec}
 use Rattle.vt_parser.specs.declared.commands.Mode.{Mode}
 use Rattle.vt_parser.specs.declared.commands.Mode.TheVariants.{Ansi, Vt52 as Vt52Mode}
 use Rattle.vt_parser.specs.declared.commands.Command.{Command}
-use Rattle.vt_parser.specs.declared.commands.Command.TheVariants.{Show, Error, Control, Esc, Csi as CsiCommand, Vt52, Vt52Address}
+use Rattle.vt_parser.specs.declared.commands.Command.TheVariants.{Show, Error, Esc, Csi as CsiCommand, Vt52, Vt52Address}
 use Rattle.vt_parser.specs.declared.controls.Context.{Context}
 use Rattle.vt_parser.specs.declared.controls.Context.TheVariants as context
 use Rattle.vt_parser.specs.declared.controls.Action.{Action}

@@ -1,5 +1,5 @@
 //! What holds of every step, for the layers above. Each function's contract is the law, and its body is empty.
-ghost use Rattle.vt_parser.specs.Law.{StateDecides, StaysShown, GroundIsEmpty, FinishedLeavesNothing, PendingPays, GraphicIsShown, ControlIsGiven, RunsAreGraphic, CommandsAreProper, FinalsFinish, BareFinalsFinish, SameModeStays, EscapesFinish, DesignationsFinish, ControlsFinish, DecimalsAreRead, WrittenControlsFinish, WrittenPrivatesFinish};
+ghost use Rattle.vt_parser.specs.Law.{StateDecides, StaysShown, GroundIsEmpty, FinishedLeavesNothing, PendingPays, GraphicIsShown, ControlIsGiven, CommandsAreProper, SameModeStays, EscapesFinish, DesignationsFinish, ControlsFinish, DecimalsAreRead, WrittenControlsFinish, WrittenPrivatesFinish};
 
 /// Pending bytes that show one state give one command after any byte, and show one state again.
 pub fn state_decides()
@@ -36,24 +36,9 @@ pub fn control_is_given()
     ensures { ControlIsGiven }
 {}
 
-/// No byte of a run is anything but a graphic character.
-pub fn runs_are_graphic()
-    ensures { RunsAreGraphic }
-{}
-
 /// The numbers of every command are in their ranges.
 pub fn commands_are_proper()
     ensures { CommandsAreProper }
-{}
-
-/// The final ends a control sequence with a well formed text, with the parameters that the state shows.
-pub fn finals_finish()
-    ensures { FinalsFinish }
-{}
-
-/// The final ends a control sequence without a text too, whose one parameter is 0.
-pub fn bare_finals_finish()
-    ensures { BareFinalsFinish }
 {}
 
 /// A mode that is given with every byte stays.

@@ -123,39 +123,6 @@ impl Parser {
         }
     }
 
-    /// Takes a byte with which a sequence begins or goes on, and says whether it did. One that it leaves changes nothing.
-    #[inline]
-    pub fn go_on(&mut self, mode: Mode, byte: u8) -> bool
-        ensures command { result ≡ true → (m : Mode) (pending : List ℕ)
-            → parser_view m pending ≡ Some self.old → command_of m pending byte ≡ None }
-        ensures state { result ≡ true → (m : Mode) (pending : List ℕ) → parser_view m pending ≡ Some self.old
-            → parser_view (mode_after mode m byte) (pending_after m pending byte) ≡ Some self.new }
-        ensures left { result ≡ false → self.new ≡ self.old }
-    {
-        let _ = (mode, byte);
-        false
-    }
-
-    /// Whether a byte is a control that acts and leaves the state.
-    #[inline]
-    pub fn acts(&self, byte: u8) -> bool
-        ensures command { result ≡ true → (m : Mode) (pending : List ℕ)
-            → parser_view m pending ≡ Some self.now → command_of m pending byte ≡ Some (Command.Control byte) }
-        ensures state { result ≡ true → (given m : Mode) (pending : List ℕ) → parser_view m pending ≡ Some self.now
-            → parser_view (mode_after given m byte) (pending_after m pending byte) ≡ Some self.now }
-    {
-        let _ = byte;
-        false
-    }
-
-    /// Comes back to ground, as at the end of a sequence.
-    #[inline]
-    pub fn finish(&mut self)
-        ensures { self.new ≡ ParserState.Ground }
-    {
-        self.state = ParserState::Ground;
-    }
-
     /// How far the pending sequence has come.
     #[inline]
     pub fn state(&self) -> &ParserState

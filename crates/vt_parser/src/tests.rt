@@ -479,10 +479,7 @@ fn laws_can_be_called() {
     laws::pending_pays();
     laws::graphic_is_shown();
     laws::control_is_given();
-    laws::runs_are_graphic();
     laws::commands_are_proper();
-    laws::finals_finish();
-    laws::bare_finals_finish();
     laws::same_mode_stays();
     laws::whole_sequences_finish();
     laws::decimals_are_read();

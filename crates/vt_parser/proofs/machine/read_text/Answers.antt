@@ -1,4 +1,4 @@
-use Rattle.std.proofs.Common.{◌-◌, ◌∷◌, [], ◌++◌, take, ap₂, arith}
+use Rattle.std.proofs.Common.{◌-◌, ◌∷◌, [], ◌++◌, take, arith}
 use Rattle.vt_parser.specs.Sequence.{held}
 use Rattle.vt_parser.specs.Reading.{collected}
 use Rattle.vt_parser.proofs.Whole.{step_of}
