@@ -2,7 +2,7 @@
 PREFIX ?= /usr/local
 SOURCES := crates.txt $(shell find crates -name out -prune -o -type f -print)
 
-.PHONY: all demo test install clean
+.PHONY: all demo test soak install clean
 
 all: bin/typetool
 
@@ -21,6 +21,14 @@ test:
 	$(MAKE) bin/typetool
 	tests/recordings.sh bin/typetool
 	tests/program.sh bin/typetool
+	tests/limits.py bin/typetool
+	tests/memory.py bin/typetool
+	tests/damage.py bin/typetool 500
+
+# The long forms: more limits on memory, and 20,000 damaged pairs.
+soak: bin/typetool
+	tests/memory.py bin/typetool 16
+	tests/damage.py bin/typetool 20000
 
 install: bin/typetool
 	install -d $(DESTDIR)$(PREFIX)/bin

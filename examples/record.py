@@ -1,16 +1,17 @@
 #!/usr/bin/env python3
-"""Records a program with script(1) in an 80x24 terminal with TERM=vt100, while keys are typed.
+"""Records a program with script(1) in an 80x24 terminal, while keys are typed.
 
     record.py OUT.script OUT.timing COMMAND [WAIT KEYS]..
 
-Waits WAIT seconds before it types KEYS (\\e, \\r and the like are escapes) and ends when the command ends.
+Waits WAIT seconds before it types KEYS (\\e, \\r and the like are escapes) and ends when the command ends. The program
+runs under TERM=vt100, or the name that RECORD_TERM has.
 """
 import fcntl, os, pty, struct, sys, termios, threading, time
 
 script, timing, command, *keys = sys.argv[1:]
 pid, terminal = pty.fork()
 if pid == 0:
-    os.environ.update(TERM="vt100", LINES="24", COLUMNS="80", LC_ALL="C")
+    os.environ.update(TERM=os.environ.get("RECORD_TERM", "vt100"), LINES="24", COLUMNS="80", LC_ALL="C")
     os.execvp("script", ["script", "--logging-format", "classic", "--log-out", script, "--log-timing", timing, "--command", command])
 fcntl.ioctl(terminal, termios.TIOCSWINSZ, struct.pack("HHHH", 24, 80, 0, 0))
 

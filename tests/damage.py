@@ -1,0 +1,202 @@
+#!/usr/bin/env python3
+"""Plays damaged recordings by every command and compares with a plain reader of the format.
+
+    tests/damage.py TYPETOOL [PAIRS [SEED]]
+
+Each pair is a real recording, or pieces of several, whose bytes were flipped, cut, doubled and joined. Every command has
+to return in time, with a status of the table: where the plain reader (plain_reader.py) finds a fault, 1 and just that
+fault, nothing written; else 0, or 1 where `save` refuses a request line, and the text that the plain reader comes to, where
+it knows it. What `save` writes is the pair that the plain reader's edits come to.
+The last line is 'N passed, M failed'.
+"""
+import concurrent.futures, glob, os, random, subprocess, sys, tempfile
+
+import plain_reader as plain
+
+here = os.path.dirname(os.path.abspath(__file__))
+program = os.path.abspath(sys.argv[1])
+pairs = int(sys.argv[2]) if len(sys.argv) > 2 else 200
+seed = int(sys.argv[3]) if len(sys.argv) > 3 else 1
+# Far above what any of these files takes: a command that isn't done by then is stuck.
+PATIENCE = 20
+
+
+def recordings():
+    """The real recordings, each cut to its first chunks, so that many can be played."""
+    found = []
+    for script in sorted(glob.glob(os.path.join(here, "recordings", "*.script")) +
+                         glob.glob(os.path.join(here, "..", "examples", "*.script"))):
+        with open(script, "rb") as one, open(script[:-7] + ".timing", "rb") as two:
+            header, chunks, trailer = plain.read(one.read(), two.read())
+        found.append((header, chunks, trailer))
+    return found
+
+
+def piece(rng, whole):
+    """A recording of some chunks in turn of a real one."""
+    header, chunks, trailer = rng.choice(whole)
+    start = rng.randrange(len(chunks))
+    return plain.files_of((header, chunks[start : start + rng.randint(1, 12)], trailer))
+
+
+def flipped(rng, text):
+    out = bytearray(text)
+    for _ in range(rng.randint(1, 4)):
+        if out:
+            out[rng.randrange(len(out))] = rng.choice([rng.randrange(256), 10, 27, 32, 45, 46, 48, 57, 65])
+    return bytes(out)
+
+
+def cut(rng, text):
+    return text[: rng.randint(0, len(text))]
+
+
+def doubled(rng, text):
+    start = rng.randint(0, len(text))
+    end = rng.randint(start, min(len(text), start + 40))
+    return text[:end] + text[start:end] + text[end:]
+
+
+def dropped(rng, text):
+    start = rng.randint(0, len(text))
+    return text[:start] + text[start + rng.randint(0, 8) :]
+
+
+def damaged(rng, whole):
+    """A pair, most often with something wrong."""
+    script, timing = piece(rng, whole)
+    if rng.random() < 0.2:
+        more = piece(rng, whole)
+        script, timing = script + more[0], timing + more[1]
+    for _ in range(rng.randint(0, 3)):
+        harm = rng.choice([flipped, cut, doubled, dropped])
+        if rng.random() < 0.5:
+            script = harm(rng, script)
+        else:
+            timing = harm(rng, timing)
+    return script, timing
+
+
+def moment(rng):
+    return b"%d.%06d" % (rng.choice([0, 0, 1, 2, 5, 60, 10**6, 10**13]), rng.choice([0, 1, 250000, rng.randrange(10**6)]))
+
+
+def request(rng, count):
+    """A request line about a recording of so many chunks, now and then a bad one."""
+    at = lambda: b"%d" % rng.choice([0, rng.randint(0, count), count, count + 1, rng.randint(0, max(count - 1, 0))])
+    text = lambda: rng.choice([b"-", b"1b5b", b"41", b"1b5b366e", b"0d0a", b"zz", b"4", bytes(rng.randrange(256) for _ in range(9)).hex().encode()])
+    delay = lambda: rng.choice([b"0", b"0.5", b"1.", b"1000000", b"1000000.000001", b".5", b"-1"])
+    line = rng.choice([
+        lambda: b"insert %s %s %s" % (at(), delay(), text()), lambda: b"delete %s %s" % (at(), at()),
+        lambda: b"replace %s %s" % (at(), text()), lambda: b"retime %s %s" % (at(), delay()), lambda: b"cap %s" % delay(),
+        lambda: b"\tinfo ", lambda: b"log", lambda: b"", lambda: b" \t", lambda: b"nonsense", lambda: b"cap 1\r"])
+    return line()
+
+
+class Damage:
+    def __init__(self, folder, number):
+        self.rng = random.Random(seed * 1_000_003 + number)
+        self.folder = os.path.join(folder, str(number))
+        self.problems, self.runs = [], 0
+        os.mkdir(self.folder)
+
+    def path(self, name):
+        return os.path.join(self.folder, name)
+
+    def run(self, words, stdin=b""):
+        self.runs += 1
+        done = subprocess.run([program, *words], input=stdin, capture_output=True, cwd=self.folder, timeout=PATIENCE)
+        return done.returncode, done.stdout, done.stderr
+
+    def expect(self, name, got, wanted):
+        if got != wanted:
+            self.problems.append(f"{name}: got {str(got)[:300]}, wanted {str(wanted)[:300]}")
+
+    def text(self, name):
+        with open(self.path(name), "rb") as file:
+            return file.read()
+
+    def write(self, name, text):
+        with open(self.path(name), "wb") as file:
+            file.write(text)
+
+    def everything(self, script, timing):
+        self.write("s", script)
+        self.write("t", timing)
+        recording = plain.read(script, timing)
+        if isinstance(recording, str):
+            return self.refused(recording)
+        self.played(recording)
+        self.edited(recording)
+
+    def refused(self, fault):
+        told = (1, b"", f"typetool: {fault}\n".encode())
+        for words in (["due", "--at", "1"], ["info"], ["screen", "--at", "1"], ["reports", "--at", "1"]):
+            self.expect(words[0], self.run([*words, "s", "t"]), told)
+        self.expect("save", self.run(["save", "s", "t", "s2", "t2"], b"cap 1\n"), told)
+        self.expect("what save left", (self.text("s2"), self.text("t2")), (b"", b""))
+
+    def played(self, recording):
+        at = moment(self.rng)
+        us = plain.seconds(at)
+        self.expect("due", self.run(["due", "--at", at, "s", "t"]), (0, plain.due(recording[1], us), b""))
+        self.expect("info", self.run(["info", "s", "t"]), (0, plain.info(recording), b""))
+        status, screen, errors = self.run(["screen", "--at", at, "s", "t"])
+        self.expect("screen", (status, screen.count(b"\n"), errors), (0, 24, b""))
+        status, reports, errors = self.run(["reports", "--at", at, "s", "t"])
+        self.expect("reports", (status, len(reports) % 2, errors), (0, 1, b""))
+
+    def edited(self, recording):
+        """Some request lines, and then those of them alone that are accepted."""
+        lines = [request(self.rng, len(recording[1])) for _ in range(self.rng.randint(0, 6))]
+        self.saved(recording, b"\n".join(lines) + (b"\n" if self.rng.random() < 0.8 else b""))
+        chunks, accepted = [list(chunk) for chunk in recording[1]], b""
+        for line in lines:
+            edit = plain.edit_of(line)
+            if edit and plain.edit_fault(chunks, *edit) is None:
+                plain.apply(chunks, *edit)
+                accepted += line + b"\n"
+        for name in ("s2", "t2"):
+            os.remove(self.path(name))
+        self.saved(recording, accepted)
+
+    def saved(self, recording, edits):
+        wanted = plain.save(recording, edits)
+        got = self.run(["save", "s", "t", "s2", "t2"], edits)
+        if isinstance(wanted, str):
+            self.expect("save", got, (1, b"", f"typetool: {wanted}\n".encode()))
+            wanted = (b"", b"")
+        else:
+            self.expect("save", got, (0, b"", b""))
+        self.expect("what save wrote", (self.text("s2"), self.text("t2")), wanted)
+
+
+def one(folder, number, whole):
+    damage = Damage(folder, number)
+    script, timing = damaged(damage.rng, whole)
+    try:
+        damage.everything(script, timing)
+    except subprocess.TimeoutExpired as stuck:
+        damage.problems.append(f"stuck: {stuck.cmd}")
+    if not damage.problems:
+        for name in os.listdir(damage.folder):
+            os.remove(damage.path(name))
+    return number, damage.runs, damage.problems
+
+
+def main():
+    whole, runs, failed = recordings(), 0, 0
+    folder = tempfile.mkdtemp(prefix="damage-")
+    with concurrent.futures.ThreadPoolExecutor(os.cpu_count()) as pool:
+        for number, done, problems in pool.map(lambda n: one(folder, n, whole), range(pairs)):
+            runs += done
+            failed += bool(problems)
+            for problem in problems:
+                print(f"FAILED pair {number} in {folder}: {problem}")
+    if not failed:
+        subprocess.run(["rm", "-rf", folder], check=True)
+    print(f"damaged pairs: {pairs - failed} passed, {failed} failed; {runs} runs of the program")
+    return failed > 0
+
+
+sys.exit(main())

@@ -1,0 +1,168 @@
+#!/usr/bin/env python3
+"""Cuts a pair of files at every byte, and meets each limit of a recording at its value and one past it.
+
+    tests/limits.py TYPETOOL
+
+What is expected is written out here, or comes from the plain reader (plain_reader.py). The last line is
+'N passed, M failed'.
+"""
+import os, subprocess, sys, tempfile
+
+import plain_reader as plain
+
+program = os.path.abspath(sys.argv[1])
+HEADER = b"Script started on X\n"
+passed = failed = 0
+
+
+def run(words, stdin=b""):
+    done = subprocess.run([program, *words], input=stdin, capture_output=True, timeout=120)
+    return done.returncode, done.stdout, done.stderr
+
+
+def put(name, text):
+    with open(name, "wb") as file:
+        file.write(text)
+
+
+def check(name, got, wanted):
+    global passed, failed
+    if got == wanted:
+        passed += 1
+    else:
+        failed += 1
+        print(f"FAILED {name}: got {str(got)[:300]}, wanted {str(wanted)[:300]}")
+
+
+def told(fault):
+    return 1, b"", f"typetool: {fault}\n".encode()
+
+
+def pair(script, timing):
+    put("s", script)
+    put("t", timing)
+
+
+def chunk_count(name, chunks, trailer):
+    """A pair that is read, with so many chunks and so long a trailer."""
+    lines = run(["info", "s", "t"])[1].split(b"\n")
+    check(name, (lines[:1], lines[4:5]), ([b"chunks %d" % chunks], [b"trailer %d" % trailer]))
+
+
+def cut_scripts():
+    """The script cut to n bytes: no header, then a chunk that isn't whole, then all."""
+    for n in range(24):
+        pair((HEADER + b"aXb")[:n], b"0.000000 1\n0.250000 1\n0.500000 1\n")
+        if n < 20:
+            check(f"script of {n} bytes", run(["info", "s", "t"]), told("typescript has no header line"))
+        elif n < 23:
+            check(f"script of {n} bytes", run(["info", "s", "t"]), told(f"typescript ends inside chunk {n - 20}"))
+        else:
+            chunk_count("the whole script", 3, 0)
+
+
+def cut_timings():
+    """The timing cut to 11 q + r bytes: q chunks, a bad count, or q + 1 chunks where only the LF is missing."""
+    for n in range(34):
+        lines, rest = divmod(n, 11)
+        pair(HEADER + b"aXb", b"0.000000 1\n0.250000 1\n0.500000 1\n"[:n])
+        if 1 <= rest <= 9:
+            check(f"timing of {n} bytes", run(["info", "s", "t"]), told(f"timing line {lines + 1}: bad count"))
+        else:
+            chunk_count(f"timing of {n} bytes", lines + (rest == 10), 3 - lines - (rest == 10))
+
+
+def cut_both(folder):
+    """Both files of a real recording's beginning, cut at every place, as the plain reader finds them."""
+    with open(os.path.join(folder, "nano.script"), "rb") as one, open(os.path.join(folder, "nano.timing"), "rb") as two:
+        header, chunks, trailer = plain.read(one.read(), two.read())
+    script, timing = plain.files_of((header, [[delay, text[:9]] for delay, text in chunks[:5]], b"end\n"))
+    for cut in range(len(script) + len(timing) + 1):
+        pair(script[:cut], timing[: len(script) + len(timing) - cut])
+        recording = plain.read(script[:cut], timing[: len(script) + len(timing) - cut])
+        wanted = told(recording) if isinstance(recording, str) else (0, plain.info(recording), b"")
+        check(f"both files cut, {cut} bytes of script", run(["info", "s", "t"]), wanted)
+
+
+def limits_of_files():
+    """Chunks, bytes of a chunk and of a body, delays: each at its value and one past it."""
+    pair(HEADER, b"0 0\n" * 1_000_000)
+    chunk_count("1,000,000 chunks", 1_000_000, 0)
+    pair(HEADER, b"0 0\n" * 1_000_001)
+    check("a chunk more", run(["info", "s", "t"]), told("timing line 1000001: too many chunks"))
+    pair(HEADER, b"0 1048576\n")
+    check("a chunk of 1 MiB", run(["info", "s", "t"]), told("typescript ends inside chunk 0"))
+    pair(HEADER, b"0 1048577\n")
+    check("a byte more", run(["info", "s", "t"]), told("timing line 1: chunk too long"))
+    pair(HEADER, b"0 1048576\n" * 1024)
+    check("a body of 1 GiB", run(["info", "s", "t"]), told("typescript ends inside chunk 0"))
+    pair(HEADER, b"0 1048576\n" * 1024 + b"0 1\n")
+    check("a byte more in the body", run(["info", "s", "t"]), told("timing line 1025: too many bytes"))
+    pair(HEADER, b"1000000 0\n1000000.0000009 0\n")
+    chunk_count("the longest delay", 2, 0)
+    pair(HEADER, b"1000000.000001 0\n")
+    check("a microsecond more", run(["info", "s", "t"]), told("timing line 1: delay too large"))
+
+
+def saved(lines):
+    """What `save` answers to these lines. Both new files are taken away again."""
+    answer = run(["save", "s", "t", "s2", "t2"], lines)
+    os.remove("s2")
+    os.remove("t2")
+    return answer
+
+
+def limits_of_edits():
+    """Places, delays, chunks and bytes of edits, each a line of its own to `save`."""
+    pair(HEADER + b"ab", b"0 1\n0.5 1\n")
+    longest = b"41" * 1_048_576
+    for line, answer in [
+        (b"insert 2 1000000 -", ""), (b"insert 3 0 -", "E1 NoSuchChunk"), (b"insert 0 1000000.000001 -", "E2 DelayTooLarge"),
+        (b"retime 0 1000000.000001", "E2 DelayTooLarge"), (b"cap 1000000.000001", "E2 DelayTooLarge"), (b"cap 1000000", ""),
+        (b"insert 0 0 " + longest, ""), (b"insert 0 0 " + longest + b"41", "E3 ChunkTooLong"), (b"replace 0 " + longest, ""),
+        (b"replace 1 " + longest + b"41", "E3 ChunkTooLong"), (b"replace 2 -", "E1 NoSuchChunk"), (b"delete 0 2", ""),
+        (b"delete 0 3", "E6 BadRange"), (b"delete 1 1", "E6 BadRange"),
+        (b"delete 99999999999999999999 99999999999999999999", "E6 BadRange"),
+        (b"insert 99999999999999999999 0 -", "E1 NoSuchChunk"),
+    ]:
+        check(line[:40].decode(), saved(line + b"\n"), told(f"request line 1: {answer}") if answer else (0, b"", b""))
+    pair(HEADER, b"0 0\n" * 999_999)
+    check("chunks by edits", saved(b"insert 0 0 -\ninsert 0 0 -\n"), told("request line 2: E4 TooManyChunks"))
+
+
+def limits_of_words():
+    """Seconds."""
+    pair(HEADER + b"ab", b"0 1\n0.5 1\n")
+    for at in ("1000000000000", "1000000000000.000001", "9" * 60):
+        check(f"due at {at}", run(["due", "--at", at, "s", "t"]), (0, b"ab", b""))
+
+
+def parameters():
+    """The 16 parameters that count, each at most 9,999."""
+    bold = b"\x1b[" + b"0;" * 15 + b"20h" + b"a\n" + b"\x1b[" + b"0;" * 16 + b"20lb\nc"
+    put("s", HEADER + bold)
+    put("t", b"0 %d\n" % len(bold))
+    # LNM is set as the 16th parameter, and isn't reset by a 17th.
+    check("16 parameters", run(["screen", "--at", "0", "s", "t"])[1][:6], b"a\nb\nc\n")
+    far = b"\x1b[99999;99999Hx\x1b[18446744073709551617;1Hy\x1b[6n"
+    put("s", HEADER + far)
+    put("t", b"0 %d\n" % len(far))
+    check("9,999", run(["reports", "--at", "0", "s", "t"])[1], b"\x1b[24;2R".hex().encode() + b"\n")
+
+
+def main():
+    recordings = os.path.join(os.path.dirname(os.path.abspath(__file__)), "recordings")
+    with tempfile.TemporaryDirectory() as folder:
+        os.chdir(folder)
+        cut_scripts()
+        cut_timings()
+        cut_both(recordings)
+        limits_of_files()
+        limits_of_edits()
+        limits_of_words()
+        parameters()
+    print(f"limits: {passed} passed, {failed} failed")
+    return failed > 0
+
+
+sys.exit(main())
