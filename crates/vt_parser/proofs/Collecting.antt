@@ -1,5 +1,5 @@
 -- The text of a control sequence, read byte by byte with its last parameter apart.
-use Rattle.std.proofs.Common.{◌≡◌, ℕ, zero, suc, ◌+◌, ◌<◌, ◌≤◌, Bool, true, false, ◌==◌, ◌||◌, cond, List, [], ◌∷◌, ◌++◌, take, length, get_or, Some, None, refl, sym, ap, ap₂, ◌∙◌, subst, inl, inr, arith}
+use Rattle.std.proofs.Common.{◌≡◌, ℕ, zero, suc, ◌+◌, ◌<◌, ◌≤◌, Bool, true, false, ◌==◌, ◌||◌, cond, List, [], ◌∷◌, ◌++◌, take, drop, length, get_or, Some, None, refl, sym, ap, ap₂, ◌∙◌, subst, inl, inr, arith}
 use Rattle.std.specs.List.{prefix_len}
 use Rattle.std.proofs.lemmas.Bool.{cases_Bool, eqb-true}
 use Rattle.std.proofs.lemmas.Bool.Decides.{nat_tests}
@@ -176,6 +176,23 @@ opening_runs state mode (byte ∷ other ∷ rest) ansi long first second =
       ap (λ (s : Step). s.command) begins,
       ap (λ (s : Step). stepped s.state mode other) begins ∙ ap (stepped Escape mode) second ∙ joins Escape mode 91 refl refl,
     )
+
+-- and what follows is the text that it begins
+pub opening_runs_on : (state : ParserState) (bytes : List ℕ) (n : ℕ) (step : Step) → get_or bytes 0 0 ≡ escape → get_or bytes 1 0 ≡ 91
+    → 0 < n → 2 < length bytes → Runs CsiStart Ansi (take n (drop 2 bytes)) step → Runs state Ansi (take (n + 2) bytes) step
+unfolding joined
+opening_runs_on state [] n step first second some more runs = let no : ⊥ = omega arith in absurd no
+opening_runs_on state (byte ∷ []) n step first second some more runs = let no : ⊥ = omega arith in absurd no
+opening_runs_on state (byte ∷ other ∷ []) n step first second some more runs = let no : ⊥ = omega arith in absurd no
+opening_runs_on state (byte ∷ other ∷ third ∷ rest) zero step first second some more runs = let no : ⊥ = omega arith in absurd no
+opening_runs_on state (byte ∷ other ∷ third ∷ rest) (suc n) step first second some more runs =
+    let begins : stepped state Ansi byte ≡ moves_to Escape = ap (stepped state Ansi) first ∙ escape_begins state Ansi in
+    let opens : stepped Escape Ansi other ≡ moves_to CsiStart = ap (stepped Escape Ansi) second ∙ joins Escape Ansi 91 refl refl in
+    let P : Step → Type 0 = λ s. (s.command ≡ None) × Runs s.state Ansi (other ∷ third ∷ take n rest) step in
+    let Q : Step → Type 0 = λ s. (s.command ≡ None) × Runs s.state Ansi (third ∷ take n rest) step in
+    let R : ℕ → Type 0 = λ k. Runs state Ansi (take k (byte ∷ other ∷ third ∷ rest)) step in
+    let size : suc (suc (suc n)) ≡ suc n + 2 = omega arith in
+    subst R size (subst P (sym begins) (refl, subst Q (sym opens) (refl, runs)))
 
 stays_more : (state : ParserState) (mode : Mode) (byte : ℕ) (rest : List ℕ) → stepped state mode byte ≡ moves_to state
     → Runs state mode rest (moves_to state) → Runs state mode (byte ∷ rest) (moves_to state)

@@ -270,6 +270,42 @@ fn read_text(
     (at, Reached::Event(None))
 }
 
+// Reads the text of a control sequence from its first byte on.
+#[inline]
+fn read_first(state: &mut ParserState, params: &mut [u16; 16], bytes: &[u8]) -> (usize, Reached)
+    requires some { 0 < length bytes.now }
+    requires graphic { is_graphic (slice_index bytes.now 0) ≡ true }
+    ensures some { 0 < result.0 }
+    ensures within { result.0 ≤ length bytes.now }
+    ensures lent { IsLent result.1 }
+    ensures runs { (mode : Mode)
+        → Runs ParserState.CsiStart mode (take result.0 bytes.now) (reached_step result.1 params.new state.new) }
+{
+    let (text, from) = started(bytes[0]);
+    read_text(state, params, text, bytes, from)
+}
+
+// ESC `[` in ANSI mode, and what follows of its text.
+#[inline]
+fn read_control(state: &mut ParserState, params: &mut [u16; 16], bytes: &[u8]) -> (usize, Reached)
+    requires long { 1 < length bytes.now }
+    requires escape { slice_index bytes.now 0 ≡ 27 }
+    requires bracket { slice_index bytes.now 1 ≡ 91 }
+    ensures some { 0 < result.0 }
+    ensures within { result.0 ≤ length bytes.now }
+    ensures lent { IsLent result.1 }
+    ensures runs { (start : ParserState)
+        → Runs start Mode.Ansi (take result.0 bytes.now) (reached_step result.1 params.new state.new) }
+{
+    let text = &bytes[2..];
+    if text.is_empty() || !matches!(text[0], 32..=126) {
+        *state = ParserState::CsiStart;
+        return (2, Reached::Event(None));
+    }
+    let (taken, reached) = read_first(state, params, text);
+    (taken + 2, reached)
+}
+
 // ---- other bytes
 
 // ESC and this byte.
@@ -351,10 +387,7 @@ fn read_graphic(state: &mut ParserState, params: &mut [u16; 16], bytes: &[u8]) -
     ensures runs { (mode : Mode) → Runs state.old mode (take result.0 bytes.now) (reached_step result.1 params.new state.new) }
 {
     match state {
-        ParserState::CsiStart => {
-            let (text, from) = started(bytes[0]);
-            read_text(state, params, text, bytes, from)
-        }
+        ParserState::CsiStart => read_first(state, params, bytes),
         ParserState::Csi {
             private,
             params: held,
@@ -418,10 +451,7 @@ pub(crate) fn read(
     match bytes[0] {
         32..=126 => read_graphic(state, params, bytes),
         NUL => (nul_run(bytes), Reached::Event(None)),
-        ESC if opens_control(mode, bytes) => {
-            *state = ParserState::CsiStart;
-            (2, Reached::Event(None))
-        }
+        ESC if opens_control(mode, bytes) => read_control(state, params, bytes),
         byte => (1, Reached::Event(act(state, mode, byte))),
     }
 }

@@ -353,15 +353,15 @@ fn takes_runs_and_whole_sequences_at_once(rt: HostRuntime) -> Result<(), Fail> {
     let rows: [(&[u8], &str); 8] = [
         (
             b"ab\x1b[1;31mc",
-            "2 Show([97, 98]), 5 Csi { private: false, params: [1, 31], last: 109 }, 1 Show([99]), Ground",
+            "2 Show([97, 98]), 7 Csi { private: false, params: [1, 31], last: 109 }, 1 Show([99]), Ground",
         ),
         (
             b"\x1b[?25h",
-            "4 Csi { private: true, params: [25], last: 104 }, Ground",
+            "6 Csi { private: true, params: [25], last: 104 }, Ground",
         ),
         (
             b"\x1b[mx",
-            "1 Csi { private: false, params: [0], last: 109 }, 1 Show([120]), Ground",
+            "3 Csi { private: false, params: [0], last: 109 }, 1 Show([120]), Ground",
         ),
         (
             b"\x1b[1\n2A",
@@ -374,7 +374,7 @@ fn takes_runs_and_whole_sequences_at_once(rt: HostRuntime) -> Result<(), Fail> {
         ),
         (
             b"\x1b[;;;;;;;;;;;;;;;;;7r",
-            "19 Csi { private: false, params: [0, 0, 0, 0, 0, 0, 0, 0, 0, 0, 0, 0, 0, 0, 0, 0], last: 114 }, Ground",
+            "21 Csi { private: false, params: [0, 0, 0, 0, 0, 0, 0, 0, 0, 0, 0, 0, 0, 0, 0, 0], last: 114 }, Ground",
         ),
         (
             b"\x1b[99",
