@@ -1,15 +1,15 @@
-pub mod DeviceLemmas
-pub mod DigitLemmas
-pub mod SecondsLemmas
-pub mod DueLemmas
-pub mod FirstLemmas
-pub mod FieldLemmas
-pub mod TimingLemmas
-pub mod ChangeLemmas
-pub mod WrittenLemmas
-pub mod LineLemmas
-pub mod ReadingLemmas
-pub mod ReadBackLemmas
-pub mod FaultLemmas
-pub mod WordLemmas
-pub mod OneReadingLemmas
+mod DeviceLemmas
+mod DigitLemmas
+mod SecondsLemmas
+mod DueLemmas
+mod FirstLemmas
+mod FieldLemmas
+mod TimingLemmas
+mod ChangeLemmas
+mod WrittenLemmas
+mod LineLemmas
+mod ReadingLemmas
+mod ReadBackLemmas
+mod FaultLemmas
+mod WordLemmas
+mod OneReadingLemmas

@@ -7,5 +7,6 @@ pub mod Seconds
 pub mod Timing
 pub mod Reading
 pub mod Kept
+pub mod Law
 pub mod Changes
 pub mod Written

@@ -2,7 +2,7 @@
 //!
 //! No fault is retried. After a fault the device is left alone: each call here asks for one that hasn't failed.
 
-ghost use Rattle.std.specs.Prelude.{◌≡◌, ◌<◌, ◌≤◌, true, false, [], length, take, vec_len, OnOk, IfOk, IfErr, is_ok, is_err};
+ghost use Rattle.std.specs.Prelude.{◌≡◌, ◌<◌, ◌≤◌, true, false, [], length, take, vec_len, OnOk, IfOk, IfErr, OnErr, is_ok, is_err};
 ghost use Rattle.tape_core.specs.Devices.{inner_of, has_failed, is_flushed, Told, ToldAll, StopsReading, Took, StoppedIn};
 
 use crate::fault::Fault;
@@ -69,7 +69,8 @@ impl<W: Write> Watched<W> {
     pub fn put(&mut self, bytes: &[u8]) -> Result<(), Fault>
         requires { has_failed self.old ≡ false }
         ensures ok { OnOk result (Took W.contents self.old self.new bytes.now) }
-        ensures fault { IfErr result (λ fault. (fault ≡ Fault.WriteFault) × StoppedIn W.contents self.old self.new bytes.now) }
+        ensures fault { IfErr result (λ fault. fault ≡ Fault.WriteFault) }
+        ensures stopped { OnErr result (StoppedIn W.contents self.old self.new bytes.now) }
         ensures unflushed { is_flushed self.new ≡ false }
     {
         self.flushed = false;
@@ -85,7 +86,8 @@ impl<W: Write> Watched<W> {
     pub fn finish(&mut self) -> Result<(), Fault>
         requires { has_failed self.old ≡ false }
         ensures ok { OnOk result (Took W.contents self.old self.new []) }
-        ensures fault { IfErr result (λ fault. (fault ≡ Fault.WriteFault) × StoppedIn W.contents self.old self.new []) }
+        ensures fault { IfErr result (λ fault. fault ≡ Fault.WriteFault) }
+        ensures stopped { OnErr result (StoppedIn W.contents self.old self.new []) }
         ensures flushed { OnOk result (is_flushed self.new ≡ true) }
     {
         let answer = flush_answer(self.inner.flush());
@@ -101,7 +103,8 @@ impl<W: Write> Watched<W> {
         ensures unflushed { is_flushed self.new ≡ is_flushed self.old }
         ensures taken { IfOk result (λ count. (0 < count) × (count ≤ length piece.now)) }
         ensures ok { IfOk result (λ count. Took W.contents self.old self.new (take count piece.now)) }
-        ensures fault { IfErr result (λ fault. (fault ≡ Fault.WriteFault) × StoppedIn W.contents self.old self.new []) }
+        ensures fault { IfErr result (λ fault. fault ≡ Fault.WriteFault) }
+        ensures stopped { OnErr result (StoppedIn W.contents self.old self.new []) }
     {
         match self.inner.write(piece) {
             Ok(count) if count > 0 => Ok(count),

@@ -1,20 +1,19 @@
 //! Laws over the definitions alone, as functions with empty bodies.
-ghost use Rattle.std.specs.Prelude.{◌≡◌, ◌+◌, ◌<◌, ◌≤◌, ◌^◌, ◌↔◌, ◌++◌, ◌==◌, ◌∷◌, [], ℕ, All, List, MatchOption, Ok, Some, false, length, min, slice_index_or, take, true};
-ghost use Rattle.std.specs.Fmt.{decimal};
+ghost use Rattle.std.specs.Prelude.{◌≡◌, ◌<◌, ◌++◌, ◌∷◌, [], ℕ, List, MatchOption, Ok, Some, false, length, min, slice_index_or, take, true};
 ghost use Rattle.std.specs.List.{AllPass, flat_map};
-ghost use Rattle.tape_core.specs.Changes.{capped, inserted, removed, replaced, retimed};
 ghost use Rattle.tape_core.specs.declared.chunk.Chunk.{Chunk};
 ghost use Rattle.tape_core.specs.declared.devices.Watched.{Watched};
 ghost use Rattle.tape_core.specs.declared.timing.Entry.{Entry};
 ghost use Rattle.tape_core.specs.declared.timing.LineFault.{LineFault};
 ghost use Rattle.tape_core.specs.Devices.{StoppedIn, Took, has_failed};
-ghost use Rattle.tape_core.specs.Due.{bytes_at, due, due_count, due_time, first};
+ghost use Rattle.tape_core.specs.Due.{due, due_count, first};
+ghost use Rattle.tape_core.specs.Law.{AWordIsAField, AnLfEndsALine, BodiesAddUp, DueIsBelowTheCount, FirstGrowsByAChunk, FirstIsKept, NumbersReadBack, SecondsReadBack};
 ghost use Rattle.tape_core.specs.Seconds.{SecondsText, last_moment, seconds_of};
 ghost use Rattle.tape_core.specs.Tape.{Tape, fits};
 ghost use Rattle.tape_core.specs.Reading.{reads};
-ghost use Rattle.tape_core.specs.Text.{IsWord, NumberText, fields, is_blank, lines_of, number_of};
+ghost use Rattle.tape_core.specs.Text.{NumberText, is_blank, number_of};
 ghost use Rattle.tape_core.specs.Timing.{IsFaulty, IsWithin, TimingLine, entry_of};
-ghost use Rattle.tape_core.specs.Written.{script_text, seconds_form, timing_text};
+ghost use Rattle.tape_core.specs.Written.{script_text, timing_text};
 
 use std::io::Write;
 
@@ -25,34 +24,33 @@ pub fn due_is_first()
 
 /// A chunk is due by a moment just where its place is below the count of the chunks due.
 pub fn due_is_below_the_count()
-    ensures { (chunks : List Chunk) (t i : ℕ) → i < length chunks → ((due_time chunks i ≤ t) ↔ (i < due_count chunks t)) }
+    ensures { DueIsBelowTheCount }
 {}
 
 /// The first chunks and one more are the first chunks' bytes and those of the next.
 pub fn first_grows_by_a_chunk()
-    ensures at { (chunks : List Chunk) (n : ℕ) → first chunks (n + 1) ≡ first chunks n ++ bytes_at chunks n }
-    ensures of { (chunks : List Chunk) (n : ℕ) (chunk : Chunk) → n < length chunks → slice_index_or chunks n chunk ≡ chunk → first chunks (n + 1) ≡ first chunks n ++ chunk.bytes }
+    ensures { FirstGrowsByAChunk }
 {}
 
 /// A change of the chunks leaves the bytes of those before its place as they were, and a change of
 /// delays all bytes.
 pub fn first_is_kept()
-    ensures inserted { (tape : Tape) (at n : ℕ) (chunk : Chunk) → n ≤ at → at ≤ length tape.chunks → first (inserted at chunk tape).chunks n ≡ first tape.chunks n }
-    ensures removed { (tape : Tape) (from to n : ℕ) → n ≤ from → from ≤ length tape.chunks → first (removed from to tape).chunks n ≡ first tape.chunks n }
-    ensures replaced { (tape : Tape) (at n : ℕ) (bytes : List ℕ) → n ≤ at → first (replaced at bytes tape).chunks n ≡ first tape.chunks n }
-    ensures retimed { (tape : Tape) (at delay n : ℕ) → first (retimed at delay tape).chunks n ≡ first tape.chunks n }
-    ensures capped { (tape : Tape) (max n : ℕ) → first (capped max tape).chunks n ≡ first tape.chunks n }
+    ensures { FirstIsKept }
+{}
+
+/// A chunk that comes in adds its bytes to those of all chunks, and one that gets others changes them by the difference.
+pub fn bodies_add_up()
+    ensures { BodiesAddUp }
 {}
 
 /// A word is one field, and the fields of a word, a blank and a text are the word and the text's.
 pub fn a_word_is_a_field()
-    ensures alone { (word : List ℕ) → IsWord word → fields word ≡ word ∷ [] }
-    ensures first { (word rest : List ℕ) (b : ℕ) → IsWord word → is_blank b ≡ true → fields (word ++ b ∷ rest) ≡ word ∷ fields rest }
+    ensures { AWordIsAField }
 {}
 
 /// The lines of a text without an LF, an LF and another text are the first text and the other's lines.
 pub fn an_lf_ends_a_line()
-    ensures { (text rest : List ℕ) → All (λ b. (b == 10) ≡ false) text → lines_of (text ++ 10 ∷ rest) ≡ text ∷ lines_of rest }
+    ensures { AnLfEndsALine }
 {}
 
 /// A text is read as a number where it is spelled as one, with that value, and nowhere else.
@@ -62,8 +60,7 @@ pub fn numbers_are_spelled()
 
 /// Numbers below 2^64 are written as a word of digits, and read back.
 pub fn numbers_read_back()
-    ensures word { (n : ℕ) → n < 2 ^ 64 → IsWord (decimal n) }
-    ensures read { (n : ℕ) → n < 2 ^ 64 → number_of (decimal n) ≡ Some n }
+    ensures { NumbersReadBack }
 {}
 
 /// A text is read as seconds where it is spelled as seconds, with that value, and nowhere else.
@@ -102,9 +99,7 @@ pub fn a_pair_is_read_once()
 /// Microseconds below 2^64, written as seconds, are a word and spelled seconds with that value; those
 /// up to the greatest moment are read back.
 pub fn seconds_read_back()
-    ensures word { (us : ℕ) → us < 2 ^ 64 → IsWord (seconds_form us) }
-    ensures spelled { (us : ℕ) → us < 2 ^ 64 → SecondsText (seconds_form us) us }
-    ensures read { (us : ℕ) → us ≤ last_moment → seconds_of (seconds_form us) ≡ Some us }
+    ensures { SecondsReadBack }
 {}
 
 /// What is written of a recording that fits is read as that recording and no other.
@@ -121,7 +116,9 @@ pub fn writers_join<W: Write>()
     ensures flushed { (a b c : Watched W) (x : List ℕ) → Took W.contents b c [] → Took W.contents a b x → Took W.contents a c x }
     ensures in_first { (a b : Watched W) (x y : List ℕ) → StoppedIn W.contents a b x → StoppedIn W.contents a b (x ++ y) }
     ensures in_first_of_three { (a b : Watched W) (x y z : List ℕ) → StoppedIn W.contents a b x → StoppedIn W.contents a b (x ++ y ++ z) }
+    ensures at_byte { (a b : Watched W) (byte : ℕ) (y : List ℕ) → StoppedIn W.contents a b (byte ∷ []) → StoppedIn W.contents a b (byte ∷ y) }
     ensures in_second { (a b c : Watched W) (x y : List ℕ) → StoppedIn W.contents b c y → Took W.contents a b x → StoppedIn W.contents a c (x ++ y) }
+    ensures behind_byte { (a b c : Watched W) (byte : ℕ) (y : List ℕ) → StoppedIn W.contents b c y → Took W.contents a b (byte ∷ []) → StoppedIn W.contents a c (byte ∷ y) }
     ensures within { (a b c : Watched W) (text x y z : List ℕ) → text ≡ x ++ y ++ z → StoppedIn W.contents b c y → Took W.contents a b x → StoppedIn W.contents a c text }
     ensures at_flush { (a b c : Watched W) (x : List ℕ) → StoppedIn W.contents b c [] → Took W.contents a b x → StoppedIn W.contents a c x }
 {}

@@ -1,5 +1,5 @@
 //! A recording written as its two files.
-ghost use Rattle.std.specs.Prelude.{◌≡◌, ◌≤◌, ◌++◌, [], ◌∷◌, true, false, drop, length, IfErr, OnOk};
+ghost use Rattle.std.specs.Prelude.{◌≡◌, ◌≤◌, ◌++◌, [], ◌∷◌, true, false, drop, length, IfErr, OnErr, OnOk};
 ghost use Rattle.std.specs.Fmt.{decimal};
 ghost use Rattle.std.specs.List.{flat_map};
 ghost use Rattle.tape_core.specs.Devices.{Took, StoppedIn, has_failed, is_flushed};
@@ -9,6 +9,7 @@ ghost use Rattle.tape_core.specs.Written.{script_text, seconds_form, timing_line
 use crate::chunk::Chunk;
 use crate::devices::Watched;
 use crate::fault::Fault;
+use crate::laws::{pieces_join, writers_join};
 use crate::recording::Recording;
 use crate::seconds_form::write_seconds;
 use itoa::write_digits;
@@ -23,9 +24,11 @@ const LONGEST_LINE: usize = 43;
 pub fn write_script<W: Write>(recording: &Recording, writer: &mut Watched<W>) -> Result<(), Fault>
     requires { has_failed writer.old ≡ false }
     ensures ok { OnOk result (Took W.contents writer.old writer.new (script_text recording.now)) }
-    ensures fault { IfErr result (λ fault. (fault ≡ Fault.WriteFault) × StoppedIn W.contents writer.old writer.new (script_text recording.now)) }
+    ensures fault { IfErr result (λ fault. fault ≡ Fault.WriteFault) }
+    ensures stopped { OnErr result (StoppedIn W.contents writer.old writer.new (script_text recording.now)) }
     ensures flushed { OnOk result (is_flushed writer.new ≡ true) }
 {
+    writers_join::<W>();
     writer.put(recording.header())?;
     put_chunks(recording.chunks(), writer)?;
     writer.put(recording.trailer())?;
@@ -39,9 +42,11 @@ pub fn write_script<W: Write>(recording: &Recording, writer: &mut Watched<W>) ->
 pub fn write_timing<W: Write>(recording: &Recording, writer: &mut Watched<W>) -> Result<(), Fault>
     requires { has_failed writer.old ≡ false }
     ensures ok { OnOk result (Took W.contents writer.old writer.new (timing_text recording.now)) }
-    ensures fault { IfErr result (λ fault. (fault ≡ Fault.WriteFault) × StoppedIn W.contents writer.old writer.new (timing_text recording.now)) }
+    ensures fault { IfErr result (λ fault. fault ≡ Fault.WriteFault) }
+    ensures stopped { OnErr result (StoppedIn W.contents writer.old writer.new (timing_text recording.now)) }
     ensures flushed { OnOk result (is_flushed writer.new ≡ true) }
 {
+    writers_join::<W>();
     put_lines(recording.chunks(), writer)?;
     writer.finish()?;
     Ok(())
@@ -52,8 +57,10 @@ pub fn write_timing<W: Write>(recording: &Recording, writer: &mut Watched<W>) ->
 pub fn put_chunks<W: Write>(chunks: &[Chunk], writer: &mut Watched<W>) -> Result<(), Fault>
     requires { has_failed writer.old ≡ false }
     ensures ok { OnOk result (Took W.contents writer.old writer.new (body chunks.now)) }
-    ensures fault { IfErr result (λ fault. (fault ≡ Fault.WriteFault) × StoppedIn W.contents writer.old writer.new (body chunks.now)) }
+    ensures fault { IfErr result (λ fault. fault ≡ Fault.WriteFault) }
+    ensures stopped { OnErr result (StoppedIn W.contents writer.old writer.new (body chunks.now)) }
 {
+    pieces_join::<W, Chunk>();
     for chunk in chunks {
         writer.put(chunk.bytes.as_slice())?;
     }
@@ -64,8 +71,10 @@ pub fn put_chunks<W: Write>(chunks: &[Chunk], writer: &mut Watched<W>) -> Result
 fn put_lines<W: Write>(chunks: &[Chunk], writer: &mut Watched<W>) -> Result<(), Fault>
     requires { has_failed writer.old ≡ false }
     ensures ok { OnOk result (Took W.contents writer.old writer.new (flat_map timing_line_of chunks.now)) }
-    ensures fault { IfErr result (λ fault. (fault ≡ Fault.WriteFault) × StoppedIn W.contents writer.old writer.new (flat_map timing_line_of chunks.now)) }
+    ensures fault { IfErr result (λ fault. fault ≡ Fault.WriteFault) }
+    ensures stopped { OnErr result (StoppedIn W.contents writer.old writer.new (flat_map timing_line_of chunks.now)) }
 {
+    pieces_join::<W, Chunk>();
     for chunk in chunks {
         put_line(chunk, writer)?;
     }
@@ -76,7 +85,8 @@ fn put_lines<W: Write>(chunks: &[Chunk], writer: &mut Watched<W>) -> Result<(), 
 fn put_line<W: Write>(chunk: &Chunk, writer: &mut Watched<W>) -> Result<(), Fault>
     requires { has_failed writer.old ≡ false }
     ensures ok { OnOk result (Took W.contents writer.old writer.new (timing_line_of chunk.now)) }
-    ensures fault { IfErr result (λ fault. (fault ≡ Fault.WriteFault) × StoppedIn W.contents writer.old writer.new (timing_line_of chunk.now)) }
+    ensures fault { IfErr result (λ fault. fault ≡ Fault.WriteFault) }
+    ensures stopped { OnErr result (StoppedIn W.contents writer.old writer.new (timing_line_of chunk.now)) }
 {
     let mut line = [0; LONGEST_LINE];
     let start = write_line(chunk.delay, chunk.bytes.len() as u64, &mut line);

@@ -18,8 +18,14 @@ returns-clause-in_first g c = λ a b x y first. stopped_before y first
 pub returns-clause-in_first_of_three : goal.returns-clause-in_first_of_three
 returns-clause-in_first_of_three g c = λ a b x y z first. stopped_before z (stopped_before y first)
 
+pub returns-clause-at_byte : goal.returns-clause-at_byte
+returns-clause-at_byte g c = λ a b byte y first. stopped_before y first
+
 pub returns-clause-in_second : goal.returns-clause-in_second
 returns-clause-in_second g c = λ a b d x y second first. stopped-append first second
+
+pub returns-clause-behind_byte : goal.returns-clause-behind_byte
+returns-clause-behind_byte g c = λ a b d byte y second first. stopped-append first second
 
 pub returns-clause-within : goal.returns-clause-within
 returns-clause-within g c = λ a b d text x y z cut second first.
