@@ -1,6 +1,7 @@
 //! Cells, and rows of 132 of them.
 
-ghost use Rattle.std.specs.Prelude.{◌≡◌, ◌+◌, ◌≤◌, length};
+ghost use Rattle.std.specs.Prelude.{◌≡◌, ◌+◌, ◌*◌, ◌<◌, ◌≤◌, length};
+ghost use Rattle.vt_screen.specs.Attributes.{byte_of};
 ghost use Rattle.vt_screen.specs.CellEdits.{taken_out, moved_right};
 ghost use Rattle.vt_screen.specs.Cells.{blank, blank_row, is_single};
 ghost use Rattle.vt_screen.specs.Erasures.{part_erased};
@@ -46,6 +47,14 @@ impl Cell {
             glyph: 32,
             rendition: Rendition::plain(),
         }
+    }
+
+    /// The cell as a number: the byte of its rendition above its glyph. Cells are equal where their numbers are.
+    pub fn number(self) -> u16
+        ensures value { result ≡ 256 * byte_of self.rendition + self.glyph }
+        ensures within { self.glyph < 256 }
+    {
+        256 * u16::from(self.rendition.byte()) + u16::from(self.glyph)
     }
 }
 

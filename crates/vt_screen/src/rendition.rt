@@ -1,7 +1,7 @@
 //! The rendition of a character.
 
 ghost use Rattle.std.specs.Prelude.{◌≡◌};
-ghost use Rattle.vt_screen.specs.Attributes.{plain};
+ghost use Rattle.vt_screen.specs.Attributes.{byte_of, plain};
 
 use std::marker::Model;
 
@@ -41,6 +41,13 @@ impl Rendition {
         let low = u8::from(bold) + 2 * u8::from(underscore);
         let high = 4 * u8::from(blink) + 8 * u8::from(reverse);
         Rendition { bits: low + high }
+    }
+
+    /// The four attributes in one byte: bit 0 is bold, bit 1 underscore, bit 2 blink, bit 3 reverse.
+    pub fn byte(self) -> u8
+        ensures { result ≡ byte_of self }
+    {
+        self.bits
     }
 
     pub fn bold(self) -> bool

@@ -1,6 +1,6 @@
 use Rattle.std.proofs.Common.{◌≤◌, length}
 use Rattle.std.specs.Prelude.{All}
-use Rattle.vt_screen.proofs.tests.shown_in_pieces.Given as goal
+use Rattle.vt_screen.proofs.tests.shows.shown_in_pieces.Given as goal
 
 abbrev pub invariant-loop-rest : goal.invariant-loop-rest
 invariant-loop-rest l = All (λ glyph. glyph ≤ 126) l.rest
