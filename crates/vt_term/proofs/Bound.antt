@@ -8,13 +8,15 @@ use Rattle.vt_parser.specs.declared.commands.Command.TheVariants.{Show, Error, C
 use Rattle.vt_parser.specs.Step.{command_of}
 use Rattle.vt_parser.specs.Law.{fewest_bytes, fewest_of}
 use Rattle.vt_screen.specs.Picture.{Picture, Sound}
+use Rattle.vt_term.specs.declared.profile.Profile.{Profile}
+use Rattle.vt_term.specs.declared.profile.Profile.TheVariants.{Vt100, Vt102}
 use Rattle.vt_term.specs.Console.{Console, IsSafe}
 use Rattle.vt_term.specs.Escapes.{Escape, Decid, escape_named}
 use Rattle.vt_term.specs.Sequences.{Sequence, Da, Dsr, Decreqtparm, sequence_named, first_of}
 use Rattle.vt_term.specs.Vt52.{Vt52Sequence, Identify, vt52_named}
 use Rattle.vt_term.specs.Replies.{escape_reply, sequence_reply, vt52_reply, reply_of, cursor_position, reported_line, device_attributes, ready, terminal_parameters}
 use Rattle.vt_term.specs.Effect.{reply, reply_if, control_sequence_reply}
-use Rattle.vt_term.specs.Term.{Term, reset_term, mode_of, answered, step, sent}
+use Rattle.vt_term.specs.Term.{Term, reset_term_as, mode_of, answered, step, sent}
 use Rattle.vt_term.specs.Law.{LawsBelow}
 use Rattle.vt_term.proofs.Steps.{sent_none, sent_more, safe_step}
 
@@ -42,9 +44,13 @@ none_short : IsShort []
 unfolding IsShort
 none_short = omega arith
 
-attributes_short : IsShort device_attributes
+attributes_length : (profile : Profile) → length (device_attributes profile) ≤ 7
+attributes_length Vt100 = omega arith
+attributes_length Vt102 = omega arith
+
+attributes_short : (profile : Profile) → IsShort (device_attributes profile)
 unfolding IsShort
-attributes_short = omega arith
+attributes_short profile = omega (arith, attributes_length profile)
 
 ready_short : IsShort ready
 unfolding IsShort
@@ -55,13 +61,13 @@ unfolding IsShort
 parameters_short solicited one = simp length-append (omega arith)
 
 -- at most seven bytes answer the shorter sequences
-escape_short : (escape : Escape) → length (escape_reply escape) ≤ 7
-escape_short Decid = omega arith
-escape_short _ = omega arith
+escape_short : (profile : Profile) (escape : Escape) → length (escape_reply profile escape) ≤ 7
+escape_short profile Decid = attributes_length profile
+escape_short profile _ = omega arith
 
-escape_at_most : (escape : Option Escape) → length (reply_of escape_reply escape) ≤ 7
-escape_at_most None = omega arith
-escape_at_most (Some escape) = escape_short escape
+escape_at_most : (profile : Profile) (escape : Option Escape) → length (reply_of (escape_reply profile) escape) ≤ 7
+escape_at_most profile None = omega arith
+escape_at_most profile (Some escape) = escape_short profile escape
 
 vt52_short : (sequence : Vt52Sequence) → length (vt52_reply sequence) ≤ 7
 vt52_short Identify = omega arith
@@ -88,7 +94,7 @@ module _ (laws : LawsBelow) where
       omega arith
 
   short_sequence : (sequence : Sequence) (params : List ℕ) (s : Console) → IsSafe s → IsShort (sequence_reply sequence params s)
-  short_sequence Da params s safe = short_if (first_of params == 0) device_attributes [] attributes_short none_short
+  short_sequence Da params s safe = short_if (first_of params == 0) (device_attributes s.profile) [] (attributes_short s.profile) none_short
   short_sequence Dsr params s safe = short_if (first_of params == 5) ready _ ready_short (short_if (first_of params == 6) _ [] (short_position s safe) none_short)
   short_sequence Decreqtparm params s safe =
       short_if (first_of params == 0) (terminal_parameters (codes "2")) _ (parameters_short (codes "2") refl)
@@ -109,7 +115,7 @@ module _ (laws : LawsBelow) where
   reply_paid (Show byte) s safe = omega arith
   reply_paid Error s safe = omega arith
   reply_paid (Control byte) s safe = omega arith
-  reply_paid (Esc inter last) s safe = omega (arith, escape_at_most (escape_named inter last))
+  reply_paid (Esc inter last) s safe = omega (arith, escape_at_most s.profile (escape_named inter last))
   reply_paid (Csi private params last) s safe =
       from_short (control_sequence_reply private last params.items s) (short_control_sequence private last params.items s safe)
   reply_paid (Vt52 last) s safe = omega (arith, vt52_at_most (vt52_named last))
@@ -139,5 +145,5 @@ module _ (laws : LawsBelow) where
       = ap length (sent_more x byte bytes) ∙ length-append (answered x byte) (sent (step x byte) bytes) in
       omega arith
 
-  pub sends_little : (bytes : List ℕ) → 3 * length (sent reset_term bytes) ≤ 20 * length bytes
-  sends_little bytes = omega (arith, sent_paid reset_term bytes laws.reset_is_safe)
+  pub sends_little : (profile : Profile) (bytes : List ℕ) → 3 * length (sent (reset_term_as profile) bytes) ≤ 20 * length bytes
+  sends_little profile bytes = omega (arith, sent_paid (reset_term_as profile) bytes (laws.reset_is_safe profile))

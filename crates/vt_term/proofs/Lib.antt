@@ -1,10 +1,10 @@
-pub mod Safe
-pub mod Steps
-pub mod Bound
-pub mod LawLemmas
-pub mod Runs
-pub mod Taken
-pub mod Sinks
-pub mod Feeding
-pub mod Played
-pub mod Printed
+mod Safe
+mod Steps
+mod Bound
+mod LawLemmas
+mod Runs
+mod Taken
+mod Sinks
+mod Feeding
+mod Played
+mod Printed

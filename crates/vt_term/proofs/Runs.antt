@@ -1,6 +1,6 @@
 -- A run of graphic bytes is shown as its glyphs, one after another.
-use Rattle.std.proofs.Common.{◌≡◌, ℕ, ◌≤◌, true, List, [], ◌∷◌, ◌++◌, map, take, drop, refl, sym, ap, subst, ◌∙◌, arith}
-use Rattle.std.specs.Prelude.{All, Some}
+use Rattle.std.proofs.Common.{◌≡◌, ℕ, ◌≤◌, Bool, true, List, [], ◌∷◌, ◌++◌, map, take, drop, refl, sym, ap, subst, ◌∙◌, arith}
+use Rattle.std.specs.Prelude.{All, Some, fold, if◌then◌else◌}
 use Rattle.std.specs.List.{AllByRecursion, list_all}
 use Rattle.std.proofs.lemmas.Bool.{and_parts}
 use Rattle.std.proofs.lemmas.Bool.Decides.{nat_tests}
@@ -14,12 +14,14 @@ use Rattle.vt_parser.specs.View.{parser_view}
 use Rattle.vt_parser.specs.Step.{command_of, pending_after}
 use Rattle.vt_screen.specs.Picture.{Picture}
 use Rattle.vt_screen.specs.Puts.{shown}
+use Rattle.vt_screen.specs.CellEdits.{shown_inserting}
 use Rattle.vt_term.specs.declared.sets.CharacterSet.{CharacterSet}
 use Rattle.vt_term.specs.Sets.{glyph_of}
-use Rattle.vt_term.specs.Console.{Console, IsSafe}
-use Rattle.vt_term.specs.Effect.{effect, reply, glyphs_shown, glyph_shown, glyph_for}
+use Rattle.vt_term.specs.Console.{Console, IsSafe, on_picture}
+use Rattle.vt_term.specs.Effect.{effect, reply, glyphs_shown, glyphs_written, glyph_shown, glyph_for}
 use Rattle.vt_term.specs.Term.{Term, mode_of, step, play, sent, answered}
 use Rattle.vt_term.specs.Seen.{Seen, Shows, IsTerminal}
+use Rattle.vt_term.specs.Printing.{GlyphsAreWritten}
 use Rattle.vt_term.specs.Law.{LawsBelow}
 use Rattle.vt_term.proofs.Safe.{glyph_high, safe_else}
 use Rattle.vt_term.proofs.Steps.{seen_after, shows_step, answered_by, play_none, play_more, sent_none, sent_more}
@@ -45,26 +47,34 @@ graphic_each (byte ∷ bytes) graphic =
 pub graphic_bytes : (bytes : List ℕ) → list_all is_graphic bytes ≡ true → All (λ byte. byte ≤ 126) bytes
 graphic_bytes bytes graphic = All-from_recursion (λ byte. byte ≤ 126) bytes (graphic_each bytes graphic)
 
-pub glyphs_shown-append : (first second : List ℕ) (s : Console) → glyphs_shown (first ++ second) s ≡ glyphs_shown second (glyphs_shown first s)
-glyphs_shown-append first second s =
+-- outside insert mode
+pub glyphs_are_written : GlyphsAreWritten
+glyphs_are_written s glyphs reset = ap by reset
+  where
+    by : Bool → Console
+    by insert = on_picture (λ p. fold (λ q glyph.
+        if insert then shown_inserting glyph s.rendition s.modes.autowrap q else shown glyph s.rendition s.modes.autowrap q) p glyphs) s
+
+glyphs_written-append : (first second : List ℕ) (s : Console) → glyphs_written (first ++ second) s ≡ glyphs_written second (glyphs_written first s)
+glyphs_written-append first second s =
     ap (λ (p : Picture). let t : Console = record s { picture = p } in t)
     (fold-append (λ q glyph. shown glyph s.rendition s.modes.autowrap q) s.picture first second)
 
 -- a front of a run, and then the rest of it
 pub run_in_parts : (set : CharacterSet) (n : ℕ) (bytes : List ℕ) (s : Console)
-    → glyphs_shown (map (glyph_of set) (drop n bytes)) (glyphs_shown (map (glyph_of set) (take n bytes)) s) ≡ glyphs_shown (map (glyph_of set) bytes) s
+    → glyphs_written (map (glyph_of set) (drop n bytes)) (glyphs_written (map (glyph_of set) (take n bytes)) s) ≡ glyphs_written (map (glyph_of set) bytes) s
 run_in_parts set n bytes s =
-    sym (glyphs_shown-append (map (glyph_of set) (take n bytes)) (map (glyph_of set) (drop n bytes)) s)
-    ∙ ap (λ (l : List ℕ). glyphs_shown l s) (sym (map-append (glyph_of set) (take n bytes) (drop n bytes)))
-    ∙ ap (λ (l : List ℕ). glyphs_shown (map (glyph_of set) l) s) (take-append-drop n bytes)
+    sym (glyphs_written-append (map (glyph_of set) (take n bytes)) (map (glyph_of set) (drop n bytes)) s)
+    ∙ ap (λ (l : List ℕ). glyphs_written l s) (sym (map-append (glyph_of set) (take n bytes) (drop n bytes)))
+    ∙ ap (λ (l : List ℕ). glyphs_written (map (glyph_of set) l) s) (take-append-drop n bytes)
 
--- the step of a loop that shows a front and goes on with the rest
-pub front_shown : (set : CharacterSet) (n : ℕ) (bytes front back : List ℕ) (s t u : Console) → front ≡ take n bytes → back ≡ drop n bytes
-    → t ≡ glyphs_shown (map (glyph_of set) front) s → glyphs_shown (map (glyph_of set) bytes) s ≡ u → glyphs_shown (map (glyph_of set) back) t ≡ u
-front_shown set n bytes front back s t u is_front is_back shown all =
-    ap (glyphs_shown (map (glyph_of set) back)) shown
-    ∙ ap (λ (l : List ℕ). glyphs_shown (map (glyph_of set) l) (glyphs_shown (map (glyph_of set) front) s)) is_back
-    ∙ ap (λ (l : List ℕ). glyphs_shown (map (glyph_of set) (drop n bytes)) (glyphs_shown (map (glyph_of set) l) s)) is_front
+-- the step of a loop that writes a front and goes on with the rest
+pub front_written : (set : CharacterSet) (n : ℕ) (bytes front back : List ℕ) (s t u : Console) → front ≡ take n bytes → back ≡ drop n bytes
+    → t ≡ glyphs_written (map (glyph_of set) front) s → glyphs_written (map (glyph_of set) bytes) s ≡ u → glyphs_written (map (glyph_of set) back) t ≡ u
+front_written set n bytes front back s t u is_front is_back written all =
+    ap (glyphs_written (map (glyph_of set) back)) written
+    ∙ ap (λ (l : List ℕ). glyphs_written (map (glyph_of set) l) (glyphs_written (map (glyph_of set) front) s)) is_back
+    ∙ ap (λ (l : List ℕ). glyphs_written (map (glyph_of set) (drop n bytes)) (glyphs_written (map (glyph_of set) l) s)) is_front
     ∙ run_in_parts set n bytes s
     ∙ all
 

@@ -1,6 +1,6 @@
 -- Every command keeps a terminal safe.
 use Rattle.std.proofs.Common.{◌≡◌, ℕ, ◌-◌, ◌≤◌, Bool, true, false, List, [], ◌∷◌, length, refl, sym, subst, arith}
-use Rattle.std.specs.Prelude.{if◌then◌else◌, ◌==◌, nat_le, fold, Option, Some, None, slice_set}
+use Rattle.std.specs.Prelude.{if◌then◌else◌, ◌==◌, ◌&&◌, nat_le, fold, Option, Some, None, slice_set}
 use Rattle.std.proofs.lemmas.Bool.Decides.{nat_tests}
 use Rattle.std.proofs.lemmas.List.{length-set}
 use Rattle.vt_parser.specs.declared.commands.Mode.{Mode}
@@ -8,24 +8,27 @@ use Rattle.vt_parser.specs.declared.commands.Mode.TheVariants.{Ansi, Vt52 as Vt5
 use Rattle.vt_parser.specs.declared.commands.Command.TheVariants.{Show, Error, Control as ControlOf, Esc, Csi, Vt52, Vt52Address}
 use Rattle.vt_screen.specs.Attributes.{Attributes}
 use Rattle.vt_screen.specs.declared.cell.Size.{Size}
+use Rattle.vt_screen.specs.CellEdits.{cells_deleted, shown_inserting}
 use Rattle.vt_screen.specs.Erasures.{display_erased, line_erased}
 use Rattle.vt_screen.specs.Picture.{Picture, Sound, Inside, KeepsSound, KeepsInside, GoesInside, reset, right_margin}
 use Rattle.vt_screen.specs.Lines.{size_set, columns_set, aligned, margins_set}
 use Rattle.vt_screen.specs.Moves.{stepped_up, stepped_down, stepped_right, stepped_left, moved_to_left, placed, moved_home, wrap_cleared, put_back}
 use Rattle.vt_screen.specs.Puts.{shown}
-use Rattle.vt_screen.specs.Scrolls.{indexed, reverse_indexed}
+use Rattle.vt_screen.specs.Scrolls.{indexed, reverse_indexed, lines_inserted, lines_deleted}
 use Rattle.vt_screen.specs.Tabs.{tabbed, tab_made, tabs_cleared}
 use Rattle.vt_term.specs.declared.sets.CharacterSet.{CharacterSet}
 use Rattle.vt_term.specs.declared.sets.CharacterSet.TheVariants.{Ascii, Uk, SpecialGraphics}
 use Rattle.vt_term.specs.declared.sets.Slot.{Slot}
 use Rattle.vt_term.specs.declared.modes.Modes.{Modes}
+use Rattle.vt_term.specs.declared.profile.Profile.{Profile}
 use Rattle.vt_term.specs.declared.saved.Saved.{Saved}
+use Rattle.vt_term.specs.Profile.{has_editing}
 use Rattle.vt_term.specs.Sets.{glyph_of, checkerboard, set_in_use}
 use Rattle.vt_term.specs.Console.{Console, IsSafe, IsSavedWell, reset_console, on_picture, effect_of, dark}
 use Rattle.vt_term.specs.Rows.{named}
 use Rattle.vt_term.specs.Controls.{Control, Bs, Ht, Lf, Cr, So, Si, control_named, control_effect, line_fed, invoked}
 use Rattle.vt_term.specs.Escapes.{Escape, Ind, Nel, Ri, Hts, Decid, Ris, Decsc, Decrc, Deckpam, Deckpnm, DecdhlTop, DecdhlBottom, Decswl, Decdwl, Decaln, Scs, escape_named, escape_effect, restored}
-use Rattle.vt_term.specs.Sequences.{Sequence, Cuu, Cud, Cuf, Cub, Cup, Ed, El, Decstbm, Tbc, Sgr, Sm, Rm, Decll, sequence_named, sequence_effect, first_of, second_of, counted, or_default, leds_set, newline_set}
+use Rattle.vt_term.specs.Sequences.{Sequence, Cuu, Cud, Cuf, Cub, Cup, Ed, El, Il, Dl, Dch, Decstbm, Tbc, Sgr, Sm, Rm, Decll, sequence_named, sequence_effect, first_of, second_of, counted, or_default, leds_set, ansi_mode_set}
 use Rattle.vt_term.specs.PrivateModes.{PrivateMode, Decanm, Deccolm, Decom, Decawm, private_modes, switches, mode_effect, mode_set, modes_set, private_effect}
 use Rattle.vt_term.specs.Vt52.{Vt52Sequence, Up, Down, Right, Left, Home, ReverseIndex, EraseDisplay, EraseLine, vt52_named, vt52_effect}
 use Rattle.vt_term.specs.Effect.{effect, glyph_shown, glyph_for, control_sequence_effect}
@@ -52,6 +55,10 @@ pub record ScreenLaws : Type 0 where
   pub reset : Sound reset
   pub margin : (p : Picture) (line : ℕ) → right_margin p line ≤ 132
   pub show : (glyph : ℕ) (rendition : Attributes) (autowrap : Bool) → glyph ≤ 126 → Keeps (shown glyph rendition autowrap)
+  pub show_inserting : (glyph : ℕ) (rendition : Attributes) (autowrap : Bool) → glyph ≤ 126 → Keeps (shown_inserting glyph rendition autowrap)
+  pub insert_lines : (n : ℕ) → Keeps (lines_inserted n)
+  pub delete_lines : (n : ℕ) → Keeps (lines_deleted n)
+  pub delete_cells : (n : ℕ) → Keeps (cells_deleted n)
   pub up : (n : ℕ) → Keeps (stepped_up n)
   pub down : (n : ℕ) → Keeps (stepped_down n)
   pub right : (n : ℕ) → Keeps (stepped_right n)
@@ -135,15 +142,17 @@ leds_kept : (params : List ℕ) (leds : List Bool) → length leds ≡ 4 → len
 leds_kept [] leds four = four
 leds_kept (param ∷ params) leds four = leds_kept params (leds_set leds param) (four_leds (param == 0) (nat_le param 4) leds (param - 1) four)
 
-newline_kept : (value b : Bool) (modes : Modes) → (if b then record modes { newline = value } else modes).origin ≡ modes.origin
-newline_kept value true modes = refl
-newline_kept value false modes = refl
+mode_kept : (value a b : Bool) (modes : Modes)
+    → (if a then record modes { newline = value } else (if b then record modes { insert = value } else modes)).origin ≡ modes.origin
+mode_kept value true b modes = refl
+mode_kept value false true modes = refl
+mode_kept value false false modes = refl
 
-origin_kept : (value : Bool) (params : List ℕ) (modes : Modes) → (fold (newline_set value) modes params).origin ≡ modes.origin
-origin_kept value [] modes = refl
-origin_kept value (param ∷ params) modes =
-    let step : (newline_set value modes param).origin ≡ modes.origin = newline_kept value (param == 20) modes in
-    let rest = origin_kept value params (newline_set value modes param) in
+origin_kept : (profile : Profile) (value : Bool) (params : List ℕ) (modes : Modes) → (fold (ansi_mode_set profile value) modes params).origin ≡ modes.origin
+origin_kept profile value [] modes = refl
+origin_kept profile value (param ∷ params) modes =
+    let step : (ansi_mode_set profile value modes param).origin ≡ modes.origin = mode_kept value (param == 20) (param == 4 && has_editing profile) modes in
+    let rest = origin_kept profile value params (ansi_mode_set profile value modes param) in
     cc
 
 safe_invoked : (slot : Slot) (mode : Mode) (s : Console) → IsSafe s → IsSafe (invoked slot mode s)
@@ -158,11 +167,16 @@ safe_row change each (Some row) s safe = each row s safe
 -- ---- what does
 
 module _ (laws : ScreenLaws) where
-  pub safe_reset : IsSafe reset_console
-  safe_reset = record { sound = laws.reset; inside = λ is. absurd (cc is); saved = tt; leds = refl }
+  safe_reset : (profile : Profile) → IsSafe (reset_console profile)
+  safe_reset profile = record { sound = laws.reset; inside = λ is. absurd (cc is); saved = tt; leds = refl }
 
-  pub safe_put : (s : Console) (glyph : ℕ) → glyph ≤ 126 → IsSafe s → IsSafe (glyph_shown glyph s)
-  safe_put s glyph high safe = safe_on s _ (laws.show glyph s.rendition s.modes.autowrap high) safe
+  safe_put : (s : Console) (glyph : ℕ) → glyph ≤ 126 → IsSafe s → IsSafe (glyph_shown glyph s)
+  safe_put s glyph high safe = put s.modes.insert
+    where
+      put : (insert : Bool) → IsSafe (on_picture (λ p.
+          if insert then shown_inserting glyph s.rendition s.modes.autowrap p else shown glyph s.rendition s.modes.autowrap p) s)
+      put true = safe_on s _ (laws.show_inserting glyph s.rendition s.modes.autowrap high) safe
+      put false = safe_on s _ (laws.show glyph s.rendition s.modes.autowrap high) safe
 
   safe_lf : (newline : Bool) (s : Console) → IsSafe s → IsSafe (on_picture (line_fed newline) s)
   safe_lf true s safe = safe_on (on_picture moved_to_left s) _ laws.index (safe_on s _ laws.to_left safe)
@@ -188,7 +202,7 @@ module _ (laws : ScreenLaws) where
   safe_escape Ri s safe = safe_on s _ laws.reverse_index safe
   safe_escape Hts s safe = safe_on s _ (laws.set_tab true) safe
   safe_escape Decid s safe = safe
-  safe_escape Ris s safe = safe_reset
+  safe_escape Ris s safe = safe_reset s.profile
   safe_escape Decsc s safe = record {
     sound = safe.sound;
     inside = safe.inside;
@@ -214,6 +228,10 @@ module _ (laws : ScreenLaws) where
   safe_tabs false true s safe = safe_on s _ laws.clear_tabs safe
   safe_tabs false false s safe = safe
 
+  safe_edited : (b : Bool) (op : Picture → Picture) (s : Console) → Keeps op → IsSafe s → IsSafe (if b then on_picture op s else s)
+  safe_edited true op s keeps safe = safe_on s op keeps safe
+  safe_edited false op s keeps safe = safe
+
   safe_sequence : (sequence : Sequence) (params : List ℕ) (s : Console) → IsSafe s → IsSafe (sequence_effect sequence params s)
   safe_sequence Cuu params s safe = safe_on s _ (laws.up _) safe
   safe_sequence Cud params s safe = safe_on s _ (laws.down _) safe
@@ -224,11 +242,14 @@ module _ (laws : ScreenLaws) where
       (laws.place (counted (first_of params)) (counted (second_of params)) (counted_low (first_of params)) (counted_low (second_of params))) refl refl refl safe
   safe_sequence Ed params s safe = safe_erased _ _ s (laws.erase_display _) safe
   safe_sequence El params s safe = safe_erased _ _ s (laws.erase_line _) safe
+  safe_sequence Il params s safe = safe_edited _ _ s (laws.insert_lines _) safe
+  safe_sequence Dl params s safe = safe_edited _ _ s (laws.delete_lines _) safe
+  safe_sequence Dch params s safe = safe_edited _ _ s (laws.delete_cells _) safe
   safe_sequence Decstbm params s safe = safe_by s _ (laws.margins (or_default 1 (first_of params)) (or_default 24 (second_of params))) safe
   safe_sequence Tbc params s safe = safe_tabs _ _ s safe
   safe_sequence Sgr params s safe = safe_else s _ refl refl refl refl safe
-  safe_sequence Sm params s safe = safe_else s _ refl (origin_kept true params s.modes) refl refl safe
-  safe_sequence Rm params s safe = safe_else s _ refl (origin_kept false params s.modes) refl refl safe
+  safe_sequence Sm params s safe = safe_else s _ refl (origin_kept s.profile true params s.modes) refl refl safe
+  safe_sequence Rm params s safe = safe_else s _ refl (origin_kept s.profile false params s.modes) refl refl safe
   safe_sequence Decll params s safe = record { sound = safe.sound; inside = safe.inside; saved = safe.saved; leds = leds_kept params s.leds safe.leds }
   safe_sequence _ params s safe = safe
 

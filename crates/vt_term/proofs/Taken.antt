@@ -1,6 +1,6 @@
 -- What the terminal shows and sends after bytes that the parser takes.
-use Rattle.std.proofs.Common.{◌≡◌, ℕ, ◌≤◌, ◌-◌, true, false, List, [], ◌∷◌, ◌++◌, map, length, drop, refl, sym, ap, subst, ◌∙◌, inl, inr, arith}
-use Rattle.std.specs.Prelude.{Option, Some, None, All, Result, Ok, Err, OnOk, OnErr, IfSome}
+use Rattle.std.proofs.Common.{◌≡◌, ℕ, ◌-◌, true, List, [], ◌∷◌, ◌++◌, map, length, drop, refl, sym, ap, subst, ◌∙◌, inl, inr, arith}
+use Rattle.std.specs.Prelude.{Option, Some, None}
 use Rattle.std.specs.List.{list_all}
 use Rattle.std.proofs.lemmas.Bool.{cases_Bool, and_parts}
 use Rattle.std.proofs.lemmas.List.{append-nil}
@@ -13,13 +13,14 @@ use Rattle.vt_parser.specs.declared.tokens.Token.{Token}
 use Rattle.vt_parser.specs.declared.tokens.Token.TheVariants.{Show, Error, Control, Esc, Csi, Vt52, Vt52Address}
 use Rattle.vt_parser.specs.Control.{is_graphic}
 use Rattle.vt_parser.specs.View.{parser_view}
-use Rattle.vt_parser.specs.Step.{command_of, pending_after, mode_after}
+use Rattle.vt_parser.specs.Step.{pending_after, mode_after}
 use Rattle.vt_parser.specs.Fold.{Gives, mode_after_bytes, pending_after_bytes}
 use Rattle.vt_parser.specs.Token.{command_of_token, IsRun, TellsOf, Leads}
 use Rattle.vt_parser.specs.Law.{IsProper, is_sequence}
+use Rattle.vt_term.specs.declared.profile.Profile.{Profile}
 use Rattle.vt_term.specs.Console.{Console, IsSafe, reset_console}
-use Rattle.vt_term.specs.Effect.{effect, reply, glyphs_shown, glyph_for, effect_if, reply_if, token_effect, token_reply, token_effect_if, token_reply_if, IsProperToken}
-use Rattle.vt_term.specs.Term.{Term, reset_term, mode_of, play, sent}
+use Rattle.vt_term.specs.Effect.{effect, glyphs_shown, glyph_for, effect_if, reply_if, token_effect_if, token_reply_if, IsProperToken}
+use Rattle.vt_term.specs.Term.{Term, reset_term_as, mode_of, play, sent}
 use Rattle.vt_term.specs.Seen.{Seen, Shows, IsTerminal}
 use Rattle.vt_term.specs.Sink.{Sink, after_sending}
 use Rattle.vt_term.specs.Law.{LawsBelow}
@@ -28,14 +29,14 @@ use Rattle.vt_term.proofs.Steps.{mode_shown, mode_after_same, effect_mode, view_
 use Rattle.vt_term.proofs.Played.{term, played, sent_once}
 use Rattle.vt_term.proofs.Runs.{shows_run, graphic_bytes}
 
--- ---- the reset term
+-- ---- the reset terms
 
 module _ (laws : LawsBelow) where
-  pub reset_shows : Shows (record { console = reset_console; state = Ground }) reset_term
-  reset_shows = record { console = refl; state = laws.ground_is_empty.0 _ }
+  pub reset_shows : (profile : Profile) → Shows (record { console = reset_console profile; state = Ground }) (reset_term_as profile)
+  reset_shows profile = record { console = refl; state = laws.ground_is_empty.0 _ }
 
-  pub reset_proper : IsTerminal (record { console = reset_console; state = Ground })
-  reset_proper = record { safe = laws.reset_is_safe; term = (reset_term, reset_shows) }
+  pub reset_proper : (profile : Profile) → IsTerminal (record { console = reset_console profile; state = Ground })
+  reset_proper profile = record { safe = laws.reset_is_safe profile; term = (reset_term_as profile, reset_shows profile) }
 
 -- two parts that are what they are give one value
 pub seen_is : (console told : Console) (state stands : ParserState) → console ≡ told → state ≡ stands

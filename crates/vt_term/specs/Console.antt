@@ -3,6 +3,7 @@ use Rattle.std.specs.Prelude.{◌≡◌, ◌≤◌, Bool, true, false, List, [],
 use Rattle.vt_parser.specs.declared.commands.Mode.TheVariants.{Ansi}
 use Rattle.vt_screen.specs.Attributes.{Attributes, plain}
 use Rattle.vt_screen.specs.Picture.{Picture, Sound, Inside, reset}
+use Rattle.vt_term.specs.declared.profile.Profile.{Profile}
 use Rattle.vt_term.specs.declared.modes.Modes.{Modes}
 use Rattle.vt_term.specs.declared.sets.Sets.{Sets}
 use Rattle.vt_term.specs.declared.saved.Saved.{Saved}
@@ -10,6 +11,8 @@ use Rattle.vt_term.specs.declared.console.Console.{Console as Fields}
 use Rattle.vt_term.specs.Sets.{first_sets}
 
 pub record Console : Type 0 where
+  -- which terminal it is: nothing changes it
+  pub profile : Profile
   -- columns, rows, cursor, pending wrap, margins and tabs
   pub picture : Picture
   -- the modes, and the keypad
@@ -35,6 +38,7 @@ first_modes = record {
   auto_repeat = false;
   interlace = false;
   newline = false;
+  insert = false;
   application_keypad = false;
 }
 
@@ -42,9 +46,10 @@ first_modes = record {
 abbrev pub dark : List Bool
 dark = false ∷ false ∷ false ∷ false ∷ []
 
--- the initial state (profile)
-abbrev pub reset_console : Console
-reset_console = record {
+-- the initial state of a profile (profile)
+abbrev pub reset_console : Profile → Console
+reset_console profile = record {
+  profile = profile;
   picture = reset;
   modes = first_modes;
   rendition = plain;
@@ -73,6 +78,7 @@ effect_of effect (Some row) s = effect row s
 -- what the fields of the code's console stand for
 abbrev pub console_of : Fields → Console
 console_of fields = record {
+  profile = fields.profile;
   picture = fields.screen.picture;
   modes = fields.modes;
   rendition = fields.rendition;

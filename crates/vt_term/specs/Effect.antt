@@ -1,12 +1,16 @@
 -- What a command does to a terminal, and what the terminal answers.
-use Rattle.std.specs.Prelude.{ℕ, ◌≤◌, Bool, true, false, List, [], map, All, Option, Some, None}
+use Rattle.std.specs.Prelude.{ℕ, ◌≤◌, Bool, true, false, List, [], map, fold, All, Option, Some, None, if◌then◌else◌}
 use Rattle.vt_parser.specs.declared.commands.Command.{Command}
 use Rattle.vt_parser.specs.declared.commands.Command.TheVariants.{Show, Error, Control, Esc, Csi, Vt52, Vt52Address}
 use Rattle.vt_parser.specs.declared.tokens.Token.{Token}
 use Rattle.vt_parser.specs.declared.tokens.Token.TheVariants as token
 use Rattle.vt_parser.specs.Token.{command_of_token}
 use Rattle.vt_parser.specs.Law.{IsProper}
+use Rattle.vt_screen.specs.Attributes.{Attributes}
+use Rattle.vt_screen.specs.Picture.{Picture}
 use Rattle.vt_screen.specs.Puts.{shown, run_shown}
+use Rattle.vt_screen.specs.CellEdits.{shown_inserting}
+use Rattle.vt_term.specs.declared.modes.Modes.{Modes}
 use Rattle.vt_term.specs.Console.{Console, on_picture, effect_of}
 use Rattle.vt_term.specs.Sets.{glyph_of, checkerboard, set_in_use}
 use Rattle.vt_term.specs.Controls.{control_named, control_effect}
@@ -16,13 +20,23 @@ use Rattle.vt_term.specs.PrivateModes.{private_effect}
 use Rattle.vt_term.specs.Vt52.{vt52_named, vt52_effect, address_effect}
 use Rattle.vt_term.specs.Replies.{escape_reply, sequence_reply, vt52_reply, reply_of}
 
+-- a glyph is put: in insert mode the cells from the cursor on make room for it (VT102 User Guide, IRM; that this holds in
+-- VT52 mode too: profile), else it takes the place of the one there
+abbrev pub put_by : Modes → Attributes → ℕ → Picture → Picture
+put_by modes rendition glyph p =
+    if modes.insert then shown_inserting glyph rendition modes.autowrap p else shown glyph rendition modes.autowrap p
+
 -- a glyph is shown with the current rendition
 abbrev pub glyph_shown : ℕ → Console → Console
-glyph_shown glyph s = on_picture (shown glyph s.rendition s.modes.autowrap) s
+glyph_shown glyph s = on_picture (put_by s.modes s.rendition glyph) s
 
 -- glyphs are shown one after another
 abbrev pub glyphs_shown : List ℕ → Console → Console
-glyphs_shown glyphs s = on_picture (run_shown glyphs s.rendition s.modes.autowrap) s
+glyphs_shown glyphs s = on_picture (λ p. fold (λ q glyph. put_by s.modes s.rendition glyph q) p glyphs) s
+
+-- glyphs are written over those that stand there, one after another
+abbrev pub glyphs_written : List ℕ → Console → Console
+glyphs_written glyphs s = on_picture (run_shown glyphs s.rendition s.modes.autowrap) s
 
 -- the glyph of a byte in the set in use
 abbrev pub glyph_for : Console → ℕ → ℕ
@@ -53,7 +67,7 @@ unfoldable pub reply : Command → Console → List ℕ
 reply (Show byte) s = []
 reply Error s = []
 reply (Control byte) s = []
-reply (Esc inter last) s = reply_of escape_reply (escape_named inter last)
+reply (Esc inter last) s = reply_of (escape_reply s.profile) (escape_named inter last)
 reply (Csi private params last) s = control_sequence_reply private last params.items s
 reply (Vt52 last) s = reply_of vt52_reply (vt52_named last)
 reply (Vt52Address line column) s = []

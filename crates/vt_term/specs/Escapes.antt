@@ -101,14 +101,14 @@ restored (Some saved) s = record s {
 abbrev pub keypad_set : Bool → Console → Console
 keypad_set application s = on_modes (λ modes. record modes { application_keypad = application }) s
 
--- the table of their effects; DECID replies and has none (EK-VT100-UG chapter 3)
+-- the table of their effects; DECID replies and has none (EK-VT100-UG chapter 3); RIS keeps the profile
 abbrev pub escape_effect : Escape → Console → Console
 escape_effect Ind s = on_picture indexed s
 escape_effect Nel s = on_picture (λ p. indexed (moved_to_left p)) s
 escape_effect Ri s = on_picture reverse_indexed s
 escape_effect Hts s = on_picture (tab_made true) s
 escape_effect Decid s = s
-escape_effect Ris s = reset_console
+escape_effect Ris s = reset_console s.profile
 escape_effect Decsc s = record s { saved = Some (saved_from s) }
 escape_effect Decrc s = restored s.saved s
 escape_effect Deckpam s = keypad_set true s

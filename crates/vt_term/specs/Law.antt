@@ -3,9 +3,10 @@ use Rattle.std.specs.Prelude.{◌≡◌, ℕ, ◌*◌, ◌≤◌, List, ◌++◌
 use Rattle.vt_parser.specs.declared.commands.Command.{Command}
 use Rattle.vt_parser.specs.Law.{IsProper, StateDecides, StaysShown, GroundIsEmpty, FinishedLeavesNothing, PendingPays, GraphicIsShown, CommandsAreProper}
 use Rattle.vt_screen.specs.Picture.{Picture, right_margin}
+use Rattle.vt_term.specs.declared.profile.Profile.{Profile}
 use Rattle.vt_term.specs.Console.{Console, IsSafe, reset_console}
 use Rattle.vt_term.specs.Effect.{effect}
-use Rattle.vt_term.specs.Term.{Term, reset_term, play, sent}
+use Rattle.vt_term.specs.Term.{Term, reset_term_as, play, sent}
 use Rattle.vt_term.specs.Seen.{Seen, Shows}
 
 -- Joined texts are played as their parts in turn, also where the cut is inside a sequence or at a pending wrap.
@@ -26,10 +27,10 @@ SeenDecides =
     (seen : Seen) (x y : Term) (bytes : List ℕ) → Shows seen x → Shows seen y
     → ((after : Seen) × Shows after (play x bytes) × Shows after (play y bytes)) × (sent x bytes ≡ sent y bytes)
 
--- Three times what is sent from the reset term is at most twenty times the bytes: the longest reply is 20 bytes, to a
+-- Three times what is sent from a reset term is at most twenty times the bytes: the longest reply is 20 bytes, to a
 -- sequence of 3.
 abbrev pub SendsLittle : Type 0
-SendsLittle = (bytes : List ℕ) → 3 * length (sent reset_term bytes) ≤ 20 * length bytes
+SendsLittle = (profile : Profile) (bytes : List ℕ) → 3 * length (sent (reset_term_as profile) bytes) ≤ 20 * length bytes
 
 -- Whatever bytes a safe term takes, it stays safe.
 abbrev pub StaysSafe : Type 0
@@ -51,5 +52,5 @@ pub record LawsBelow : Type 0 where
   pub graphic_is_shown : GraphicIsShown
   pub commands_are_proper : CommandsAreProper
   pub right_margins : (p : Picture) (line : ℕ) → right_margin p line ≤ 132
-  pub reset_is_safe : IsSafe reset_console
+  pub reset_is_safe : (profile : Profile) → IsSafe (reset_console profile)
   pub commands_keep_safe : CommandsKeepSafe

@@ -1,4 +1,5 @@
 pub mod Rows
+pub mod Profile
 pub mod Sets
 pub mod Console
 pub mod Controls

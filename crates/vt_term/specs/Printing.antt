@@ -12,7 +12,7 @@ use Rattle.vt_parser.specs.Law.{AreParams}
 use Rattle.vt_term.specs.Console.{Console, effect_of}
 use Rattle.vt_term.specs.Escapes.{escape_named, escape_effect}
 use Rattle.vt_term.specs.Replies.{escape_reply, reply_of}
-use Rattle.vt_term.specs.Effect.{effect, reply, glyphs_shown, glyph_for, control_sequence_effect, control_sequence_reply}
+use Rattle.vt_term.specs.Effect.{effect, reply, glyphs_shown, glyphs_written, glyph_for, control_sequence_effect, control_sequence_reply}
 use Rattle.vt_term.specs.Term.{Term, play, sent}
 
 -- a term with nothing pending
@@ -35,6 +35,10 @@ PartsBring = (s t u : Console) (first second : List ℕ) → Brings s first t �
 abbrev pub CharactersBring : Type 0
 CharactersBring = (s : Console) (bytes : List ℕ) → list_all is_graphic bytes ≡ true → Brings s bytes (glyphs_shown (map (glyph_for s) bytes) s)
 
+-- Outside insert mode each takes the place of the one that stands there.
+abbrev pub GlyphsAreWritten : Type 0
+GlyphsAreWritten = (s : Console) (glyphs : List ℕ) → s.modes.insert ≡ false → glyphs_shown glyphs s ≡ glyphs_written glyphs s
+
 -- A control has its effect.
 abbrev pub ControlsBring : Type 0
 ControlsBring = (s : Console) (byte : ℕ) → is_within 8 15 byte ≡ true → Brings s (byte ∷ []) (effect (Control byte) s)
@@ -51,14 +55,14 @@ abbrev pub EscapesBring : Type 0
 EscapesBring =
     (s : Console) (last : ℕ) → s.modes.mode ≡ Ansi
     → is_escape_final last ≡ true → begins_control last ≡ false → begins_string last ≡ false
-    → reply_of escape_reply (escape_named None last) ≡ []
+    → reply_of (escape_reply s.profile) (escape_named None last) ≡ []
     → Brings s (escape ∷ last ∷ []) (effect_of escape_effect (escape_named None last) s)
 
 -- .. or with an intermediate byte between them, ..
 abbrev pub DesignationsBring : Type 0
 DesignationsBring =
     (s : Console) (inter last : ℕ) → s.modes.mode ≡ Ansi → is_intermediate inter ≡ true → is_escape_final last ≡ true
-    → reply_of escape_reply (escape_named (Some inter) last) ≡ []
+    → reply_of (escape_reply s.profile) (escape_named (Some inter) last) ≡ []
     → Brings s (escape ∷ inter ∷ last ∷ []) (effect_of escape_effect (escape_named (Some inter) last) s)
 
 -- .. ESC [, numbers in decimal and a final byte, ..

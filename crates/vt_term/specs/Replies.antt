@@ -1,14 +1,17 @@
 -- What a terminal answers (EK-VT100-UG chapter 3, reports). All else is answered by nothing.
 use Rattle.std.specs.Prelude.{ℕ, ◌-◌, Bool, List, [], ◌∷◌, ◌++◌, Option, Some, None, ◌==◌, codes, decimal, if◌then◌else◌}
 use Rattle.vt_parser.specs.Control.{escape}
+use Rattle.vt_term.specs.declared.profile.Profile.{Profile}
+use Rattle.vt_term.specs.declared.profile.Profile.TheVariants.{Vt100, Vt102}
 use Rattle.vt_term.specs.Escapes.{Escape, Decid}
 use Rattle.vt_term.specs.Vt52.{Vt52Sequence, Identify}
 use Rattle.vt_term.specs.Sequences.{Sequence, Da, Dsr, Decreqtparm, first_of}
 use Rattle.vt_term.specs.Console.{Console}
 
--- DA: a VT100 with the Advanced Video Option (EK-VT100-UG chapter 3)
-abbrev pub device_attributes : List ℕ
-device_attributes = escape ∷ codes "[?1;2c"
+-- DA: a VT100 with the Advanced Video Option (EK-VT100-UG chapter 3), or a VT102 (VT102 User Guide)
+abbrev pub device_attributes : Profile → List ℕ
+device_attributes Vt100 = escape ∷ codes "[?1;2c"
+device_attributes Vt102 = escape ∷ codes "[?6c"
 
 -- DSR: no malfunction (EK-VT100-UG chapter 3)
 abbrev pub ready : List ℕ
@@ -32,13 +35,13 @@ abbrev pub vt52_identity : List ℕ
 vt52_identity = escape ∷ codes "/Z"
 
 -- DECID (EK-VT100-UG chapter 3)
-abbrev pub escape_reply : Escape → List ℕ
-escape_reply Decid = device_attributes
-escape_reply _ = []
+abbrev pub escape_reply : Profile → Escape → List ℕ
+escape_reply profile Decid = device_attributes profile
+escape_reply profile _ = []
 
 -- DA 0 (EK-VT100-UG chapter 3)
-abbrev pub attributes_reply : ℕ → List ℕ
-attributes_reply param = if param == 0 then device_attributes else []
+abbrev pub attributes_reply : Profile → ℕ → List ℕ
+attributes_reply profile param = if param == 0 then device_attributes profile else []
 
 -- DSR 5 and 6 (EK-VT100-UG chapter 3)
 abbrev pub status_reply : ℕ → Console → List ℕ
@@ -56,7 +59,7 @@ parameters_reply param =
 
 -- the table of the answers to control sequences
 abbrev pub sequence_reply : Sequence → List ℕ → Console → List ℕ
-sequence_reply Da params s = attributes_reply (first_of params)
+sequence_reply Da params s = attributes_reply s.profile (first_of params)
 sequence_reply Dsr params s = status_reply (first_of params) s
 sequence_reply Decreqtparm params s = parameters_reply (first_of params)
 sequence_reply _ params s = []

@@ -1,18 +1,22 @@
 -- Control sequences of ANSI mode without `?` (EK-VT100-UG chapter 3).
-use Rattle.std.specs.Prelude.{ℕ, ◌-◌, Bool, true, false, List, [], ◌∷◌, Option, ◌==◌, nat_le, fold, slice_index, slice_set, if◌then◌else◌}
+use Rattle.std.specs.Prelude.{ℕ, ◌-◌, Bool, true, false, List, [], ◌∷◌, Option, ◌==◌, ◌&&◌, nat_le, fold, slice_index, slice_set, if◌then◌else◌}
 use Rattle.vt_screen.specs.Attributes.{Attributes, plain}
 use Rattle.vt_screen.specs.Picture.{Picture}
 use Rattle.vt_screen.specs.Moves.{stepped_up, stepped_down, stepped_right, stepped_left, placed}
+use Rattle.vt_screen.specs.Scrolls.{lines_inserted, lines_deleted}
+use Rattle.vt_screen.specs.CellEdits.{cells_deleted}
 use Rattle.vt_screen.specs.Erasures.{display_erased, line_erased}
 use Rattle.vt_screen.specs.Lines.{margins_set}
 use Rattle.vt_screen.specs.Tabs.{tab_made, tabs_cleared}
 use Rattle.vt_term.specs.declared.modes.Modes.{Modes}
+use Rattle.vt_term.specs.declared.profile.Profile.{Profile}
 use Rattle.vt_term.specs.Rows.{named}
+use Rattle.vt_term.specs.Profile.{has_editing}
 use Rattle.vt_term.specs.Console.{Console, dark, on_picture, on_modes}
 
 -- the control sequences that have an effect or a reply; HVP is read as CUP (EK-VT100-UG chapter 3)
 pub data Sequence : Type 0 where
-  Cuu Cud Cuf Cub Cup Ed El Decstbm Tbc Sgr Sm Rm Decll Da Dsr Decreqtparm : Sequence
+  Cuu Cud Cuf Cub Cup Ed El Il Dl Dch Decstbm Tbc Sgr Sm Rm Decll Da Dsr Decreqtparm : Sequence
 
 -- their final bytes
 abbrev pub sequences : List (ℕ × Sequence)
@@ -25,6 +29,9 @@ sequences =
     (102, Cup) ∷  -- f
     (74, Ed) ∷  -- J
     (75, El) ∷  -- K
+    (76, Il) ∷  -- L
+    (77, Dl) ∷  -- M
+    (80, Dch) ∷  -- P
     (114, Decstbm) ∷  -- r
     (103, Tbc) ∷  -- g
     (109, Sgr) ∷  -- m
@@ -75,9 +82,16 @@ rendition_set a param =
     else (if param == 7 then record a { reverse = true }
     else a))))
 
--- SM and RM: 20 is LNM; others do nothing (EK-VT100-UG chapter 3)
-abbrev pub newline_set : Bool → Modes → ℕ → Modes
-newline_set value modes param = if param == 20 then record modes { newline = value } else modes
+-- SM and RM: 20 is LNM (EK-VT100-UG chapter 3), and with VT102 editing 4 is IRM (VT102 User Guide); others do nothing
+abbrev pub ansi_mode_set : Profile → Bool → Modes → ℕ → Modes
+ansi_mode_set profile value modes param =
+    if param == 20 then record modes { newline = value }
+    else (if param == 4 && has_editing profile then record modes { insert = value }
+    else modes)
+
+-- IL, DL and DCH do nothing where the profile hasn't them (profile)
+abbrev pub where_it_edits : (Picture → Picture) → Console → Console
+where_it_edits edit s = if has_editing s.profile then on_picture edit s else s
 
 -- DECLL: 0 all LEDs off, 1 to 4 that LED on; others do nothing (EK-VT100-UG chapter 3)
 abbrev pub leds_set : List Bool → ℕ → List Bool
@@ -96,11 +110,14 @@ sequence_effect Cub params s = on_picture (stepped_left (counted (first_of param
 sequence_effect Cup params s = on_picture (placed (counted (first_of params)) (counted (second_of params)) s.modes.origin) s
 sequence_effect Ed params s = on_picture (erased display_erased (first_of params)) s
 sequence_effect El params s = on_picture (erased line_erased (first_of params)) s
+sequence_effect Il params s = where_it_edits (lines_inserted (counted (first_of params))) s
+sequence_effect Dl params s = where_it_edits (lines_deleted (counted (first_of params))) s
+sequence_effect Dch params s = where_it_edits (cells_deleted (counted (first_of params))) s
 sequence_effect Decstbm params s = on_picture (margins_set (or_default 1 (first_of params)) (or_default 24 (second_of params)) s.modes.origin) s
 sequence_effect Tbc params s = on_picture (tabs_taken (first_of params)) s
 sequence_effect Sgr params s = record s { rendition = fold rendition_set s.rendition params }
-sequence_effect Sm params s = on_modes (λ modes. fold (newline_set true) modes params) s
-sequence_effect Rm params s = on_modes (λ modes. fold (newline_set false) modes params) s
+sequence_effect Sm params s = on_modes (λ modes. fold (ansi_mode_set s.profile true) modes params) s
+sequence_effect Rm params s = on_modes (λ modes. fold (ansi_mode_set s.profile false) modes params) s
 sequence_effect Decll params s = record s { leds = fold leds_set s.leds params }
 sequence_effect Da params s = s
 sequence_effect Dsr params s = s

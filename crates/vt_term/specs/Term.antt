@@ -2,6 +2,8 @@
 use Rattle.std.specs.Prelude.{ℕ, List, [], ◌∷◌, ◌++◌, fold}
 use Rattle.vt_parser.specs.declared.commands.Mode.{Mode}
 use Rattle.vt_parser.specs.Step.{command_of, pending_after}
+use Rattle.vt_term.specs.declared.profile.Profile.{Profile}
+use Rattle.vt_term.specs.declared.profile.Profile.TheVariants.{Vt100}
 use Rattle.vt_term.specs.Console.{Console, reset_console}
 use Rattle.vt_term.specs.Effect.{effect_if, reply_if}
 
@@ -11,9 +13,13 @@ pub record Term : Type 0 where
   pub pending : List ℕ
   pub reports : List ℕ
 
--- the reset term: the initial state, nothing pending, nothing sent
+-- the reset term of a profile: its initial state, nothing pending, nothing sent
+abbrev pub reset_term_as : Profile → Term
+reset_term_as profile = record { console = reset_console profile; pending = []; reports = [] }
+
+-- that of a VT100
 abbrev pub reset_term : Term
-reset_term = record { console = reset_console; pending = []; reports = [] }
+reset_term = reset_term_as Vt100
 
 -- the mode in which the pending bytes are read: it changes only as a sequence finishes
 abbrev pub mode_of : Term → Mode

@@ -6,8 +6,8 @@ use vt_parser::laws::{
     state_decides, stays_shown,
 };
 use vt_screen::laws::{
-    changes_keep_sound, cursors_stay_inside, moves_keep_sound, origin_goes_inside, reset_is_sound,
-    right_margins, shows_keep_sound,
+    changes_keep_sound, cursors_stay_inside, edits_keep_sound, moves_keep_sound,
+    origin_goes_inside, reset_is_sound, right_margins, shows_keep_sound,
 };
 
 // Every command keeps a terminal safe.
@@ -18,6 +18,7 @@ fn commands_keep_safe()
     moves_keep_sound();
     shows_keep_sound();
     changes_keep_sound();
+    edits_keep_sound();
     origin_goes_inside();
     cursors_stay_inside();
     right_margins();

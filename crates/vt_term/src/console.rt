@@ -2,10 +2,10 @@
 ghost use Rattle.std.specs.Prelude.{◌≡◌, ◌≤◌, All, map, length, take};
 ghost use Rattle.vt_term.specs.Sets.{glyph_of, set_in_use};
 ghost use Rattle.vt_term.specs.Console.{reset_console, console_of};
-ghost use Rattle.vt_term.specs.Effect.{glyph_shown, glyphs_shown, glyph_for};
+ghost use Rattle.vt_term.specs.Effect.{glyph_shown, glyphs_shown, glyphs_written, glyph_for};
 
 use crate::sets::CHECKERBOARD;
-use crate::{CharacterSet, Modes, Saved, Sets};
+use crate::{CharacterSet, Modes, Profile, Saved, Sets};
 use vt_screen::{Rendition, Screen};
 
 // How many glyphs go to the screen at once, where bytes aren't glyphs as they stand: a line's.
@@ -14,6 +14,7 @@ const PIECE: usize = 132;
 /// The state that effects change.
 #[derive(Debug, Drop)]
 pub(crate) struct Console {
+    pub(crate) profile: Profile,
     pub(crate) screen: Screen,
     pub(crate) modes: Modes,
     pub(crate) rendition: Rendition,
@@ -23,10 +24,12 @@ pub(crate) struct Console {
 }
 
 impl Console {
-    pub(crate) fn reset() -> Self
-        ensures { console_of result ≡ reset_console }
+    /// The initial state of a profile.
+    pub(crate) fn reset(profile: Profile) -> Self
+        ensures { console_of result ≡ reset_console profile }
     {
         Console {
+            profile,
             screen: Screen::reset(),
             modes: Modes::first(),
             rendition: Rendition::plain(),
@@ -39,6 +42,7 @@ impl Console {
     pub(crate) fn copy_from(&mut self, other: &Console)
         ensures { console_of self.new ≡ console_of other.now }
     {
+        self.profile = other.profile;
         self.screen.copy_from(&other.screen);
         self.modes = other.modes;
         self.rendition = other.rendition;
@@ -60,7 +64,12 @@ impl Console {
         requires { glyph ≤ 126 }
         ensures { console_of self.new ≡ glyph_shown glyph (console_of self.old) }
     {
-        self.screen.show(glyph, self.rendition, self.modes.autowrap);
+        if self.modes.insert {
+            self.screen
+                .show_inserting(glyph, self.rendition, self.modes.autowrap);
+        } else {
+            self.screen.show(glyph, self.rendition, self.modes.autowrap);
+        }
     }
 
     /// Shows the error character.
@@ -76,40 +85,63 @@ impl Console {
         requires { All (λ byte. byte ≤ 126) bytes.now }
         ensures { console_of self.new ≡ glyphs_shown (map (glyph_for (console_of self.old)) bytes.now) (console_of self.old) }
     {
+        if self.modes.insert {
+            self.insert_glyphs(self.set_in_use(), bytes);
+        } else {
+            self.write_bytes(bytes);
+        }
+    }
+
+    // In insert mode a run's glyphs are shown one by one.
+    fn insert_glyphs(&mut self, set: CharacterSet, bytes: &[u8])
+        requires { All (λ byte. byte ≤ 126) bytes.now }
+        ensures { console_of self.new ≡ glyphs_shown (map (glyph_of set) bytes.now) (console_of self.old) }
+    {
+        for &byte in bytes {
+            self.show_glyph(set.glyph(byte));
+        }
+    }
+
+    // Outside it they are written over those that stand there.
+    #[inline]
+    fn write_bytes(&mut self, bytes: &[u8])
+        requires { All (λ byte. byte ≤ 126) bytes.now }
+        ensures { console_of self.new ≡ glyphs_written (map (glyph_for (console_of self.old)) bytes.now) (console_of self.old) }
+    {
         match self.set_in_use() {
             CharacterSet::Ascii => self
                 .screen
                 .show_run(bytes, self.rendition, self.modes.autowrap),
-            set => self.show_glyphs(set, bytes),
+            set => self.write_glyphs(set, bytes),
         }
     }
 
-    // Shows the glyphs that a run of bytes has in a set, a line's at a time.
-    fn show_glyphs(&mut self, set: CharacterSet, bytes: &[u8])
+    // Writes the glyphs that a run of bytes has in a set, a line's at a time.
+    fn write_glyphs(&mut self, set: CharacterSet, bytes: &[u8])
         requires { All (λ byte. byte ≤ 126) bytes.now }
-        ensures { console_of self.new ≡ glyphs_shown (map (glyph_of set) bytes.now) (console_of self.old) }
+        ensures { console_of self.new ≡ glyphs_written (map (glyph_of set) bytes.now) (console_of self.old) }
     {
         let mut rest = bytes;
         while !rest.is_empty() {
             let (piece, more) = rest.split_at(rest.len().min(PIECE));
-            self.show_piece(set, piece);
+            self.write_piece(set, piece);
             rest = more;
         }
     }
 
-    fn show_piece(&mut self, set: CharacterSet, bytes: &[u8])
+    fn write_piece(&mut self, set: CharacterSet, bytes: &[u8])
         requires short { length bytes.now ≤ 132 }
         requires graphic { All (λ byte. byte ≤ 126) bytes.now }
-        ensures { console_of self.new ≡ glyphs_shown (map (glyph_of set) bytes.now) (console_of self.old) }
+        ensures { console_of self.new ≡ glyphs_written (map (glyph_of set) bytes.now) (console_of self.old) }
     {
         let mut glyphs = [0; PIECE];
-        write_glyphs(set, bytes, &mut glyphs);
+        fill_glyphs(set, bytes, &mut glyphs);
         self.screen.show_run(&glyphs[..bytes.len()], self.rendition, self.modes.autowrap);
     }
 }
 
 // The glyphs of bytes in a set, at the head of an array.
-fn write_glyphs(set: CharacterSet, bytes: &[u8], glyphs: &mut [u8; PIECE])
+fn fill_glyphs(set: CharacterSet, bytes: &[u8], glyphs: &mut [u8; PIECE])
     requires { length bytes.now ≤ 132 }
     ensures len { length glyphs.new ≡ 132 }
     ensures front { take (length bytes.now) glyphs.new ≡ map (glyph_of set) bytes.now }

@@ -7,7 +7,7 @@ ghost use Rattle.vt_term.specs.Sink.{after_sending, HasRoom};
 ghost use Rattle.vt_term.specs.Console.{console_of, on_picture, effect_of, IsSavedWell};
 
 use crate::console::Console;
-use crate::replies::DEVICE_ATTRIBUTES;
+use crate::replies::device_attributes;
 use crate::{CharacterSet, OutOfMemory, Reports, Saved, Slot};
 use vt_screen::{Rendition, Size};
 
@@ -37,10 +37,10 @@ impl Console {
         requires { IsSavedWell self.old.saved }
         ensures done { OnOk result
             (console_of self.new ≡ effect_of escape_effect (escape_named inter last) (console_of self.old)) }
-        ensures sent { OnOk result (sink.new ≡ after_sending sink.old (reply_of escape_reply (escape_named inter last))) }
+        ensures sent { OnOk result (sink.new ≡ after_sending sink.old (reply_of (escape_reply self.old.profile) (escape_named inter last))) }
         ensures err { OnErr result (console_of self.new ≡ console_of self.old) }
         ensures err_sink { OnErr result (sink.new ≡ sink.old) }
-        ensures room { HasRoom sink.old (reply_of escape_reply (escape_named inter last)) → IsOk result }
+        ensures room { HasRoom sink.old (reply_of (escape_reply self.old.profile) (escape_named inter last)) → IsOk result }
     {
         match inter {
             None => return self.perform_plain(last, sink),
@@ -58,18 +58,18 @@ impl Console {
         requires { IsSavedWell self.old.saved }
         ensures done { OnOk result
             (console_of self.new ≡ effect_of escape_effect (named plain_escapes last) (console_of self.old)) }
-        ensures sent { OnOk result (sink.new ≡ after_sending sink.old (reply_of escape_reply (named plain_escapes last))) }
+        ensures sent { OnOk result (sink.new ≡ after_sending sink.old (reply_of (escape_reply self.old.profile) (named plain_escapes last))) }
         ensures err { OnErr result (console_of self.new ≡ console_of self.old) }
         ensures err_sink { OnErr result (sink.new ≡ sink.old) }
-        ensures room { HasRoom sink.old (reply_of escape_reply (named plain_escapes last)) → IsOk result }
+        ensures room { HasRoom sink.old (reply_of (escape_reply self.old.profile) (named plain_escapes last)) → IsOk result }
     {
         match last {
             b'D' => self.screen.index(), // IND
             b'E' => self.next_line(), // NEL
             b'M' => self.screen.reverse_index(), // RI
             b'H' => self.screen.set_tab(), // HTS
-            b'Z' => return sink.send(DEVICE_ATTRIBUTES), // DECID
-            b'c' => *self = Console::reset(), // RIS
+            b'Z' => return sink.send(device_attributes(self.profile)), // DECID
+            b'c' => *self = Console::reset(self.profile), // RIS
             b'7' => self.save(), // DECSC
             b'8' => self.restore(), // DECRC
             b'=' => self.set_keypad(true), // DECKPAM
@@ -82,7 +82,7 @@ impl Console {
     // Those with the intermediate #.
     fn change_line(&mut self, last: u8)
         ensures done { console_of self.new ≡ effect_of escape_effect (named line_escapes last) (console_of self.old) }
-        ensures silent { reply_of escape_reply (named line_escapes last) ≡ [] }
+        ensures silent { reply_of (escape_reply self.old.profile) (named line_escapes last) ≡ [] }
     {
         match last {
             b'3' => self.screen.set_size(Size::Top), // DECDHL
@@ -97,7 +97,7 @@ impl Console {
     // SCS.
     fn designate(&mut self, slot: Slot, last: u8)
         ensures done { console_of self.new ≡ effect_of escape_effect (designation_named slot last) (console_of self.old) }
-        ensures silent { reply_of escape_reply (designation_named slot last) ≡ [] }
+        ensures silent { reply_of (escape_reply self.old.profile) (designation_named slot last) ≡ [] }
     {
         if let Some(set) = set_named(last) {
             self.sets.designate(slot, set);

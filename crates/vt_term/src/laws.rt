@@ -3,9 +3,10 @@ ghost use Rattle.std.specs.Prelude.{◌≡◌, ℕ, ◌<◌, ◌≤◌, true};
 ghost use Rattle.vt_screen.specs.Cells.{blank};
 ghost use Rattle.vt_screen.specs.Picture.{Inside, cell, right_margin};
 ghost use Rattle.vt_term.specs.Law.{PlaysInParts, SendsInParts, SentIsAppended, SeenDecides, SendsLittle, StaysSafe};
-ghost use Rattle.vt_term.specs.Printing.{NothingBrings, PartsBring, CharactersBring, ControlsBring, SequencesAct, EscapesBring, DesignationsBring, ControlSequencesBring, PrivateSequencesBring};
+ghost use Rattle.vt_term.specs.Printing.{NothingBrings, PartsBring, CharactersBring, GlyphsAreWritten, ControlsBring, SequencesAct, EscapesBring, DesignationsBring, ControlSequencesBring, PrivateSequencesBring};
 ghost use Rattle.vt_term.specs.Console.{IsSafe};
-ghost use Rattle.vt_term.specs.Term.{reset_term};
+ghost use Rattle.vt_term.specs.declared.profile.Profile.{Profile};
+ghost use Rattle.vt_term.specs.Term.{reset_term_as};
 
 use crate::Terminal;
 use crate::below::laws_below;
@@ -35,16 +36,16 @@ pub fn seen_decides()
     laws_below();
 }
 
-/// Three times what is sent from the reset term is at most twenty times the bytes.
+/// Three times what is sent from a reset term is at most twenty times the bytes.
 pub fn sends_little()
     ensures { SendsLittle }
 {
     laws_below();
 }
 
-/// The reset term is safe, and a safe term stays so whatever bytes are played.
+/// A reset term is safe, and a safe term stays so whatever bytes are played.
 pub fn stays_safe()
-    ensures reset { IsSafe reset_term.console }
+    ensures reset { (profile : Profile) → IsSafe (reset_term_as profile).console }
     ensures played { StaysSafe }
 {
     laws_below();
@@ -76,6 +77,11 @@ pub fn characters_bring()
 {
     graphic_is_shown();
 }
+
+/// Outside insert mode they take the place of what stands there.
+pub fn glyphs_are_written()
+    ensures { GlyphsAreWritten }
+{}
 
 /// A control has its effect, and sends nothing.
 pub fn controls_bring()

@@ -1,6 +1,6 @@
 //! A VT100 terminal: what bytes do to its screen, modes and character sets, and what it answers.
 //!
-//! EK-VT100-UG chapter 3 is the model, VT52 mode included. A terminal takes no memory; only the list of its reports
+//! EK-VT100-UG chapter 3 is the model, VT52 mode included; a second profile adds the VT102's editing functions. A terminal takes no memory; only the list of its reports
 //! grows, and only where a reply is sent past its end.
 #![tactic(auto)]
 
@@ -12,6 +12,9 @@ mod escapes;
 pub mod laws;
 mod modes;
 mod private_modes;
+mod profile;
+#[cfg(test)]
+mod refused;
 mod replies;
 mod reports;
 mod saved;
@@ -23,6 +26,7 @@ mod tests;
 mod vt52;
 
 pub use modes::Modes;
+pub use profile::Profile;
 pub use reports::{OutOfMemory, Reports};
 pub use saved::Saved;
 pub use sets::{CharacterSet, Sets, Slot};

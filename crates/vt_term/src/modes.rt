@@ -25,6 +25,8 @@ pub struct Modes {
     pub interlace: bool,
     /// LNM: LF begins a line.
     pub newline: bool,
+    /// IRM: characters move those from the cursor on to the right.
+    pub insert: bool,
     /// DECKPAM.
     pub application_keypad: bool,
 }
@@ -44,6 +46,7 @@ impl Modes {
             auto_repeat: false,
             interlace: false,
             newline: false,
+            insert: false,
             application_keypad: false,
         }
     }

@@ -1,16 +1,13 @@
 //! What a terminal answers.
 ghost use Rattle.std.specs.Prelude.{◌≡◌, ◌≤◌, OnOk, OnErr, IsOk};
-ghost use Rattle.vt_term.specs.Replies.{attributes_reply, status_reply, parameters_reply, cursor_position, reported_line};
+ghost use Rattle.vt_term.specs.Replies.{device_attributes, attributes_reply, status_reply, parameters_reply, cursor_position, reported_line};
 ghost use Rattle.vt_term.specs.Console.{console_of, IsSafe};
 ghost use Rattle.vt_term.specs.Sink.{after_sending, HasRoom};
 
 use crate::console::Console;
-use crate::{OutOfMemory, Reports};
+use crate::{OutOfMemory, Profile, Reports};
 use arrayvec::ArrayVec;
 use itoa::Buffer;
-
-/// A VT100 with the Advanced Video Option.
-pub(crate) const DEVICE_ATTRIBUTES: &[u8] = b"\x1b[?1;2c";
 
 // No malfunction.
 const READY: &[u8] = b"\x1b[0n";
@@ -25,6 +22,16 @@ pub(crate) const VT52_IDENTITY: &[u8] = b"\x1b/Z";
 
 /// The longest reply.
 const LONGEST: usize = 20;
+
+/// What a profile says that it is: a VT100 with the Advanced Video Option, or a VT102.
+pub(crate) fn device_attributes(profile: Profile) -> &'static [u8]
+    ensures { result.now ≡ device_attributes profile }
+{
+    match profile {
+        Profile::Vt100 => b"\x1b[?1;2c",
+        Profile::Vt102 => b"\x1b[?6c",
+    }
+}
 
 // The answer to DSR 6, of a line and a column.
 fn cursor_position(line: u8, column: u8) -> ArrayVec<u8, LONGEST>
@@ -53,18 +60,6 @@ fn reported_line(origin: bool, line: u8, top: u8) -> u8
     }
 }
 
-/// DA.
-pub(crate) fn answer_attributes(param: u16, sink: &mut Reports) -> Result<(), OutOfMemory>
-    ensures ok { OnOk result (sink.new ≡ after_sending sink.old (attributes_reply param)) }
-    ensures err { OnErr result (sink.new ≡ sink.old) }
-    ensures room { HasRoom sink.old (attributes_reply param) → IsOk result }
-{
-    match param {
-        0 => sink.send(DEVICE_ATTRIBUTES),
-        _ => Ok(()),
-    }
-}
-
 /// DECREQTPARM.
 pub(crate) fn answer_parameters(param: u16, sink: &mut Reports) -> Result<(), OutOfMemory>
     ensures ok { OnOk result (sink.new ≡ after_sending sink.old (parameters_reply param)) }
@@ -79,6 +74,22 @@ pub(crate) fn answer_parameters(param: u16, sink: &mut Reports) -> Result<(), Ou
 }
 
 impl Console {
+    /// DA.
+    pub(crate) fn answer_attributes(
+        &self,
+        param: u16,
+        sink: &mut Reports,
+    ) -> Result<(), OutOfMemory>
+        ensures ok { OnOk result (sink.new ≡ after_sending sink.old (attributes_reply self.now.profile param)) }
+        ensures err { OnErr result (sink.new ≡ sink.old) }
+        ensures room { HasRoom sink.old (attributes_reply self.now.profile param) → IsOk result }
+    {
+        match param {
+            0 => sink.send(device_attributes(self.profile)),
+            _ => Ok(()),
+        }
+    }
+
     /// DSR.
     pub(crate) fn answer_status(&self, param: u16, sink: &mut Reports) -> Result<(), OutOfMemory>
         ensures ok { OnOk result (sink.new ≡ after_sending sink.old (status_reply param (console_of self.now))) }

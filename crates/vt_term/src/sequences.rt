@@ -1,15 +1,17 @@
 //! Control sequences of ANSI mode without `?`.
 ghost use Rattle.std.specs.Prelude.{◌≡◌, ◌≤◌, fold, slice_index, true, false, length, OnOk, OnErr, IsOk};
+ghost use Rattle.vt_screen.specs.CellEdits.{cells_deleted};
 ghost use Rattle.vt_screen.specs.Erasures.{display_erased, line_erased};
 ghost use Rattle.vt_screen.specs.Moves.{placed};
 ghost use Rattle.vt_screen.specs.Lines.{margins_set};
-ghost use Rattle.vt_term.specs.Sequences.{Sgr, Decll, sequence_effect, first_of, second_of, counted, or_default, erased, tabs_taken, rendition_set, newline_set, leds_set};
+ghost use Rattle.vt_screen.specs.Scrolls.{lines_inserted, lines_deleted};
+ghost use Rattle.vt_term.specs.Sequences.{Sgr, Decll, sequence_effect, first_of, second_of, counted, or_default, erased, tabs_taken, rendition_set, ansi_mode_set, where_it_edits, leds_set};
 ghost use Rattle.vt_term.specs.Effect.{control_sequence_effect, control_sequence_reply};
 ghost use Rattle.vt_term.specs.Console.{console_of, on_picture, on_modes};
 ghost use Rattle.vt_term.specs.Sink.{after_sending, HasRoom};
 
 use crate::console::Console;
-use crate::replies::{answer_attributes, answer_parameters};
+use crate::replies::answer_parameters;
 use crate::{OutOfMemory, Reports};
 use vt_screen::Rendition;
 
@@ -84,13 +86,16 @@ impl Console {
             b'H' | b'f' => self.place(first, second_of(params)), // CUP, HVP
             b'J' => self.erase_display(first), // ED
             b'K' => self.erase_line(first), // EL
+            b'L' => self.insert_lines(or_default(1, first)), // IL
+            b'M' => self.delete_lines(or_default(1, first)), // DL
+            b'P' => self.delete_cells(or_default(1, first)), // DCH
             b'r' => self.set_margins(first, second_of(params)), // DECSTBM
             b'g' => self.take_tabs(first), // TBC
             b'm' => self.set_rendition(params), // SGR
-            b'h' => self.set_newline(true, params), // SM
-            b'l' => self.set_newline(false, params), // RM
+            b'h' => self.set_ansi_modes(true, params), // SM
+            b'l' => self.set_ansi_modes(false, params), // RM
             b'q' => self.set_leds(params), // DECLL
-            b'c' => return answer_attributes(first, sink), // DA
+            b'c' => return self.answer_attributes(first, sink), // DA
             b'n' => return self.answer_status(first, sink), // DSR
             b'x' => return answer_parameters(first, sink), // DECREQTPARM
             _ => {}
@@ -122,6 +127,30 @@ impl Console {
     {
         if part <= 2 {
             self.screen.erase_line(part as u8);
+        }
+    }
+
+    fn insert_lines(&mut self, n: u16)
+        ensures { console_of self.new ≡ where_it_edits (lines_inserted n) (console_of self.old) }
+    {
+        if self.profile.has_editing() {
+            self.screen.insert_lines(n);
+        }
+    }
+
+    fn delete_lines(&mut self, n: u16)
+        ensures { console_of self.new ≡ where_it_edits (lines_deleted n) (console_of self.old) }
+    {
+        if self.profile.has_editing() {
+            self.screen.delete_lines(n);
+        }
+    }
+
+    fn delete_cells(&mut self, n: u16)
+        ensures { console_of self.new ≡ where_it_edits (cells_deleted n) (console_of self.old) }
+    {
+        if self.profile.has_editing() {
+            self.screen.delete_cells(n);
         }
     }
 
@@ -157,13 +186,30 @@ impl Console {
         self.rendition = rendition;
     }
 
-    fn set_newline(&mut self, value: bool, params: &[u16])
-        ensures { console_of self.new ≡ on_modes (λ modes. fold (newline_set value) modes params.now) (console_of self.old) }
+    fn set_ansi_modes(&mut self, value: bool, params: &[u16])
+        ensures { console_of self.new
+            ≡ on_modes (λ modes. fold (ansi_mode_set self.old.profile value) modes params.now) (console_of self.old) }
     {
         for &param in params {
-            if param == 20 {
-                self.modes.newline = value;
-            }
+            self.set_ansi_mode(value, param);
+        }
+    }
+
+    fn set_ansi_mode(&mut self, value: bool, param: u16)
+        ensures { self.new ≡ record self.old { modes = ansi_mode_set self.old.profile value self.old.modes param } }
+    {
+        match param {
+            4 => self.set_insert(value), // IRM
+            20 => self.modes.newline = value, // LNM
+            _ => {}
+        }
+    }
+
+    fn set_insert(&mut self, value: bool)
+        ensures { self.new ≡ record self.old { modes = ansi_mode_set self.old.profile value self.old.modes 4 } }
+    {
+        if self.profile.has_editing() {
+            self.modes.insert = value;
         }
     }
 

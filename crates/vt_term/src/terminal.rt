@@ -3,13 +3,13 @@ ghost use Rattle.std.specs.Prelude.{◌≡◌, ℕ, ◌≤◌, ◌<◌, true, fa
 
 use crate::below::laws_below;
 use crate::console::Console;
-use crate::{Modes, OutOfMemory, Reports, Saved, Sets};
+use crate::{Modes, OutOfMemory, Profile, Reports, Saved, Sets};
 use std::marker::Model;
 use vt_parser::{Parser, ParserState};
 use vt_screen::{Rendition, Screen};
 
-/// A VT100 terminal. Contracts see what is seen of it: its picture, modes, rendition, sets, save and LEDs, and its parser's
-/// state.
+/// A VT100 or VT102 terminal. Contracts see what is seen of it: its profile, picture, modes, rendition, sets, save and
+/// LEDs, and its parser's state.
 #[derive(Debug, Drop)]
 pub struct Terminal {
     console: Console,
@@ -30,17 +30,24 @@ impl Model for Terminal {
 
 impl Terminal {
     ghost use Rattle.std.specs.Prelude.{true};
-    ghost use Rattle.vt_term.specs.Term.{Term, reset_term, play, sent};
+    ghost use Rattle.vt_term.specs.Term.{Term, reset_term, reset_term_as, play, sent};
     ghost use Rattle.vt_term.specs.Seen.{Shows, IsTerminal};
     ghost use Rattle.vt_term.specs.Sink.{after_sending, HasRoom, KeepsFront};
 
-    /// The initial state: 80 columns, all blank, ANSI mode, DECAWM set and every other mode reset.
+    /// The initial state of a VT100: 80 columns, all blank, ANSI mode, DECAWM set and every other mode reset.
     pub fn reset() -> Self
         ensures { Shows result reset_term }
     {
+        Terminal::reset_as(Profile::Vt100)
+    }
+
+    /// The same of a profile, which stays whatever comes, RIS included.
+    pub fn reset_as(profile: Profile) -> Self
+        ensures { Shows result (reset_term_as profile) }
+    {
         laws_below();
         Terminal {
-            console: Console::reset(),
+            console: Console::reset(profile),
             parser: Parser::new(),
         }
     }
@@ -130,6 +137,13 @@ impl Terminal {
         ensures { result.now ≡ self.now.state }
     {
         self.parser.state()
+    }
+
+    /// Which terminal it is.
+    pub fn profile(&self) -> Profile
+        ensures { result ≡ self.now.console.profile }
+    {
+        self.console.profile
     }
 
     /// The modes, and the keypad.

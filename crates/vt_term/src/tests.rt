@@ -1,7 +1,7 @@
 //! What bytes leave of a terminal from its reset, told as a text.
 ghost use Rattle.std.specs.Prelude.{◌≤◌, ◌+◌};
 
-use crate::{CharacterSet, Modes, OutOfMemory, Reports, Saved, Sets, Slot, Terminal};
+use crate::{CharacterSet, Modes, OutOfMemory, Profile, Reports, Saved, Sets, Slot, Terminal};
 use std::alloc::Global;
 use std::fmt::Write;
 use std::process::Abort;
@@ -9,9 +9,12 @@ use std::test::Fail;
 use vt_parser::{Mode, ParserState};
 use vt_screen::{Cell, Rendition, Row, Screen, Size};
 
+mod editing;
+mod recordings;
 mod rows;
 mod stream;
 mod tables;
+mod whole;
 mod wraps;
 
 // A terminal, and what it sent.
@@ -22,7 +25,11 @@ struct Left {
 }
 
 fn feed_reset(alloc: Global, bytes: &[u8]) -> Result<Left, OutOfMemory> {
-    let mut terminal = Terminal::reset();
+    feed_reset_as(alloc, Profile::Vt100, bytes)
+}
+
+fn feed_reset_as(alloc: Global, profile: Profile, bytes: &[u8]) -> Result<Left, OutOfMemory> {
+    let mut terminal = Terminal::reset_as(profile);
     let mut reports = Reports::new(alloc);
     terminal.feed(bytes, &mut reports)?;
     Ok(Left { terminal, reports })
@@ -119,6 +126,21 @@ fn write_cells(text: &mut String, screen: &Screen, line: u8) -> Result<(), Fail>
     Ok(())
 }
 
+// The size of a line where it isn't single, and its cells.
+fn write_line(text: &mut String, screen: &Screen, line: u8) -> Result<(), Fail>
+    requires low { 1 ≤ line }
+    requires high { line ≤ 24 }
+{
+    let size = screen.size(line);
+    if size != Size::Single {
+        write!(text, "({size:?})")?;
+    }
+    text.push(':')?;
+    write_cells(text, screen, line)?;
+    text.push(' ')?;
+    Ok(())
+}
+
 // The lines that aren't blank and single, each with its number.
 fn write_lines(text: &mut String, screen: &Screen) -> Result<(), Fail> {
     for line in 1..25 {
@@ -126,13 +148,7 @@ fn write_lines(text: &mut String, screen: &Screen) -> Result<(), Fail> {
             continue;
         }
         write!(text, "{line}")?;
-        let size = screen.size(line);
-        if size != Size::Single {
-            write!(text, "({size:?})")?;
-        }
-        text.push(':')?;
-        write_cells(text, screen, line)?;
-        text.push(' ')?;
+        write_line(text, screen, line)?;
     }
     Ok(())
 }
@@ -149,6 +165,7 @@ fn write_modes(text: &mut String, modes: Modes) -> Result<(), Fail> {
         (modes.auto_repeat, " DECARM"),
         (modes.interlace, " DECINLM"),
         (modes.newline, " LNM"),
+        (modes.insert, " IRM"),
         (modes.application_keypad, " DECKPAM"),
     ] {
         if is_other {
@@ -367,8 +384,17 @@ fn told(alloc: Global, left: &Left) -> Result<String, Fail> {
 
 // Each piece of bytes leaves what is told of it.
 fn all_leave(rt: &impl Abort, alloc: Global, rows: &[(&[u8], &str)]) -> Result<(), Fail> {
+    all_leave_as(rt, alloc, Profile::Vt100, rows)
+}
+
+fn all_leave_as(
+    rt: &impl Abort,
+    alloc: Global,
+    profile: Profile,
+    rows: &[(&[u8], &str)],
+) -> Result<(), Fail> {
     for (bytes, want) in rows {
-        let left = feed_reset(alloc, bytes)?;
+        let left = feed_reset_as(alloc, profile, bytes)?;
         let text = told(alloc, &left)?;
         assert_eq!(rt; text.as_str(), *want, "at {bytes:?}");
     }

@@ -6,12 +6,20 @@ returns c =
     let sound = c.moves_keep_sound.ensures in
     let shows = c.shows_keep_sound.ensures in
     let changes = c.changes_keep_sound.ensures in
+    let edits = c.edits_keep_sound.ensures in
     let goes = c.origin_goes_inside.ensures in
     let stays = c.cursors_stay_inside.ensures in
     let laws : ScreenLaws = record {
       reset = c.reset_is_sound.ensures.sound;
       margin = c.right_margins.ensures.high;
       show = λ glyph rendition autowrap high. record { sound = shows.show glyph rendition autowrap high; inside = stays.show glyph rendition autowrap };
+      show_inserting = λ glyph rendition autowrap high. record {
+        sound = edits.show_inserting glyph rendition autowrap high;
+        inside = edits.show_inserting_inside glyph rendition autowrap;
+      };
+      insert_lines = λ n. record { sound = edits.insert_lines n; inside = edits.insert_lines_inside n };
+      delete_lines = λ n. record { sound = edits.delete_lines n; inside = edits.delete_lines_inside n };
+      delete_cells = λ n. record { sound = edits.delete_cells n; inside = edits.delete_cells_inside n };
       up = λ n. record { sound = sound.up n; inside = stays.up n };
       down = λ n. record { sound = sound.down n; inside = stays.down n };
       right = λ n. record { sound = sound.right n; inside = stays.right n };

@@ -11,6 +11,6 @@ returns c = record {
   graphic_is_shown = c.graphic_is_shown.ensures;
   commands_are_proper = c.commands_are_proper.ensures;
   right_margins = c.right_margins.ensures.high;
-  reset_is_safe = record { sound = c.reset_is_sound.ensures.sound; inside = λ is. c.reset_is_sound.ensures.inside; saved = tt; leds = refl };
+  reset_is_safe = λ profile. record { sound = c.reset_is_sound.ensures.sound; inside = λ is. c.reset_is_sound.ensures.inside; saved = tt; leds = refl };
   commands_keep_safe = c.commands_keep_safe.ensures;
 }

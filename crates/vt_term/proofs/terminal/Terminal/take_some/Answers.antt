@@ -1,10 +1,9 @@
-use Rattle.std.proofs.Common.{◌≡◌, ℕ, false, true, List, take, sym, ap, subst, ◌∙◌, arith}
+use Rattle.std.proofs.Common.{take, sym, ap, subst, ◌∙◌}
 use Rattle.std.specs.Prelude.{Option, Some, None}
 use Rattle.std.proofs.lemmas.Bool.{false≢true}
 use Rattle.vt_parser.specs.declared.tokens.Token.{Token}
 use Rattle.vt_parser.specs.Token.{TellsOf}
 use Rattle.vt_term.specs.Console.{Console}
-use Rattle.vt_term.specs.Effect.{token_reply}
 use Rattle.vt_term.specs.Term.{mode_of, play, sent}
 use Rattle.vt_term.specs.Seen.{Seen, Shows, IsTerminal, seen_of}
 use Rattle.vt_term.specs.Sink.{after_sending, HasRoom}

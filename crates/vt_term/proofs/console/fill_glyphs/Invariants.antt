@@ -1,6 +1,6 @@
 use Rattle.std.proofs.Common.{◌≡◌, take, map, length}
 use Rattle.vt_term.specs.Sets.{glyph_of}
-use Rattle.vt_term.proofs.console.write_glyphs.Given as goal
+use Rattle.vt_term.proofs.console.fill_glyphs.Given as goal
 
 abbrev pub invariant-loop-i : goal.invariant-loop-i
 invariant-loop-i l = record {

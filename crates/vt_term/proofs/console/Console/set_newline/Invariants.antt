@@ -1,7 +1,0 @@
-use Rattle.std.proofs.Common.{◌≡◌, take}
-use Rattle.std.specs.Prelude.{fold}
-use Rattle.vt_term.specs.Sequences.{newline_set}
-use Rattle.vt_term.proofs.console.Console.set_newline.Given as goal
-
-abbrev pub invariant-loop-param : goal.invariant-loop-param
-invariant-loop-param l = l.self ≡ record l.initial.self { modes = fold (newline_set l.value) l.initial.self.modes (take l.param-index l.params) }
