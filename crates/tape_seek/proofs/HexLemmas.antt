@@ -11,8 +11,7 @@ use Rattle.hex.specs.Hex.{decode_of, encode_lower, encode_with, is_hex_digit}
 use Rattle.hex.specs.declared.error.FromHexError.{FromHexError}
 use Rattle.hex.proofs.HexLemmas.{decode_of-digits, decode_of-ok}
 use Rattle.tape_core.specs.declared.devices.Watched.{Watched}
-use Rattle.tape_core.specs.Devices.{StoppedIn, Took}
-use Rattle.tape_core.proofs.DeviceLemmas.{stopped-append, stopped_before, took-append}
+use Rattle.tape_core.specs.Devices.{Took}
 use Rattle.tape_seek.specs.Requests.{bytes_of, pairs_of}
 
 -- std and the crate hex mean the same digits
@@ -67,11 +66,11 @@ unfolding encode_with
 hex_none contents out bytes rest same took = record { gone = []; cut = sym same; took = took }
 
 -- one more piece
-pub hex_more : {O : Type 0} {contents : O → Option (List ℕ)} {a b c : Watched O} {bytes rest : List ℕ} (piece left : List ℕ) → rest ≡ piece ++ left → HexBefore contents a b bytes rest → Took contents b c (encode_lower piece) → HexBefore contents a c bytes left
+pub hex_more : {O : Type 0} {contents : O → Option (List ℕ)} {a b c : Watched O} {bytes rest : List ℕ} (piece left : List ℕ) → rest ≡ piece ++ left → (h : HexBefore contents a b bytes rest) → Took contents a c (encode_lower h.gone ++ encode_lower piece) → HexBefore contents a c bytes left
 hex_more {contents = contents} {a = a} {c = c} piece left parts h took = record {
   gone = h.gone ++ piece;
   cut = h.cut ∙ ap (λ (l : List ℕ). h.gone ++ l) parts ∙ sym (append_assoc h.gone piece left);
-  took = subst (Took contents a c) (sym (encode-append _ h.gone piece)) (took-append h.took took);
+  took = subst (Took contents a c) (sym (encode-append _ h.gone piece)) took;
 }
 
 -- after the last piece
@@ -79,11 +78,10 @@ pub hex_all : {O : Type 0} {contents : O → Option (List ℕ)} {a b : Watched O
 hex_all {contents = contents} {a = a} {b = b} none h =
     subst (λ (l : List ℕ). Took contents a b (encode_lower l)) (sym (h.cut ∙ ap (λ (l : List ℕ). h.gone ++ l) none ∙ append-nil h.gone)) h.took
 
--- stopped in a piece
-pub hex_stopped : {O : Type 0} {contents : O → Option (List ℕ)} {a b c : Watched O} {bytes rest : List ℕ} (piece left : List ℕ) → rest ≡ piece ++ left → HexBefore contents a b bytes rest → StoppedIn contents b c (encode_lower piece) → StoppedIn contents a c (encode_lower bytes)
-hex_stopped {contents = contents} {a = a} {c = c} {bytes = bytes} piece left parts h stopped =
+-- the digits of what has gone out, of a piece and of what is left
+pub hex_around : {O : Type 0} {contents : O → Option (List ℕ)} {a b : Watched O} {bytes rest : List ℕ} (piece left : List ℕ) → rest ≡ piece ++ left → (h : HexBefore contents a b bytes rest)
+    → encode_lower bytes ≡ (encode_lower h.gone ++ encode_lower piece) ++ encode_lower left
+hex_around {bytes = bytes} piece left parts h =
     let whole : bytes ≡ (h.gone ++ piece) ++ left = h.cut ∙ ap (λ (l : List ℕ). h.gone ++ l) parts ∙ sym (append_assoc h.gone piece left) in
-    let text : encode_lower bytes ≡ (encode_lower h.gone ++ encode_lower piece) ++ encode_lower left =
     ap (λ (l : List ℕ). encode_lower l) whole ∙ encode-append _ (h.gone ++ piece) left
-    ∙ ap (λ (l : List ℕ). l ++ encode_lower left) (encode-append _ h.gone piece) in
-    subst (StoppedIn contents a c) (sym text) (stopped_before (encode_lower left) (stopped-append h.took stopped))
+    ∙ ap (λ (l : List ℕ). l ++ encode_lower left) (encode-append _ h.gone piece)

@@ -1,7 +1,7 @@
-pub mod ReplayLemmas
-pub mod SessionLemmas
-pub mod EditLemmas
-pub mod HexLemmas
-pub mod RequestLemmas
-pub mod LogLemmas
-pub mod MarkLemmas
+mod ReplayLemmas
+mod SessionLemmas
+mod EditLemmas
+mod HexLemmas
+mod RequestLemmas
+mod LogLemmas
+mod MarkLemmas

@@ -11,50 +11,51 @@ use Rattle.std.proofs.lemmas.List.{drop_all, get_or_append_left, get_or_default,
 use Rattle.tape_core.specs.declared.chunk.Chunk.{Chunk}
 use Rattle.tape_core.specs.Due.{first}
 use Rattle.tape_core.specs.Tape.{body}
-use Rattle.tape_core.proofs.FirstLemmas.{first-more_of}
+use Rattle.tape_core.specs.Law.{FirstGrowsByAChunk}
 use Rattle.vt_term.specs.Seen.{Seen, Shows}
 use Rattle.vt_term.specs.Sink.{HasRoom, Sink, after_sending}
-use Rattle.vt_term.specs.Term.{reset_term, play, sent}
-use Rattle.vt_term.proofs.LawLemmas.{plays_in_parts, sends_in_parts}
+use Rattle.vt_term.specs.declared.profile.Profile.{Profile}
+use Rattle.vt_term.specs.Term.{reset_term_as, play, sent}
+use Rattle.vt_term.specs.Law.{PlaysInParts, SendsInParts}
 use Rattle.tape_seek.specs.declared.replay.Replay.{Replay}
 use Rattle.tape_seek.specs.Kept.{HasSent, HoldsUpTo, IsAhead, IsKept, IsPlaying, IsReplay, SameFront, Stores, played, sent_after}
 use Rattle.tape_seek.specs.Marks.{multiple_below}
 
 -- ---- before the first chunk
 
-pub played_none : (chunks : List Chunk) → played chunks 0 ≡ reset_term
+pub played_none : (profile : Profile) (chunks : List Chunk) → played profile chunks 0 ≡ reset_term_as profile
 unfolding play
-played_none chunks = refl
+played_none profile chunks = refl
 
-pub sent_none : (chunks : List Chunk) → sent_after chunks 0 ≡ []
+pub sent_none : (profile : Profile) (chunks : List Chunk) → sent_after profile chunks 0 ≡ []
 unfolding sent
-sent_none chunks = refl
+sent_none profile chunks = refl
 
 -- ---- one chunk more
 
-pub played_more : (chunks : List Chunk) (at : ℕ) (c : Chunk) → at < length chunks → get_or chunks at c ≡ c → played chunks (at + 1) ≡ play (played chunks at) c.bytes
-played_more chunks at c lt is = ap (play reset_term) (first-more_of chunks at c lt is) ∙ plays_in_parts reset_term (first chunks at) c.bytes
+pub played_more : FirstGrowsByAChunk → PlaysInParts → (profile : Profile) (chunks : List Chunk) (at : ℕ) (c : Chunk) → at < length chunks → get_or chunks at c ≡ c → played profile chunks (at + 1) ≡ play (played profile chunks at) c.bytes
+played_more grows plays profile chunks at c lt is = ap (play (reset_term_as profile)) (grows.of chunks at c lt is) ∙ plays (reset_term_as profile) (first chunks at) c.bytes
 
-pub sent_more : (chunks : List Chunk) (at : ℕ) (c : Chunk) → at < length chunks → get_or chunks at c ≡ c → sent_after chunks (at + 1) ≡ sent_after chunks at ++ sent (played chunks at) c.bytes
-sent_more chunks at c lt is = ap (sent reset_term) (first-more_of chunks at c lt is) ∙ sends_in_parts reset_term (first chunks at) c.bytes
+pub sent_more : FirstGrowsByAChunk → SendsInParts → (profile : Profile) (chunks : List Chunk) (at : ℕ) (c : Chunk) → at < length chunks → get_or chunks at c ≡ c → sent_after profile chunks (at + 1) ≡ sent_after profile chunks at ++ sent (played profile chunks at) c.bytes
+sent_more grows parts profile chunks at c lt is = ap (sent (reset_term_as profile)) (grows.of chunks at c lt is) ∙ parts (reset_term_as profile) (first chunks at) c.bytes
 
 -- ---- fewer chunks
 
 -- what was sent by a count begins with what was sent by an earlier one
-sent_split : (chunks : List Chunk) (n m : ℕ) → n ≤ m → sent_after chunks m ≡ sent_after chunks n ++ sent (played chunks n) (body (take (m - n) (drop n chunks)))
-sent_split chunks n m le =
+sent_split : SendsInParts → (profile : Profile) (chunks : List Chunk) (n m : ℕ) → n ≤ m → sent_after profile chunks m ≡ sent_after profile chunks n ++ sent (played profile chunks n) (body (take (m - n) (drop n chunks)))
+sent_split parts profile chunks n m le =
     let whole : n + (m - n) ≡ m = omega arith in
     let cut : first chunks m ≡ first chunks n ++ body (take (m - n) (drop n chunks)) =
     ap (first chunks) (sym whole) ∙ ap body (take-add n (m - n) chunks) ∙ flat_map-append (λ (c : Chunk). c.bytes) (take n chunks) (take (m - n) (drop n chunks)) in
-    ap (sent reset_term) cut ∙ sends_in_parts reset_term (first chunks n) (body (take (m - n) (drop n chunks)))
+    ap (sent (reset_term_as profile)) cut ∙ parts (reset_term_as profile) (first chunks n) (body (take (m - n) (drop n chunks)))
 
-pub sent_rises : (chunks : List Chunk) (n m : ℕ) → n ≤ m → length (sent_after chunks n) ≤ length (sent_after chunks m)
-sent_rises chunks n m le =
-    let more = sent (played chunks n) (body (take (m - n) (drop n chunks))) in
-    omega (arith, ap length (sent_split chunks n m le), length-append (sent_after chunks n) more)
+pub sent_rises : SendsInParts → (profile : Profile) (chunks : List Chunk) (n m : ℕ) → n ≤ m → length (sent_after profile chunks n) ≤ length (sent_after profile chunks m)
+sent_rises parts profile chunks n m le =
+    let more = sent (played profile chunks n) (body (take (m - n) (drop n chunks))) in
+    omega (arith, ap length (sent_split parts profile chunks n m le), length-append (sent_after profile chunks n) more)
 
-pub sent_front : (chunks : List Chunk) (n m : ℕ) → n ≤ m → take (length (sent_after chunks n)) (sent_after chunks m) ≡ sent_after chunks n
-sent_front chunks n m le = ap (take (length (sent_after chunks n))) (sent_split chunks n m le) ∙ take-append_seam (sent_after chunks n) _
+pub sent_front : SendsInParts → (profile : Profile) (chunks : List Chunk) (n m : ℕ) → n ≤ m → take (length (sent_after profile chunks n)) (sent_after profile chunks m) ≡ sent_after profile chunks n
+sent_front parts profile chunks n m le = ap (take (length (sent_after profile chunks n))) (sent_split parts profile chunks n m le) ∙ take-append_seam (sent_after profile chunks n) _
 
 -- a front of a longer front
 front_of_front : (few many : List ℕ) (list : List ℕ) → length few ≤ length many → take (length many) list ≡ many → take (length few) many ≡ few → take (length few) list ≡ few
@@ -67,8 +68,8 @@ front_within few list front = omega (arith, ap length front, length-take (length
 pub div_rises : (n m every : ℕ) → 0 < every → n ≤ m → n / every ≤ m / every
 div_rises n m every some le = le-div (n / every) m every some (omega (arith, div-mul-le_self n every))
 
-pub holds_less : (chunks : List Chunk) (n m : ℕ) (r : Replay) → n ≤ m → HoldsUpTo chunks m r → HoldsUpTo chunks n r
-holds_less chunks n m r le h =
+pub holds_less : SendsInParts → (chunks : List Chunk) (n m : ℕ) (r : Replay) → n ≤ m → HoldsUpTo chunks m r → HoldsUpTo chunks n r
+holds_less parts chunks n m r le h =
     let fewer = div_rises n m r.every h.every le in
     record {
       every = h.every;
@@ -77,20 +78,20 @@ holds_less chunks n m r le h =
       stored = λ k d lt. h.stored k d (omega arith);
       counts = omega (arith, h.counts);
       sent = λ k low. h.sent k (omega arith);
-      reports = front_of_front (sent_after chunks n) (sent_after chunks m) r.reports.bytes (sent_rises chunks n m le) h.reports (sent_front chunks n m le);
+      reports = front_of_front (sent_after r.profile chunks n) (sent_after r.profile chunks m) r.reports.bytes (sent_rises parts r.profile chunks n m le) h.reports (sent_front parts r.profile chunks n m le);
     }
 
 -- what is kept stays right where the list of reports only grew
-pub holds_grown : (chunks : List Chunk) (n : ℕ) (r new : Replay) → new.every ≡ r.every → new.stored ≡ r.stored → new.sent ≡ r.sent
+pub holds_grown : (chunks : List Chunk) (n : ℕ) (r new : Replay) → new.profile ≡ r.profile → new.every ≡ r.every → new.stored ≡ r.stored → new.sent ≡ r.sent
     → take (length r.reports.bytes) new.reports.bytes ≡ r.reports.bytes → HoldsUpTo chunks n r → HoldsUpTo chunks n new
-holds_grown chunks n r new every stored counts front h = record {
+holds_grown chunks n r new profile every stored counts front h = record {
   every = rw every h.every;
   within = h.within;
   terminals = rw (every, stored) h.terminals;
-  stored = rw (every, stored) h.stored;
+  stored = rw (profile, every, stored) h.stored;
   counts = rw counts h.counts;
-  sent = rw counts h.sent;
-  reports = front_of_front (sent_after chunks n) r.reports.bytes new.reports.bytes (front_within (sent_after chunks n) r.reports.bytes h.reports) front h.reports;
+  sent = rw (profile, counts) h.sent;
+  reports = rw profile (front_of_front (sent_after r.profile chunks n) r.reports.bytes new.reports.bytes (front_within (sent_after r.profile chunks n) r.reports.bytes h.reports) front h.reports);
 }
 
 -- ---- the head
@@ -98,38 +99,38 @@ holds_grown chunks n r new every stored counts front h = record {
 pub multiple_within : (every count : ℕ) → multiple_below every count ≤ count
 multiple_within every count = div-mul-le_self count every
 
-pub head_reset : (chunks : List Chunk) (every count : ℕ) (seen : Seen) → count / every ≡ 0 → Shows seen reset_term → Shows seen (played chunks (multiple_below every count))
-head_reset chunks every count seen none shows =
+pub head_reset : (profile : Profile) (chunks : List Chunk) (every count : ℕ) (seen : Seen) → count / every ≡ 0 → Shows seen (reset_term_as profile) → Shows seen (played profile chunks (multiple_below every count))
+head_reset profile chunks every count seen none shows =
     let place : multiple_below every count ≡ 0 = ap (λ n. n * every) none ∙ zero-mul every in
-    rw (place, played_none chunks) shows
+    rw (place, played_none profile chunks) shows
 
 pub head_stored : (chunks : List Chunk) (count : ℕ) (r : Replay) (b : Box Seen Global) → count / r.every ≢ 0 → HoldsUpTo chunks count r
-    → b ≡ get_or r.stored.items (count / r.every - 1) b → Shows b.value (played chunks (multiple_below r.every count))
+    → b ≡ get_or r.stored.items (count / r.every - 1) b → Shows b.value (played r.profile chunks (multiple_below r.every count))
 head_stored chunks count r b some h is =
     let back : count / r.every - 1 + 1 ≡ count / r.every = omega arith in
     let there = h.stored (count / r.every - 1) b (omega arith) in
-    let shows : Shows b.value (played chunks ((count / r.every - 1 + 1) * r.every)) = rw is there in
-    subst (λ (n : ℕ). Shows b.value (played chunks (n * r.every))) back shows
+    let shows : Shows b.value (played r.profile chunks ((count / r.every - 1 + 1) * r.every)) = rw is there in
+    subst (λ (n : ℕ). Shows b.value (played r.profile chunks (n * r.every))) back shows
 
 -- ---- the next chunk, by its bytes
 
-pub next_shows : (chunks : List Chunk) (at : ℕ) (c : Chunk) → at < length chunks → get_or chunks at c ≡ c → (seen : Seen) (bytes : List ℕ) → bytes ≡ c.bytes
-    → Shows seen (play (played chunks at) bytes) → Shows seen (played chunks (at + 1))
-next_shows chunks at c lt is seen bytes same shows = subst (Shows seen) (ap (play (played chunks at)) same ∙ sym (played_more chunks at c lt is)) shows
+pub next_shows : FirstGrowsByAChunk → PlaysInParts → (profile : Profile) (chunks : List Chunk) (at : ℕ) (c : Chunk) → at < length chunks → get_or chunks at c ≡ c → (seen : Seen) (bytes : List ℕ) → bytes ≡ c.bytes
+    → Shows seen (play (played profile chunks at) bytes) → Shows seen (played profile chunks (at + 1))
+next_shows grows plays profile chunks at c lt is seen bytes same shows = subst (Shows seen) (ap (play (played profile chunks at)) same ∙ sym (played_more grows plays profile chunks at c lt is)) shows
 
-next_length : (chunks : List Chunk) (at : ℕ) (c : Chunk) → at < length chunks → get_or chunks at c ≡ c → (bytes : List ℕ) → bytes ≡ c.bytes
-    → length (sent_after chunks (at + 1)) ≡ length (sent_after chunks at) + length (sent (played chunks at) bytes)
-next_length chunks at c lt is bytes same =
-    ap length (sent_more chunks at c lt is) ∙ length-append (sent_after chunks at) (sent (played chunks at) c.bytes)
-    ∙ ap (λ (l : List ℕ). length (sent_after chunks at) + length (sent (played chunks at) l)) (sym same)
+next_length : FirstGrowsByAChunk → SendsInParts → (profile : Profile) (chunks : List Chunk) (at : ℕ) (c : Chunk) → at < length chunks → get_or chunks at c ≡ c → (bytes : List ℕ) → bytes ≡ c.bytes
+    → length (sent_after profile chunks (at + 1)) ≡ length (sent_after profile chunks at) + length (sent (played profile chunks at) bytes)
+next_length grows parts profile chunks at c lt is bytes same =
+    ap length (sent_more grows parts profile chunks at c lt is) ∙ length-append (sent_after profile chunks at) (sent (played profile chunks at) c.bytes)
+    ∙ ap (λ (l : List ℕ). length (sent_after profile chunks at) + length (sent (played profile chunks at) l)) (sym same)
 
-pub next_sent : (chunks : List Chunk) (r new : Replay) (c : Chunk) → r.at < length chunks → get_or chunks r.at c ≡ c → (bytes : List ℕ) → bytes ≡ c.bytes
-    → r.reports.place ≡ length (sent_after chunks r.at) → new.reports ≡ after_sending r.reports (sent (played chunks r.at) bytes) → HasSent chunks r new
-next_sent chunks r new c lt is bytes same place sends =
-    let more = sent (played chunks r.at) bytes in
-    let len = next_length chunks r.at c lt is bytes same in
-    let whole : sent_after chunks (r.at + 1) ≡ sent_after chunks r.at ++ more
-    = sent_more chunks r.at c lt is ∙ ap (λ (l : List ℕ). sent_after chunks r.at ++ sent (played chunks r.at) l) (sym same) in
+pub next_sent : FirstGrowsByAChunk → SendsInParts → (chunks : List Chunk) (r new : Replay) (c : Chunk) → r.at < length chunks → get_or chunks r.at c ≡ c → (bytes : List ℕ) → bytes ≡ c.bytes
+    → r.reports.place ≡ length (sent_after r.profile chunks r.at) → new.reports ≡ after_sending r.reports (sent (played r.profile chunks r.at) bytes) → HasSent chunks r new
+next_sent grows parts chunks r new c lt is bytes same place sends =
+    let more = sent (played r.profile chunks r.at) bytes in
+    let len = next_length grows parts r.profile chunks r.at c lt is bytes same in
+    let whole : sent_after r.profile chunks (r.at + 1) ≡ sent_after r.profile chunks r.at ++ more
+    = sent_more grows parts r.profile chunks r.at c lt is ∙ ap (λ (l : List ℕ). sent_after r.profile chunks r.at ++ sent (played r.profile chunks r.at) l) (sym same) in
     record {
       place = ap (λ (s : Sink). s.place) sends ∙ ap (λ (n : ℕ). n + length more) place ∙ sym len;
       within = λ le.
@@ -140,25 +141,25 @@ next_sent chunks r new c lt is bytes same place sends =
           ap (λ (s : Sink). s.bytes) sends ∙ ap (λ (n : ℕ). r.reports.bytes ++ drop n more) none ∙ ap (λ (l : List ℕ). l ++ more) all ∙ sym whole;
     }
 
-pub has_room : (chunks : List Chunk) (r : Replay) (c : Chunk) → r.at < length chunks → get_or chunks r.at c ≡ c → (bytes : List ℕ) → bytes ≡ c.bytes
-    → r.reports.place ≡ length (sent_after chunks r.at) → length (sent_after chunks (r.at + 1)) ≤ length r.reports.bytes → HasRoom r.reports (sent (played chunks r.at) bytes)
-has_room chunks r c lt is bytes same place le =
-    let len = next_length chunks r.at c lt is bytes same in
+pub has_room : FirstGrowsByAChunk → SendsInParts → (chunks : List Chunk) (r : Replay) (c : Chunk) → r.at < length chunks → get_or chunks r.at c ≡ c → (bytes : List ℕ) → bytes ≡ c.bytes
+    → r.reports.place ≡ length (sent_after r.profile chunks r.at) → length (sent_after r.profile chunks (r.at + 1)) ≤ length r.reports.bytes → HasRoom r.reports (sent (played r.profile chunks r.at) bytes)
+has_room grows parts chunks r c lt is bytes same place le =
+    let len = next_length grows parts r.profile chunks r.at c lt is bytes same in
     omega arith
 
 -- after the chunk was fed within the frontier
-pub fed_within : (chunks : List Chunk) (r new : Replay) → IsPlaying chunks r → new ≡ record r { head = new.head; reports = new.reports; at = r.at + 1; fed = r.fed + 1 }
-    → Shows new.head (played chunks (r.at + 1)) → HasSent chunks r new → new.at ≤ new.frontier → IsPlaying chunks new
-fed_within chunks r new playing rest shows sends within =
+pub fed_within : SendsInParts → (chunks : List Chunk) (r new : Replay) → IsPlaying chunks r → new ≡ record r { head = new.head; reports = new.reports; at = r.at + 1; fed = r.fed + 1 }
+    → Shows new.head (played r.profile chunks (r.at + 1)) → HasSent chunks r new → new.at ≤ new.frontier → IsPlaying chunks new
+fed_within parts chunks r new playing rest shows sends within =
     let kept = playing.replay.kept in
     let low : r.at + 1 ≤ r.frontier = omega (arith, within, ap (λ (x : Replay). x.at) rest, ap (λ (x : Replay). x.frontier) rest) in
-    let same : new.reports.bytes ≡ r.reports.bytes = sends.within (omega (arith, sent_rises chunks (r.at + 1) r.frontier low, ap length kept.reports)) in
+    let same : new.reports.bytes ≡ r.reports.bytes = sends.within (omega (arith, sent_rises parts r.profile chunks (r.at + 1) r.frontier low, ap length kept.reports)) in
     let front : take (length r.reports.bytes) new.reports.bytes ≡ r.reports.bytes = ap (take (length r.reports.bytes)) same ∙ take_all (length r.reports.bytes) r.reports.bytes (omega arith) in
     let moved : Replay = record r { head = new.head; reports = new.reports; at = r.at + 1; fed = r.fed + 1 } in
     let here : IsPlaying chunks moved = record {
       replay = record {
         kept = record {
-          holds = holds_grown chunks r.frontier r moved refl refl refl front kept.holds;
+          holds = holds_grown chunks r.frontier r moved refl refl refl refl front kept.holds;
           terminals = kept.terminals;
           counts = kept.counts;
           reports = same ∙ kept.reports;
@@ -172,19 +173,19 @@ fed_within chunks r new playing rest shows sends within =
 
 -- after the chunk at the frontier was fed
 pub fed_ahead : (chunks : List Chunk) (r new : Replay) → IsPlaying chunks r → r.at < length chunks → new ≡ record r { head = new.head; reports = new.reports; at = r.at + 1; fed = r.fed + 1 }
-    → Shows new.head (played chunks (r.at + 1)) → HasSent chunks r new → take (length r.reports.bytes) new.reports.bytes ≡ r.reports.bytes → new.frontier < new.at → IsAhead chunks new
+    → Shows new.head (played r.profile chunks (r.at + 1)) → HasSent chunks r new → take (length r.reports.bytes) new.reports.bytes ≡ r.reports.bytes → new.frontier < new.at → IsAhead chunks new
 fed_ahead chunks r new playing lt rest shows sends front past =
     let kept = playing.replay.kept in
     let at : r.at ≡ r.frontier = omega (arith, past, playing.replay.behind, ap (λ (x : Replay). x.at) rest, ap (λ (x : Replay). x.frontier) rest) in
     let moved : Replay = record r { head = new.head; reports = new.reports; at = r.at + 1; fed = r.fed + 1 } in
     let here : IsAhead chunks moved = record {
-      holds = holds_grown chunks r.frontier r moved refl refl refl front kept.holds;
+      holds = holds_grown chunks r.frontier r moved refl refl refl refl front kept.holds;
       terminals = kept.terminals;
       counts = kept.counts;
       at = ap (λ n. n + 1) at;
       within = omega arith;
       head = shows;
-      reports = sends.behind (kept.reports ∙ ap (sent_after chunks) (sym at));
+      reports = sends.behind (kept.reports ∙ ap (sent_after r.profile chunks) (sym at));
       place = sends.place;
     } in
     subst (IsAhead chunks) (sym rest) here
@@ -214,7 +215,7 @@ div_same n every some part =
 pub record IsGrown (chunks : List Chunk) (r grown : Replay) : Type 0 where
   pub rest : grown ≡ record r { stored = grown.stored }
   pub terminals : length grown.stored.items ≡ r.at / r.every
-  pub stored : (k : ℕ) (d : Box Seen Global) → k < r.at / r.every → Shows (get_or grown.stored.items k d).value (played chunks ((k + 1) * r.every))
+  pub stored : (k : ℕ) (d : Box Seen Global) → k < r.at / r.every → Shows (get_or grown.stored.items k d).value (played r.profile chunks ((k + 1) * r.every))
 
 pub grown_same : (chunks : List Chunk) (r : Replay) → IsAhead chunks r → r.at % r.every ≢ 0 → IsGrown chunks r r
 grown_same chunks r ahead part =
@@ -233,15 +234,15 @@ grown_more chunks r new ahead whole stores rest =
     let next : r.at / r.every ≡ r.frontier / r.every + 1 = ap (λ n. n / r.every) ahead.at ∙ div_next r.frontier r.every ahead.holds.every (ap (λ n. n % r.every) (sym ahead.at) ∙ whole) in
     let n = r.frontier / r.every in
     let place : (n + 1) * r.every ≡ r.at = ap (λ k. k * r.every) (sym next) ∙ exact r.at r.every whole in
-    let at_end : (d : Box Seen Global) → Shows (get_or new.stored.items n d).value (played chunks ((n + 1) * r.every))
-    = λ d. subst (λ (b : Box Seen Global). Shows b.value (played chunks ((n + 1) * r.every))) (sym (ap (λ (l : List (Box Seen Global)). get_or l n d) stores.stored ∙ get_or_push r.stored.items stores.copy d n ahead.terminals))
+    let at_end : (d : Box Seen Global) → Shows (get_or new.stored.items n d).value (played r.profile chunks ((n + 1) * r.every))
+    = λ d. subst (λ (b : Box Seen Global). Shows b.value (played r.profile chunks ((n + 1) * r.every))) (sym (ap (λ (l : List (Box Seen Global)). get_or l n d) stores.stored ∙ get_or_push r.stored.items stores.copy d n ahead.terminals))
     (rw (stores.value, place) ahead.head) in
     record {
       rest = rest;
       terminals = ap length stores.stored ∙ length_push r.stored.items stores.copy ∙ ap (λ k. k + 1) ahead.terminals ∙ sym next;
       stored = λ k d lt. elim (cases_lt k n) [
-        | inl low ↦ subst (λ (b : Box Seen Global). Shows b.value (played chunks ((k + 1) * r.every))) (sym (ap (λ (l : List (Box Seen Global)). get_or l k d) stores.stored ∙ stored_more r.stored.items stores.copy k n d ahead.terminals low)) (ahead.holds.stored k d low)
-        | inr high ↦ let last : n ≡ k = omega arith in subst (λ (i : ℕ). Shows (get_or new.stored.items i d).value (played chunks ((i + 1) * r.every))) last (at_end d)
+        | inl low ↦ subst (λ (b : Box Seen Global). Shows b.value (played r.profile chunks ((k + 1) * r.every))) (sym (ap (λ (l : List (Box Seen Global)). get_or l k d) stores.stored ∙ stored_more r.stored.items stores.copy k n d ahead.terminals low)) (ahead.holds.stored k d low)
+        | inr high ↦ let last : n ≡ k = omega arith in subst (λ (i : ℕ). Shows (get_or new.stored.items i d).value (played r.profile chunks ((i + 1) * r.every))) last (at_end d)
       ];
     }
   where
@@ -253,7 +254,7 @@ pub ahead_kept : (chunks : List Chunk) (r grown : Replay) (place : ℕ) (sent' :
     → sent'.items ≡ grown.sent.items ++ place ∷ [] → IsPlaying chunks (record grown { frontier = grown.at; sent = sent' })
 ahead_kept chunks r grown place sent' ahead more is push =
     let n = r.frontier + 1 in
-    let place_is : place ≡ length (sent_after chunks r.at) = is ∙ ap (λ (x : Replay). x.reports.place) more.rest ∙ ahead.place in
+    let place_is : place ≡ length (sent_after r.profile chunks r.at) = is ∙ ap (λ (x : Replay). x.reports.place) more.rest ∙ ahead.place in
     let items : sent'.items ≡ r.sent.items ++ place ∷ [] = push ∙ ap (λ (x : Replay). x.sent.items ++ place ∷ []) more.rest in
     let len : length sent'.items ≡ n + 1 = ap length items ∙ length_push r.sent.items place ∙ ap (λ k. k + 1) ahead.counts in
     let new : Replay = record r { stored = grown.stored; frontier = r.at; sent = sent' } in
@@ -270,9 +271,9 @@ ahead_kept chunks r grown place sent' ahead more is push =
               | inl lt ↦ ap (λ (l : List ℕ). get_or l k 0) items ∙ get_or_append_left r.sent.items (place ∷ []) 0 k (omega (arith, ahead.counts)) ∙ ahead.holds.sent k (omega arith)
               | inr high ↦ let last : k ≡ n = omega (arith, ahead.at) in
                   ap (λ (l : List ℕ). get_or l k 0) items ∙ ap (λ i. get_or (r.sent.items ++ place ∷ []) i 0) last
-                  ∙ get_or_push r.sent.items place 0 n ahead.counts ∙ place_is ∙ ap (λ i. length (sent_after chunks i)) (ahead.at ∙ sym last)
+                  ∙ get_or_push r.sent.items place 0 n ahead.counts ∙ place_is ∙ ap (λ i. length (sent_after r.profile chunks i)) (ahead.at ∙ sym last)
             ];
-            reports = ap (take (length (sent_after chunks r.at))) ahead.reports ∙ take_all (length (sent_after chunks r.at)) (sent_after chunks r.at) (omega arith);
+            reports = ap (take (length (sent_after r.profile chunks r.at))) ahead.reports ∙ take_all (length (sent_after r.profile chunks r.at)) (sent_after r.profile chunks r.at) (omega arith);
           };
           terminals = more.terminals;
           counts = len ∙ ap (λ k. k + 1) (sym ahead.at);
@@ -287,26 +288,26 @@ ahead_kept chunks r grown place sent' ahead more is push =
     subst (IsPlaying chunks) (sym whole) here
 
 -- what is kept stays right where more is stored behind it
-pub holds_longer : (chunks : List Chunk) (n : ℕ) (r new : Replay) (copies : List (Box Seen Global)) (more : List ℕ) → new.every ≡ r.every → new.reports ≡ r.reports
+pub holds_longer : (chunks : List Chunk) (n : ℕ) (r new : Replay) (copies : List (Box Seen Global)) (more : List ℕ) → new.profile ≡ r.profile → new.every ≡ r.every → new.reports ≡ r.reports
     → new.stored.items ≡ r.stored.items ++ copies → new.sent.items ≡ r.sent.items ++ more → HoldsUpTo chunks n r → HoldsUpTo chunks n new
-holds_longer chunks n r new copies more every reports stored counts h =
+holds_longer chunks n r new copies more profile every reports stored counts h =
     let len = ap length stored ∙ length-append r.stored.items copies in
     let len_sent = ap length counts ∙ length-append r.sent.items more in
     record {
       every = rw every h.every;
       within = h.within;
       terminals = rw every (omega (arith, h.terminals));
-      stored = rw every (λ k d lt. subst (λ (b : Box Seen Global). Shows b.value (played chunks ((k + 1) * r.every)))
+      stored = rw (profile, every) (λ k d lt. subst (λ (b : Box Seen Global). Shows b.value (played r.profile chunks ((k + 1) * r.every)))
           (sym (ap (λ (l : List (Box Seen Global)). get_or l k d) stored ∙ get_or_append_left r.stored.items copies d k (omega (arith, h.terminals)))) (h.stored k d lt));
       counts = omega (arith, h.counts);
-      sent = λ k low. ap (λ (l : List ℕ). get_or l k 0) counts ∙ get_or_append_left r.sent.items more 0 k (omega (arith, h.counts)) ∙ h.sent k low;
-      reports = rw reports h.reports;
+      sent = rw profile (λ k low. ap (λ (l : List ℕ). get_or l k 0) counts ∙ get_or_append_left r.sent.items more 0 k (omega (arith, h.counts)) ∙ h.sent k low);
+      reports = rw (profile, reports) h.reports;
     }
 
 -- ---- the head goes back
 
 pub back_replay : (chunks : List Chunk) (r new : Replay) (count : ℕ) → IsKept chunks r → count ≤ r.frontier → new ≡ record r { head = new.head; at = multiple_below r.every count }
-    → Shows new.head (played chunks (multiple_below r.every count)) → IsReplay chunks new
+    → Shows new.head (played r.profile chunks (multiple_below r.every count)) → IsReplay chunks new
 back_replay chunks r new count kept low rest shows =
     let moved : Replay = record r { head = new.head; at = multiple_below r.every count } in
     let here : IsReplay chunks moved = record {
@@ -330,19 +331,19 @@ back_replay chunks r new count kept low rest shows =
     subst (IsReplay chunks) (sym rest) here
 
 -- what was sent by a count, as the list of counts tells it
-pub sent_read : (chunks : List Chunk) (r : Replay) (k place : ℕ) → IsKept chunks r → k ≤ r.frontier → place ≡ get_or r.sent.items k place → place ≡ length (sent_after chunks k)
+pub sent_read : (chunks : List Chunk) (r : Replay) (k place : ℕ) → IsKept chunks r → k ≤ r.frontier → place ≡ get_or r.sent.items k place → place ≡ length (sent_after r.profile chunks k)
 sent_read chunks r k place kept low is =
     is ∙ get_or_default r.sent.items k place 0 (omega (arith, kept.counts)) ∙ kept.holds.sent k low
 
-pub sent_within : (chunks : List Chunk) (r : Replay) (k place : ℕ) → IsKept chunks r → k ≤ r.frontier → place ≡ length (sent_after chunks k) → place ≤ length r.reports.bytes
-sent_within chunks r k place kept low is = omega (arith, sent_rises chunks k r.frontier low, ap length kept.reports)
+pub sent_within : SendsInParts → (chunks : List Chunk) (r : Replay) (k place : ℕ) → IsKept chunks r → k ≤ r.frontier → place ≡ length (sent_after r.profile chunks k) → place ≤ length r.reports.bytes
+sent_within parts chunks r k place kept low is = omega (arith, sent_rises parts r.profile chunks k r.frontier low, ap length kept.reports)
 
-pub sent_cut : (chunks : List Chunk) (r : Replay) (k place : ℕ) → IsKept chunks r → k ≤ r.frontier → place ≡ length (sent_after chunks k) → take place r.reports.bytes ≡ sent_after chunks k
-sent_cut chunks r k place kept low is =
-    ap (λ n. take n r.reports.bytes) is ∙ ap (take (length (sent_after chunks k))) kept.reports ∙ sent_front chunks k r.frontier low
+pub sent_cut : SendsInParts → (chunks : List Chunk) (r : Replay) (k place : ℕ) → IsKept chunks r → k ≤ r.frontier → place ≡ length (sent_after r.profile chunks k) → take place r.reports.bytes ≡ sent_after r.profile chunks k
+sent_cut parts chunks r k place kept low is =
+    ap (λ n. take n r.reports.bytes) is ∙ ap (take (length (sent_after r.profile chunks k))) kept.reports ∙ sent_front parts r.profile chunks k r.frontier low
 
 -- sending goes on where the head stands
-pub placed : (chunks : List Chunk) (r : Replay) (sink : Sink) (place : ℕ) → IsReplay chunks r → place ≡ length (sent_after chunks r.at) → sink ≡ record { bytes = r.reports.bytes; place = place }
+pub placed : (chunks : List Chunk) (r : Replay) (sink : Sink) (place : ℕ) → IsReplay chunks r → place ≡ length (sent_after r.profile chunks r.at) → sink ≡ record { bytes = r.reports.bytes; place = place }
     → IsPlaying chunks (record r { reports = sink; fed = 0 })
 placed chunks r sink place replay is set =
     let bytes : sink.bytes ≡ r.reports.bytes = ap (λ (s : Sink). s.bytes) set in
@@ -350,7 +351,7 @@ placed chunks r sink place replay is set =
     record {
       replay = record {
         kept = record {
-          holds = holds_grown chunks r.frontier r _ refl refl refl (ap (take (length r.reports.bytes)) bytes ∙ take_all (length r.reports.bytes) r.reports.bytes (omega arith)) kept.holds;
+          holds = holds_grown chunks r.frontier r _ refl refl refl refl (ap (take (length r.reports.bytes)) bytes ∙ take_all (length r.reports.bytes) r.reports.bytes (omega arith)) kept.holds;
           terminals = kept.terminals;
           counts = kept.counts;
           reports = bytes ∙ kept.reports;
@@ -372,17 +373,17 @@ same_holds old new n r same h =
       terminals = h.terminals;
       stored = λ k d lt.
           let low : (k + 1) * r.every ≤ n = omega (arith, mul-le-mul_right r.every (least k (n / r.every) lt), div-mul-le_self n r.every) in
-          subst (λ (bytes : List ℕ). Shows (get_or r.stored.items k d).value (play reset_term bytes)) (by ((k + 1) * r.every) low) (h.stored k d lt);
+          subst (λ (bytes : List ℕ). Shows (get_or r.stored.items k d).value (play (reset_term_as r.profile) bytes)) (by ((k + 1) * r.every) low) (h.stored k d lt);
       counts = h.counts;
-      sent = λ k low. h.sent k low ∙ ap (λ (bytes : List ℕ). length (sent reset_term bytes)) (by k low);
-      reports = subst (λ (bytes : List ℕ). take (length (sent reset_term bytes)) r.reports.bytes ≡ sent reset_term bytes) (by n (omega arith)) h.reports;
+      sent = λ k low. h.sent k low ∙ ap (λ (bytes : List ℕ). length (sent (reset_term_as r.profile) bytes)) (by k low);
+      reports = subst (λ (bytes : List ℕ). take (length (sent (reset_term_as r.profile) bytes)) r.reports.bytes ≡ sent (reset_term_as r.profile) bytes) (by n (omega arith)) h.reports;
     }
   where
     least : (a b : ℕ) → a < b → a + 1 ≤ b
     least a b lt = omega arith
 
-same_head : (old new : List Chunk) (n at : ℕ) (seen : Seen) → SameFront old new n → at ≤ n → Shows seen (played old at) → Shows seen (played new at)
-same_head old new n at seen same low shows = subst (λ (bytes : List ℕ). Shows seen (play reset_term bytes)) (sym (same.bytes at low)) shows
+same_head : (profile : Profile) (old new : List Chunk) (n at : ℕ) (seen : Seen) → SameFront old new n → at ≤ n → Shows seen (played profile old at) → Shows seen (played profile new at)
+same_head profile old new n at seen same low shows = subst (λ (bytes : List ℕ). Shows seen (play (reset_term_as profile) bytes)) (sym (same.bytes at low)) shows
 
 pub same_replay : (old new : List Chunk) (r : Replay) → SameFront old new r.frontier → IsReplay old r → IsReplay new r
 same_replay old new r same replay = record {
@@ -390,18 +391,18 @@ same_replay old new r same replay = record {
     holds = same_holds old new r.frontier r same replay.kept.holds;
     terminals = replay.kept.terminals;
     counts = replay.kept.counts;
-    reports = replay.kept.reports ∙ ap (sent reset_term) (sym (same.bytes r.frontier (omega arith)));
+    reports = replay.kept.reports ∙ ap (sent (reset_term_as r.profile)) (sym (same.bytes r.frontier (omega arith)));
   };
   behind = replay.behind;
-  head = same_head old new r.frontier r.at r.head same replay.behind replay.head;
+  head = same_head r.profile old new r.frontier r.at r.head same replay.behind replay.head;
 }
 
 -- cut at a count behind which the head stands
-pub cut_replay : (old new : List Chunk) (r cut : Replay) (n : ℕ) → SameFront old new n → IsReplay old r → IsKept new cut → cut.frontier ≡ n → cut.at ≡ r.at → cut.head ≡ r.head → r.at ≤ n → IsReplay new cut
-cut_replay old new r cut n same replay kept frontier at head low = record {
+pub cut_replay : (old new : List Chunk) (r cut : Replay) (n : ℕ) → SameFront old new n → IsReplay old r → IsKept new cut → cut.frontier ≡ n → cut.profile ≡ r.profile → cut.at ≡ r.at → cut.head ≡ r.head → r.at ≤ n → IsReplay new cut
+cut_replay old new r cut n same replay kept frontier profile at head low = record {
   kept = kept;
   behind = omega arith;
-  head = rw (at, head) (same_head old new n r.at r.head same low replay.head);
+  head = rw (profile, at, head) (same_head r.profile old new n r.at r.head same low replay.head);
 }
 
 -- ---- nothing was played
@@ -410,11 +411,11 @@ zero_div : (every : ℕ) → 0 < every → 0 / every ≡ 0
 zero_div every some = let low = div-mul-le_self 0 every in div-eq_of_lt some
 
 pub replay_new : (chunks : List Chunk) (r : Replay) → 0 < r.every → r.frontier ≡ 0 → r.at ≡ 0 → r.stored.items ≡ [] → r.reports ≡ record { bytes = []; place = 0 } → r.sent.items ≡ 0 ∷ []
-    → Shows r.head reset_term → IsReplay chunks r
+    → Shows r.head (reset_term_as r.profile) → IsReplay chunks r
 replay_new chunks r some frontier at stored reports counts shows =
     let none : r.frontier / r.every ≡ 0 = ap (λ n. n / r.every) frontier ∙ zero_div r.every some in
     let empty : r.reports.bytes ≡ [] = ap (λ (s : Sink). s.bytes) reports in
-    let sent_now : sent_after chunks r.frontier ≡ [] = ap (sent_after chunks) frontier ∙ sent_none chunks in
+    let sent_now : sent_after r.profile chunks r.frontier ≡ [] = ap (sent_after r.profile chunks) frontier ∙ sent_none r.profile chunks in
     record {
       kept = record {
         holds = record {
@@ -425,7 +426,7 @@ replay_new chunks r some frontier at stored reports counts shows =
           counts = omega (arith, ap length counts);
           sent = λ k low.
               let first_one : k ≡ 0 = omega arith in
-              ap (λ (l : List ℕ). get_or l k 0) counts ∙ ap (λ i. get_or (0 ∷ []) i 0) first_one ∙ sym (ap length (ap (sent_after chunks) first_one ∙ sent_none chunks));
+              ap (λ (l : List ℕ). get_or l k 0) counts ∙ ap (λ i. get_or (0 ∷ []) i 0) first_one ∙ sym (ap length (ap (sent_after r.profile chunks) first_one ∙ sent_none r.profile chunks));
           reports = ap (λ (l : List ℕ). take (length l) r.reports.bytes) sent_now ∙ sym sent_now;
         };
         terminals = ap length stored ∙ sym none;
@@ -433,5 +434,5 @@ replay_new chunks r some frontier at stored reports counts shows =
         reports = empty ∙ sym sent_now;
       };
       behind = omega arith;
-      head = rw (at, played_none chunks) shows;
+      head = rw (at, played_none r.profile chunks) shows;
     }

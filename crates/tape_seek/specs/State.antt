@@ -1,23 +1,27 @@
 -- A session as a plain value, and what each call makes of it.
 use Rattle.std.specs.Prelude.{◌≡◌, ℕ, List, [], ◌∷◌, ◌++◌, Result, MatchResult}
 use Rattle.tape_core.specs.Tape.{Tape}
+use Rattle.vt_term.specs.declared.profile.Profile.{Profile}
 use Rattle.tape_seek.specs.declared.edits.Edit.{Edit}
 use Rattle.tape_seek.specs.Edits.{edited, edited_all}
 use Rattle.tape_seek.specs.Marks.{Marks, first_marks, after_edit, after_seek, after_refused_seek}
 
--- the recording as edited, the accepted edits in order, how many chunks lie between stored terminals, and both marks
+-- which terminal plays, the recording as edited, the accepted edits in order, how many chunks lie between stored
+-- terminals, and both marks
 pub record State : Type 0 where
+  pub profile : Profile
   pub recording : Tape
   pub log : List Edit
   pub every : ℕ
   pub marks : Marks
 
-abbrev pub opened : Tape → ℕ → State
-opened tape every = record { recording = tape; log = []; every = every; marks = first_marks }
+abbrev pub opened : Profile → Tape → ℕ → State
+opened profile tape every = record { profile = profile; recording = tape; log = []; every = every; marks = first_marks }
 
 -- an accepted edit
 abbrev pub accepted : Edit → State → State
 accepted edit s = record {
+  profile = s.profile;
   recording = edited s.recording edit;
   log = s.log ++ edit ∷ [];
   every = s.every;

@@ -1,9 +1,10 @@
 //! Bytes as hexadecimal text.
-ghost use Rattle.std.specs.Prelude.{◌≡◌, ◌≤◌, ◌*◌, false, OnOk, IfErr, length};
+ghost use Rattle.std.specs.Prelude.{◌≡◌, ◌≤◌, ◌*◌, false, OnOk, IfErr, OnErr, length};
 ghost use Rattle.hex.specs.Hex.{encode_lower};
 ghost use Rattle.tape_core.specs.Devices.{has_failed, Took, StoppedIn};
 
 use std::io::Write;
+use tape_core::laws::writers_join;
 use tape_core::{Fault, Watched};
 
 /// How many bytes are turned into digits at once.
@@ -14,9 +15,10 @@ const PIECE: usize = 512;
 pub fn put_hex<W: Write>(bytes: &[u8], writer: &mut Watched<W>) -> Result<(), Fault>
     requires { has_failed writer.old ≡ false }
     ensures ok { OnOk result (Took W.contents writer.old writer.new (encode_lower bytes.now)) }
-    ensures fault { IfErr result (λ fault. (fault ≡ Fault.WriteFault)
-        × StoppedIn W.contents writer.old writer.new (encode_lower bytes.now)) }
+    ensures fault { IfErr result (λ fault. fault ≡ Fault.WriteFault) }
+    ensures stopped { OnErr result (StoppedIn W.contents writer.old writer.new (encode_lower bytes.now)) }
 {
+    writers_join::<W>();
     for piece in bytes.chunks(PIECE) {
         put_piece(piece, writer)?;
     }
@@ -28,8 +30,8 @@ fn put_piece<W: Write>(piece: &[u8], writer: &mut Watched<W>) -> Result<(), Faul
     requires short { length piece.now ≤ PIECE }
     requires sound { has_failed writer.old ≡ false }
     ensures ok { OnOk result (Took W.contents writer.old writer.new (encode_lower piece.now)) }
-    ensures fault { IfErr result (λ fault. (fault ≡ Fault.WriteFault)
-        × StoppedIn W.contents writer.old writer.new (encode_lower piece.now)) }
+    ensures fault { IfErr result (λ fault. fault ≡ Fault.WriteFault) }
+    ensures stopped { OnErr result (StoppedIn W.contents writer.old writer.new (encode_lower piece.now)) }
 {
     let mut digits = [0u8; 2 * PIECE];
     let digits = &mut digits[..2 * piece.len()];

@@ -10,13 +10,20 @@ ghost use Rattle.tape_seek.specs.Marks.{Marks, after_edit, fed_by};
 ghost use Rattle.tape_seek.specs.Requests.{request};
 ghost use Rattle.tape_seek.specs.WrittenLog.{bytes_in, edit_line, log_text};
 
+use tape_core::laws::{a_word_is_a_field, an_lf_ends_a_line, numbers_read_back, seconds_read_back};
+
 /// The line that is written of an edit whose places and delays are at most 10^18 is read as that edit, and the
 /// lines of a log of such edits are theirs.
 pub fn a_written_edit_is_read()
     ensures read { (edit : Edit) → CanBeLogged edit → IsBytes (bytes_in edit) → request (edit_line edit) ≡ Some (asks.Edit edit) }
     ensures lines { (edits : List Edit) → All (λ edit. CanBeLogged edit × IsBytes (bytes_in edit)) edits
         → lines_of (log_text edits) ≡ map edit_line edits }
-{}
+{
+    a_word_is_a_field();
+    an_lf_ends_a_line();
+    numbers_read_back();
+    seconds_read_back();
+}
 
 /// A seek feeds fewer chunks than lie between stored terminals, and those past the frontier; where the head isn't past the
 /// count it feeds at most those between them. Retiming and capping leave frontier and head, and so cost no replay.

@@ -1,11 +1,13 @@
 //! What a session keeps of what it played: terminals at every so many chunks, the head, and all reports.
 use std::alloc::{AllocError, Global};
 use tape_core::Chunk;
-use vt_term::{OutOfMemory, Reports, Terminal};
+use vt_term::{OutOfMemory, Profile, Reports, Terminal};
 
 /// A replay of the chunks of a recording, kept up to the frontier.
 #[derive(Debug, Drop)]
 pub(crate) struct Replay {
+    /// Which terminal plays.
+    pub profile: Profile,
     /// A terminal is stored at each multiple of this count up to the frontier, 0 excepted.
     pub every: usize,
     /// All that is kept is right up to this count of chunks.

@@ -5,6 +5,7 @@ ghost use Rattle.tape_core.specs.Tape.{Tape, fits};
 ghost use Rattle.tape_seek.specs.Edits.{CanBeLogged, edit_fault, edited, edited_all};
 ghost use Rattle.tape_seek.specs.Kept.{IsReplay, marks_of};
 ghost use Rattle.tape_seek.specs.Marks.{after_edit, fed_by};
+ghost use Rattle.vt_term.specs.declared.profile.Profile.TheVariants.{Vt100};
 ghost use Rattle.vt_term.specs.Seen.{Shows};
 
 use crate::changes::{fault_of, make, touched_first};
@@ -13,7 +14,9 @@ use crate::replay::Replay;
 use std::alloc::{AllocError, Global};
 use std::marker::Model;
 use tape_core::Recording;
-use vt_term::{OutOfMemory, Terminal};
+use tape_core::laws::{due_is_first, first_is_kept};
+use vt_term::laws::sent_is_appended;
+use vt_term::{OutOfMemory, Profile, Terminal};
 
 /// An edit that was refused, and why.
 #[derive(Debug, Drop)]
@@ -22,8 +25,8 @@ pub struct Refused {
     pub fault: EditFault,
 }
 
-/// A recording that is edited and sought in. Contracts see the recording as edited, the log, how many chunks lie between
-/// stored terminals, the frontier and the head.
+/// A recording that is edited and sought in. Contracts see which terminal plays, the recording as edited, the log, how many
+/// chunks lie between stored terminals, the frontier and the head.
 #[derive(Debug, Drop)]
 pub struct Session {
     recording: Recording,
@@ -39,6 +42,7 @@ impl Model for Session {
     ghost use Rattle.tape_seek.specs.Kept.{IsSound};
 
     ghost view = { λ s. record {
+      profile = s.replay.profile;
       recording = s.recording;
       log = s.log.items;
       every = s.replay.every;
@@ -65,16 +69,34 @@ impl Session {
     ghost use Rattle.tape_seek.specs.Moments.{term_at, up_to};
     ghost use Rattle.tape_seek.specs.State.{KeepsHistory, Leaves, accepted, opened};
 
-    /// Opens a session, with a terminal stored at every so many chunks. For want of memory the recording comes back.
+    /// Opens a session of a VT100, with a terminal stored at every so many chunks. For want of memory the recording comes
+    /// back.
     pub fn open(alloc: Global, recording: Recording, every: usize) -> Result<Self, Recording>
         requires low { 1 ≤ every }
         requires high { every ≤ 1000000 }
-        ensures ok { IfOk result (λ session. session ≡ opened recording every) }
+        ensures ok { IfOk result (λ session. session ≡ opened Vt100 recording every) }
         ensures history { (o : Tape) → recording ≡ o
             → IfOk result (λ session. session.recording ≡ edited_all o session.log) }
         ensures err { IfErr result (λ back. back ≡ recording) }
     {
-        let Ok(replay) = Replay::new(alloc, every) else {
+        Session::open_as(alloc, recording, every, Profile::Vt100)
+    }
+
+    /// The same of a profile.
+    pub fn open_as(
+        alloc: Global,
+        recording: Recording,
+        every: usize,
+        profile: Profile,
+    ) -> Result<Self, Recording>
+        requires low { 1 ≤ every }
+        requires high { every ≤ 1000000 }
+        ensures ok { IfOk result (λ session. session ≡ opened profile recording every) }
+        ensures history { (o : Tape) → recording ≡ o
+            → IfOk result (λ session. session.recording ≡ edited_all o session.log) }
+        ensures err { IfErr result (λ back. back ≡ recording) }
+    {
+        let Ok(replay) = Replay::new(alloc, profile, every) else {
             return Err(recording);
         };
         let _chunks = recording.chunks();
@@ -114,13 +136,15 @@ impl Session {
     pub fn seek(&mut self, moment: u64) -> Result<View<'_>, OutOfMemory>
         ensures* state { sem 𝓛 (follows_so the_row the_row self.entry.ghost_name none (λ _ _. ⊤)
             (λ new. Leaves result (due_count self.old.recording.chunks moment) self.old new × KeepsHistory self.old new)) }
-        ensures shows { IfOk result (λ view. Shows view.terminal.now (term_at self.old.recording moment)) }
-        ensures reports { IfOk result (λ view. view.reports.now ≡ (term_at self.old.recording moment).reports) }
+        ensures shows { IfOk result (λ view. Shows view.terminal.now (term_at self.old.profile self.old.recording moment)) }
+        ensures reports { IfOk result (λ view. view.reports.now ≡ (term_at self.old.profile self.old.recording moment).reports) }
         ensures count { IfOk result (λ view. view.count ≡ due_count self.old.recording.chunks moment) }
         ensures fed { IfOk result (λ view. view.fed
             ≡ fed_by self.old.every (due_count self.old.recording.chunks moment) self.old.marks) }
         ensures room { due_count self.old.recording.chunks moment ≤ self.old.marks.frontier → IsOk result }
     {
+        due_is_first();
+        sent_is_appended();
         let count = self.recording.due_count(moment);
         self.replay.seek(self.recording.chunks(), count)?;
         let replay = &self.replay;
@@ -137,12 +161,13 @@ impl Session {
         requires { count ≤ length self.old.recording.chunks }
         ensures* state { sem 𝓛 (follows_so the_row the_row self.entry.ghost_name none (λ _ _. ⊤)
             (λ new. Leaves result count self.old new × KeepsHistory self.old new)) }
-        ensures shows { IfOk result (λ view. Shows view.terminal.now (up_to self.old.recording count)) }
-        ensures reports { IfOk result (λ view. view.reports.now ≡ (up_to self.old.recording count).reports) }
+        ensures shows { IfOk result (λ view. Shows view.terminal.now (up_to self.old.profile self.old.recording count)) }
+        ensures reports { IfOk result (λ view. view.reports.now ≡ (up_to self.old.profile self.old.recording count).reports) }
         ensures count { IfOk result (λ view. view.count ≡ count) }
         ensures fed { IfOk result (λ view. view.fed ≡ fed_by self.old.every count self.old.marks) }
         ensures room { count ≤ self.old.marks.frontier → IsOk result }
     {
+        sent_is_appended();
         self.replay.seek(self.recording.chunks(), count)?;
         let replay = &self.replay;
         Ok(View {
@@ -213,9 +238,11 @@ fn cut(replay: &mut Replay, edit: &Edit)
     requires { (tape : Tape) × IsReplay tape.chunks replay.old }
     ensures replay { (tape : Tape) → IsReplay tape.chunks replay.old → edit_fault tape edit.now ≡ None
         → IsReplay (edited tape edit.now).chunks replay.new }
+    ensures profile { replay.new.profile ≡ replay.old.profile }
     ensures every { replay.new.every ≡ replay.old.every }
     ensures marks { marks_of replay.new ≡ after_edit replay.old.every edit.now (marks_of replay.old) }
 {
+    first_is_kept();
     if let Some(first) = touched_first(edit) {
         replay.cut(first);
     }
@@ -250,3 +277,6 @@ impl<'a> View<'a> {
         self.fed
     }
 }
+
+#[cfg(test)]
+mod tests;

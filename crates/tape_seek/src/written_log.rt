@@ -1,5 +1,5 @@
 //! Edits written as request lines.
-ghost use Rattle.std.specs.Prelude.{◌≡◌, ◌∷◌, true, false, map, OnOk, IfErr};
+ghost use Rattle.std.specs.Prelude.{◌≡◌, ◌∷◌, true, false, map, OnOk, IfErr, OnErr};
 ghost use Rattle.std.specs.List.{flat_map, join_with_byte};
 ghost use Rattle.tape_core.specs.Devices.{has_failed, is_flushed, Took, StoppedIn};
 ghost use Rattle.tape_seek.specs.Fields.{field_text, spaced};
@@ -9,6 +9,7 @@ use crate::edits::Edit;
 use crate::hex_text::put_hex;
 use itoa::Buffer;
 use std::io::Write;
+use tape_core::laws::{pieces_join, writers_join};
 use tape_core::{Fault, Watched, seconds_text};
 
 /// What may stand behind the word of an edit's line.
@@ -27,10 +28,11 @@ enum Field<'a> {
 pub fn write_log<W: Write>(edits: &[Edit], writer: &mut Watched<W>) -> Result<(), Fault>
     requires { has_failed writer.old ≡ false }
     ensures ok { OnOk result (Took W.contents writer.old writer.new (log_text edits.now)) }
-    ensures fault { IfErr result (λ fault. (fault ≡ Fault.WriteFault)
-        × StoppedIn W.contents writer.old writer.new (log_text edits.now)) }
+    ensures fault { IfErr result (λ fault. fault ≡ Fault.WriteFault) }
+    ensures stopped { OnErr result (StoppedIn W.contents writer.old writer.new (log_text edits.now)) }
     ensures flushed { OnOk result (is_flushed writer.new ≡ true) }
 {
+    writers_join::<W>();
     put_lines(edits, writer)?;
     writer.finish()?;
     Ok(())
@@ -40,9 +42,10 @@ pub fn write_log<W: Write>(edits: &[Edit], writer: &mut Watched<W>) -> Result<()
 fn put_lines<W: Write>(edits: &[Edit], writer: &mut Watched<W>) -> Result<(), Fault>
     requires { has_failed writer.old ≡ false }
     ensures ok { OnOk result (Took W.contents writer.old writer.new (flat_map log_line edits.now)) }
-    ensures fault { IfErr result (λ fault. (fault ≡ Fault.WriteFault)
-        × StoppedIn W.contents writer.old writer.new (flat_map log_line edits.now)) }
+    ensures fault { IfErr result (λ fault. fault ≡ Fault.WriteFault) }
+    ensures stopped { OnErr result (StoppedIn W.contents writer.old writer.new (flat_map log_line edits.now)) }
 {
+    pieces_join::<W, Edit>();
     for edit in edits {
         put_line(edit, writer)?;
     }
@@ -53,11 +56,13 @@ fn put_lines<W: Write>(edits: &[Edit], writer: &mut Watched<W>) -> Result<(), Fa
 fn put_line<W: Write>(edit: &Edit, writer: &mut Watched<W>) -> Result<(), Fault>
     requires { has_failed writer.old ≡ false }
     ensures ok { OnOk result (Took W.contents writer.old writer.new (log_line edit.now)) }
-    ensures fault { IfErr result (λ fault. (fault ≡ Fault.WriteFault)
-        × StoppedIn W.contents writer.old writer.new (log_line edit.now)) }
+    ensures fault { IfErr result (λ fault. fault ≡ Fault.WriteFault) }
+    ensures stopped { OnErr result (StoppedIn W.contents writer.old writer.new (log_line edit.now)) }
 {
+    writers_join::<W>();
     put_edit(edit, writer)?;
-    writer.put(b"\n")
+    writer.put(b"\n")?;
+    Ok(())
 }
 
 /// Writes an edit's line without its LF.
@@ -65,8 +70,8 @@ fn put_line<W: Write>(edit: &Edit, writer: &mut Watched<W>) -> Result<(), Fault>
 fn put_edit<W: Write>(edit: &Edit, writer: &mut Watched<W>) -> Result<(), Fault>
     requires { has_failed writer.old ≡ false }
     ensures ok { OnOk result (Took W.contents writer.old writer.new (edit_line edit.now)) }
-    ensures fault { IfErr result (λ fault. (fault ≡ Fault.WriteFault)
-        × StoppedIn W.contents writer.old writer.new (edit_line edit.now)) }
+    ensures fault { IfErr result (λ fault. fault ≡ Fault.WriteFault) }
+    ensures stopped { OnErr result (StoppedIn W.contents writer.old writer.new (edit_line edit.now)) }
 {
     match edit {
         Edit::Insert { at, delay, bytes } => {
@@ -104,20 +109,23 @@ fn put_words<W: Write>(
     requires { has_failed writer.old ≡ false }
     ensures ok { OnOk result (Took W.contents writer.old writer.new
         (join_with_byte 32 (word.now ∷ map field_text fields.now))) }
-    ensures fault { IfErr result (λ fault. (fault ≡ Fault.WriteFault)
-        × StoppedIn W.contents writer.old writer.new (join_with_byte 32 (word.now ∷ map field_text fields.now))) }
+    ensures fault { IfErr result (λ fault. fault ≡ Fault.WriteFault) }
+    ensures stopped { OnErr result (StoppedIn W.contents writer.old writer.new (join_with_byte 32 (word.now ∷ map field_text fields.now))) }
 {
+    writers_join::<W>();
     writer.put(word)?;
-    put_fields(fields, writer)
+    put_fields(fields, writer)?;
+    Ok(())
 }
 
 /// Writes the fields, a space before each.
 fn put_fields<W: Write>(fields: &[Field<'_>], writer: &mut Watched<W>) -> Result<(), Fault>
     requires { has_failed writer.old ≡ false }
     ensures ok { OnOk result (Took W.contents writer.old writer.new (flat_map spaced fields.now)) }
-    ensures fault { IfErr result (λ fault. (fault ≡ Fault.WriteFault)
-        × StoppedIn W.contents writer.old writer.new (flat_map spaced fields.now)) }
+    ensures fault { IfErr result (λ fault. fault ≡ Fault.WriteFault) }
+    ensures stopped { OnErr result (StoppedIn W.contents writer.old writer.new (flat_map spaced fields.now)) }
 {
+    pieces_join::<W, Field<'_>>();
     for field in fields {
         put_field(*field, writer)?;
     }
@@ -128,19 +136,21 @@ fn put_fields<W: Write>(fields: &[Field<'_>], writer: &mut Watched<W>) -> Result
 fn put_field<W: Write>(field: Field<'_>, writer: &mut Watched<W>) -> Result<(), Fault>
     requires { has_failed writer.old ≡ false }
     ensures ok { OnOk result (Took W.contents writer.old writer.new (spaced field.entry)) }
-    ensures fault { IfErr result (λ fault. (fault ≡ Fault.WriteFault)
-        × StoppedIn W.contents writer.old writer.new (spaced field.entry)) }
+    ensures fault { IfErr result (λ fault. fault ≡ Fault.WriteFault) }
+    ensures stopped { OnErr result (StoppedIn W.contents writer.old writer.new (spaced field.entry)) }
 {
+    writers_join::<W>();
     writer.put(b" ")?;
-    put_text(field, writer)
+    put_text(field, writer)?;
+    Ok(())
 }
 
 /// Writes a field.
 fn put_text<W: Write>(field: Field<'_>, writer: &mut Watched<W>) -> Result<(), Fault>
     requires { has_failed writer.old ≡ false }
     ensures ok { OnOk result (Took W.contents writer.old writer.new (field_text field.entry)) }
-    ensures fault { IfErr result (λ fault. (fault ≡ Fault.WriteFault)
-        × StoppedIn W.contents writer.old writer.new (field_text field.entry)) }
+    ensures fault { IfErr result (λ fault. fault ≡ Fault.WriteFault) }
+    ensures stopped { OnErr result (StoppedIn W.contents writer.old writer.new (field_text field.entry)) }
 {
     match field {
         Field::Place(place) => writer.put(Buffer::new().format(place).as_bytes()),

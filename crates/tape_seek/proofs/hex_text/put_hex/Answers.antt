@@ -1,8 +1,7 @@
 use Rattle.std.proofs.Common.{◌∙◌, rules}
 use Rattle.std.proofs.lemmas.List.{nil_from_length}
 use Rattle.std.proofs.lemmas.Result.{err_from_is_err_and}
-use Rattle.tape_core.proofs.DeviceLemmas.{took_none}
-use Rattle.tape_seek.proofs.HexLemmas.{hex_none, hex_more, hex_all, hex_stopped}
+use Rattle.tape_seek.proofs.HexLemmas.{hex_none, hex_more, hex_all, hex_around}
 use Rattle.tape_seek.proofs.hex_text.put_hex.Goals as goal
 
 pub loop-piece-init : goal.loop-piece-init
@@ -10,7 +9,7 @@ loop-piece-init g c = (
   search rules,
   tt,
   search rules,
-  hex_none _ _ _ _ (search rules) (took_none _ _ c.requires),
+  hex_none _ _ _ _ (search rules) (c.writers_join.ensures.nothing _ c.requires),
 )
 
 pub loop-piece-preserved : goal.loop-piece-preserved
@@ -19,16 +18,16 @@ loop-piece-preserved g c =
       search rules,
       tt,
       steps.0 ∙ c.loop-piece.invariant.2,
-      hex_more c.in-Some.piece.now _ steps.1.0 c.loop-piece.invariant.3 c.in_ok-put_piece.ensures.ok,
+      hex_more c.in-Some.piece.now _ steps.1.0 c.loop-piece.invariant.3
+          (c.writers_join.ensures.both _ _ _ _ _ c.in_ok-put_piece.ensures.ok c.loop-piece.invariant.3.took),
     )
 
-pub returns-in_err-put_piece-clause-fault : goal.returns-in_err-put_piece-clause-fault
-returns-in_err-put_piece-clause-fault g c =
+pub returns-in_err-put_piece-clause-stopped : goal.returns-in_err-put_piece-clause-stopped
+returns-in_err-put_piece-clause-stopped g c =
     let p = err_from_is_err_and c.from_residual.result c.from_residual.ensures.1 in
-    rw (p.1, p.2) (
-      c.in_err-put_piece.ensures.fault.0,
-      hex_stopped c.in-Some.piece.now _ c.in-Some.ensures.steps.1.0 c.loop-piece.invariant.3 c.in_err-put_piece.ensures.fault.1,
-    )
+    let before = c.loop-piece.invariant.3 in
+    rw p.1
+    (c.writers_join.ensures.within _ _ _ _ _ _ _ (hex_around c.in-Some.piece.now _ c.in-Some.ensures.steps.1.0 before) c.in_err-put_piece.ensures.stopped before.took)
 
 pub returns-clause-ok : goal.returns-clause-ok
 returns-clause-ok g c = hex_all (nil_from_length _ c.in-None.ensures.steps.1.0) c.loop-piece.invariant.3

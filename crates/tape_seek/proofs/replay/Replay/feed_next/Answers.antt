@@ -8,7 +8,7 @@ returns-clause-shows c = λ shows.
     let chunk = c.index-chunks-self.result in
     let is = sym c.index-chunks-self.is in
     let same : c.as_slice.result.now ≡ chunk.bytes = c.as_slice.ensures ∙ ap (λ x. x.bytes) is in
-    next_shows c.args.chunks.now c.args.self.now.at chunk c.requires.within is _ c.as_slice.result.now same
+    next_shows c.first_grows_by_a_chunk.ensures c.plays_in_parts.ensures c.args.self.now.profile c.args.chunks.now c.args.self.now.at chunk c.requires.within is _ c.as_slice.result.now same
     (c.in_ok-feed_in_place.ensures.shows _ shows)
 
 pub returns-clause-sent : goal.returns-clause-sent
@@ -16,7 +16,7 @@ returns-clause-sent c = λ shows place.
     let chunk = c.index-chunks-self.result in
     let is = sym c.index-chunks-self.is in
     let same : c.as_slice.result.now ≡ chunk.bytes = c.as_slice.ensures ∙ ap (λ x. x.bytes) is in
-    next_sent c.args.chunks.now c.args.self.now _ chunk c.requires.within is c.as_slice.result.now same place
+    next_sent c.first_grows_by_a_chunk.ensures c.sends_in_parts.ensures c.args.chunks.now c.args.self.now _ chunk c.requires.within is c.as_slice.result.now same place
     (c.in_ok-feed_in_place.ensures.sent _ shows)
 
 pub returns-in_err-feed_in_place-clause-room : goal.returns-in_err-feed_in_place-clause-room
@@ -24,5 +24,5 @@ returns-in_err-feed_in_place-clause-room c = λ shows place room.
     let chunk = c.index-chunks-self.result in
     let is = sym c.index-chunks-self.is in
     let same : c.as_slice.result.now ≡ chunk.bytes = c.as_slice.ensures ∙ ap (λ x. x.bytes) is in
-    let fits = has_room c.args.chunks.now c.args.self.now chunk c.requires.within is c.as_slice.result.now same place room in
+    let fits = has_room c.first_grows_by_a_chunk.ensures c.sends_in_parts.ensures c.args.chunks.now c.args.self.now chunk c.requires.within is c.as_slice.result.now same place room in
     absurd (false≢true (c.in_err-feed_in_place.ensures.room _ shows fits))

@@ -9,6 +9,7 @@ invariant-loop-self l = record {
   before : l.self.at ≤ l.count;
   fed : l.self.fed + l.initial.self.at ≡ l.self.at;
   frontier : l.self.frontier ≡ max l.initial.self.frontier l.self.at;
+  profile : l.self.profile ≡ l.initial.self.profile;
   every : l.self.every ≡ l.initial.self.every;
 }
 

@@ -21,9 +21,9 @@ returns-clause-err c = λ chunks count holds.
       | then-self-eq0+in_ok-store_head w ↦
           let stores = w.in_ok-store_head.ensures.ok in
           let rest = w.self-is ∙ w.in_ok-store_head.ensures.rest in
-          holds_longer chunks count r _ (stores.copy ∷ []) (place ∷ []) (ap (λ x. x.every) rest) (ap (λ x. x.reports) rest)
+          holds_longer chunks count r _ (stores.copy ∷ []) (place ∷ []) (ap (λ x. x.profile) rest) (ap (λ x. x.every) rest) (ap (λ x. x.reports) rest)
           (ap (λ x. x.stored.items) w.self-is ∙ stores.stored) (c.in_ok-push.ensures.items ∙ ap (λ x. x.sent.items ++ place ∷ []) rest) holds
       | else-self-eq0 w ↦
-          holds_longer chunks count r _ [] (place ∷ []) (ap (λ x. x.every) w.self-is) (ap (λ x. x.reports) w.self-is)
+          holds_longer chunks count r _ [] (place ∷ []) (ap (λ x. x.profile) w.self-is) (ap (λ x. x.every) w.self-is) (ap (λ x. x.reports) w.self-is)
           (ap (λ x. x.stored.items) w.self-is ∙ sym (append-nil r.stored.items)) (c.in_ok-push.ensures.items ∙ ap (λ x. x.sent.items ++ place ∷ []) w.self-is) holds
     ]

@@ -7,10 +7,10 @@ pub slice_bounds-result-end : goal.slice_bounds-result-end
 slice_bounds-result-end c =
     let kept = c.requires.some.1.kept in
     let place = sent_read c.requires.some.0 c.args.self.now c.args.count c.index.result.now kept c.requires.within c.index.ensures in
-    let low : c.index.result.now ≤ length c.bytes.result.now = omega (arith, sent_within c.requires.some.0 c.args.self.now c.args.count c.index.result.now kept c.requires.within place, ap length c.bytes.ensures) in
+    let low : c.index.result.now ≤ length c.bytes.result.now = omega (arith, sent_within c.sends_in_parts.ensures c.requires.some.0 c.args.self.now c.args.count c.index.result.now kept c.requires.within place, ap length c.bytes.ensures) in
     sym (length-take-le c.index.result.now c.bytes.result.now low)
 
 pub returns : goal.returns
 returns c = λ chunks replay.
     let place = sent_read chunks c.args.self.now c.args.count c.index.result.now replay.kept c.requires.within c.index.ensures in
-    ap (take c.index.result.now) c.bytes.ensures ∙ sent_cut chunks c.args.self.now c.args.count c.index.result.now replay.kept c.requires.within place
+    ap (take c.index.result.now) c.bytes.ensures ∙ sent_cut c.sends_in_parts.ensures chunks c.args.self.now c.args.count c.index.result.now replay.kept c.requires.within place

@@ -10,20 +10,20 @@ set_place-requires c =
     let replay : IsReplay chunks c.if-self-count.self = elim c.if-self-count.branch [
       | then-self-count w ↦
           let kept = c.requires.1.kept in
-          let holds = holds_less chunks c.min-near.result c.args.self.now.frontier c.args.self.now (omega (arith, c.min-near.ensures)) kept.holds in
+          let holds = holds_less c.sends_in_parts.ensures chunks c.min-near.result c.args.self.now.frontier c.args.self.now (omega (arith, c.min-near.ensures)) kept.holds in
           subst (IsReplay chunks) (sym w.self-is)
           (back_replay chunks c.args.self.now w.go_back.new.self c.min-near.result kept (omega (arith, c.min-near.ensures)) w.go_back.ensures.rest (w.go_back.ensures.head chunks holds))
       | else-self-count+else-self-near w ↦ subst (IsReplay chunks) (sym w.self-is) c.requires.1
     ] in
     let place = sent_read chunks c.if-self-count.self c.if-self-count.self.at c.index.result.now replay.kept replay.behind c.index.ensures in
-    sent_within chunks c.if-self-count.self c.if-self-count.self.at c.index.result.now replay.kept replay.behind place
+    sent_within c.sends_in_parts.ensures chunks c.if-self-count.self c.if-self-count.self.at c.index.result.now replay.kept replay.behind place
 
 pub returns-clause-playing : goal.returns-clause-playing
 returns-clause-playing c = λ chunks before.
     let replay : IsReplay chunks c.if-self-count.self = elim c.if-self-count.branch [
       | then-self-count w ↦
           let kept = before.kept in
-          let holds = holds_less chunks c.min-near.result c.args.self.now.frontier c.args.self.now (omega (arith, c.min-near.ensures)) kept.holds in
+          let holds = holds_less c.sends_in_parts.ensures chunks c.min-near.result c.args.self.now.frontier c.args.self.now (omega (arith, c.min-near.ensures)) kept.holds in
           subst (IsReplay chunks) (sym w.self-is)
           (back_replay chunks c.args.self.now w.go_back.new.self c.min-near.result kept (omega (arith, c.min-near.ensures)) w.go_back.ensures.rest (w.go_back.ensures.head chunks holds))
       | else-self-count+else-self-near w ↦ subst (IsReplay chunks) (sym w.self-is) before

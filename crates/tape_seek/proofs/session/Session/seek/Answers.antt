@@ -1,12 +1,12 @@
 use Rattle.std.proofs.Common.{◌≡◌, refl, sym, ap, subst, ◌∙◌}
 use Rattle.tape_core.specs.Due.{due_count}
 use Rattle.vt_term.specs.Seen.{Shows}
-use Rattle.vt_term.specs.Term.{Term}
+use Rattle.vt_term.specs.Term.{Term, play, reset_term_as}
 use Rattle.tape_seek.specs.Edits.{edited_all}
 use Rattle.tape_seek.specs.Marks.{fed_by}
 use Rattle.tape_seek.specs.Moments.{term_at, up_to}
 use Rattle.tape_seek.specs.State.{sought}
-use Rattle.tape_seek.proofs.SessionLemmas.{at_is_up_to, reports_up_to, same_marks, shows_up_to}
+use Rattle.tape_seek.proofs.SessionLemmas.{reports_up_to, same_marks, shows_up_to}
 use Rattle.tape_seek.proofs.session.Session.seek.Goals as goal
 
 pub returns : goal.returns
@@ -17,20 +17,21 @@ returns c =
     let chunks = c.chunks.result.now in
     let same = c.chunks.ensures.chunks ∙ ap (λ s. s.recording.chunks) c.self.view_is in
     let went = c.in_ok-seek.ensures in
+    let plays = went.profile ∙ ap (λ s. s.profile) c.self.view_is in
     let due : count ≡ due_count old.recording.chunks moment = c.due_count-count.ensures.count ∙ ap (λ s. due_count s.recording.chunks moment) c.self.view_is in
-    let term : term_at old.recording moment ≡ up_to old.recording count = at_is_up_to old.recording moment ∙ ap (up_to old.recording) (sym due) in (
+    let term : term_at old.profile old.recording moment ≡ up_to old.profile old.recording count = ap (play (reset_term_as old.profile)) (c.due_is_first.ensures old.recording.chunks moment) ∙ ap (up_to old.profile old.recording) (sym due) in (
       (
         refl,
         λ _. tt,
         (
-          same_marks _ _ refl refl went.every went.frontier went.at ∙ ap (sought count) c.self.view_is ∙ ap (λ n. sought n old) due,
+          same_marks _ _ went.profile refl refl went.every went.frontier went.at ∙ ap (sought count) c.self.view_is ∙ ap (λ n. sought n old) due,
           λ o before. ap (λ s. s.recording) c.self.view_is ∙ before ∙ sym (ap (λ s. edited_all o s.log) c.self.view_is),
         ),
       ),
       record {
         state = tt;
-        shows = subst (λ (x : Term). Shows c.seek.new.self.head x) (sym term) (shows_up_to chunks old.recording c.seek.new.self count same went.replay went.at);
-        reports = reports_up_to chunks old.recording c.sent_by.result.now count same (c.sent_by.ensures chunks went.replay) ∙ ap (λ (x : Term). x.reports) (sym term);
+        shows = subst (λ (x : Term). Shows c.seek.new.self.head x) (sym term) (shows_up_to old.profile chunks old.recording c.seek.new.self count plays same went.replay went.at);
+        reports = reports_up_to c.sent_is_appended.ensures old.profile c.seek.new.self.profile chunks old.recording c.sent_by.result.now count plays same (c.sent_by.ensures chunks went.replay) ∙ ap (λ (x : Term). x.reports) (sym term);
         count = due;
         fed = went.fed ∙ ap (λ s. fed_by s.every count s.marks) c.self.view_is ∙ ap (λ n. fed_by old.every n old.marks) due;
         room = λ _. refl;

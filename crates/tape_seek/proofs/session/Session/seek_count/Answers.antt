@@ -10,19 +10,20 @@ returns c =
     let count = c.args.count in
     let chunks = c.chunks.result.now in
     let same = c.chunks.ensures.chunks ∙ ap (λ s. s.recording.chunks) c.self.view_is in
-    let went = c.in_ok-seek.ensures in (
+    let went = c.in_ok-seek.ensures in
+    let plays = went.profile ∙ ap (λ s. s.profile) c.self.view_is in (
       (
         refl,
         λ _. tt,
         (
-          same_marks _ _ refl refl went.every went.frontier went.at ∙ ap (sought count) c.self.view_is,
+          same_marks _ _ went.profile refl refl went.every went.frontier went.at ∙ ap (sought count) c.self.view_is,
           λ o old. ap (λ s. s.recording) c.self.view_is ∙ old ∙ sym (ap (λ s. edited_all o s.log) c.self.view_is),
         ),
       ),
       record {
         state = tt;
-        shows = shows_up_to chunks c.args.self.now.recording c.seek.new.self count same went.replay went.at;
-        reports = reports_up_to chunks c.args.self.now.recording c.sent_by.result.now count same (c.sent_by.ensures chunks went.replay);
+        shows = shows_up_to c.args.self.now.profile chunks c.args.self.now.recording c.seek.new.self count plays same went.replay went.at;
+        reports = reports_up_to c.sent_is_appended.ensures c.args.self.now.profile c.seek.new.self.profile chunks c.args.self.now.recording c.sent_by.result.now count plays same (c.sent_by.ensures chunks went.replay);
         count = refl;
         fed = went.fed ∙ ap (λ s. fed_by s.every count s.marks) c.self.view_is;
         room = λ _. refl;
