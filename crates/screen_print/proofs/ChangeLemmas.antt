@@ -1,5 +1,5 @@
 -- Change lines, one chunk after another.
-use Rattle.std.proofs.Common.{◌≡◌, ℕ, zero, suc, ◌+◌, ◌-◌, ◌<◌, ◌≤◌, Bool, true, false, ◌&&◌, List, [], ◌∷◌, ◌++◌, length, filter, nat_le, nat_lt, Option, None, Some, Result, Ok, Err, refl, ap, sym, ◌∙◌, subst, arith, inl, inr, add-zero, append_assoc, append-nil}
+use Rattle.std.proofs.Common.{◌≡◌, ℕ, zero, suc, ◌+◌, ◌-◌, ◌<◌, ◌≤◌, Bool, true, false, ◌&&◌, List, [], ◌∷◌, ◌++◌, length, filter, nat_le, nat_lt, Option, None, Some, Result, Ok, Err, refl, ap, sym, ◌∙◌, arith, inl, inr, add-zero, append_assoc, append-nil}
 use Rattle.std.specs.Fmt.{decimal}
 use Rattle.std.specs.List.{flat_map, range_with_len}
 use Rattle.std.proofs.lemmas.Bool.{cases_lt, lt-ltb, le-ltb, le-leb, lt-leb}
@@ -7,16 +7,16 @@ use Rattle.std.proofs.lemmas.List.Concat.{flat_map-append}
 use Rattle.std.proofs.lemmas.List.Elements.{filter-append}
 use Rattle.tape_core.specs.declared.chunk.Chunk.{Chunk}
 use Rattle.tape_core.specs.declared.devices.Watched.{Watched}
-use Rattle.tape_core.specs.Devices.{StoppedIn, Took}
+use Rattle.tape_core.specs.Devices.{Took}
 use Rattle.tape_core.specs.Due.{due_count, due_time}
 use Rattle.tape_core.specs.Tape.{Tape}
 use Rattle.tape_core.specs.Written.{seconds_form}
-use Rattle.tape_core.proofs.DeviceLemmas.{stopped-append, stopped_before, took-append}
-use Rattle.tape_core.proofs.DueLemmas.{due_below}
+use Rattle.tape_core.specs.Law.{DueIsBelowTheCount}
 use Rattle.tape_seek.specs.State.{Leaves, State}
 use Rattle.vt_screen.specs.declared.cell.Row.{Row}
+use Rattle.vt_term.specs.declared.profile.Profile.{Profile}
 use Rattle.screen_print.specs.ChangeLines.{change_line, change_lines, changed_lines, chunk_line, is_asked, rows_after, spaced_number}
-use Rattle.screen_print.specs.Stops.{Began, GoesOn, first_asked}
+use Rattle.screen_print.specs.Stops.{Began, OnlySeeks, first_asked}
 use Rattle.screen_print.proofs.RowLemmas.{range_more}
 
 -- where a chunk changes some line
@@ -27,25 +27,28 @@ change_line_some index due (line ∷ more) some = refl
 
 -- ---- seeks
 
-pub goes_on_none : (s : State) → GoesOn s s
-goes_on_none s = record { recording = refl; log = refl; every = refl; frontier = omega arith }
+pub only_seeks_none : (s : State) → OnlySeeks s s
+only_seeks_none s = record { profile = refl; recording = refl; log = refl; every = refl; frontier = omega arith }
 
-pub goes_on_more : {a b c : State} → GoesOn a b → GoesOn b c → GoesOn a c
-goes_on_more h k = record {
+pub only_seeks_more : {a b c : State} → OnlySeeks a b → OnlySeeks b c → OnlySeeks a c
+only_seeks_more h k = record {
+  profile = k.profile ∙ h.profile;
   recording = k.recording ∙ h.recording;
   log = k.log ∙ h.log;
   every = k.every ∙ h.every;
   frontier = omega (arith, h.frontier, k.frontier);
 }
 
-pub leaves_goes_on : {T E : Type 0} (result : Result T E) (count : ℕ) (old new : State) → Leaves result count old new → GoesOn old new
-leaves_goes_on (Ok x) count old new h = record {
+pub leaves_only_seeks : {T E : Type 0} (result : Result T E) (count : ℕ) (old new : State) → Leaves result count old new → OnlySeeks old new
+leaves_only_seeks (Ok x) count old new h = record {
+  profile = ap (λ (s : State). s.profile) h;
   recording = ap (λ (s : State). s.recording) h;
   log = ap (λ (s : State). s.log) h;
   every = ap (λ (s : State). s.every) h;
   frontier = rw h (omega arith);
 }
-leaves_goes_on (Err e) count old new h = record {
+leaves_only_seeks (Err e) count old new h = record {
+  profile = ap (λ (s : State). s.profile) h;
   recording = ap (λ (s : State). s.recording) h;
   log = ap (λ (s : State). s.log) h;
   every = ap (λ (s : State). s.every) h;
@@ -55,13 +58,13 @@ leaves_goes_on (Err e) count old new h = record {
 -- ---- chunk by chunk
 
 -- the lines of the chunks from one place on
-abbrev pub lines_from : Tape → ℕ → ℕ → List ℕ
-lines_from tape start n = flat_map (chunk_line tape) (range_with_len start n)
+abbrev pub lines_from : Profile → Tape → ℕ → ℕ → List ℕ
+lines_from profile tape start n = flat_map (chunk_line profile tape) (range_with_len start n)
 
-one_more : (tape : Tape) (start n : ℕ) → lines_from tape start (n + 1) ≡ lines_from tape start n ++ chunk_line tape (start + n)
-one_more tape start n =
-    ap (flat_map (chunk_line tape)) (range_more start n) ∙ flat_map-append (chunk_line tape) (range_with_len start n) ((start + n) ∷ [])
-    ∙ ap (λ l. lines_from tape start n ++ l) (append-nil (chunk_line tape (start + n)))
+one_more : (profile : Profile) (tape : Tape) (start n : ℕ) → lines_from profile tape start (n + 1) ≡ lines_from profile tape start n ++ chunk_line profile tape (start + n)
+one_more profile tape start n =
+    ap (flat_map (chunk_line profile tape)) (range_more start n) ∙ flat_map-append (chunk_line profile tape) (range_with_len start n) ((start + n) ∷ [])
+    ∙ ap (λ l. lines_from profile tape start n ++ l) (append-nil (chunk_line profile tape (start + n)))
 
 -- numbers in two parts
 range_split : (a m n : ℕ) → range_with_len a (m + n) ≡ range_with_len a m ++ range_with_len (a + m) n
@@ -73,59 +76,56 @@ range_split a (suc m) n =
     let there : a + 1 + m ≡ a + suc m = omega arith in
     ap (range_with_len a) longer ∙ ap (λ l. a ∷ l) (range_split (a + 1) m n ∙ ap (λ b. range_with_len (a + 1) m ++ range_with_len b n) there)
 
-pub lines_around : (tape : Tape) (start n all : ℕ) → n < all → lines_from tape start all ≡ (lines_from tape start n ++ chunk_line tape (start + n)) ++ lines_from tape (start + (n + 1)) (all - (n + 1))
-lines_around tape start n all within =
+pub lines_around : (profile : Profile) (tape : Tape) (start n all : ℕ) → n < all → lines_from profile tape start all ≡ (lines_from profile tape start n ++ chunk_line profile tape (start + n)) ++ lines_from profile tape (start + (n + 1)) (all - (n + 1))
+lines_around profile tape start n all within =
     let parts : n + 1 + (all - (n + 1)) ≡ all = omega arith in
-    ap (lines_from tape start) (sym parts)
-    ∙ ap (flat_map (chunk_line tape)) (range_split start (n + 1) (all - (n + 1)))
-    ∙ flat_map-append (chunk_line tape) (range_with_len start (n + 1)) (range_with_len (start + (n + 1)) (all - (n + 1)))
-    ∙ ap (λ l. l ++ lines_from tape (start + (n + 1)) (all - (n + 1))) (one_more tape start n)
+    ap (lines_from profile tape start) (sym parts)
+    ∙ ap (flat_map (chunk_line profile tape)) (range_split start (n + 1) (all - (n + 1)))
+    ∙ flat_map-append (chunk_line profile tape) (range_with_len start (n + 1)) (range_with_len (start + (n + 1)) (all - (n + 1)))
+    ∙ ap (λ l. l ++ lines_from profile tape (start + (n + 1)) (all - (n + 1))) (one_more profile tape start n)
 
 -- the line of one chunk more
-pub took_change : {T : Type 0} {contents : T → Option (List ℕ)} {a b c : Watched T} (tape : Tape) (start index : ℕ) (line : List ℕ) → start ≤ index → line ≡ chunk_line tape index
-    → Took contents a b (lines_from tape start (index - start)) → Took contents b c line → Took contents a c (lines_from tape start (index + 1 - start))
-took_change {contents = contents} {a = a} {c = c} tape start index line low is before here =
+pub lines_more : (profile : Profile) (tape : Tape) (start index : ℕ) (line : List ℕ) → start ≤ index → line ≡ chunk_line profile tape index
+    → lines_from profile tape start (index - start) ++ line ≡ lines_from profile tape start (index + 1 - start)
+lines_more profile tape start index line low is =
     let n = index - start in
     let at : start + n ≡ index = omega arith in
     let next : n + 1 ≡ index + 1 - start = omega arith in
-    let text : lines_from tape start n ++ line ≡ lines_from tape start (index + 1 - start) =
-    ap (λ l. lines_from tape start n ++ l) (is ∙ ap (chunk_line tape) (sym at)) ∙ sym (one_more tape start n) ∙ ap (lines_from tape start) next in
-    subst (λ t. Took contents a c t) text (took-append before here)
+    ap (λ l. lines_from profile tape start n ++ l) (is ∙ ap (chunk_line profile tape) (sym at)) ∙ sym (one_more profile tape start n) ∙ ap (lines_from profile tape start) next
 
--- stopped in the line of a chunk
-pub stopped_in_change : {T : Type 0} {contents : T → Option (List ℕ)} {a b c : Watched T} (tape : Tape) (start end index : ℕ) (line : List ℕ) → start ≤ index → index < end → line ≡ chunk_line tape index
-    → Took contents a b (lines_from tape start (index - start)) → StoppedIn contents b c line → StoppedIn contents a c (lines_from tape start (end - start))
-stopped_in_change {contents = contents} {a = a} {c = c} tape start end index line low high is before here =
+-- the lines before a chunk, its own, and those behind it
+pub lines_cut : (profile : Profile) (tape : Tape) (start end index : ℕ) (line : List ℕ) → start ≤ index → index < end → line ≡ chunk_line profile tape index
+    → lines_from profile tape start (end - start) ≡ (lines_from profile tape start (index - start) ++ line) ++ lines_from profile tape (start + (index - start + 1)) (end - start - (index - start + 1))
+lines_cut profile tape start end index line low high is =
     let n = index - start in
     let at : start + n ≡ index = omega arith in
     let within : n < end - start = omega arith in
-    let text : (lines_from tape start n ++ line) ++ lines_from tape (start + (n + 1)) (end - start - (n + 1)) ≡ lines_from tape start (end - start) =
-    ap (λ l. (lines_from tape start n ++ l) ++ lines_from tape (start + (n + 1)) (end - start - (n + 1))) (is ∙ ap (chunk_line tape) (sym at))
-    ∙ sym (lines_around tape start n (end - start) within) in
-    subst (λ t. StoppedIn contents a c t) text (stopped_before (lines_from tape (start + (n + 1)) (end - start - (n + 1))) (stopped-append before here))
+    lines_around profile tape start n (end - start) within
+    ∙ ap (λ l. (lines_from profile tape start n ++ l) ++ lines_from profile tape (start + (n + 1)) (end - start - (n + 1))) (sym (is ∙ ap (chunk_line profile tape) (sym at)))
 
 -- memory refused before the line of a chunk
-pub began_before : {T : Type 0} {contents : T → Option (List ℕ)} {a b : Watched T} (tape : Tape) (start end index : ℕ) → start ≤ index → index < end
-    → Took contents a b (lines_from tape start (index - start)) → Began contents a b (lines_from tape start (end - start))
-began_before tape start end index low high before =
+pub began_before : {T : Type 0} {contents : T → Option (List ℕ)} {a b : Watched T} (profile : Profile) (tape : Tape) (start end index : ℕ) → start ≤ index → index < end
+    → Took contents a b (lines_from profile tape start (index - start)) → Began contents a b (lines_from profile tape start (end - start))
+began_before profile tape start end index low high before =
     let n = index - start in
     let within : n < end - start = omega arith in
-    let rest = lines_from tape (start + (n + 1)) (end - start - (n + 1)) in
+    let rest = lines_from profile tape (start + (n + 1)) (end - start - (n + 1)) in
     record {
-      front = lines_from tape start n;
-      rest = chunk_line tape (start + n) ++ rest;
-      cut = lines_around tape start n (end - start) within ∙ append_assoc (lines_from tape start n) (chunk_line tape (start + n)) rest;
+      front = lines_from profile tape start n;
+      rest = chunk_line profile tape (start + n) ++ rest;
+      cut = lines_around profile tape start n (end - start) within ∙ append_assoc (lines_from profile tape start n) (chunk_line profile tape (start + n)) rest;
       took = before;
     }
 
 -- what is written of a chunk is its line
-pub chunk_line_is : (tape once : Tape) (index due : ℕ) (lines : List ℕ) (rows : List Row) → once ≡ tape → due ≡ due_time tape.chunks index → rows ≡ rows_after tape index
-    → lines ≡ changed_lines rows (rows_after once (index + 1)) → change_line index due lines ≡ chunk_line tape index
-chunk_line_is tape once index due lines rows same on before changed =
+pub chunk_line_is : (profile plays : Profile) (tape once : Tape) (index due : ℕ) (lines : List ℕ) (rows : List Row) → plays ≡ profile → once ≡ tape → due ≡ due_time tape.chunks index → rows ≡ rows_after profile tape index
+    → lines ≡ changed_lines rows (rows_after plays once (index + 1)) → change_line index due lines ≡ chunk_line profile tape index
+chunk_line_is profile plays tape once index due lines rows same_profile same on before changed =
     ap (λ d. change_line index d lines) on
     ∙ ap (change_line index (due_time tape.chunks index)) (changed
-    ∙ ap (λ r. changed_lines r (rows_after once (index + 1))) before
-    ∙ ap (λ t. changed_lines (rows_after tape index) (rows_after t (index + 1))) same)
+    ∙ ap (λ r. changed_lines r (rows_after plays once (index + 1))) before
+    ∙ ap (λ t. changed_lines (rows_after profile tape index) (rows_after plays t (index + 1))) same
+    ∙ ap (λ p. changed_lines (rows_after profile tape index) (rows_after p tape (index + 1))) same_profile)
 
 -- ---- which chunks are asked for
 
@@ -168,52 +168,52 @@ late : (from : Option ℕ) (to due : ℕ) → to < due → is_asked from to due 
 late None to due h = lt-leb due to h
 late (Some from) to due h = both_false (nat_lt from due) (nat_le due to) (lt-leb due to h)
 
-early : (chunks : List Chunk) (from : Option ℕ) (to i : ℕ) → i < length chunks → i < first_asked chunks from → is_asked from to (due_time chunks i) ≡ false
-early chunks None to i within h = absurd (omega arith)
-early chunks (Some from) to i within h =
-    let due : due_time chunks i ≤ from = (due_below chunks from i within).1 h in
+early : DueIsBelowTheCount → (chunks : List Chunk) (from : Option ℕ) (to i : ℕ) → i < length chunks → i < first_asked chunks from → is_asked from to (due_time chunks i) ≡ false
+early law chunks None to i within h = absurd (omega arith)
+early law chunks (Some from) to i within h =
+    let due : due_time chunks i ≤ from = (law chunks from i within).1 h in
     rw (le-ltb from (due_time chunks i) due) refl
 
-asked : (chunks : List Chunk) (from : Option ℕ) (to i : ℕ) → i < length chunks → first_asked chunks from ≤ i → i < due_count chunks to → is_asked from to (due_time chunks i) ≡ true
-asked chunks None to i within low h = le-leb (due_time chunks i) to ((due_below chunks to i within).1 h)
-asked chunks (Some from) to i within low h =
+asked : DueIsBelowTheCount → (chunks : List Chunk) (from : Option ℕ) (to i : ℕ) → i < length chunks → first_asked chunks from ≤ i → i < due_count chunks to → is_asked from to (due_time chunks i) ≡ true
+asked law chunks None to i within low h = le-leb (due_time chunks i) to ((law chunks to i within).1 h)
+asked law chunks (Some from) to i within low h =
     both_true (nat_lt from (due_time chunks i)) (nat_le (due_time chunks i) to)
     (elim (cases_lt from (due_time chunks i)) [
       | inl lt ↦ lt-ltb from (due_time chunks i) lt
-      | inr ge ↦ let below = (due_below chunks from i within).0 ge in absurd (omega (arith, below))
+      | inr ge ↦ let below = (law chunks from i within).0 ge in absurd (omega (arith, below))
     ])
-    (le-leb (due_time chunks i) to ((due_below chunks to i within).1 h))
+    (le-leb (due_time chunks i) to ((law chunks to i within).1 h))
 
-past_due : (chunks : List Chunk) (from : Option ℕ) (to i : ℕ) → i < length chunks → due_count chunks to ≤ i → is_asked from to (due_time chunks i) ≡ false
-past_due chunks from to i within h =
+past_due : DueIsBelowTheCount → (chunks : List Chunk) (from : Option ℕ) (to i : ℕ) → i < length chunks → due_count chunks to ≤ i → is_asked from to (due_time chunks i) ≡ false
+past_due law chunks from to i within h =
     late from to (due_time chunks i)
     (elim (cases_lt to (due_time chunks i)) [
       | inl lt ↦ lt
-      | inr ge ↦ let below = (due_below chunks to i within).0 ge in absurd (omega (arith, below))
+      | inr ge ↦ let below = (law chunks to i within).0 ge in absurd (omega (arith, below))
     ])
 
 -- the chunks that are asked for, where there are some
-pub asked_some : (tape : Tape) (from : Option ℕ) (to : ℕ) → first_asked tape.chunks from ≤ due_count tape.chunks to → due_count tape.chunks to ≤ length tape.chunks
-    → change_lines tape from to ≡ lines_from tape (first_asked tape.chunks from) (due_count tape.chunks to - first_asked tape.chunks from)
+pub asked_some : DueIsBelowTheCount → (profile : Profile) (tape : Tape) (from : Option ℕ) (to : ℕ) → first_asked tape.chunks from ≤ due_count tape.chunks to → due_count tape.chunks to ≤ length tape.chunks
+    → change_lines profile tape from to ≡ lines_from profile tape (first_asked tape.chunks from) (due_count tape.chunks to - first_asked tape.chunks from)
 unfolding change_lines
-asked_some tape from to some within =
-    ap (flat_map (chunk_line tape)) (passing_between (λ i. is_asked from to (due_time tape.chunks i)) (first_asked tape.chunks from) (due_count tape.chunks to) (length tape.chunks) some within
-    (λ i h. early tape.chunks from to i (omega arith) h)
-    (λ i low high. asked tape.chunks from to i (omega arith) low high)
-    (λ i low high. past_due tape.chunks from to i high low))
+asked_some law profile tape from to some within =
+    ap (flat_map (chunk_line profile tape)) (passing_between (λ i. is_asked from to (due_time tape.chunks i)) (first_asked tape.chunks from) (due_count tape.chunks to) (length tape.chunks) some within
+    (λ i h. early law tape.chunks from to i (omega arith) h)
+    (λ i low high. asked law tape.chunks from to i (omega arith) low high)
+    (λ i low high. past_due law tape.chunks from to i high low))
 
-pub asked_from : (tape : Tape) (from : Option ℕ) (to start end : ℕ) → start ≡ first_asked tape.chunks from → end ≡ due_count tape.chunks to → start ≤ end → end ≤ length tape.chunks
-    → lines_from tape start (end - start) ≡ change_lines tape from to
-asked_from tape from to start end low high some within =
-    ap (λ s. lines_from tape s (end - s)) low ∙ ap (λ e. lines_from tape (first_asked tape.chunks from) (e - first_asked tape.chunks from)) high
-    ∙ sym (asked_some tape from to (omega (arith, low, high)) (omega (arith, high)))
+pub asked_from : DueIsBelowTheCount → (profile : Profile) (tape : Tape) (from : Option ℕ) (to start end : ℕ) → start ≡ first_asked tape.chunks from → end ≡ due_count tape.chunks to → start ≤ end → end ≤ length tape.chunks
+    → lines_from profile tape start (end - start) ≡ change_lines profile tape from to
+asked_from law profile tape from to start end low high some within =
+    ap (λ s. lines_from profile tape s (end - s)) low ∙ ap (λ e. lines_from profile tape (first_asked tape.chunks from) (e - first_asked tape.chunks from)) high
+    ∙ sym (asked_some law profile tape from to (omega (arith, low, high)) (omega (arith, high)))
 
 -- and where there is none
-pub asked_none : (tape : Tape) (from : Option ℕ) (to : ℕ) → due_count tape.chunks to ≤ first_asked tape.chunks from → change_lines tape from to ≡ []
+pub asked_none : DueIsBelowTheCount → (profile : Profile) (tape : Tape) (from : Option ℕ) (to : ℕ) → due_count tape.chunks to ≤ first_asked tape.chunks from → change_lines profile tape from to ≡ []
 unfolding change_lines
-asked_none tape from to none =
-    ap (flat_map (chunk_line tape)) (none_in (λ i. is_asked from to (due_time tape.chunks i)) 0 (length tape.chunks)
+asked_none law profile tape from to none =
+    ap (flat_map (chunk_line profile tape)) (none_in (λ i. is_asked from to (due_time tape.chunks i)) 0 (length tape.chunks)
     (λ i low high. elim (cases_lt i (first_asked tape.chunks from)) [
-      | inl lt ↦ early tape.chunks from to i (omega arith) lt
-      | inr ge ↦ past_due tape.chunks from to i (omega arith) (omega arith)
+      | inl lt ↦ early law tape.chunks from to i (omega arith) lt
+      | inr ge ↦ past_due law tape.chunks from to i (omega arith) (omega arith)
     ]))

@@ -1,4 +1,7 @@
-pub mod GlyphLemmas
-pub mod PlainLemmas
-pub mod RowLemmas
-pub mod ChangeLemmas
+mod GlyphLemmas
+mod PlainLemmas
+mod RowLemmas
+mod ChangeLemmas
+mod EscapedLemmas
+mod InkLemmas
+mod Redrawn

@@ -1,5 +1,5 @@
 -- Equal rows, and rows by line.
-use Rattle.std.proofs.Common.{◌≡◌, ◌≢◌, ℕ, zero, suc, ◌+◌, ◌-◌, ◌<◌, ◌≤◌, Bool, true, false, ◌&&◌, List, [], ◌∷◌, ◌++◌, length, get_or, set, filter, nat_eq, Decides, refl, ap, sym, ◌∙◌, arith, get_or-set_same, get_or-set_other, add-one, add-zero, cond}
+use Rattle.std.proofs.Common.{◌≡◌, ◌≢◌, ℕ, zero, suc, ◌+◌, ◌*◌, ◌-◌, ◌<◌, ◌≤◌, Bool, true, false, ◌&&◌, List, [], ◌∷◌, ◌++◌, length, get_or, set, take, filter, nat_eq, Decides, refl, ap, sym, ◌∙◌, arith, get_or-set_same, get_or-set_other, add-one, add-zero, cond}
 use Rattle.std.specs.Cmp.Lexicographic.{pointwise}
 use Rattle.std.specs.List.{range_with_len}
 use Rattle.std.proofs.lemmas.Bool.{and_parts, eqb-true, eq-eqb}
@@ -49,7 +49,7 @@ attributes_again false false true false = refl
 attributes_again false false false true = refl
 attributes_again false false false false = refl
 
-byte_apart : (a b : Attributes) → byte_of a ≡ byte_of b → a ≡ b
+pub byte_apart : (a b : Attributes) → byte_of a ≡ byte_of b → a ≡ b
 byte_apart a b e = sym (attributes_again a.bold a.underscore a.blink a.reverse) ∙ ap attributes_of e ∙ attributes_again b.bold b.underscore b.blink b.reverse
 
 -- numbers that are equal by the test
@@ -67,12 +67,55 @@ cell_from_parts one other e f =
     ap (λ (g : ℕ). let c : Cell = record { glyph = g; rendition = one.rendition } in c) e
     ∙ ap (λ (r : Attributes). let c : Cell = record { glyph = other.glyph; rendition = r } in c) f
 
-same_cell_decides : (one other : Cell) → Decides (same_cell one other) (one ≡ other)
+pub same_cell_decides : (one other : Cell) → Decides (same_cell one other) (one ≡ other)
 same_cell_decides one other = (
   λ h. let parts = and_parts (nat_eq one.glyph other.glyph) (nat_eq (byte_of one.rendition) (byte_of other.rendition)) h in
       cell_from_parts one other (same_number _ _ parts.0) (byte_apart one.rendition other.rendition (same_number _ _ parts.1)),
   λ e. rw e (both _ _ (itself other.glyph) (itself (byte_of other.rendition))),
 )
+
+-- ---- cells by number
+
+same_truth : (s t : Bool) → (s ≡ true → t ≡ true) → (t ≡ true → s ≡ true) → s ≡ t
+same_truth true true there back = refl
+same_truth true false there back = sym (there refl)
+same_truth false true there back = back refl
+same_truth false false there back = refl
+
+number_parts : (b g c h : ℕ) → g < 256 → h < 256 → 256 * b + g ≡ 256 * c + h → (g ≡ h) × (b ≡ c)
+number_parts b g c h low low' e = (omega arith, omega arith)
+
+-- cells are the same where their numbers are
+pub cell_numbers : (one other : Cell) → one.glyph < 256 → other.glyph < 256
+    → nat_eq (256 * byte_of one.rendition + one.glyph) (256 * byte_of other.rendition + other.glyph) ≡ same_cell one other
+cell_numbers one other low low' =
+    let b = byte_of one.rendition in
+    let c = byte_of other.rendition in
+    same_truth (nat_eq (256 * b + one.glyph) (256 * c + other.glyph)) (same_cell one other)
+    (λ h. let parts = number_parts b one.glyph c other.glyph low low' (same_number _ _ h) in
+    both _ _ (eq-eqb _ _ parts.0) (eq-eqb _ _ parts.1))
+    (λ h. let parts = and_parts (nat_eq one.glyph other.glyph) (nat_eq b c) h in
+    eq-eqb _ _ (rw (same_number _ _ parts.0, same_number _ _ parts.1) refl))
+
+and_end : (s : Bool) → (s && true) ≡ s
+and_end true = refl
+and_end false = refl
+
+and_again : (s t u : Bool) → (s && (t && u)) ≡ ((s && t) && u)
+and_again true t u = refl
+and_again false t u = refl
+
+-- one pair more
+pub pointwise_more : {A B : Type 0} (E : A → B → Bool) (xs : List A) (ys : List B) (i : ℕ) (d : A) (e : B) → i < length xs → i < length ys
+    → pointwise E (take (i + 1) xs) (take (i + 1) ys) ≡ (pointwise E (take i xs) (take i ys) && E (get_or xs i d) (get_or ys i e))
+pointwise_more E [] ys i d e lt lt' = absurd (omega arith)
+pointwise_more E (x ∷ xs) [] i d e lt lt' = absurd (omega arith)
+pointwise_more E (x ∷ xs) (y ∷ ys) zero d e lt lt' = and_end (E x y)
+pointwise_more E (x ∷ xs) (y ∷ ys) (suc i) d e lt lt' =
+    let next : suc i + 1 ≡ suc (i + 1) = omega arith in
+    ap (λ n. pointwise E (take n (x ∷ xs)) (take n (y ∷ ys))) next
+    ∙ ap (λ b. E x y && b) (pointwise_more E xs ys i d e (omega arith) (omega arith))
+    ∙ and_again (E x y) (pointwise E (take i xs) (take i ys)) (E (get_or xs i d) (get_or ys i e))
 
 row_from_parts : (one other : Row) → one.size ≡ other.size → one.cells ≡ other.cells → one ≡ other
 row_from_parts one other e f =

@@ -7,6 +7,7 @@ use Rattle.tape_core.specs.Tape.{Tape}
 use Rattle.tape_core.specs.Written.{seconds_form}
 use Rattle.tape_seek.specs.Moments.{up_to}
 use Rattle.vt_screen.specs.declared.cell.Row.{Row}
+use Rattle.vt_term.specs.declared.profile.Profile.{Profile}
 use Rattle.vt_screen.specs.Cells.{row_at}
 use Rattle.screen_print.specs.SameRows.{same_row}
 
@@ -18,9 +19,9 @@ is_changed before after line = not (same_row (row_at before line) (row_at after 
 unfoldable pub changed_lines : List Row → List Row → List ℕ
 changed_lines before after = filter (is_changed before after) (range_with_len 1 24)
 
--- the rows of the screen after so many chunks
-abbrev pub rows_after : Tape → ℕ → List Row
-rows_after tape count = (up_to tape count).console.picture.rows
+-- the rows of a profile's screen after so many chunks
+abbrev pub rows_after : Profile → Tape → ℕ → List Row
+rows_after profile tape count = (up_to profile tape count).console.picture.rows
 
 -- a number with the space before it
 abbrev pub spaced_number : ℕ → List ℕ
@@ -32,8 +33,9 @@ change_line index due [] = []
 change_line index due (line ∷ more) = (decimal index ++ 32 ∷ seconds_form due) ++ flat_map spaced_number (line ∷ more) ++ 10 ∷ []
 
 -- what is written of one chunk, compared before and after it alone
-abbrev pub chunk_line : Tape → ℕ → List ℕ
-chunk_line tape index = change_line index (due_time tape.chunks index) (changed_lines (rows_after tape index) (rows_after tape (index + 1)))
+abbrev pub chunk_line : Profile → Tape → ℕ → List ℕ
+chunk_line profile tape index =
+    change_line index (due_time tape.chunks index) (changed_lines (rows_after profile tape index) (rows_after profile tape (index + 1)))
 
 -- due by a moment, and after another one if it is given
 abbrev pub is_asked : Option ℕ → ℕ → ℕ → Bool
@@ -45,5 +47,5 @@ abbrev pub asked_places : Tape → Option ℕ → ℕ → List ℕ
 asked_places tape from to = filter (λ index. is_asked from to (due_time tape.chunks index)) (places tape.chunks)
 
 -- the change lines
-unfoldable pub change_lines : Tape → Option ℕ → ℕ → List ℕ
-change_lines tape from to = flat_map (chunk_line tape) (asked_places tape from to)
+unfoldable pub change_lines : Profile → Tape → Option ℕ → ℕ → List ℕ
+change_lines profile tape from to = flat_map (chunk_line profile tape) (asked_places tape from to)

@@ -8,7 +8,7 @@ use Rattle.tape_seek.specs.State.{State}
 use Rattle.screen_print.specs.declared.chunk_changes.ChangesFault.{ChangesFault}
 use Rattle.screen_print.specs.declared.chunk_changes.ChangesFault.TheVariants.{Write, Memory}
 
--- the writer is sound, and has taken a beginning of this text after what it held
+-- the writer is sound, and has taken a beginning of this text after what it held (profile)
 pub record Began {T : Type 0} (contents : T → Option (List ℕ)) (old new : Watched T) (text : List ℕ) : Type 0 where
   pub front : List ℕ
   pub rest : List ℕ
@@ -20,8 +20,9 @@ abbrev pub StopsChanges : {T : Type 0} → (T → Option (List ℕ)) → Watched
 StopsChanges contents old new text Write = StoppedIn contents old new text
 StopsChanges contents old new text Memory = Began contents old new text
 
--- seeks alone were made: the recording and the log stay, and the frontier isn't lowered
-pub record GoesOn (old new : State) : Type 0 where
+-- seeks alone were made: profile, recording and log stay, and the frontier isn't lowered
+pub record OnlySeeks (old new : State) : Type 0 where
+  pub profile : new.profile ≡ old.profile
   pub recording : new.recording ≡ old.recording
   pub log : new.log ≡ old.log
   pub every : new.every ≡ old.every

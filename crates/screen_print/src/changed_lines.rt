@@ -3,11 +3,12 @@
 ghost use Rattle.std.specs.Prelude.{◌≡◌, ◌≢◌, ◌≤◌, ℕ, length, not};
 ghost use Rattle.vt_screen.specs.Cells.{row_at};
 ghost use Rattle.screen_print.specs.ChangeLines.{changed_lines, is_changed};
-ghost use Rattle.screen_print.specs.SameRows.{same_row};
+ghost use Rattle.screen_print.specs.SameRows.{same_cell, same_row};
+ghost use Rattle.std.specs.Cmp.Lexicographic.{pointwise};
 
 use arrayvec::ArrayVec;
 use vt_screen::laws::screens_are_sound;
-use vt_screen::{Row, Screen};
+use vt_screen::{Cell, Row, Screen};
 
 /// A copy of the screen's rows.
 pub(crate) fn rows_of(screen: &Screen) -> [Row; 24]
@@ -58,5 +59,17 @@ fn take_change(rows: &mut [Row; 24], screen: &Screen, line: u8) -> bool
 fn same_row(one: &Row, other: &Row) -> bool
     ensures { result ≡ same_row one.now other.now }
 {
-    one.size == other.size && one.cells == other.cells
+    one.size == other.size && same_cells(&one.cells, &other.cells)
+}
+
+/// Whether two rows have the same cells. Each is compared, whatever those before it came to, so that many are compared at
+/// once.
+fn same_cells(one: &[Cell; 132], other: &[Cell; 132]) -> bool
+    ensures { result ≡ pointwise same_cell one.now other.now }
+{
+    let mut same = true;
+    for at in 0..132 {
+        same &= one[at].number() == other[at].number();
+    }
+    same
 }

@@ -1,6 +1,6 @@
 //! The lines of the screen that each chunk of a recording changes.
 
-ghost use Rattle.std.specs.Prelude.{◌≡◌, ◌≢◌, ◌-◌, ◌<◌, ◌≤◌, ◌++◌, ◌∷◌, true, false, length, Err, OnOk, IfOk, IfErr, IsOk};
+ghost use Rattle.std.specs.Prelude.{◌≡◌, ◌≢◌, ◌-◌, ◌<◌, ◌≤◌, ◌++◌, ◌∷◌, true, false, length, Err, OnOk, IfOk, IfErr, OnErr, IsOk};
 ghost use Rattle.std.specs.Fmt.{decimal};
 ghost use Rattle.std.specs.List.{flat_map, range_with_len};
 ghost use Rattle.tape_core.specs.Devices.{has_failed, is_flushed, Took, StoppedIn};
@@ -8,12 +8,13 @@ ghost use Rattle.tape_core.specs.Due.{due_count};
 ghost use Rattle.tape_core.specs.Written.{seconds_form};
 ghost use Rattle.tape_seek.specs.State.{KeepsHistory, Leaves};
 ghost use Rattle.screen_print.specs.ChangeLines.{change_line, change_lines, changed_lines, chunk_line, rows_after, spaced_number};
-ghost use Rattle.screen_print.specs.Stops.{GoesOn, StopsChanges, first_asked};
+ghost use Rattle.screen_print.specs.Stops.{OnlySeeks, StopsChanges, first_asked};
 
 use crate::changed_lines::{rows_of, take_changes};
 use arrayvec::ArrayVec;
 use itoa::Buffer;
 use std::io::Write;
+use tape_core::laws::{due_is_below_the_count, pieces_join, writers_join};
 use tape_core::{Fault, Watched, seconds_text};
 use tape_seek::{OutOfMemory, Session};
 use vt_screen::Row;
@@ -57,12 +58,13 @@ pub fn changes<W: Write>(
     writer: &mut Watched<W>,
 ) -> Result<(), ChangesFault>
     requires { has_failed writer.old ≡ false }
-    ensures ok { OnOk result (Took W.contents writer.old writer.new (change_lines session.old.recording from to)) }
+    ensures ok { OnOk result (Took W.contents writer.old writer.new (change_lines session.old.profile session.old.recording from to)) }
     ensures flushed { OnOk result (is_flushed writer.new ≡ true) }
-    ensures fault { IfErr result (StopsChanges W.contents writer.old writer.new (change_lines session.old.recording from to)) }
-    ensures stays { GoesOn session.old session.new }
+    ensures fault { IfErr result (StopsChanges W.contents writer.old writer.new (change_lines session.old.profile session.old.recording from to)) }
+    ensures stays { OnlySeeks session.old session.new }
     ensures room { due_count session.old.recording.chunks to ≤ session.old.marks.frontier → result ≢ Err ChangesFault.Memory }
 {
+    writers_join::<W>();
     put_asked(session, from, to, writer)?;
     writer.finish()?;
     Ok(())
@@ -76,11 +78,13 @@ fn put_asked<W: Write>(
     writer: &mut Watched<W>,
 ) -> Result<(), ChangesFault>
     requires { has_failed writer.old ≡ false }
-    ensures ok { OnOk result (Took W.contents writer.old writer.new (change_lines session.old.recording from to)) }
-    ensures fault { IfErr result (StopsChanges W.contents writer.old writer.new (change_lines session.old.recording from to)) }
-    ensures stays { GoesOn session.old session.new }
+    ensures ok { OnOk result (Took W.contents writer.old writer.new (change_lines session.old.profile session.old.recording from to)) }
+    ensures fault { IfErr result (StopsChanges W.contents writer.old writer.new (change_lines session.old.profile session.old.recording from to)) }
+    ensures stays { OnlySeeks session.old session.new }
     ensures room { due_count session.old.recording.chunks to ≤ session.old.marks.frontier → result ≢ Err ChangesFault.Memory }
 {
+    due_is_below_the_count();
+    writers_join::<W>();
     let start = first_asked(session, from);
     let end = session.recording().due_count(to);
     if start < end {
@@ -110,12 +114,13 @@ fn put_changes<W: Write>(
     requires within { end ≤ length session.old.recording.chunks }
     requires sound { has_failed writer.old ≡ false }
     ensures ok { OnOk result (Took W.contents writer.old writer.new
-        (flat_map (chunk_line session.old.recording) (range_with_len start (end - start)))) }
+        (flat_map (chunk_line session.old.profile session.old.recording) (range_with_len start (end - start)))) }
     ensures fault { IfErr result (StopsChanges W.contents writer.old writer.new
-        (flat_map (chunk_line session.old.recording) (range_with_len start (end - start)))) }
-    ensures stays { GoesOn session.old session.new }
+        (flat_map (chunk_line session.old.profile session.old.recording) (range_with_len start (end - start)))) }
+    ensures stays { OnlySeeks session.old session.new }
     ensures room { end ≤ session.old.marks.frontier → result ≢ Err ChangesFault.Memory }
 {
+    writers_join::<W>();
     let mut rows = rows_at(session, start)?;
     for index in start..end {
         let lines = changes_at(session, index + 1, &mut rows)?;
@@ -130,7 +135,7 @@ fn rows_at(session: &mut Session, count: usize) -> Result<[Row; 24], OutOfMemory
     requires { count ≤ length session.old.recording.chunks }
     ensures state { Leaves result count session.old session.new }
     ensures history { KeepsHistory session.old session.new }
-    ensures rows { IfOk result (λ rows. rows ≡ rows_after session.old.recording count) }
+    ensures rows { IfOk result (λ rows. rows ≡ rows_after session.old.profile session.old.recording count) }
     ensures room { count ≤ session.old.marks.frontier → IsOk result }
 {
     let view = session.seek_count(count)?;
@@ -146,8 +151,8 @@ fn changes_at(
     requires { count ≤ length session.old.recording.chunks }
     ensures state { Leaves result count session.old session.new }
     ensures history { KeepsHistory session.old session.new }
-    ensures rows { OnOk result (rows.new ≡ rows_after session.old.recording count) }
-    ensures changed { IfOk result (λ lines. lines.items ≡ changed_lines rows.old (rows_after session.old.recording count)) }
+    ensures rows { OnOk result (rows.new ≡ rows_after session.old.profile session.old.recording count) }
+    ensures changed { IfOk result (λ lines. lines.items ≡ changed_lines rows.old (rows_after session.old.profile session.old.recording count)) }
     ensures room { count ≤ session.old.marks.frontier → IsOk result }
 {
     let view = session.seek_count(count)?;
@@ -163,46 +168,53 @@ fn put_change<W: Write>(
 ) -> Result<(), Fault>
     requires { has_failed writer.old ≡ false }
     ensures ok { OnOk result (Took W.contents writer.old writer.new (change_line index due lines.now)) }
-    ensures fault { IfErr result (λ fault. (fault ≡ Fault.WriteFault)
-        × StoppedIn W.contents writer.old writer.new (change_line index due lines.now)) }
+    ensures fault { IfErr result (λ fault. fault ≡ Fault.WriteFault) }
+    ensures stopped { OnErr result (StoppedIn W.contents writer.old writer.new (change_line index due lines.now)) }
 {
+    writers_join::<W>();
     if lines.is_empty() {
         return Ok(());
     }
     put_place(index, due, writer)?;
     put_numbers(lines, writer)?;
-    writer.put(b"\n")
+    writer.put(b"\n")?;
+    Ok(())
 }
 
 /// Writes a chunk's place and when it is due.
 fn put_place<W: Write>(index: usize, due: u64, writer: &mut Watched<W>) -> Result<(), Fault>
     requires { has_failed writer.old ≡ false }
     ensures ok { OnOk result (Took W.contents writer.old writer.new (decimal index ++ 32 ∷ seconds_form due)) }
-    ensures fault { IfErr result (λ fault. (fault ≡ Fault.WriteFault)
-        × StoppedIn W.contents writer.old writer.new (decimal index ++ 32 ∷ seconds_form due)) }
+    ensures fault { IfErr result (λ fault. fault ≡ Fault.WriteFault) }
+    ensures stopped { OnErr result (StoppedIn W.contents writer.old writer.new (decimal index ++ 32 ∷ seconds_form due)) }
 {
+    writers_join::<W>();
     writer.put(Buffer::new().format(index).as_bytes())?;
-    put_due(due, writer)
+    put_due(due, writer)?;
+    Ok(())
 }
 
 /// Writes a space and seconds.
 fn put_due<W: Write>(due: u64, writer: &mut Watched<W>) -> Result<(), Fault>
     requires { has_failed writer.old ≡ false }
     ensures ok { OnOk result (Took W.contents writer.old writer.new (32 ∷ seconds_form due)) }
-    ensures fault { IfErr result (λ fault. (fault ≡ Fault.WriteFault)
-        × StoppedIn W.contents writer.old writer.new (32 ∷ seconds_form due)) }
+    ensures fault { IfErr result (λ fault. fault ≡ Fault.WriteFault) }
+    ensures stopped { OnErr result (StoppedIn W.contents writer.old writer.new (32 ∷ seconds_form due)) }
 {
+    writers_join::<W>();
     writer.put(b" ")?;
-    writer.put(seconds_text(due).as_bytes())
+    writer.put(seconds_text(due).as_bytes())?;
+    Ok(())
 }
 
 /// Writes numbers, a space before each.
 fn put_numbers<W: Write>(numbers: &[u8], writer: &mut Watched<W>) -> Result<(), Fault>
     requires { has_failed writer.old ≡ false }
     ensures ok { OnOk result (Took W.contents writer.old writer.new (flat_map spaced_number numbers.now)) }
-    ensures fault { IfErr result (λ fault. (fault ≡ Fault.WriteFault)
-        × StoppedIn W.contents writer.old writer.new (flat_map spaced_number numbers.now)) }
+    ensures fault { IfErr result (λ fault. fault ≡ Fault.WriteFault) }
+    ensures stopped { OnErr result (StoppedIn W.contents writer.old writer.new (flat_map spaced_number numbers.now)) }
 {
+    pieces_join::<W, u8>();
     for number in numbers {
         put_number(*number, writer)?;
     }
@@ -213,9 +225,11 @@ fn put_numbers<W: Write>(numbers: &[u8], writer: &mut Watched<W>) -> Result<(), 
 fn put_number<W: Write>(number: u8, writer: &mut Watched<W>) -> Result<(), Fault>
     requires { has_failed writer.old ≡ false }
     ensures ok { OnOk result (Took W.contents writer.old writer.new (spaced_number number)) }
-    ensures fault { IfErr result (λ fault. (fault ≡ Fault.WriteFault)
-        × StoppedIn W.contents writer.old writer.new (spaced_number number)) }
+    ensures fault { IfErr result (λ fault. fault ≡ Fault.WriteFault) }
+    ensures stopped { OnErr result (StoppedIn W.contents writer.old writer.new (spaced_number number)) }
 {
+    writers_join::<W>();
     writer.put(b" ")?;
-    writer.put(Buffer::new().format(number).as_bytes())
+    writer.put(Buffer::new().format(number).as_bytes())?;
+    Ok(())
 }

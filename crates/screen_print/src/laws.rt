@@ -2,9 +2,31 @@
 
 ghost use Rattle.std.specs.Prelude.{◌≡◌, ◌↔◌, true};
 ghost use Rattle.vt_screen.specs.declared.cell.Row.{Row};
+ghost use Rattle.vt_term.specs.Term.{Term};
+ghost use Rattle.vt_term.specs.Seen.{Shows};
+ghost use Rattle.screen_print.specs.Redrawn.{DrawsAgain};
 ghost use Rattle.screen_print.specs.SameRows.{same_row};
+
+use vt_screen::laws::{lines_are_drawn_by_cell, pictures_are_drawn_by_line, right_margins};
+use vt_term::Terminal;
+use vt_term::laws::{characters_bring, controls_bring, parts_bring, sequences_bring};
 
 /// The test that change lines go by tells equal rows from others.
 pub fn same_rows_are_equal()
     ensures { (one other : Row) → ((same_row one other ≡ true) ↔ (one ≡ other)) }
 {}
+
+/// The escaped print of a terminal, played from the reset term, gives its columns, sizes, cells, reversed flag and cursor
+/// again, with nothing pending and nothing sent.
+pub fn escaped_print_draws_again(terminal: &Terminal)
+    ensures { (x : Term) → Shows terminal.now x → DrawsAgain x }
+{
+    parts_bring();
+    characters_bring();
+    controls_bring();
+    sequences_bring();
+    right_margins();
+    pictures_are_drawn_by_line();
+    lines_are_drawn_by_cell();
+    let _screen = terminal.screen();
+}

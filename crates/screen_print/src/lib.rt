@@ -3,9 +3,15 @@
 
 mod changed_lines;
 mod chunk_changes;
+mod escaped_print;
 mod glyphs;
 pub mod laws;
 mod plain_print;
+#[cfg(test)]
+mod refused;
+#[cfg(test)]
+mod testing;
 
 pub use chunk_changes::{ChangesFault, changes};
+pub use escaped_print::escaped;
 pub use plain_print::plain;

@@ -1,6 +1,6 @@
 //! The plain print: what stands on the screen, as text without renditions.
 
-ghost use Rattle.std.specs.Prelude.{◌≡◌, ◌+◌, ◌≤◌, length, OnOk, IfErr, true, false};
+ghost use Rattle.std.specs.Prelude.{◌≡◌, ◌+◌, ◌≤◌, length, OnOk, IfErr, OnErr, true, false};
 ghost use Rattle.std.specs.List.{suffix_len};
 ghost use Rattle.vt_screen.specs.Cells.{row_at};
 ghost use Rattle.tape_core.specs.Devices.{has_failed, is_flushed, Took, StoppedIn};
@@ -9,8 +9,9 @@ ghost use Rattle.screen_print.specs.PlainText.{is_space, line_text, plain_text};
 use crate::glyphs::character;
 use arrayvec::ArrayString;
 use std::io::Write;
+use tape_core::laws::{pieces_join, writers_join};
 use tape_core::{Fault, Watched};
-use vt_screen::{Cell, Screen};
+use vt_screen::{Cell, Row, Screen};
 use vt_term::Terminal;
 
 /// How many bytes a printed line has at most: three for each of 132 glyphs, and LF.
@@ -21,10 +22,12 @@ const LINE_BYTES: usize = 397;
 pub fn plain<W: Write>(terminal: &Terminal, writer: &mut Watched<W>) -> Result<(), Fault>
     requires { has_failed writer.old ≡ false }
     ensures ok { OnOk result (Took W.contents writer.old writer.new (plain_text terminal.now.console.picture)) }
-    ensures fault { IfErr result (λ fault. (fault ≡ Fault.WriteFault)
-        × StoppedIn W.contents writer.old writer.new (plain_text terminal.now.console.picture)) }
+    ensures fault { IfErr result (λ fault. fault ≡ Fault.WriteFault) }
+    ensures stopped { OnErr result (StoppedIn W.contents writer.old writer.new (plain_text terminal.now.console.picture)) }
     ensures flushed { OnOk result (is_flushed writer.new ≡ true) }
 {
+    pieces_join::<W, Row>();
+    writers_join::<W>();
     let screen = terminal.screen();
     for line in 1..25 {
         let text = line_text(screen, line);

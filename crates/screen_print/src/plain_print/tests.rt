@@ -1,16 +1,6 @@
 use super::*;
-use std::alloc::Global;
-use std::io;
-use std::io::ErrorKind;
+use crate::testing::{SmallWriter, fed};
 use std::test::Fail;
-use vt_term::Reports;
-
-// The reset terminal after bytes.
-fn fed(alloc: Global, bytes: &[u8]) -> Result<Terminal, Fail> {
-    let mut terminal = Terminal::reset();
-    terminal.feed(bytes, &mut Reports::new(alloc))?;
-    Ok(terminal)
-}
 
 #[test]
 fn prints_each_line_to_its_right_margin(rt: HostRuntime) -> Result<(), Fail> {
@@ -79,32 +69,6 @@ fn prints_132_columns(rt: HostRuntime) -> Result<(), Fail> {
         true
     );
     Ok(())
-}
-
-/// A writer that takes at most three bytes a call, and that fails once it holds so many. A flush fails where it is to.
-#[derive(Drop)]
-struct SmallWriter {
-    taken: Vec<u8>,
-    room: usize,
-    flush_fails: bool,
-}
-
-impl Write for SmallWriter {
-    fn write(&mut self, buf: &[u8]) -> io::Result<usize> {
-        if self.taken.len() >= self.room {
-            return Err(io::Error::from(ErrorKind::StorageFull));
-        }
-        let count = buf.len().min(3).min(self.room - self.taken.len());
-        self.taken.extend_from_slice(&buf[..count])?;
-        Ok(count)
-    }
-
-    fn flush(&mut self) -> io::Result<()> {
-        if self.flush_fails {
-            return Err(io::Error::from(ErrorKind::Other));
-        }
-        Ok(())
-    }
 }
 
 #[test]

@@ -1,0 +1,288 @@
+//! The escaped print: what stands on the screen, as a text that draws it again on a reset terminal.
+
+ghost use Rattle.std.specs.Prelude.{◌≡◌, ◌≤◌, ◌++◌, ◌+◌, ◌*◌, length, OnOk, OnErr, IfErr, true, false, decimal};
+ghost use Rattle.std.specs.List.{suffix_len};
+ghost use Rattle.vt_screen.specs.Picture.{SoundRow};
+ghost use Rattle.tape_core.specs.Devices.{has_failed, is_flushed, Took, StoppedIn};
+ghost use Rattle.screen_print.specs.EscapedText.{
+  first_pen,
+  opening_text,
+  closing_text,
+  lines_text,
+  line_text,
+  pen_after_line,
+  placed_text,
+  size_text,
+  cells_text,
+  pen_after,
+  inked,
+  is_blank,
+  is_left_out,
+  cell_text,
+  pen_of,
+  rendition_set_text,
+  slot_text,
+  slot_for,
+  text_where,
+  byte_for,
+  escaped_text,
+};
+
+use arrayvec::ArrayVec;
+use itoa::Buffer;
+use std::io::Write;
+use tape_core::laws::writers_join;
+use tape_core::{Fault, Watched};
+use vt_screen::laws::screens_are_sound;
+use vt_screen::{Cell, Rendition, Row, Screen, Size};
+use vt_term::{Slot, Terminal};
+
+/// How many bytes a line has at most: 10 for its place, 3 for its size, and 14 for each of 132 cells.
+const LINE_BYTES: usize = 1861;
+
+/// What is in force as the text goes on: the rendition that was written last, and the slot that is invoked.
+#[derive(Clone, Copy, PartialEq, Eq)]
+struct Pen {
+    rendition: Rendition,
+    invoked: Slot,
+}
+
+impl Pen {
+    /// No rendition, and G0.
+    fn first() -> Self
+        ensures { result ≡ first_pen }
+    {
+        Pen {
+            rendition: Rendition::plain(),
+            invoked: Slot::G0,
+        }
+    }
+}
+
+/// Writes a text that draws on a reset terminal the columns, sizes, cells, reversed flag and cursor that this one shows. It
+/// takes no memory, and ends without an LF. After a write fault a beginning of the text has gone out.
+#[tactic(auto, unfolding(crate::specs::EscapedText::escaped_text))]
+pub fn escaped<W: Write>(terminal: &Terminal, writer: &mut Watched<W>) -> Result<(), Fault>
+    requires { has_failed writer.old ≡ false }
+    ensures ok { OnOk result (Took W.contents writer.old writer.new (escaped_text terminal.now.console)) }
+    ensures fault { IfErr result (λ fault. fault ≡ Fault.WriteFault) }
+    ensures stopped { OnErr result (StoppedIn W.contents writer.old writer.new (escaped_text terminal.now.console)) }
+    ensures flushed { OnOk result (is_flushed writer.new ≡ true) }
+{
+    writers_join::<W>();
+    writer.put(opening_text(terminal).as_slice())?;
+    put_lines(terminal.screen(), writer)?;
+    writer.put(closing_text(terminal.screen()).as_slice())?;
+    writer.finish()?;
+    Ok(())
+}
+
+/// Writes the lines.
+fn put_lines<W: Write>(screen: &Screen, writer: &mut Watched<W>) -> Result<(), Fault>
+    requires { has_failed writer.old ≡ false }
+    ensures ok { OnOk result (Took W.contents writer.old writer.new (lines_text first_pen 1 screen.now.picture.rows)) }
+    ensures fault { IfErr result (λ fault. fault ≡ Fault.WriteFault) }
+    ensures stopped { OnErr result (StoppedIn W.contents writer.old writer.new (lines_text first_pen 1 screen.now.picture.rows)) }
+{
+    writers_join::<W>();
+    screens_are_sound(screen);
+    let mut pen = Pen::first();
+    for line in 1..25 {
+        writer.put(line_text(line, screen.row(line), &mut pen).as_slice())?;
+    }
+    Ok(())
+}
+
+/// Modes and sets, before the lines.
+fn opening_text(terminal: &Terminal) -> ArrayVec<u8, LINE_BYTES>
+    ensures { result.items ≡ opening_text terminal.now.console }
+{
+    let mut text = ArrayVec::new();
+    push_bytes_where(&mut text, terminal.screen().columns() == 132, b"\x1b[?3h");
+    push_bytes_where(&mut text, terminal.modes().reverse_screen, b"\x1b[?5h");
+    push_bytes(&mut text, b"\x1b[?7l\x1b)0");
+    text
+}
+
+/// What is set back, and the cursor's place.
+fn closing_text(screen: &Screen) -> ArrayVec<u8, LINE_BYTES>
+    ensures { result.items ≡ closing_text screen.now.picture.line screen.now.picture.column }
+{
+    let (line, column) = screen.cursor();
+    let mut text = ArrayVec::new();
+    push_bytes(&mut text, b"\x1b[0m\x0f\x1b[?7h");
+    push_place(&mut text, line, column);
+    text
+}
+
+/// A line, and what is in force after it.
+fn line_text(line: u8, row: &Row, pen: &mut Pen) -> ArrayVec<u8, LINE_BYTES>
+    requires high { line ≤ 24 }
+    requires whole { length row.now.cells ≡ 132 }
+    ensures text { result.items ≡ line_text pen.old line row.now }
+    ensures pen { pen.new ≡ pen_after_line pen.old row.now }
+{
+    let cells = inked(&row.cells);
+    let mut text = ArrayVec::new();
+    if !is_left_out(row.size, cells) {
+        push_place(&mut text, line, 1);
+        push_size(&mut text, row.size);
+        push_cells(&mut text, cells, pen);
+    }
+    text
+}
+
+/// Whether nothing is written of a line.
+fn is_left_out(size: Size, cells: &[Cell]) -> bool
+    ensures { result ≡ is_left_out size cells.now }
+{
+    size.is_single() && cells.is_empty()
+}
+
+/// The cells to the last one that isn't blank.
+fn inked(cells: &[Cell]) -> &[Cell]
+    ensures { result.now ≡ inked cells.now }
+{
+    &cells[..inked_len(cells)]
+}
+
+/// How many of the cells are left without the blank ones at their end.
+fn inked_len(cells: &[Cell]) -> usize
+    ensures { result + suffix_len is_blank cells.now ≡ length cells.now }
+{
+    let mut len = cells.len();
+    while len > 0 && is_blank(cells[len - 1]) {
+        len -= 1;
+    }
+    len
+}
+
+/// Whether a cell is a space without rendition.
+fn is_blank(cell: Cell) -> bool
+    ensures { result ≡ is_blank cell }
+{
+    cell == Cell::blank()
+}
+
+/// CUP.
+fn push_place(text: &mut ArrayVec<u8, LINE_BYTES>, line: u8, column: u8)
+    requires room { length text.old.items + 10 ≤ LINE_BYTES }
+    ensures text { text.new.items ≡ text.old.items ++ placed_text line column }
+    ensures short { length text.new.items ≤ length text.old.items + 10 }
+{
+    push_bytes(text, b"\x1b[");
+    push_number(text, line);
+    text.push(b';');
+    push_number(text, column);
+    text.push(b'H');
+}
+
+/// A number in decimal.
+fn push_number(text: &mut ArrayVec<u8, LINE_BYTES>, number: u8)
+    requires room { length text.old.items + 3 ≤ LINE_BYTES }
+    ensures text { text.new.items ≡ text.old.items ++ decimal number }
+    ensures short { length text.new.items ≤ length text.old.items + 3 }
+{
+    push_bytes(text, Buffer::new().format(number).as_bytes());
+}
+
+/// DECDHL and DECDWL.
+fn push_size(text: &mut ArrayVec<u8, LINE_BYTES>, size: Size)
+    requires room { length text.old.items + 3 ≤ LINE_BYTES }
+    ensures text { text.new.items ≡ text.old.items ++ size_text size }
+    ensures short { length text.new.items ≤ length text.old.items + 3 }
+{
+    match size {
+        Size::Single => {}
+        Size::Top => push_bytes(text, b"\x1b#3"),
+        Size::Bottom => push_bytes(text, b"\x1b#4"),
+        Size::Double => push_bytes(text, b"\x1b#6"),
+    }
+}
+
+/// Cells in turn.
+fn push_cells(text: &mut ArrayVec<u8, LINE_BYTES>, cells: &[Cell], pen: &mut Pen)
+    requires { length text.old.items + 14 * length cells.now ≤ LINE_BYTES }
+    ensures text { text.new.items ≡ text.old.items ++ cells_text pen.old cells.now }
+    ensures pen { pen.new ≡ pen_after pen.old cells.now }
+{
+    for cell in cells {
+        push_cell(text, *cell, pen);
+    }
+}
+
+/// The text of a cell is pushed, and its pen is in force then.
+fn push_cell(text: &mut ArrayVec<u8, LINE_BYTES>, cell: Cell, pen: &mut Pen)
+    requires room { length text.old.items + 14 ≤ LINE_BYTES }
+    ensures text { text.new.items ≡ text.old.items ++ cell_text pen.old cell }
+    ensures short { length text.new.items ≤ length text.old.items + 14 }
+    ensures pen { pen.new ≡ pen_of cell }
+{
+    if pen.rendition != cell.rendition {
+        push_rendition(text, cell.rendition);
+    }
+    push_slot(text, pen.invoked, slot_for(cell.glyph));
+    text.push(byte_for(cell.glyph));
+    *pen = Pen {
+        rendition: cell.rendition,
+        invoked: slot_for(cell.glyph),
+    };
+}
+
+/// SGR of a rendition, after none.
+fn push_rendition(text: &mut ArrayVec<u8, LINE_BYTES>, rendition: Rendition)
+    requires { length text.old.items + 12 ≤ LINE_BYTES }
+    ensures { text.new.items ≡ text.old.items ++ rendition_set_text rendition }
+{
+    push_bytes(text, b"\x1b[0");
+    push_bytes_where(text, rendition.bold(), b";1");
+    push_bytes_where(text, rendition.underscore(), b";4");
+    push_bytes_where(text, rendition.blink(), b";5");
+    push_bytes_where(text, rendition.reverse(), b";7");
+    text.push(b'm');
+}
+
+fn push_bytes(text: &mut ArrayVec<u8, LINE_BYTES>, bytes: &[u8])
+    requires { length text.old.items + length bytes.now ≤ LINE_BYTES }
+    ensures { text.new.items ≡ text.old.items ++ bytes.now }
+{
+    let _ = text.try_extend_from_slice(bytes);
+}
+
+fn push_bytes_where(text: &mut ArrayVec<u8, LINE_BYTES>, holds: bool, bytes: &[u8])
+    requires { length text.old.items + length bytes.now ≤ LINE_BYTES }
+    ensures { text.new.items ≡ text.old.items ++ text_where holds bytes.now }
+{
+    if holds {
+        push_bytes(text, bytes);
+    }
+}
+
+/// SO or SI, where the slot isn't the one invoked.
+fn push_slot(text: &mut ArrayVec<u8, LINE_BYTES>, last: Slot, next: Slot)
+    requires { length text.old.items + 1 ≤ LINE_BYTES }
+    ensures { text.new.items ≡ text.old.items ++ slot_text last next }
+{
+    match (last, next) {
+        (Slot::G0, Slot::G1) => text.push(14),
+        (Slot::G1, Slot::G0) => text.push(15),
+        _ => {}
+    }
+}
+
+/// The slot whose set has a glyph.
+fn slot_for(glyph: u8) -> Slot
+    ensures { result ≡ slot_for glyph }
+{
+    if glyph < 32 { Slot::G1 } else { Slot::G0 }
+}
+
+/// The byte of a glyph in the set of its slot.
+fn byte_for(glyph: u8) -> u8
+    ensures { result ≡ byte_for glyph }
+{
+    if glyph < 32 { 95 + glyph } else { glyph }
+}
+
+#[cfg(test)]
+mod tests;
