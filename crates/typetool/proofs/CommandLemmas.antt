@@ -12,19 +12,21 @@ use Rattle.clap.specs.declared.parser.matches.ArgMatches.TheViews.{out-SubComman
 use Rattle.clap.specs.declared.parser.matches.SubCommand.{SubCommand}
 use Rattle.clap.specs.declared.Error.{Error}
 use Rattle.clap.specs.declared.error.ErrorKind.TheVariants.{OutOfMemory}
-use Rattle.std.proofs.Common.{ℕ, ◌+◌, ◌<◌, ◌≤◌, ◌++◌, map, take, length, get_or, fold, Ok, Err, arith, append-nil, append_assoc, lit≤, suc, below_more}
+use Rattle.std.proofs.Common.{ℕ, ◌+◌, ◌<◌, ◌≤◌, ◌++◌, map, take, length, get_or, Ok, Err, arith, append-nil, append_assoc, lit≤, suc, below_more}
 use Rattle.std.specs.Option.{option_and_then}
 use Rattle.std.specs.Str.{bytes_eq}
 use Rattle.std.proofs.lemmas.List.{get_or_default, map-append, take_all, take_more}
 use Rattle.std.proofs.lemmas.List.Sums.{fold_more}
 use Rattle.clap.specs.Words.{Rule, with_rule, with_subcommand}
-use Rattle.typetool.specs.CommandLine.{typetool_app, clap_faults, clap_takes, subcommand_in, subcommands_in_order, app_in, after, id_in, job_in, meaning_in, meaning_of, meaning_of_words, name_in, path_count, paths_in, rule_in, top_app, value_in, with_rules, with_subcommands, flags_in, IsNamed}
+use Rattle.typetool.specs.CommandLine.{typetool_app, clap_faults, clap_takes, subcommand_in, subcommands_in_order, app_in, after, every_in, fault_of_unread, id_in, job_in, meaning_in, meaning_of, meaning_of_words, moment_given_in, moment_in, name_in, path_count, paths_in, profile_in, rule_in, switch_in, top_app, value_in, with_rules, with_subcommands, flags_in, FailsFor, IsNamed}
 use Rattle.typetool.specs.declared.job.Job.{Job}
 use Rattle.typetool.specs.declared.job.Job.TheVariants as jobs
 use Rattle.typetool.specs.declared.words.table.Argument.{Argument}
+use Rattle.typetool.specs.declared.words.table.Argument.TheVariants.{At, Escaped, From, To}
 use Rattle.typetool.specs.declared.words.table.Subcommand.{Subcommand}
-use Rattle.typetool.specs.declared.words.table.Subcommand.TheVariants.{Due, Info, Screen, Reports, Save}
+use Rattle.typetool.specs.declared.words.table.Subcommand.TheVariants.{Due, Info, Screen, Changes, Reports, Save, Session}
 use Rattle.typetool.specs.declared.words.values.Unreadable.{Unreadable}
+use Rattle.typetool.specs.declared.words.values.Unreadable.TheVariants as unread
 
 -- clap says what such a command's matches are
 pub is_simple_app : is_simple typetool_app ≡ true
@@ -134,8 +136,10 @@ unfolding name_in
 first_named Due = refl
 first_named Info = refl
 first_named Screen = refl
+first_named Changes = refl
 first_named Reports = refl
 first_named Save = refl
+first_named Session = refl
 
 -- what words mean by the subcommand that clap finds in them
 pub means : (words : List Text) (s : Subcommand) (rows : List Row) → subcommand_in words ≡ Some (name_in s, rows) → meaning_of_words words ≡ Some (meaning_in s rows)
@@ -154,20 +158,43 @@ pub means_fault : (s : Subcommand) (rows : List Row) (fault : Unreadable) → jo
 means_fault s rows fault e =
     ap (λ r. after r (λ j. Ok (record { job = j; paths = map (λ a. value_in (id_in a) rows) (paths_in s) }))) e
 
--- a job at a moment that was read
-at_moment : (moment : Result ℕ Unreadable) (job_at : ℕ → Job) (job : Job) (n : ℕ) → ((at : ℕ) → path_count (job_at at) ≤ n) → after moment (λ at. Ok (job_at at)) ≡ Ok job → path_count job ≤ n
-at_moment (Ok at) job_at job n few e =
-    let same : job_at at ≡ job = cc in
-    subst (λ j. path_count j ≤ n) same (few at)
-at_moment (Err fault) job_at job n few e = absurd (cc)
+-- and the fault of the words
+pub fails_unread : (words : List Text) (fault : Unreadable) → clap_faults words ≡ [] → meaning_of_words words ≡ Some (Err fault) → FailsFor words (fault_of_unread fault)
+fails_unread words unread.Seconds taken meant = (taken, meant)
+fails_unread words unread.Every taken meant = (taken, meant)
+fails_unread words unread.Profile taken meant = (taken, meant)
+
+-- a job from a value that was read
+after_read : {A : Type 0} (read : Result A Unreadable) (next : A → Result Job Unreadable) (job : Job) (n : ℕ) → ((x : A) → next x ≡ Ok job → path_count job ≤ n) → after read next ≡ Ok job → path_count job ≤ n
+after_read (Ok x) next job n few e = few x e
+after_read (Err fault) next job n few e = absurd (cc)
+
+-- a job of a value that was read
+of_value : {A : Type 0} (read : Result A Unreadable) (job_of : A → Job) (job : Job) (n : ℕ) → ((x : A) → path_count (job_of x) ≤ n) → after read (λ x. Ok (job_of x)) ≡ Ok job → path_count job ≤ n
+of_value (Ok x) job_of job n few e =
+    let same : job_of x ≡ job = cc in
+    subst (λ j. path_count j ≤ n) same (few x)
+of_value (Err fault) job_of job n few e = absurd (cc)
 
 -- each subcommand has the paths that its job needs
 pub enough_paths : (s : Subcommand) (rows : List Row) (job : Job) → job_in s rows ≡ Ok job → path_count job ≤ length (paths_in s)
 unfolding paths_in job_in
-enough_paths Due rows job e = at_moment _ (λ at. jobs.Due at) job 2 (λ at. lit≤ tt) e
+enough_paths Due rows job e = of_value _ (λ at. jobs.Due at) job 2 (λ at. lit≤ tt) e
 enough_paths Info rows job e = let same : jobs.Info ≡ job = cc in subst (λ j. path_count j ≤ 2) same (lit≤ tt)
-enough_paths Screen rows job e = at_moment _ (λ at. jobs.Screen at) job 2 (λ at. lit≤ tt) e
-enough_paths Reports rows job e = at_moment _ (λ at. jobs.Reports at) job 2 (λ at. lit≤ tt) e
+enough_paths Screen rows job e =
+    after_read (moment_in (id_in At) rows) (λ at. after (profile_in rows) (λ p. Ok (jobs.Screen at p (switch_in (id_in Escaped) rows)))) job 2
+    (λ at later. of_value (profile_in rows) (λ p. jobs.Screen at p (switch_in (id_in Escaped) rows)) job 2 (λ p. lit≤ tt) later) e
+enough_paths Changes rows job e =
+    after_read (moment_given_in (id_in From) rows)
+    (λ from. after (moment_in (id_in To) rows) (λ to. after (profile_in rows) (λ p. Ok (jobs.Changes from to p)))) job 2
+    (λ from later. after_read (moment_in (id_in To) rows) (λ to. after (profile_in rows) (λ p. Ok (jobs.Changes from to p))) job 2
+    (λ to last. of_value (profile_in rows) (λ p. jobs.Changes from to p) job 2 (λ p. lit≤ tt) last) later) e
+enough_paths Reports rows job e =
+    after_read (moment_in (id_in At) rows) (λ at. after (profile_in rows) (λ p. Ok (jobs.Reports at p))) job 2
+    (λ at later. of_value (profile_in rows) (λ p. jobs.Reports at p) job 2 (λ p. lit≤ tt) later) e
+enough_paths Session rows job e =
+    after_read (every_in rows) (λ every. after (profile_in rows) (λ p. Ok (jobs.Session every p))) job 2
+    (λ every later. of_value (profile_in rows) (λ p. jobs.Session every p) job 2 (λ p. lit≤ tt) later) e
 enough_paths Save rows job e = let same : jobs.Save ≡ job = cc in subst (λ j. path_count j ≤ 4) same (lit≤ tt)
 
 -- a name that is none of those in a list is named by none of their commands

@@ -1,3 +1,4 @@
 pub mod CommandLemmas
 pub mod JobLemmas
 pub mod RequestLemmas
+pub mod SessionLemmas

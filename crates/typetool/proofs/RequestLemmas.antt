@@ -1,7 +1,7 @@
 -- Edits from request lines, one line after another.
-use Rattle.std.proofs.Common.{◌≡◌, ◌≢◌, ℕ, ◌+◌, List, [], ◌∷◌, ◌++◌, Option, Some, None, Result, Ok, Err, refl, sym, ◌∙◌, ap, subst, unwrap_or}
+use Rattle.std.proofs.Common.{◌≡◌, ◌≢◌, ℕ, ◌+◌, List, [], ◌∷◌, Option, Some, None, Result, Ok, Err, sym, ◌∙◌, ap, unwrap_or}
 use Rattle.tape_core.specs.Tape.{Tape}
-use Rattle.tape_seek.specs.Edits.{edit_fault, edited}
+use Rattle.tape_seek.specs.Edits.{edit_fault}
 use Rattle.tape_seek.specs.Requests.{request}
 use Rattle.tape_seek.specs.State.{State, accepted}
 use Rattle.tape_seek.specs.declared.edits.Edit.{Edit}

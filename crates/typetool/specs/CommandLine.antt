@@ -1,55 +1,70 @@
 -- The command line: the table of subcommands, what clap is told of it, and the job and the paths that its answer means.
-use Rattle.std.specs.Prelude.{◌≡◌, ℕ, ◌⊎◌, ◌++◌, Bool, true, false, List, [], ◌∷◌, map, Option, Some, None, Result, Ok, Err, codes, unwrap_or, string_bytes, find, fold}
+use Rattle.std.specs.Prelude.{◌≡◌, ℕ, ◌⊎◌, ◌++◌, Bool, true, false, List, [], ◌∷◌, map, Option, Some, None, Result, Ok, Err, codes, unwrap_or, string_bytes, find, fold, nat_lt, ◌||◌, if◌then◌else◌}
 use Rattle.std.specs.Option.{option_and_then, option_map}
 use Rattle.std.specs.Str.{bytes_eq}
 use Rattle.clap.specs.Words.{App, IsAmong, Kinds, Row, Rule, Shape, Text, fault_of, first_of, kind_of, new_app, new_rule, subcommand_of, takes, with_subcommand}
-use Rattle.clap.specs.declared.builder.ArgAction.TheVariants.{Set}
+use Rattle.clap.specs.declared.builder.ArgAction.TheVariants.{Set, SetTrue}
+use Rattle.clap.specs.declared.builder.value_parser.ValueParser.TheVariants as parses
 use Rattle.tape_core.specs.Seconds.{seconds_of}
+use Rattle.tape_seek.specs.Requests.{place_of}
 use Rattle.typetool.specs.declared.job.Job.{Job}
 use Rattle.typetool.specs.declared.job.Job.TheVariants as job
 use Rattle.typetool.specs.declared.words.Words.{Words}
 use Rattle.typetool.specs.declared.words.WordsFault.{WordsFault}
-use Rattle.typetool.specs.declared.words.WordsFault.TheVariants.{Clap, Memory, BadSeconds}
+use Rattle.typetool.specs.declared.words.WordsFault.TheVariants.{Clap, Memory, BadSeconds, BadEvery, BadProfile}
 use Rattle.typetool.specs.declared.words.table.Argument.{Argument}
-use Rattle.typetool.specs.declared.words.table.Argument.TheVariants.{At, Script, Timing, NewScript, NewTiming}
+use Rattle.typetool.specs.declared.words.table.Argument.TheVariants.{At, From, To, Every, Profile, Escaped, Script, Timing, NewScript, NewTiming}
 use Rattle.typetool.specs.declared.words.table.Subcommand.{Subcommand}
-use Rattle.typetool.specs.declared.words.table.Subcommand.TheVariants.{Due, Info, Screen, Reports, Save}
+use Rattle.typetool.specs.declared.words.table.Subcommand.TheVariants.{Due, Info, Screen, Changes, Reports, Save, Session}
 use Rattle.typetool.specs.declared.words.values.Unreadable.{Unreadable}
-use Rattle.typetool.specs.declared.words.values.Unreadable.TheVariants.{Seconds}
+use Rattle.typetool.specs.declared.words.values.Unreadable.TheVariants as unread
+use Rattle.vt_term.specs.declared.profile.Profile.{Profile as Played}
+use Rattle.vt_term.specs.declared.profile.Profile.TheVariants.{Vt100, Vt102}
 
 -- ---- the table
 
 -- the subcommands, in the order in which help tells them (profile)
 abbrev pub subcommands_in_order : List Subcommand
-subcommands_in_order = Due ∷ Info ∷ Screen ∷ Reports ∷ Save ∷ []
+subcommands_in_order = Due ∷ Info ∷ Screen ∷ Changes ∷ Reports ∷ Save ∷ Session ∷ []
 
 -- the name of a subcommand (profile)
 unfoldable pub name_in : Subcommand → Text
 name_in Due = codes "due"
 name_in Info = codes "info"
 name_in Screen = codes "screen"
+name_in Changes = codes "changes"
 name_in Reports = codes "reports"
 name_in Save = codes "save"
+name_in Session = codes "session"
 
 -- the flags of a subcommand (profile)
 unfoldable pub flags_in : Subcommand → List Argument
 flags_in Due = At ∷ []
 flags_in Info = []
-flags_in Screen = At ∷ []
-flags_in Reports = At ∷ []
+flags_in Screen = At ∷ Escaped ∷ Profile ∷ []
+flags_in Changes = From ∷ To ∷ Profile ∷ []
+flags_in Reports = At ∷ Profile ∷ []
 flags_in Save = []
+flags_in Session = Every ∷ Profile ∷ []
 
 -- the paths of a subcommand, in the line's order (profile)
 unfoldable pub paths_in : Subcommand → List Argument
 paths_in Due = Script ∷ Timing ∷ []
 paths_in Info = Script ∷ Timing ∷ []
 paths_in Screen = Script ∷ Timing ∷ []
+paths_in Changes = Script ∷ Timing ∷ []
 paths_in Reports = Script ∷ Timing ∷ []
 paths_in Save = Script ∷ Timing ∷ NewScript ∷ NewTiming ∷ []
+paths_in Session = Script ∷ Timing ∷ []
 
 -- the name of an argument (profile)
 unfoldable pub id_in : Argument → Text
 id_in At = codes "at"
+id_in From = codes "from"
+id_in To = codes "to"
+id_in Every = codes "every"
+id_in Profile = codes "profile"
+id_in Escaped = codes "escaped"
 id_in Script = codes "script"
 id_in Timing = codes "timing"
 id_in NewScript = codes "new-script"
@@ -59,6 +74,18 @@ id_in NewTiming = codes "new-timing"
 abbrev pub seconds_rule : Text → Rule
 seconds_rule id = record (new_rule id) { long = Some id; action = Some Set; required = true; value_names = 1 }
 
+-- a flag with a value that may be left out (profile)
+abbrev pub optional_rule : Text → Rule
+optional_rule id = record (new_rule id) { long = Some id; action = Some Set; value_names = 1 }
+
+-- such a flag that takes a number of chunks: clap refuses what isn't from 1 to 1,000,000 (profile)
+abbrev pub every_rule : Text → Rule
+every_rule id = record (optional_rule id) { parser = Some (parses.Unsigned 1 1000000) }
+
+-- a flag without a value (profile)
+abbrev pub switch_rule : Text → Rule
+switch_rule id = record (new_rule id) { long = Some id; action = Some SetTrue }
+
 -- a path that must be given (profile)
 abbrev pub path_rule : Text → Rule
 path_rule id = record (new_rule id) { action = Some Set; required = true; value_names = 1 }
@@ -66,6 +93,11 @@ path_rule id = record (new_rule id) { action = Some Set; required = true; value_
 -- what clap is told of an argument (profile)
 unfoldable pub rule_in : Argument → Rule
 rule_in At = seconds_rule (id_in At)
+rule_in From = optional_rule (id_in From)
+rule_in To = seconds_rule (id_in To)
+rule_in Every = every_rule (id_in Every)
+rule_in Profile = optional_rule (id_in Profile)
+rule_in Escaped = switch_rule (id_in Escaped)
 rule_in Script = path_rule (id_in Script)
 rule_in Timing = path_rule (id_in Timing)
 rule_in NewScript = path_rule (id_in NewScript)
@@ -89,15 +121,63 @@ after (Err fault) next = Err fault
 
 -- the moment that a flag gives, in microseconds (profile)
 abbrev pub moment_in : Text → List Row → Result ℕ Unreadable
-moment_in id rows = readable Seconds (seconds_of (value_in id rows))
+moment_in id rows = readable unread.Seconds (seconds_of (value_in id rows))
+
+-- the moment in a text, if there is a text (profile)
+abbrev pub moment_if : Option Text → Result (Option ℕ) Unreadable
+moment_if None = Ok None
+moment_if (Some text) = after (readable unread.Seconds (seconds_of text)) (λ moment. Ok (Some moment))
+
+-- the moment that a flag gives, in microseconds, if it is given (profile)
+abbrev pub moment_given_in : Text → List Row → Result (Option ℕ) Unreadable
+moment_given_in id rows = moment_if (first_of id rows)
+
+-- the number, if so many chunks may lie between stored terminals: from 1 to 1,000,000 (profile)
+abbrev pub every_allowed : ℕ → Option ℕ
+every_allowed n = if nat_lt n 1 || nat_lt 1000000 n then None else Some n
+
+-- such a number in digits alone (profile)
+unfoldable pub every_of : Text → Option ℕ
+every_of text = option_and_then every_allowed (place_of text)
+
+-- the number in a text, and 100 if there is no text (profile)
+abbrev pub every_if : Option Text → Result ℕ Unreadable
+every_if None = Ok 100
+every_if (Some text) = readable unread.Every (every_of text)
+
+-- how many chunks are to lie between stored terminals (profile)
+abbrev pub every_in : List Row → Result ℕ Unreadable
+every_in rows = every_if (first_of (id_in Every) rows)
+
+-- the profile of this name (profile)
+unfoldable pub profile_named : Text → Option Played
+profile_named name =
+    if bytes_eq name (codes "vt100") then Some Vt100 else (if bytes_eq name (codes "vt102") then Some Vt102 else None)
+
+-- the profile that a text names, and a VT100 if there is no text (profile)
+abbrev pub profile_if : Option Text → Result Played Unreadable
+profile_if None = Ok Vt100
+profile_if (Some text) = readable unread.Profile (profile_named text)
+
+-- which terminal is to play (profile)
+abbrev pub profile_in : List Row → Result Played Unreadable
+profile_in rows = profile_if (first_of (id_in Profile) rows)
+
+-- whether a flag without a value is given: clap tells `true` then, and else `false` (profile)
+abbrev pub switch_in : Text → List Row → Bool
+switch_in id rows = bytes_eq (value_in id rows) (codes "true")
 
 -- the job that a subcommand's values mean, or what of them isn't readable (profile)
 unfoldable pub job_in : Subcommand → List Row → Result Job Unreadable
 job_in Due rows = after (moment_in (id_in At) rows) (λ at. Ok (job.Due at))
 job_in Info rows = Ok job.Info
-job_in Screen rows = after (moment_in (id_in At) rows) (λ at. Ok (job.Screen at))
-job_in Reports rows = after (moment_in (id_in At) rows) (λ at. Ok (job.Reports at))
+job_in Screen rows = after (moment_in (id_in At) rows) (λ at. after (profile_in rows) (λ profile. Ok (job.Screen at profile (switch_in (id_in Escaped) rows))))
+job_in Changes rows =
+    after (moment_given_in (id_in From) rows) (λ from. after (moment_in (id_in To) rows) (λ to.
+    after (profile_in rows) (λ profile. Ok (job.Changes from to profile))))
+job_in Reports rows = after (moment_in (id_in At) rows) (λ at. after (profile_in rows) (λ profile. Ok (job.Reports at profile)))
 job_in Save rows = Ok job.Save
+job_in Session rows = after (every_in rows) (λ every. after (profile_in rows) (λ profile. Ok (job.Session every profile)))
 
 -- ---- what clap is told
 
@@ -165,12 +245,22 @@ meaning_read words = record { job = words.job; paths = map string_bytes words.pa
 abbrev pub path_count : Job → ℕ
 path_count (job.Due at) = 2
 path_count job.Info = 2
-path_count (job.Screen at) = 2
-path_count (job.Reports at) = 2
+path_count (job.Screen at profile escaped) = 2
+path_count (job.Changes from to profile) = 2
+path_count (job.Reports at profile) = 2
 path_count job.Save = 4
+path_count (job.Session every profile) = 2
 
--- why words aren't a job: clap finds a fault of that kind in them and doesn't promise to take them, or it reads them and some seconds aren't readable; memory may always be refused (profile)
+-- the fault of words that clap takes and that aren't readable (profile)
+abbrev pub fault_of_unread : Unreadable → WordsFault
+fault_of_unread unread.Seconds = BadSeconds
+fault_of_unread unread.Every = BadEvery
+fault_of_unread unread.Profile = BadProfile
+
+-- why words aren't a job: clap finds a fault of that kind in them and doesn't promise to take them, or it reads them and some seconds aren't readable, or the number of chunks, or the profile; memory may always be refused (profile)
 abbrev pub FailsFor : List Text → WordsFault → Type 0
 FailsFor words (Clap e) = IsAmong (kind_of e) (clap_faults words) × (clap_takes words ≡ false)
 FailsFor words Memory = Unit {0}
-FailsFor words BadSeconds = (clap_faults words ≡ []) × (meaning_of_words words ≡ Some (Err Seconds))
+FailsFor words BadSeconds = (clap_faults words ≡ []) × (meaning_of_words words ≡ Some (Err unread.Seconds))
+FailsFor words BadEvery = (clap_faults words ≡ []) × (meaning_of_words words ≡ Some (Err unread.Every))
+FailsFor words BadProfile = (clap_faults words ≡ []) × (meaning_of_words words ≡ Some (Err unread.Profile))

@@ -6,7 +6,7 @@ use Rattle.tape_core.specs.Tape.{Tape, body_len}
 use Rattle.tape_core.specs.Written.{seconds_form}
 
 -- a line: a name with the space after it, a value and LF (profile)
-abbrev pub info_line : List ℕ → List ℕ → List ℕ
+unfoldable pub info_line : List ℕ → List ℕ → List ℕ
 info_line name value = (name ++ value) ++ 10 ∷ []
 
 -- the five lines: how many chunks and how many bytes in them, the sum of the delays, the bytes of header and trailer (profile)

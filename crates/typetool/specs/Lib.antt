@@ -4,3 +4,4 @@ pub mod Moment
 pub mod Output
 pub mod Program
 pub mod Requests
+pub mod Session

@@ -1,6 +1,8 @@
 -- What a job comes to: a function of its files, with no device and no want of memory in it.
-use Rattle.std.specs.Prelude.{◌≡◌, ◌≢◌, ℕ, ◌⊎◌, ◌∷◌, ◌++◌, Bool, true, false, List, [], Option, Some, None, MatchOption, Result, Ok, Err, if◌then◌else◌}
+use Rattle.std.specs.Prelude.{◌≡◌, ℕ, ◌⊎◌, ◌∷◌, ◌++◌, Bool, true, false, List, [], Option, Some, None, MatchOption, Result, Ok, Err, if◌then◌else◌}
 use Rattle.hex.specs.Hex.{encode_lower}
+use Rattle.screen_print.specs.ChangeLines.{change_lines}
+use Rattle.screen_print.specs.EscapedText.{escaped_text}
 use Rattle.screen_print.specs.PlainText.{plain_text}
 use Rattle.tape_core.specs.Devices.{inner_of, Took, StoppedIn}
 use Rattle.tape_core.specs.Due.{due}
@@ -10,15 +12,19 @@ use Rattle.tape_core.specs.Tape.{Tape}
 use Rattle.tape_core.specs.Text.{lines_of}
 use Rattle.tape_core.specs.Written.{script_text, timing_text}
 use Rattle.tape_seek.specs.Moments.{term_at}
+use Rattle.vt_term.specs.Console.{Console}
+use Rattle.vt_term.specs.declared.profile.Profile.TheVariants.{Vt100}
 use Rattle.tape_seek.specs.declared.edits.EditFault.{EditFault}
 use Rattle.tape_core.specs.declared.devices.Watched.{Watched}
-use Rattle.tape_core.specs.declared.fault.Fault.{Fault}
 use Rattle.tape_core.specs.declared.fault.Fault.TheVariants as fault
 use Rattle.typetool.specs.Info.{info_text}
-use Rattle.typetool.specs.Moment.{Began}
+use Rattle.screen_print.specs.Stops.{Began}
 use Rattle.typetool.specs.Requests.{saved, started}
+use Rattle.typetool.specs.Session.{answered, any_refused}
 use Rattle.typetool.specs.declared.job.Job.{Job}
-use Rattle.typetool.specs.declared.job.Job.TheVariants.{Due, Info, Screen, Reports, Save}
+use Rattle.typetool.specs.declared.job.Job.TheVariants.{Due, Info, Screen, Changes, Reports, Save, Session}
+use Rattle.typetool.specs.declared.job.Ending.{Ending}
+use Rattle.typetool.specs.declared.job.Ending.TheVariants.{Clean, WithRefusals}
 use Rattle.typetool.specs.declared.job.JobFault.{JobFault}
 use Rattle.typetool.specs.declared.job.JobFault.TheVariants.{File, Line, Memory}
 use Rattle.typetool.specs.declared.job.Outcome.{Outcome}
@@ -39,25 +45,26 @@ pub record Done : Type 0 where
 abbrev pub takes_requests : Job → Bool
 takes_requests (Due at) = false
 takes_requests Info = false
-takes_requests (Screen at) = false
-takes_requests (Reports at) = false
+takes_requests (Screen at profile escaped) = false
+takes_requests (Changes from to profile) = false
+takes_requests (Reports at profile) = false
 takes_requests Save = true
+takes_requests (Session every profile) = true
 
 -- whether a job writes a new timing (profile)
 abbrev pub writes_timing : Job → Bool
 writes_timing (Due at) = false
 writes_timing Info = false
-writes_timing (Screen at) = false
-writes_timing (Reports at) = false
+writes_timing (Screen at profile escaped) = false
+writes_timing (Changes from to profile) = false
+writes_timing (Reports at profile) = false
 writes_timing Save = true
+writes_timing (Session every profile) = false
 
--- what a job writes on a recording: the bytes that are due, what the recording holds, or what the terminal shows or has sent by then (profile)
-abbrev pub text_of : Job → Tape → List ℕ
-text_of (Due at) tape = due tape.chunks at
-text_of Info tape = info_text tape
-text_of (Screen at) tape = plain_text (term_at tape at).console.picture
-text_of (Reports at) tape = encode_lower (term_at tape at).reports ++ 10 ∷ []
-text_of Save tape = []
+-- a screen, as a text that draws it again or as plain text (profile)
+abbrev pub screen_text : Bool → Console → List ℕ
+screen_text true s = escaped_text s
+screen_text false s = plain_text s.picture
 
 -- what a job comes to that is done with these texts (profile)
 abbrev pub done_with : List ℕ → List ℕ → Done
@@ -72,21 +79,39 @@ abbrev pub done_saving : Result Tape (ℕ × EditFault) → Done
 done_saving (Ok tape) = done_with (script_text tape) (timing_text tape)
 done_saving (Err refused) = refused_with (Line refused.0 refused.1)
 
--- what a job comes to on a recording and request lines (profile)
+-- how a session ends, by whether any line was refused (profile)
+abbrev pub ending_by : Bool → Ending
+ending_by refused = if refused then WithRefusals else Clean
+
+-- the status of the program after a job that is done (profile)
+abbrev pub status_after : Ending → ℕ
+status_after Clean = 0
+status_after WithRefusals = 1
+
+-- what a session comes to: its answers, and status 1 where any line was refused (profile)
+abbrev pub done_answering : List ℕ → Bool → Done
+done_answering text refused = record { text = text; timing = []; outcome = record { status = status_after (ending_by refused); fault = None } }
+
+-- what a job comes to on a recording and request lines: the bytes that are due, what the recording holds, what the terminal shows, which lines of it each chunk changes, what it has sent by then, both files anew, or the answers to the lines (profile)
 abbrev pub done_on : Job → Tape → List ℕ → Done
-done_on (Due at) tape requests = done_with (text_of (Due at) tape) []
-done_on Info tape requests = done_with (text_of Info tape) []
-done_on (Screen at) tape requests = done_with (text_of (Screen at) tape) []
-done_on (Reports at) tape requests = done_with (text_of (Reports at) tape) []
-done_on Save tape requests = done_saving (saved 1 (started tape) (lines_of requests))
+done_on (Due at) tape requests = done_with (due tape.chunks at) []
+done_on Info tape requests = done_with (info_text tape) []
+done_on (Screen at profile escaped) tape requests = done_with (screen_text escaped (term_at profile tape at).console) []
+done_on (Changes from to profile) tape requests = done_with (change_lines profile tape from to) []
+done_on (Reports at profile) tape requests = done_with (encode_lower (term_at profile tape at).reports ++ 10 ∷ []) []
+done_on Save tape requests = done_saving (saved 1 (started Vt100 tape) (lines_of requests))
+done_on (Session every profile) tape requests =
+    done_answering (answered (started profile tape) (lines_of requests)) (any_refused (started profile tape) (lines_of requests))
 
 -- the jobs that may take memory once the recording is read: those that open a session (profile)
 abbrev pub TakesMemory : Job → Type 0
 TakesMemory (Due at) = ⊥
 TakesMemory Info = ⊥
-TakesMemory (Screen at) = Unit {0}
-TakesMemory (Reports at) = Unit {0}
+TakesMemory (Screen at profile escaped) = Unit {0}
+TakesMemory (Changes from to profile) = Unit {0}
+TakesMemory (Reports at profile) = Unit {0}
 TakesMemory Save = Unit {0}
+TakesMemory (Session every profile) = Unit {0}
 
 -- a job comes to this on these files: the fault of the pair where it has one, and else what it comes to on the recording (profile)
 abbrev pub Comes : Job → Files → Done → Type 0
@@ -105,9 +130,11 @@ is_stopped (Some (Line line f)) = false
 abbrev pub IsDoneStatus : Job → ℕ → Type 0
 IsDoneStatus (Due at) status = status ≡ 0
 IsDoneStatus Info status = status ≡ 0
-IsDoneStatus (Screen at) status = status ≡ 0
-IsDoneStatus (Reports at) status = status ≡ 0
+IsDoneStatus (Screen at profile escaped) status = status ≡ 0
+IsDoneStatus (Changes from to profile) status = status ≡ 0
+IsDoneStatus (Reports at profile) status = status ≡ 0
 IsDoneStatus Save status = status ≡ 0
+IsDoneStatus (Session every profile) status = (status ≡ 0) ⊎ (status ≡ 1)
 
 -- the status of the program where a job isn't done: 3 where a device or want of memory stopped it, and else 1 (profile)
 abbrev pub status_of : JobFault → ℕ
@@ -116,8 +143,8 @@ status_of Memory = 3
 status_of (Line line f) = 1
 
 -- how a job ends that is done, or is stopped by a fault (profile)
-abbrev pub outcome_by : Result (Unit {0}) JobFault → Outcome
-outcome_by (Ok done) = record { status = 0; fault = None }
+abbrev pub outcome_by : Result Ending JobFault → Outcome
+outcome_by (Ok ending) = record { status = status_after ending; fault = None }
 outcome_by (Err f) = record { status = status_of f; fault = Some f }
 
 -- the fault is one that comes before anything is written (profile)

@@ -9,25 +9,27 @@ use Rattle.tape_seek.specs.declared.edits.EditFault.{EditFault}
 use Rattle.tape_seek.specs.declared.edits.EditFault.TheVariants as fault
 use Rattle.tape_seek.specs.declared.requests.Request.{Request}
 use Rattle.tape_seek.specs.declared.requests.Request.TheVariants as asks
+use Rattle.vt_term.specs.declared.profile.Profile.{Profile}
 use Rattle.typetool.specs.declared.job.JobFault.{JobFault}
 use Rattle.typetool.specs.declared.job.JobFault.TheVariants.{File, Line, Memory}
 
--- where request lines have led: the recording as edited, and the accepted edits in order (profile)
+-- where request lines have led: which terminal plays, the recording as edited, and the accepted edits in order (profile)
 pub record Course : Type 0 where
+  pub profile : Profile
   pub tape : Tape
   pub log : List Edit
 
 -- before the first line (profile)
-abbrev pub started : Tape → Course
-started tape = record { tape = tape; log = [] }
+abbrev pub started : Profile → Tape → Course
+started profile tape = record { profile = profile; tape = tape; log = [] }
 
 -- where a session stands (profile)
 abbrev pub course_of : State → Course
-course_of session = record { tape = session.recording; log = session.log }
+course_of session = record { profile = session.profile; tape = session.recording; log = session.log }
 
 -- an edit without a fault changes the recording and stands in the log; any other leaves both (profile)
 abbrev pub after_judging : Course → Edit → Option EditFault → Course
-after_judging course edit None = record { tape = edited course.tape edit; log = course.log ++ edit ∷ [] }
+after_judging course edit None = record { profile = course.profile; tape = edited course.tape edit; log = course.log ++ edit ∷ [] }
 after_judging course edit (Some f) = course
 
 -- after what a line asks for; none is a line of no known form (profile)

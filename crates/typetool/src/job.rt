@@ -1,38 +1,82 @@
 //! The jobs: each reads its files whole and then writes its text.
 
 ghost use Rattle.std.specs.Prelude.{◌≡◌, ◌⊎◌, ◌≢◌, ℕ, List, true, false, Some, None, OnOk, IfOk, IfErr, IfSome};
-ghost use Rattle.tape_core.specs.Devices.{inner_of, has_failed, is_flushed, StopsReading, Took};
+ghost use Rattle.tape_core.specs.Devices.{inner_of, has_failed, is_flushed, StopsReading};
 ghost use Rattle.tape_core.specs.Faults.{is_stop};
 ghost use Rattle.tape_core.specs.Reading.{fault_of, reads};
 ghost use Rattle.tape_core.specs.Tape.{Tape};
-ghost use Rattle.typetool.specs.Moment.{StopsAt};
-ghost use Rattle.typetool.specs.Output.{Files, Done, Comes, Tells, Wrote, Begun, Stopped, takes_requests, writes_timing, is_stopped, is_unwritten, status_of, outcome_by, text_of, IsDoneStatus, TakesMemory};
+ghost use Rattle.typetool.specs.Output.{Files, Done, Comes, Tells, Wrote, Begun, Stopped, takes_requests, writes_timing, EndsAt, done_on, is_stopped, is_unwritten, status_after, status_of, outcome_by, IsDoneStatus, TakesMemory};
 
+use crate::jobs::changes::write_changes;
 use crate::jobs::due::write_due;
 use crate::jobs::info::write_info;
 use crate::jobs::save::{name_of, save};
+use crate::jobs::session::write_answers;
 use crate::moment::{write_reports, write_screen};
+use screen_print::ChangesFault;
 use std::alloc::Global;
 use std::io::{Read, Write};
-use std::mem::ManuallyDrop;
+use tape_core::laws::writers_join;
 use tape_core::{Fault, Recording, Watched, read_recording, slurp};
 use tape_seek::EditFault;
 use thiserror::Error;
-use vt_term::OutOfMemory;
+use vt_term::{OutOfMemory, Profile};
 
 /// What is to be done with a recording. Moments are in microseconds.
 #[derive(Clone, Copy, Debug, PartialEq, Eq)]
 pub enum Job {
     /// Write the bytes of the chunks that are due by a moment.
-    Due { at: u64 },
+    Due {
+        at: u64,
+    },
     /// Write what the recording holds, in five lines.
     Info,
-    /// Write the screen of a moment as plain text.
-    Screen { at: u64 },
+    /// Write the screen of a moment as plain text, or as a text that draws it again.
+    Screen {
+        at: u64,
+        profile: Profile,
+        escaped: bool,
+    },
+    /// Write which lines of the screen each chunk changes, of those that are due after `from` (None: from chunk 0 on) and
+    /// by `to`.
+    Changes {
+        from: Option<u64>,
+        to: u64,
+        profile: Profile,
+    },
     /// Write in hexadecimal what the terminal has sent by a moment.
-    Reports { at: u64 },
+    Reports {
+        at: u64,
+        profile: Profile,
+    },
     /// Make the edits of request lines, and write both files anew.
     Save,
+    /// Answer request lines. A terminal is stored at every so many chunks, of 1 to 1,000,000.
+    Session {
+        every: usize,
+        profile: Profile,
+    },
+}
+
+/// How a job ends that is done.
+#[derive(Clone, Copy, Debug, PartialEq, Eq)]
+pub enum Ending {
+    /// Nothing was refused.
+    Clean,
+    /// A session has refused some line.
+    WithRefusals,
+}
+
+impl Ending {
+    /// The status of the program: 1 where a line was refused, and else 0.
+    fn status(self) -> u8
+        ensures { result ≡ status_after self }
+    {
+        match self {
+            Ending::Clean => 0,
+            Ending::WithRefusals => 1,
+        }
+    }
 }
 
 /// Why a job wasn't done.
@@ -49,6 +93,17 @@ pub enum JobFault {
     Memory,
 }
 
+impl From<Fault> for JobFault {
+    ghost use Rattle.std.specs.Prelude.{◌≡◌};
+    ghost use Rattle.typetool.specs.declared.job.JobFault.TheVariants.{File as file};
+
+    ghost from_gives = { λ fault made. made ≡ file fault };
+
+    fn from(fault: Fault) -> JobFault {
+        JobFault::File(fault)
+    }
+}
+
 impl From<OutOfMemory> for JobFault {
     ghost use Rattle.std.specs.Prelude.{◌≡◌};
     ghost use Rattle.typetool.specs.declared.job.JobFault.TheVariants.{Memory};
@@ -57,6 +112,20 @@ impl From<OutOfMemory> for JobFault {
 
     fn from(_refused: OutOfMemory) -> JobFault {
         JobFault::Memory
+    }
+}
+
+impl From<ChangesFault> for JobFault {
+    ghost use Rattle.std.specs.Prelude.{◌≡◌};
+    ghost use Rattle.typetool.specs.Moment.{fault_of_changes};
+
+    ghost from_gives = { λ stop fault. fault ≡ fault_of_changes stop };
+
+    fn from(stop: ChangesFault) -> JobFault {
+        match stop {
+            ChangesFault::Write => JobFault::File(Fault::WriteFault),
+            ChangesFault::Memory => JobFault::Memory,
+        }
     }
 }
 
@@ -146,53 +215,83 @@ pub fn run<S: Read, T: Read, R: Read, O: Write, P: Write>(
     ensures requests { takes_requests job ≡ false → requests.new ≡ requests.old }
     ensures out_timing { writes_timing job ≡ false → out_timing.new ≡ out_timing.old }
 {
+    writers_join::<O>();
+    writers_join::<P>();
     let given = match read_files(alloc, job, script, timing, requests) {
         Ok(given) => given,
         Err(fault) => return outcome_of(Err(JobFault::File(fault))),
     };
+    outcome_of(perform(alloc, job, given, out, out_timing))
+}
+
+/// Does a job on what it is given, and flushes what it writes. The program ends with its job: to free a million chunks one
+/// by one would take as long as to write them.
+fn perform<O: Write, P: Write>(
+    alloc: Global,
+    job: Job,
+    given: Given,
+    out: &mut Watched<O>,
+    out_timing: &mut Watched<P>,
+) -> Result<Ending, JobFault>
+    requires out { has_failed out.old ≡ false }
+    requires out_timing { has_failed out_timing.old ≡ false }
+    ensures ok { OnOk result ((done_on job given.recording given.requests.items).outcome ≡ outcome_by result) }
+    ensures status { IfOk result (λ ending. IsDoneStatus job (status_after ending)) }
+    ensures wrote { OnOk result (Wrote O.contents P.contents out.old out.new out_timing.old out_timing.new
+        (done_on job given.recording given.requests.items)) }
+    ensures flushed { OnOk result (is_flushed out.new ≡ true) }
+    ensures flushed_timing { writes_timing job ≡ true → OnOk result (is_flushed out_timing.new ≡ true) }
+    ensures fault { IfErr result (EndsAt O.contents P.contents out.old out.new out_timing.old out_timing.new
+        (done_on job given.recording given.requests.items)) }
+    ensures want { result ≡ Err JobFault.Memory → TakesMemory job }
+    ensures alone { writes_timing job ≡ false → out_timing.new ≡ out_timing.old }
+{
     let Given {
         recording,
         requests,
     } = given;
     match job {
-        Job::Save => outcome_of(save(alloc, recording, &requests, out, out_timing)),
-        _ => outcome_of(write_text(alloc, job, recording, out)),
-    }
-}
-
-/// Writes the text of a job on a recording, and flushes. The program ends with its job: to free a million chunks one by
-/// one would take as long as to write them.
-fn write_text<O: Write>(
-    alloc: Global,
-    job: Job,
-    recording: Recording,
-    out: &mut Watched<O>,
-) -> Result<(), JobFault>
-    requires one { writes_timing job ≡ false }
-    requires out { has_failed out.old ≡ false }
-    ensures ok { OnOk result (Took O.contents out.old out.new (text_of job recording)) }
-    ensures flushed { OnOk result (is_flushed out.new ≡ true) }
-    ensures fault { IfErr result (StopsAt O.contents out.old out.new (text_of job recording)) }
-    ensures want { result ≡ Err JobFault.Memory → TakesMemory job }
-{
-    match job {
         Job::Due { at } => {
-            write_due(&ManuallyDrop::new(recording), at, out).map_err(JobFault::File)
+            write_due(recording, at, out)?;
+            Ok(Ending::Clean)
         }
-        Job::Info => write_info(&ManuallyDrop::new(recording), out).map_err(JobFault::File),
-        Job::Screen { at } => write_screen(alloc, recording, at, out),
-        Job::Reports { at } => write_reports(alloc, recording, at, out),
-        Job::Save => unreachable!(),
+        Job::Info => {
+            write_info(recording, out)?;
+            Ok(Ending::Clean)
+        }
+        Job::Screen {
+            at,
+            profile,
+            escaped,
+        } => {
+            write_screen(alloc, recording, profile, at, escaped, out)?;
+            Ok(Ending::Clean)
+        }
+        Job::Changes { from, to, profile } => {
+            write_changes(alloc, recording, profile, from, to, out)?;
+            Ok(Ending::Clean)
+        }
+        Job::Reports { at, profile } => {
+            write_reports(alloc, recording, profile, at, out)?;
+            Ok(Ending::Clean)
+        }
+        Job::Save => {
+            save(alloc, recording, &requests, out, out_timing)?;
+            Ok(Ending::Clean)
+        }
+        Job::Session { every, profile } => {
+            write_answers(alloc, recording, profile, every, &requests, out)
+        }
     }
 }
 
 /// How a job ends that is done, or isn't for this fault.
-fn outcome_of(done: Result<(), JobFault>) -> Outcome
+fn outcome_of(done: Result<Ending, JobFault>) -> Outcome
     ensures { result ≡ outcome_by done }
 {
     match done {
-        Ok(()) => Outcome {
-            status: 0,
+        Ok(ending) => Outcome {
+            status: ending.status(),
             fault: None,
         },
         Err(fault) => Outcome {
@@ -259,10 +358,12 @@ fn read_requests<R: Read>(
     ensures alone { takes_requests job ≡ false → requests.new ≡ requests.old }
 {
     match job {
-        Job::Save => slurp(alloc, requests),
-        Job::Due { .. } | Job::Info | Job::Screen { .. } | Job::Reports { .. } => Ok(Vec::new(
-            alloc,
-        )),
+        Job::Save | Job::Session { .. } => slurp(alloc, requests),
+        Job::Due { .. }
+        | Job::Info
+        | Job::Screen { .. }
+        | Job::Changes { .. }
+        | Job::Reports { .. } => Ok(Vec::new(alloc)),
     }
 }
 

@@ -3,6 +3,7 @@
 
 mod job;
 mod jobs;
+mod laws;
 mod moment;
 mod program;
 mod words;

@@ -66,7 +66,8 @@ fn status_of(stop: &Stop) -> u8
 {
     match stop {
         Stop::Words(WordsFault::Clap(error)) => { if error.use_stderr() { 2 } else { 0 } }
-        Stop::Words(WordsFault::BadSeconds) | Stop::NotText => 2,
+        Stop::Words(WordsFault::BadSeconds | WordsFault::BadEvery | WordsFault::BadProfile)
+        | Stop::NotText => 2,
         Stop::Words(WordsFault::Memory)
         | Stop::Memory
         | Stop::CannotOpen(_)
@@ -123,19 +124,28 @@ fn perform<R: Files + Input + Print + AllocGlobal>(rt: &R, words: &Words) -> Res
             let out_timing = create(rt, words.paths[3].as_str())?;
             save_into(rt, &mut script, &mut timing, out, out_timing)
         }
-        job => print(rt, job, &mut script, &mut timing),
+        Job::Session { .. } => {
+            let mut requests = Watched::new(rt.reader());
+            print(rt, words.job, &mut script, &mut timing, &mut requests)
+        }
+        job => {
+            let mut requests = Watched::new(io::empty());
+            print(rt, job, &mut script, &mut timing, &mut requests)
+        }
     }
 }
 
-/// Does a job that reads no requests, over standard output.
-fn print<R: Files + Print + AllocGlobal>(
+/// Does a job that writes one text, over standard output.
+fn print<R: Files + Print + AllocGlobal, Q: io::Read>(
     rt: &R,
     job: Job,
     script: &mut Watched<R::File>,
     timing: &mut Watched<R::File>,
+    requests: &mut Watched<Q>,
 ) -> Result<Outcome, Stop>
     requires script { has_failed script.old ≡ false }
     requires timing { has_failed timing.old ≡ false }
+    requires requests { has_failed requests.old ≡ false }
 {
     let mut out = buffered(rt, io::writer(rt))?;
     let outcome = run(
@@ -143,7 +153,7 @@ fn print<R: Files + Print + AllocGlobal>(
         job,
         script,
         timing,
-        &mut Watched::new(io::empty()),
+        requests,
         &mut out,
         &mut Watched::new(io::sink()),
     );

@@ -2,7 +2,7 @@
 
 ghost use Rattle.std.specs.Prelude.{◌≡◌, ◌≢◌, ◌≤◌, [], Some, None, Ok, map, vec_len, IfSome, IfOk, IfErr, OnOk, string_bytes};
 ghost use Rattle.clap.specs.Words.{found_of, rows_of, subcommand_name_of, subcommand_rows_of};
-ghost use Rattle.typetool.specs.CommandLine.{FailsFor, IsNamed, clap_faults, subcommand_in, typetool_app, name_in, meaning_of_words, meaning_read, path_count};
+ghost use Rattle.typetool.specs.CommandLine.{FailsFor, IsNamed, clap_faults, fault_of_unread, subcommand_in, typetool_app, name_in, meaning_of_words, meaning_read, path_count};
 
 mod command;
 mod help;
@@ -37,6 +37,12 @@ pub enum WordsFault {
     /// A number of seconds isn't readable.
     #[error("bad seconds")]
     BadSeconds,
+    /// The number of chunks between stored terminals isn't in digits alone.
+    #[error("bad number of chunks")]
+    BadEvery,
+    /// There is no such profile.
+    #[error("bad profile")]
+    BadProfile,
 }
 
 impl From<AllocError> for WordsFault {
@@ -65,7 +71,18 @@ pub fn read_words(alloc: Global, words: &[String]) -> Result<Words, WordsFault>
             let paths = read_paths(alloc, subcommand, values)?;
             Ok(Words { job, paths })
         }
-        Err(Unreadable::Seconds) => Err(WordsFault::BadSeconds),
+        Err(unread) => Err(fault_of_unread(unread)),
+    }
+}
+
+/// Why words that clap takes aren't a job.
+fn fault_of_unread(unread: Unreadable) -> WordsFault
+    ensures { result ≡ fault_of_unread unread }
+{
+    match unread {
+        Unreadable::Seconds => WordsFault::BadSeconds,
+        Unreadable::Every => WordsFault::BadEvery,
+        Unreadable::Profile => WordsFault::BadProfile,
     }
 }
 

@@ -1,6 +1,6 @@
 //! The job `save`: the edits of request lines, and then both files written anew.
 
-ghost use Rattle.std.specs.Prelude.{◌≡◌, ◌≢◌, Err, IfErr, IfOk, IfSome, None, Ok, OnOk, Some, false, true, unwrap_or};
+ghost use Rattle.std.specs.Prelude.{◌≡◌, ◌≢◌, Err, IfErr, IfOk, IfSome, None, Ok, OnErr, OnOk, Some, false, true, unwrap_or};
 ghost use Rattle.tape_core.specs.Devices.{has_failed, is_flushed};
 ghost use Rattle.tape_core.specs.Text.{lines_of};
 ghost use Rattle.tape_seek.specs.Edits.{edit_fault};
@@ -9,12 +9,14 @@ ghost use Rattle.tape_seek.specs.State.{accepted};
 ghost use Rattle.typetool.specs.Output.{EndsAt, Wrote, done_saving, done_with};
 ghost use Rattle.typetool.specs.Requests.{StopsEditing, course_after, course_of, edit_asked, fault_on, fault_text, refusal_of, saved, started};
 ghost use Rattle.tape_core.specs.Written.{script_text, timing_text};
+ghost use Rattle.vt_term.specs.declared.profile.Profile.TheVariants.{Vt100};
 
 use crate::job::JobFault;
 use crate::jobs::EVERY;
 use std::alloc::Global;
 use std::io::Write;
 use std::mem::ManuallyDrop;
+use tape_core::laws::writers_join;
 use tape_core::text::next_line;
 use tape_core::{Recording, Watched, write_script, write_timing};
 use tape_seek::{Edit, EditFault, LineFault, Request, Session, read_line};
@@ -30,14 +32,15 @@ pub fn save<O: Write, P: Write>(
 ) -> Result<(), JobFault>
     requires out { has_failed out.old ≡ false }
     requires out_timing { has_failed out_timing.old ≡ false }
-    ensures ok { OnOk result ((done_saving (saved 1 (started recording) (lines_of requests.now))).outcome ≡ record { status = 0; fault = None }) }
+    ensures ok { OnOk result ((done_saving (saved 1 (started Vt100 recording) (lines_of requests.now))).outcome ≡ record { status = 0; fault = None }) }
     ensures wrote { OnOk result (Wrote O.contents P.contents out.old out.new out_timing.old out_timing.new
-        (done_saving (saved 1 (started recording) (lines_of requests.now)))) }
+        (done_saving (saved 1 (started Vt100 recording) (lines_of requests.now)))) }
     ensures flushed { OnOk result (is_flushed out.new ≡ true) }
     ensures flushed_timing { OnOk result (is_flushed out_timing.new ≡ true) }
     ensures fault { IfErr result (EndsAt O.contents P.contents out.old out.new out_timing.old out_timing.new
-        (done_saving (saved 1 (started recording) (lines_of requests.now)))) }
+        (done_saving (saved 1 (started Vt100 recording) (lines_of requests.now)))) }
 {
+    writers_join::<O>();
     let Ok(session) = Session::open(alloc, recording, EVERY) else {
         return Err(JobFault::Memory);
     };
@@ -129,10 +132,11 @@ fn read_edit(alloc: Global, text: &[u8]) -> Result<Option<Edit>, EditFault>
     }
 }
 
-/// Makes an edit, or tells why it is refused.
-fn make_edit(session: &mut Session, edit: Edit) -> Result<(), EditFault>
+/// Makes an edit, or tells why it is refused, with nothing changed.
+pub fn make_edit(session: &mut Session, edit: Edit) -> Result<(), EditFault>
     ensures ok { OnOk result (session.new ≡ accepted edit session.old) }
     ensures sound { OnOk result (edit_fault session.old.recording edit ≡ None) }
+    ensures err { OnErr result (session.new ≡ session.old) }
     ensures fault { IfErr result (λ fault. fault
         ≡ unwrap_or (edit_fault session.old.recording edit) EditFault.OutOfMemory) }
 {

@@ -3,6 +3,7 @@ use std::process::Abort;
 use std::test::Fail;
 use tape_core::{Fault, Watched};
 use tape_seek::EditFault;
+use vt_term::Profile;
 
 const HEADER: &[u8] = b"Script started on X\n";
 
@@ -78,6 +79,34 @@ fn info_tells_what_a_recording_holds(rt: HostRuntime) -> Result<(), Fail> {
             },
         ],
     )
+}
+
+/// Three chunks: `a`, a rendition, and `b` on line 3.
+const THREE: &str = "a\x1b[m\x1b[3;1Hb";
+
+/// Their timing: the first two at once, and the third one and a half seconds later.
+const THREE_TIMING: &str = "0 1\n0 3\n1.5 7\n";
+
+#[test]
+fn changes_tells_what_each_chunk_changes(rt: HostRuntime) -> Result<(), Fail> {
+    let rows: [(Option<u64>, u64, &str); 7] = [
+        (None, 2_000_000, "0 0.000000 1\n2 1.500000 3\n"),
+        (None, 1_499_999, "0 0.000000 1\n"),
+        (None, 1_500_000, "0 0.000000 1\n2 1.500000 3\n"),
+        (Some(0), 2_000_000, "2 1.500000 3\n"),
+        (Some(1_499_999), 1_500_000, "2 1.500000 3\n"),
+        (Some(1_500_000), 2_000_000, ""),
+        (Some(2_000_000), 1_000_000, ""),
+    ];
+    for (from, to, text) in rows {
+        let job = Job::Changes {
+            from,
+            to,
+            profile: Profile::Vt100,
+        };
+        compare(&rt, &[done(job, THREE, THREE_TIMING, text)])?;
+    }
+    Ok(())
 }
 
 /// A row of `save` over a body, a timing and request lines, which is done: the new script and the new timing.

@@ -4,6 +4,7 @@ use std::io;
 use std::process::Abort;
 use std::test::Fail;
 use tape_core::Watched;
+use vt_term::Profile;
 
 const HEADER: &str = "Script started on X\n";
 
@@ -145,7 +146,11 @@ fn the_alignment_pattern(rt: HostRuntime) -> Result<(), Fail> {
         text.push_str(E40)?;
         text.push_str("\n")?;
     }
-    let screen = Job::Screen { at: 0 };
+    let screen = Job::Screen {
+        at: 0,
+        profile: Profile::Vt100,
+        escaped: false,
+    };
     let written = play(&rt, screen, b"\x1b[3;3H\x1b#8", "0 9\n")?;
     assert_eq!(rt; written.as_slice(), text.as_str().as_bytes());
     Ok(())
@@ -172,14 +177,31 @@ fn moments(rt: HostRuntime) -> Result<(), Fail> {
     ];
     for (body, timing, at, shown, sent) in rows {
         let text = screen_text(rt.alloc(), &[shown])?;
-        let written = play(&rt, Job::Screen { at }, body.as_bytes(), timing)?;
+        let written = play(
+            &rt,
+            Job::Screen {
+                at,
+                profile: Profile::Vt100,
+                escaped: false,
+            },
+            body.as_bytes(),
+            timing,
+        )?;
         assert_eq!(rt;
             written.as_slice(),
             text.as_str().as_bytes(),
             "{timing:?} at {at}"
         );
         let line = format!(in rt.alloc(); "{sent}\n")?;
-        let written = play(&rt, Job::Reports { at }, body.as_bytes(), timing)?;
+        let written = play(
+            &rt,
+            Job::Reports {
+                at,
+                profile: Profile::Vt100,
+            },
+            body.as_bytes(),
+            timing,
+        )?;
         assert_eq!(rt;
             written.as_slice(),
             line.as_str().as_bytes(),
@@ -199,7 +221,10 @@ fn many_replies(rt: HostRuntime) -> Result<(), Fail> {
         line.push_str("1b5b306e")?;
     }
     line.push_str("\n")?;
-    let reports = Job::Reports { at: 0 };
+    let reports = Job::Reports {
+        at: 0,
+        profile: Profile::Vt100,
+    };
     let written = play(&rt, reports, body.as_str().as_bytes(), "0 100000\n")?;
     assert_eq!(rt; written.as_slice(), line.as_str().as_bytes());
     Ok(())
@@ -213,7 +238,11 @@ fn compare<R: Abort + AllocGlobal>(rt: &R, rows: &[Row<'_>]) -> Result<(), Fail>
         let text = screen_text(rt.alloc(), shown)?;
         let written = play(
             rt,
-            Job::Screen { at: 0 },
+            Job::Screen {
+                at: 0,
+                profile: Profile::Vt100,
+                escaped: false,
+            },
             body.as_str().as_bytes(),
             timing.as_str(),
         )?;
@@ -221,7 +250,10 @@ fn compare<R: Abort + AllocGlobal>(rt: &R, rows: &[Row<'_>]) -> Result<(), Fail>
         let line = format!(in rt.alloc(); "{sent}\n")?;
         let written = play(
             rt,
-            Job::Reports { at: 0 },
+            Job::Reports {
+                at: 0,
+                profile: Profile::Vt100,
+            },
             body.as_str().as_bytes(),
             timing.as_str(),
         )?;
@@ -270,3 +302,5 @@ fn play<R: Abort + AllocGlobal>(
     assert_eq!(rt; outcome, done);
     Ok(out.into_inner())
 }
+
+mod profiles;

@@ -3,11 +3,11 @@
 ghost use Rattle.std.specs.Prelude.{◌≡◌, ◌∷◌, [], Some, IfOk, false, map};
 ghost use Rattle.clap.specs.Words.{app_of, items_of, rule_of};
 ghost use Rattle.clap.specs.declared.Command.TheViews.{out-Command as fields_of};
-ghost use Rattle.typetool.specs.CommandLine.{app_in, path_rule, rule_in, seconds_rule, top_app, typetool_app, with_rules};
+ghost use Rattle.typetool.specs.CommandLine.{app_in, path_rule, optional_rule, every_rule, rule_in, seconds_rule, switch_rule, top_app, typetool_app, with_rules};
 
 use super::help::{about_of, details_of, help_of, value_name_of};
 use super::table::{Argument, Subcommand, flags_of, id_of, name_of, paths_of, subcommands};
-use clap::{Arg, ArgAction, Command};
+use clap::{Arg, ArgAction, Command, value_parser};
 use std::alloc::{AllocError, Global};
 
 /// The whole command line.
@@ -80,12 +80,25 @@ fn arg_of<'a>(alloc: Global, argument: Argument) -> Arg<'a>
     ensures local { result.global ≡ false }
 {
     match argument {
-        Argument::At => required_flag(
+        Argument::At | Argument::To => required_flag(
             alloc,
             id_of(argument),
             value_name_of(argument),
             help_of(argument),
         ),
+        Argument::From | Argument::Profile => optional_flag(
+            alloc,
+            id_of(argument),
+            value_name_of(argument),
+            help_of(argument),
+        ),
+        Argument::Every => every_flag(
+            alloc,
+            id_of(argument),
+            value_name_of(argument),
+            help_of(argument),
+        ),
+        Argument::Escaped => switch(alloc, id_of(argument), help_of(argument)),
         Argument::Script | Argument::Timing | Argument::NewScript | Argument::NewTiming => path(
             alloc,
             id_of(argument),
@@ -102,11 +115,42 @@ fn required_flag<'a>(alloc: Global, id: &'a str, name: &'a str, help: &'a str) -
     ensures help { result.help ≡ Some help.entry }
     ensures local { result.global ≡ false }
 {
+    optional_flag(alloc, id, name, help).required(true)
+}
+
+/// A flag with a value that may be left out.
+fn optional_flag<'a>(alloc: Global, id: &'a str, name: &'a str, help: &'a str) -> Arg<'a>
+    ensures rule { rule_of result ≡ optional_rule id.entry.now }
+    ensures name { items_of result.val_names ≡ name.entry ∷ [] }
+    ensures help { result.help ≡ Some help.entry }
+    ensures local { result.global ≡ false }
+{
     Arg::new(alloc, id)
         .long(id)
         .value_name(name)
         .action(ArgAction::Set)
-        .required(true)
+        .help(help)
+}
+
+/// A flag with a number of chunks that may be left out. clap refuses numbers out of its range.
+fn every_flag<'a>(alloc: Global, id: &'a str, name: &'a str, help: &'a str) -> Arg<'a>
+    ensures rule { rule_of result ≡ every_rule id.entry.now }
+    ensures name { items_of result.val_names ≡ name.entry ∷ [] }
+    ensures help { result.help ≡ Some help.entry }
+    ensures local { result.global ≡ false }
+{
+    optional_flag(alloc, id, name, help).value_parser(value_parser!(u64).range(1..=1_000_000))
+}
+
+/// A flag without a value.
+fn switch<'a>(alloc: Global, id: &'a str, help: &'a str) -> Arg<'a>
+    ensures rule { rule_of result ≡ switch_rule id.entry.now }
+    ensures help { result.help ≡ Some help.entry }
+    ensures local { result.global ≡ false }
+{
+    Arg::new(alloc, id)
+        .long(id)
+        .action(ArgAction::SetTrue)
         .help(help)
 }
 

@@ -8,11 +8,13 @@ pub fn about_of<'a>(subcommand: Subcommand) -> &'a str {
         Subcommand::Due => "Write the raw bytes of all chunks that are due by a moment",
         Subcommand::Info => "Tell how many chunks and bytes the recording has, and how long it is",
         Subcommand::Screen => "Write the screen as it is at a moment: 24 lines of text",
+        Subcommand::Changes => "Tell which lines of the screen each chunk changes",
         Subcommand::Reports => {
             "Write all that the terminal has answered by a moment, in hexadecimal"
         }
         Subcommand::Save =>
             "Make the edits that standard input asks for, and write both files anew",
+        Subcommand::Session => "Answer the requests of standard input, each in turn",
     }
 }
 
@@ -29,8 +31,14 @@ pub fn details_of<'a>(subcommand: Subcommand) -> &'a str {
              Example: typetool info demo.script demo.timing"
         }
         Subcommand::Screen => {
-            "UTF-8, without the spaces at the ends of lines.\n\n\
+            "UTF-8, without the spaces at the ends of lines. With --escaped a text for a terminal, without a\n\
+             last line feed, that draws size, characters, renditions and cursor again.\n\n\
              Example: typetool screen --at 12.5 demo.script demo.timing"
+        }
+        Subcommand::Changes => {
+            "A line for each chunk that changes the screen: the chunk (counted from 0), when it is due (seconds),\n\
+             and the lines that differ before and after it alone (1 to 24), one space between.\n\n\
+             Example: typetool changes --from 12.5 --to 60 demo.script demo.timing"
         }
         Subcommand::Reports => {
             "One line of lower-case digits, empty where nothing was answered.\n\n\
@@ -44,13 +52,24 @@ pub fn details_of<'a>(subcommand: Subcommand) -> &'a str {
              them where a line is refused (status 1, with the line's number).\n\n\
              Example: echo 'cap 2' | typetool save demo.script demo.timing new.script new.timing"
         }
+        Subcommand::Session => {
+            "One request a line: the edits of save, answered by ok or by refused and why, and\n\
+             screen SECONDS (24 lines), reports SECONDS (one line), info (five lines),\n\
+             changes SECONDS SECONDS (- as the first: from chunk 0) and log (lines, and then end).\n\
+             Questions are answered for the recording as edited so far; no file is changed.\n\n\
+             Status 1 where any line was refused.\n\n\
+             Example: printf 'cap 2\\nscreen 12.5\\n' | typetool session demo.script demo.timing"
+        }
     }
 }
 
 /// What help calls the value of an argument.
 pub fn value_name_of<'a>(argument: Argument) -> &'a str {
     match argument {
-        Argument::At => "SECONDS",
+        Argument::At | Argument::From | Argument::To => "SECONDS",
+        Argument::Every => "CHUNKS",
+        Argument::Profile => "PROFILE",
+        Argument::Escaped => "",
         Argument::Script => "SCRIPT",
         Argument::Timing => "TIMING",
         Argument::NewScript => "NEWSCRIPT",
@@ -63,6 +82,18 @@ pub fn help_of<'a>(argument: Argument) -> &'a str {
     match argument {
         Argument::At => {
             "The moment: seconds since the start, as digits with or without decimals, such as 12.5"
+        }
+        Argument::From =>
+            "Only chunks that are due after this moment; all from the first on, if not given",
+        Argument::To => "Only chunks that are due by this moment",
+        Argument::Every => {
+            "A terminal is kept at every so many chunks, from 1 to 1000000 (100 if not given): fewer chunks \
+             between terminals take more memory, and more take longer to go back"
+        }
+        Argument::Profile =>
+            "Which terminal plays: vt100 (if not given), or vt102, which can insert and delete",
+        Argument::Escaped => {
+            "Write a text that draws the screen again on a reset terminal, with renditions and sizes"
         }
         Argument::Script => "The typescript that script(1) wrote: the bytes themselves",
         Argument::Timing => {

@@ -9,8 +9,10 @@ pub enum Subcommand {
     Due,
     Info,
     Screen,
+    Changes,
     Reports,
     Save,
+    Session,
 }
 
 /// The arguments of subcommands: flags and paths.
@@ -18,6 +20,16 @@ pub enum Subcommand {
 pub enum Argument {
     /// A moment.
     At,
+    /// The moment after which changes are asked for.
+    From,
+    /// The moment by which they are.
+    To,
+    /// How many chunks lie between stored terminals.
+    Every,
+    /// Which terminal plays.
+    Profile,
+    /// A text that draws the screen again is asked for.
+    Escaped,
     /// The typescript.
     Script,
     /// Its timing file.
@@ -29,15 +41,17 @@ pub enum Argument {
 }
 
 /// The subcommands, in the order in which help tells them.
-pub fn subcommands() -> [Subcommand; 5]
+pub fn subcommands() -> [Subcommand; 7]
     ensures { result ≡ subcommands_in_order }
 {
     [
         Subcommand::Due,
         Subcommand::Info,
         Subcommand::Screen,
+        Subcommand::Changes,
         Subcommand::Reports,
         Subcommand::Save,
+        Subcommand::Session,
     ]
 }
 
@@ -50,8 +64,10 @@ pub fn name_of<'a>(subcommand: Subcommand) -> &'a str
         Subcommand::Due => "due",
         Subcommand::Info => "info",
         Subcommand::Screen => "screen",
+        Subcommand::Changes => "changes",
         Subcommand::Reports => "reports",
         Subcommand::Save => "save",
+        Subcommand::Session => "session",
     }
 }
 
@@ -61,7 +77,11 @@ pub fn flags_of(subcommand: Subcommand) -> &'static [Argument]
     ensures { result.now ≡ flags_in subcommand }
 {
     match subcommand {
-        Subcommand::Due | Subcommand::Screen | Subcommand::Reports => &[Argument::At],
+        Subcommand::Due => &[Argument::At],
+        Subcommand::Screen => &[Argument::At, Argument::Escaped, Argument::Profile],
+        Subcommand::Changes => &[Argument::From, Argument::To, Argument::Profile],
+        Subcommand::Reports => &[Argument::At, Argument::Profile],
+        Subcommand::Session => &[Argument::Every, Argument::Profile],
         Subcommand::Info | Subcommand::Save => &[],
     }
 }
@@ -72,9 +92,12 @@ pub fn paths_of(subcommand: Subcommand) -> &'static [Argument]
     ensures { result.now ≡ paths_in subcommand }
 {
     match subcommand {
-        Subcommand::Due | Subcommand::Info | Subcommand::Screen | Subcommand::Reports => {
-            &[Argument::Script, Argument::Timing]
-        }
+        Subcommand::Due
+        | Subcommand::Info
+        | Subcommand::Screen
+        | Subcommand::Changes
+        | Subcommand::Reports
+        | Subcommand::Session => &[Argument::Script, Argument::Timing],
         Subcommand::Save => &[
             Argument::Script,
             Argument::Timing,
@@ -91,6 +114,11 @@ pub fn id_of<'a>(argument: Argument) -> &'a str
 {
     match argument {
         Argument::At => "at",
+        Argument::From => "from",
+        Argument::To => "to",
+        Argument::Every => "every",
+        Argument::Profile => "profile",
+        Argument::Escaped => "escaped",
         Argument::Script => "script",
         Argument::Timing => "timing",
         Argument::NewScript => "new-script",

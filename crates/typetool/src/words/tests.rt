@@ -1,5 +1,6 @@
 use super::*;
 use std::test::Fail;
+use vt_term::Profile;
 
 /// The words of a command line as owned texts.
 fn owned(alloc: Global, words: &[&str]) -> Result<Vec<String>, AllocError> {
@@ -56,24 +57,72 @@ fn reads_due(rt: HostRuntime) -> Result<(), Fail> {
 
 #[test]
 fn reads_other_jobs(rt: HostRuntime) -> Result<(), Fail> {
-    let rows: [(&[&str], Job); 6] = [
+    let rows: [(&[&str], Job); 10] = [
         (&["typetool", "info", "s", "t"], Job::Info),
         (&["typetool", "info", "--", "s", "t"], Job::Info),
         (
             &["typetool", "screen", "--at", "0.5", "s", "t"],
-            Job::Screen { at: 500_000 },
+            Job::Screen {
+                at: 500_000,
+                profile: Profile::Vt100,
+                escaped: false,
+            },
         ),
         (
             &["typetool", "screen", "s", "t", "--at=12"],
-            Job::Screen { at: 12_000_000 },
+            Job::Screen {
+                at: 12_000_000,
+                profile: Profile::Vt100,
+                escaped: false,
+            },
         ),
         (
+            &["typetool", "changes", "--from", "0", "--to", "2", "s", "t"],
+            Job::Changes {
+                from: Some(0),
+                to: 2_000_000,
+                profile: Profile::Vt100,
+            },
+        ),
+        (
+            &["typetool", "changes", "s", "--to=0.5", "t"],
+            Job::Changes {
+                from: None,
+                to: 500_000,
+                profile: Profile::Vt100,
+            },
+        ),
+        (
+            &[
+                "typetool",
+                "changes",
+                "--to",
+                "1",
+                "--from=2.5",
+                "--",
+                "s",
+                "t",
+            ],
+            Job::Changes {
+                from: Some(2_500_000),
+                to: 1_000_000,
+                profile: Profile::Vt100,
+            },
+        ),
+        (&["typetool", "save", "s", "t", "u", "v"], Job::Save),
+        (
             &["typetool", "reports", "--at=0.4999999", "s", "t"],
-            Job::Reports { at: 499_999 },
+            Job::Reports {
+                at: 499_999,
+                profile: Profile::Vt100,
+            },
         ),
         (
             &["typetool", "reports", "--at", "7", "--", "s", "t"],
-            Job::Reports { at: 7_000_000 },
+            Job::Reports {
+                at: 7_000_000,
+                profile: Profile::Vt100,
+            },
         ),
     ];
     for (words, job) in rows {
@@ -104,6 +153,22 @@ fn refuses_unreadable_seconds(rt: HostRuntime) -> Result<(), Fail> {
     Ok(())
 }
 
+#[test]
+fn refuses_unreadable_seconds_of_changes(rt: HostRuntime) -> Result<(), Fail> {
+    let rows: [&[&str]; 4] = [
+        &["typetool", "changes", "--from=-", "--to=1", "s", "t"],
+        &["typetool", "changes", "--from=", "--to=1", "s", "t"],
+        &["typetool", "changes", "--from=1", "--to=.5", "s", "t"],
+        &["typetool", "changes", "--to=-1", "s", "t"],
+    ];
+    for words in rows {
+        let words = owned(rt.alloc(), words)?;
+        let read = read_words(rt.alloc(), words.as_slice());
+        assert!(rt; matches!(&read, Err(WordsFault::BadSeconds)), "{words:?}");
+    }
+    Ok(())
+}
+
 /// Whether the seconds are all that is wrong with a command line.
 fn is_bad_seconds(alloc: Global, name: &str, seconds: &str) -> Result<bool, Fail> {
     let flag = format!(in alloc; "--at={seconds}")?;
@@ -114,7 +179,7 @@ fn is_bad_seconds(alloc: Global, name: &str, seconds: &str) -> Result<bool, Fail
 
 #[test]
 fn leaves_other_words_to_clap(rt: HostRuntime) -> Result<(), Fail> {
-    let rows: [(&[&str], bool); 24] = [
+    let rows: [(&[&str], bool); 29] = [
         (&["typetool", "info"], true),
         (&["typetool", "info", "--at", "1", "s", "t"], true),
         (&["typetool", "info", "s", "t", "u"], true),
@@ -143,6 +208,19 @@ fn leaves_other_words_to_clap(rt: HostRuntime) -> Result<(), Fail> {
             &["typetool", "reports", "--at", "1", "--escaped", "s", "t"],
             true,
         ),
+        (&["typetool", "changes", "s", "t"], true),
+        (&["typetool", "changes", "--from", "1", "s", "t"], true),
+        (
+            &["typetool", "changes", "--at", "1", "--to", "1", "s", "t"],
+            true,
+        ),
+        (
+            &[
+                "typetool", "changes", "--from=1", "--from=1", "--to=1", "s", "t",
+            ],
+            true,
+        ),
+        (&["typetool", "changes", "--help"], false),
         (&["typetool", "screen", "--help"], false),
         (&["typetool", "reports", "-h"], false),
     ];
@@ -157,3 +235,5 @@ fn leaves_other_words_to_clap(rt: HostRuntime) -> Result<(), Fail> {
     }
     Ok(())
 }
+
+mod flags;

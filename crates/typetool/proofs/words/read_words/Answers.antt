@@ -1,14 +1,7 @@
-use Rattle.std.proofs.Common.{◌≡◌, ◌∙◌, ◌≤◌, Err, Some, ap, arith, length, map, refl, string_bytes, sym}
+use Rattle.std.proofs.Common.{◌∙◌, Some, ap, arith, map, string_bytes, sym}
 use Rattle.clap.specs.Words.{found_of, rows_of}
-use Rattle.typetool.specs.CommandLine.{job_in, paths_in}
-use Rattle.typetool.specs.declared.words.values.Unreadable.{Unreadable}
-use Rattle.typetool.specs.declared.words.values.Unreadable.TheVariants.{Seconds}
-use Rattle.typetool.proofs.CommandLemmas.{means, means_job, means_fault, enough_paths}
+use Rattle.typetool.proofs.CommandLemmas.{enough_paths, fails_unread, means, means_fault, means_job}
 use Rattle.typetool.proofs.words.read_words.Goals as goal
-
--- nothing else can't be read
-only_seconds : (fault : Unreadable) → fault ≡ Seconds
-only_seconds Seconds = refl
 
 pub returns-in-Ok-clause-meaning : goal.returns-in-Ok-clause-meaning
 returns-in-Ok-clause-meaning c =
@@ -27,8 +20,8 @@ pub returns-clause-fault : goal.returns-clause-fault
 returns-clause-fault c =
     let s = c.subcommand_of-subcommand.result.0 in
     let rows = rows_of (found_of c.subcommand_of-subcommand.result.1.now) in
-    let unread : job_in s rows ≡ Err Seconds = sym c.read_job.ensures ∙ c.in-Err-Seconds.is ∙ ap (λ f. Err f) (only_seconds c.in-Err-Seconds.field-0) in (
-      c.in_ok-matches.ensures.taken,
-      means (map string_bytes c.args.words.now) s rows (sym c.in_ok-matches.ensures.met ∙ c.subcommand_of-subcommand.ensures)
-          ∙ ap (λ m. Some m) (means_fault s rows Seconds unread),
-    )
+    let unread = c.in-Err.unread in
+    rw c.fault_of_unread.ensures
+    (fails_unread (map string_bytes c.args.words.now) unread c.in_ok-matches.ensures.taken
+    (means (map string_bytes c.args.words.now) s rows (sym c.in_ok-matches.ensures.met ∙ c.subcommand_of-subcommand.ensures)
+    ∙ ap (λ m. Some m) (means_fault s rows unread (sym c.read_job.ensures ∙ c.in-Err.is))))

@@ -1,4 +1,4 @@
-use Rattle.std.proofs.Common.{◌≡◌, ◌≢◌, ℕ, ◌<◌, Some, get_or}
+use Rattle.std.proofs.Common.{◌≢◌, ℕ, ◌<◌, Some, get_or}
 use Rattle.clap.specs.Words.{subcommand_name_of}
 use Rattle.typetool.specs.CommandLine.{name_in}
 use Rattle.typetool.specs.declared.words.table.Subcommand.TheVariants.{Due}

@@ -1,4 +1,4 @@
-use Rattle.std.proofs.Common.{◌≡◌, ◌<◌, ◌∙◌, ap, length, arith}
+use Rattle.std.proofs.Common.{◌∙◌, ap, arith}
 use Rattle.clap.specs.Words.{AddsSubcommand, App, app_of}
 use Rattle.typetool.proofs.CommandLemmas.{with_subcommands_more, with_all_subcommands}
 use Rattle.typetool.proofs.words.command.typetool_command.Goals as goal

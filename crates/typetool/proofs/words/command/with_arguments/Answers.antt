@@ -1,4 +1,4 @@
-use Rattle.std.proofs.Common.{◌≡◌, ◌<◌, ◌∙◌, length, arith}
+use Rattle.std.proofs.Common.{◌<◌, ◌∙◌, length, arith}
 use Rattle.clap.specs.Words.{AddsArg, app_of}
 use Rattle.typetool.proofs.CommandLemmas.{with_rules_more}
 use Rattle.typetool.proofs.words.command.with_arguments.Goals as goal
