@@ -1,12 +1,13 @@
 #!/usr/bin/python3
 """Compares the text screens of `typetool screen` with those of other terminals, at several moments of a recording.
 
-    tests/compare.py TYPETOOL SCRIPT TIMING [MOMENT..]
-    tests/compare.py --write TERMINAL SCRIPT TIMING MOMENT..
+    tests/compare.py [--profile PROFILE] TYPETOOL SCRIPT TIMING [MOMENT..]
+    tests/compare.py [--profile PROFILE] --write TERMINAL SCRIPT TIMING MOMENT..
 
 The others are pyte (Debian's python3-pyte), libvterm (libvterm-dev, by libvterm_screen.c and cc), tmux and xterm (with a
 DISPLAY, such as xvfb-run gives), each where it is there. Without moments it takes twenty, spread over the recording. For
-each moment and terminal it prints `same`, or the lines that differ. The status is 1 if any does.
+each moment and terminal it prints `same`, or the lines that differ. The status is 1 if any does. The profile is `vt100`, or
+`vt102`; xterm is told to be that too.
 
 The second form writes what one of them shows, in the form that recordings.sh reads: `at MOMENT`, and 24 lines.
 """
@@ -25,6 +26,9 @@ SAME = str.maketrans({"♦": "◆", "⩽": "≤", "⩾": "≥", "•": "·"})
 SPECIAL_GRAPHICS = dict(zip("_`abcdefghijklmnopqrstuvwxyz{|}~", " ◆▒␉␌␍␊°±␤␋┘┐┌└┼⎺⎻─⎼⎽├┤┴┬│≤≥π≠£·"))
 
 count = itertools.count()
+
+# Which terminal typetool and xterm are to be.
+profile = "vt100"
 
 
 def micros(seconds):
@@ -61,16 +65,17 @@ def screen_of_pyte(data):
     return screen.display
 
 
-def screen_of_libvterm(data):
+def screen_of_libvterm(data, *options):
     folder = os.path.dirname(os.path.abspath(__file__))
     program = os.path.join(tempfile.gettempdir(), f"libvterm_screen.{os.getuid()}")
-    if not os.path.exists(program):
+    source = os.path.join(folder, "libvterm_screen.c")
+    if not os.path.exists(program) or os.path.getmtime(program) < os.path.getmtime(source):
         flags = subprocess.run(["pkg-config", "--cflags", "--libs", "vterm"], check=True, capture_output=True, text=True).stdout.split()
-        subprocess.run(["cc", "-O2", "-o", program, os.path.join(folder, "libvterm_screen.c"), *flags], check=True)
+        subprocess.run(["cc", "-O2", "-o", program, source, *flags], check=True)
     with tempfile.NamedTemporaryFile() as file:
         file.write(data)
         file.flush()
-        return subprocess.run([program, file.name], check=True, capture_output=True).stdout.decode().split("\n")
+        return subprocess.run([program, *options, file.name], check=True, capture_output=True).stdout.decode().split("\n")
 
 
 def plain_of_captured(text):
@@ -107,7 +112,7 @@ def screen_of_tmux(data):
             subprocess.run([*tmux, "kill-server"], capture_output=True)
 
 
-def screen_of_xterm(data):
+def printed_by_xterm(data):
     """xterm's screen by its printer: each line with its size and renditions as sequences."""
     if "DISPLAY" not in os.environ:
         raise FileNotFoundError("no DISPLAY: run it under xvfb-run")
@@ -115,19 +120,22 @@ def screen_of_xterm(data):
         printed = os.path.join(folder, "printed")
         # A sequence that isn't finished is cancelled, VT52 mode is left, and the whole screen is printed.
         shell, done = shell_that_feeds(folder, data + b"\x18\x1b<\x1b[?19h\x1b[i")
-        options = ["-u8", "-132", "-ti", "vt100", "-geometry", "80x24", "-fn", "fixed"]
-        resources = [f"*printerCommand: cat > {printed}", "*printerAutoClose: true", "*decTerminalID: 100"]
+        options = ["-u8", "-132", "-ti", profile, "-geometry", "80x24", "-fn", "fixed"]
+        resources = [f"*printerCommand: cat > {printed}", "*printerAutoClose: true", f"*decTerminalID: {profile[2:]}"]
         words = ["xterm", *options, *(word for resource in resources for word in ("-xrm", resource)), "-e", "sh", "-c", shell]
         xterm = subprocess.Popen(words, env={**os.environ, "LC_ALL": "C.UTF-8"})
         wait_for(done)
         xterm.terminate()
         xterm.wait()
-        text = open(printed, encoding="utf-8", newline="").read()
-        return re.sub("\x1b(\\[[0-9;]*m|#[3-6])", "", text).split("\r\n")
+        return open(printed, encoding="utf-8", newline="").read()
+
+
+def screen_of_xterm(data):
+    return re.sub("\x1b(\\[[0-9;]*m|#[3-6])", "", printed_by_xterm(data)).split("\r\n")
 
 
 def screen_of_typetool(typetool, moment, script, timing):
-    words = [typetool, "screen", "--at", moment, script, timing]
+    words = [typetool, "screen", "--profile", profile, "--at", moment, script, timing]
     return subprocess.run(words, check=True, capture_output=True).stdout.decode().split("\n")
 
 
@@ -165,7 +173,12 @@ def compare(typetool, script, timing, *moments):
     return differ
 
 
-if sys.argv[1] == "--write":
-    write(*sys.argv[2:])
-else:
-    sys.exit(compare(*sys.argv[1:]))
+if __name__ == "__main__":
+    arguments = sys.argv[1:]
+    if arguments[0] == "--profile":
+        profile = arguments[1]
+        arguments = arguments[2:]
+    if arguments[0] == "--write":
+        write(*arguments[1:])
+    else:
+        sys.exit(compare(*arguments))

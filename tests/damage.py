@@ -131,8 +131,9 @@ class Damage:
 
     def refused(self, fault):
         told = (1, b"", f"typetool: {fault}\n".encode())
-        for words in (["due", "--at", "1"], ["info"], ["screen", "--at", "1"], ["reports", "--at", "1"]):
-            self.expect(words[0], self.run([*words, "s", "t"]), told)
+        for words in (["due", "--at", "1"], ["info"], ["screen", "--at", "1"], ["changes", "--to", "1"],
+                      ["reports", "--at", "1"], ["session"]):
+            self.expect(words[0], self.run([*words, "s", "t"], b"info\n"), told)
         self.expect("save", self.run(["save", "s", "t", "s2", "t2"], b"cap 1\n"), told)
         self.expect("what save left", (self.text("s2"), self.text("t2")), (b"", b""))
 
@@ -145,6 +146,24 @@ class Damage:
         self.expect("screen", (status, screen.count(b"\n"), errors), (0, 24, b""))
         status, reports, errors = self.run(["reports", "--at", at, "s", "t"])
         self.expect("reports", (status, len(reports) % 2, errors), (0, 1, b""))
+        self.changed(recording, at, us)
+
+    def changed(self, recording, at, us):
+        """Change lines name chunks that are due, when they are due, and lines of the screen, each in rising order."""
+        status, text, errors = self.run(["changes", "--to", at, "s", "t"])
+        due, times = 0, []
+        for delay, _ in recording[1]:
+            due += delay
+            times.append(due)
+        rows = [line.split(b" ") for line in plain.lines_of(text)]
+        places = [int(row[0]) for row in rows]
+        self.expect("changes", (status, errors, places), (0, b"", sorted(set(places))))
+        for row in rows:
+            lines = [int(line) for line in row[2:]]
+            self.expect("a change", (row[1], times[int(row[0])] <= us, lines and set(lines) <= set(range(1, 25)), lines),
+                        (plain.written(times[int(row[0])]), True, True, sorted(set(lines))))
+        first = self.run(["changes", "--from", at, "--to", at, "s", "t"])
+        self.expect("changes of no time", first, (0, b"", b""))
 
     def edited(self, recording):
         """Some request lines, and then those of them alone that are accepted."""
@@ -159,6 +178,20 @@ class Damage:
         for name in ("s2", "t2"):
             os.remove(self.path(name))
         self.saved(recording, accepted)
+        self.asked(recording, lines, accepted)
+
+    def asked(self, recording, lines, accepted):
+        """The same lines in a session, and what it answers of a moment once they are made: what the commands tell of the pair
+        that was saved, wherever terminals are stored."""
+        status, text = plain.session(recording, b"\n".join(lines))
+        self.expect("session", self.run(["session", "s", "t"], b"\n".join(lines)), (status, text, b""))
+        at = moment(self.rng)
+        told = b"ok\n" * accepted.count(b"\n")
+        for words in (["screen", "--at", at], ["reports", "--at", at], ["changes", "--to", at], ["info"]):
+            told += self.run([*words, "s2", "t2"])[1] + (b"end\n" if words[0] == "changes" else b"")
+        questions = accepted + b"screen %s\nreports %s\nchanges - %s\ninfo\n" % (at, at, at)
+        for every in ("1", "3", "1000000"):
+            self.expect(f"session, every {every}", self.run(["session", "--every", every, "s", "t"], questions), (0, told, b""))
 
     def saved(self, recording, edits):
         wanted = plain.save(recording, edits)

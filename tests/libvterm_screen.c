@@ -1,8 +1,9 @@
 /* Prints the text screen that libvterm shows after a file's bytes: 24 lines, without the spaces at their ends.
  *
- *     libvterm_screen FILE
+ *     libvterm_screen [-r] FILE
  *
- * It serves compare.py. 80x24, UTF-8 off; a cell of more than one character prints its first.
+ * With -r 24 lines of 80 hexadecimal digits follow, the renditions: 1 bold, 2 underscore, 4 blink, 8 reverse, added up.
+ * It serves compare.py and redraw.py. 80x24, UTF-8 off; a cell of more than one character prints its first.
  */
 #include <stdio.h>
 #include <string.h>
@@ -17,11 +18,26 @@ static int put_utf8(unsigned c, char *to)
 	return to[0] = 0xe0 | c >> 12, to[1] = 0x80 | (c >> 6 & 63), to[2] = 0x80 | (c & 63), 3;
 }
 
+static void put_renditions(VTermScreen *screen)
+{
+	for (int row = 0; row < 24; row++) {
+		for (int col = 0; col < 80; col++) {
+			VTermScreenCell cell;
+			VTermPos pos = {row, col};
+			vterm_screen_get_cell(screen, pos, &cell);
+			VTermScreenCellAttrs a = cell.attrs;
+			printf("%x", a.bold + 2 * (a.underline != 0) + 4 * a.blink + 8 * a.reverse);
+		}
+		putchar('\n');
+	}
+}
+
 int main(int argc, char **argv)
 {
-	FILE *file = argc == 2 ? fopen(argv[1], "rb") : NULL;
+	int renditions = argc == 3 && strcmp(argv[1], "-r") == 0;
+	FILE *file = argc == 2 + renditions ? fopen(argv[argc - 1], "rb") : NULL;
 	if (!file) {
-		fprintf(stderr, "usage: libvterm_screen FILE\n");
+		fprintf(stderr, "usage: libvterm_screen [-r] FILE\n");
 		return 2;
 	}
 	VTerm *term = vterm_new(24, 80);
@@ -50,5 +66,7 @@ int main(int argc, char **argv)
 		fwrite(line, 1, end, stdout);
 		putchar('\n');
 	}
+	if (renditions)
+		put_renditions(screen);
 	return 0;
 }

@@ -126,15 +126,23 @@ def limits_of_edits():
         (b"insert 99999999999999999999 0 -", "E1 NoSuchChunk"),
     ]:
         check(line[:40].decode(), saved(line + b"\n"), told(f"request line 1: {answer}") if answer else (0, b"", b""))
+        text = f"refused {answer}\n" if answer else "ok\n"
+        check(line[:40].decode() + " in a session", run(["session", "s", "t"], line), (int(bool(answer)), text.encode(), b""))
     pair(HEADER, b"0 0\n" * 999_999)
     check("chunks by edits", saved(b"insert 0 0 -\ninsert 0 0 -\n"), told("request line 2: E4 TooManyChunks"))
+    check("chunks by edits in a session", run(["session", "s", "t"], b"insert 0 0 -\ninsert 0 0 -\n"),
+          (1, b"ok\nrefused E4 TooManyChunks\n", b""))
 
 
 def limits_of_words():
-    """Seconds."""
+    """Seconds, and chunks between stored terminals."""
     pair(HEADER + b"ab", b"0 1\n0.5 1\n")
     for at in ("1000000000000", "1000000000000.000001", "9" * 60):
         check(f"due at {at}", run(["due", "--at", at, "s", "t"]), (0, b"ab", b""))
+        check(f"changes by {at}", run(["changes", "--to", at, "s", "t"]), (0, b"0 0.000000 1\n1 0.500000 1\n", b""))
+        check(f"changes after {at}", run(["changes", "--from", at, "--to", at, "s", "t"]), (0, b"", b""))
+    for every, status in [("0", 2), ("1", 0), ("1000000", 0), ("1000001", 2), ("9" * 60, 2), ("+5", 2), ("", 2), ("-1", 2), ("005", 0)]:
+        check(f"every {every}", run(["session", f"--every={every}", "s", "t"])[0], status)
 
 
 def parameters():

@@ -170,6 +170,33 @@ def apply(chunks, word, values):
             chunk[0] = min(chunk[0], values[0])
 
 
+def log_line(word, values):
+    """An accepted edit as the log writes it."""
+    write = {place: lambda value: b"%d" % value, seconds: written, hexed: lambda value: value.hex().encode() or b"-"}
+    return b" ".join([word, *(write[kind](value) for kind, value in zip(KINDS[word], values))]) + b"\n"
+
+
+def session(recording, requests):
+    """(status, text) of the answers to edits, `info`, `log` and lines of no known form: a plain reader has no terminal."""
+    header, chunks, trailer = recording
+    chunks, log, out, status = [list(chunk) for chunk in chunks], b"", b"", 0
+    for line in lines_of(requests):
+        edit = edit_of(line)
+        fault = edit_fault(chunks, *edit) if edit else "E8 BadLine"
+        if not fields(line):
+            continue
+        if fields(line) == [b"info"]:
+            out += info((header, chunks, trailer))
+        elif fields(line) == [b"log"]:
+            out += log + b"end\n"
+        elif fault:
+            out, status = out + f"refused {fault}\n".encode(), 1
+        else:
+            apply(chunks, *edit)
+            out, log = out + b"ok\n", log + log_line(*edit)
+    return status, out
+
+
 def save(recording, requests):
     """The two files that `save` writes, or the text of the first refused line's fault."""
     header, chunks, trailer = recording

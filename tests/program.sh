@@ -118,8 +118,8 @@ check 'an answer' 0 '1b5b306e\n' '' reports --at 1 cut.script cut.timing
 # refused NAME STATUS ERR SCRIPT TIMING: a damaged pair, which is only told, whatever the command.
 refused() {
     local command
-    for command in due screen reports; do
-        check "$1: $command" "$2" '' "typetool: $3\n" $command --at 1 "$4" "$5"
+    for command in 'due --at 1' info 'screen --at 1' 'changes --to 1' 'reports --at 1' session; do
+        check "$1: ${command%% *}" "$2" '' "typetool: $3\n" $command "$4" "$5" </dev/null
     done
 }
 
@@ -257,6 +257,92 @@ status 'info with a moment' 2 info --at 1 ab.script ab.timing
 status 'save with a moment' 2 save --at 1 ab.script ab.timing new.script new.timing
 status 'save with two paths' 2 save ab.script ab.timing
 status 'help of save' 0 save --help
+
+printf '%b%b' "$head" "a$E[m$E[3;1Hb" >three.script
+printf '0 1\n0 3\n1.5 7\n' >three.timing
+check 'changes by a moment' 0 '0 0.000000 1\n2 1.500000 3\n' '' changes --to 2 three.script three.timing
+check 'changes after a moment' 0 '2 1.500000 3\n' '' changes --from 0 --to 2 three.script three.timing
+check 'changes up to the chunk before' 0 '0 0.000000 1\n' '' changes --to=1.4999999 three.script three.timing
+check 'no changes' 0 '' '' changes --from 2 --to 1 three.script three.timing
+check 'changes of nothing' 0 '' '' changes --to 7 empty.script empty.timing
+check 'bad seconds of changes' 2 '' 'typetool: bad seconds\n' changes --from=- --to 1 nowhere nowhere
+check 'bad seconds of changes by a moment' 2 '' 'typetool: bad seconds\n' changes --from 1 --to .5 nowhere nowhere
+status 'help of changes' 0 changes --help
+status 'changes by no moment' 2 changes --from 1 ab.script ab.timing
+status 'changes at a moment' 2 changes --at 1 --to 1 ab.script ab.timing
+status 'changes after two moments' 2 changes --from 1 --from 2 --to 3 ab.script ab.timing
+
+# asked NAME STATUS LINES OUT SCRIPT TIMING [FLAG..]: a session over request lines, with nothing on standard error.
+asked() {
+    local name=$1 wanted=$2 lines=$3 out=$4 script=$5 timing=$6
+    shift 6
+    printf '%b' "$lines" | "$program" session "$@" "$script" "$timing" >out.txt 2>err.txt
+    verdict "$name" "$wanted" $? "$out" ''
+}
+
+printf '%b%b' "$head" "$E[cx" >asks.script
+printf '0 3\n0 1\n' >asks.timing
+asked 'a report of a deleted chunk' 0 'reports 0\ndelete 0 1\nreports 0\nscreen 0\n' \
+    "1b5b3f313b3263\\nok\\n\\n$(screen_of x)" asks.script asks.timing
+printf '%b0123456789' "$head" >ten.script
+yes '0 1' | head -n 10 >ten.timing
+asked 'refused edits' 1 'delete 3 3\ninsert 11 0 -\ninsert 0 1000000.000001 -\nlog\n' \
+    'refused E6 BadRange\nrefused E1 NoSuchChunk\nrefused E2 DelayTooLarge\nend\n' ten.script ten.timing
+asked 'a delay, what it holds and the log' 0 'retime 0 1\ninfo\nlog\n' \
+    'ok\nchunks 2\nbytes 2\nlength 1.500000\nheader 20\ntrailer 0\nretime 0 1.000000\nend\n' ab.script ab.timing
+asked 'a line of no known form' 1 'nonsense\nchanges - 0' 'refused E8 BadLine\n0 0.000000 1\nend\n' ab.script ab.timing
+asked 'capped delays' 1 'cap 1000000.000001\ncap 1000000\nlog\n' \
+    'refused E2 DelayTooLarge\nok\ncap 1000000.000000\nend\n' abc.script slow.timing
+asked 'caps of no known form' 1 'cap\ncap 1 2\n' 'refused E8 BadLine\nrefused E8 BadLine\n' abc.script slow.timing
+asked 'blank lines' 0 '\n \t\n\n' '' ab.script ab.timing
+asked 'no lines' 0 '' '' ab.script ab.timing
+asked 'a CR' 1 'info\r\n' 'refused E8 BadLine\n' ab.script ab.timing
+for every in 1 7 100 0001000000; do
+    asked "every $every" 0 'screen 9\nscreen 0\nchanges 0 9\n' "$(screen_of ab)$(screen_of a)"'1 0.500000 1\nend\n' \
+        ab.script ab.timing --every "$every"
+done
+status 'help of session' 0 session --help
+status 'every 0' 2 session --every 0 ab.script ab.timing
+status 'every above the most' 2 session --every 1000001 ab.script ab.timing
+status 'every that is no number' 2 session --every x ab.script ab.timing
+status 'every twice' 2 session --every 1 --every 1 ab.script ab.timing
+status 'a session at a moment' 2 session --at 1 ab.script ab.timing
+check 'every with a sign' 2 '' 'typetool: bad number of chunks\n' session --every=+5 nowhere nowhere
+
+# The second profile and the escaped print.
+printf 'Script started on X\nabcdef\033[1;2H\033[2P\033[c' >edits.script
+printf '0.5 19\n' >edits.timing
+check 'cells deleted under a VT102' 0 "$(screen_of adef)" '' screen --at 1 --profile vt102 edits.script edits.timing
+check 'and not under a VT100' 0 "$(screen_of abcdef)" '' screen --at 1 --profile=vt100 edits.script edits.timing
+check 'nor where no profile is given' 0 "$(screen_of abcdef)" '' screen --at 1 edits.script edits.timing
+check 'what a VT102 is' 0 '1b5b3f3663\n' '' reports --profile vt102 --at 1 edits.script edits.timing
+check 'changes of a VT102' 0 '0 0.500000 1\n' '' changes --profile vt102 --to 1 edits.script edits.timing
+asked 'a session of a VT102' 0 'reports 1\nscreen 1\n' '1b5b3f3663\n'"$(screen_of adef)" \
+    edits.script edits.timing --profile vt102
+check 'another profile' 2 '' 'typetool: bad profile\n' screen --at 1 --profile vt220 nowhere nowhere
+status 'a profile of due' 2 due --at 1 --profile vt100 edits.script edits.timing
+status 'a profile of info' 2 info --profile vt100 edits.script edits.timing
+status 'a profile of save' 2 save --profile vt100 edits.script edits.timing not.script not.timing
+status 'a profile twice' 2 screen --at 1 --profile vt100 --profile vt100 edits.script edits.timing
+status 'the escaped print of changes' 2 changes --to 1 --escaped edits.script edits.timing
+check 'the escaped print' 0 '\033[?7l\033)0\033[1;1Hadef\033[0m\017\033[?7h\033[1;2H' '' \
+    screen --at 1 --escaped --profile vt102 edits.script edits.timing
+"$program" session ab.script ab.timing 0>>there >out.txt 2>err.txt
+verdict 'a session without an input to read' 3 $? '' 'typetool: read fault\n'
+"$program" session empty.script ab.timing 0>>there >out.txt 2>err.txt
+verdict 'an input is read before the recording' 3 $? '' 'typetool: read fault\n'
+: >out.txt
+printf 'info\n' | "$program" session ab.script ab.timing >/dev/full 2>err.txt
+verdict 'a session into a full device' 3 $? '' 'typetool: write fault\n'
+"$program" changes --to 1 ab.script ab.timing >/dev/full 2>err.txt
+verdict 'changes into a full device' 3 $? '' 'typetool: write fault\n'
+printf 'info\n' | "$program" session ab.script ab.timing >&- 2>err.txt
+verdict 'a session into a closed output' 3 $? '' 'typetool: write fault\n'
+"$program" changes --to 1 ab.script ab.timing >&- 2>err.txt
+verdict 'changes into a closed output' 3 $? '' 'typetool: write fault\n'
+yes 'screen 9' | head -n 400 >many.requests
+(ulimit -f 1; trap '' XFSZ; exec "$program" session ab.script ab.timing <many.requests >limited.txt 2>err.txt)
+verdict 'a session and a limit on file size' 3 $? '' 'typetool: write fault\n'
 
 "$program" due --at 1 ab.script ab.timing >/dev/full 2>err.txt
 got=$?
