@@ -24,11 +24,13 @@ test:
 	tests/limits.py bin/typetool
 	tests/memory.py bin/typetool
 	tests/damage.py bin/typetool 500
+	tests/refused.py 2
 
-# The long forms: more limits on memory, and 20,000 damaged pairs.
+# The long forms: more limits on memory, 20,000 damaged pairs, and every growth refused in turn.
 soak: bin/typetool
 	tests/memory.py bin/typetool 16
 	tests/damage.py bin/typetool 20000
+	tests/refused.py
 
 install: bin/typetool
 	install -d $(DESTDIR)$(PREFIX)/bin

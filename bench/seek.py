@@ -2,7 +2,9 @@
 import glob
 import os
 import re
+import subprocess
 import sys
+import time
 
 typetool, work, mib, libtty = sys.argv[1:]
 size = int(mib) << 20
@@ -42,11 +44,14 @@ def seconds(micros):
     return f"{micros // 1000000}.{micros % 1000000:06}"
 
 
-def run(words, requests):
-    """The processor seconds of a run on these requests, and its greatest memory in MB; its output is thrown away."""
+def request_file(requests):
     path = os.path.join(work, "requests")
     with open(path, "w") as file:
         file.writelines(line + "\n" for line in requests)
+    return path
+
+
+def run_once(words, path):
     pid = os.fork()
     if pid == 0:
         os.dup2(os.open(path, os.O_RDONLY), 0)
@@ -55,7 +60,30 @@ def run(words, requests):
     _, status, usage = os.wait4(pid, 0)
     if status:
         sys.exit(f"{words[0]} failed")
-    return usage.ru_utime + usage.ru_stime, usage.ru_maxrss / 1000
+    return usage.ru_utime + usage.ru_stime
+
+
+def run(words, requests):
+    """The processor seconds of the fastest of three runs on these requests; their output is thrown away."""
+    path = request_file(requests)
+    return min(run_once(words, path) for _ in range(3))
+
+
+def resident(words, requests):
+    """The memory in MB of a run that waits: with requests for somebody to read its answers, without any for the first."""
+    stdin = open(request_file(requests)) if requests else subprocess.PIPE
+    ran = subprocess.Popen(words, stdin=stdin, stdout=subprocess.PIPE)
+    spent = None
+    while True:
+        time.sleep(0.5)
+        fields = open(f"/proc/{ran.pid}/stat").read().rsplit(")", 1)[1].split()
+        if fields[0] == "S" and fields[11] == spent:
+            break
+        spent = fields[11]
+    status = open(f"/proc/{ran.pid}/status").read()
+    ran.kill()
+    ran.wait()
+    return int(re.search(r"VmRSS:\s+(\d+)", status)[1]) * 1024 / 1000000
 
 
 script, timing, chunks = write_recording()
@@ -63,23 +91,25 @@ end = f"screen {seconds(chunks * delay)}"
 spread = [f"screen {seconds(moment)}" for moment in moments(chunks)]
 
 
-def session(every, requests):
-    return run([typetool, "session", "--every", str(every), script, timing], requests)
+def session(every):
+    return [typetool, "session", "--every", str(every), script, timing]
 
 
 # Opening alone; one seek without stored terminals, which is feeding one terminal; with them; the seeks; and as many
 # prints of one place.
-opened, opened_memory = session(100, ["info"])
-fed, _ = session(1000000, [end])
-sought, memory = session(100, [end])
-all_over, _ = session(100, [end] + spread)
-printed, _ = session(100, [end] + [end] * places)
+opened = run(session(100), ["info"])
+fed = run(session(1000000), [end])
+sought = run(session(100), [end])
+all_over = run(session(100), [end] + spread)
+printed = run(session(100), [end] + [end] * places)
+beside = resident(session(100), [end] * places) - resident(session(100), ["info"] * places)
 print(f"{mib} MiB in {chunks} chunks       ours   goal")
 print(f"first seek over feeding    {(sought - opened) / (fed - opened):7.3f}   1.15")
 print(f"a seek, in ms              {1000 * (all_over - printed) / places:7.3f}   0.06")
-print(f"beside the recording, MB   {memory - opened_memory:7.1f}   64")
+print(f"beside the recording, MB   {beside:7.1f}   64")
 if libtty:
+    words = [libtty, script, timing]
     stdin = [str(moment) for moment in moments(chunks)]
-    loaded, libtty_memory = run([libtty, script, timing], [])
-    libtty_all, _ = run([libtty, script, timing], stdin)
-    print(f"libtty: a seek {1000 * (libtty_all - loaded) / places:.3f} ms, {libtty_memory - size / 1000000:.0f} MB beside the recording")
+    libtty_memory = resident(words, []) - size / 1000000
+    loaded, libtty_all = run_once(words, request_file([])), run_once(words, request_file(stdin))
+    print(f"libtty: a seek {1000 * (libtty_all - loaded) / places:.3f} ms, {libtty_memory:.0f} MB beside the recording")
