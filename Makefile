@@ -24,7 +24,7 @@ test:
 	tests/limits.py bin/typetool
 	tests/memory.py bin/typetool
 	tests/damage.py bin/typetool 500
-	tests/refused.py 2
+	tests/refused.py 1 3 12
 
 # The long forms: more limits on memory, 20,000 damaged pairs, and every growth refused in turn.
 soak: bin/typetool

@@ -1,18 +1,18 @@
 #!/usr/bin/env python3
 """Refuses the first, the second, .. growth of memory in every test of the modules `refused`, until none is refused.
 
-    tests/refused.py [MOST [WORKERS]]
+    tests/refused.py [N..]
 
 `rt try --test --fail-alloc N` refuses the Nth growth of each test. The test then compares what the call left with what was
-there before, makes the call again with memory, and prints `refused: CALL`. With MOST the first MOST growths alone are
-refused in turn. Prints how many refusals each test met; fails where a test fails or met none.
+there before, makes the call again with memory, and prints `refused: CALL`. With numbers these growths alone are refused in
+turn. Prints how many refusals each test met; fails where a test fails or met none.
 """
-import collections, concurrent.futures, os, re, subprocess, sys
+import collections, concurrent.futures, itertools, os, re, subprocess, sys
 
 top = os.path.join(os.path.dirname(os.path.abspath(__file__)), "..")
-most = int(sys.argv[1]) if len(sys.argv) > 1 else sys.maxsize
-workers = int(sys.argv[2]) if len(sys.argv) > 2 else os.cpu_count() or 1
-CRATES = ["tape_core", "vt_term", "tape_seek", "screen_print"]
+chosen = [int(number) for number in sys.argv[1:]]
+workers = os.cpu_count() or 1
+CRATES = ["tape_core", "vt_term", "tape_seek", "screen_print", "typetool"]
 
 
 def refuse(crate, number):
@@ -30,19 +30,26 @@ def refuse(crate, number):
     return done.returncode == 0 and "test result: ok." in done.stdout, met, done.stdout
 
 
+def batches():
+    """The growths to refuse, as many at once as there are workers: those chosen, or one after the other without an end."""
+    numbers = iter(chosen) if chosen else itertools.count(1)
+    while batch := list(itertools.islice(numbers, workers)):
+        yield batch
+
+
 def try_crate(crate):
-    """Goes on until no test met a refusal, as many growths at once as there are workers. Whether all passed and met some."""
-    counts, number, goes_on = collections.Counter(), 1, True
+    """Goes on until no test met a refusal, or all chosen growths were refused. Whether all passed and each met some."""
+    counts = collections.Counter()
     with concurrent.futures.ThreadPoolExecutor(workers) as pool:
-        while goes_on and number <= most:
-            batch = range(number, min(number + workers, most + 1))
-            for tried, (passed, met, said) in zip(batch, pool.map(lambda n: refuse(crate, n), batch)):
+        for batch in batches():
+            tried = list(zip(batch, pool.map(lambda number: refuse(crate, number), batch)))
+            for number, (passed, met, said) in tried:
                 if not passed:
-                    print(f"{crate}: growth {tried} refused: FAILED\n{said}")
+                    print(f"{crate}: growth {number} refused: FAILED\n{said}")
                     return False
                 counts.update(met)
-                goes_on = goes_on and sum(met.values()) > 0
-            number += workers
+            if not chosen and not all(sum(met.values()) for _, (_, met, _) in tried):
+                break
     for test, count in sorted(counts.items()):
         print(f"{crate}: {test}: {count} refused", flush=True)
     return bool(counts) and all(counts.values())

@@ -116,3 +116,4 @@ fn a_job_fault_has_the_text_of_its_fault(rt: HostRuntime) -> Result<(), Fail> {
 
 mod devices;
 mod large;
+mod refused;
