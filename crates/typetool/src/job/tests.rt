@@ -37,16 +37,16 @@ fn due_over_texts_in_memory(rt: HostRuntime) -> Result<(), Fail> {
         ("", "\n1 2 3\n", 0, "", file(Fault::BadCount(2))),
         ("", "", 7 * second, "", None),
     ];
-    for (body, timing, at, text, fault) in rows {
+    for (body, timing, at, text, fault) in &rows {
         let script = [HEADER, body.as_bytes()].concat(rt.alloc())?;
         let outcome = due(
             &rt,
             script.as_slice(),
             timing.as_bytes(),
-            at,
+            *at,
             text.as_bytes(),
         )?;
-        assert_eq!(rt; outcome.fault, fault, "{timing:?}");
+        assert_eq!(rt; outcome.fault, *fault, "{timing:?}");
         assert_eq!(rt; outcome.status, if fault.is_none() { 0 } else { 1 });
     }
     Ok(())

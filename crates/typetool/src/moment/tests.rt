@@ -176,37 +176,8 @@ fn moments(rt: HostRuntime) -> Result<(), Fail> {
         ),
     ];
     for (body, timing, at, shown, sent) in rows {
-        let text = screen_text(rt.alloc(), &[shown])?;
-        let written = play(
-            &rt,
-            Job::Screen {
-                at,
-                profile: Profile::Vt100,
-                escaped: false,
-            },
-            body.as_bytes(),
-            timing,
-        )?;
-        assert_eq!(rt;
-            written.as_slice(),
-            text.as_str().as_bytes(),
-            "{timing:?} at {at}"
-        );
-        let line = format!(in rt.alloc(); "{sent}\n")?;
-        let written = play(
-            &rt,
-            Job::Reports {
-                at,
-                profile: Profile::Vt100,
-            },
-            body.as_bytes(),
-            timing,
-        )?;
-        assert_eq!(rt;
-            written.as_slice(),
-            line.as_str().as_bytes(),
-            "{timing:?} at {at}"
-        );
+        shows(&rt, at, body.as_bytes(), timing, &[shown])?;
+        sends(&rt, at, body.as_bytes(), timing, sent)?;
     }
     Ok(())
 }
@@ -235,30 +206,54 @@ fn compare<R: Abort + AllocGlobal>(rt: &R, rows: &[Row<'_>]) -> Result<(), Fail>
     for (fed, shown, sent) in rows {
         let body = fed.concat(rt.alloc())?;
         let timing = format!(in rt.alloc(); "0 {}\n", body.len())?;
-        let text = screen_text(rt.alloc(), shown)?;
-        let written = play(
-            rt,
-            Job::Screen {
-                at: 0,
-                profile: Profile::Vt100,
-                escaped: false,
-            },
-            body.as_str().as_bytes(),
-            timing.as_str(),
-        )?;
-        assert_eq!(rt; written.as_slice(), text.as_str().as_bytes(), "{body:?}");
-        let line = format!(in rt.alloc(); "{sent}\n")?;
-        let written = play(
-            rt,
-            Job::Reports {
-                at: 0,
-                profile: Profile::Vt100,
-            },
-            body.as_str().as_bytes(),
-            timing.as_str(),
-        )?;
-        assert_eq!(rt; written.as_slice(), line.as_str().as_bytes(), "{body:?}");
+        shows(rt, 0, body.as_str().as_bytes(), timing.as_str(), shown)?;
+        sends(rt, 0, body.as_str().as_bytes(), timing.as_str(), sent)?;
     }
+    Ok(())
+}
+
+/// Sees what a VT100 shows at a moment.
+fn shows<R: Abort + AllocGlobal>(
+    rt: &R,
+    at: u64,
+    body: &[u8],
+    timing: &str,
+    shown: &[&str],
+) -> Result<(), Fail> {
+    let screen = Job::Screen {
+        at,
+        profile: Profile::Vt100,
+        escaped: false,
+    };
+    let text = screen_text(rt.alloc(), shown)?;
+    let written = play(rt, screen, body, timing)?;
+    assert_eq!(rt;
+        written.as_slice(),
+        text.as_str().as_bytes(),
+        "{body:?} at {at}"
+    );
+    Ok(())
+}
+
+/// Sees what a VT100 has sent by a moment.
+fn sends<R: Abort + AllocGlobal>(
+    rt: &R,
+    at: u64,
+    body: &[u8],
+    timing: &str,
+    sent: &str,
+) -> Result<(), Fail> {
+    let reports = Job::Reports {
+        at,
+        profile: Profile::Vt100,
+    };
+    let line = format!(in rt.alloc(); "{sent}\n")?;
+    let written = play(rt, reports, body, timing)?;
+    assert_eq!(rt;
+        written.as_slice(),
+        line.as_str().as_bytes(),
+        "{body:?} at {at}"
+    );
     Ok(())
 }
 
