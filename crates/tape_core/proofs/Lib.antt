@@ -13,3 +13,4 @@ mod ReadBackLemmas
 mod FaultLemmas
 mod WordLemmas
 mod OneReadingLemmas
+mod FirstLineLemmas

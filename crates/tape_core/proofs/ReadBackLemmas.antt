@@ -222,15 +222,23 @@ digit_no_feed : (b : ℕ) → is_ascii_digit b ≡ true → nat_eq b 10 ≡ fals
 digit_no_feed b h = grind (arith, nat_tests)
 
 -- a line has no LF of its own
+pub digits_unbroken : (digits : List ℕ) → AllPass is_ascii_digit digits → All (λ b. nat_eq b 10 ≡ false) digits
+digits_unbroken digits are = All-weaker (λ b. is_ascii_digit b ≡ true) (λ b. nat_eq b 10 ≡ false) digit_no_feed digits are
+
+pub seconds_unbroken : (text : List ℕ) (us : ℕ) → SecondsText text us → All (λ b. nat_eq b 10 ≡ false) text
+seconds_unbroken text us s =
+    let P : List ℕ → Type 0 = All (λ b. nat_eq b 10 ≡ false) in
+    elim s.spelled [
+      | inl e ↦ subst P (sym e.0) (digits_unbroken s.whole s.whole_digits)
+      | inr e ↦ subst P (sym e) (All-append (λ b. nat_eq b 10 ≡ false) s.whole (46 ∷ s.decimals) (digits_unbroken s.whole s.whole_digits)
+          (All-cons (λ b. nat_eq b 10 ≡ false) 46 s.decimals refl (digits_unbroken s.decimals s.decimal_digits)))
+    ]
+
 line_unbroken : (c : Chunk) → IsWithinLimits c → All (λ b. nat_eq b 10 ≡ false) (line_text_of c)
-unfolding seconds_form
 line_unbroken c within =
-    let P : ℕ → Type 0 = λ b. nat_eq b 10 ≡ false in
-    let digits = λ (ds : List ℕ) (are : AllPass is_ascii_digit ds). All-weaker (λ b. is_ascii_digit b ≡ true) P digit_no_feed ds are in
-    All-append P (seconds_form c.delay) (32 ∷ decimal (length c.bytes))
-    (All-append P (decimal (c.delay / 1000000)) (46 ∷ six_digits (c.delay % 1000000)) (digits (decimal (c.delay / 1000000)) (decimal_digits (c.delay / 1000000) (omega (arith, within.delay))))
-    (All-cons P 46 (six_digits (c.delay % 1000000)) refl (digits (six_digits (c.delay % 1000000)) (six_digits_are c.delay))))
-    (All-cons P 32 (decimal (length c.bytes)) refl (digits (decimal (length c.bytes)) (decimal_digits (length c.bytes) (omega (arith, within.count)))))
+    let count = digits_unbroken (decimal (length c.bytes)) (decimal_digits (length c.bytes) (omega (arith, within.count))) in
+    All-append (λ b. nat_eq b 10 ≡ false) (seconds_form c.delay) (32 ∷ decimal (length c.bytes))
+    (seconds_unbroken (seconds_form c.delay) c.delay (seconds_form_reads c.delay (omega (arith, within.delay)))) (All-cons (λ b. nat_eq b 10 ≡ false) 32 (decimal (length c.bytes)) refl count)
 
 -- the lines of what is written are the chunks' lines
 pub next_line : (line rest : List ℕ) → All (λ b. nat_eq b 10 ≡ false) line → lines_of (line ++ 10 ∷ rest) ≡ line ∷ lines_of rest

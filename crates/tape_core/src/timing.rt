@@ -1,5 +1,5 @@
 //! The classic timing format: a line for each output, with its delay and its count.
-ghost use Rattle.std.specs.Prelude.{◌≡◌, ◌≤◌, ◌≢◌, false, None, Some, All, IfOk, IfErr, IfSome, length, min};
+ghost use Rattle.std.specs.Prelude.{◌≡◌, ◌<◌, ◌≤◌, ◌≢◌, ◌∷◌, false, ℕ, List, None, Some, All, IfOk, IfErr, IfSome, length, min};
 ghost use Rattle.std.specs.Option.{option_map};
 ghost use Rattle.tape_core.specs.Faults.{is_stop};
 ghost use Rattle.tape_core.specs.Seconds.{last_moment};
@@ -12,6 +12,10 @@ use crate::limits::{LONGEST_BODY, LONGEST_CHUNK, LONGEST_DELAY, MOST_CHUNKS};
 use crate::seconds::read_seconds;
 use crate::text::{next_field, next_line, only_field, read_number};
 use std::alloc::{AllocError, Global};
+
+mod written;
+
+use written::written_entry;
 
 /// What a timing line says of its chunk: the delay in microseconds, and how many bytes it has.
 #[derive(Clone, Copy, Debug)]
@@ -96,6 +100,20 @@ fn read_entry(text: &[u8]) -> Result<Option<Entry>, LineFault>
     Ok(Some(Entry { delay, count }))
 }
 
+/// What the first line of a text that isn't empty says, and what stands behind it.
+fn first_entry(text: &[u8]) -> (Result<Option<Entry>, LineFault>, &[u8])
+    requires { 0 < length text.now }
+    ensures said { (line : List ℕ) × (lines_of text.now ≡ line ∷ lines_of result.1.now) × (result.0 ≡ entry_of line) }
+    ensures within { IfOk result.0 (λ entry. IfSome entry IsWithin) }
+    ensures shorter { length result.1.now < length text.now }
+{
+    if let Some((entry, after)) = written_entry(text) {
+        return (Ok(Some(entry)), after);
+    }
+    let (line, after) = next_line(text);
+    (read_entry(line), after)
+}
+
 /// Reads the entries of all lines that aren't blank, or the fault of the first line that has one.
 pub fn read_timing(alloc: Global, timing: &[u8]) -> Result<Vec<Entry>, Fault>
     ensures entries { IfOk result (λ v. v.items ≡ entries_of (lines_of timing.now)) }
@@ -109,10 +127,10 @@ pub fn read_timing(alloc: Global, timing: &[u8]) -> Result<Vec<Entry>, Fault>
     let mut line: u64 = 0;
     let mut rest = timing;
     while !rest.is_empty() {
-        let (text, after) = next_line(rest);
+        let (said, after) = first_entry(rest);
         rest = after;
         line += 1;
-        match read_entry(text) {
+        match said {
             Err(fault) => return Err(fault.at(line)),
             Ok(None) => {}
             Ok(Some(_)) if entries.len() >= MOST_CHUNKS => return Err(Fault::TooManyChunks(line)),

@@ -40,6 +40,30 @@ fn faults_of_pairs(rt: HostRuntime) {
 }
 
 #[test]
+fn faults_behind_written_lines(rt: HostRuntime) {
+    let rows: [(&[u8], Fault); 12] = [
+        (b"0.100000 1\n1000000.000001 0\n", Fault::DelayTooLarge(2)),
+        (b"0.100000 1\n0.100000 1048577\n", Fault::ChunkTooLong(2)),
+        (b"0.100000 1\n0.100000 +1\n", Fault::BadCount(2)),
+        (b"0.100000 1\n0.100000 1 1\n", Fault::BadCount(2)),
+        (b"0.100000 1\n0.100000 1\r\n", Fault::BadCount(2)),
+        (b"0.100000 1\n+0.100000 1\n", Fault::BadDelay(2)),
+        (b"0.100000 1\n.100000 1\n", Fault::BadDelay(2)),
+        (b"0.100000 1\n\n.\n", Fault::BadDelay(3)),
+        (b"0.100000 1\nO 0.100000 1\n", Fault::MultiStream(2)),
+        (b"0.100000 1\n0.100000 2\n", Fault::ScriptShort(1)),
+        (b"99999999999999999999.000000 0\n", Fault::DelayTooLarge(1)),
+        (b"0.000000 99999999999999999999\n", Fault::ChunkTooLong(1)),
+    ];
+    for (timing, fault) in rows {
+        match read_recording(rt.alloc(), AB, timing) {
+            Ok(_) => assert!(rt; false, "no fault in {timing:?}"),
+            Err(found) => assert_eq!(rt; found, fault, "in {timing:?}"),
+        }
+    }
+}
+
+#[test]
 fn chunks_of_a_pair(rt: HostRuntime) -> Result<(), Fail> {
     let recording = read_recording(rt.alloc(), AB, b"0.000000 1\n0.500000 1\n")?;
     assert_eq!(rt; recording.header(), EMPTY);
@@ -60,8 +84,12 @@ fn chunks_of_a_pair(rt: HostRuntime) -> Result<(), Fail> {
 
 #[test]
 fn lenient_lines(rt: HostRuntime) -> Result<(), Fail> {
-    let rows: [(&[u8], usize, u64); 8] = [
+    let rows: [(&[u8], usize, u64); 12] = [
         (b"0 1\n0 1\n", 2, 0),
+        (b"0.250000 1\n0.250000 1", 2, 500_000),
+        (b"0.25000 1\n0.2500009 1\n0.250000 0\n", 3, 750_000),
+        (b"0.250000  1\n0.250000\t1\n0.250000 0 \n", 3, 750_000),
+        (b" 0.250000 1\n\n0.250000 1\n-0.250000 0\n", 3, 500_000),
         (b" 0.1\t2 \n\n-0.5 0", 2, 100_000),
         (b"-9999999 0\n", 1, 0),
         (b"1000000 0\n", 1, 1_000_000_000_000),

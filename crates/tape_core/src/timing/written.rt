@@ -1,0 +1,73 @@
+//! Lines of the form that script(1) writes, read at once: digits, `.`, six digits, a space, digits, LF.
+//! Each other line is left to the fields of the general form.
+ghost use Rattle.std.specs.Prelude.{◌≡◌, ◌≤◌, ◌<◌, ◌∷◌, ◌++◌, List, ℕ, Some, Ok, IfSome, length};
+ghost use Rattle.tape_core.specs.Seconds.{SecondsText};
+ghost use Rattle.tape_core.specs.Text.{NumberText, lines_of};
+ghost use Rattle.tape_core.specs.Timing.{IsWithin, entry_of};
+
+use super::Entry;
+use crate::limits::{LONGEST_CHUNK, LONGEST_DELAY};
+use crate::seconds::SECOND;
+
+/// How many decimals script(1) writes.
+const DECIMALS: usize = 6;
+
+/// The number that a text begins with, and what stands behind its digits. None where it begins with no
+/// digit, or with a number above every limit of a line.
+fn first_number(text: &[u8]) -> Option<(u64, &[u8])>
+    ensures number { IfSome result (λ cut. (digits : List ℕ) × (text.now ≡ digits ++ cut.1.now) × NumberText digits cut.0) }
+    ensures small { IfSome result (λ cut. cut.0 ≤ LONGEST_DELAY) }
+{
+    let mut n: u64 = 0;
+    let mut rest = text;
+    while let [digit @ b'0'..=b'9', after @ ..] = rest {
+        n = n * 10 + u64::from(*digit - b'0');
+        if n > LONGEST_DELAY {
+            return None;
+        }
+        rest = after;
+    }
+    if rest.len() < text.len() {
+        Some((n, rest))
+    } else {
+        None
+    }
+}
+
+/// The seconds with six decimals that a text begins with, in microseconds, and what stands behind them.
+fn first_delay(text: &[u8]) -> Option<(u64, &[u8])>
+    ensures { IfSome result (λ cut. (seconds : List ℕ) × (text.now ≡ seconds ++ cut.1.now) × SecondsText seconds cut.0) }
+{
+    let (whole, behind) = first_number(text)?;
+    let [b'.', decimals @ ..] = behind else {
+        return None;
+    };
+    let (micros, rest) = first_number(decimals)?;
+    if decimals.len() - rest.len() == DECIMALS {
+        Some((whole * SECOND + micros, rest))
+    } else {
+        None
+    }
+}
+
+/// The entry of a first line as script(1) writes it, within the limits, and what stands behind its LF.
+pub(super) fn written_entry(text: &[u8]) -> Option<(Entry, &[u8])>
+    ensures line { IfSome result (λ cut. (line : List ℕ) × (lines_of text.now ≡ line ∷ lines_of cut.1.now) × (entry_of line ≡ Ok (Some cut.0))) }
+    ensures within { IfSome result (λ cut. IsWithin cut.0) }
+    ensures shorter { IfSome result (λ cut. length cut.1.now < length text.now) }
+{
+    let (delay, behind) = first_delay(text)?;
+    let [b' ', second @ ..] = behind else {
+        return None;
+    };
+    let (count, end) = first_number(second)?;
+    match end {
+        [b'\n', after @ ..] if delay <= LONGEST_DELAY && count <= LONGEST_CHUNK as u64 => {
+            Some((Entry { delay, count }, after))
+        }
+        _ => None,
+    }
+}
+
+#[cfg(test)]
+mod tests;
