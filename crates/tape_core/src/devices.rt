@@ -26,6 +26,7 @@ impl<T> Watched<T> {
     pub fn new(inner: T) -> Watched<T>
         ensures inner { inner_of result ≡ inner }
         ensures sound { has_failed result ≡ false }
+        ensures unflushed { is_flushed result ≡ false }
     {
         Watched {
             inner,
@@ -89,6 +90,7 @@ impl<W: Write> Watched<W> {
         ensures fault { IfErr result (λ fault. fault ≡ Fault.WriteFault) }
         ensures stopped { OnErr result (StoppedIn W.contents self.old self.new []) }
         ensures flushed { OnOk result (is_flushed self.new ≡ true) }
+        ensures unflushed { OnErr result (is_flushed self.new ≡ false) }
     {
         let answer = flush_answer(self.inner.flush());
         self.flushed = answer.is_ok();

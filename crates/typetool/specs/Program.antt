@@ -1,11 +1,13 @@
 -- The statuses of the program.
-use Rattle.std.specs.Prelude.{ℕ}
+use Rattle.std.specs.Prelude.{◌≡◌, ℕ, List, MatchOption, string_bytes}
 use Rattle.clap.specs.Words.{kind_of}
 use Rattle.clap.specs.declared.error.ErrorKind.{ErrorKind}
 use Rattle.clap.specs.declared.error.ErrorKind.TheVariants.{DisplayHelp, DisplayVersion}
-use Rattle.typetool.specs.Output.{status_of}
+use Rattle.typetool.specs.Output.{IsDoneStatus, status_of}
+use Rattle.typetool.specs.declared.job.Job.{Job}
+use Rattle.typetool.specs.declared.job.Outcome.{Outcome}
 use Rattle.typetool.specs.declared.program.Stop.{Stop}
-use Rattle.typetool.specs.declared.program.Stop.TheVariants.{Words, NotText, Memory, CannotOpen, CannotCreate, Job}
+use Rattle.typetool.specs.declared.program.Stop.TheVariants.{Words, NotText, Memory, CannotOpen, CannotCreate, Job as of_job}
 use Rattle.typetool.specs.declared.words.WordsFault.TheVariants as words
 
 -- 0 where help is asked for, and 2 for a mistake (profile)
@@ -25,4 +27,26 @@ stop_status NotText = 2
 stop_status Memory = 3
 stop_status (CannotOpen path) = 3
 stop_status (CannotCreate path) = 3
-stop_status (Job fault) = status_of fault
+stop_status (of_job fault) = status_of fault
+
+-- how the job ends: with the status of its fault where it has one, and else with one of a job that is done (profile)
+abbrev pub IsOutcome : Job → Outcome → Type 0
+IsOutcome job outcome = MatchOption outcome.fault (IsDoneStatus job outcome.status) (λ fault. outcome.status ≡ status_of fault)
+
+-- why a file isn't open: the file of this path can't be opened, or memory was refused (profile)
+abbrev pub IsNotOpen : List ℕ → Stop → Type 0
+IsNotOpen path (CannotOpen name) = string_bytes name ≡ path
+IsNotOpen path Memory = Unit {0}
+IsNotOpen path (CannotCreate name) = ⊥
+IsNotOpen path (Words fault) = ⊥
+IsNotOpen path NotText = ⊥
+IsNotOpen path (of_job fault) = ⊥
+
+-- why a file isn't created: none of this path can be created, or memory was refused (profile)
+abbrev pub IsNotCreated : List ℕ → Stop → Type 0
+IsNotCreated path (CannotCreate name) = string_bytes name ≡ path
+IsNotCreated path Memory = Unit {0}
+IsNotCreated path (CannotOpen name) = ⊥
+IsNotCreated path (Words fault) = ⊥
+IsNotCreated path NotText = ⊥
+IsNotCreated path (of_job fault) = ⊥

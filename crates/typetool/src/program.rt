@@ -1,10 +1,10 @@
 //! The program around a job: its arguments, its files, and what it tells its user.
 
-ghost use Rattle.std.specs.Prelude.{◌≡◌, ◌≢◌, ◌≤◌, false, IfOk, vec_len};
+ghost use Rattle.std.specs.Prelude.{◌≡◌, ◌⊎◌, ◌≢◌, ◌≤◌, false, IfErr, IfOk, vec_len};
 ghost use Rattle.clap.specs.Words.{kind_of};
 ghost use Rattle.tape_core.specs.Devices.{has_failed};
 ghost use Rattle.typetool.specs.CommandLine.{path_count};
-ghost use Rattle.typetool.specs.Program.{stop_status};
+ghost use Rattle.typetool.specs.Program.{IsNotCreated, IsNotOpen, IsOutcome, stop_status};
 
 use crate::job::{Job, JobFault, Outcome, run};
 use crate::words::{Words, WordsFault, read_words};
@@ -77,7 +77,9 @@ fn status_of(stop: &Stop) -> u8
 }
 
 /// Runs the program, and answers its status.
-pub fn start<R: Files + Env + Input + Print + Eprint + AllocGlobal>(rt: &R) -> u8 {
+pub fn start<R: Files + Env + Input + Print + Eprint + AllocGlobal>(rt: &R) -> u8
+    ensures { result ≤ 3 }
+{
     match attempt(rt) {
         Ok(
             Outcome {
@@ -97,14 +99,18 @@ pub fn start<R: Files + Env + Input + Print + Eprint + AllocGlobal>(rt: &R) -> u
 }
 
 /// Reads the command line, opens the files and does the job.
-fn attempt<R: Files + Env + Input + Print + AllocGlobal>(rt: &R) -> Result<Outcome, Stop> {
+fn attempt<R: Files + Env + Input + Print + AllocGlobal>(rt: &R) -> Result<Outcome, Stop>
+    ensures { IfOk result (λ outcome. (job : Job) × IsOutcome job outcome) }
+{
     let words = arguments(rt)?;
     let read = read_words(rt.alloc(), words.as_slice())?;
     perform(rt, &read)
 }
 
 /// The words of the command line, the program's name first.
-fn arguments<R: Env + AllocGlobal>(rt: &R) -> Result<Vec<String>, Stop> {
+fn arguments<R: Env + AllocGlobal>(rt: &R) -> Result<Vec<String>, Stop>
+    ensures { IfErr result (λ stop. (stop ≡ Stop.Memory) ⊎ (stop ≡ Stop.NotText)) }
+{
     match env::args(rt) {
         Ok(words) => Ok(words.collect(rt.alloc())?),
         Err(error) if error.kind() == io::ErrorKind::OutOfMemory => Err(Stop::Memory),
@@ -115,6 +121,9 @@ fn arguments<R: Env + AllocGlobal>(rt: &R) -> Result<Vec<String>, Stop> {
 /// Opens the files in order, and does the job.
 fn perform<R: Files + Input + Print + AllocGlobal>(rt: &R, words: &Words) -> Result<Outcome, Stop>
     requires { path_count words.now.job ≤ vec_len words.now.paths }
+    ensures outcome { IfOk result (IsOutcome words.now.job) }
+    // Else a file or memory was refused.
+    ensures stop { IfErr result (λ stop. stop_status stop ≡ 3) }
 {
     let mut script = open(rt, words.paths[0].as_str())?;
     let mut timing = open(rt, words.paths[1].as_str())?;
@@ -146,6 +155,8 @@ fn print<R: Files + Print + AllocGlobal, Q: io::Read>(
     requires script { has_failed script.old ≡ false }
     requires timing { has_failed timing.old ≡ false }
     requires requests { has_failed requests.old ≡ false }
+    ensures outcome { IfOk result (IsOutcome job) }
+    ensures stop { IfErr result (λ stop. stop ≡ Stop.Memory) }
 {
     let mut out = buffered(rt, io::writer(rt))?;
     let outcome = run(
@@ -171,6 +182,8 @@ fn save_into<R: Files + Input + AllocGlobal>(
 ) -> Result<Outcome, Stop>
     requires script { has_failed script.old ≡ false }
     requires timing { has_failed timing.old ≡ false }
+    ensures outcome { IfOk result (IsOutcome Job.Save) }
+    ensures stop { IfErr result (λ stop. stop ≡ Stop.Memory) }
 {
     let mut out = buffered(rt, new_script)?;
     let mut out_timing = buffered(rt, new_timing)?;
@@ -190,7 +203,8 @@ fn save_into<R: Files + Input + AllocGlobal>(
 
 /// Opens a file to be read.
 fn open<R: Files + AllocGlobal>(rt: &R, path: &str) -> Result<Watched<R::File>, Stop>
-    ensures { IfOk result (λ file. has_failed file ≡ false) }
+    ensures sound { IfOk result (λ file. has_failed file ≡ false) }
+    ensures stop { IfErr result (IsNotOpen path.now) }
 {
     match fs::open(rt, path) {
         Ok(file) => Ok(Watched::new(file)),
@@ -199,7 +213,9 @@ fn open<R: Files + AllocGlobal>(rt: &R, path: &str) -> Result<Watched<R::File>, 
 }
 
 /// Creates a file to be written. Where there is one of this name, it stays as it is.
-fn create<R: Files + AllocGlobal>(rt: &R, path: &str) -> Result<R::File, Stop> {
+fn create<R: Files + AllocGlobal>(rt: &R, path: &str) -> Result<R::File, Stop>
+    ensures { IfErr result (IsNotCreated path.now) }
+{
     match OpenOptions::new()
         .write(true)
         .create_new(true)
@@ -215,7 +231,8 @@ fn buffered<R: AllocGlobal, W: io::Write + Drop>(
     rt: &R,
     writer: W,
 ) -> Result<Watched<BufWriter<W>>, Stop>
-    ensures { IfOk result (λ out. has_failed out ≡ false) }
+    ensures sound { IfOk result (λ out. has_failed out ≡ false) }
+    ensures stop { IfErr result (λ stop. stop ≡ Stop.Memory) }
 {
     match BufWriter::with_capacity(rt.alloc(), HELD_BACK, writer) {
         Ok(writer) => Ok(Watched::new(writer)),
@@ -240,6 +257,9 @@ fn tell<R: Eprint>(rt: &R, stop: &Stop) -> u8
 fn show<R: Print + Eprint>(rt: &R, error: clap::Error) -> u8
     ensures mistake { (kind_of error ≢ ErrorKind.DisplayHelp) → (kind_of error ≢ ErrorKind.DisplayVersion)
         → result ≡ 2 }
+    // Help is told with status 0, and with 3 where it can't be written.
+    ensures asked { (kind_of error ≡ ErrorKind.DisplayHelp) ⊎ (kind_of error ≡ ErrorKind.DisplayVersion)
+        → (result ≡ 0) ⊎ (result ≡ 3) }
 {
     match error.print(rt) {
         Err(_) if !error.use_stderr() => tell(rt, &Stop::Job(JobFault::File(Fault::WriteFault))),

@@ -1,6 +1,6 @@
 //! The job `session`: an answer to each request line.
 
-ghost use Rattle.std.specs.Prelude.{◌≡◌, ◌≤◌, ◌++◌, ◌∷◌, [], IfErr, IfOk, OnOk, Some, codes, false, is_some, true};
+ghost use Rattle.std.specs.Prelude.{◌≡◌, ◌≤◌, ◌++◌, ◌∷◌, [], IfErr, IfOk, OnOk, Some, codes, false, is_some, max, min, true};
 ghost use Rattle.screen_print.specs.ChangeLines.{change_lines};
 ghost use Rattle.tape_core.specs.Devices.{Took, has_failed, is_flushed};
 ghost use Rattle.tape_core.specs.Text.{lines_of};
@@ -62,6 +62,7 @@ pub fn write_answers<O: Write>(
 fn in_range(every: usize) -> usize
     ensures low { 1 ≤ result }
     ensures high { result ≤ 1000000 }
+    ensures nearest { result ≡ min (max every 1) 1000000 }
 {
     every.max(1).min(MOST_EVERY)
 }
