@@ -1,6 +1,4 @@
-mod Lists
 mod Numbers
-mod Bytes
 mod Table
 mod Shapes
 mod Control
@@ -8,7 +6,6 @@ mod Joins
 mod Agrees
 mod ManyBytes
 mod LawLemmas
-mod ProperLemmas
 mod Whole
 mod Written
 mod Collecting

@@ -1,5 +1,5 @@
 -- The machine over many bytes, against the folds over raw bytes.
-use Rattle.std.proofs.Common.{◌≡◌, ℕ, List, [], ◌∷◌, ◌++◌, Some, sym, ap, ◌∙◌}
+use Rattle.std.proofs.Common.{◌≡◌, ℕ, List, [], ◌∷◌, ◌++◌, Some, None, refl, sym, ap, ◌∙◌, subst}
 use Rattle.vt_parser.specs.declared.commands.Mode.{Mode}
 use Rattle.vt_parser.specs.declared.states.ParserState.{ParserState}
 use Rattle.vt_parser.specs.View.{parser_view}
@@ -7,6 +7,13 @@ use Rattle.vt_parser.specs.Step.{pending_after, mode_after}
 use Rattle.vt_parser.specs.Fold.{mode_after_bytes, pending_after_bytes, Gives}
 use Rattle.vt_parser.specs.Machine.{Step, moves_to, stepped, Runs}
 use Rattle.vt_parser.proofs.Agrees.{same_command, same_view}
+
+-- a byte that gives no command before others
+pub runs_more : (state after : ParserState) (mode : Mode) (byte : ℕ) (rest : List ℕ) (step : Step)
+    → stepped state mode byte ≡ moves_to after → Runs after mode rest step → Runs state mode (byte ∷ rest) step
+runs_more state after mode byte [] step taken runs = taken ∙ runs
+runs_more state after mode byte (second ∷ rest) step taken runs =
+    subst (λ (s : Step). (s.command ≡ None) × Runs s.state mode (second ∷ rest) step) (sym taken) (refl, runs)
 
 -- bytes that give no command, and one byte more
 pub runs_push : (state : ParserState) (mode : Mode) (front : List ℕ) (after : ParserState) (byte : ℕ)

@@ -7,7 +7,7 @@ use Rattle.vt_parser.specs.declared.commands.Mode.{Mode}
 use Rattle.vt_parser.specs.declared.commands.Command.{Command}
 use Rattle.vt_parser.specs.declared.commands.Command.TheVariants as commands
 use Rattle.vt_parser.specs.declared.machine.Event.{Event}
-use Rattle.vt_parser.specs.declared.machine.Event.TheVariants.{Error, Control, Esc, Vt52, Vt52Address}
+use Rattle.vt_parser.specs.declared.machine.Event.TheVariants.{Error}
 use Rattle.vt_parser.specs.declared.tokens.Token.{Token}
 use Rattle.vt_parser.specs.declared.tokens.Token.TheVariants as tokens
 use Rattle.vt_parser.specs.declared.states.ParserState.{ParserState}
@@ -18,21 +18,22 @@ use Rattle.vt_parser.specs.Step.{command_of, pending_after, mode_after}
 use Rattle.vt_parser.specs.Fold.{mode_after_bytes, pending_after_bytes, Gives}
 use Rattle.vt_parser.specs.Law.{IsProper}
 use Rattle.vt_parser.specs.Token.{token_command, command_of_token, IsRun, TellsOf, Leads}
-use Rattle.vt_parser.specs.Machine.{Step, Runs}
+use Rattle.vt_parser.specs.Machine.{Step, joined, Runs}
+use Rattle.vt_parser.proofs.Whole.{joins}
 use Rattle.vt_parser.specs.Reading.{HasParams, event_command, IsTokenOf}
 use Rattle.vt_parser.proofs.Shapes.{shows_none}
-use Rattle.vt_parser.proofs.LawLemmas.{ground_is_empty}
-use Rattle.vt_parser.proofs.ProperLemmas.{commands_are_proper, graphic_is_shown}
+use Rattle.vt_parser.proofs.Agrees.{ground_is_empty}
+use Rattle.vt_parser.proofs.LawLemmas.{commands_are_proper, graphic_is_shown}
 use Rattle.vt_parser.proofs.Agrees.{same_command}
-use Rattle.vt_parser.proofs.Collecting.{final_step}
 use Rattle.vt_parser.proofs.ManyBytes.{runs_agree}
 
 -- ---- states
 
 -- a state that shows a text has its parameters, as its command will
 pub has_params : (state : ParserState) → IsShown state → HasParams state
+unfolding joined
 has_params (Csi private params over) shown =
-    let told = same_command shown.0 shown.0 shown.1 64 (Csi private params over) shown.2 ∙ ap (λ (s : Step). s.command) (final_step private params over shown.0 64 refl refl) in
+    let told = same_command shown.0 shown.0 shown.1 64 (Csi private params over) shown.2 ∙ ap (λ (s : Step). s.command) (joins (Csi private params over) shown.0 64 refl refl) in
     let P : Option Command → Type 0 = λ command. IfSome command IsProper in
     (subst P told (commands_are_proper shown.0 shown.1 64)).0
 has_params state shown = tt
@@ -87,12 +88,8 @@ told_proper given mode pending bytes (Some token) some tells = gives_proper give
 
 pub event_told : (given mode : Mode) (pending bytes : List ℕ) (event : Option Event) (token : Option Token) → IsTokenOf event token
     → Gives given mode pending bytes (event_command event) → TellsOf given mode pending bytes token
-event_told given mode pending bytes None token is gives = subst (TellsOf given mode pending bytes) (sym is) gives
 event_told given mode pending bytes (Some Error) token is gives = subst (TellsOf given mode pending bytes) (sym is) gives
-event_told given mode pending bytes (Some (Control byte)) token is gives = subst (TellsOf given mode pending bytes) (sym is) gives
-event_told given mode pending bytes (Some (Esc inter last)) token is gives = subst (TellsOf given mode pending bytes) (sym is) gives
-event_told given mode pending bytes (Some (Vt52 last)) token is gives = subst (TellsOf given mode pending bytes) (sym is) gives
-event_told given mode pending bytes (Some (Vt52Address line column)) token is gives = subst (TellsOf given mode pending bytes) (sym is) gives
+event_told given mode pending bytes _ token is gives = subst (TellsOf given mode pending bytes) (sym is) gives
 
 -- ---- one byte
 
@@ -109,13 +106,7 @@ run_told mode pending byte run is =
 
 byte_told : (given mode : Mode) (pending : List ℕ) (byte : ℕ) (token : Option Token) → TellsOf given mode pending (byte ∷ []) token → command_of mode pending byte ≡ command_told token
 byte_told given mode pending byte (Some (tokens.Show run)) told = run_told mode pending byte run.now told
-byte_told given mode pending byte None told = told
-byte_told given mode pending byte (Some tokens.Error) told = told
-byte_told given mode pending byte (Some (tokens.Control control)) told = told
-byte_told given mode pending byte (Some (tokens.Esc inter last)) told = told
-byte_told given mode pending byte (Some (tokens.Csi private params last)) told = told
-byte_told given mode pending byte (Some (tokens.Vt52 last)) told = told
-byte_told given mode pending byte (Some (tokens.Vt52Address line column)) told = told
+byte_told given mode pending byte _ told = told
 
 -- all of one byte is taken
 one_taken : (byte n : ℕ) → 0 < n → n ≤ 1 → take n (byte ∷ []) ≡ byte ∷ []

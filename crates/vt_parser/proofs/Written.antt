@@ -1,5 +1,5 @@
 -- Parameters that were written in decimal are read back.
-use Rattle.std.proofs.Common.{◌≡◌, ℕ, ◌+◌, ◌-◌, ◌*◌, ◌/◌, ◌%◌, ◌^◌, ◌<◌, ◌≤◌, true, false, ◌==◌, List, [], ◌∷◌, ◌++◌, length, map, take, refl, ap, ap₂, ◌∙◌, subst, arith}
+use Rattle.std.proofs.Common.{◌≡◌, ℕ, ◌+◌, ◌-◌, ◌*◌, ◌/◌, ◌%◌, ◌^◌, ◌<◌, ◌≤◌, Bool, true, false, List, [], ◌∷◌, ◌++◌, length, map, take, refl, ap, ap₂, ◌∙◌, subst, arith}
 use Rattle.std.specs.Prelude.{All, Option, Some, decimal}
 use Rattle.std.specs.List.{list_all, AllByRecursion}
 use Rattle.std.proofs.lemmas.Bool.{and_parts}
@@ -18,9 +18,12 @@ use Rattle.vt_parser.specs.Sequence.{is_digit, is_semicolon, is_plain, is_privat
 use Rattle.vt_parser.specs.Decimals.{params_text}
 use Rattle.vt_parser.specs.Fold.{Finishes}
 use Rattle.vt_parser.specs.Law.{DecimalsAreRead, WrittenControlsFinish, WrittenPrivatesFinish}
-use Rattle.vt_parser.proofs.Bytes.{digit_no_semicolon}
-use Rattle.vt_parser.proofs.Lists.{list_all_push}
 use Rattle.vt_parser.proofs.Whole.{control_finishes}
+
+-- a test that follows from another one, of each item
+list_all_weaker : (test other : ℕ → Bool) (items : List ℕ) → ((item : ℕ) → test item ≡ true → other item ≡ true) → list_all test items ≡ true → list_all other items ≡ true
+list_all_weaker test other [] each all = refl
+list_all_weaker test other (item ∷ items) each all = grind (arith, each item, list_all_weaker test other items each)
 
 -- ---- one number
 
@@ -43,7 +46,7 @@ is_decimal = decimal_by_steps IsDecimalOf one more
         let all = front.all in
         let value = front.value in
         record {
-          all = list_all_push is_digit digits (48 + number % 10) ∙ simp (all, last);
+          all = list_all-append is_digit digits ((48 + number % 10) ∷ []) ∙ simp (all, last);
           value = fold-append (λ value next. 10 * value + (next - 48)) 0 digits ((48 + number % 10) ∷ []) ∙ omega arith;
         }
 
@@ -52,18 +55,15 @@ parameter-decimal number small = let value = (is_decimal number (omega arith)).v
 
 -- ---- the text
 
-plain_digits : (digits : List ℕ) → list_all is_digit digits ≡ true → list_all is_plain digits ≡ true
-plain_digits [] all = refl
-plain_digits (digit ∷ rest) all =
-    let parts = and_parts (is_digit digit) (list_all is_digit rest) all in
-    let first = parts.0 in
-    simp first (plain_digits rest parts.1)
+plain_digits : (number : ℕ) → number ≤ 9999 → list_all is_plain (decimal number) ≡ true
+plain_digits number small = list_all_weaker is_digit is_plain (decimal number) (λ byte is. grind (arith, nat_tests)) (is_decimal number (omega arith)).all
 
 no_semicolons : (digits : List ℕ) → list_all is_digit digits ≡ true → AllByRecursion (λ byte. is_semicolon byte ≡ false) digits
 no_semicolons [] all = tt
 no_semicolons (digit ∷ rest) all =
     let parts = and_parts (is_digit digit) (list_all is_digit rest) all in
-    (digit_no_semicolon digit parts.0, no_semicolons rest parts.1)
+    let is = parts.0 in
+    (grind (arith, nat_tests), no_semicolons rest parts.1)
 
 unbroken : (number : ℕ) → number ≤ 9999 → All (λ byte. is_semicolon byte ≡ false) (decimal number)
 unbroken number small = All-from_recursion _ (decimal number) (no_semicolons (decimal number) (is_decimal number (omega arith)).all)
@@ -73,9 +73,9 @@ Small numbers = AllByRecursion (λ number. number ≤ 9999) numbers
 
 text_plain : (numbers : List ℕ) → Small numbers → list_all is_plain (params_text numbers) ≡ true
 text_plain [] small = refl
-text_plain (number ∷ []) small = plain_digits (decimal number) (is_decimal number (omega (arith, small.0))).all
+text_plain (number ∷ []) small = plain_digits number small.0
 text_plain (number ∷ next ∷ rest) small =
-    let first = plain_digits (decimal number) (is_decimal number (omega (arith, small.0))).all in
+    let first = plain_digits number small.0 in
     let others = text_plain (next ∷ rest) small.1 in
     list_all-append is_plain (decimal number) (59 ∷ params_text (next ∷ rest)) ∙ simp (first, others)
 
@@ -92,13 +92,7 @@ numbers-text first (second ∷ rest) small =
 
 unmarked : (text : List ℕ) → list_all is_plain text ≡ true → (is_private text ≡ false) × (after_mark text ≡ text)
 unmarked [] all = (refl, refl)
-unmarked (byte ∷ rest) all =
-    let plain = (and_parts (is_plain byte) (list_all is_plain rest) all).0 in
-    let other : (byte == 63) ≡ false = no_mark byte plain in
-    (other, simp other)
-  where
-    no_mark : (byte : ℕ) → is_plain byte ≡ true → (byte == 63) ≡ false
-    no_mark byte plain = grind (arith, nat_tests)
+unmarked (byte ∷ rest) all = (grind (arith, nat_tests), grind (arith, nat_tests))
 
 pub params-text : (first : ℕ) (rest : List ℕ) → length (first ∷ rest) ≤ 16 → Small (first ∷ rest) → params (params_text (first ∷ rest)) ≡ first ∷ rest
 params-text first rest few small = ap (take 16) (numbers-text first rest small) ∙ take_all 16 (first ∷ rest) few
@@ -115,17 +109,7 @@ meaning-text first rest last few small =
     (simp (no_mark, whole, plain, read), simp (plain, read))
 
 pub text_joins : (numbers : List ℕ) → Small numbers → list_all is_control_text (params_text numbers) ≡ true
-text_joins numbers small = each (params_text numbers) (text_plain numbers small)
-  where
-    one : (byte : ℕ) → is_plain byte ≡ true → is_control_text byte ≡ true
-    one byte plain = grind (arith, nat_tests)
-
-    each : (text : List ℕ) → list_all is_plain text ≡ true → list_all is_control_text text ≡ true
-    each [] all = refl
-    each (byte ∷ rest) all =
-        let parts = and_parts (is_plain byte) (list_all is_plain rest) all in
-        let first = one byte parts.0 in
-        simp first (each rest parts.1)
+text_joins numbers small = list_all_weaker is_plain is_control_text (params_text numbers) (λ byte is. grind (arith, nat_tests)) (text_plain numbers small)
 
 -- ---- the laws
 

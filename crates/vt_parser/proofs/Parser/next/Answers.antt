@@ -8,7 +8,7 @@ use Rattle.vt_parser.specs.View.{parser_view}
 use Rattle.vt_parser.specs.Fold.{mode_after_bytes, pending_after_bytes, Gives}
 use Rattle.vt_parser.specs.Token.{TellsOf, Leads}
 use Rattle.vt_parser.specs.Reading.{reached_command}
-use Rattle.vt_parser.proofs.LawLemmas.{ground_is_empty}
+use Rattle.vt_parser.proofs.Agrees.{ground_is_empty}
 use Rattle.vt_parser.proofs.ManyBytes.{runs_agree}
 use Rattle.vt_parser.proofs.Telling.{has_params, shown_after, leads, run_leads, run_proper, told_proper, event_told}
 use Rattle.vt_parser.proofs.Parser.next.Goals as goal

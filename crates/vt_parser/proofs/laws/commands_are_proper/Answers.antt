@@ -1,4 +1,4 @@
-use Rattle.vt_parser.proofs.ProperLemmas.{commands_are_proper}
+use Rattle.vt_parser.proofs.LawLemmas.{commands_are_proper}
 use Rattle.vt_parser.proofs.laws.commands_are_proper.Goals as goal
 
 pub returns : goal.returns

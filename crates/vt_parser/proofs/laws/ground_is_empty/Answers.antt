@@ -1,4 +1,4 @@
-use Rattle.vt_parser.proofs.LawLemmas.{ground_is_empty}
+use Rattle.vt_parser.proofs.Agrees.{ground_is_empty}
 use Rattle.vt_parser.proofs.laws.ground_is_empty.Goals as goal
 
 pub returns : goal.returns

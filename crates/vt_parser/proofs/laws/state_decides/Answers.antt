@@ -1,4 +1,4 @@
-use Rattle.vt_parser.proofs.LawLemmas.{state_decides}
+use Rattle.vt_parser.proofs.Agrees.{state_decides}
 use Rattle.vt_parser.proofs.laws.state_decides.Goals as goal
 
 pub returns : goal.returns

@@ -1,4 +1,4 @@
-use Rattle.vt_parser.proofs.LawLemmas.{stays_shown}
+use Rattle.vt_parser.proofs.Agrees.{stays_shown}
 use Rattle.vt_parser.proofs.laws.stays_shown.Goals as goal
 
 pub returns : goal.returns

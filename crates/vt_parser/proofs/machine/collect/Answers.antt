@@ -1,7 +1,8 @@
-use Rattle.std.proofs.Common.{◌-◌, ◌∷◌, [], ◌++◌, take, sym, ap₂, ◌∙◌, subst, arith}
+use Rattle.std.proofs.Common.{◌-◌, ◌∷◌, [], ◌++◌, take, sym, ap, ap₂, ◌∙◌, subst, arith}
 use Rattle.vt_parser.specs.Sequence.{held}
 use Rattle.vt_parser.specs.Reading.{IsCounted, collected}
-use Rattle.vt_parser.proofs.Collecting.{further_digit, further_semicolon}
+use Rattle.vt_parser.specs.Machine.{moves_to}
+use Rattle.vt_parser.proofs.Collecting.{digit_joins, semicolon_joins, further}
 use Rattle.vt_parser.proofs.machine.collect.Goals as goal
 use Rattle.vt_parser.proofs.machine.collect.Goals.{in-59, in-48-to-57}
 
@@ -17,14 +18,14 @@ loop-at-preserved c =
         counted = subst IsCounted (sym w.text-is) w.with_next_param-text.ensures.counted;
         from = omega arith;
         within = omega arith;
-        moved = further_semicolon front state l.text.private params l.text.over bytes l.at _ c.loop-at-test.true (omega arith)
-            (ap₂ collected w.text-is w.params-is ∙ w.with_next_param-text.ensures.value) l.invariant.moved;
+        moved = further front state l.text.private params l.text.over bytes l.at _ _ c.loop-at-test.true (semicolon_joins _ _ _ _ (omega arith))
+            (ap moves_to (ap₂ collected w.text-is w.params-is ∙ w.with_next_param-text.ensures.value)) l.invariant.moved;
       }
       | in-48-to-57 w ↦ record {
         counted = subst IsCounted (sym w.text-is) (w.with_next_digit-text.ensures.counted l.invariant.counted);
         from = omega arith;
         within = omega arith;
-        moved = further_digit front state l.text.private params l.text.over bytes l.at _ c.loop-at-test.true (omega arith) (omega arith)
-            (ap₂ collected w.text-is w.params-is ∙ w.with_next_digit-text.ensures.value l.params) l.invariant.moved;
+        moved = further front state l.text.private params l.text.over bytes l.at _ _ c.loop-at-test.true (digit_joins _ _ _ _ (omega arith) (omega arith))
+            (ap moves_to (ap₂ collected w.text-is w.params-is ∙ w.with_next_digit-text.ensures.value l.params)) l.invariant.moved;
       }
     ]

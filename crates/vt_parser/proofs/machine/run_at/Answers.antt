@@ -1,5 +1,5 @@
 use Rattle.std.proofs.Common.{arith}
-use Rattle.vt_parser.proofs.ProperLemmas.{runs_are_graphic}
+use Rattle.vt_parser.proofs.LawLemmas.{runs_are_graphic}
 use Rattle.vt_parser.proofs.machine.run_at.Goals as goal
 
 pub returns-in-Ground-clause-graphic : goal.returns-in-Ground-clause-graphic
