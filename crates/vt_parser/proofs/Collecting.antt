@@ -12,9 +12,8 @@ use Rattle.vt_parser.specs.declared.states.ParserState.{ParserState}
 use Rattle.vt_parser.specs.declared.states.ParserState.TheVariants.{Ground, Escape, CsiStart, Csi, CsiIgnored}
 use Rattle.vt_parser.specs.Control.{escape, is_graphic}
 use Rattle.vt_parser.specs.Sequence.{is_plain, held}
-use Rattle.vt_parser.specs.Machine.{Step, moves_to, gives, with_digit, digit_joined, semicolon_joined, control_joined, joined, stepped, Runs}
+use Rattle.vt_parser.specs.Machine.{Step, moves_to, gives, digit_joined, semicolon_joined, control_joined, joined, stepped, Runs}
 use Rattle.vt_parser.specs.Reading.{GoesOn}
-use Rattle.vt_parser.proofs.Joins.{front_push, final_push}
 use Rattle.vt_parser.proofs.ManyBytes.{runs_more, runs_push}
 use Rattle.vt_parser.proofs.Whole.{joins, escape_begins}
 
@@ -108,10 +107,3 @@ nuls_run state mode [] (suc n) le = refl
 nuls_run state mode (byte ∷ rest) (suc n) le =
     let is : byte ≡ 0 = grind (arith, nat_tests) in
     runs_more state state mode byte (take n rest) (moves_to state) (ap (stepped state mode) is ∙ nul_stays state mode) (nuls_run state mode rest n (grind (arith, nat_tests)))
-
--- ---- the parameters, the last of them apart
-
--- a digit joins the last parameter
-pub digit_apart : (private : Bool) (numbers : List ℕ) (last digit : ℕ) (over : Bool) → over ≡ false
-    → Csi private (held (numbers ++ with_digit last digit ∷ [])) over ≡ digit_joined private (held (numbers ++ last ∷ [])) over digit
-digit_apart private numbers last digit over room = grind (arith, front_push numbers last, final_push numbers last)

@@ -15,7 +15,7 @@ use Rattle.vt_parser.specs.declared.controls.Action.TheVariants.{Execute, Print,
 use Rattle.vt_parser.specs.Control.{is_within, is_graphic, action_of}
 use Rattle.vt_parser.specs.Sequence.{is_intermediate, is_escape_final, is_control_final, is_control_begun, is_line_begun, is_whole, is_semicolon, after_mark, is_well_formed, parameter, numbers, params, escape_meaning, control_meaning}
 use Rattle.vt_parser.specs.Step.{context_of, command_by, pending_by, command_of, pending_after}
-use Rattle.vt_parser.specs.Law.{IsFrom, IsProper, is_sequence, fewest_bytes, fewest_of, CommandsAreProper, FinishedLeavesNothing, PendingPays, GraphicIsShown, ControlIsGiven, SameModeStays}
+use Rattle.vt_parser.specs.Law.{IsFrom, IsProper, is_sequence, fewest_bytes, fewest_of, CommandsAreProper, FinishedLeavesNothing, PendingPays, GraphicIsShown, ControlIsGiven}
 use Rattle.vt_parser.proofs.Joins.{whole_with, meaning_with, is_whole_push, meaning_push}
 use Rattle.vt_parser.proofs.Table.{fits, fit, graphic_actions, control_actions}
 use Rattle.vt_parser.proofs.Agrees.{same_context}
@@ -111,10 +111,6 @@ pending_pays m p byte = (due m p byte).paid
 pub finished_leaves_nothing : FinishedLeavesNothing
 finished_leaves_nothing m p byte command gives =
     subst (λ (it : Option Command). IfSome it (λ c. is_sequence c ≡ true → pending_after m p byte ≡ [])) gives (due m p byte).finished
-
--- the mode that a terminal is in, given with each byte, stays
-pub same_mode_stays : SameModeStays
-same_mode_stays mode byte = grind (arith, nat_tests)
 
 pub graphic_is_shown : GraphicIsShown
 unfolding command_of pending_after

@@ -17,14 +17,13 @@ use Rattle.vt_parser.specs.View.{parser_view, IsShown}
 use Rattle.vt_parser.specs.Step.{command_of, pending_after, mode_after}
 use Rattle.vt_parser.specs.Fold.{mode_after_bytes, pending_after_bytes, Gives}
 use Rattle.vt_parser.specs.Law.{IsProper}
-use Rattle.vt_parser.specs.Token.{token_command, command_of_token, IsRun, TellsOf, Leads}
+use Rattle.vt_parser.specs.Token.{token_command, command_of_token, TellsOf, Leads}
 use Rattle.vt_parser.specs.Machine.{Step, joined, Runs}
 use Rattle.vt_parser.proofs.Whole.{joins}
 use Rattle.vt_parser.specs.Reading.{HasParams, event_command, IsTokenOf}
 use Rattle.vt_parser.proofs.Shapes.{shows_none}
-use Rattle.vt_parser.proofs.Agrees.{ground_is_empty}
 use Rattle.vt_parser.proofs.LawLemmas.{commands_are_proper, graphic_is_shown}
-use Rattle.vt_parser.proofs.Agrees.{same_command}
+use Rattle.vt_parser.proofs.Agrees.{same_command, ground_is_empty}
 use Rattle.vt_parser.proofs.ManyBytes.{runs_agree}
 
 -- ---- states
@@ -72,11 +71,8 @@ gives_proper given mode pending (byte ∷ second ∷ rest) command gives =
     gives_proper given (mode_after given mode byte) (pending_after mode pending byte) (second ∷ rest) command gives.1
 
 pub run_proper : (bytes : List ℕ) → 0 < length bytes → list_all is_graphic bytes ≡ true → IsProper (commands.Show (get_or bytes 0 0))
-run_proper [] some graphic = let no : ⊥ = omega arith in absurd no
-run_proper (byte ∷ rest) some graphic = within (and_parts (is_graphic byte) (list_all is_graphic rest) graphic).0
-  where
-    within : is_graphic byte ≡ true → IsProper (commands.Show byte)
-    within is = (grind (arith, nat_tests), grind (arith, nat_tests))
+run_proper [] some graphic = absurd (omega arith)
+run_proper (byte ∷ rest) some graphic = (grind (arith, nat_tests), grind (arith, nat_tests))
 
 pub told_proper : (given mode : Mode) (pending bytes : List ℕ) (token : Option Token) → 0 < length bytes → TellsOf given mode pending bytes token
     → IfSome token (λ it. IsProper (command_of_token it))
@@ -98,21 +94,16 @@ abbrev pub command_told : Option Token → Option Command
 command_told None = None
 command_told (Some token) = Some (command_of_token token)
 
-run_told : (mode : Mode) (pending : List ℕ) (byte : ℕ) (run : List ℕ) → IsRun pending (byte ∷ []) run → command_of mode pending byte ≡ Some (commands.Show (get_or run 0 0))
-run_told mode pending byte run is =
-    ap (λ (p : List ℕ). command_of mode p byte) is.ground
-    ∙ (graphic_is_shown mode byte (and_parts (is_graphic byte) true is.graphic).0).0
-    ∙ ap (λ (bytes : List ℕ). Some (commands.Show (get_or bytes 0 0))) (sym is.whole)
-
 byte_told : (given mode : Mode) (pending : List ℕ) (byte : ℕ) (token : Option Token) → TellsOf given mode pending (byte ∷ []) token → command_of mode pending byte ≡ command_told token
-byte_told given mode pending byte (Some (tokens.Show run)) told = run_told mode pending byte run.now told
+byte_told given mode pending byte (Some (tokens.Show run)) told =
+    ap (λ (p : List ℕ). command_of mode p byte) told.ground
+    ∙ (graphic_is_shown mode byte (and_parts (is_graphic byte) true told.graphic).0).0
+    ∙ ap (λ (bytes : List ℕ). Some (commands.Show (get_or bytes 0 0))) (sym told.whole)
 byte_told given mode pending byte _ told = told
 
 -- all of one byte is taken
-one_taken : (byte n : ℕ) → 0 < n → n ≤ 1 → take n (byte ∷ []) ≡ byte ∷ []
-one_taken byte n some within = let one : n ≡ 1 = omega arith in ap (λ (k : ℕ). take k (byte ∷ [])) one
-
 pub step_told : (given mode : Mode) (pending : List ℕ) (byte n : ℕ) (token : Option Token) → 0 < n → n ≤ 1
     → TellsOf given mode pending (take n (byte ∷ [])) token → command_of mode pending byte ≡ command_told token
 step_told given mode pending byte n token some within told =
-    byte_told given mode pending byte token (subst (λ (bytes : List ℕ). TellsOf given mode pending bytes token) (one_taken byte n some within) told)
+    let one : n ≡ 1 = omega arith in
+    byte_told given mode pending byte token (subst (λ (k : ℕ). TellsOf given mode pending (take k (byte ∷ [])) token) one told)

@@ -2,14 +2,13 @@
 use Rattle.std.proofs.Common.{◌≡◌, ℕ, ◌+◌, ◌-◌, ◌*◌, ◌/◌, ◌%◌, ◌^◌, ◌<◌, ◌≤◌, Bool, true, false, List, [], ◌∷◌, ◌++◌, length, map, take, refl, ap, ap₂, ◌∙◌, subst, arith}
 use Rattle.std.specs.Prelude.{All, Option, Some, decimal}
 use Rattle.std.specs.List.{list_all, AllByRecursion}
-use Rattle.std.proofs.lemmas.Bool.{and_parts}
 use Rattle.std.proofs.lemmas.Bool.Decides.{nat_tests}
 use Rattle.std.proofs.lemmas.Fmt.{decimal_by_steps}
 use Rattle.std.proofs.lemmas.List.{take_all}
-use Rattle.std.proofs.lemmas.List.Elements.{All-from_recursion, recursion_from_All}
+use Rattle.std.proofs.lemmas.List.Elements.{All-weaker, recursion_from_All}
 use Rattle.std.proofs.lemmas.List.Folds.{list_all-append}
 use Rattle.std.proofs.lemmas.List.Splits.{slice_split_none, slice_split_at}
-use Rattle.std.proofs.lemmas.List.Sums.{fold-append}
+use Rattle.std.proofs.lemmas.List.Sums.{fold-append, AllPass-from_list_all}
 use Rattle.vt_parser.specs.declared.commands.Mode.TheVariants.{Ansi}
 use Rattle.vt_parser.specs.declared.commands.Command.{Command}
 use Rattle.vt_parser.specs.declared.commands.Command.TheVariants.{Csi}
@@ -58,15 +57,10 @@ parameter-decimal number small = let value = (is_decimal number (omega arith)).v
 plain_digits : (number : ℕ) → number ≤ 9999 → list_all is_plain (decimal number) ≡ true
 plain_digits number small = list_all_weaker is_digit is_plain (decimal number) (λ byte is. grind (arith, nat_tests)) (is_decimal number (omega arith)).all
 
-no_semicolons : (digits : List ℕ) → list_all is_digit digits ≡ true → AllByRecursion (λ byte. is_semicolon byte ≡ false) digits
-no_semicolons [] all = tt
-no_semicolons (digit ∷ rest) all =
-    let parts = and_parts (is_digit digit) (list_all is_digit rest) all in
-    let is = parts.0 in
-    (grind (arith, nat_tests), no_semicolons rest parts.1)
-
 unbroken : (number : ℕ) → number ≤ 9999 → All (λ byte. is_semicolon byte ≡ false) (decimal number)
-unbroken number small = All-from_recursion _ (decimal number) (no_semicolons (decimal number) (is_decimal number (omega arith)).all)
+unbroken number small =
+    All-weaker (λ byte. is_digit byte ≡ true) (λ byte. is_semicolon byte ≡ false) (λ byte is. grind (arith, nat_tests)) (decimal number)
+    (AllPass-from_list_all is_digit (decimal number) (is_decimal number (omega arith)).all)
 
 abbrev Small : List ℕ → Type 0
 Small numbers = AllByRecursion (λ number. number ≤ 9999) numbers

@@ -12,16 +12,19 @@ pub fn stays_shown()
 {}
 
 /// Nothing pending is Ground in each mode, and only nothing is.
+#[tactic(auto, using(crate::proofs::Agrees::ground_is_empty))]
 pub fn ground_is_empty()
     ensures { GroundIsEmpty }
 {}
 
 /// A finished sequence leaves nothing pending, so that its effect may change the mode.
+#[tactic(auto, using(crate::proofs::LawLemmas::finished_leaves_nothing))]
 pub fn finished_leaves_nothing()
     ensures { FinishedLeavesNothing }
 {}
 
 /// The bytes that a command takes at least are paid by its byte and by what was pending.
+#[tactic(auto, using(crate::proofs::LawLemmas::pending_pays))]
 pub fn pending_pays()
     ensures { PendingPays }
 {}
@@ -37,6 +40,7 @@ pub fn control_is_given()
 {}
 
 /// The numbers of every command are in their ranges.
+#[tactic(auto, using(crate::proofs::LawLemmas::commands_are_proper))]
 pub fn commands_are_proper()
     ensures { CommandsAreProper }
 {}

@@ -146,6 +146,7 @@ fn resumed(private: bool, held: &[u16], over: bool, params: &mut [u16; 16]) -> C
 }
 
 #[inline]
+#[tactic(auto, using(crate::proofs::Joins::front_push, crate::proofs::Joins::final_push))]
 fn with_next_digit(text: Collected, digit: u8) -> Collected
     requires { 48 ≤ digit }
     ensures counted { IsCounted text → IsCounted result }
@@ -466,6 +467,7 @@ fn opens_control(mode: Mode, bytes: &[u8]) -> bool
 
 /// How many bytes are shown just as they come: on ground the graphic ones, and none inside a sequence.
 #[inline]
+#[tactic(auto, using(crate::proofs::LawLemmas::runs_are_graphic))]
 pub(crate) fn run_at(state: &ParserState, bytes: &[u8]) -> usize
     requires { 0 < length bytes.now }
     ensures within { result ≤ length bytes.now }

@@ -10,6 +10,7 @@ const LANES: usize = 32;
 
 // A bit for each lane that is no graphic character. Less 32, those from 0 to 31 wrap round to the top.
 #[inline]
+#[tactic(auto, using(crate::proofs::Lanes::others_mask))]
 fn others(lanes: u8x32) -> u64
     ensures { result ≡ mask_l (map is_other lanes) }
 {
@@ -32,6 +33,7 @@ fn run_end_slowly(bytes: &[u8], from: usize) -> usize
 }
 
 /// The length of the longest front of bytes 32 to 126.
+#[tactic(auto, using(crate::proofs::Lanes::run_bound, crate::proofs::Lanes::run_through))]
 pub fn printable_run(bytes: &[u8]) -> usize
     ensures value { result ≡ prefix_len is_graphic bytes.now }
     ensures within { result ≤ length bytes.now }

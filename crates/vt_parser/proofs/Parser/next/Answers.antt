@@ -1,7 +1,6 @@
-use Rattle.std.proofs.Common.{◌≡◌, List, ℕ, take, Option, Some, refl, sym, ap, ◌∙◌, subst, arith}
+use Rattle.std.proofs.Common.{◌≡◌, List, ℕ, take, Some, refl, sym, ap, ◌∙◌, subst, arith}
 use Rattle.std.proofs.lemmas.List.{length-take}
 use Rattle.vt_parser.specs.declared.machine.Reached.{Reached}
-use Rattle.vt_parser.specs.declared.tokens.Token.{Token}
 use Rattle.vt_parser.specs.declared.states.ParserState.{ParserState}
 use Rattle.vt_parser.specs.declared.commands.Mode.{Mode}
 use Rattle.vt_parser.specs.View.{parser_view}
@@ -45,24 +44,19 @@ returns c =
     let read = c.read-taken in
     let state = c.self.inside.state in
     let taken = take read.result.0 c.args.bytes.now in
-    let gives : (mode : Mode) (pending : List ℕ) → parser_view mode pending ≡ Some c.args.self.now
-    → Gives c.args.mode mode pending taken (reached_command read.result.1 read.new.params)
-    = λ mode pending view. (runs_agree c.args.mode mode pending state taken _ (view ∙ ap Some (sym c.self.view_is)) read.ensures.runs).0 in
     let given : (reached : Reached) → read.result.1 ≡ reached → (mode : Mode) (pending : List ℕ) → parser_view mode pending ≡ Some c.args.self.now
     → Gives c.args.mode mode pending taken (reached_command reached read.new.params)
-    = λ reached is mode pending view. let P : Reached → Type 0 = λ it. Gives c.args.mode mode pending taken (reached_command it read.new.params) in subst P is (gives mode pending view) in
+    = λ reached is mode pending view.
+    let gives = (runs_agree c.args.mode mode pending state taken _ (view ∙ ap Some (sym c.self.view_is)) read.ensures.runs).0 in
+    subst (λ (it : Reached). Gives c.args.mode mode pending taken (reached_command it read.new.params)) is gives in
     let led : (new : ParserState) → new ≡ read.new.state → (mode : Mode) (pending : List ℕ) → parser_view mode pending ≡ Some c.args.self.now
     → parser_view (mode_after_bytes c.args.mode mode taken) (pending_after_bytes c.args.mode mode pending taken) ≡ Some new
     = λ new is mode pending view. leads state c.args.mode taken _ read.ensures.runs mode pending (view ∙ ap Some (sym c.self.view_is)) ∙ ap Some (sym is) in
     let told : (mode : Mode) (pending : List ℕ) → parser_view mode pending ≡ Some c.args.self.now → TellsOf c.args.mode mode pending taken c.match-reached.token
     = λ mode pending view. elim c.match-reached.branch [
-      | in-Event w ↦
-          let P : Option Token → Type 0 = TellsOf c.args.mode mode pending taken in
-          subst P (sym w.token-is)
+      | in-Event w ↦ subst (TellsOf c.args.mode mode pending taken) (sym w.token-is)
           (event_told c.args.mode mode pending taken w.in-Event.event w.token_of-token.result w.token_of-token.ensures (given _ w.in-Event.is mode pending view))
-      | in-Csi w ↦
-          let P : Option Token → Type 0 = TellsOf c.args.mode mode pending taken in
-          subst P (sym w.token-is) (given _ w.in-Csi.is mode pending view)
+      | in-Csi w ↦ subst (TellsOf c.args.mode mode pending taken) (sym w.token-is) (given _ w.in-Csi.is mode pending view)
     ] in
     let shown = c.self.invariant.0 in (
       (refl, λ _. tt, led c.match-reached.self.0 (elim c.match-reached.branch [ in-Event w ↦ ap (λ s. s.0) w.self-is | in-Csi w ↦ ap (λ s. s.0) w.self-is ])),
