@@ -1,5 +1,5 @@
 -- How long replies are, and how long all of them together.
-use Rattle.std.proofs.Common.{◌≡◌, ℕ, ◌+◌, ◌*◌, ◌<◌, ◌≤◌, Bool, true, false, List, [], ◌∷◌, length, refl, ap, ◌∙◌, arith}
+use Rattle.std.proofs.Common.{◌≡◌, ℕ, ◌+◌, ◌*◌, ◌<◌, ◌≤◌, Bool, true, false, List, [], ◌∷◌, length, refl, arith}
 use Rattle.std.specs.Prelude.{if◌then◌else◌, ◌==◌, Option, Some, None, decimal, codes}
 use Rattle.std.proofs.lemmas.List.{length-append}
 use Rattle.std.proofs.lemmas.Fmt.{length-decimal-le}
@@ -18,7 +18,7 @@ use Rattle.vt_term.specs.Replies.{escape_reply, sequence_reply, vt52_reply, repl
 use Rattle.vt_term.specs.Effect.{reply, reply_if, control_sequence_reply}
 use Rattle.vt_term.specs.Term.{Term, reset_term_as, mode_of, answered, step, sent}
 use Rattle.vt_term.specs.Law.{LawsBelow}
-use Rattle.vt_term.proofs.Steps.{sent_none, sent_more, safe_step}
+use Rattle.vt_term.proofs.Steps.{safe_step}
 
 -- ---- one reply
 
@@ -135,15 +135,12 @@ module _ (laws : LawsBelow) where
       omega arith
 
   pub sent_paid : (x : Term) (bytes : List ℕ) → IsSafe x.console → 3 * length (sent x bytes) ≤ 20 * length x.pending + 20 * length bytes
-  sent_paid x [] safe =
-      let none : length (sent x []) ≡ 0 = ap length (sent_none x) in
-      omega arith
+  unfolding sent
+  sent_paid x [] safe = omega arith
   sent_paid x (byte ∷ bytes) safe =
       let first = answer_paid x byte safe in
       let rest = sent_paid (step x byte) bytes (safe_step laws x byte safe) in
-      let parts : length (sent x (byte ∷ bytes)) ≡ length (answered x byte) + length (sent (step x byte) bytes)
-      = ap length (sent_more x byte bytes) ∙ length-append (answered x byte) (sent (step x byte) bytes) in
-      omega arith
+      omega (arith, length-append (answered x byte) (sent (step x byte) bytes))
 
   pub sends_little : (profile : Profile) (bytes : List ℕ) → 3 * length (sent (reset_term_as profile) bytes) ≤ 20 * length bytes
   sends_little profile bytes = omega (arith, sent_paid (reset_term_as profile) bytes (laws.reset_is_safe profile))

@@ -1,10 +1,8 @@
 mod Safe
 mod Steps
 mod Bound
-mod LawLemmas
 mod Runs
 mod Taken
 mod Sinks
 mod Feeding
-mod Played
 mod Printed

@@ -1,5 +1,5 @@
 -- What bytes bring that a printer writes.
-use Rattle.std.proofs.Common.{◌≡◌, ℕ, true, false, ◌++◌, List, [], ◌∷◌, Some, None, refl, sym, ap, subst, ◌∙◌}
+use Rattle.std.proofs.Common.{◌≡◌, ℕ, ◌++◌, List, [], ◌∷◌, Some, None, true, false, refl, sym, ap, subst, ◌∙◌}
 use Rattle.std.proofs.lemmas.Bool.{and_parts}
 use Rattle.std.proofs.lemmas.List.{append-nil}
 use Rattle.std.specs.List.{list_all}
@@ -16,11 +16,11 @@ use Rattle.vt_term.specs.Console.{Console}
 use Rattle.vt_term.specs.Effect.{effect, reply, glyph_shown, glyph_for}
 use Rattle.vt_term.specs.Term.{Term, play, sent}
 use Rattle.vt_term.specs.Printing.{on_ground, Brings, NothingBrings, PartsBring, CharactersBring, ControlsBring, SequencesAct, EscapesBring, DesignationsBring, ControlSequencesBring, PrivateSequencesBring}
-use Rattle.vt_term.proofs.Played.{played, sent_once}
-use Rattle.vt_term.proofs.Steps.{play_none, sent_none, play-append, sent-append}
+use Rattle.vt_term.proofs.Steps.{played, play-append, sent-append}
 
 pub nothing_brings : NothingBrings
-nothing_brings s = record { played = λ reports. play_none (on_ground s reports); silent = λ reports. sent_none (on_ground s reports) }
+unfolding play sent
+nothing_brings s = record { played = λ reports. refl; silent = λ reports. refl }
 
 pub parts_bring : PartsBring
 parts_bring s t u first second before after = record {
@@ -39,11 +39,9 @@ parts_bring s t u first second before after = record {
 
 pub sequences_act : SequencesAct
 sequences_act s reports bytes command finishes =
-    let mode = s.modes.mode in (
-      played mode mode s [] reports bytes (Some command) refl refl (finishes mode).0
-          ∙ ap (λ (p : List ℕ). let x : Term = record { console = effect command s; pending = p; reports = reports ++ reply command s } in x) (finishes mode).1,
-      sent_once mode mode s [] reports bytes (Some command) refl refl (finishes mode).0,
-    )
+    let mode = s.modes.mode in
+    let after = played mode mode s [] reports bytes (Some command) refl refl (finishes mode).0 in
+    (after.0 ∙ ap (λ (p : List ℕ). let x : Term = record { console = effect command s; pending = p; reports = reports ++ reply command s } in x) (finishes mode).1, after.1)
 
 -- a command without a reply
 brings_effect : (s : Console) (bytes : List ℕ) (command : Command) → Finishes s.modes.mode bytes (Some command) → reply command s ≡ []
@@ -62,33 +60,17 @@ brings_in_ansi : (s : Console) (bytes : List ℕ) (command : Command) → s.mode
 brings_in_ansi s bytes command ansi finishes silent =
     brings_effect s bytes command (subst (λ (m : Mode). Finishes m bytes (Some command)) (sym ansi) finishes) silent
 
-brings_is : (s : Console) (bytes : List ℕ) (t u : Console) → t ≡ u → Brings s bytes t → Brings s bytes u
-brings_is s bytes t u same brings = subst (Brings s bytes) same brings
-
-no_reply_show : (byte : ℕ) (s : Console) → reply (Show byte) s ≡ []
-unfolding reply
-no_reply_show byte s = refl
-
-no_reply_control : (byte : ℕ) (s : Console) → reply (Control byte) s ≡ []
-unfolding reply
-no_reply_control byte s = refl
-
-put_by : (byte : ℕ) (s : Console) → effect (Show byte) s ≡ glyph_shown (glyph_for s byte) s
-unfolding effect
-put_by byte s = refl
-
-module _ (graphic_is_shown : GraphicIsShown) where
-  pub characters_bring : CharactersBring
-  characters_bring s [] graphic = nothing_brings s
-  characters_bring s (byte ∷ bytes) graphic =
-      let parts = and_parts (is_graphic byte) (list_all is_graphic bytes) graphic in
-      let first : Brings s (byte ∷ []) (glyph_shown (glyph_for s byte) s) =
-      brings_is s (byte ∷ []) (effect (Show byte) s) (glyph_shown (glyph_for s byte) s) (put_by byte s)
-      (brings_effect s (byte ∷ []) (Show byte) (λ mode. graphic_is_shown mode byte parts.0) (no_reply_show byte s)) in
-      parts_bring s _ _ (byte ∷ []) bytes first (characters_bring (glyph_shown (glyph_for s byte) s) bytes parts.1)
+pub characters_bring : GraphicIsShown → CharactersBring
+unfolding effect reply
+characters_bring given s [] graphic = nothing_brings s
+characters_bring given s (byte ∷ bytes) graphic =
+    let parts = and_parts (is_graphic byte) (list_all is_graphic bytes) graphic in
+    parts_bring s _ _ (byte ∷ []) bytes (brings_effect s (byte ∷ []) (Show byte) (λ mode. given mode byte parts.0) refl)
+    (characters_bring given (glyph_shown (glyph_for s byte) s) bytes parts.1)
 
 pub controls_bring : ControlIsGiven → ControlsBring
-controls_bring given s byte is = brings_effect s (byte ∷ []) (Control byte) (λ mode. given mode byte is) (no_reply_control byte s)
+unfolding reply
+controls_bring given s byte is = brings_effect s (byte ∷ []) (Control byte) (λ mode. given mode byte is) refl
 
 pub escapes_bring : EscapesFinish → EscapesBring
 unfolding effect reply

@@ -1,4 +1,4 @@
-use Rattle.vt_term.proofs.LawLemmas.{seen_decides}
+use Rattle.vt_term.proofs.Steps.{seen_decides}
 use Rattle.vt_term.proofs.laws.seen_decides.Goals as goal
 
 pub returns : goal.returns

@@ -1,4 +1,4 @@
-use Rattle.vt_term.proofs.LawLemmas.{sends_little}
+use Rattle.vt_term.proofs.Bound.{sends_little}
 use Rattle.vt_term.proofs.laws.sends_little.Goals as goal
 
 pub returns : goal.returns

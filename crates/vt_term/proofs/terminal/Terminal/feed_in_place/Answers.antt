@@ -1,20 +1,19 @@
-use Rattle.std.proofs.Common.{rules, ◌≡◌, ℕ, List, [], take, sym, subst, arith}
+use Rattle.std.proofs.Common.{rules, ◌≡◌, ℕ, List, [], take, refl, sym, subst, arith}
 use Rattle.std.proofs.lemmas.Bool.{false≢true}
 use Rattle.std.proofs.lemmas.List.{take_rest}
 use Rattle.vt_term.specs.Sink.{after_sending, HasRoom}
 use Rattle.vt_term.specs.Term.{play, sent}
 use Rattle.vt_term.specs.Seen.{Shows}
 use Rattle.vt_term.proofs.Feeding.{play_on, sink_on, room_on}
-use Rattle.vt_term.proofs.Sinks.{keeps_itself, keeps_trans}
-use Rattle.vt_term.proofs.Steps.{play_none, sent_none}
-use Rattle.vt_term.proofs.Taken.{sends_nothing}
+use Rattle.vt_term.proofs.Sinks.{sends_nothing, keeps_itself, keeps_trans}
 use Rattle.vt_term.proofs.terminal.Terminal.feed_in_place.Goals as goal
 
 pub loop-at-init : goal.loop-at-init
+unfolding play sent
 loop-at-init c = record {
   within = omega arith;
-  shows = λ x shows. subst (Shows c.args.self.now) (sym (play_none x)) shows;
-  sent = λ x shows. sends_nothing c.args.sink.now (sent x []) (sent_none x);
+  shows = λ x shows. shows;
+  sent = λ x shows. sends_nothing c.args.sink.now [] refl;
   front = keeps_itself c.args.sink.now;
 }
 

@@ -8,7 +8,8 @@ use Rattle.vt_term.specs.Term.{mode_of, play, sent}
 use Rattle.vt_term.specs.Seen.{Seen, Shows, IsTerminal, seen_of}
 use Rattle.vt_term.specs.Sink.{after_sending, HasRoom}
 use Rattle.vt_term.proofs.Feeding.{room_for_front}
-use Rattle.vt_term.proofs.Taken.{shows_told, told_terminal, left_terminal, sends_nothing}
+use Rattle.vt_term.proofs.Sinks.{sends_nothing}
+use Rattle.vt_term.proofs.Taken.{shows_told, told_terminal, left_terminal}
 use Rattle.vt_term.proofs.terminal.Terminal.take_some.Goals as goal
 
 pub invariant_of-self : goal.invariant_of-self
