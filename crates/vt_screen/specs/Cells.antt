@@ -6,6 +6,7 @@ use Rattle.vt_screen.specs.declared.cell.Size.TheVariants.{Single, Double, Top, 
 use Rattle.vt_screen.specs.declared.cell.Row.{Row}
 use Rattle.vt_screen.specs.Attributes.{plain}
 use Rattle.vt_screen.specs.Table.{table, nth}
+use Rattle.vt_screen.specs.Limits.{line_count, wide_columns}
 
 -- a space without rendition (profile)
 abbrev pub blank : Cell
@@ -13,7 +14,7 @@ blank = record { glyph = 32; rendition = plain }
 
 -- 132 blank cells
 unfoldable pub blank_cells : List Cell
-blank_cells = replicate 132 blank
+blank_cells = replicate wide_columns blank
 
 -- blank and single width: the row that enters as lines scroll (profile)
 abbrev pub blank_row : Row
@@ -36,8 +37,8 @@ is_single Bottom = false
 
 -- 24 rows, each told by its line
 abbrev pub rows_by : (ℕ → Row) → List Row
-rows_by f = table 24 f
+rows_by f = table line_count f
 
 -- a row of this size whose 132 cells are told by their column
 abbrev pub row_by : Size → (ℕ → Cell) → Row
-row_by size f = record { size = size; cells = table 132 f }
+row_by size f = record { size = size; cells = table wide_columns f }

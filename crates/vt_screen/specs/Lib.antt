@@ -3,6 +3,7 @@ pub mod CellEdits
 pub mod Cells
 pub mod Drawn
 pub mod Erasures
+pub mod Limits
 pub mod Lines
 pub mod Moves
 pub mod Picture

@@ -9,6 +9,7 @@ use Rattle.vt_screen.specs.Cells.{blank, blank_row, cell_at, row_at, is_single, 
 use Rattle.vt_screen.specs.Picture.{Picture, columns, margin_of}
 use Rattle.vt_screen.specs.Moves.{moved_home}
 use Rattle.vt_screen.specs.Puts.{with_row}
+use Rattle.vt_screen.specs.Limits.{line_count}
 
 -- a row of another size: from single to double the cells right of the middle are blank (profile)
 abbrev pub resized : Bool → Size → Row → Row
@@ -29,7 +30,7 @@ size_set size p = record p {
 -- DECCOLM, also to the width already there: all blank and single, margins 1 and 24, home (profile)
 abbrev pub columns_set : Bool → Bool → Picture → Picture
 columns_set wide origin p =
-    moved_home origin (record p { wide = wide; rows = rows_by (λ _. blank_row); top = 1; bottom = 24 })
+    moved_home origin (record p { wide = wide; rows = rows_by (λ _. blank_row); top = 1; bottom = line_count })
 
 -- the cell that the alignment pattern is filled with: the letter E (EK-VT100-UG chapter 3, DECALN)
 abbrev pub pattern : Cell
@@ -49,7 +50,7 @@ aligned p = record p {
 
 -- a region has at least two lines, and lies on the screen (EK-VT100-UG chapter 3, DECSTBM)
 abbrev pub are_margins : ℕ → ℕ → Bool
-are_margins top bottom = nat_le 1 top && nat_lt top bottom && nat_le bottom 24
+are_margins top bottom = nat_le 1 top && nat_lt top bottom && nat_le bottom line_count
 
 -- DECSTBM: these margins and home, or nothing where they are none (EK-VT100-UG chapter 3, DECSTBM)
 abbrev pub margins_set : ℕ → ℕ → Bool → Picture → Picture

@@ -1,6 +1,7 @@
 -- Moves of the cursor. Each takes the pending wrap away (profile).
 use Rattle.std.specs.Prelude.{ℕ, ◌+◌, ◌-◌, Bool, false, nat_le, ◌==◌, ◌&&◌, min, max, if◌then◌else◌}
 use Rattle.vt_screen.specs.Picture.{Picture, right_margin}
+use Rattle.vt_screen.specs.Limits.{line_count}
 
 -- to a line, with the column cut to that line's right margin (EK-VT100-UG chapter 3; the cut: profile)
 abbrev pub on_line : ℕ → Picture → Picture
@@ -14,7 +15,7 @@ stepped_up n p = on_line (max (if nat_le p.top p.line then p.top else 1) (p.line
 -- CUD: from the bottom margin or above it at most to the bottom margin, from below it to line 24
 -- (EK-VT100-UG chapter 3, CUD)
 abbrev pub stepped_down : ℕ → Picture → Picture
-stepped_down n p = on_line (min (if nat_le p.line p.bottom then p.bottom else 24) (p.line + n)) p
+stepped_down n p = on_line (min (if nat_le p.line p.bottom then p.bottom else line_count) (p.line + n)) p
 
 -- CUF: at most to the right margin (EK-VT100-UG chapter 3, CUF)
 abbrev pub stepped_right : ℕ → Picture → Picture
@@ -36,7 +37,7 @@ moved_to line column p = record p { line = line; column = min column (right_marg
 -- (EK-VT100-UG chapter 3, CUP and DECOM)
 abbrev pub placed : ℕ → ℕ → Bool → Picture → Picture
 placed line column origin p =
-    moved_to (if origin then min (p.top + (line - 1)) p.bottom else min line 24) column p
+    moved_to (if origin then min (p.top + (line - 1)) p.bottom else min line line_count) column p
 
 -- column 1 of line 1, or of the top margin where the origin is there (EK-VT100-UG chapter 3, DECOM)
 abbrev pub moved_home : Bool → Picture → Picture

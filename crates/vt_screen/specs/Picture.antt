@@ -1,10 +1,11 @@
 -- What a screen shows, as a plain value; lines and columns are counted from 1.
-use Rattle.std.specs.Prelude.{◌≡◌, ℕ, ◌<◌, ◌≤◌, ◌%◌, Bool, false, List, length, nat_lt, ◌==◌, ◌&&◌, if◌then◌else◌}
+use Rattle.std.specs.Prelude.{◌≡◌, ℕ, ◌/◌, ◌<◌, ◌≤◌, ◌%◌, Bool, false, List, length, nat_lt, ◌==◌, ◌&&◌, if◌then◌else◌}
 use Rattle.vt_screen.specs.declared.cell.Cell.{Cell}
 use Rattle.vt_screen.specs.declared.cell.Size.{Size}
 use Rattle.vt_screen.specs.declared.cell.Row.{Row}
 use Rattle.vt_screen.specs.Table.{table}
 use Rattle.vt_screen.specs.Cells.{blank, blank_row, cell_at, row_at, is_single, rows_by}
+use Rattle.vt_screen.specs.Limits.{last_glyph, line_count, narrow_columns, wide_columns}
 
 pub record Picture : Type 0 where
   -- 132 columns, and 80 otherwise
@@ -24,12 +25,12 @@ pub record Picture : Type 0 where
 
 -- how many columns the screen has (EK-VT100-UG chapter 3, DECCOLM)
 abbrev pub columns : Bool → ℕ
-columns wide = if wide then 132 else 80
+columns wide = if wide then wide_columns else narrow_columns
 
 -- the right margin of a line of this size: all columns, or half of them on the double sizes
 abbrev pub margin_of : Bool → Size → ℕ
 margin_of wide size =
-    if is_single size then columns wide else (if wide then 66 else 40)
+    if is_single size then columns wide else (if wide then wide_columns / 2 else narrow_columns / 2)
 
 -- the right margin of a line
 abbrev pub right_margin : Picture → ℕ → ℕ
@@ -45,23 +46,23 @@ cell p line column = cell_at (row_at p.rows line) column
 
 -- a row of 132 cells that are blank right of the right margin, with glyphs up to 126
 pub record SoundRow (wide : Bool) (row : Row) : Type 0 where
-  pub cells : length row.cells ≡ 132
+  pub cells : length row.cells ≡ wide_columns
   pub blank_right : (column : ℕ) → margin_of wide row.size < column → cell_at row column ≡ blank
-  pub glyphs : (column : ℕ) → (cell_at row column).glyph ≤ 126
+  pub glyphs : (column : ℕ) → (cell_at row column).glyph ≤ last_glyph
 
 -- what every screen keeps: 24 such rows, the cursor within the right margin of its line, and a top
 -- margin above the bottom one (profile)
 pub record Sound (p : Picture) : Type 0 where
-  pub rows : length p.rows ≡ 24
+  pub rows : length p.rows ≡ line_count
   pub row : (line : ℕ) → SoundRow p.wide (row_at p.rows line)
   pub line_low : 1 ≤ p.line
-  pub line_high : p.line ≤ 24
+  pub line_high : p.line ≤ line_count
   pub column_low : 1 ≤ p.column
   pub column_high : p.column ≤ right_margin p p.line
   pub top_low : 1 ≤ p.top
   pub apart : p.top < p.bottom
-  pub bottom_high : p.bottom ≤ 24
-  pub tabs : length p.tabs ≡ 132
+  pub bottom_high : p.bottom ≤ line_count
+  pub tabs : length p.tabs ≡ wide_columns
 
 -- the cursor's line is inside the margins, as it is while lines are counted from the top margin
 pub record Inside (p : Picture) : Type 0 where
@@ -80,7 +81,7 @@ GoesInside op = (p : Picture) → Sound p → Inside (op p)
 
 -- a tab stops at every eighth column from 9 to 129 (profile)
 abbrev pub first_tabs : List Bool
-first_tabs = table 132 (λ column. nat_lt 1 column && (column % 8 == 1))
+first_tabs = table wide_columns (λ column. nat_lt 1 column && (column % 8 == 1))
 
 -- the initial screen (profile): 80 columns, all blank and single width
 abbrev pub reset : Picture
@@ -91,6 +92,6 @@ reset = record {
   column = 1;
   wrap = false;
   top = 1;
-  bottom = 24;
+  bottom = line_count;
   tabs = first_tabs;
 }

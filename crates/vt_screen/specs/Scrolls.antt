@@ -4,6 +4,7 @@ use Rattle.vt_screen.specs.declared.cell.Row.{Row}
 use Rattle.vt_screen.specs.Cells.{blank_row, row_at, rows_by}
 use Rattle.vt_screen.specs.Picture.{Picture}
 use Rattle.vt_screen.specs.Moves.{on_line, moved_to_left}
+use Rattle.vt_screen.specs.Limits.{line_count}
 
 -- each line from the top to the bottom becomes the one n below it, with its size; where there is none
 -- up to the bottom it is blank and single, and lines outside stay (EK-VT100-UG chapter 3, IND)
@@ -26,7 +27,7 @@ abbrev pub indexed : Picture → Picture
 indexed p =
     if p.line == p.bottom
     then on_line p.line (record p { rows = scrolled_up 1 p.top p.bottom p.rows })
-    else (if p.line == 24 then on_line 24 p else on_line (p.line + 1) p)
+    else (if p.line == line_count then on_line line_count p else on_line (p.line + 1) p)
 
 -- RI: at the top margin the region scrolls down, at line 1 outside it nothing moves, else one line up
 -- (EK-VT100-UG chapter 3, RI)

@@ -6,6 +6,7 @@ use Rattle.vt_screen.specs.Table.{table, nth}
 use Rattle.vt_screen.specs.Cells.{blank_row, rows_by}
 use Rattle.vt_screen.specs.Picture.{Picture}
 use Rattle.vt_screen.specs.Scrolls.{is_in_region}
+use Rattle.vt_screen.specs.Limits.{line_count, wide_columns}
 
 -- the names of the slots by line, and what lies in each slot
 pub record Held : Type 0 where
@@ -32,16 +33,16 @@ rows_of held = rows_by (λ line. row_in held.slots (slot_at held.order line))
 
 -- each slot is named once, and each holds 132 cells
 pub record OncePerSlot (held : Held) : Type 0 where
-  pub order : length held.order ≡ 24
-  pub slots : length held.slots ≡ 24
-  pub named : (line : ℕ) → slot_at held.order line < 24
-  pub once : (line other : ℕ) → 1 ≤ line → line ≤ 24 → 1 ≤ other → other ≤ 24 →
+  pub order : length held.order ≡ line_count
+  pub slots : length held.slots ≡ line_count
+  pub named : (line : ℕ) → slot_at held.order line < line_count
+  pub once : (line other : ℕ) → 1 ≤ line → line ≤ line_count → 1 ≤ other → other ≤ line_count →
       slot_at held.order line ≡ slot_at held.order other → line ≡ other
-  pub cells : (slot : ℕ) → length (row_in held.slots slot).cells ≡ 132
+  pub cells : (slot : ℕ) → length (row_in held.slots slot).cells ≡ wide_columns
 
 -- line r lies in slot r - 1
 abbrev pub first_order : List ℕ
-first_order = table 24 (λ line. line - 1)
+first_order = table line_count (λ line. line - 1)
 
 -- the line whose slot a line takes as the names turn up by n from the top to the bottom: the one n
 -- below it, and for the last n lines the first n in turn
@@ -59,10 +60,10 @@ line_above n top bottom line =
     else line
 
 abbrev pub turned_up : ℕ → ℕ → ℕ → List ℕ → List ℕ
-turned_up n top bottom order = table 24 (λ line. slot_at order (line_below n top bottom line))
+turned_up n top bottom order = table line_count (λ line. slot_at order (line_below n top bottom line))
 
 abbrev pub turned_down : ℕ → ℕ → ℕ → List ℕ → List ℕ
-turned_down n top bottom order = table 24 (λ line. slot_at order (line_above n top bottom line))
+turned_down n top bottom order = table line_count (λ line. slot_at order (line_above n top bottom line))
 
 -- index turns the names at the bottom margin, and blanks the slot of the line that leaves
 abbrev pub order_indexed : Picture → List ℕ → List ℕ

@@ -3,6 +3,7 @@ use Rattle.std.specs.Prelude.{ℕ, ◌+◌, ◌-◌, Bool, false, List, ◌==◌
 use Rattle.std.specs.List.{range_with_len}
 use Rattle.vt_screen.specs.Table.{table, nth}
 use Rattle.vt_screen.specs.Picture.{Picture, right_margin}
+use Rattle.vt_screen.specs.Limits.{wide_columns}
 
 -- whether a tab stops at a column (EK-VT100-UG chapter 3, HTS)
 abbrev pub stop_at : List Bool → ℕ → Bool
@@ -20,8 +21,8 @@ tabbed p = record p { column = stop_after p.tabs p.column (right_margin p p.line
 -- HTS, or TBC at the cursor's column: whether a tab stops there (EK-VT100-UG chapter 3)
 abbrev pub tab_made : Bool → Picture → Picture
 tab_made stops p =
-    record p { tabs = table 132 (λ column. if column == p.column then stops else stop_at p.tabs column) }
+    record p { tabs = table wide_columns (λ column. if column == p.column then stops else stop_at p.tabs column) }
 
 -- TBC of all stops (EK-VT100-UG chapter 3, TBC)
 abbrev pub tabs_cleared : Picture → Picture
-tabs_cleared p = record p { tabs = table 132 (λ _. false) }
+tabs_cleared p = record p { tabs = table wide_columns (λ _. false) }

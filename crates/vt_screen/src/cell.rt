@@ -10,6 +10,7 @@ ghost use Rattle.vt_screen.specs.Picture.{columns, margin_of};
 ghost use Rattle.vt_screen.specs.Puts.{with_cell};
 ghost use Rattle.vt_screen.specs.Written.{filled, written};
 
+use crate::limits::{NARROW_COLUMNS, WIDE_COLUMNS};
 use crate::rendition::Rendition;
 
 /// A glyph and its rendition. Glyphs 32 to 126 are the characters of ASCII, those below 32 the special
@@ -35,7 +36,7 @@ pub enum Size {
 #[derive(Clone, Copy, Debug, PartialEq, Eq)]
 pub struct Row {
     pub size: Size,
-    pub cells: [Cell; 132],
+    pub cells: [Cell; WIDE_COLUMNS as usize],
 }
 
 impl Cell {
@@ -76,15 +77,15 @@ impl Row {
     {
         Row {
             size: Size::Single,
-            cells: [Cell::blank(); 132],
+            cells: [Cell::blank(); WIDE_COLUMNS as usize],
         }
     }
 
     /// Writes one cell.
     pub(crate) fn write(&mut self, column: u8, cell: Cell)
-        requires whole { length self.old.cells ≡ 132 }
+        requires whole { length self.old.cells ≡ WIDE_COLUMNS }
         requires low { 1 ≤ column }
-        requires high { column ≤ 132 }
+        requires high { column ≤ WIDE_COLUMNS }
         ensures { self.new ≡ with_cell column cell self.old }
     {
         self.cells[column as usize - 1] = cell;
@@ -92,11 +93,11 @@ impl Row {
 
     /// Writes glyphs from a column on, all with one rendition.
     pub(crate) fn write_run(&mut self, column: u8, glyphs: &[u8], rendition: Rendition)
-        requires whole { length self.old.cells ≡ 132 }
+        requires whole { length self.old.cells ≡ WIDE_COLUMNS }
         requires low { 1 ≤ column }
-        requires high { column + length glyphs.now ≤ 133 }
+        requires high { column + length glyphs.now ≤ WIDE_COLUMNS + 1 }
         ensures written { self.new ≡ written column glyphs.now rendition self.old }
-        ensures whole { length self.new.cells ≡ 132 }
+        ensures whole { length self.new.cells ≡ WIDE_COLUMNS }
     {
         let start = column as usize - 1;
         for (i, glyph) in glyphs.iter().enumerate() {
@@ -109,10 +110,10 @@ impl Row {
 
     /// Makes the cells from one column to another all the same.
     pub(crate) fn fill(&mut self, from: u8, to: u8, cell: Cell)
-        requires whole { length self.old.cells ≡ 132 }
+        requires whole { length self.old.cells ≡ WIDE_COLUMNS }
         requires low { 1 ≤ from }
         requires apart { from ≤ to + 1 }
-        requires high { to ≤ 132 }
+        requires high { to ≤ WIDE_COLUMNS }
         ensures { self.new ≡ filled from to cell self.old }
     {
         let Cell { glyph, rendition } = cell;
@@ -123,34 +124,34 @@ impl Row {
 
     /// Gives the row another size. From single to double the cells right of the middle become blank.
     pub(crate) fn resize(&mut self, size: Size, wide: bool)
-        requires whole { length self.old.cells ≡ 132 }
+        requires whole { length self.old.cells ≡ WIDE_COLUMNS }
         ensures { self.new ≡ resized wide size self.old }
     {
         if self.size.is_single() && !size.is_single() {
-            self.fill(margin_of(wide, size) + 1, 132, Cell::blank());
+            self.fill(margin_of(wide, size) + 1, WIDE_COLUMNS, Cell::blank());
         }
         self.size = size;
     }
 
     /// Blanks the cells of a part, seen from the cursor's column.
     pub(crate) fn erase_part(&mut self, part: u8, column: u8)
-        requires whole { length self.old.cells ≡ 132 }
+        requires whole { length self.old.cells ≡ WIDE_COLUMNS }
         requires part { part ≤ 2 }
         requires low { 1 ≤ column }
-        requires high { column ≤ 132 }
+        requires high { column ≤ WIDE_COLUMNS }
         ensures { self.new ≡ part_erased part column self.old }
     {
         match part {
-            0 => self.fill(column, 132, Cell::blank()),
+            0 => self.fill(column, WIDE_COLUMNS, Cell::blank()),
             1 => self.fill(1, column, Cell::blank()),
-            _ => self.fill(1, 132, Cell::blank()),
+            _ => self.fill(1, WIDE_COLUMNS, Cell::blank()),
         }
     }
 
     /// Fills the row to a column with one cell, single width.
     pub(crate) fn fill_to(&mut self, cell: Cell, to: u8)
-        requires whole { length self.old.cells ≡ 132 }
-        requires high { to ≤ 132 }
+        requires whole { length self.old.cells ≡ WIDE_COLUMNS }
+        requires high { to ≤ WIDE_COLUMNS }
         ensures { self.new ≡ filled_to cell to self.old }
     {
         self.fill(1, to, cell);
@@ -160,10 +161,10 @@ impl Row {
     /// Takes out `n` cells from a column on: those right of them up to the margin move left, and blank
     /// cells come in at the margin.
     pub(crate) fn take_out(&mut self, n: u8, from: u8, margin: u8)
-        requires whole { length self.old.cells ≡ 132 }
+        requires whole { length self.old.cells ≡ WIDE_COLUMNS }
         requires low { 1 ≤ from }
         requires room { from + n ≤ margin + 1 }
-        requires high { margin ≤ 132 }
+        requires high { margin ≤ WIDE_COLUMNS }
         ensures { self.new ≡ taken_out n from margin self.old }
     {
         let source = (from + n) as usize - 1..margin as usize;
@@ -173,10 +174,10 @@ impl Row {
 
     /// Moves the cells from a column on one to the right; the one at the margin is lost.
     pub(crate) fn move_right(&mut self, from: u8, margin: u8)
-        requires whole { length self.old.cells ≡ 132 }
+        requires whole { length self.old.cells ≡ WIDE_COLUMNS }
         requires low { 1 ≤ from }
         requires within { from ≤ margin }
-        requires high { margin ≤ 132 }
+        requires high { margin ≤ WIDE_COLUMNS }
         ensures { self.new ≡ moved_right from margin self.old }
     {
         let source = from as usize - 1..margin as usize - 1;
@@ -188,7 +189,7 @@ impl Row {
 pub(crate) fn columns_of(wide: bool) -> u8
     ensures { result ≡ columns wide }
 {
-    if wide { 132 } else { 80 }
+    if wide { WIDE_COLUMNS } else { NARROW_COLUMNS }
 }
 
 /// The right margin of a line of a size.

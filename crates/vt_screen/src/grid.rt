@@ -9,14 +9,15 @@ ghost use Rattle.vt_screen.specs.Puts.{with_row, with_cell};
 ghost use Rattle.vt_screen.specs.Written.{written, lines_changed, lines_taken};
 
 use crate::cell::{Cell, Row};
+use crate::limits::{LINES, WIDE_COLUMNS};
 use crate::rendition::Rendition;
 use std::marker::Model;
 
 /// 24 slots for rows, and for each line the name of its slot.
 #[derive(Debug, Drop)]
 pub struct Grid {
-    slots: [Row; 24],
-    order: [u8; 24],
+    slots: [Row; LINES as usize],
+    order: [u8; LINES as usize],
 }
 
 impl Model for Grid {
@@ -35,7 +36,7 @@ impl Grid {
         ensures { result ≡ record { order = first_order; slots = rows_by (λ _. blank_row) } }
     {
         Grid {
-            slots: [Row::blank(); 24],
+            slots: [Row::blank(); LINES as usize],
             order: [
                 0, 1, 2, 3, 4, 5, 6, 7, 8, 9, 10, 11, 12, 13, 14, 15, 16, 17, 18, 19, 20, 21, 22,
                 23,
@@ -53,9 +54,9 @@ impl Grid {
     /// The name of a line's slot, from 0.
     pub fn slot_of(&self, line: u8) -> u8
         requires low { 1 ≤ line }
-        requires high { line ≤ 24 }
+        requires high { line ≤ LINES }
         ensures value { result ≡ slot_at self.now.order line }
-        ensures within { result < 24 }
+        ensures within { result < LINES }
         ensures once { OncePerSlot self.now }
     {
         self.order[line as usize - 1]
@@ -63,9 +64,9 @@ impl Grid {
 
     /// The row in a slot.
     pub fn row_in(&self, slot: u8) -> &Row
-        requires { slot < 24 }
+        requires { slot < LINES }
         ensures value { result.now ≡ row_in self.now.slots slot }
-        ensures whole { length result.now.cells ≡ 132 }
+        ensures whole { length result.now.cells ≡ WIDE_COLUMNS }
     {
         &self.slots[slot as usize]
     }
@@ -73,9 +74,9 @@ impl Grid {
     /// The row of a line.
     pub fn row(&self, line: u8) -> &Row
         requires low { 1 ≤ line }
-        requires high { line ≤ 24 }
+        requires high { line ≤ LINES }
         ensures value { result.now ≡ row_at (rows_of self.now) line }
-        ensures whole { length result.now.cells ≡ 132 }
+        ensures whole { length result.now.cells ≡ WIDE_COLUMNS }
     {
         self.row_in(self.slot_of(line))
     }
@@ -83,9 +84,9 @@ impl Grid {
     /// Writes one cell.
     pub fn write(&mut self, line: u8, column: u8, cell: Cell)
         requires line_low { 1 ≤ line }
-        requires line_high { line ≤ 24 }
+        requires line_high { line ≤ LINES }
         requires column_low { 1 ≤ column }
-        requires column_high { column ≤ 132 }
+        requires column_high { column ≤ WIDE_COLUMNS }
         ensures { rows_of self.new ≡ with_row line (with_cell column cell (row_at (rows_of self.old) line)) (rows_of self.old) }
     {
         let slot = self.order[line as usize - 1] as usize;
@@ -96,9 +97,9 @@ impl Grid {
     /// Writes glyphs from a column on.
     pub fn write_run(&mut self, line: u8, column: u8, glyphs: &[u8], rendition: Rendition)
         requires line_low { 1 ≤ line }
-        requires line_high { line ≤ 24 }
+        requires line_high { line ≤ LINES }
         requires column_low { 1 ≤ column }
-        requires column_high { column + length glyphs.now ≤ 133 }
+        requires column_high { column + length glyphs.now ≤ WIDE_COLUMNS + 1 }
         ensures { rows_of self.new ≡ with_row line (written column glyphs.now rendition (row_at (rows_of self.old) line)) (rows_of self.old) }
     {
         let slot = self.order[line as usize - 1] as usize;
@@ -109,8 +110,8 @@ impl Grid {
     /// Puts another row at a line.
     pub fn set_row(&mut self, line: u8, row: Row)
         requires line_low { 1 ≤ line }
-        requires line_high { line ≤ 24 }
-        requires whole { length row.cells ≡ 132 }
+        requires line_high { line ≤ LINES }
+        requires whole { length row.cells ≡ WIDE_COLUMNS }
         ensures { rows_of self.new ≡ with_row line row (rows_of self.old) }
     {
         let slot = self.order[line as usize - 1] as usize;
@@ -121,9 +122,9 @@ impl Grid {
     pub fn erase_part(&mut self, part: u8, line: u8, column: u8)
         requires part { part ≤ 2 }
         requires line_low { 1 ≤ line }
-        requires line_high { line ≤ 24 }
+        requires line_high { line ≤ LINES }
         requires column_low { 1 ≤ column }
-        requires column_high { column ≤ 132 }
+        requires column_high { column ≤ WIDE_COLUMNS }
         ensures { rows_of self.new ≡ with_row line (part_erased part column (row_at (rows_of self.old) line)) (rows_of self.old) }
     {
         let mut row = *self.row(line);
@@ -134,8 +135,8 @@ impl Grid {
     /// Fills a line to a column with one cell, single width.
     pub fn fill_line(&mut self, line: u8, cell: Cell, to: u8)
         requires line_low { 1 ≤ line }
-        requires line_high { line ≤ 24 }
-        requires high { to ≤ 132 }
+        requires line_high { line ≤ LINES }
+        requires high { to ≤ WIDE_COLUMNS }
         ensures rows { rows_of self.new ≡ with_row line (filled_to cell to (row_at (rows_of self.old) line)) (rows_of self.old) }
         ensures order { self.new.order ≡ self.old.order }
         ensures slots { self.new.slots ≡ slice_set self.old.slots (slot_at self.old.order line) (filled_to cell to (row_at (rows_of self.old) line)) }
@@ -148,9 +149,9 @@ impl Grid {
     /// Fills the lines from one to another.
     pub fn fill_lines(&mut self, first: u8, last: u8, cell: Cell, to: u8)
         requires low { 1 ≤ first }
-        requires last { last ≤ 24 }
+        requires last { last ≤ LINES }
         requires apart { first ≤ last + 1 }
-        requires high { to ≤ 132 }
+        requires high { to ≤ WIDE_COLUMNS }
         ensures rows { rows_of self.new ≡ lines_changed (filled_to cell to) first (last + 1) (rows_of self.old) }
         ensures order { self.new.order ≡ self.old.order }
     {
@@ -165,7 +166,7 @@ impl Grid {
         requires low { 1 ≤ top }
         requires room { top + n ≤ bottom + 1 }
         requires apart { top ≤ bottom }
-        requires high { bottom ≤ 24 }
+        requires high { bottom ≤ LINES }
         ensures rows { rows_of self.new ≡ lines_taken (line_below n top bottom) (rows_of self.old) }
         ensures order { self.new.order ≡ turned_up n top bottom self.old.order }
         ensures slots { self.new.slots ≡ self.old.slots }
@@ -178,7 +179,7 @@ impl Grid {
         requires low { 1 ≤ top }
         requires room { top + n ≤ bottom + 1 }
         requires apart { top ≤ bottom }
-        requires high { bottom ≤ 24 }
+        requires high { bottom ≤ LINES }
         ensures rows { rows_of self.new ≡ lines_taken (line_above n top bottom) (rows_of self.old) }
         ensures order { self.new.order ≡ turned_down n top bottom self.old.order }
         ensures slots { self.new.slots ≡ self.old.slots }
@@ -188,11 +189,11 @@ impl Grid {
 }
 
 /// Each line from top to bottom takes the name of the one `n` below it, the last `n` those of the first.
-fn turn(order: &mut [u8; 24], n: usize, top: usize, bottom: usize)
+fn turn(order: &mut [u8; LINES as usize], n: usize, top: usize, bottom: usize)
     requires low { 1 ≤ top }
     requires room { top + n ≤ bottom + 1 }
     requires apart { top ≤ bottom }
-    requires high { bottom ≤ 24 }
+    requires high { bottom ≤ LINES }
     ensures { order.new ≡ turned_up n top bottom order.old }
 {
     order[top - 1..bottom].rotate_left(n);

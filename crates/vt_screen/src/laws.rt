@@ -17,6 +17,7 @@ ghost use Rattle.vt_screen.specs.Puts.{shown, run_shown};
 ghost use Rattle.vt_screen.specs.Scrolls.{indexed, reverse_indexed, lines_deleted, lines_inserted};
 ghost use Rattle.vt_screen.specs.Tabs.{tabbed, tab_made, tabs_cleared};
 
+use crate::limits::{LAST_GLYPH, LINES, WIDE_COLUMNS};
 use crate::screen::Screen;
 
 /// Every screen is sound: the cursor within the right margin of its line, blank cells right of it,
@@ -30,7 +31,7 @@ pub fn screens_are_sound(screen: &Screen)
 /// A right margin is from 40 to 132.
 pub fn right_margins()
     ensures low { (p : Picture) (line : ℕ) → 40 ≤ right_margin p line }
-    ensures high { (p : Picture) (line : ℕ) → right_margin p line ≤ 132 }
+    ensures high { (p : Picture) (line : ℕ) → right_margin p line ≤ WIDE_COLUMNS }
 {}
 
 /// The initial picture is sound, with its cursor inside the margins.
@@ -49,15 +50,15 @@ pub fn moves_keep_sound()
     ensures place { (line column : ℕ) (origin : Bool) → 1 ≤ line → 1 ≤ column → KeepsSound (placed line column origin) }
     ensures home { (origin : Bool) → KeepsSound (moved_home origin) }
     ensures clear_wrap { KeepsSound wrap_cleared }
-    ensures put_back { (line column : ℕ) (wrap origin autowrap : Bool) → 1 ≤ line → line ≤ 24 → 1 ≤ column →
+    ensures put_back { (line column : ℕ) (wrap origin autowrap : Bool) → 1 ≤ line → line ≤ LINES → 1 ≤ column →
         KeepsSound (put_back line column wrap origin autowrap) }
 {}
 
 /// What shows characters and scrolls keeps a picture sound.
 pub fn shows_keep_sound()
-    ensures show { (glyph : ℕ) (rendition : Attributes) (autowrap : Bool) → glyph ≤ 126 →
+    ensures show { (glyph : ℕ) (rendition : Attributes) (autowrap : Bool) → glyph ≤ LAST_GLYPH →
         KeepsSound (shown glyph rendition autowrap) }
-    ensures run { (glyphs : List ℕ) (rendition : Attributes) (autowrap : Bool) → All (λ glyph. glyph ≤ 126) glyphs →
+    ensures run { (glyphs : List ℕ) (rendition : Attributes) (autowrap : Bool) → All (λ glyph. glyph ≤ LAST_GLYPH) glyphs →
         KeepsSound (run_shown glyphs rendition autowrap) }
     ensures index { KeepsSound indexed }
     ensures reverse_index { KeepsSound reverse_indexed }
@@ -68,7 +69,7 @@ pub fn edits_keep_sound()
     ensures insert_lines { (n : ℕ) → KeepsSound (lines_inserted n) }
     ensures delete_lines { (n : ℕ) → KeepsSound (lines_deleted n) }
     ensures delete_cells { (n : ℕ) → KeepsSound (cells_deleted n) }
-    ensures show_inserting { (glyph : ℕ) (rendition : Attributes) (autowrap : Bool) → glyph ≤ 126 →
+    ensures show_inserting { (glyph : ℕ) (rendition : Attributes) (autowrap : Bool) → glyph ≤ LAST_GLYPH →
         KeepsSound (shown_inserting glyph rendition autowrap) }
     ensures insert_lines_inside { (n : ℕ) → KeepsInside (lines_inserted n) }
     ensures delete_lines_inside { (n : ℕ) → KeepsInside (lines_deleted n) }
@@ -130,8 +131,8 @@ pub fn runs()
 pub fn places_are_told()
     ensures rows { (rows : List Row) (line : ℕ) → row_at rows line ≡ slice_index_or rows (line - 1) blank_row }
     ensures cells { (row : Row) (column : ℕ) → cell_at row column ≡ slice_index_or row.cells (column - 1) blank }
-    ensures row { (f : ℕ → Row) (line : ℕ) → 1 ≤ line → line ≤ 24 → row_at (rows_by f) line ≡ f line }
-    ensures cell { (size : Size) (f : ℕ → Cell) (column : ℕ) → 1 ≤ column → column ≤ 132 → cell_at (row_by size f) column ≡ f column }
+    ensures row { (f : ℕ → Row) (line : ℕ) → 1 ≤ line → line ≤ LINES → row_at (rows_by f) line ≡ f line }
+    ensures cell { (size : Size) (f : ℕ → Cell) (column : ℕ) → 1 ≤ column → column ≤ WIDE_COLUMNS → cell_at (row_by size f) column ≡ f column }
 {}
 
 /// A picture is drawn on a blank screen line by line.
@@ -139,20 +140,20 @@ pub fn pictures_are_drawn_by_line()
     ensures wide { columns_set true false reset ≡ record reset { wide = true } }
     ensures start { (rows : List Row) → rows_by (λ _. blank_row) ≡ rows_to 0 rows }
     ensures blank { (line : ℕ) (rows : List Row) → 1 ≤ line → row_at rows line ≡ blank_row → rows_to (line - 1) rows ≡ rows_to line rows }
-    ensures line { (line column : ℕ) (rows : List Row) → 1 ≤ line → length (row_at rows line).cells ≡ 132 →
-        ((k : ℕ) → column < k → k ≤ 132 → cell_at (row_at rows line) k ≡ blank) → drawn_to line column rows ≡ rows_to line rows }
-    ensures all { (rows : List Row) → length rows ≡ 24 → rows_to 24 rows ≡ rows }
-    ensures cursor { (line column : ℕ) (p : Picture) → line ≤ 24 → column ≤ right_margin p line →
+    ensures line { (line column : ℕ) (rows : List Row) → 1 ≤ line → length (row_at rows line).cells ≡ WIDE_COLUMNS →
+        ((k : ℕ) → column < k → k ≤ WIDE_COLUMNS → cell_at (row_at rows line) k ≡ blank) → drawn_to line column rows ≡ rows_to line rows }
+    ensures all { (rows : List Row) → length rows ≡ LINES → rows_to LINES rows ≡ rows }
+    ensures cursor { (line column : ℕ) (p : Picture) → line ≤ LINES → column ≤ right_margin p line →
         placed line column false p ≡ record p { line = line; column = column; wrap = false } }
 {}
 
 /// A line is drawn cell by cell: from its left, in its size, and without autowrap up to its right margin.
 pub fn lines_are_drawn_by_cell()
-    ensures left { (line : ℕ) (p : Picture) → line ≤ 24 → placed line 1 false p ≡ record p { line = line; column = 1; wrap = false } }
-    ensures single { (line : ℕ) (rows : List Row) → 1 ≤ line → line ≤ 24 → (row_at rows line).size ≡ Single → rows_to (line - 1) rows ≡ drawn_to line 0 rows }
-    ensures size { (p : Picture) (rows : List Row) → 1 ≤ p.line → p.line ≤ 24 → p.column ≡ 1 → p.rows ≡ rows_to (p.line - 1) rows →
+    ensures left { (line : ℕ) (p : Picture) → line ≤ LINES → placed line 1 false p ≡ record p { line = line; column = 1; wrap = false } }
+    ensures single { (line : ℕ) (rows : List Row) → 1 ≤ line → line ≤ LINES → (row_at rows line).size ≡ Single → rows_to (line - 1) rows ≡ drawn_to line 0 rows }
+    ensures size { (p : Picture) (rows : List Row) → 1 ≤ p.line → p.line ≤ LINES → p.column ≡ 1 → p.rows ≡ rows_to (p.line - 1) rows →
         size_set (row_at rows p.line).size p ≡ record p { rows = drawn_to p.line 0 rows; wrap = false } }
-    ensures cell { (p : Picture) (rows : List Row) → 1 ≤ p.line → p.line ≤ 24 → 1 ≤ p.column →
+    ensures cell { (p : Picture) (rows : List Row) → 1 ≤ p.line → p.line ≤ LINES → 1 ≤ p.column →
         p.column ≤ margin_of p.wide (row_at rows p.line).size → p.wrap ≡ false → p.rows ≡ drawn_to p.line (p.column - 1) rows →
         shown (cell_at (row_at rows p.line) p.column).glyph (cell_at (row_at rows p.line) p.column).rendition false p
         ≡ record p { rows = drawn_to p.line p.column rows; column = min (p.column + 1) (margin_of p.wide (row_at rows p.line).size) } }

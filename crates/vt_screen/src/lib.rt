@@ -6,6 +6,7 @@
 mod cell;
 mod grid;
 pub mod laws;
+pub mod limits;
 mod rendition;
 mod screen;
 

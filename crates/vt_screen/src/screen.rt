@@ -14,6 +14,7 @@ ghost use Rattle.vt_screen.specs.Tabs.{stop_at, stop_after, tabbed, tab_made, ta
 
 use crate::cell::{Cell, Row, Size, columns_of, margin_of};
 use crate::grid::Grid;
+use crate::limits::{LAST_GLYPH, LINES, WIDE_COLUMNS};
 use crate::rendition::Rendition;
 use std::marker::Model;
 
@@ -22,7 +23,7 @@ use std::marker::Model;
 #[derive(Debug, Drop)]
 pub struct Screen {
     grid: Grid,
-    tabs: [bool; 132],
+    tabs: [bool; WIDE_COLUMNS as usize],
     wide: bool,
     line: u8,
     column: u8,
@@ -60,7 +61,7 @@ impl Screen {
             column: 1,
             wrap: false,
             top: 1,
-            bottom: 24,
+            bottom: LINES,
         }
     }
 
@@ -88,12 +89,12 @@ impl Screen {
     /// The cell at a line and a column, also right of the right margin, where it is blank.
     pub fn cell(&self, row: u8, col: u8) -> Cell
         requires row_low { 1 ≤ row }
-        requires row_high { row ≤ 24 }
+        requires row_high { row ≤ LINES }
         requires col_low { 1 ≤ col }
-        requires col_high { col ≤ 132 }
+        requires col_high { col ≤ WIDE_COLUMNS }
         ensures value { result ≡ cell self.now.picture row col }
         ensures place { result ≡ cell_at (row_in self.now.slots (slot_at self.now.order row)) col }
-        ensures glyph { result.glyph ≤ 126 }
+        ensures glyph { result.glyph ≤ LAST_GLYPH }
     {
         self.grid.row(row).cells[col as usize - 1]
     }
@@ -101,7 +102,7 @@ impl Screen {
     /// A line's size and its 132 cells.
     pub fn row(&self, row: u8) -> &Row
         requires low { 1 ≤ row }
-        requires high { row ≤ 24 }
+        requires high { row ≤ LINES }
         ensures value { result.now ≡ row_at self.now.picture.rows row }
         ensures sound { SoundRow self.now.picture.wide result.now }
     {
@@ -110,7 +111,7 @@ impl Screen {
 
     pub fn size(&self, row: u8) -> Size
         requires low { 1 ≤ row }
-        requires high { row ≤ 24 }
+        requires high { row ≤ LINES }
         ensures { result ≡ (row_at self.now.picture.rows row).size }
     {
         self.grid.row(row).size
@@ -119,9 +120,9 @@ impl Screen {
     /// The last column of a line: the number of columns, or half of it on a double size.
     pub fn right_margin(&self, row: u8) -> u8
         requires low { 1 ≤ row }
-        requires high { row ≤ 24 }
+        requires high { row ≤ LINES }
         ensures value { result ≡ right_margin self.now.picture row }
-        ensures high { result ≤ 132 }
+        ensures high { result ≤ WIDE_COLUMNS }
         ensures low { 40 ≤ result }
     {
         margin_of(self.wide, self.grid.row(row).size)
@@ -155,7 +156,7 @@ impl Screen {
     /// Whether a tab stops at a column.
     pub fn tab(&self, col: u8) -> bool
         requires low { 1 ≤ col }
-        requires high { col ≤ 132 }
+        requires high { col ≤ WIDE_COLUMNS }
         ensures { result ≡ stop_at self.now.picture.tabs col }
     {
         self.tabs[col as usize - 1]
@@ -164,9 +165,9 @@ impl Screen {
     /// The place where a line lies, from 0.
     pub fn place_of(&self, row: u8) -> u8
         requires low { 1 ≤ row }
-        requires high { row ≤ 24 }
+        requires high { row ≤ LINES }
         ensures value { result ≡ slot_at self.now.order row }
-        ensures within { result < 24 }
+        ensures within { result < LINES }
         ensures once { OncePerSlot (record { order = self.now.order; slots = self.now.slots }) }
     {
         self.grid.slot_of(row)
@@ -174,9 +175,9 @@ impl Screen {
 
     /// The cell in a place: `cell(row, col)` is `place_cell(place_of(row), col)`.
     pub fn place_cell(&self, place: u8, col: u8) -> Cell
-        requires place { place < 24 }
+        requires place { place < LINES }
         requires low { 1 ≤ col }
-        requires high { col ≤ 132 }
+        requires high { col ≤ WIDE_COLUMNS }
         ensures { result ≡ cell_at (row_in self.now.slots place) col }
     {
         self.grid.row_in(place).cells[col as usize - 1]
@@ -184,7 +185,7 @@ impl Screen {
 
     /// Shows a glyph at the cursor, after a pending wrap was taken.
     pub fn show(&mut self, glyph: u8, rendition: Rendition, autowrap: bool)
-        requires { glyph ≤ 126 }
+        requires { glyph ≤ LAST_GLYPH }
         ensures picture { self.new.picture ≡ shown glyph rendition autowrap self.old.picture }
     {
         self.take_wrap();
@@ -193,7 +194,7 @@ impl Screen {
 
     /// Leaves what `show` of each glyph in turn leaves; it writes a line's part at once.
     pub fn show_run(&mut self, glyphs: &[u8], rendition: Rendition, autowrap: bool)
-        requires { All (λ glyph. glyph ≤ 126) glyphs.now }
+        requires { All (λ glyph. glyph ≤ LAST_GLYPH) glyphs.now }
         ensures picture { self.new.picture ≡ run_shown glyphs.now rendition autowrap self.old.picture }
     {
         let room = (self.margin() - self.column) as usize;
@@ -211,7 +212,7 @@ impl Screen {
         ensures picture { self.new.picture ≡ stepped_up n self.old.picture }
     {
         let stop = if self.top <= self.line { self.top } else { 1 };
-        let up = n.min(24) as u8;
+        let up = n.min(u16::from(LINES)) as u8;
         self.go_to_line(self.line.saturating_sub(up).max(stop));
     }
 
@@ -222,9 +223,9 @@ impl Screen {
         let stop = if self.line <= self.bottom {
             self.bottom
         } else {
-            24
+            LINES
         };
-        let down = n.min(24) as u8;
+        let down = n.min(u16::from(LINES)) as u8;
         self.go_to_line((self.line + down).min(stop));
     }
 
@@ -232,7 +233,7 @@ impl Screen {
     pub fn step_right(&mut self, n: u16)
         ensures picture { self.new.picture ≡ stepped_right n self.old.picture }
     {
-        let right = n.min(132);
+        let right = n.min(u16::from(WIDE_COLUMNS));
         let margin = u16::from(self.margin());
         self.column = (u16::from(self.column) + right).min(margin) as u8;
         self.wrap = false;
@@ -242,7 +243,7 @@ impl Screen {
     pub fn step_left(&mut self, n: u16)
         ensures picture { self.new.picture ≡ stepped_left n self.old.picture }
     {
-        let left = n.min(132) as u8;
+        let left = n.min(u16::from(WIDE_COLUMNS)) as u8;
         self.column = self.column.saturating_sub(left).max(1);
         self.wrap = false;
     }
@@ -262,7 +263,7 @@ impl Screen {
         requires col { 1 ≤ col }
         ensures picture { self.new.picture ≡ placed line col origin self.old.picture }
     {
-        let line = line.min(24) as u8;
+        let line = line.min(u16::from(LINES)) as u8;
         let to = if origin {
             (self.top + (line - 1)).min(self.bottom)
         } else {
@@ -292,7 +293,7 @@ impl Screen {
             self.scroll_up();
             self.go_to_line(self.line);
         } else {
-            self.go_to_line((self.line + 1).min(24));
+            self.go_to_line((self.line + 1).min(LINES));
         }
     }
 
@@ -359,7 +360,7 @@ impl Screen {
     /// Shows a glyph in insert mode: after a pending wrap was taken, the cells from the cursor on move
     /// one to the right, and the one at the right margin is lost.
     pub fn show_inserting(&mut self, glyph: u8, rendition: Rendition, autowrap: bool)
-        requires { glyph ≤ 126 }
+        requires { glyph ≤ LAST_GLYPH }
         ensures picture { self.new.picture ≡ shown_inserting glyph rendition autowrap self.old.picture }
     {
         self.take_wrap();
@@ -394,7 +395,7 @@ impl Screen {
     pub fn clear_tabs(&mut self)
         ensures picture { self.new.picture ≡ tabs_cleared self.old.picture }
     {
-        self.tabs = [false; 132];
+        self.tabs = [false; WIDE_COLUMNS as usize];
     }
 
     /// DECSTBM: these margins and home, where top is at least 1 and above bottom, and bottom at most 24;
@@ -403,7 +404,7 @@ impl Screen {
         ensures answer { result ≡ are_margins top bottom }
         ensures picture { self.new.picture ≡ margins_set top bottom origin self.old.picture }
     {
-        if top < 1 || bottom <= top || 24 < bottom {
+        if top < 1 || bottom <= top || u16::from(LINES) < bottom {
             return false;
         }
         self.top = top as u8;
@@ -455,10 +456,10 @@ impl Screen {
     pub fn set_columns(&mut self, wide: bool, origin: bool)
         ensures picture { self.new.picture ≡ columns_set wide origin self.old.picture }
     {
-        self.grid.fill_lines(1, 24, Cell::blank(), 132);
+        self.grid.fill_lines(1, LINES, Cell::blank(), WIDE_COLUMNS);
         self.wide = wide;
         self.top = 1;
-        self.bottom = 24;
+        self.bottom = LINES;
         self.line = 1;
         self.column = 1;
         self.wrap = false;
@@ -472,7 +473,8 @@ impl Screen {
             glyph: b'E',
             rendition: Rendition::plain(),
         };
-        self.grid.fill_lines(1, 24, pattern, columns_of(self.wide));
+        self.grid
+            .fill_lines(1, LINES, pattern, columns_of(self.wide));
         self.wrap = false;
     }
 
@@ -488,7 +490,7 @@ impl Screen {
     /// the right margin.
     pub fn put_back(&mut self, row: u8, col: u8, wrap: bool, origin: bool, autowrap: bool)
         requires row_low { 1 ≤ row }
-        requires row_high { row ≤ 24 }
+        requires row_high { row ≤ LINES }
         requires col { 1 ≤ col }
         ensures picture { self.new.picture ≡ put_back row col wrap origin autowrap self.old.picture }
     {
@@ -513,7 +515,7 @@ impl Screen {
     /// To a line, with the column cut to its right margin and no wrap pending.
     fn go_to_line(&mut self, line: u8)
         requires low { 1 ≤ line }
-        requires high { line ≤ 24 }
+        requires high { line ≤ LINES }
         ensures picture { self.new.picture ≡ on_line line self.old.picture }
         ensures order { self.new.order ≡ self.old.order }
         ensures slots { self.new.slots ≡ self.old.slots }
@@ -559,7 +561,7 @@ impl Screen {
 
     /// Shows a run part by part, each up to the right margin of its line.
     fn show_parts(&mut self, glyphs: &[u8], rendition: Rendition, autowrap: bool)
-        requires { All (λ glyph. glyph ≤ 126) glyphs.now }
+        requires { All (λ glyph. glyph ≤ LAST_GLYPH) glyphs.now }
         ensures picture { self.new.picture ≡ run_shown glyphs.now rendition autowrap self.old.picture }
     {
         let mut rest = glyphs;
@@ -573,7 +575,7 @@ impl Screen {
     /// Writes the cell at the cursor; at the right margin the cursor stays, and the wrap becomes pending
     /// with `autowrap`, else it goes one to the right.
     fn put(&mut self, cell: Cell, autowrap: bool)
-        requires { cell.glyph ≤ 126 }
+        requires { cell.glyph ≤ LAST_GLYPH }
         ensures picture { self.new.picture ≡ put cell autowrap self.old.picture }
     {
         let margin = self.margin();
@@ -606,7 +608,7 @@ impl Screen {
     /// Shows the glyphs that the cursor's line has room for, at least one, and says how many.
     fn show_part(&mut self, glyphs: &[u8], rendition: Rendition, autowrap: bool) -> usize
         requires some { 0 < length glyphs.now }
-        requires glyphs { All (λ glyph. glyph ≤ 126) glyphs.now }
+        requires glyphs { All (λ glyph. glyph ≤ LAST_GLYPH) glyphs.now }
         requires wrap { self.old.picture.wrap ≡ false }
         ensures some { 0 < result }
         ensures within { result ≤ length glyphs.now }
@@ -643,24 +645,24 @@ impl Screen {
 fn other_lines(part: u8, cursor: u8) -> (u8, u8)
     requires part { part ≤ 2 }
     requires low { 1 ≤ cursor }
-    requires high { cursor ≤ 24 }
-    ensures told { (line : ℕ) → 1 ≤ line → line ≤ 24 → nat_le result.0 line && nat_lt line (result.1 + 1) ≡ in_other_lines part cursor line }
+    requires high { cursor ≤ LINES }
+    ensures told { (line : ℕ) → 1 ≤ line → line ≤ LINES → nat_le result.0 line && nat_lt line (result.1 + 1) ≡ in_other_lines part cursor line }
     ensures low { 1 ≤ result.0 }
     ensures apart { result.0 ≤ result.1 + 1 }
-    ensures high { result.1 ≤ 24 }
+    ensures high { result.1 ≤ LINES }
 {
     match part {
-        0 => (cursor + 1, 24),
+        0 => (cursor + 1, LINES),
         1 => (1, cursor - 1),
-        _ => (1, 24),
+        _ => (1, LINES),
     }
 }
 
 /// The tab stops at first.
-fn first_tabs() -> [bool; 132]
+fn first_tabs() -> [bool; WIDE_COLUMNS as usize]
     ensures { result ≡ first_tabs }
 {
-    let mut tabs = [false; 132];
+    let mut tabs = [false; WIDE_COLUMNS as usize];
     for column in 2..133 {
         tabs[column - 1] = column % 8 == 1;
     }
@@ -668,10 +670,10 @@ fn first_tabs() -> [bool; 132]
 }
 
 /// The first stop right of a column and up to the margin, or the margin.
-fn next_stop(tabs: &[bool; 132], column: u8, margin: u8) -> u8
+fn next_stop(tabs: &[bool; WIDE_COLUMNS as usize], column: u8, margin: u8) -> u8
     requires low { 1 ≤ column }
     requires within { column ≤ margin }
-    requires high { margin ≤ 132 }
+    requires high { margin ≤ WIDE_COLUMNS }
     ensures value { result ≡ stop_after tabs.now column margin }
     ensures within { result ≤ margin }
     ensures low { column ≤ result }
