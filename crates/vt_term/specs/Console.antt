@@ -3,6 +3,7 @@ use Rattle.std.specs.Prelude.{◌≡◌, ◌≤◌, Bool, true, false, List, [],
 use Rattle.vt_parser.specs.declared.commands.Mode.TheVariants.{Ansi}
 use Rattle.vt_screen.specs.Attributes.{Attributes, plain}
 use Rattle.vt_screen.specs.Picture.{Picture, Sound, Inside, reset}
+use Rattle.vt_screen.specs.Limits.{line_count, wide_columns}
 use Rattle.vt_term.specs.declared.profile.Profile.{Profile}
 use Rattle.vt_term.specs.declared.modes.Modes.{Modes}
 use Rattle.vt_term.specs.declared.sets.Sets.{Sets}
@@ -90,7 +91,7 @@ console_of fields = record {
 -- a saved cursor stands on the screen (profile)
 abbrev pub IsSavedWell : Option Saved → Type 0
 IsSavedWell None = Unit {0}
-IsSavedWell (Some saved) = (1 ≤ saved.line) × (saved.line ≤ 24) × (1 ≤ saved.column) × (saved.column ≤ 132)
+IsSavedWell (Some saved) = (1 ≤ saved.line) × (saved.line ≤ line_count) × (1 ≤ saved.column) × (saved.column ≤ wide_columns)
 
 -- What every terminal keeps: the screen is sound (the cursor is at most at its line's right margin, cells right of it are
 -- blank, glyphs are at most 126), and the cursor is inside the margins while DECOM is set (EK-VT100-UG

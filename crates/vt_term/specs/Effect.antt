@@ -10,6 +10,7 @@ use Rattle.vt_screen.specs.Attributes.{Attributes}
 use Rattle.vt_screen.specs.Picture.{Picture}
 use Rattle.vt_screen.specs.Puts.{shown, run_shown}
 use Rattle.vt_screen.specs.CellEdits.{shown_inserting}
+use Rattle.vt_screen.specs.Limits.{last_glyph}
 use Rattle.vt_term.specs.declared.modes.Modes.{Modes}
 use Rattle.vt_term.specs.Console.{Console, on_picture, effect_of}
 use Rattle.vt_term.specs.Sets.{glyph_of, checkerboard, set_in_use}
@@ -102,5 +103,5 @@ token_reply_if (Some told) s = token_reply told s
 
 -- the numbers of a token are in their ranges
 abbrev pub IsProperToken : Token → Type 0
-IsProperToken (token.Show run) = All (λ byte. byte ≤ 126) run.now
+IsProperToken (token.Show run) = All (λ byte. byte ≤ last_glyph) run.now
 IsProperToken other = IsProper (command_of_token other)

@@ -3,6 +3,7 @@ use Rattle.std.specs.Prelude.{◌≡◌, ℕ, ◌*◌, ◌≤◌, List, ◌++◌
 use Rattle.vt_parser.specs.declared.commands.Command.{Command}
 use Rattle.vt_parser.specs.Law.{IsProper, StateDecides, StaysShown, GroundIsEmpty, FinishedLeavesNothing, PendingPays, GraphicIsShown, CommandsAreProper}
 use Rattle.vt_screen.specs.Picture.{Picture, right_margin}
+use Rattle.vt_screen.specs.Limits.{wide_columns}
 use Rattle.vt_term.specs.declared.profile.Profile.{Profile}
 use Rattle.vt_term.specs.Console.{Console, IsSafe, reset_console}
 use Rattle.vt_term.specs.Effect.{effect}
@@ -51,6 +52,6 @@ pub record LawsBelow : Type 0 where
   pub pending_pays : PendingPays
   pub graphic_is_shown : GraphicIsShown
   pub commands_are_proper : CommandsAreProper
-  pub right_margins : (p : Picture) (line : ℕ) → right_margin p line ≤ 132
+  pub right_margins : (p : Picture) (line : ℕ) → right_margin p line ≤ wide_columns
   pub reset_is_safe : (profile : Profile) → IsSafe (reset_console profile)
   pub commands_keep_safe : CommandsKeepSafe

@@ -8,6 +8,7 @@ use Rattle.vt_screen.specs.CellEdits.{cells_deleted}
 use Rattle.vt_screen.specs.Erasures.{display_erased, line_erased}
 use Rattle.vt_screen.specs.Lines.{margins_set}
 use Rattle.vt_screen.specs.Tabs.{tab_made, tabs_cleared}
+use Rattle.vt_screen.specs.Limits.{line_count}
 use Rattle.vt_term.specs.declared.modes.Modes.{Modes}
 use Rattle.vt_term.specs.declared.profile.Profile.{Profile}
 use Rattle.vt_term.specs.Rows.{named}
@@ -113,7 +114,7 @@ sequence_effect El params s = on_picture (erased line_erased (first_of params)) 
 sequence_effect Il params s = where_it_edits (lines_inserted (counted (first_of params))) s
 sequence_effect Dl params s = where_it_edits (lines_deleted (counted (first_of params))) s
 sequence_effect Dch params s = where_it_edits (cells_deleted (counted (first_of params))) s
-sequence_effect Decstbm params s = on_picture (margins_set (or_default 1 (first_of params)) (or_default 24 (second_of params)) s.modes.origin) s
+sequence_effect Decstbm params s = on_picture (margins_set (or_default 1 (first_of params)) (or_default line_count (second_of params)) s.modes.origin) s
 sequence_effect Tbc params s = on_picture (tabs_taken (first_of params)) s
 sequence_effect Sgr params s = record s { rendition = fold rendition_set s.rendition params }
 sequence_effect Sm params s = on_modes (λ modes. fold (ansi_mode_set s.profile true) modes params) s

@@ -6,10 +6,11 @@ ghost use Rattle.vt_term.specs.Effect.{glyph_shown, glyphs_shown, glyphs_written
 
 use crate::sets::CHECKERBOARD;
 use crate::{CharacterSet, Modes, Profile, Saved, Sets};
+use vt_screen::limits::{LAST_GLYPH, WIDE_COLUMNS};
 use vt_screen::{Rendition, Screen};
 
 // How many glyphs go to the screen at once, where bytes aren't glyphs as they stand: a line's.
-const PIECE: usize = 132;
+const PIECE: usize = WIDE_COLUMNS as usize;
 
 /// The state that effects change.
 #[derive(Debug, Drop)]
@@ -61,7 +62,7 @@ impl Console {
     /// Shows a glyph with the current rendition.
     #[inline]
     fn show_glyph(&mut self, glyph: u8)
-        requires { glyph ≤ 126 }
+        requires { glyph ≤ LAST_GLYPH }
         ensures { console_of self.new ≡ glyph_shown glyph (console_of self.old) }
     {
         if self.modes.insert {
@@ -82,7 +83,7 @@ impl Console {
     /// Shows the glyphs of a run of bytes.
     #[inline]
     pub(crate) fn show_bytes(&mut self, bytes: &[u8])
-        requires { All (λ byte. byte ≤ 126) bytes.now }
+        requires { All (λ byte. byte ≤ LAST_GLYPH) bytes.now }
         ensures { console_of self.new ≡ glyphs_shown (map (glyph_for (console_of self.old)) bytes.now) (console_of self.old) }
     {
         if self.modes.insert {
@@ -94,7 +95,7 @@ impl Console {
 
     // In insert mode a run's glyphs are shown one by one.
     fn insert_glyphs(&mut self, set: CharacterSet, bytes: &[u8])
-        requires { All (λ byte. byte ≤ 126) bytes.now }
+        requires { All (λ byte. byte ≤ LAST_GLYPH) bytes.now }
         ensures { console_of self.new ≡ glyphs_shown (map (glyph_of set) bytes.now) (console_of self.old) }
     {
         for &byte in bytes {
@@ -105,7 +106,7 @@ impl Console {
     // Outside it they are written over those that stand there.
     #[inline]
     fn write_bytes(&mut self, bytes: &[u8])
-        requires { All (λ byte. byte ≤ 126) bytes.now }
+        requires { All (λ byte. byte ≤ LAST_GLYPH) bytes.now }
         ensures { console_of self.new ≡ glyphs_written (map (glyph_for (console_of self.old)) bytes.now) (console_of self.old) }
     {
         match self.set_in_use() {
@@ -118,7 +119,7 @@ impl Console {
 
     // Writes the glyphs that a run of bytes has in a set, a line's at a time.
     fn write_glyphs(&mut self, set: CharacterSet, bytes: &[u8])
-        requires { All (λ byte. byte ≤ 126) bytes.now }
+        requires { All (λ byte. byte ≤ LAST_GLYPH) bytes.now }
         ensures { console_of self.new ≡ glyphs_written (map (glyph_of set) bytes.now) (console_of self.old) }
     {
         let mut rest = bytes;
@@ -130,8 +131,8 @@ impl Console {
     }
 
     fn write_piece(&mut self, set: CharacterSet, bytes: &[u8])
-        requires short { length bytes.now ≤ 132 }
-        requires graphic { All (λ byte. byte ≤ 126) bytes.now }
+        requires short { length bytes.now ≤ PIECE }
+        requires graphic { All (λ byte. byte ≤ LAST_GLYPH) bytes.now }
         ensures { console_of self.new ≡ glyphs_written (map (glyph_of set) bytes.now) (console_of self.old) }
     {
         let mut glyphs = [0; PIECE];
@@ -142,8 +143,8 @@ impl Console {
 
 // The glyphs of bytes in a set, at the head of an array.
 fn fill_glyphs(set: CharacterSet, bytes: &[u8], glyphs: &mut [u8; PIECE])
-    requires { length bytes.now ≤ 132 }
-    ensures len { length glyphs.new ≡ 132 }
+    requires { length bytes.now ≤ PIECE }
+    ensures len { length glyphs.new ≡ PIECE }
     ensures front { take (length bytes.now) glyphs.new ≡ map (glyph_of set) bytes.now }
 {
     for (i, byte) in bytes.iter().enumerate() {

@@ -13,6 +13,7 @@ use crate::below::laws_below;
 use vt_parser::laws::{
     control_is_given, decimals_are_read, graphic_is_shown, whole_sequences_finish,
 };
+use vt_screen::limits::{LAST_GLYPH, LINES};
 
 /// Joined texts are played as their parts in turn, wherever the cut is.
 pub fn plays_in_parts()
@@ -54,12 +55,12 @@ pub fn stays_safe()
 /// What every terminal shows: the cursor is on the screen and within its line's right margin, cells right of that margin
 /// are blank, glyphs are at most 126, and while DECOM is set the cursor is inside the margins.
 pub fn terminals_are_safe(terminal: &Terminal)
-    ensures line { (1 ≤ terminal.now.console.picture.line) × (terminal.now.console.picture.line ≤ 24) }
+    ensures line { (1 ≤ terminal.now.console.picture.line) × (terminal.now.console.picture.line ≤ LINES) }
     ensures column { (1 ≤ terminal.now.console.picture.column)
         × (terminal.now.console.picture.column ≤ right_margin terminal.now.console.picture terminal.now.console.picture.line) }
     ensures blank { (line column : ℕ) → right_margin terminal.now.console.picture line < column
         → cell terminal.now.console.picture line column ≡ blank }
-    ensures glyphs { (line column : ℕ) → (cell terminal.now.console.picture line column).glyph ≤ 126 }
+    ensures glyphs { (line column : ℕ) → (cell terminal.now.console.picture line column).glyph ≤ LAST_GLYPH }
     ensures inside { terminal.now.console.modes.origin ≡ true → Inside terminal.now.console.picture }
 {
     let _screen = terminal.screen();

@@ -8,6 +8,7 @@ use crate::console::Console;
 use crate::{OutOfMemory, Profile, Reports};
 use arrayvec::ArrayVec;
 use itoa::Buffer;
+use vt_screen::limits::{LINES, WIDE_COLUMNS};
 
 // No malfunction.
 const READY: &[u8] = b"\x1b[0n";
@@ -35,8 +36,8 @@ pub(crate) fn device_attributes(profile: Profile) -> &'static [u8]
 
 // The answer to DSR 6, of a line and a column.
 fn cursor_position(line: u8, column: u8) -> ArrayVec<u8, LONGEST>
-    requires line { line ≤ 24 }
-    requires column { column ≤ 132 }
+    requires line { line ≤ LINES }
+    requires column { column ≤ WIDE_COLUMNS }
     ensures { result.items ≡ cursor_position line column }
 {
     let mut buffer = Buffer::new();

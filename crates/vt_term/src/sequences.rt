@@ -14,6 +14,7 @@ use crate::console::Console;
 use crate::replies::answer_parameters;
 use crate::{OutOfMemory, Reports};
 use vt_screen::Rendition;
+use vt_screen::limits::LINES;
 
 /// The first parameter, 0 where it is missing.
 #[inline]
@@ -157,11 +158,11 @@ impl Console {
     // Margins that are none are refused, and nothing changes.
     fn set_margins(&mut self, top: u16, bottom: u16)
         ensures { console_of self.new
-            ≡ on_picture (margins_set (or_default 1 top) (or_default 24 bottom) self.old.modes.origin) (console_of self.old) }
+            ≡ on_picture (margins_set (or_default 1 top) (or_default LINES bottom) self.old.modes.origin) (console_of self.old) }
     {
         let _accepted = self.screen.set_margins(
             or_default(1, top),
-            or_default(24, bottom),
+            or_default(u16::from(LINES), bottom),
             self.modes.origin,
         );
     }

@@ -3,6 +3,7 @@ ghost use Rattle.std.specs.Prelude.{◌≡◌, ◌≤◌};
 ghost use Rattle.vt_term.specs.Sets.{glyph_of, set_in, set_in_use, first_sets, designated};
 
 use vt_parser::Mode;
+use vt_screen::limits::LAST_GLYPH;
 
 /// The error character's glyph, the checkerboard.
 pub(crate) const CHECKERBOARD: u8 = 2;
@@ -92,7 +93,7 @@ impl CharacterSet {
     #[inline]
     pub(crate) fn glyph(self, byte: u8) -> u8
         ensures value { result ≡ glyph_of self byte }
-        ensures most { byte ≤ 126 → result ≤ 126 }
+        ensures most { byte ≤ LAST_GLYPH → result ≤ LAST_GLYPH }
     {
         match self {
             CharacterSet::Ascii => byte,
