@@ -1,6 +1,6 @@
 -- Every command keeps a terminal safe.
-use Rattle.std.proofs.Common.{◌≡◌, ℕ, ◌-◌, ◌≤◌, Bool, true, false, List, [], ◌∷◌, length, refl, sym, subst, arith}
-use Rattle.std.specs.Prelude.{if◌then◌else◌, ◌==◌, ◌&&◌, nat_le, fold, Option, Some, None, slice_set}
+use Rattle.std.proofs.Common.{◌≡◌, ℕ, ◌-◌, ◌≤◌, Bool, true, false, List, [], ◌∷◌, length, refl, sym, ap, subst, ◌∙◌, arith}
+use Rattle.std.specs.Prelude.{if◌then◌else◌, fold, Option, Some, None}
 use Rattle.std.proofs.lemmas.Bool.Decides.{nat_tests}
 use Rattle.std.proofs.lemmas.List.{length-set}
 use Rattle.vt_parser.specs.declared.commands.Mode.{Mode}
@@ -17,14 +17,13 @@ use Rattle.vt_screen.specs.Puts.{shown}
 use Rattle.vt_screen.specs.Scrolls.{indexed, reverse_indexed, lines_inserted, lines_deleted}
 use Rattle.vt_screen.specs.Tabs.{tabbed, tab_made, tabs_cleared}
 use Rattle.vt_term.specs.declared.sets.CharacterSet.{CharacterSet}
-use Rattle.vt_term.specs.declared.sets.CharacterSet.TheVariants.{Ascii, Uk, SpecialGraphics}
+use Rattle.vt_term.specs.declared.sets.CharacterSet.TheVariants.{Ascii}
 use Rattle.vt_term.specs.declared.sets.Slot.{Slot}
 use Rattle.vt_term.specs.declared.modes.Modes.{Modes}
 use Rattle.vt_term.specs.declared.profile.Profile.{Profile}
 use Rattle.vt_term.specs.declared.saved.Saved.{Saved}
-use Rattle.vt_term.specs.Profile.{has_editing}
 use Rattle.vt_term.specs.Sets.{glyph_of, checkerboard, set_in_use}
-use Rattle.vt_term.specs.Console.{Console, IsSafe, IsSavedWell, reset_console, on_picture, effect_of, dark}
+use Rattle.vt_term.specs.Console.{Console, IsSafe, IsSavedWell, reset_console, on_picture, effect_of}
 use Rattle.vt_term.specs.Rows.{named}
 use Rattle.vt_term.specs.Controls.{Control, Bs, Ht, Lf, Cr, So, Si, control_named, control_effect, line_fed, invoked}
 use Rattle.vt_term.specs.Escapes.{Escape, Ind, Nel, Ri, Hts, Decid, Ris, Decsc, Decrc, Deckpam, Deckpnm, DecdhlTop, DecdhlBottom, Decswl, Decdwl, Decaln, Scs, escape_named, escape_effect, restored}
@@ -87,73 +86,56 @@ pub record ScreenLaws : Type 0 where
 while_set : (P : Bool → Type 0) (origin : Bool) → P true → origin ≡ true → P origin
 while_set P origin there is = subst P (sym is) there
 
+safe_new : (s t : Console) → Sound t.picture → (t.modes.origin ≡ true → Inside t.picture) → t.saved ≡ s.saved → t.leds ≡ s.leds → IsSafe s → IsSafe t
+safe_new s t sound inside saved leds safe =
+    record { sound = sound; inside = inside; saved = subst IsSavedWell (sym saved) safe.saved; leds = ap length leds ∙ safe.leds }
+
 safe_on : (s : Console) (op : Picture → Picture) → Keeps op → IsSafe s → IsSafe (on_picture op s)
-safe_on s op keeps safe = record {
-  sound = keeps.sound s.picture safe.sound;
-  inside = λ is. keeps.inside s.picture safe.sound (safe.inside is);
-  saved = safe.saved;
-  leds = safe.leds;
-}
+safe_on s op keeps safe =
+    safe_new s _ (keeps.sound s.picture safe.sound) (λ is. keeps.inside s.picture safe.sound (safe.inside is)) refl refl safe
 
 safe_by : (s : Console) (op : Bool → Picture → Picture) → KeepsBy op → IsSafe s → IsSafe (on_picture (op s.modes.origin) s)
-safe_by s op keeps safe = record {
-  sound = keeps.sound s.modes.origin s.picture safe.sound;
-  inside = λ is. while_set (λ (o : Bool). Inside (op o s.picture)) s.modes.origin (keeps.inside s.picture safe.sound (safe.inside is)) is;
-  saved = safe.saved;
-  leds = safe.leds;
-}
+safe_by s op keeps safe =
+    safe_new s _ (keeps.sound s.modes.origin s.picture safe.sound)
+    (λ is. while_set (λ (o : Bool). Inside (op o s.picture)) s.modes.origin (keeps.inside s.picture safe.sound (safe.inside is)) is) refl refl safe
 
 -- a change after which DECOM may be another
 safe_goes : (s t : Console) (op : Bool → Picture → Picture) → GoesBy op → t.picture ≡ op t.modes.origin s.picture → t.saved ≡ s.saved → t.leds ≡ s.leds → IsSafe s → IsSafe t
-safe_goes s t op goes picture saved leds safe = record {
-  sound = subst Sound (sym picture) (goes.sound t.modes.origin s.picture safe.sound);
-  inside = λ is. subst Inside (sym picture) (while_set (λ (o : Bool). Inside (op o s.picture)) t.modes.origin (goes.inside s.picture safe.sound) is);
-  saved = subst IsSavedWell (sym saved) safe.saved;
-  leds = subst (λ (l : List Bool). length l ≡ 4) (sym leds) safe.leds;
-}
+safe_goes s t op goes picture saved leds safe =
+    safe_new s t (subst Sound (sym picture) (goes.sound t.modes.origin s.picture safe.sound))
+    (λ is. subst Inside (sym picture) (while_set (λ (o : Bool). Inside (op o s.picture)) t.modes.origin (goes.inside s.picture safe.sound) is)) saved leds safe
 
 -- a change of what the screen doesn't know, which leaves DECOM, the save and the LEDs
-pub safe_else : (s t : Console) → t.picture ≡ s.picture → t.modes.origin ≡ s.modes.origin → t.saved ≡ s.saved → t.leds ≡ s.leds → IsSafe s → IsSafe t
-safe_else s t picture origin saved leds safe = record {
-  sound = subst Sound (sym picture) safe.sound;
-  inside = λ is. subst Inside (sym picture) (safe.inside (let e : s.modes.origin ≡ true = cc in e));
-  saved = subst IsSavedWell (sym saved) safe.saved;
-  leds = subst (λ (l : List Bool). length l ≡ 4) (sym leds) safe.leds;
-}
+safe_else : (s t : Console) → t.picture ≡ s.picture → t.modes.origin ≡ s.modes.origin → t.saved ≡ s.saved → t.leds ≡ s.leds → IsSafe s → IsSafe t
+safe_else s t picture origin saved leds safe =
+    safe_new s t (subst Sound (sym picture) safe.sound) (λ is. subst Inside (sym picture) (safe.inside (sym origin ∙ is))) saved leds safe
+
+-- one of two operations, and none
+keeps_if : (b : Bool) (op other : Picture → Picture) → Keeps op → Keeps other → Keeps (λ p. if b then op p else other p)
+keeps_if true op other keeps keeps_other = keeps
+keeps_if false op other keeps keeps_other = keeps_other
+
+keeps_none : Keeps (λ p. p)
+keeps_none = record { sound = λ p sound. sound; inside = λ p sound inside. inside }
 
 -- ---- characters
 
 pub glyph_high : (set : CharacterSet) (byte : ℕ) → byte ≤ 126 → glyph_of set byte ≤ 126
 glyph_high Ascii byte high = high
-glyph_high Uk byte high = grind (arith, nat_tests)
-glyph_high SpecialGraphics byte high = grind (arith, nat_tests)
+glyph_high _ byte high = grind (arith, nat_tests)
 
 -- ---- what needs no law of the screen
 
 counted_low : (param : ℕ) → 1 ≤ counted param
 counted_low param = grind (arith, nat_tests)
 
-four_leds : (a b : Bool) (leds : List Bool) (at : ℕ) → length leds ≡ 4 → length (if a then dark else (if b then slice_set leds at true else leds)) ≡ 4
-four_leds true b leds at four = refl
-four_leds false true leds at four = simp length-set four
-four_leds false false leds at four = four
-
 leds_kept : (params : List ℕ) (leds : List Bool) → length leds ≡ 4 → length (fold leds_set leds params) ≡ 4
 leds_kept [] leds four = four
-leds_kept (param ∷ params) leds four = leds_kept params (leds_set leds param) (four_leds (param == 0) (nat_le param 4) leds (param - 1) four)
-
-mode_kept : (value a b : Bool) (modes : Modes)
-    → (if a then record modes { newline = value } else (if b then record modes { insert = value } else modes)).origin ≡ modes.origin
-mode_kept value true b modes = refl
-mode_kept value false true modes = refl
-mode_kept value false false modes = refl
+leds_kept (param ∷ params) leds four = leds_kept params (leds_set leds param) (grind (arith, nat_tests, length-set {A = Bool}))
 
 origin_kept : (profile : Profile) (value : Bool) (params : List ℕ) (modes : Modes) → (fold (ansi_mode_set profile value) modes params).origin ≡ modes.origin
 origin_kept profile value [] modes = refl
-origin_kept profile value (param ∷ params) modes =
-    let step : (ansi_mode_set profile value modes param).origin ≡ modes.origin = mode_kept value (param == 20) (param == 4 && has_editing profile) modes in
-    let rest = origin_kept profile value params (ansi_mode_set profile value modes param) in
-    cc
+origin_kept profile value (param ∷ params) modes = origin_kept profile value params (ansi_mode_set profile value modes param) ∙ grind (arith, nat_tests)
 
 safe_invoked : (slot : Slot) (mode : Mode) (s : Console) → IsSafe s → IsSafe (invoked slot mode s)
 safe_invoked slot Ansi s safe = safe_else s _ refl refl refl refl safe
@@ -171,12 +153,8 @@ module _ (laws : ScreenLaws) where
   safe_reset profile = record { sound = laws.reset; inside = λ is. absurd (cc is); saved = tt; leds = refl }
 
   safe_put : (s : Console) (glyph : ℕ) → glyph ≤ 126 → IsSafe s → IsSafe (glyph_shown glyph s)
-  safe_put s glyph high safe = put s.modes.insert
-    where
-      put : (insert : Bool) → IsSafe (on_picture (λ p.
-          if insert then shown_inserting glyph s.rendition s.modes.autowrap p else shown glyph s.rendition s.modes.autowrap p) s)
-      put true = safe_on s _ (laws.show_inserting glyph s.rendition s.modes.autowrap high) safe
-      put false = safe_on s _ (laws.show glyph s.rendition s.modes.autowrap high) safe
+  safe_put s glyph high safe =
+      safe_on s _ (keeps_if s.modes.insert _ _ (laws.show_inserting glyph s.rendition s.modes.autowrap high) (laws.show glyph s.rendition s.modes.autowrap high)) safe
 
   safe_lf : (newline : Bool) (s : Console) → IsSafe s → IsSafe (on_picture (line_fed newline) s)
   safe_lf true s safe = safe_on (on_picture moved_to_left s) _ laws.index (safe_on s _ laws.to_left safe)
@@ -219,15 +197,6 @@ module _ (laws : ScreenLaws) where
   safe_escape Decaln s safe = safe_on s _ laws.align safe
   safe_escape (Scs slot set) s safe = safe_else s _ refl refl refl refl safe
 
-  safe_erased : (b : Bool) (op : Picture → Picture) (s : Console) → Keeps op → IsSafe s → IsSafe (record s { picture = (if b then op s.picture else s.picture) })
-  safe_erased true op s keeps safe = safe_on s op keeps safe
-  safe_erased false op s keeps safe = safe
-
-  safe_tabs : (a b : Bool) (s : Console) → IsSafe s → IsSafe (record s { picture = (if a then tab_made false s.picture else (if b then tabs_cleared s.picture else s.picture)) })
-  safe_tabs true b s safe = safe_on s _ (laws.set_tab false) safe
-  safe_tabs false true s safe = safe_on s _ laws.clear_tabs safe
-  safe_tabs false false s safe = safe
-
   safe_edited : (b : Bool) (op : Picture → Picture) (s : Console) → Keeps op → IsSafe s → IsSafe (if b then on_picture op s else s)
   safe_edited true op s keeps safe = safe_on s op keeps safe
   safe_edited false op s keeps safe = safe
@@ -240,13 +209,13 @@ module _ (laws : ScreenLaws) where
   safe_sequence Cup params s safe =
       safe_goes s _ (placed (counted (first_of params)) (counted (second_of params)))
       (laws.place (counted (first_of params)) (counted (second_of params)) (counted_low (first_of params)) (counted_low (second_of params))) refl refl refl safe
-  safe_sequence Ed params s safe = safe_erased _ _ s (laws.erase_display _) safe
-  safe_sequence El params s safe = safe_erased _ _ s (laws.erase_line _) safe
+  safe_sequence Ed params s safe = safe_on s _ (keeps_if _ _ _ (laws.erase_display _) keeps_none) safe
+  safe_sequence El params s safe = safe_on s _ (keeps_if _ _ _ (laws.erase_line _) keeps_none) safe
   safe_sequence Il params s safe = safe_edited _ _ s (laws.insert_lines _) safe
   safe_sequence Dl params s safe = safe_edited _ _ s (laws.delete_lines _) safe
   safe_sequence Dch params s safe = safe_edited _ _ s (laws.delete_cells _) safe
   safe_sequence Decstbm params s safe = safe_by s _ (laws.margins (or_default 1 (first_of params)) (or_default 24 (second_of params))) safe
-  safe_sequence Tbc params s safe = safe_tabs _ _ s safe
+  safe_sequence Tbc params s safe = safe_on s _ (keeps_if _ _ _ (laws.set_tab false) (keeps_if _ _ _ laws.clear_tabs keeps_none)) safe
   safe_sequence Sgr params s safe = safe_else s _ refl refl refl refl safe
   safe_sequence Sm params s safe = safe_else s _ refl (origin_kept s.profile true params s.modes) refl refl safe
   safe_sequence Rm params s safe = safe_else s _ refl (origin_kept s.profile false params s.modes) refl refl safe

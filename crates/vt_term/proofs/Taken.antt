@@ -72,7 +72,7 @@ module _ (laws : LawsBelow) where
 
   -- ---- any token
 
-  pub shows_told : (seen : Seen) (x : Term) (bytes : List ℕ) (token : Option Token) (state : ParserState) → Shows seen x
+  shows_told : (seen : Seen) (x : Term) (bytes : List ℕ) (token : Option Token) (state : ParserState) → Shows seen x
       → TellsOf seen.console.modes.mode (mode_of x) x.pending bytes token → Leads seen.state seen.console.modes.mode bytes state
       → Shows (record { console = token_effect_if token seen.console; state = state }) (play x bytes) × (sent x bytes ≡ token_reply_if token seen.console)
   shows_told seen x bytes None state shows told leads = shows_given laws seen x bytes None state shows told (leads (mode_of x) x.pending shows.state)
@@ -80,17 +80,26 @@ module _ (laws : LawsBelow) where
   shows_told seen x bytes (Some token) state shows told leads =
       shows_given laws seen x bytes (Some (command_of_token token)) state shows told (leads (mode_of x) x.pending shows.state)
 
+  -- from what the parser says of any pending text
+  pub shows_next : (seen now : Seen) (x : Term) (bytes : List ℕ) (given token : Option Token) (state : ParserState) → seen ≡ now → given ≡ token → Shows now x
+      → ((mode : Mode) (pending : List ℕ) → parser_view mode pending ≡ Some seen.state → TellsOf seen.console.modes.mode mode pending bytes given)
+      → Leads seen.state seen.console.modes.mode bytes state
+      → Shows (record { console = token_effect_if token seen.console; state = state }) (play x bytes) × (sent x bytes ≡ token_reply_if token seen.console)
+  shows_next seen now x bytes given token state same is shows told leads =
+      let inside : Shows seen x = subst (λ (it : Seen). Shows it x) (sym same) shows in
+      shows_told seen x bytes token state inside
+      (subst (TellsOf seen.console.modes.mode (mode_of x) x.pending bytes) is (told (mode_of x) x.pending inside.state)) leads
+
   -- the terminal stays one, with the token's effect and without it
-  pub told_terminal : (seen : Seen) (bytes : List ℕ) (token : Option Token) (state : ParserState) → IsTerminal seen
-      → ((mode : Mode) (pending : List ℕ) → parser_view mode pending ≡ Some seen.state → TellsOf seen.console.modes.mode mode pending bytes token)
+  pub told_terminal : (seen : Seen) (bytes : List ℕ) (given token : Option Token) (state : ParserState) → given ≡ token → IsTerminal seen
+      → ((mode : Mode) (pending : List ℕ) → parser_view mode pending ≡ Some seen.state → TellsOf seen.console.modes.mode mode pending bytes given)
       → Leads seen.state seen.console.modes.mode bytes state
       → IsTerminal (record { console = token_effect_if token seen.console; state = state })
-  told_terminal seen bytes token state is told leads =
+  told_terminal seen bytes given token state same is told leads =
       let x = is.term.0 in
-      let shows = is.term.1 in
-      let after = (shows_told seen x bytes token state shows (told (mode_of x) x.pending shows.state) leads).0 in
+      let after = (shows_next seen seen x bytes given token state refl same is.term.1 told leads).0 in
       record {
-        safe = subst IsSafe after.console (safe_play laws x bytes (subst IsSafe (sym shows.console) is.safe));
+        safe = subst IsSafe after.console (safe_play laws x bytes (subst IsSafe (sym is.term.1.console) is.safe));
         term = (play x bytes, after);
       }
 
