@@ -9,7 +9,7 @@ use Rattle.vt_parser.specs.declared.commands.Command.TheVariants.{Show, Error, C
 use Rattle.vt_parser.specs.declared.states.ParserState.{ParserState}
 use Rattle.vt_parser.specs.declared.states.ParserState.TheVariants.{Ground}
 use Rattle.vt_parser.specs.Control.{escape, is_within, is_graphic}
-use Rattle.vt_parser.specs.Sequence.{is_intermediate, is_escape_final, is_control_text, is_control_final, begins_control, begins_string, params, held, control_meaning, most_params}
+use Rattle.vt_parser.specs.Sequence.{is_intermediate, is_escape_final, is_control_text, is_control_final, bracket, begins_control, begins_string, question_mark, greatest_param, params, held, control_meaning, most_params}
 use Rattle.vt_parser.specs.View.{parser_view}
 use Rattle.vt_parser.specs.Step.{command_of, pending_after, mode_after}
 use Rattle.vt_parser.specs.Fold.{Finishes}
@@ -27,7 +27,7 @@ IsProper (Show byte) = IsFrom 32 126 byte
 IsProper Error = Unit {0}
 IsProper (Control byte) = IsFrom 8 15 byte
 IsProper (Esc inter last) = MatchOption inter (Unit {0}) (IsFrom 32 47) × IsFrom 48 126 last
-IsProper (Csi private params last) = IsFrom 1 16 (length params.items) × All (λ param. param ≤ 9999) params.items × IsFrom 64 126 last
+IsProper (Csi private params last) = IsFrom 1 most_params (length params.items) × All (λ param. param ≤ greatest_param) params.items × IsFrom 64 126 last
 IsProper (Vt52 last) = IsFrom 32 126 last × (last ≢ 89)
 IsProper (Vt52Address line column) = IsFrom 1 95 line × IsFrom 1 95 column
 
@@ -130,13 +130,13 @@ DesignationsFinish =
 abbrev pub ControlsFinish : Type 0
 ControlsFinish =
     (text : List ℕ) (last : ℕ) → list_all is_control_text text ≡ true → is_control_final last ≡ true
-    → Finishes Ansi (escape ∷ 91 ∷ (text ++ last ∷ [])) (control_meaning text last)
+    → Finishes Ansi (escape ∷ bracket ∷ (text ++ last ∷ [])) (control_meaning text last)
 
 -- numbers that a text can hold as its parameters
 pub record AreParams (numbers : List ℕ) : Type 0 where
   pub some : 0 < length numbers
   pub few : length numbers ≤ most_params
-  pub small : All (λ number. number ≤ 9999) numbers
+  pub small : All (λ number. number ≤ greatest_param) numbers
 
 -- Numbers that are written in decimal are the parameters that are read.
 abbrev pub DecimalsAreRead : Type 0
@@ -146,9 +146,9 @@ DecimalsAreRead = (numbers : List ℕ) → AreParams numbers → params (params_
 abbrev pub WrittenControlsFinish : Type 0
 WrittenControlsFinish =
     (numbers : List ℕ) (last : ℕ) → AreParams numbers → is_control_final last ≡ true
-    → Finishes Ansi (escape ∷ 91 ∷ (params_text numbers ++ last ∷ [])) (Some (Csi false (held numbers) last))
+    → Finishes Ansi (escape ∷ bracket ∷ (params_text numbers ++ last ∷ [])) (Some (Csi false (held numbers) last))
 
 abbrev pub WrittenPrivatesFinish : Type 0
 WrittenPrivatesFinish =
     (numbers : List ℕ) (last : ℕ) → AreParams numbers → is_control_final last ≡ true
-    → Finishes Ansi (escape ∷ 91 ∷ 63 ∷ (params_text numbers ++ last ∷ [])) (Some (Csi true (held numbers) last))
+    → Finishes Ansi (escape ∷ bracket ∷ question_mark ∷ (params_text numbers ++ last ∷ [])) (Some (Csi true (held numbers) last))

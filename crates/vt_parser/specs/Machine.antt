@@ -13,7 +13,7 @@ use Rattle.vt_parser.specs.declared.controls.Action.TheVariants.{Ignore, Execute
 use Rattle.vt_parser.specs.declared.states.ParserState.{ParserState}
 use Rattle.vt_parser.specs.declared.states.ParserState.TheVariants.{Ground, Escape, EscapeOne, EscapeMany, CsiStart, Csi, CsiIgnored, Text, Vt52Escape, Vt52Line, Vt52Column}
 use Rattle.vt_parser.specs.Control.{action_of}
-use Rattle.vt_parser.specs.Sequence.{is_intermediate, is_control_final, begins_control, begins_string, begins_address, is_digit, is_semicolon, most_params, held, front, final}
+use Rattle.vt_parser.specs.Sequence.{is_intermediate, is_control_final, begins_control, begins_string, begins_address, is_digit, is_semicolon, question_mark, greatest_param, most_params, held, front, final}
 use Rattle.vt_parser.specs.Step.{control_of}
 
 -- where a state is
@@ -41,9 +41,9 @@ moves_to state = record { state = state; command = None }
 abbrev pub gives : Option Command → Step
 gives command = record { state = Ground; command = command }
 
--- a number with one more digit, at most 9,999
+-- a number with one more digit, at most the greatest parameter
 abbrev pub with_digit : ℕ → ℕ → ℕ
-with_digit value digit = min 9999 (10 * value + (digit - 48))
+with_digit value digit = min greatest_param (10 * value + (digit - 48))
 
 -- the list with one more digit in its last number
 abbrev pub with_last_digit : List ℕ → ℕ → List ℕ
@@ -75,7 +75,7 @@ control_joined private params over byte =
 -- the first byte of a text: `?` marks it, and any other joins as if it followed a parameter 0
 abbrev pub start_joined : ℕ → Step
 start_joined byte =
-    if byte == 63 then moves_to (Csi true (held (0 ∷ [])) false) else control_joined false (held (0 ∷ [])) false byte
+    if byte == question_mark then moves_to (Csi true (held (0 ∷ [])) false) else control_joined false (held (0 ∷ [])) false byte
 
 -- a byte that joins, 32 to 126
 unfoldable pub joined : ParserState → ℕ → Step

@@ -12,7 +12,7 @@ use Rattle.vt_parser.specs.declared.tokens.Token.{Token}
 use Rattle.vt_parser.specs.declared.tokens.Token.TheVariants as tokens
 use Rattle.vt_parser.specs.declared.states.ParserState.{ParserState}
 use Rattle.vt_parser.specs.declared.states.ParserState.TheVariants.{CsiStart, Csi as CsiState}
-use Rattle.vt_parser.specs.Sequence.{most_params, held}
+use Rattle.vt_parser.specs.Sequence.{question_mark, most_params, held}
 use Rattle.vt_parser.specs.Machine.{Step, moves_to, Runs}
 
 -- ---- states
@@ -40,8 +40,8 @@ collected text params = CsiState text.private (held (take (text.count - 1) param
 -- what stands before the first byte of a text, or behind it where that is `?`, and how many bytes that is
 abbrev pub IsStarted : ℕ → Collected × ℕ → Type 0
 IsStarted byte start =
-    let text : Collected = record { private = byte == 63; count = 1; last = 0; over = false } in
-    (start.0 ≡ text) × (start.1 ≡ (if byte == 63 then 1 else 0))
+    let text : Collected = record { private = byte == question_mark; count = 1; last = 0; over = false } in
+    (start.0 ≡ text) × (start.1 ≡ (if byte == question_mark then 1 else 0))
 
 -- ---- what the bytes come to
 

@@ -27,8 +27,11 @@ abbrev pub is_control_final : ℕ → Bool
 is_control_final byte = is_within 64 126 byte
 
 -- `[`, which makes ESC [ the control sequence introducer (ECMA-48 section 8.3.16)
+abbrev pub bracket : ℕ
+bracket = 91
+
 abbrev pub begins_control : ℕ → Bool
-begins_control byte = byte == 91
+begins_control byte = byte == bracket
 
 -- P, X, ], ^ and _, which open DCS, SOS, OSC, PM and APC (ECMA-48 section 5.6)
 abbrev pub begins_string : ℕ → Bool
@@ -122,15 +125,18 @@ is_digit byte = is_within 48 57 byte
 abbrev pub is_semicolon : ℕ → Bool
 is_semicolon byte = byte == 59
 
--- `?` at the head of a text makes the sequence a private one (ECMA-48 section 5.4.1, EK-VT100-UG chapter 3)
+-- `?`, which at the head of a text makes the sequence a private one (ECMA-48 section 5.4.1, EK-VT100-UG chapter 3)
+abbrev pub question_mark : ℕ
+question_mark = 63
+
 abbrev pub is_private : List ℕ → Bool
 is_private [] = false
-is_private (byte ∷ rest) = byte == 63
+is_private (byte ∷ rest) = byte == question_mark
 
 -- the text without that mark
 abbrev pub after_mark : List ℕ → List ℕ
 after_mark [] = []
-after_mark (byte ∷ rest) = if byte == 63 then rest else byte ∷ rest
+after_mark (byte ∷ rest) = if byte == question_mark then rest else byte ∷ rest
 
 -- a byte of which numbers and their parting are made
 abbrev pub is_plain : ℕ → Bool
@@ -144,9 +150,13 @@ is_well_formed text = list_all is_plain (after_mark text)
 abbrev pub decimal_value : List ℕ → ℕ
 decimal_value digits = fold (λ value digit. 10 * value + (digit - 48)) 0 digits
 
--- a parameter: its decimal value, at most 9,999 (profile)
+-- the greatest parameter (profile)
+abbrev pub greatest_param : ℕ
+greatest_param = 9999
+
+-- a parameter: its decimal value, at most the greatest (profile)
 abbrev pub parameter : List ℕ → ℕ
-parameter piece = min 9999 (decimal_value piece)
+parameter piece = min greatest_param (decimal_value piece)
 
 -- every parameter of a text without its mark
 unfoldable pub numbers : List ℕ → List ℕ

@@ -1,4 +1,5 @@
 //! What a parser is told and what it tells: modes and commands.
+use crate::limits::MOST_PARAMS;
 use arrayvec::ArrayVec;
 
 /// How sequences are read: as the VT100's ANSI mode or as its VT52 mode (EK-VT100-UG chapter 3).
@@ -25,7 +26,7 @@ pub enum Command {
     /// A control sequence: whether it began with `?`, its parameters (1 to 16 of them, each at most 9,999), and its final byte, 64 to 126.
     Csi {
         private: bool,
-        params: ArrayVec<u16, 16>,
+        params: ArrayVec<u16, MOST_PARAMS>,
         last: u8,
     },
     /// A sequence of VT52 mode by its final byte, 32 to 126 without `Y`.

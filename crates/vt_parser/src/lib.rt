@@ -14,6 +14,7 @@ ghost use Rattle.vt_parser.specs.Reading.{IsTokenOf};
 mod commands;
 mod controls;
 pub mod laws;
+pub mod limits;
 mod machine;
 mod runs;
 mod states;
@@ -22,6 +23,7 @@ mod tests;
 mod tokens;
 
 pub use commands::{Command, Mode};
+use limits::MOST_PARAMS;
 use machine::{Event, Reached};
 pub use runs::printable_run;
 pub use states::ParserState;
@@ -33,7 +35,7 @@ pub use tokens::Token;
 pub struct Parser {
     state: ParserState,
     // The parameters of the control sequence that is read; a finished one lends them from here.
-    params: [u16; 16],
+    params: [u16; MOST_PARAMS],
 }
 
 impl Model for Parser {
@@ -42,11 +44,12 @@ impl Model for Parser {
 
     ghost Value = { ParserState };
 
+    ghost use Rattle.vt_parser.specs.Sequence.{most_params};
     ghost use Rattle.vt_parser.specs.View.{IsShown};
 
     ghost view = { λ parser. parser.state };
 
-    ghost invariant = { λ parser. IsShown parser.state × (length parser.params ≡ 16) };
+    ghost invariant = { λ parser. IsShown parser.state × (length parser.params ≡ most_params) };
 }
 
 impl Parser {
@@ -61,7 +64,7 @@ impl Parser {
     {
         Parser {
             state: ParserState::Ground,
-            params: [0; 16],
+            params: [0; MOST_PARAMS],
         }
     }
 

@@ -2,21 +2,21 @@
 ghost use Rattle.std.specs.Prelude.{◌≡◌, ◌≢◌, ◌==◌, ℕ, ◌+◌, ◌-◌, ◌≤◌, ◌<◌, List, [], ◌∷◌, ◌++◌, length, take, slice_index, true, false, Some, None};
 ghost use Rattle.std.specs.List.{list_all, prefix_len};
 ghost use Rattle.vt_parser.specs.Control.{is_graphic};
-ghost use Rattle.vt_parser.specs.Sequence.{is_intermediate, is_control_final, begins_string, held, is_plain};
+ghost use Rattle.vt_parser.specs.Sequence.{bracket, is_intermediate, is_control_final, begins_string, held, is_plain};
 ghost use Rattle.vt_parser.specs.Step.{control_of};
 ghost use Rattle.vt_parser.specs.Machine.{context_in, with_digit, begun, moves_to, escape_joined, digit_joined, semicolon_joined, joined, stepped, Runs};
 ghost use Rattle.vt_parser.specs.Reading.{HasParams, IsCollecting, IsCounted, IsStarted, collected, event_command, event_step, reached_command, reached_step, IsLent, GoesOn};
 
 use crate::controls::{Action, Context, ESC, NUL, action_of};
+use crate::limits::{GREATEST_PARAM, MOST_PARAMS};
 use crate::states::copied;
 use crate::{Command, Mode, ParserState, printable_run};
 
 // What line and column of a direct cursor address have over their numbers.
 const ADDRESS_OFFSET: u8 = 31;
 
-const GREATEST_PARAM: u32 = 9_999;
-
-const MOST_PARAMS: usize = 16;
+// Where the parameters of a control sequence lie.
+type Params = [u16; MOST_PARAMS];
 
 /// What a byte comes to, but for a run and for a control sequence.
 #[derive(Clone, Copy)]
@@ -128,9 +128,9 @@ fn started(byte: u8) -> (Collected, usize)
 
 // What a state holds, its parameters put into the array.
 #[inline]
-fn resumed(private: bool, held: &[u16], over: bool, params: &mut [u16; 16]) -> Collected
+fn resumed(private: bool, held: &[u16], over: bool, params: &mut Params) -> Collected
     requires some { 0 < length held.now }
-    requires few { length held.now ≤ 16 }
+    requires few { length held.now ≤ MOST_PARAMS }
     ensures counted { IsCounted result }
     ensures value { collected result params.new ≡ ParserState.Csi private (record { items = held.now }) over }
 {
@@ -162,7 +162,7 @@ fn with_next_digit(text: Collected, digit: u8) -> Collected
 
 // A further parameter, where one more counts.
 #[inline]
-fn with_next_param(text: Collected, params: &mut [u16; 16]) -> Collected
+fn with_next_param(text: Collected, params: &mut Params) -> Collected
     requires { IsCounted text }
     ensures counted { IsCounted result }
     ensures value { collected result params.new
@@ -181,7 +181,7 @@ fn with_next_param(text: Collected, params: &mut [u16; 16]) -> Collected
 
 // Reads digits and `;` from `from` on, and says where they end.
 #[inline]
-fn collect(text: Collected, params: &mut [u16; 16], bytes: &[u8], from: usize) -> (usize, Collected)
+fn collect(text: Collected, params: &mut Params, bytes: &[u8], from: usize) -> (usize, Collected)
     requires counted { IsCounted text }
     requires within { from ≤ length bytes.now }
     ensures counted { IsCounted result.1 }
@@ -206,7 +206,7 @@ fn collect(text: Collected, params: &mut [u16; 16], bytes: &[u8], from: usize) -
 
 // The final byte of a control sequence.
 #[inline]
-fn finish(state: &mut ParserState, params: &mut [u16; 16], text: Collected, last: u8) -> Reached
+fn finish(state: &mut ParserState, params: &mut Params, text: Collected, last: u8) -> Reached
     requires { IsCounted text }
     ensures state { state.new ≡ ParserState.Ground }
     ensures lent { IsLent result }
@@ -223,7 +223,7 @@ fn finish(state: &mut ParserState, params: &mut [u16; 16], text: Collected, last
 }
 
 // The bytes end inside the text, or a byte comes that doesn't belong to it.
-fn suspend(state: &mut ParserState, params: &mut [u16; 16], text: Collected)
+fn suspend(state: &mut ParserState, params: &mut Params, text: Collected)
     requires { IsCounted text }
     ensures { state.new ≡ collected text params.old }
 {
@@ -239,7 +239,7 @@ fn suspend(state: &mut ParserState, params: &mut [u16; 16], text: Collected)
 #[inline]
 fn read_text(
     state: &mut ParserState,
-    params: &mut [u16; 16],
+    params: &mut Params,
     text: Collected,
     bytes: &[u8],
     from: usize,
@@ -273,7 +273,7 @@ fn read_text(
 
 // Reads the text of a control sequence from its first byte on.
 #[inline]
-fn read_first(state: &mut ParserState, params: &mut [u16; 16], bytes: &[u8]) -> (usize, Reached)
+fn read_first(state: &mut ParserState, params: &mut Params, bytes: &[u8]) -> (usize, Reached)
     requires some { 0 < length bytes.now }
     requires graphic { is_graphic (slice_index bytes.now 0) ≡ true }
     ensures some { 0 < result.0 }
@@ -288,10 +288,10 @@ fn read_first(state: &mut ParserState, params: &mut [u16; 16], bytes: &[u8]) -> 
 
 // ESC `[` in ANSI mode, and what follows of its text.
 #[inline]
-fn read_control(state: &mut ParserState, params: &mut [u16; 16], bytes: &[u8]) -> (usize, Reached)
+fn read_control(state: &mut ParserState, params: &mut Params, bytes: &[u8]) -> (usize, Reached)
     requires long { 1 < length bytes.now }
-    requires escape { slice_index bytes.now 0 ≡ 27 }
-    requires bracket { slice_index bytes.now 1 ≡ 91 }
+    requires escape { slice_index bytes.now 0 ≡ ESC }
+    requires bracket { slice_index bytes.now 1 ≡ bracket }
     ensures some { 0 < result.0 }
     ensures within { result.0 ≤ length bytes.now }
     ensures lent { IsLent result.1 }
@@ -377,7 +377,7 @@ fn join(state: &mut ParserState, byte: u8) -> Option<Event>
 
 // Bytes of which the first is a graphic character, where it isn't shown.
 #[inline]
-fn read_graphic(state: &mut ParserState, params: &mut [u16; 16], bytes: &[u8]) -> (usize, Reached)
+fn read_graphic(state: &mut ParserState, params: &mut Params, bytes: &[u8]) -> (usize, Reached)
     requires some { 0 < length bytes.now }
     requires graphic { is_graphic (slice_index bytes.now 0) ≡ true }
     requires params { HasParams state.old }
@@ -436,7 +436,7 @@ fn nul_run(bytes: &[u8]) -> usize
 #[inline]
 pub(crate) fn read(
     state: &mut ParserState,
-    params: &mut [u16; 16],
+    params: &mut Params,
     mode: Mode,
     bytes: &[u8],
 ) -> (usize, Reached)
@@ -445,7 +445,7 @@ pub(crate) fn read(
     requires off { is_graphic (slice_index bytes.now 0) ≡ true → state.old ≢ ParserState.Ground }
     ensures some { 0 < result.0 }
     ensures within { result.0 ≤ length bytes.now }
-    ensures long { length params.new ≡ 16 }
+    ensures long { length params.new ≡ MOST_PARAMS }
     ensures lent { IsLent result.1 }
     ensures runs { Runs state.old mode (take result.0 bytes.now) (reached_step result.1 params.new state.new) }
 {
@@ -460,7 +460,7 @@ pub(crate) fn read(
 // ESC `[` in ANSI mode.
 #[inline]
 fn opens_control(mode: Mode, bytes: &[u8]) -> bool
-    ensures { result ≡ true → (mode ≡ Mode.Ansi) × (1 < length bytes.now) × (slice_index bytes.now 1 ≡ 91) }
+    ensures { result ≡ true → (mode ≡ Mode.Ansi) × (1 < length bytes.now) × (slice_index bytes.now 1 ≡ bracket) }
 {
     mode == Mode::Ansi && bytes.len() > 1 && bytes[1] == b'['
 }

@@ -1,6 +1,7 @@
 //! What a parser shows of an unfinished sequence.
 ghost use Rattle.std.specs.Prelude.{◌≡◌, ◌≤◌, length};
 
+use crate::limits::MOST_PARAMS;
 use arrayvec::ArrayVec;
 
 /// How far the pending sequence has come.
@@ -19,7 +20,7 @@ pub enum ParserState {
     /// ESC, `[` and a well formed text: whether it begins with `?`, the first 16 parameters, each at most 9,999, and whether there are more than 16.
     Csi {
         private: bool,
-        params: ArrayVec<u16, 16>,
+        params: ArrayVec<u16, MOST_PARAMS>,
         over: bool,
     },
     /// ESC, `[` and a text that isn't well formed, which will have no effect.
@@ -35,8 +36,8 @@ pub enum ParserState {
 }
 
 /// A list of the same parameters.
-pub(crate) fn copied(params: &[u16]) -> ArrayVec<u16, 16>
-    requires { length params.now ≤ 16 }
+pub(crate) fn copied(params: &[u16]) -> ArrayVec<u16, MOST_PARAMS>
+    requires { length params.now ≤ MOST_PARAMS }
     ensures { result.items ≡ params.now }
 {
     let mut copy = ArrayVec::new();
