@@ -5,13 +5,13 @@ use Rattle.std.proofs.lemmas.List.{length-append, take-append-drop}
 use Rattle.vt_term.specs.Term.{Term, play, sent}
 use Rattle.vt_term.specs.Sink.{Sink, after_sending, HasRoom, KeepsFront}
 use Rattle.vt_term.proofs.Sinks.{after_sending-append, keeps_length}
-use Rattle.vt_term.proofs.Steps.{play-append, sent-append}
+use Rattle.vt_term.proofs.Steps.{plays_in_parts, sends_in_parts}
 
 pub play_on : (x : Term) (bytes : List ℕ) (at n : ℕ) → play x (take (at + n) bytes) ≡ play (play x (take at bytes)) (take n (drop at bytes))
-play_on x bytes at n = ap (play x) (take-add at n bytes) ∙ play-append x (take at bytes) (take n (drop at bytes))
+play_on x bytes at n = ap (play x) (take-add at n bytes) ∙ plays_in_parts x (take at bytes) (take n (drop at bytes))
 
 sent_on : (x : Term) (bytes : List ℕ) (at n : ℕ) → sent x (take (at + n) bytes) ≡ sent x (take at bytes) ++ sent (play x (take at bytes)) (take n (drop at bytes))
-sent_on x bytes at n = ap (sent x) (take-add at n bytes) ∙ sent-append x (take at bytes) (take n (drop at bytes))
+sent_on x bytes at n = ap (sent x) (take-add at n bytes) ∙ sends_in_parts x (take at bytes) (take n (drop at bytes))
 
 -- the sink after a few more bytes
 pub sink_on : (x : Term) (bytes : List ℕ) (at n : ℕ) (first then_ now_ : Sink)
@@ -28,7 +28,7 @@ sink_on x bytes at n first then_ now_ before after =
 length-sent : (x : Term) (at : ℕ) (bytes : List ℕ) → length (sent x bytes) ≡ length (sent x (take at bytes)) + length (sent (play x (take at bytes)) (drop at bytes))
 length-sent x at bytes =
     ap (λ (l : List ℕ). length (sent x l)) (sym (take-append-drop at bytes))
-    ∙ ap length (sent-append x (take at bytes) (drop at bytes))
+    ∙ ap length (sends_in_parts x (take at bytes) (drop at bytes))
     ∙ length-append (sent x (take at bytes)) (sent (play x (take at bytes)) (drop at bytes))
 
 -- room for all is room for what a front of the bytes is answered by ..

@@ -16,7 +16,7 @@ use Rattle.vt_term.specs.Console.{Console}
 use Rattle.vt_term.specs.Effect.{effect, reply, glyph_shown, glyph_for}
 use Rattle.vt_term.specs.Term.{Term, play, sent}
 use Rattle.vt_term.specs.Printing.{on_ground, Brings, NothingBrings, PartsBring, CharactersBring, ControlsBring, SequencesAct, EscapesBring, DesignationsBring, ControlSequencesBring, PrivateSequencesBring}
-use Rattle.vt_term.proofs.Steps.{played, play-append, sent-append}
+use Rattle.vt_term.proofs.Steps.{played, plays_in_parts, sends_in_parts}
 
 pub nothing_brings : NothingBrings
 unfolding play sent
@@ -25,11 +25,11 @@ nothing_brings s = record { played = λ reports. refl; silent = λ reports. refl
 pub parts_bring : PartsBring
 parts_bring s t u first second before after = record {
   played = λ reports.
-      play-append (on_ground s reports) first second
+      plays_in_parts (on_ground s reports) first second
       ∙ ap (λ (x : Term). play x second) (before.played reports)
       ∙ after.played reports;
   silent = λ reports.
-      sent-append (on_ground s reports) first second
+      sends_in_parts (on_ground s reports) first second
       ∙ ap (λ (l : List ℕ). l ++ sent (play (on_ground s reports) first) second) (before.silent reports)
       ∙ ap (λ (x : Term). sent x second) (before.played reports)
       ∙ after.silent reports;

@@ -55,21 +55,21 @@ mode_shown seen x shows = ap (λ (s : Console). s.modes.mode) shows.console
 
 -- ---- many bytes
 
-pub play-append : PlaysInParts
+pub plays_in_parts : PlaysInParts
 unfolding play
-play-append x first second = fold-append step x first second
+plays_in_parts x first second = fold-append step x first second
 
-pub sent-append : SendsInParts
+pub sends_in_parts : SendsInParts
 unfolding play sent
-sent-append x [] second = refl
-sent-append x (byte ∷ first) second =
-    ap (λ (l : List ℕ). answered x byte ++ l) (sent-append (step x byte) first second)
+sends_in_parts x [] second = refl
+sends_in_parts x (byte ∷ first) second =
+    ap (λ (l : List ℕ). answered x byte ++ l) (sends_in_parts (step x byte) first second)
     ∙ sym (append_assoc (answered x byte) (sent (step x byte) first) (sent (play (step x byte) first) second))
 
-pub sent_appended : SentIsAppended
+pub sent_is_appended : SentIsAppended
 unfolding play sent
-sent_appended x [] = sym (append-nil x.reports)
-sent_appended x (byte ∷ bytes) = sent_appended (step x byte) bytes ∙ append_assoc x.reports (answered x byte) (sent (step x byte) bytes)
+sent_is_appended x [] = sym (append-nil x.reports)
+sent_is_appended x (byte ∷ bytes) = sent_is_appended (step x byte) bytes ∙ append_assoc x.reports (answered x byte) (sent (step x byte) bytes)
 
 -- a term by its parts
 abbrev pub term : Console → List ℕ → List ℕ → Term

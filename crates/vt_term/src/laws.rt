@@ -16,16 +16,19 @@ use vt_parser::laws::{
 use vt_screen::limits::{LAST_GLYPH, LINES};
 
 /// Joined texts are played as their parts in turn, wherever the cut is.
+#[tactic(auto, using(crate::proofs::Steps::plays_in_parts))]
 pub fn plays_in_parts()
     ensures { PlaysInParts }
 {}
 
 /// Joined texts are answered as their parts in turn.
+#[tactic(auto, using(crate::proofs::Steps::sends_in_parts))]
 pub fn sends_in_parts()
     ensures { SendsInParts }
 {}
 
 /// What is sent is what playing appends to the reports.
+#[tactic(auto, using(crate::proofs::Steps::sent_is_appended))]
 pub fn sent_is_appended()
     ensures { SentIsAppended }
 {}
@@ -80,6 +83,7 @@ pub fn characters_bring()
 }
 
 /// Outside insert mode they take the place of what stands there.
+#[tactic(auto, using(crate::proofs::Runs::glyphs_are_written))]
 pub fn glyphs_are_written()
     ensures { GlyphsAreWritten }
 {}

@@ -13,10 +13,7 @@ returns c =
       reset = c.reset_is_sound.ensures.sound;
       margin = c.right_margins.ensures.high;
       show = λ glyph rendition autowrap high. record { sound = shows.show glyph rendition autowrap high; inside = stays.show glyph rendition autowrap };
-      show_inserting = λ glyph rendition autowrap high. record {
-        sound = edits.show_inserting glyph rendition autowrap high;
-        inside = edits.show_inserting_inside glyph rendition autowrap;
-      };
+      show_inserting = λ glyph rendition autowrap high. record { sound = edits.show_inserting glyph rendition autowrap high; inside = edits.show_inserting_inside glyph rendition autowrap };
       insert_lines = λ n. record { sound = edits.insert_lines n; inside = edits.insert_lines_inside n };
       delete_lines = λ n. record { sound = edits.delete_lines n; inside = edits.delete_lines_inside n };
       delete_cells = λ n. record { sound = edits.delete_cells n; inside = edits.delete_cells_inside n };
