@@ -15,7 +15,7 @@ use Rattle.vt_parser.specs.Step.{context_of, command_by, pending_by, command_of,
 use Rattle.vt_parser.specs.Law.{StateDecides, StaysShown, GroundIsEmpty}
 use Rattle.vt_parser.specs.Machine.{context_in, begun, stepped_by, stepped}
 use Rattle.vt_parser.proofs.Table.{fits, fit}
-use Rattle.vt_parser.proofs.Shapes.{shows_none, Form, nothing, escaped, controlled, stringed, lone, addressed, lined, form}
+use Rattle.vt_parser.proofs.Shapes.{shows_none, Form, nothing, escaped, controlled, stringed, form}
 use Rattle.vt_parser.proofs.Joins.{is_whole_push, meaning_push, joins_alike}
 
 -- ---- where bytes come
@@ -23,16 +23,10 @@ use Rattle.vt_parser.proofs.Joins.{is_whole_push, meaning_push, joins_alike}
 context_of_form : (mode : Mode) (pending : List ℕ) (state : ParserState) → Form mode pending state → context_of mode pending ≡ context_in state
 unfolding context_of
 context_of_form _ _ _ (nothing Ansi) = refl
-context_of_form _ _ _ (nothing Vt52) = refl
-context_of_form _ _ _ (escaped [] all) = refl
 context_of_form _ _ _ (escaped (inter ∷ []) all) = grind (arith, nat_tests)
-context_of_form _ _ _ (escaped (inter ∷ third ∷ rest) all) = refl
-context_of_form _ _ _ (controlled [] all) = refl
 context_of_form _ _ _ (controlled (first ∷ rest) all) = grind (arith, nat_tests)
 context_of_form _ _ _ (stringed opening is) = grind (arith, nat_tests)
-context_of_form _ _ _ lone = refl
-context_of_form _ _ _ addressed = refl
-context_of_form _ _ _ (lined line is) = refl
+context_of_form _ _ _ _ = refl
 
 pub same_context : (mode : Mode) (pending : List ℕ) (state : ParserState) → parser_view mode pending ≡ Some state → context_of mode pending ≡ context_in state
 same_context mode pending state shown = context_of_form mode pending state (form mode pending state shown)

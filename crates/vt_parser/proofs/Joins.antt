@@ -15,7 +15,7 @@ use Rattle.vt_parser.specs.Sequence.{front, final, is_intermediate, is_control_t
 use Rattle.vt_parser.specs.View.{control_view, parser_view}
 use Rattle.vt_parser.specs.Machine.{context_in, joined}
 use Rattle.vt_parser.proofs.Control.{control_joins}
-use Rattle.vt_parser.proofs.Shapes.{Form, nothing, escaped, controlled, stringed, lone, addressed, lined}
+use Rattle.vt_parser.proofs.Shapes.{Form, nothing, escaped, controlled, stringed, lined}
 use Rattle.vt_parser.proofs.Table.{is_sequence}
 
 -- ---- the last byte apart
@@ -67,13 +67,11 @@ pub joins_alike : (mode : Mode) (pending : List ℕ) (state : ParserState) → F
     → is_graphic byte ≡ true → is_sequence (context_in state) ≡ true → JoinAgrees mode pending byte state
 unfolding parser_view joined
 joins_alike _ _ _ (nothing mode) byte graphic inside = absurd (false≢true inside)
-joins_alike _ _ _ (escaped [] all) byte graphic inside = record { command = grind (arith, nat_tests); view = grind (arith, nat_tests) }
 joins_alike _ _ _ (escaped (inter ∷ []) all) byte graphic inside = record { command = grind (arith, nat_tests); view = grind (arith, nat_tests) }
 joins_alike _ _ _ (escaped (inter ∷ third ∷ rest) all) byte graphic inside =
     let pushed = list_all-append is_intermediate rest (byte ∷ []) in
     record { command = grind (arith, nat_tests); view = grind (arith, nat_tests, pushed) }
 joins_alike _ _ _ (controlled text all) byte graphic inside = join_control text byte all graphic
 joins_alike _ _ _ (stringed opening is) byte graphic inside = absurd (false≢true inside)
-joins_alike _ _ _ lone byte graphic inside = record { command = grind (arith, nat_tests); view = grind (arith, nat_tests) }
-joins_alike _ _ _ addressed byte graphic inside = record { command = grind (arith, nat_tests); view = grind (arith, nat_tests) }
 joins_alike _ _ _ (lined line is) byte graphic inside = record { command = grind (arith, nat_tests); view = grind (arith, nat_tests) }
+joins_alike _ _ _ _ byte graphic inside = record { command = grind (arith, nat_tests); view = grind (arith, nat_tests) }

@@ -1,8 +1,9 @@
 -- Runs of graphic characters, seen 32 lanes at a time through the mask of the other bytes.
-use Rattle.std.proofs.Common.{◌≡◌, ℕ, ◌+◌, ◌-◌, ◌*◌, ◌%◌, ◌^◌, ◌<◌, ◌≤◌, Bool, true, false, not, cond, eqb, leb, List, [], ◌∷◌, map, length, drop, refl, sym, ap, ap₂, ◌∙◌, arith, w8, Fits}
+use Rattle.std.proofs.Common.{◌≡◌, ℕ, ◌+◌, ◌-◌, ◌%◌, ◌^◌, ◌<◌, ◌≤◌, Bool, not, cond, eqb, leb, List, [], ◌∷◌, map, length, drop, refl, sym, ap, ap₂, ◌∙◌, arith, w8, Fits}
 use Rattle.std.specs.Prelude.{replicate}
 use Rattle.std.specs.List.{prefix_len}
 use Rattle.std.proofs.lemmas.Bool.{agree_below_at, eq-eqb, ne_eqb}
+use Rattle.std.proofs.lemmas.Bool.Decides.{nat_tests}
 use Rattle.std.proofs.lemmas.Simd.{zip2_splat, zip2_splat_left, map-map, mask_l-mod, chunk-drop, length-chunk, leading_from_mask_l, trailing_mask_l}
 use Rattle.std.proofs.lemmas.List.{length-map, length-drop}
 use Rattle.std.proofs.lemmas.List.Folds.{prefix_len-append}
@@ -47,20 +48,11 @@ run_bound bytes from within = omega (arith, prefix_len-le-length is_graphic (dro
 
 same_run : (bytes : List ℕ) → prefix_len is_graphic bytes ≡ prefix_len (λ byte. not (is_other byte)) bytes
 same_run [] = refl
-same_run (byte ∷ rest) = ap₂ (λ b n. cond b (1 + n) 0) (twice (is_graphic byte)) (same_run rest)
-  where
-    twice : (b : Bool) → b ≡ not (not b)
-    twice true = refl
-    twice false = refl
-
-none_other : (b : Bool) (n len mask : ℕ) → n ≤ len → cond (not b) (1 + n) 0 ≡ 1 + len → (n ≡ len → mask ≡ 0) → cond b 1 0 + 2 * mask ≡ 0
-none_other true n len mask le is rest = let no : ⊥ = omega arith in absurd no
-none_other false n len mask le is rest = let zero_rest = rest (omega arith) in omega arith
+same_run (byte ∷ rest) = grind (arith, nat_tests, same_run rest)
 
 all_graphic : (bytes : List ℕ) → prefix_len (λ byte. not (is_other byte)) bytes ≡ length bytes → mask_l (map is_other bytes) ≡ 0
 all_graphic [] is = refl
-all_graphic (byte ∷ rest) is =
-    none_other (is_other byte) _ (length rest) _ (prefix_len-le-length (λ other. not (is_other other)) rest) (omega arith) (all_graphic rest)
+all_graphic (byte ∷ rest) is = grind (arith, nat_tests, all_graphic rest, prefix_len-le-length (λ other. not (is_other other)) rest)
 
 split : (bytes : List ℕ) (from n : ℕ) → prefix_len is_graphic (drop from bytes)
     ≡ cond (eqb (prefix_len is_graphic (chunk from n bytes)) (length (chunk from n bytes))) (length (chunk from n bytes) + prefix_len is_graphic (drop (from + n) bytes)) (prefix_len is_graphic (chunk from n bytes))

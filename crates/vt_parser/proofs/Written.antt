@@ -1,6 +1,6 @@
 -- Parameters that were written in decimal are read back.
-use Rattle.std.proofs.Common.{◌≡◌, ℕ, ◌+◌, ◌-◌, ◌*◌, ◌/◌, ◌%◌, ◌^◌, ◌<◌, ◌≤◌, Bool, true, false, List, [], ◌∷◌, ◌++◌, length, map, take, refl, ap, ap₂, ◌∙◌, subst, arith}
-use Rattle.std.specs.Prelude.{All, Option, Some, decimal}
+use Rattle.std.proofs.Common.{◌≡◌, ℕ, ◌+◌, ◌-◌, ◌*◌, ◌/◌, ◌%◌, ◌^◌, ◌<◌, ◌≤◌, Bool, true, false, List, [], ◌∷◌, ◌++◌, map, take, refl, ap, ap₂, ◌∙◌, subst, arith}
+use Rattle.std.specs.Prelude.{All, Some, decimal}
 use Rattle.std.specs.List.{list_all, AllByRecursion}
 use Rattle.std.proofs.lemmas.Bool.Decides.{nat_tests}
 use Rattle.std.proofs.lemmas.Fmt.{decimal_by_steps}
@@ -10,13 +10,12 @@ use Rattle.std.proofs.lemmas.List.Folds.{list_all-append}
 use Rattle.std.proofs.lemmas.List.Splits.{slice_split_none, slice_split_at}
 use Rattle.std.proofs.lemmas.List.Sums.{fold-append, AllPass-from_list_all}
 use Rattle.vt_parser.specs.declared.commands.Mode.TheVariants.{Ansi}
-use Rattle.vt_parser.specs.declared.commands.Command.{Command}
 use Rattle.vt_parser.specs.declared.commands.Command.TheVariants.{Csi}
 use Rattle.vt_parser.specs.Control.{escape}
-use Rattle.vt_parser.specs.Sequence.{is_digit, is_semicolon, is_plain, is_private, after_mark, is_control_text, decimal_value, parameter, numbers, params, held, control_meaning}
+use Rattle.vt_parser.specs.Sequence.{most_params, is_digit, is_semicolon, is_plain, is_private, after_mark, is_control_text, decimal_value, parameter, numbers, held, control_meaning}
 use Rattle.vt_parser.specs.Decimals.{params_text}
 use Rattle.vt_parser.specs.Fold.{Finishes}
-use Rattle.vt_parser.specs.Law.{DecimalsAreRead, WrittenControlsFinish, WrittenPrivatesFinish}
+use Rattle.vt_parser.specs.Law.{AreParams, DecimalsAreRead, WrittenControlsFinish, WrittenPrivatesFinish}
 use Rattle.vt_parser.proofs.Whole.{control_finishes}
 
 -- a test that follows from another one, of each item
@@ -88,40 +87,33 @@ unmarked : (text : List ℕ) → list_all is_plain text ≡ true → (is_private
 unmarked [] all = (refl, refl)
 unmarked (byte ∷ rest) all = (grind (arith, nat_tests), grind (arith, nat_tests))
 
-pub params-text : (first : ℕ) (rest : List ℕ) → length (first ∷ rest) ≤ 16 → Small (first ∷ rest) → params (params_text (first ∷ rest)) ≡ first ∷ rest
-params-text first rest few small = ap (take 16) (numbers-text first rest small) ∙ take_all 16 (first ∷ rest) few
-
-pub meaning-text : (first : ℕ) (rest : List ℕ) (last : ℕ) → length (first ∷ rest) ≤ 16 → Small (first ∷ rest)
-    → (control_meaning (params_text (first ∷ rest)) last ≡ Some (Csi false (held (first ∷ rest)) last))
-    × (control_meaning (63 ∷ params_text (first ∷ rest)) last ≡ Some (Csi true (held (first ∷ rest)) last))
-meaning-text first rest last few small =
-    let plain = text_plain (first ∷ rest) small in
-    let bare = unmarked (params_text (first ∷ rest)) plain in
-    let no_mark = bare.0 in
-    let whole = bare.1 in
-    let read = params-text first rest few small in
-    (simp (no_mark, whole, plain, read), simp (plain, read))
-
-pub text_joins : (numbers : List ℕ) → Small numbers → list_all is_control_text (params_text numbers) ≡ true
-text_joins numbers small = list_all_weaker is_plain is_control_text (params_text numbers) (λ byte is. grind (arith, nat_tests)) (text_plain numbers small)
-
 -- ---- the laws
 
 pub decimals_are_read : DecimalsAreRead
-decimals_are_read [] are = let no : ⊥ = omega (arith, are.some) in absurd no
-decimals_are_read (first ∷ rest) are = params-text first rest are.few (recursion_from_All _ (first ∷ rest) are.small)
+decimals_are_read [] are = absurd (omega (arith, are.some))
+decimals_are_read (first ∷ rest) are =
+    ap (take most_params) (numbers-text first rest (recursion_from_All _ (first ∷ rest) are.small)) ∙ take_all most_params (first ∷ rest) are.few
+
+text_of : (numbers : List ℕ) → AreParams numbers → list_all is_plain (params_text numbers) ≡ true
+text_of numbers are = text_plain numbers (recursion_from_All _ numbers are.small)
+
+text_joins : (text : List ℕ) → list_all is_plain text ≡ true → list_all is_control_text text ≡ true
+text_joins text plain = list_all_weaker is_plain is_control_text text (λ byte is. grind (arith, nat_tests)) plain
 
 pub written_controls_finish : WrittenControlsFinish
-written_controls_finish [] last are is = let no : ⊥ = omega (arith, are.some) in absurd no
-written_controls_finish (first ∷ rest) last are is =
-    let small = recursion_from_All _ (first ∷ rest) are.small in
-    let P : Option Command → Type 0 = λ command. Finishes Ansi (escape ∷ 91 ∷ (params_text (first ∷ rest) ++ last ∷ [])) command in
-    subst P (meaning-text first rest last are.few small).0 (control_finishes (params_text (first ∷ rest)) last (text_joins (first ∷ rest) small) is)
+written_controls_finish numbers last are is =
+    let plain = text_of numbers are in
+    let bare = unmarked (params_text numbers) plain in
+    let no_mark = bare.0 in
+    let whole = bare.1 in
+    let read = decimals_are_read numbers are in
+    let means : control_meaning (params_text numbers) last ≡ Some (Csi false (held numbers) last) = simp (no_mark, whole, plain, read) in
+    subst (Finishes Ansi (escape ∷ 91 ∷ (params_text numbers ++ last ∷ []))) means (control_finishes (params_text numbers) last (text_joins (params_text numbers) plain) is)
 
 pub written_privates_finish : WrittenPrivatesFinish
-written_privates_finish [] last are is = let no : ⊥ = omega (arith, are.some) in absurd no
-written_privates_finish (first ∷ rest) last are is =
-    let small = recursion_from_All _ (first ∷ rest) are.small in
-    let joins = text_joins (first ∷ rest) small in
-    let P : Option Command → Type 0 = λ command. Finishes Ansi (escape ∷ 91 ∷ 63 ∷ (params_text (first ∷ rest) ++ last ∷ [])) command in
-    subst P (meaning-text first rest last are.few small).1 (control_finishes (63 ∷ params_text (first ∷ rest)) last (simp joins) is)
+written_privates_finish numbers last are is =
+    let plain = text_of numbers are in
+    let read = decimals_are_read numbers are in
+    let joins = text_joins (params_text numbers) plain in
+    let means : control_meaning (63 ∷ params_text numbers) last ≡ Some (Csi true (held numbers) last) = simp (plain, read) in
+    subst (Finishes Ansi (escape ∷ 91 ∷ 63 ∷ (params_text numbers ++ last ∷ []))) means (control_finishes (63 ∷ params_text numbers) last (simp joins) is)
