@@ -663,7 +663,7 @@ fn first_tabs() -> [bool; WIDE_COLUMNS as usize]
     ensures { result ≡ first_tabs }
 {
     let mut tabs = [false; WIDE_COLUMNS as usize];
-    for column in 2..133 {
+    for column in 2..WIDE_COLUMNS as usize + 1 {
         tabs[column - 1] = column % 8 == 1;
     }
     tabs
