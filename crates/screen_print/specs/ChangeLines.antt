@@ -9,15 +9,16 @@ use Rattle.tape_seek.specs.Moments.{up_to}
 use Rattle.vt_screen.specs.declared.cell.Row.{Row}
 use Rattle.vt_term.specs.declared.profile.Profile.{Profile}
 use Rattle.vt_screen.specs.Cells.{row_at}
+use Rattle.vt_screen.specs.Limits.{line_count}
 use Rattle.screen_print.specs.SameRows.{same_row}
 
 -- whether the size or the cells of a line differ
 abbrev pub is_changed : List Row → List Row → ℕ → Bool
 is_changed before after line = not (same_row (row_at before line) (row_at after line))
 
--- the lines that differ, of the 24 from line 1 on
+-- the lines that differ, of all from line 1 on
 unfoldable pub changed_lines : List Row → List Row → List ℕ
-changed_lines before after = filter (is_changed before after) (range_with_len 1 24)
+changed_lines before after = filter (is_changed before after) (range_with_len 1 line_count)
 
 -- the rows of a profile's screen after so many chunks
 abbrev pub rows_after : Profile → Tape → ℕ → List Row

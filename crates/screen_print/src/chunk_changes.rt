@@ -10,7 +10,7 @@ ghost use Rattle.tape_seek.specs.State.{KeepsHistory, Leaves};
 ghost use Rattle.screen_print.specs.ChangeLines.{change_line, change_lines, changed_lines, chunk_line, rows_after, spaced_number};
 ghost use Rattle.screen_print.specs.Stops.{OnlySeeks, StopsChanges, first_asked};
 
-use crate::changed_lines::{rows_of, take_changes};
+use crate::changed_lines::{ROWS, rows_of, take_changes};
 use arrayvec::ArrayVec;
 use itoa::Buffer;
 use std::io::Write;
@@ -131,7 +131,7 @@ fn put_changes<W: Write>(
 }
 
 /// The rows of the screen after so many chunks.
-fn rows_at(session: &mut Session, count: usize) -> Result<[Row; 24], OutOfMemory>
+fn rows_at(session: &mut Session, count: usize) -> Result<[Row; ROWS], OutOfMemory>
     requires { count ≤ length session.old.recording.chunks }
     ensures state { Leaves result count session.old session.new }
     ensures history { KeepsHistory session.old session.new }
@@ -146,8 +146,8 @@ fn rows_at(session: &mut Session, count: usize) -> Result<[Row; 24], OutOfMemory
 fn changes_at(
     session: &mut Session,
     count: usize,
-    rows: &mut [Row; 24],
-) -> Result<ArrayVec<u8, 24>, OutOfMemory>
+    rows: &mut [Row; ROWS],
+) -> Result<ArrayVec<u8, ROWS>, OutOfMemory>
     requires { count ≤ length session.old.recording.chunks }
     ensures state { Leaves result count session.old session.new }
     ensures history { KeepsHistory session.old session.new }

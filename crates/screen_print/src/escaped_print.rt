@@ -34,6 +34,7 @@ use std::io::Write;
 use tape_core::laws::writers_join;
 use tape_core::{Fault, Watched};
 use vt_screen::laws::screens_are_sound;
+use vt_screen::limits::{LINES, WIDE_COLUMNS};
 use vt_screen::{Cell, Rendition, Row, Screen, Size};
 use vt_term::{Slot, Terminal};
 
@@ -87,7 +88,7 @@ fn put_lines<W: Write>(screen: &Screen, writer: &mut Watched<W>) -> Result<(), F
     writers_join::<W>();
     screens_are_sound(screen);
     let mut pen = Pen::first();
-    for line in 1..25 {
+    for line in 1..LINES + 1 {
         writer.put(line_text(line, screen.row(line), &mut pen).as_slice())?;
     }
     Ok(())
@@ -98,7 +99,11 @@ fn opening_text(terminal: &Terminal) -> ArrayVec<u8, LINE_BYTES>
     ensures { result.items ≡ opening_text terminal.now.console }
 {
     let mut text = ArrayVec::new();
-    push_bytes_where(&mut text, terminal.screen().columns() == 132, b"\x1b[?3h");
+    push_bytes_where(
+        &mut text,
+        terminal.screen().columns() == WIDE_COLUMNS,
+        b"\x1b[?3h",
+    );
     push_bytes_where(&mut text, terminal.modes().reverse_screen, b"\x1b[?5h");
     push_bytes(&mut text, b"\x1b[?7l\x1b)0");
     text
@@ -117,8 +122,8 @@ fn closing_text(screen: &Screen) -> ArrayVec<u8, LINE_BYTES>
 
 /// A line, and what is in force after it.
 fn line_text(line: u8, row: &Row, pen: &mut Pen) -> ArrayVec<u8, LINE_BYTES>
-    requires high { line ≤ 24 }
-    requires whole { length row.now.cells ≡ 132 }
+    requires high { line ≤ LINES }
+    requires whole { length row.now.cells ≡ WIDE_COLUMNS }
     ensures text { result.items ≡ line_text pen.old line row.now }
     ensures pen { pen.new ≡ pen_after_line pen.old row.now }
 {

@@ -11,6 +11,7 @@ use arrayvec::ArrayString;
 use std::io::Write;
 use tape_core::laws::{pieces_join, writers_join};
 use tape_core::{Fault, Watched};
+use vt_screen::limits::LINES;
 use vt_screen::{Cell, Row, Screen};
 use vt_term::Terminal;
 
@@ -29,7 +30,7 @@ pub fn plain<W: Write>(terminal: &Terminal, writer: &mut Watched<W>) -> Result<(
     pieces_join::<W, Row>();
     writers_join::<W>();
     let screen = terminal.screen();
-    for line in 1..25 {
+    for line in 1..LINES + 1 {
         let text = line_text(screen, line);
         writer.put(text.as_str().as_bytes())?;
     }
@@ -40,7 +41,7 @@ pub fn plain<W: Write>(terminal: &Terminal, writer: &mut Watched<W>) -> Result<(
 /// A line of the screen as it is printed.
 fn line_text(screen: &Screen, line: u8) -> ArrayString<LINE_BYTES>
     requires low { 1 ≤ line }
-    requires high { line ≤ 24 }
+    requires high { line ≤ LINES }
     ensures { result.bytes ≡ line_text screen.now.picture.wide (row_at screen.now.picture.rows line) }
 {
     let margin = screen.right_margin(line) as usize;
