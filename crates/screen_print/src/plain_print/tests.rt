@@ -2,54 +2,53 @@ use super::*;
 use crate::testing::{SmallWriter, fed};
 use std::test::Fail;
 
+/// What is fed, and what is printed before empty lines fill the 24 up.
+const TEXTS: [(&[u8], &str); 15] = [
+    (b"", ""),
+    // The sequence that CAN ends shows the error character.
+    (b"\x1b[3\x18m", "\u{2592}m\n"),
+    // A string is skipped.
+    (b"\x1b]0;title\x07ok", "ok\n"),
+    // Each byte from 128 shows one error character.
+    (b"\xc3\xa9", "\u{2592}\u{2592}\n"),
+    // Line drawing, by designation and by SO.
+    (b"\x1b(0lqk", "\u{250c}\u{2500}\u{2510}\n"),
+    (b"\x1b)0x\x0ex\x0fx", "x\u{2502}x\n"),
+    // Scrolling inside margins.
+    (b"a\r\nb\r\nc\r\nd\x1b[2;3r\x1b[3;1H\n", "a\nc\n\nd\n"),
+    // The pound sign of the UK set.
+    (b"\x1b(A#", "\u{a3}\n"),
+    // Graphics of VT52 mode, and ASCII after it.
+    (b"\x1b[?2l\x1bFa\x1b<a", "\u{2592}a\n"),
+    // Spaces and blanks at the end go, whatever their rendition; inside they stay.
+    (b" a\x1b[7m  \x1b[m ", " a\n"),
+    (b"\x1b(0_a_b__", " \u{2592} \u{2409}\n"),
+    (b"\x1b[4m \x1b(0_\x1b(B ", ""),
+    // On a double width line each glyph stands once, up to the middle.
+    (
+        b"\x1b#60123456789012345678901234567890123456789x",
+        "0123456789012345678901234567890123456789\nx\n",
+    ),
+    (b"\x1b#3ab\r\n\x1b#4ab", "ab\nab\n"),
+    // All special graphics.
+    (
+        b"\x1b(0`abcdefghijklmnopqrstuvwxyz{|}~",
+        "\u{25c6}\u{2592}\u{2409}\u{240c}\u{240d}\u{240a}\u{b0}\u{b1}\u{2424}\u{240b}\u{2518}\u{2510}\u{250c}\u{2514}\u{253c}\u{23ba}\u{23bb}\u{2500}\u{23bc}\u{23bd}\u{251c}\u{2524}\u{2534}\u{252c}\u{2502}\u{2264}\u{2265}\u{3c0}\u{2260}\u{a3}\u{b7}\n",
+    ),
+];
+
 #[test]
 fn prints_each_line_to_its_right_margin(rt: HostRuntime) -> Result<(), Fail> {
-    // The bytes that were fed, and what is printed before empty lines fill the 24 up.
-    let cases: [(&[u8], &[u8]); 15] = [
-        (b"", b""),
-        // The sequence that CAN ends shows the error character.
-        (b"\x1b[3\x18m", b"\xe2\x96\x92m\n"),
-        // A string is skipped.
-        (b"\x1b]0;title\x07ok", b"ok\n"),
-        // Each byte from 128 shows one error character.
-        (b"\xc3\xa9", b"\xe2\x96\x92\xe2\x96\x92\n"),
-        // Line drawing, by designation and by SO.
-        (b"\x1b(0lqk", b"\xe2\x94\x8c\xe2\x94\x80\xe2\x94\x90\n"),
-        (b"\x1b)0x\x0ex\x0fx", b"x\xe2\x94\x82x\n"),
-        // Scrolling inside margins.
-        (b"a\r\nb\r\nc\r\nd\x1b[2;3r\x1b[3;1H\n", b"a\nc\n\nd\n"),
-        // The pound sign of the UK set.
-        (b"\x1b(A#", b"\xc2\xa3\n"),
-        // Graphics of VT52 mode, and ASCII after it.
-        (b"\x1b[?2l\x1bFa\x1b<a", b"\xe2\x96\x92a\n"),
-        // Spaces and blanks at the end go, whatever their rendition; inside they stay.
-        (b" a\x1b[7m  \x1b[m ", b" a\n"),
-        (b"\x1b(0_a_b__", b" \xe2\x96\x92 \xe2\x90\x89\n"),
-        (b"\x1b[4m \x1b(0_\x1b(B ", b""),
-        // On a double width line each glyph stands once, up to the middle.
-        (
-            b"\x1b#60123456789012345678901234567890123456789x",
-            b"0123456789012345678901234567890123456789\nx\n",
-        ),
-        (b"\x1b#3ab\r\n\x1b#4ab", b"ab\nab\n"),
-        // All special graphics.
-        (
-            b"\x1b(0`abcdefghijklmnopqrstuvwxyz{|}~",
-            "\u{25c6}\u{2592}\u{2409}\u{240c}\u{240d}\u{240a}\u{b0}\u{b1}\u{2424}\u{240b}\u{2518}\u{2510}\u{250c}\u{2514}\u{253c}\u{23ba}\u{23bb}\u{2500}\u{23bc}\u{23bd}\u{251c}\u{2524}\u{2534}\u{252c}\u{2502}\u{2264}\u{2265}\u{3c0}\u{2260}\u{a3}\u{b7}\n".as_bytes(),
-        ),
-    ];
-    for (bytes, begins) in cases {
+    for (bytes, begins) in &TEXTS {
         let terminal = fed(rt.alloc(), bytes)?;
         let mut writer = Watched::new(Vec::new(rt.alloc()));
         assert_eq!(rt; plain(&terminal, &mut writer), Ok(()));
         assert_eq!(rt; writer.failed(), false);
+        let lines = begins.bytes().filter(|byte| *byte == b'\n').count();
+        let rest = "\n".repeat(rt.alloc(), 24usize.saturating_sub(lines))?;
+        let wanted = [*begins, rest.as_str()].concat(rt.alloc())?;
         let text = writer.into_inner();
-        let lines = begins.iter().filter(|byte| **byte == b'\n').count();
-        let mut wanted = begins.to_vec(rt.alloc())?;
-        for _ in lines..24 {
-            wanted.push(b'\n')?;
-        }
-        assert_eq!(rt; text.as_slice(), wanted.as_slice(), "after {bytes:?}");
+        assert_eq!(rt; text.as_slice(), wanted.as_bytes(), "after {bytes:?}");
     }
     Ok(())
 }

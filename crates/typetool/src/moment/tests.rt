@@ -140,12 +140,8 @@ fn replies_and_vt52(rt: HostRuntime) -> Result<(), Fail> {
 /// The alignment pattern fills the screen, whatever the cursor.
 #[test]
 fn the_alignment_pattern(rt: HostRuntime) -> Result<(), Fail> {
-    let mut text = String::new(rt.alloc());
-    for _ in 0..24 {
-        text.push_str(E40)?;
-        text.push_str(E40)?;
-        text.push_str("\n")?;
-    }
+    let line = [E40, E40, "\n"].concat(rt.alloc())?;
+    let text = line.as_str().repeat(rt.alloc(), 24)?;
     let screen = Job::Screen {
         at: 0,
         profile: Profile::Vt100,
@@ -185,20 +181,15 @@ fn moments(rt: HostRuntime) -> Result<(), Fail> {
 /// Far more replies than one piece of digits holds.
 #[test]
 fn many_replies(rt: HostRuntime) -> Result<(), Fail> {
-    let mut body = String::new(rt.alloc());
-    let mut line = String::new(rt.alloc());
-    for _ in 0..25_000 {
-        body.push_str("\x1b[5n")?;
-        line.push_str("1b5b306e")?;
-    }
-    line.push_str("\n")?;
-    let reports = Job::Reports {
-        at: 0,
-        profile: Profile::Vt100,
-    };
-    let written = play(&rt, reports, body.as_str().as_bytes(), "0 100000\n")?;
-    assert_eq!(rt; written.as_slice(), line.as_str().as_bytes());
-    Ok(())
+    let body = "\x1b[5n".repeat(rt.alloc(), 25_000)?;
+    let sent = "1b5b306e".repeat(rt.alloc(), 25_000)?;
+    sends(
+        &rt,
+        0,
+        body.as_str().as_bytes(),
+        "0 100000\n",
+        sent.as_str(),
+    )
 }
 
 /// Feeds each row's text as one chunk, and compares screen and replies.

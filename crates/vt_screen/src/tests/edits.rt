@@ -3,6 +3,7 @@ ghost use Rattle.std.specs.Prelude.{◌≤◌};
 
 use super::{has_text, have_text, marked, next_line, type_text};
 use crate::{Cell, Rendition, Screen, Size};
+use std::process::Abort;
 
 /// Lines `a`, `b`, `c` and `d`, margins 2 and 3, and the cursor at a place.
 fn lettered(line: u16, col: u16) -> Screen
@@ -217,45 +218,52 @@ fn inserts_at_the_margin_and_after_the_wrap(rt: HostRuntime) {
     assert_eq!(rt; screen.cursor(), (2, 2));
 }
 
+/// Sees the glyphs at some columns of line 2.
+fn compare_glyphs(rt: &impl Abort, screen: &Screen, glyphs: &[(u8, u8)]) {
+    for (col, glyph) in glyphs {
+        assert!(rt; 1 <= *col && *col <= 132);
+        assert_eq!(rt; screen.cell(2, *col).glyph, *glyph, "column {col}");
+    }
+}
+
 #[test]
-fn edits_a_wide_line(rt: HostRuntime) {
+fn deletes_in_a_wide_line(rt: HostRuntime) {
     let mut screen = marked(2, 41);
     screen.delete_cells(1);
-    for (col, glyph) in [
+    let glyphs = [
         (41, b' '),
         (65, b'x'),
         (66, b'x'),
         (67, b' '),
         (131, b'x'),
         (132, b' '),
-    ] {
-        let col: u8 = col;
-        assert!(rt; 1 <= col && col <= 132);
-        assert_eq!(rt; screen.cell(2, col).glyph, glyph, "column {col}");
-    }
+    ];
+    compare_glyphs(&rt, &screen, &glyphs);
+}
+
+#[test]
+fn inserts_in_a_wide_line(rt: HostRuntime) {
     let mut screen = marked(2, 41);
     screen.show_inserting(b'y', Rendition::plain(), true);
-    for (col, glyph) in [
+    let glyphs = [
         (41, b'y'),
         (42, b'x'),
         (66, b' '),
         (67, b'x'),
         (68, b'x'),
         (132, b' '),
-    ] {
-        let col: u8 = col;
-        assert!(rt; 1 <= col && col <= 132);
-        assert_eq!(rt; screen.cell(2, col).glyph, glyph, "column {col}");
-    }
-    // the margin of a double line is 66
+    ];
+    compare_glyphs(&rt, &screen, &glyphs);
+}
+
+/// The margin of a double line is 66.
+#[test]
+fn edits_a_wide_double_line(rt: HostRuntime) {
     let mut screen = marked(2, 41);
     screen.set_size(Size::Top);
     screen.show_inserting(b'y', Rendition::plain(), true);
-    for (col, glyph) in [(41, b'y'), (42, b'x'), (66, b' '), (67, b' ')] {
-        let col: u8 = col;
-        assert!(rt; 1 <= col && col <= 132);
-        assert_eq!(rt; screen.cell(2, col).glyph, glyph, "column {col}");
-    }
+    let glyphs = [(41, b'y'), (42, b'x'), (66, b' '), (67, b' ')];
+    compare_glyphs(&rt, &screen, &glyphs);
     screen.place(2, 1, false);
     screen.delete_cells(41);
     assert!(rt; has_text(&screen, 2, b"x"));

@@ -9,18 +9,19 @@ use std::test::Fail;
 use tape_core::limits::{LONGEST_CHUNK, MOST_CHUNKS};
 use tape_core::{Bytes, Recording, read_recording};
 
+/// A header of no words, and so many chunks of so many `A`.
+fn alike_script(alloc: Global, count: usize, size: usize) -> Result<String, Fail> {
+    let chunk = "A".repeat(alloc, size)?;
+    let body = chunk.as_str().repeat(alloc, count)?;
+    Ok(["\n", body.as_str()].concat(alloc)?)
+}
+
 /// So many chunks of so many `A`, all due at once.
 fn alike(alloc: Global, count: usize, size: usize) -> Result<Recording, Fail> {
-    let mut script = Vec::from_slice(alloc, b"\n")?;
-    let mut timing = Vec::new(alloc);
+    let script = alike_script(alloc, count, size)?;
     let line = format!(in alloc; "0 {size}\n")?;
-    for _ in 0..count {
-        timing.extend_from_slice(line.as_bytes())?;
-        for _ in 0..size {
-            script.push(b'A')?;
-        }
-    }
-    Ok(read_recording(alloc, script.as_slice(), timing.as_slice())?)
+    let timing = line.as_str().repeat(alloc, count)?;
+    Ok(read_recording(alloc, script.as_bytes(), timing.as_bytes())?)
 }
 
 /// Goes to a count that is within.

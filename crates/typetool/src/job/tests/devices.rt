@@ -114,55 +114,59 @@ fn plain_case(job: Job, text: &'static [u8]) -> Case {
     }
 }
 
+/// The end of the recording.
+const END: u64 = 500_000;
+
 /// Each job at the end of the recording.
 fn cases() -> [Case; 7] {
+    let profile = Profile::Vt100;
+    let screen = Job::Screen {
+        at: END,
+        profile,
+        escaped: false,
+    };
+    let changes = Job::Changes {
+        from: None,
+        to: END,
+        profile,
+    };
     [
-        plain_case(Job::Due { at: 500_000 }, b"ab"),
+        plain_case(Job::Due { at: END }, b"ab"),
         plain_case(
             Job::Info,
             b"chunks 2\nbytes 2\nlength 0.500000\nheader 20\ntrailer 0\n",
         ),
         plain_case(
-            Job::Screen {
-                at: 500_000,
-                profile: Profile::Vt100,
-                escaped: false,
-            },
+            screen,
             b"ab\n\n\n\n\n\n\n\n\n\n\n\n\n\n\n\n\n\n\n\n\n\n\n\n",
         ),
-        plain_case(
-            Job::Changes {
-                from: None,
-                to: 500_000,
-                profile: Profile::Vt100,
-            },
-            b"0 0.000000 1\n1 0.500000 1\n",
-        ),
-        plain_case(
-            Job::Reports {
-                at: 500_000,
-                profile: Profile::Vt100,
-            },
-            b"\n",
-        ),
-        Case {
-            job: Job::Save,
-            requests: b"insert 1 0.25 58\n",
-            reads_requests: true,
-            text: b"Script started on X\naXb",
-            new_timing: b"0.000000 1\n0.250000 1\n0.500000 1\n",
-        },
-        Case {
-            job: Job::Session {
-                every: 1,
-                profile: Profile::Vt100,
-            },
-            requests: b"delete 0 1\n\ninfo",
-            reads_requests: true,
-            text: b"ok\nchunks 1\nbytes 1\nlength 0.500000\nheader 20\ntrailer 0\n",
-            new_timing: b"",
-        },
+        plain_case(changes, b"0 0.000000 1\n1 0.500000 1\n"),
+        plain_case(Job::Reports { at: END, profile }, b"\n"),
+        save_case(),
+        session_case(profile),
     ]
+}
+
+/// Another chunk goes in, and both files are written.
+fn save_case() -> Case {
+    Case {
+        job: Job::Save,
+        requests: b"insert 1 0.25 58\n",
+        reads_requests: true,
+        text: b"Script started on X\naXb",
+        new_timing: b"0.000000 1\n0.250000 1\n0.500000 1\n",
+    }
+}
+
+/// A chunk goes out, and what is left is told.
+fn session_case(profile: Profile) -> Case {
+    Case {
+        job: Job::Session { every: 1, profile },
+        requests: b"delete 0 1\n\ninfo",
+        reads_requests: true,
+        text: b"ok\nchunks 1\nbytes 1\nlength 0.500000\nheader 20\ntrailer 0\n",
+        new_timing: b"",
+    }
 }
 
 /// Which call of each reader fails.

@@ -25,55 +25,56 @@ fn session(every: usize) -> Job {
     }
 }
 
+/// What each line is answered.
+const ANSWERS: [Row<'static>; 7] = [
+    ("ab", AB, "", "", 0),
+    (
+        "\x1b[cx",
+        "0 3\n0 1\n",
+        "reports 0\ndelete 0 1\nreports 0\nscreen 0\n",
+        "1b5b3f313b3263\nok\n\nx\n\n\n\n\n\n\n\n\n\n\n\n\n\n\n\n\n\n\n\n\n\n\n\n",
+        0,
+    ),
+    (
+        "ab",
+        AB,
+        "retime 0 1\ninfo\nlog\n",
+        "ok\nchunks 2\nbytes 2\nlength 1.500000\nheader 20\ntrailer 0\nretime 0 1.000000\nend\n",
+        0,
+    ),
+    (
+        "ab",
+        AB,
+        "nonsense\nchanges - 0",
+        "refused E8 BadLine\n0 0.000000 1\nend\n",
+        1,
+    ),
+    (
+        "abc",
+        "0.5 1\n3 1\n2 1\n",
+        "cap 1000000.000001\ncap 1000000\n\nlog",
+        "refused E2 DelayTooLarge\nok\ncap 1000000.000000\nend\n",
+        1,
+    ),
+    (
+        "a\x1b[m\x1b[3;1Hb",
+        "0 1\n0 3\n1.5 7\n",
+        "changes 0 2\nchanges 2 1\n \t\nlog\n",
+        "2 1.500000 3\nend\nend\nend\n",
+        0,
+    ),
+    (
+        "0123456789",
+        "0 1\n0 1\n0 1\n0 1\n0 1\n0 1\n0 1\n0 1\n0 1\n0 1\n",
+        "delete 3 3\ninsert 11 0 -\ninsert 0 1000000.000001 -\nlog\n",
+        "refused E6 BadRange\nrefused E1 NoSuchChunk\nrefused E2 DelayTooLarge\nend\n",
+        1,
+    ),
+];
+
 #[test]
 fn each_line_is_answered(rt: HostRuntime) -> Result<(), Fail> {
-    let screen = ["1b5b3f313b3263\nok\n\nx\n", LINES_23].concat(rt.alloc())?;
-    let rows: [Row<'_>; 7] = [
-        ("ab", AB, "", "", 0),
-        (
-            "\x1b[cx",
-            "0 3\n0 1\n",
-            "reports 0\ndelete 0 1\nreports 0\nscreen 0\n",
-            screen.as_str(),
-            0,
-        ),
-        (
-            "ab",
-            AB,
-            "retime 0 1\ninfo\nlog\n",
-            "ok\nchunks 2\nbytes 2\nlength 1.500000\nheader 20\ntrailer 0\nretime 0 1.000000\nend\n",
-            0,
-        ),
-        (
-            "ab",
-            AB,
-            "nonsense\nchanges - 0",
-            "refused E8 BadLine\n0 0.000000 1\nend\n",
-            1,
-        ),
-        (
-            "abc",
-            "0.5 1\n3 1\n2 1\n",
-            "cap 1000000.000001\ncap 1000000\n\nlog",
-            "refused E2 DelayTooLarge\nok\ncap 1000000.000000\nend\n",
-            1,
-        ),
-        (
-            "a\x1b[m\x1b[3;1Hb",
-            "0 1\n0 3\n1.5 7\n",
-            "changes 0 2\nchanges 2 1\n \t\nlog\n",
-            "2 1.500000 3\nend\nend\nend\n",
-            0,
-        ),
-        (
-            "0123456789",
-            "0 1\n0 1\n0 1\n0 1\n0 1\n0 1\n0 1\n0 1\n0 1\n0 1\n",
-            "delete 3 3\ninsert 11 0 -\ninsert 0 1000000.000001 -\nlog\n",
-            "refused E6 BadRange\nrefused E1 NoSuchChunk\nrefused E2 DelayTooLarge\nend\n",
-            1,
-        ),
-    ];
-    for row in &rows {
+    for row in &ANSWERS {
         compare(&rt, session(100), row)?;
     }
     Ok(())
