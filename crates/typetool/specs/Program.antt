@@ -3,7 +3,7 @@ use Rattle.std.specs.Prelude.{◌≡◌, ℕ, List, MatchOption, string_bytes}
 use Rattle.clap.specs.Words.{kind_of}
 use Rattle.clap.specs.declared.error.ErrorKind.{ErrorKind}
 use Rattle.clap.specs.declared.error.ErrorKind.TheVariants.{DisplayHelp, DisplayVersion}
-use Rattle.typetool.specs.Output.{IsDoneStatus, status_of}
+use Rattle.typetool.specs.Output.{Comes, Done, Files, IsDoneStatus, status_of}
 use Rattle.typetool.specs.declared.job.Job.{Job}
 use Rattle.typetool.specs.declared.job.Outcome.{Outcome}
 use Rattle.typetool.specs.declared.program.Stop.{Stop}
@@ -32,6 +32,10 @@ stop_status (of_job fault) = status_of fault
 -- how the job ends: with the status of its fault where it has one, and else with one of a job that is done (profile)
 abbrev pub IsOutcome : Job → Outcome → Type 0
 IsOutcome job outcome = MatchOption outcome.fault (IsDoneStatus job outcome.status) (λ fault. outcome.status ≡ status_of fault)
+
+-- it ends as the job does on these files (profile)
+abbrev pub IsAnswer : Job → Files → Outcome → Type 0
+IsAnswer job files outcome = (done : Done) × Comes job files done × (outcome ≡ done.outcome)
 
 -- why a file isn't open: the file of this path can't be opened, or memory was refused (profile)
 abbrev pub IsNotOpen : List ℕ → Stop → Type 0

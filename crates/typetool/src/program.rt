@@ -4,7 +4,8 @@ ghost use Rattle.std.specs.Prelude.{◌≡◌, ◌⊎◌, ◌≢◌, ◌≤◌, 
 ghost use Rattle.clap.specs.Words.{kind_of};
 ghost use Rattle.tape_core.specs.Devices.{has_failed};
 ghost use Rattle.typetool.specs.CommandLine.{path_count};
-ghost use Rattle.typetool.specs.Program.{IsNotCreated, IsNotOpen, IsOutcome, stop_status};
+ghost use Rattle.typetool.specs.Output.{Files as Given, Tells, is_stopped};
+ghost use Rattle.typetool.specs.Program.{IsAnswer, IsNotCreated, IsNotOpen, IsOutcome, stop_status};
 
 use crate::job::{Job, JobFault, Outcome, run};
 use crate::words::{Words, WordsFault, read_words};
@@ -156,6 +157,10 @@ fn print<R: Files + Print + AllocGlobal, Q: io::Read>(
     requires timing { has_failed timing.old ≡ false }
     requires requests { has_failed requests.old ≡ false }
     ensures outcome { IfOk result (IsOutcome job) }
+    // Where nothing stopped the job, it is what the job comes to on these files.
+    ensures answer { IfOk result (λ outcome. is_stopped outcome.fault ≡ false → (files : Given)
+        → Tells R.File.remaining R.File.remaining Q.remaining job script.old timing.old requests.old files
+        → IsAnswer job files outcome) }
     ensures stop { IfErr result (λ stop. stop ≡ Stop.Memory) }
 {
     let mut out = buffered(rt, io::writer(rt))?;
