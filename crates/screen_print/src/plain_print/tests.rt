@@ -1,5 +1,6 @@
 use super::*;
 use crate::testing::{SmallWriter, fed};
+use std::alloc::Global;
 use std::test::Fail;
 
 /// What is fed, and what is printed before empty lines fill the 24 up.
@@ -37,6 +38,16 @@ const TEXTS: [(&[u8], &str); 15] = [
     ),
 ];
 
+/// The text with empty lines behind it, 24 in all.
+fn filled_up(alloc: Global, begins: &str) -> Result<String, Fail> {
+    let lines = begins.bytes().filter(|byte| *byte == b'\n').count();
+    let mut text = String::from_str(alloc, begins)?;
+    for _ in lines..24 {
+        text.push_str("\n")?;
+    }
+    Ok(text)
+}
+
 #[test]
 fn prints_each_line_to_its_right_margin(rt: HostRuntime) -> Result<(), Fail> {
     for (bytes, begins) in &TEXTS {
@@ -44,9 +55,7 @@ fn prints_each_line_to_its_right_margin(rt: HostRuntime) -> Result<(), Fail> {
         let mut writer = Watched::new(Vec::new(rt.alloc()));
         assert_eq!(rt; plain(&terminal, &mut writer), Ok(()));
         assert_eq!(rt; writer.failed(), false);
-        let lines = begins.bytes().filter(|byte| *byte == b'\n').count();
-        let rest = "\n".repeat(rt.alloc(), 24usize.saturating_sub(lines))?;
-        let wanted = [*begins, rest.as_str()].concat(rt.alloc())?;
+        let wanted = filled_up(rt.alloc(), begins)?;
         let text = writer.into_inner();
         assert_eq!(rt; text.as_slice(), wanted.as_bytes(), "after {bytes:?}");
     }
