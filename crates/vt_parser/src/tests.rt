@@ -114,9 +114,8 @@ fn reads_whole_sequences(rt: HostRuntime) -> Result<(), Fail> {
 }
 
 #[test]
-fn takes_controls_and_other_bytes_as_the_table_says(rt: HostRuntime) -> Result<(), Fail> {
-    let rows: [(&[u8], &str); 20] = [
-        // on ground
+fn takes_controls_and_other_bytes_on_ground(rt: HostRuntime) -> Result<(), Fail> {
+    let rows: [(&[u8], &str); 4] = [
         (
             b"\x00\x05\x07\x08\x0f\x10\x1f",
             "Control(8), Control(15), Ground",
@@ -124,7 +123,13 @@ fn takes_controls_and_other_bytes_as_the_table_says(rt: HostRuntime) -> Result<(
         (b"\x18\x1a\x7f", "Ground"),
         (b" ~", "Show(32), Show(126), Ground"),
         (b"\x80\xc3\xa9\xff", "Error, Error, Error, Error, Ground"),
-        // inside a sequence
+    ];
+    all_told(&rt, Mode::Ansi, &rows)
+}
+
+#[test]
+fn takes_controls_and_other_bytes_in_a_sequence(rt: HostRuntime) -> Result<(), Fail> {
+    let rows: [(&[u8], &str); 9] = [
         (
             b"\x1b[1\n2A",
             "Control(10), Csi { private: false, params: [12], last: 65 }, Ground",
@@ -142,7 +147,17 @@ fn takes_controls_and_other_bytes_as_the_table_says(rt: HostRuntime) -> Result<(
             b"\x1b[1\x7f\xc8m",
             "Csi { private: false, params: [1], last: 109 }, Ground",
         ),
-        // inside a string
+        (
+            b"\x1b[?1\x07",
+            "Csi { private: true, params: [1], over: false }",
+        ),
+    ];
+    all_told(&rt, Mode::Ansi, &rows)
+}
+
+#[test]
+fn takes_controls_and_other_bytes_in_a_string(rt: HostRuntime) -> Result<(), Fail> {
+    let rows: [(&[u8], &str); 7] = [
         (b"\x1bPabc\x1ax", "Error, Show(120), Ground"),
         (b"\x1bPabc\x18x", "Error, Show(120), Ground"),
         (b"\x1b]0;title\x07ok", "Show(111), Show(107), Ground"),
@@ -156,12 +171,12 @@ fn takes_controls_and_other_bytes_as_the_table_says(rt: HostRuntime) -> Result<(
         ),
         (b"\x1b^\r\n\x7f\xc8", "Text"),
         (b"\x1b_[m", "Text"),
-        (
-            b"\x1b[?1\x07",
-            "Csi { private: true, params: [1], over: false }",
-        ),
     ];
-    all_told(&rt, Mode::Ansi, &rows)?;
+    all_told(&rt, Mode::Ansi, &rows)
+}
+
+#[test]
+fn takes_controls_and_other_bytes_in_an_address(rt: HostRuntime) -> Result<(), Fail> {
     let rows: [(&[u8], &str); 5] = [
         (b"\x1bY\x18a", "Error, Show(97), Ground"),
         (b"\x1bY%\x1aa", "Error, Show(97), Ground"),
@@ -240,49 +255,70 @@ fn told_with(alloc: Global, mode: Mode, start: &[u8], byte: u8) -> Result<String
     told(alloc, mode, &bytes)
 }
 
+// The beginnings of sequences, and their states.
+const BEGUN: [(Mode, &[u8], &str); 10] = [
+    (Mode::Ansi, b"\x1b", "Escape"),
+    (Mode::Ansi, b"\x1b(", "EscapeOne(40)"),
+    (Mode::Ansi, b"\x1b()", "EscapeMany"),
+    (Mode::Ansi, b"\x1b[", "CsiStart"),
+    (
+        Mode::Ansi,
+        b"\x1b[2;7",
+        "Csi { private: false, params: [2, 7], over: false }",
+    ),
+    (
+        Mode::Ansi,
+        b"\x1b[?3",
+        "Csi { private: true, params: [3], over: false }",
+    ),
+    (Mode::Ansi, b"\x1b[1 ", "CsiIgnored"),
+    (Mode::Vt52, b"\x1b", "Vt52Escape"),
+    (Mode::Vt52, b"\x1bY", "Vt52Line"),
+    (Mode::Vt52, b"\x1bY%", "Vt52Column(37)"),
+];
+
 #[test]
-fn takes_every_other_byte_in_every_context_as_the_table_says(rt: HostRuntime) -> Result<(), Fail> {
-    let sequences: [(Mode, &[u8], &str); 10] = [
-        (Mode::Ansi, b"\x1b", "Escape"),
-        (Mode::Ansi, b"\x1b(", "EscapeOne(40)"),
-        (Mode::Ansi, b"\x1b()", "EscapeMany"),
-        (Mode::Ansi, b"\x1b[", "CsiStart"),
-        (
-            Mode::Ansi,
-            b"\x1b[2;7",
-            "Csi { private: false, params: [2, 7], over: false }",
-        ),
-        (
-            Mode::Ansi,
-            b"\x1b[?3",
-            "Csi { private: true, params: [3], over: false }",
-        ),
-        (Mode::Ansi, b"\x1b[1 ", "CsiIgnored"),
-        (Mode::Vt52, b"\x1b", "Vt52Escape"),
-        (Mode::Vt52, b"\x1bY", "Vt52Line"),
-        (Mode::Vt52, b"\x1bY%", "Vt52Column(37)"),
-    ];
-    let alloc = rt.alloc();
+fn takes_every_other_byte_in_a_sequence_as_the_table_says(rt: HostRuntime) -> Result<(), Fail> {
     for byte in 0..=255u8 {
         if matches!(byte, 32..=126) {
             continue;
         }
-        for (mode, start, state) in &sequences {
+        for (mode, start, state) in &BEGUN {
             let escaped = match mode {
                 Mode::Ansi => "Escape",
                 Mode::Vt52 => "Vt52Escape",
             };
-            let text = told_with(alloc, *mode, start, byte)?;
-            let want = in_sequence(alloc, byte, escaped, state)?;
+            let text = told_with(rt.alloc(), *mode, start, byte)?;
+            let want = in_sequence(rt.alloc(), byte, escaped, state)?;
             assert_eq!(rt; text.as_str(), want.as_str(), "{byte} after {start:?}");
         }
+    }
+    Ok(())
+}
+
+#[test]
+fn takes_every_other_byte_on_ground_as_the_table_says(rt: HostRuntime) -> Result<(), Fail> {
+    for byte in 0..=255u8 {
+        if matches!(byte, 32..=126) {
+            continue;
+        }
         for (mode, escaped) in [(Mode::Ansi, "Escape"), (Mode::Vt52, "Vt52Escape")] {
-            let text = told_with(alloc, mode, b"", byte)?;
-            let want = on_ground(alloc, byte, escaped)?;
+            let text = told_with(rt.alloc(), mode, b"", byte)?;
+            let want = on_ground(rt.alloc(), byte, escaped)?;
             assert_eq!(rt; text.as_str(), want.as_str(), "{byte} on ground");
         }
+    }
+    Ok(())
+}
+
+#[test]
+fn takes_every_other_byte_in_a_string_as_the_table_says(rt: HostRuntime) -> Result<(), Fail> {
+    for byte in 0..=255u8 {
+        if matches!(byte, 32..=126) {
+            continue;
+        }
         for start in [b"\x1bP", b"\x1bX", b"\x1b]", b"\x1b^", b"\x1b_"] {
-            let text = told_with(alloc, Mode::Ansi, start, byte)?;
+            let text = told_with(rt.alloc(), Mode::Ansi, start, byte)?;
             assert_eq!(rt; text.as_str(), in_string(byte), "{byte} after {start:?}");
         }
     }

@@ -18,6 +18,24 @@ pub fn about_of<'a>(subcommand: Subcommand) -> &'a str {
     }
 }
 
+/// The requests of `save`, and when its files are written.
+const SAVE_DETAILS: &str =
+    "One request a line: insert AT SECONDS HEX, delete FROM TO, replace AT HEX, retime AT SECONDS,\n\
+    cap SECONDS. AT, FROM and TO count chunks from 0; TO is the first that stays. HEX is the bytes\n\
+    as hexadecimal digits, or - for none.\n\n\
+    Both new files are created before anything is read, and must not exist. Nothing is written into\n\
+    them where a line is refused (status 1, with the line's number).\n\n\
+    Example: echo 'cap 2' | typetool save demo.script demo.timing new.script new.timing";
+
+/// The requests of `session`, and its status.
+const SESSION_DETAILS: &str =
+    "One request a line: the edits of save, answered by ok or by refused and why, and\n\
+    screen SECONDS (24 lines), reports SECONDS (one line), info (five lines),\n\
+    changes SECONDS SECONDS (- as the first: from chunk 0) and log (lines, and then end).\n\
+    Questions are answered for the recording as edited so far; no file is changed.\n\n\
+    Status 1 where any line was refused.\n\n\
+    Example: printf 'cap 2\\nscreen 12.5\\n' | typetool session demo.script demo.timing";
+
 /// What help tells of a subcommand after its arguments: more of what it does, and an example.
 pub fn details_of<'a>(subcommand: Subcommand) -> &'a str {
     match subcommand {
@@ -44,22 +62,8 @@ pub fn details_of<'a>(subcommand: Subcommand) -> &'a str {
             "One line of lower-case digits, empty where nothing was answered.\n\n\
              Example: typetool reports --at 12.5 demo.script demo.timing"
         }
-        Subcommand::Save => {
-            "One request a line: insert AT SECONDS HEX, delete FROM TO, replace AT HEX, retime AT SECONDS,\n\
-             cap SECONDS. AT, FROM and TO count chunks from 0; TO is the first that stays. HEX is the bytes\n\
-             as hexadecimal digits, or - for none.\n\n\
-             Both new files are created before anything is read, and must not exist. Nothing is written into\n\
-             them where a line is refused (status 1, with the line's number).\n\n\
-             Example: echo 'cap 2' | typetool save demo.script demo.timing new.script new.timing"
-        }
-        Subcommand::Session => {
-            "One request a line: the edits of save, answered by ok or by refused and why, and\n\
-             screen SECONDS (24 lines), reports SECONDS (one line), info (five lines),\n\
-             changes SECONDS SECONDS (- as the first: from chunk 0) and log (lines, and then end).\n\
-             Questions are answered for the recording as edited so far; no file is changed.\n\n\
-             Status 1 where any line was refused.\n\n\
-             Example: printf 'cap 2\\nscreen 12.5\\n' | typetool session demo.script demo.timing"
-        }
+        Subcommand::Save => SAVE_DETAILS,
+        Subcommand::Session => SESSION_DETAILS,
     }
 }
 
