@@ -35,14 +35,6 @@ impl Bytes {
         Ok(Bytes { items })
     }
 
-    /// Gives the vector back, and takes no memory.
-    pub fn into_vec(self) -> Vec<u8>
-        ensures { result.items ≡ self }
-    {
-        let Bytes { items } = self;
-        items
-    }
-
     /// Lends the bytes.
     pub fn as_slice(&self) -> &[u8]
         ensures { result.now ≡ self.now }

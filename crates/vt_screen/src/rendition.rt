@@ -44,7 +44,7 @@ impl Rendition {
     }
 
     /// The four attributes in one byte: bit 0 is bold, bit 1 underscore, bit 2 blink, bit 3 reverse.
-    pub fn byte(self) -> u8
+    pub(crate) fn byte(self) -> u8
         ensures { result ≡ byte_of self }
     {
         self.bits
