@@ -288,6 +288,3 @@ fn byte_for(glyph: u8) -> u8
 {
     if glyph < 32 { 95 + glyph } else { glyph }
 }
-
-#[cfg(test)]
-mod tests;

@@ -7,10 +7,6 @@ mod escaped_print;
 mod glyphs;
 pub mod laws;
 mod plain_print;
-#[cfg(test)]
-mod refused;
-#[cfg(test)]
-mod testing;
 
 pub use chunk_changes::{ChangesFault, changes};
 pub use escaped_print::escaped;

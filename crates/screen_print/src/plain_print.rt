@@ -71,6 +71,3 @@ fn is_space(cell: Cell) -> bool
 {
     matches!(cell.glyph, 0 | 32)
 }
-
-#[cfg(test)]
-mod tests;

@@ -154,6 +154,3 @@ pub fn slurp<R: Read>(alloc: Global, reader: &mut Watched<R>) -> Result<Vec<u8>,
         text.extend_from_slice(&piece[..count])?;
     }
 }
-
-#[cfg(test)]
-mod tests;

@@ -70,6 +70,3 @@ impl From<AllocError> for Fault {
         Fault::OutOfMemory
     }
 }
-
-#[cfg(test)]
-mod tests;

@@ -9,8 +9,6 @@ pub mod laws;
 pub mod limits;
 mod reading;
 mod recording;
-#[cfg(test)]
-mod refused;
 mod seconds;
 mod seconds_form;
 pub mod text;

@@ -75,6 +75,3 @@ pub fn read_recording(alloc: Global, script: &[u8], timing: &[u8]) -> Result<Rec
     let trailer = Bytes::copy_of(alloc, trailer)?;
     Ok(Recording::from_parts(alloc, header, chunks, trailer)?)
 }
-
-#[cfg(test)]
-mod tests;

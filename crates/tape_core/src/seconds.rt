@@ -61,6 +61,3 @@ pub fn read_seconds(text: &[u8]) -> Option<u64>
         None
     }
 }
-
-#[cfg(test)]
-mod tests;

@@ -58,6 +58,3 @@ pub(crate) fn write_seconds(us: u64, buf: &mut [u8], end: usize) -> usize
     let _decimals = write_digits(us % SECOND, buf, end);
     write_digits(us / SECOND, buf, point)
 }
-
-#[cfg(test)]
-mod tests;

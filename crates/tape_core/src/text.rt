@@ -107,6 +107,3 @@ pub fn read_number(text: &[u8]) -> Option<u64>
         None
     }
 }
-
-#[cfg(test)]
-mod tests;

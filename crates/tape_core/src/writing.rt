@@ -106,6 +106,3 @@ fn write_line(delay: u64, count: u64, buf: &mut [u8]) -> usize
     buf[space] = b' ';
     write_seconds(delay, buf, space)
 }
-
-#[cfg(test)]
-mod tests;

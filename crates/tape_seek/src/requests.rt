@@ -270,6 +270,3 @@ fn are_hex_digits(field: &[u8]) -> bool
 {
     field.iter().all(|b| b.is_ascii_hexdigit())
 }
-
-#[cfg(test)]
-mod tests;

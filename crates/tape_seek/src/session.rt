@@ -277,6 +277,3 @@ impl<'a> View<'a> {
         self.fed
     }
 }
-
-#[cfg(test)]
-mod tests;

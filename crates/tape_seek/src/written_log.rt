@@ -159,6 +159,3 @@ fn put_text<W: Write>(field: Field<'_>, writer: &mut Watched<W>) -> Result<(), F
         Field::Bytes(bytes) => put_hex(bytes, writer),
     }
 }
-
-#[cfg(test)]
-mod tests;

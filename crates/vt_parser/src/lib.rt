@@ -18,8 +18,6 @@ pub mod limits;
 mod machine;
 mod runs;
 mod states;
-#[cfg(test)]
-mod tests;
 mod tokens;
 
 pub use commands::{Command, Mode};

@@ -13,6 +13,3 @@ mod screen;
 pub use cell::{Cell, Row, Size};
 pub use rendition::Rendition;
 pub use screen::Screen;
-
-#[cfg(test)]
-mod tests;

@@ -13,16 +13,12 @@ pub mod laws;
 mod modes;
 mod private_modes;
 mod profile;
-#[cfg(test)]
-mod refused;
 mod replies;
 mod reports;
 mod saved;
 mod sequences;
 mod sets;
 mod terminal;
-#[cfg(test)]
-mod tests;
 mod vt52;
 
 pub use modes::Modes;

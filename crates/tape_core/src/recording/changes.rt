@@ -120,6 +120,3 @@ fn cap_delays(chunks: &mut [Chunk], max: u64)
         chunk.delay = chunk.delay.min(max);
     }
 }
-
-#[cfg(test)]
-mod tests;

@@ -68,6 +68,3 @@ pub(super) fn written_entry(text: &[u8]) -> Option<(Entry, &[u8])>
         _ => None,
     }
 }
-
-#[cfg(test)]
-mod tests;

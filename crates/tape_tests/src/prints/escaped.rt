@@ -1,0 +1,190 @@
+use super::{SmallWriter, fed, fed_as};
+use screen_print::escaped;
+use std::alloc::Global;
+use std::process::Abort;
+use std::test::Fail;
+use tape_core::{Fault, Watched};
+use vt_parser::ParserState;
+use vt_term::{Profile, Reports, Terminal};
+
+/// What is fed to a reset terminal, and the text that it is printed as.
+const TEXTS: &[(&[u8], &[u8])] = &[
+    // Nothing on the screen.
+    (b"", b"\x1b[?7l\x1b)0\x1b[0m\x0f\x1b[?7h\x1b[1;1H"),
+    // A bold letter.
+    (
+        b"\x1b[1mA",
+        b"\x1b[?7l\x1b)0\x1b[1;1H\x1b[0;1mA\x1b[0m\x0f\x1b[?7h\x1b[1;2H",
+    ),
+    // Line drawing, by whatever set it came.
+    (
+        b"\x1b(0lqk",
+        b"\x1b[?7l\x1b)0\x1b[1;1H\x0elqk\x1b[0m\x0f\x1b[?7h\x1b[1;4H",
+    ),
+    // A double width line.
+    (
+        b"AAAAAAAAAAAAAAAAAAAAAAAAAAAAAAAAAAAAAAAAAAAAAAAAAA\x1b#6",
+        b"\x1b[?7l\x1b)0\x1b[1;1H\x1b#6AAAAAAAAAAAAAAAAAAAAAAAAAAAAAAAAAAAAAAAA\x1b[0m\x0f\x1b[?7h\x1b[1;40H",
+    ),
+    // 132 columns.
+    (
+        b"\x1b[?3h\x1b[1;132HAB",
+        b"\x1b[?3h\x1b[?7l\x1b)0\x1b[1;1H                                                                                                                                   A\x1b[2;1HB\x1b[0m\x0f\x1b[?7h\x1b[2;2H",
+    ),
+    // A reversed screen.
+    (
+        b"\x1b[?5hx",
+        b"\x1b[?5h\x1b[?7l\x1b)0\x1b[1;1Hx\x1b[0m\x0f\x1b[?7h\x1b[1;2H",
+    ),
+    // All four attributes, a rendition that stays over a blank and a line's end, and none.
+    (
+        b"\x1b[7;5;4;1ma b\r\nc\x1b[md",
+        b"\x1b[?7l\x1b)0\x1b[1;1H\x1b[0;1;4;5;7ma b\x1b[2;1Hc\x1b[0md\x1b[0m\x0f\x1b[?7h\x1b[2;3H",
+    ),
+    // A space in reverse at the end is no blank, nor is the blank of the special graphics.
+    (
+        b"a\x1b[7m \r\n\x1b[m\x1b(0_",
+        b"\x1b[?7l\x1b)0\x1b[1;1Ha\x1b[0;7m \x1b[2;1H\x1b[0m\x0e_\x1b[0m\x0f\x1b[?7h\x1b[2;2H",
+    ),
+    // The set changes back only for a cell that is in the other.
+    (
+        b"a\x1b(0q\x1b(Bb c",
+        b"\x1b[?7l\x1b)0\x1b[1;1Ha\x0eq\x0fb c\x1b[0m\x0f\x1b[?7h\x1b[1;6H",
+    ),
+    // Sizes stay on blank lines.
+    (
+        b"\x1b#3\n\x1b#4\n\x1b#6\n\n\x1b#5",
+        b"\x1b[?7l\x1b)0\x1b[1;1H\x1b#3\x1b[2;1H\x1b#4\x1b[3;1H\x1b#6\x1b[0m\x0f\x1b[?7h\x1b[5;1H",
+    ),
+    // The cursor's line is counted from 1 though it was moved from the top margin.
+    (
+        b"\x1b[3;9r\x1b[?6h\x1b[2;7H",
+        b"\x1b[?7l\x1b)0\x1b[0m\x0f\x1b[?7h\x1b[4;7H",
+    ),
+    // The pound sign and the error character.
+    (
+        b"\x1b(A#\x1b[\x18",
+        b"\x1b[?7l\x1b)0\x1b[1;1H\x0e}a\x1b[0m\x0f\x1b[?7h\x1b[1;3H",
+    ),
+];
+
+/// What is fed to a reset terminal whose picture is drawn again.
+const PICTURES: &[&[u8]] = &[
+    b"",
+    b"abc\x1b[2D\x1b[K",
+    b"\x1b[24;1Hx\r\n",
+    b"\x1b[?7lAAAAAAAAAAAAAAAAAAAAAAAAAAAAAAAAAAAAAAAAAAAAAAAAAAAAAAAAAAAAAAAAAAAAAAAAAAAAAAAAB",
+    b"AAAAAAAAAAAAAAAAAAAAAAAAAAAAAAAAAAAAAAAAAAAAAAAAAAAAAAAAAAAAAAAAAAAAAAAAAAAAAAAA\x1b[0mB",
+    b"\x1b[99;99Hx",
+    b"\x1b[3g\tx",
+    b"\x1b[1;5H\x1bH\r\tx",
+    b"\x1b[2;4r\x1b[?6h\x1b[9Ax",
+    b"ab\x1b#3\r\nab\x1b#4\x1b[1J",
+    b"\x1b[3;3H\x1b#8",
+    b"AAAAAAAAAAAAAAAAAAAAAAAAAAAAAAAAAAAAAAAAAAAAAAAAAAAAAAAAAAAAAAAAAAAAAAAAAAAAAAAA\x1b7\x1b[5;1H\x1b8B",
+    b"\x1b[2;3r\x1bMx",
+    b"\x1b(A#",
+    b"AAAAAAAAAAAAAAAAAAAAAAAAAAAAAAAAAAAAAAAAAAAAAAAAAA\x1b#6",
+    b"\x1b(0lqk",
+    b"\x1b[?3h\x1b[1;132HAB",
+    b"a\r\nb\r\nc\r\nd\x1b[2;3r\x1b[2;3r\x1b[3;1H\n",
+    b"\x1b[1;4;5;7mall\x1b[m none\x1b[5;9H\x1b[7m \x1b[?5h",
+    b"\x1b[?2l\x1bFa\x1bY*3",
+    b"\x1b[12;34",
+    b"\x1b[?3h\x1b#6\x1b[1;66Hx\n\x1b#3\n\x1b#4",
+];
+
+/// What is fed to a reset VT102 whose picture is drawn again.
+const EDITED: &[&[u8]] = &[
+    b"a\r\nb\r\nc\r\nd\x1b[2;3r\x1b[2;1H\x1b[L",
+    b"a\r\nb\r\nc\r\nd\x1b[2;3r\x1b[2;1H\x1b[5M",
+    b"a\r\nb\r\nc\r\nd\x1b[2;3r\x1b[1;2H\x1b[L",
+    b"abcdef\x1b[1;2H\x1b[2P",
+    b"abc\x1b[1;2H\x1b[4hXY\x1b[4lZ",
+    b"AAAAAAAAAAAAAAAAAAAAAAAAAAAAAAAAAAAAAAAAAAAAAAAAAAAAAAAAAAAAAAAAAAAAAAAAAAAAAAAB\x1b[1;1H\x1b[4hC",
+    b"\x1b[c",
+    b"ab\x1b#6\x1b[L",
+    b"ab\x1b[4h\rc",
+];
+
+#[test]
+fn writes_only_what_the_picture_needs(rt: HostRuntime) -> Result<(), Fail> {
+    for (bytes, wanted) in TEXTS {
+        let terminal = fed(rt.alloc(), bytes)?;
+        let mut writer = Watched::new(Vec::new(rt.alloc()));
+        assert_eq!(rt; escaped(&terminal, &mut writer), Ok(()));
+        assert_eq!(rt; writer.into_inner().as_slice(), *wanted, "after {bytes:?}");
+    }
+    Ok(())
+}
+
+// The escaped print of a terminal, fed to a reset one of a profile, gives the same picture and cursor.
+fn check_redrawn(
+    rt: &impl Abort,
+    alloc: Global,
+    terminal: &Terminal,
+    profile: Profile,
+) -> Result<(), Fail> {
+    let mut writer = Watched::new(Vec::new(alloc));
+    escaped(terminal, &mut writer)?;
+    let mut reports = Reports::new(alloc);
+    let mut again = Terminal::reset_as(profile);
+    again.feed(writer.into_inner().as_slice(), &mut reports)?;
+    assert_eq!(rt; again.screen().columns(), terminal.screen().columns());
+    assert_eq!(rt; again.screen().cursor(), terminal.screen().cursor());
+    assert_eq!(rt;
+        again.modes().reverse_screen,
+        terminal.modes().reverse_screen
+    );
+    for line in 1..25 {
+        assert_eq!(rt;
+            *again.screen().row(line) == *terminal.screen().row(line),
+            true,
+            "line {line}"
+        );
+    }
+    assert_eq!(rt; *again.parser_state() == ParserState::Ground, true);
+    assert_eq!(rt; reports.bytes().len(), 0);
+    Ok(())
+}
+
+#[test]
+fn draws_the_same_picture_again(rt: HostRuntime) -> Result<(), Fail> {
+    for bytes in PICTURES {
+        let terminal = fed(rt.alloc(), bytes)?;
+        check_redrawn(&rt, rt.alloc(), &terminal, Profile::Vt100)?;
+    }
+    Ok(())
+}
+
+#[test]
+fn draws_edited_lines_again(rt: HostRuntime) -> Result<(), Fail> {
+    for bytes in EDITED {
+        let terminal = fed_as(rt.alloc(), Profile::Vt102, bytes)?;
+        check_redrawn(&rt, rt.alloc(), &terminal, Profile::Vt102)?;
+        check_redrawn(&rt, rt.alloc(), &terminal, Profile::Vt100)?;
+    }
+    Ok(())
+}
+
+#[test]
+fn a_failing_writer_holds_a_beginning(rt: HostRuntime) -> Result<(), Fail> {
+    let terminal = fed(rt.alloc(), b"\x1b[1mone\r\n\n\x1b(0q")?;
+    let whole = b"\x1b[?7l\x1b)0\x1b[1;1H\x1b[0;1mone\x1b[3;1H\x0eq\x1b[0m\x0f\x1b[?7h\x1b[3;2H";
+    for room in 0..whole.len() + 2 {
+        for flush_fails in [false, true] {
+            let mut writer = Watched::new(SmallWriter {
+                taken: Vec::new(rt.alloc()),
+                room,
+                flush_fails,
+            });
+            let answer = escaped(&terminal, &mut writer);
+            let succeeds = room >= whole.len() && !flush_fails;
+            assert_eq!(rt; answer.is_ok(), succeeds, "room for {room}");
+            assert_eq!(rt; writer.failed(), !succeeds);
+            let taken = writer.into_inner().taken;
+            assert_eq!(rt; taken.as_slice(), &whole[..room.min(whole.len())]);
+        }
+    }
+    Ok(())
+}

@@ -1,0 +1,112 @@
+use super::{SmallWriter, fed};
+use screen_print::plain;
+use std::alloc::Global;
+use std::test::Fail;
+use tape_core::{Fault, Watched};
+
+/// What is fed, and what is printed before empty lines fill the 24 up.
+const TEXTS: [(&[u8], &str); 15] = [
+    (b"", ""),
+    // The sequence that CAN ends shows the error character.
+    (b"\x1b[3\x18m", "\u{2592}m\n"),
+    // A string is skipped.
+    (b"\x1b]0;title\x07ok", "ok\n"),
+    // Each byte from 128 shows one error character.
+    (b"\xc3\xa9", "\u{2592}\u{2592}\n"),
+    // Line drawing, by designation and by SO.
+    (b"\x1b(0lqk", "\u{250c}\u{2500}\u{2510}\n"),
+    (b"\x1b)0x\x0ex\x0fx", "x\u{2502}x\n"),
+    // Scrolling inside margins.
+    (b"a\r\nb\r\nc\r\nd\x1b[2;3r\x1b[3;1H\n", "a\nc\n\nd\n"),
+    // The pound sign of the UK set.
+    (b"\x1b(A#", "\u{a3}\n"),
+    // Graphics of VT52 mode, and ASCII after it.
+    (b"\x1b[?2l\x1bFa\x1b<a", "\u{2592}a\n"),
+    // Spaces and blanks at the end go, whatever their rendition; inside they stay.
+    (b" a\x1b[7m  \x1b[m ", " a\n"),
+    (b"\x1b(0_a_b__", " \u{2592} \u{2409}\n"),
+    (b"\x1b[4m \x1b(0_\x1b(B ", ""),
+    // On a double width line each glyph stands once, up to the middle.
+    (
+        b"\x1b#60123456789012345678901234567890123456789x",
+        "0123456789012345678901234567890123456789\nx\n",
+    ),
+    (b"\x1b#3ab\r\n\x1b#4ab", "ab\nab\n"),
+    // All special graphics.
+    (
+        b"\x1b(0`abcdefghijklmnopqrstuvwxyz{|}~",
+        "\u{25c6}\u{2592}\u{2409}\u{240c}\u{240d}\u{240a}\u{b0}\u{b1}\u{2424}\u{240b}\u{2518}\u{2510}\u{250c}\u{2514}\u{253c}\u{23ba}\u{23bb}\u{2500}\u{23bc}\u{23bd}\u{251c}\u{2524}\u{2534}\u{252c}\u{2502}\u{2264}\u{2265}\u{3c0}\u{2260}\u{a3}\u{b7}\n",
+    ),
+];
+
+/// The text with empty lines behind it, 24 in all.
+fn filled_up(alloc: Global, begins: &str) -> Result<String, Fail> {
+    let lines = begins.bytes().filter(|byte| *byte == b'\n').count();
+    let mut text = String::from_str(alloc, begins)?;
+    for _ in lines..24 {
+        text.push_str("\n")?;
+    }
+    Ok(text)
+}
+
+#[test]
+fn prints_each_line_to_its_right_margin(rt: HostRuntime) -> Result<(), Fail> {
+    for (bytes, begins) in &TEXTS {
+        let terminal = fed(rt.alloc(), bytes)?;
+        let mut writer = Watched::new(Vec::new(rt.alloc()));
+        assert_eq!(rt; plain(&terminal, &mut writer), Ok(()));
+        assert_eq!(rt; writer.failed(), false);
+        let wanted = filled_up(rt.alloc(), begins)?;
+        let text = writer.into_inner();
+        assert_eq!(rt; text.as_slice(), wanted.as_bytes(), "after {bytes:?}");
+    }
+    Ok(())
+}
+
+#[test]
+fn prints_132_columns(rt: HostRuntime) -> Result<(), Fail> {
+    let terminal = fed(rt.alloc(), b"\x1b[?3h\x1b(0\x1b[1;1Ha\x1b[1;132Hab")?;
+    let mut writer = Watched::new(Vec::new(rt.alloc()));
+    plain(&terminal, &mut writer)?;
+    let text = writer.into_inner();
+    assert_eq!(rt; text.len(), 3 + 130 + 3 + 1 + 3 + 1 + 22);
+    assert_eq!(rt; text.as_slice().starts_with(b"\xe2\x96\x92 "), true);
+    assert_eq!(rt;
+        text.as_slice()[..].ends_with(
+            b" \xe2\x96\x92\n\xe2\x90\x89\n\n\n\n\n\n\n\n\n\n\n\n\n\n\n\n\n\n\n\n\n\n\n"
+        ),
+        true
+    );
+    Ok(())
+}
+
+#[test]
+fn a_failing_writer_holds_a_beginning(rt: HostRuntime) -> Result<(), Fail> {
+    let terminal = fed(rt.alloc(), b"one\r\n\x1b(0lqk\r\n\r\n  x")?;
+    let whole =
+        "one\n\u{250c}\u{2500}\u{2510}\n\n  \u{2502}\n\n\n\n\n\n\n\n\n\n\n\n\n\n\n\n\n\n\n\n\n".as_bytes();
+    for room in 0..whole.len() + 2 {
+        for flush_fails in [false, true] {
+            let mut writer = Watched::new(SmallWriter {
+                taken: Vec::new(rt.alloc()),
+                room,
+                flush_fails,
+            });
+            let answer = plain(&terminal, &mut writer);
+            let succeeds = room >= whole.len() && !flush_fails;
+            assert_eq!(rt;
+                answer,
+                if succeeds {
+                    Ok(())
+                } else {
+                    Err(Fault::WriteFault)
+                },
+                "room for {room}"
+            );
+            assert_eq!(rt; writer.failed(), !succeeds);
+            let taken = writer.into_inner().taken;
+            assert_eq!(rt; taken.as_slice(), &whole[..room.min(whole.len())]);
+        }
+    }
+    Ok(())
+}

@@ -1,0 +1,11 @@
+//! Both files, recordings, and the devices round them.
+
+mod changes;
+mod devices;
+mod faults;
+mod reading;
+mod refused;
+mod seconds;
+mod text;
+mod writing;
+mod written_lines;

@@ -1,0 +1,140 @@
+//! Sessions, call by call: what each call answers, told as a text.
+ghost use Rattle.std.specs.Prelude.{◌≤◌};
+
+use std::alloc::Global;
+use std::fmt::Write;
+use std::process::Abort;
+use std::test::Fail;
+use tape_core::{Recording, Watched, read_recording};
+use tape_seek::{Edit, Request, Session, View, read_line, write_log};
+use vt_term::Terminal;
+
+mod large;
+mod refused;
+mod requests;
+mod rows;
+mod written_log;
+
+/// A call of a session.
+#[derive(Clone, Copy, Debug)]
+enum Call<'a> {
+    /// What a request line asks for.
+    Line(&'a [u8]),
+    /// A seek of so many chunks.
+    Count(usize),
+}
+
+/// A call, its answer, and after it frontier, head and held().
+type Row<'a> = (Call<'a>, &'a str, (usize, usize, usize));
+
+/// A recording of chunks, each with its delay in seconds.
+fn recorded(alloc: Global, chunks: &[(&str, &[u8])]) -> Result<Recording, Fail> {
+    let mut script = Vec::from_slice(alloc, b"Script started on X\n")?;
+    let mut timing = String::new(alloc);
+    for (seconds, bytes) in chunks {
+        script.extend_from_slice(bytes)?;
+        writeln!(timing, "{seconds} {}", bytes.len())?;
+    }
+    Ok(read_recording(alloc, script.as_slice(), timing.as_bytes())?)
+}
+
+/// How far a seek went and what it fed, then what was sent (E for ESC) and what the terminal shows.
+fn told_of_view(alloc: Global, view: &View<'_>) -> Result<String, Fail> {
+    let mut text = String::new(alloc);
+    write!(text, "count {} fed {}", view.count(), view.fed())?;
+    if !view.reports().is_empty() {
+        text.push_str(" sent ")?;
+    }
+    for byte in view.reports() {
+        text.push(if *byte == 27 { 'E' } else { char::from(*byte) })?;
+    }
+    write_terminal(alloc, &mut text, view.terminal())?;
+    Ok(text)
+}
+
+/// Lines that aren't blank up to column 8, a pending wrap and a pending sequence.
+fn write_terminal(alloc: Global, text: &mut String, terminal: &Terminal) -> Result<(), Fail> {
+    for line in 1..25 {
+        let mut shown = String::new(alloc);
+        for column in 1..9 {
+            let cell = terminal.screen().cell(line, column);
+            shown.push(char::from(cell.glyph))?;
+        }
+        let shown = shown.as_str().trim_end();
+        if !shown.is_empty() {
+            write!(text, " {line}:{shown}")?;
+        }
+    }
+    if terminal.screen().wrap() {
+        text.push_str(" wrap")?;
+    }
+    let state = format!(in alloc; "{:?}", terminal.parser_state())?;
+    if state.as_str() != "Ground" {
+        write!(text, " in {state}")?;
+    }
+    Ok(())
+}
+
+fn told_of_edit(alloc: Global, session: &mut Session, edit: Edit) -> Result<String, Fail> {
+    match session.apply(edit) {
+        Ok(()) => Ok(format!(in alloc; "ok")?),
+        Err(refused) => {
+            let fault = refused.fault;
+            Ok(format!(in alloc; "{fault:?}")?)
+        }
+    }
+}
+
+fn told_of_log(alloc: Global, session: &Session) -> Result<String, Fail> {
+    let mut writer = Watched::new(Vec::new(alloc));
+    write_log(session.log(), &mut writer)?;
+    Ok(String::from_utf8(writer.into_inner())?)
+}
+
+fn told_of_line(alloc: Global, session: &mut Session, line: &[u8]) -> Result<String, Fail> {
+    match read_line(alloc, line)? {
+        Request::Edit(edit) => told_of_edit(alloc, session, edit),
+        Request::Screen(moment) | Request::Reports(moment) => {
+            told_of_view(alloc, &session.seek(moment)?)
+        }
+        Request::Log => told_of_log(alloc, session),
+        Request::Info => {
+            let recording = session.recording();
+            let chunks = recording.chunks().len();
+            let bytes = recording.body_len();
+            Ok(format!(in alloc; "{chunks} chunks, {bytes} bytes, {} us", recording.length())?)
+        }
+        Request::Nothing | Request::Changes { .. } => Ok(String::new(alloc)),
+    }
+}
+
+fn told(
+    rt: &impl Abort,
+    alloc: Global,
+    session: &mut Session,
+    call: Call<'_>,
+) -> Result<String, Fail> {
+    match call {
+        Call::Line(line) => told_of_line(alloc, session, line),
+        Call::Count(count) => {
+            assert!(rt; count <= session.recording().chunks().len());
+            told_of_view(alloc, &session.seek_count(count)?)
+        }
+    }
+}
+
+/// Makes the calls in turn, and compares what they answer and leave.
+fn compare(
+    rt: &impl Abort,
+    alloc: Global,
+    session: &mut Session,
+    rows: &[Row<'_>],
+) -> Result<(), Fail> {
+    for (call, answer, left) in rows {
+        let text = told(rt, alloc, session, *call)?;
+        assert_eq!(rt; text.as_str(), *answer, "of {call:?}");
+        let marks = (session.frontier(), session.head(), session.held());
+        assert_eq!(rt; marks, *left, "after {call:?}");
+    }
+    Ok(())
+}

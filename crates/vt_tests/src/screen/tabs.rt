@@ -1,0 +1,54 @@
+//! Tab stops.
+use super::type_text;
+use vt_screen::{Screen, Size};
+
+#[test]
+fn tabs_to_stops(rt: HostRuntime) {
+    let mut screen = Screen::reset();
+    screen.tab_forward();
+    assert_eq!(rt; screen.cursor(), (1, 9));
+    screen.tab_forward();
+    assert_eq!(rt; screen.cursor(), (1, 17));
+    screen.clear_tabs();
+    screen.tab_forward();
+    assert_eq!(rt; screen.cursor(), (1, 80));
+    type_text(&mut screen, b"x");
+    assert_eq!(rt; screen.cell(1, 80).glyph, b'x');
+    assert!(rt; screen.wrap());
+    screen.tab_forward();
+    assert!(rt; !screen.wrap());
+}
+
+#[test]
+fn sets_and_clears_stops(rt: HostRuntime) {
+    let mut screen = Screen::reset();
+    screen.place(1, 5, false);
+    screen.set_tab();
+    screen.to_left();
+    screen.tab_forward();
+    assert_eq!(rt; screen.cursor(), (1, 5));
+    screen.clear_tab();
+    screen.to_left();
+    screen.tab_forward();
+    assert_eq!(rt; screen.cursor(), (1, 9));
+    // a stop right of the margin of a double line is not reached
+    screen.set_size(Size::Double);
+    screen.step_right(31);
+    assert_eq!(rt; screen.cursor(), (1, 40));
+    screen.tab_forward();
+    assert_eq!(rt; screen.cursor(), (1, 40));
+}
+
+#[test]
+fn tabs_outlive_a_change_of_columns(rt: HostRuntime) {
+    let mut screen = Screen::reset();
+    screen.set_columns(true, false);
+    screen.place(1, 130, false);
+    screen.tab_forward();
+    assert_eq!(rt; screen.cursor(), (1, 132));
+    screen.set_tab();
+    screen.set_columns(false, false);
+    screen.set_columns(true, false);
+    assert!(rt; screen.tab(132));
+    assert!(rt; screen.tab(129));
+}
