@@ -1,7 +1,1 @@
-pub mod CommandLine
-pub mod Info
-pub mod Moment
-pub mod Output
 pub mod Program
-pub mod Requests
-pub mod Session

@@ -3,12 +3,12 @@ use Rattle.std.specs.Prelude.{◌≡◌, ℕ, List, MatchOption, string_bytes}
 use Rattle.clap.specs.Words.{kind_of}
 use Rattle.clap.specs.declared.error.ErrorKind.{ErrorKind}
 use Rattle.clap.specs.declared.error.ErrorKind.TheVariants.{DisplayHelp, DisplayVersion}
-use Rattle.typetool.specs.Output.{Comes, Done, Files, IsDoneStatus, status_of}
-use Rattle.typetool.specs.declared.job.Job.{Job}
-use Rattle.typetool.specs.declared.job.Outcome.{Outcome}
+use Rattle.tape_jobs.specs.Output.{Comes, Done, Files, IsDoneStatus, status_of}
+use Rattle.tape_jobs.specs.declared.job.Job.{Job}
+use Rattle.tape_jobs.specs.declared.job.Outcome.{Outcome}
 use Rattle.typetool.specs.declared.program.Stop.{Stop}
 use Rattle.typetool.specs.declared.program.Stop.TheVariants.{Words, NotText, Memory, CannotOpen, CannotCreate, Job as of_job}
-use Rattle.typetool.specs.declared.words.WordsFault.TheVariants as words
+use Rattle.tape_jobs.specs.declared.words.WordsFault.TheVariants as words
 
 -- 0 where help is asked for, and 2 for a mistake (profile)
 abbrev pub clap_status : ErrorKind → ℕ

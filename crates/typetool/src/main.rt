@@ -1,12 +1,9 @@
 //! Tells what a recording of a terminal shows by a moment.
 #![tactic(auto)]
 
-mod job;
-mod jobs;
-mod laws;
-mod moment;
 mod program;
-mod words;
+#[cfg(test)]
+mod tests;
 
 use std::process::ExitCode;
 

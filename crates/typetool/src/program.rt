@@ -3,12 +3,10 @@
 ghost use Rattle.std.specs.Prelude.{◌≡◌, ◌⊎◌, ◌≢◌, ◌≤◌, false, IfErr, IfOk, vec_len};
 ghost use Rattle.clap.specs.Words.{kind_of};
 ghost use Rattle.tape_core.specs.Devices.{has_failed};
-ghost use Rattle.typetool.specs.CommandLine.{path_count};
-ghost use Rattle.typetool.specs.Output.{Files as Given, Tells, is_stopped};
+ghost use Rattle.tape_jobs.specs.CommandLine.{path_count};
+ghost use Rattle.tape_jobs.specs.Output.{Files as Given, Tells, is_stopped};
 ghost use Rattle.typetool.specs.Program.{IsAnswer, IsNotCreated, IsNotOpen, IsOutcome, stop_status};
 
-use crate::job::{Job, JobFault, Outcome, run};
-use crate::words::{Words, WordsFault, read_words};
 use clap::error::ErrorKind;
 use std::alloc::AllocError;
 use std::fs::OpenOptions;
@@ -16,6 +14,7 @@ use std::io::BufWriter;
 use std::rt::{Env, Files};
 use std::{env, fs, io};
 use tape_core::{Fault, Watched};
+use tape_jobs::{Job, JobFault, Outcome, Words, WordsFault, read_words, run};
 use thiserror::Error;
 
 /// How many bytes of standard output are held back before they are written.

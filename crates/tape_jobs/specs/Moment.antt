@@ -1,0 +1,20 @@
+-- How far a text has gone out where a job stops.
+use Rattle.std.specs.Prelude.{◌≡◌, ℕ, ◌⊎◌, List, Option}
+use Rattle.tape_core.specs.Devices.{StoppedIn}
+use Rattle.tape_core.specs.declared.devices.Watched.{Watched}
+use Rattle.tape_core.specs.declared.fault.Fault.TheVariants.{WriteFault}
+use Rattle.screen_print.specs.declared.chunk_changes.ChangesFault.{ChangesFault}
+use Rattle.screen_print.specs.declared.chunk_changes.ChangesFault.TheVariants as changes
+use Rattle.screen_print.specs.Stops.{Began}
+use Rattle.tape_jobs.specs.declared.job.JobFault.{JobFault}
+use Rattle.tape_jobs.specs.declared.job.JobFault.TheVariants.{File, Memory}
+
+-- why a job stops in the text that it writes on a recording: for want of memory, or as the writer fails (profile)
+abbrev pub StopsAt : {O : Type 0} → (O → Option (List ℕ)) → Watched O → Watched O → List ℕ → JobFault → Type 0
+StopsAt contents old new text f =
+    ((f ≡ Memory) × Began contents old new text) ⊎ ((f ≡ File WriteFault) × StoppedIn contents old new text)
+
+-- why change lines end early, as a fault of a job (profile)
+abbrev pub fault_of_changes : ChangesFault → JobFault
+fault_of_changes changes.Write = File WriteFault
+fault_of_changes changes.Memory = Memory

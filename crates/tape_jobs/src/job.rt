@@ -1,0 +1,368 @@
+//! The jobs: each reads its files whole and then writes its text.
+
+ghost use Rattle.std.specs.Prelude.{◌≡◌, ◌⊎◌, ◌≢◌, ℕ, List, true, false, Some, None, OnOk, IfOk, IfErr, IfSome};
+ghost use Rattle.tape_core.specs.Devices.{inner_of, has_failed, is_flushed, StopsReading};
+ghost use Rattle.tape_core.specs.Faults.{is_stop};
+ghost use Rattle.tape_core.specs.Reading.{fault_of, reads};
+ghost use Rattle.tape_core.specs.Tape.{Tape};
+ghost use Rattle.tape_jobs.specs.Output.{Files, Done, Comes, Tells, Wrote, Begun, Stopped, takes_requests, writes_timing, EndsAt, done_on, is_stopped, is_unwritten, status_after, status_of, outcome_by, IsDoneStatus, TakesMemory};
+
+use crate::jobs::changes::write_changes;
+use crate::jobs::due::write_due;
+use crate::jobs::info::write_info;
+use crate::jobs::save::{name_of, save};
+use crate::jobs::session::write_answers;
+use crate::moment::{write_reports, write_screen};
+use screen_print::ChangesFault;
+use std::alloc::Global;
+use std::io::{Read, Write};
+use tape_core::laws::writers_join;
+use tape_core::{Fault, Recording, Watched, read_recording, slurp};
+use tape_seek::EditFault;
+use thiserror::Error;
+use vt_term::{OutOfMemory, Profile};
+
+/// What is to be done with a recording. Moments are in microseconds.
+#[derive(Clone, Copy, Debug, PartialEq, Eq)]
+pub enum Job {
+    /// Write the bytes of the chunks that are due by a moment.
+    Due {
+        at: u64,
+    },
+    /// Write what the recording holds, in five lines.
+    Info,
+    /// Write the screen of a moment as plain text, or as a text that draws it again.
+    Screen {
+        at: u64,
+        profile: Profile,
+        escaped: bool,
+    },
+    /// Write which lines of the screen each chunk changes, of those that are due after `from` (None: from chunk 0 on) and
+    /// by `to`.
+    Changes {
+        from: Option<u64>,
+        to: u64,
+        profile: Profile,
+    },
+    /// Write in hexadecimal what the terminal has sent by a moment.
+    Reports {
+        at: u64,
+        profile: Profile,
+    },
+    /// Make the edits of request lines, and write both files anew.
+    Save,
+    /// Answer request lines. A terminal is stored at every so many chunks, of 1 to 1,000,000.
+    Session {
+        every: usize,
+        profile: Profile,
+    },
+}
+
+/// How a job ends that is done.
+#[derive(Clone, Copy, Debug, PartialEq, Eq)]
+pub enum Ending {
+    /// Nothing was refused.
+    Clean,
+    /// A session has refused some line.
+    WithRefusals,
+}
+
+impl Ending {
+    /// The status of the program: 1 where a line was refused, and else 0.
+    fn status(self) -> u8
+        ensures { result ≡ status_after self }
+    {
+        match self {
+            Ending::Clean => 0,
+            Ending::WithRefusals => 1,
+        }
+    }
+}
+
+/// Why a job wasn't done.
+#[derive(Clone, Copy, Debug, PartialEq, Eq, Error)]
+pub enum JobFault {
+    /// The pair of files has a fault, memory was refused or a device failed.
+    #[error("{0}")]
+    File(Fault),
+    /// A request line was refused: its number, counted from 1 with the blank ones, and why.
+    #[error("request line {line}: {}", name_of(*fault))]
+    Line { line: u64, fault: EditFault },
+    /// Memory was refused once the recording was read.
+    #[error("out of memory")]
+    Memory,
+}
+
+impl From<Fault> for JobFault {
+    ghost use Rattle.std.specs.Prelude.{◌≡◌};
+    ghost use Rattle.tape_jobs.specs.declared.job.JobFault.TheVariants.{File as file};
+
+    ghost from_gives = { λ fault made. made ≡ file fault };
+
+    fn from(fault: Fault) -> JobFault {
+        JobFault::File(fault)
+    }
+}
+
+impl From<OutOfMemory> for JobFault {
+    ghost use Rattle.std.specs.Prelude.{◌≡◌};
+    ghost use Rattle.tape_jobs.specs.declared.job.JobFault.TheVariants.{Memory};
+
+    ghost from_gives = { λ _ fault. fault ≡ Memory };
+
+    fn from(_refused: OutOfMemory) -> JobFault {
+        JobFault::Memory
+    }
+}
+
+impl From<ChangesFault> for JobFault {
+    ghost use Rattle.std.specs.Prelude.{◌≡◌};
+    ghost use Rattle.tape_jobs.specs.Moment.{fault_of_changes};
+
+    ghost from_gives = { λ stop fault. fault ≡ fault_of_changes stop };
+
+    fn from(stop: ChangesFault) -> JobFault {
+        match stop {
+            ChangesFault::Write => JobFault::File(Fault::WriteFault),
+            ChangesFault::Memory => JobFault::Memory,
+        }
+    }
+}
+
+impl JobFault {
+    /// The status of the program: 3 where a device or want of memory stopped the job, and else 1.
+    pub fn status(self) -> u8
+        ensures { result ≡ status_of self }
+    {
+        match self {
+            JobFault::File(Fault::OutOfMemory | Fault::ReadFault | Fault::WriteFault) => 3,
+            JobFault::File(_) | JobFault::Line { .. } => 1,
+            JobFault::Memory => 3,
+        }
+    }
+}
+
+/// How a job ended: the status of the program, and the fault that it prints.
+#[derive(Clone, Copy, Debug, PartialEq, Eq)]
+pub struct Outcome {
+    pub status: u8,
+    pub fault: Option<JobFault>,
+}
+
+/// Does a job: reads the script and the timing whole, and then writes.
+///
+/// Nothing is written where the pair of files has a fault, or a reader fails or memory is refused while they are read.
+/// After a write fault, or where memory is refused later, a beginning of the text has gone out. No fault is retried.
+pub fn run<S: Read, T: Read, R: Read, O: Write, P: Write>(
+    alloc: Global,
+    job: Job,
+    script: &mut Watched<S>,
+    timing: &mut Watched<T>,
+    requests: &mut Watched<R>,
+    out: &mut Watched<O>,
+    out_timing: &mut Watched<P>,
+) -> Outcome
+    requires script { has_failed script.old ≡ false }
+    requires timing { has_failed timing.old ≡ false }
+    requires requests { has_failed requests.old ≡ false }
+    requires out { has_failed out.old ≡ false }
+    requires out_timing { has_failed out_timing.old ≡ false }
+
+    // Where no device and no want of memory stopped the job: no device failed, and both texts went out whole.
+    ensures sound { is_stopped result.fault ≡ false → (has_failed script.new ≡ false)
+        × (has_failed timing.new ≡ false) × (has_failed requests.new ≡ false)
+        × (has_failed out.new ≡ false) × (has_failed out_timing.new ≡ false) }
+    ensures answer { is_stopped result.fault ≡ false → (files : Files)
+        → Tells S.remaining T.remaining R.remaining job script.old timing.old requests.old files
+        → (done : Done) × Comes job files done × (result ≡ done.outcome)
+        × Wrote O.contents P.contents out.old out.new out_timing.old out_timing.new done }
+    ensures flushed { result.fault ≡ None → is_flushed out.new ≡ true }
+    ensures flushed_timing { result.fault ≡ None → writes_timing job ≡ true → is_flushed out_timing.new ≡ true }
+
+    // The status: 3 where the job was stopped, and 1 where the pair of files has a fault.
+    ensures done { result.fault ≡ None → IsDoneStatus job result.status }
+    ensures status { IfSome result.fault (λ fault. result.status ≡ status_of fault) }
+
+    // Nothing is written where the pair of files has a fault, or a reader failed or memory was refused while they were
+    // read. Where memory was refused later or a writer failed, a beginning of the text went out, and nothing of the
+    // second text unless the first is whole.
+    ensures unwritten { is_unwritten result.fault ≡ true → (out.new ≡ out.old)
+        × (out_timing.new ≡ out_timing.old) }
+    ensures memory { result.fault ≡ Some (JobFault.File Fault.OutOfMemory) → (has_failed script.new ≡ false)
+        × (has_failed timing.new ≡ false) × (has_failed requests.new ≡ false) }
+    ensures begun { result.fault ≡ Some JobFault.Memory → (files : Files)
+        → Tells S.remaining T.remaining R.remaining job script.old timing.old requests.old files
+        → (done : Done) × Comes job files done
+        × Begun O.contents P.contents out.old out.new out_timing.old out_timing.new done }
+    ensures stopped { result.fault ≡ Some (JobFault.File Fault.WriteFault) → (files : Files)
+        → Tells S.remaining T.remaining R.remaining job script.old timing.old requests.old files
+        → (done : Done) × Comes job files done
+        × Stopped O.contents P.contents out.old out.new out_timing.old out_timing.new done }
+
+    // Once the recording is read, memory is wanted only by a job that opens a session.
+    ensures growth { result.fault ≡ Some JobFault.Memory → (has_failed script.new ≡ false)
+        × (has_failed timing.new ≡ false) × (has_failed requests.new ≡ false)
+        × (has_failed out.new ≡ false) × (has_failed out_timing.new ≡ false) }
+    ensures want { result.fault ≡ Some JobFault.Memory → TakesMemory job }
+
+    // A device fault comes only where that device failed.
+    ensures read_fault { result.fault ≡ Some (JobFault.File Fault.ReadFault) → (has_failed script.new ≡ true)
+        ⊎ ((has_failed timing.new ≡ true) ⊎ (has_failed requests.new ≡ true)) }
+    ensures write_fault { result.fault ≡ Some (JobFault.File Fault.WriteFault) → (has_failed out.new ≡ true)
+        ⊎ (has_failed out_timing.new ≡ true) }
+
+    // What a job leaves alone.
+    ensures requests { takes_requests job ≡ false → requests.new ≡ requests.old }
+    ensures out_timing { writes_timing job ≡ false → out_timing.new ≡ out_timing.old }
+{
+    writers_join::<O>();
+    writers_join::<P>();
+    let given = match read_files(alloc, job, script, timing, requests) {
+        Ok(given) => given,
+        Err(fault) => return outcome_of(Err(JobFault::File(fault))),
+    };
+    outcome_of(perform(alloc, job, given, out, out_timing))
+}
+
+/// Does a job on what it is given, and flushes what it writes. The program ends with its job: to free a million chunks one
+/// by one would take as long as to write them.
+fn perform<O: Write, P: Write>(
+    alloc: Global,
+    job: Job,
+    given: Given,
+    out: &mut Watched<O>,
+    out_timing: &mut Watched<P>,
+) -> Result<Ending, JobFault>
+    requires out { has_failed out.old ≡ false }
+    requires out_timing { has_failed out_timing.old ≡ false }
+    ensures ok { OnOk result ((done_on job given.recording given.requests.items).outcome ≡ outcome_by result) }
+    ensures status { IfOk result (λ ending. IsDoneStatus job (status_after ending)) }
+    ensures wrote { OnOk result (Wrote O.contents P.contents out.old out.new out_timing.old out_timing.new
+        (done_on job given.recording given.requests.items)) }
+    ensures flushed { OnOk result (is_flushed out.new ≡ true) }
+    ensures flushed_timing { writes_timing job ≡ true → OnOk result (is_flushed out_timing.new ≡ true) }
+    ensures fault { IfErr result (EndsAt O.contents P.contents out.old out.new out_timing.old out_timing.new
+        (done_on job given.recording given.requests.items)) }
+    ensures want { result ≡ Err JobFault.Memory → TakesMemory job }
+    ensures alone { writes_timing job ≡ false → out_timing.new ≡ out_timing.old }
+{
+    let Given {
+        recording,
+        requests,
+    } = given;
+    match job {
+        Job::Due { at } => {
+            write_due(recording, at, out)?;
+            Ok(Ending::Clean)
+        }
+        Job::Info => {
+            write_info(recording, out)?;
+            Ok(Ending::Clean)
+        }
+        Job::Screen {
+            at,
+            profile,
+            escaped,
+        } => {
+            write_screen(alloc, recording, profile, at, escaped, out)?;
+            Ok(Ending::Clean)
+        }
+        Job::Changes { from, to, profile } => {
+            write_changes(alloc, recording, profile, from, to, out)?;
+            Ok(Ending::Clean)
+        }
+        Job::Reports { at, profile } => {
+            write_reports(alloc, recording, profile, at, out)?;
+            Ok(Ending::Clean)
+        }
+        Job::Save => {
+            save(alloc, recording, &requests, out, out_timing)?;
+            Ok(Ending::Clean)
+        }
+        Job::Session { every, profile } => {
+            write_answers(alloc, recording, profile, every, &requests, out)
+        }
+    }
+}
+
+/// How a job ends that is done, or isn't for this fault.
+fn outcome_of(done: Result<Ending, JobFault>) -> Outcome
+    ensures { result ≡ outcome_by done }
+{
+    match done {
+        Ok(ending) => Outcome {
+            status: ending.status(),
+            fault: None,
+        },
+        Err(fault) => Outcome {
+            status: fault.status(),
+            fault: Some(fault),
+        },
+    }
+}
+
+/// What a job is given: the recording, and the request lines where it takes them.
+#[derive(Drop)]
+struct Given {
+    recording: Recording,
+    requests: Vec<u8>,
+}
+
+/// Reads both files whole, then the request lines where the job takes them, and then the recording.
+fn read_files<S: Read, T: Read, R: Read>(
+    alloc: Global,
+    job: Job,
+    script: &mut Watched<S>,
+    timing: &mut Watched<T>,
+    requests: &mut Watched<R>,
+) -> Result<Given, Fault>
+    requires script { has_failed script.old ≡ false }
+    requires timing { has_failed timing.old ≡ false }
+    requires requests { has_failed requests.old ≡ false }
+    ensures ok { IfOk result (λ given. (s : List ℕ) (t : List ℕ)
+        → S.remaining (inner_of script.old) ≡ Some s → T.remaining (inner_of timing.old) ≡ Some t
+        → reads s t given.recording) }
+    ensures requests { IfOk result (λ given. takes_requests job ≡ true → (r : List ℕ)
+        → R.remaining (inner_of requests.old) ≡ Some r → given.requests.items ≡ r) }
+    ensures fault { IfErr result (λ fault. is_stop fault ≡ false → (s : List ℕ) (t : List ℕ)
+        → S.remaining (inner_of script.old) ≡ Some s → T.remaining (inner_of timing.old) ≡ Some t
+        → fault_of s t ≡ Some fault) }
+    ensures sound { result ≢ Err Fault.ReadFault → (has_failed script.new ≡ false)
+        × (has_failed timing.new ≡ false) × (has_failed requests.new ≡ false) }
+    ensures read_fault { IfErr result (λ fault. fault ≡ Fault.ReadFault → (has_failed script.new ≡ true)
+        ⊎ ((has_failed timing.new ≡ true) ⊎ (has_failed requests.new ≡ true))) }
+    ensures no_write_fault { IfErr result (λ fault. fault ≢ Fault.WriteFault) }
+    ensures alone { takes_requests job ≡ false → requests.new ≡ requests.old }
+{
+    let script = slurp(alloc, script)?;
+    let timing = slurp(alloc, timing)?;
+    let requests = read_requests(alloc, job, requests)?;
+    let recording = read_recording(alloc, &script, &timing)?;
+    Ok(Given {
+        recording,
+        requests,
+    })
+}
+
+/// Reads the request lines whole where the job takes them.
+fn read_requests<R: Read>(
+    alloc: Global,
+    job: Job,
+    requests: &mut Watched<R>,
+) -> Result<Vec<u8>, Fault>
+    requires { has_failed requests.old ≡ false }
+    ensures ok { IfOk result (λ text. takes_requests job ≡ true → (r : List ℕ)
+        → R.remaining (inner_of requests.old) ≡ Some r → text.items ≡ r) }
+    ensures sound { IfOk result (λ text. has_failed requests.new ≡ false) }
+    ensures fault { IfErr result (λ fault. StopsReading fault (has_failed requests.new)) }
+    ensures alone { takes_requests job ≡ false → requests.new ≡ requests.old }
+{
+    match job {
+        Job::Save | Job::Session { .. } => slurp(alloc, requests),
+        Job::Due { .. }
+        | Job::Info
+        | Job::Screen { .. }
+        | Job::Changes { .. }
+        | Job::Reports { .. } => Ok(Vec::new(alloc)),
+    }
+}

@@ -1,0 +1,11 @@
+//! The jobs over a recording, as calls over readers and writers, and the words of a command line that ask for them.
+#![tactic(auto)]
+
+mod job;
+mod jobs;
+pub mod laws;
+mod moment;
+mod words;
+
+pub use job::{Ending, Job, JobFault, Outcome, run};
+pub use words::{Words, WordsFault, read_words};

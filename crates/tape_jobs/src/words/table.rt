@@ -1,0 +1,127 @@
+//! The table of subcommands: their names, flags and paths, and what help tells of them.
+
+ghost use Rattle.std.specs.Prelude.{◌≡◌, map};
+ghost use Rattle.tape_jobs.specs.CommandLine.{flags_in, id_in, name_in, paths_in, subcommands_in_order};
+
+/// The subcommands.
+#[derive(Clone, Copy, Debug, PartialEq, Eq)]
+pub enum Subcommand {
+    Due,
+    Info,
+    Screen,
+    Changes,
+    Reports,
+    Save,
+    Session,
+}
+
+/// The arguments of subcommands: flags and paths.
+#[derive(Clone, Copy, Debug, PartialEq, Eq)]
+pub enum Argument {
+    /// A moment.
+    At,
+    /// The moment after which changes are asked for.
+    From,
+    /// The moment by which they are.
+    To,
+    /// How many chunks lie between stored terminals.
+    Every,
+    /// Which terminal plays.
+    Profile,
+    /// A text that draws the screen again is asked for.
+    Escaped,
+    /// The typescript.
+    Script,
+    /// Its timing file.
+    Timing,
+    /// The typescript that is to be written.
+    NewScript,
+    /// The timing file that is to be written.
+    NewTiming,
+}
+
+/// The subcommands, in the order in which help tells them.
+pub fn subcommands() -> [Subcommand; 7]
+    ensures { result ≡ subcommands_in_order }
+{
+    [
+        Subcommand::Due,
+        Subcommand::Info,
+        Subcommand::Screen,
+        Subcommand::Changes,
+        Subcommand::Reports,
+        Subcommand::Save,
+        Subcommand::Session,
+    ]
+}
+
+/// The name of a subcommand.
+#[tactic(auto, unfolding(crate::specs::CommandLine::name_in))]
+pub fn name_of<'a>(subcommand: Subcommand) -> &'a str
+    ensures { result.now ≡ name_in subcommand }
+{
+    match subcommand {
+        Subcommand::Due => "due",
+        Subcommand::Info => "info",
+        Subcommand::Screen => "screen",
+        Subcommand::Changes => "changes",
+        Subcommand::Reports => "reports",
+        Subcommand::Save => "save",
+        Subcommand::Session => "session",
+    }
+}
+
+/// The flags of a subcommand.
+#[tactic(auto, unfolding(crate::specs::CommandLine::flags_in))]
+pub fn flags_of(subcommand: Subcommand) -> &'static [Argument]
+    ensures { result.now ≡ flags_in subcommand }
+{
+    match subcommand {
+        Subcommand::Due => &[Argument::At],
+        Subcommand::Screen => &[Argument::At, Argument::Escaped, Argument::Profile],
+        Subcommand::Changes => &[Argument::From, Argument::To, Argument::Profile],
+        Subcommand::Reports => &[Argument::At, Argument::Profile],
+        Subcommand::Session => &[Argument::Every, Argument::Profile],
+        Subcommand::Info | Subcommand::Save => &[],
+    }
+}
+
+/// The paths of a subcommand, in the line's order.
+#[tactic(auto, unfolding(crate::specs::CommandLine::paths_in))]
+pub fn paths_of(subcommand: Subcommand) -> &'static [Argument]
+    ensures { result.now ≡ paths_in subcommand }
+{
+    match subcommand {
+        Subcommand::Due
+        | Subcommand::Info
+        | Subcommand::Screen
+        | Subcommand::Changes
+        | Subcommand::Reports
+        | Subcommand::Session => &[Argument::Script, Argument::Timing],
+        Subcommand::Save => &[
+            Argument::Script,
+            Argument::Timing,
+            Argument::NewScript,
+            Argument::NewTiming,
+        ],
+    }
+}
+
+/// The name of an argument.
+#[tactic(auto, unfolding(crate::specs::CommandLine::id_in))]
+pub fn id_of<'a>(argument: Argument) -> &'a str
+    ensures { result.now ≡ id_in argument }
+{
+    match argument {
+        Argument::At => "at",
+        Argument::From => "from",
+        Argument::To => "to",
+        Argument::Every => "every",
+        Argument::Profile => "profile",
+        Argument::Escaped => "escaped",
+        Argument::Script => "script",
+        Argument::Timing => "timing",
+        Argument::NewScript => "new-script",
+        Argument::NewTiming => "new-timing",
+    }
+}

@@ -1,0 +1,172 @@
+//! The job and the paths that a subcommand's values mean.
+
+ghost use Rattle.std.specs.Prelude.{◌≡◌, IfOk, map, string_bytes, vec_len, length};
+ghost use Rattle.std.specs.Option.{option_map};
+ghost use Rattle.clap.specs.Words.{first_of, found_of, rows_of};
+ghost use Rattle.tape_jobs.specs.CommandLine.{every_allowed, every_in, every_of, id_in, job_in, moment_in, moment_given_in, paths_in, profile_in, profile_named, switch_in, value_in};
+
+use super::table::{Argument, Subcommand, id_of, paths_of};
+use crate::job::Job;
+use crate::jobs::EVERY;
+use clap::ArgMatches;
+use std::alloc::{AllocError, Global};
+use tape_core::read_seconds;
+use tape_core::text::read_number;
+use vt_term::Profile;
+
+/// What of a command line isn't readable, where clap takes the words.
+#[derive(Clone, Copy, Debug, PartialEq, Eq)]
+pub enum Unreadable {
+    /// A number of seconds.
+    Seconds,
+    /// How many chunks lie between stored terminals.
+    Every,
+    /// Which terminal plays.
+    Profile,
+}
+
+/// The job that a subcommand's values mean.
+#[tactic(auto, unfolding(crate::specs::CommandLine::job_in))]
+pub fn read_job(subcommand: Subcommand, values: &ArgMatches<'_>) -> Result<Job, Unreadable>
+    ensures { result ≡ job_in subcommand (rows_of (found_of values.now)) }
+{
+    match subcommand {
+        Subcommand::Due => Ok(Job::Due {
+            at: read_moment(values, Argument::At)?,
+        }),
+        Subcommand::Info => Ok(Job::Info),
+        Subcommand::Screen => Ok(Job::Screen {
+            at: read_moment(values, Argument::At)?,
+            profile: read_profile(values)?,
+            escaped: is_given(values, Argument::Escaped),
+        }),
+        Subcommand::Changes => Ok(Job::Changes {
+            from: read_moment_given(values, Argument::From)?,
+            to: read_moment(values, Argument::To)?,
+            profile: read_profile(values)?,
+        }),
+        Subcommand::Reports => Ok(Job::Reports {
+            at: read_moment(values, Argument::At)?,
+            profile: read_profile(values)?,
+        }),
+        Subcommand::Save => Ok(Job::Save),
+        Subcommand::Session => Ok(Job::Session {
+            every: read_every(values)?,
+            profile: read_profile(values)?,
+        }),
+    }
+}
+
+/// The moment that a flag gives, in microseconds.
+fn read_moment(values: &ArgMatches<'_>, flag: Argument) -> Result<u64, Unreadable>
+    ensures { result ≡ moment_in (id_in flag) (rows_of (found_of values.now)) }
+{
+    let text = value_text(values, flag);
+    read_seconds(text.as_bytes()).ok_or(Unreadable::Seconds)
+}
+
+/// The moment that a flag gives, in microseconds, where it is given.
+fn read_moment_given(values: &ArgMatches<'_>, flag: Argument) -> Result<Option<u64>, Unreadable>
+    ensures { result ≡ moment_given_in (id_in flag) (rows_of (found_of values.now)) }
+{
+    let Some(text) = value_given(values, flag) else {
+        return Ok(None);
+    };
+    let moment = read_seconds(text.as_bytes()).ok_or(Unreadable::Seconds)?;
+    Ok(Some(moment))
+}
+
+/// How many chunks are to lie between stored terminals.
+fn read_every(values: &ArgMatches<'_>) -> Result<usize, Unreadable>
+    ensures { result ≡ every_in (rows_of (found_of values.now)) }
+{
+    let Some(text) = value_given(values, Argument::Every) else {
+        return Ok(EVERY);
+    };
+    every_of(text.as_bytes()).ok_or(Unreadable::Every)
+}
+
+/// A number of chunks in digits alone that may lie between stored terminals.
+#[tactic(auto, unfolding(crate::specs::CommandLine::every_of))]
+fn every_of(text: &[u8]) -> Option<usize>
+    ensures { result ≡ every_of text.now }
+{
+    match read_number(text) {
+        None => None,
+        Some(number) => every_allowed(number),
+    }
+}
+
+/// The number, if so many chunks may lie between stored terminals.
+fn every_allowed(number: u64) -> Option<usize>
+    ensures { result ≡ every_allowed number }
+{
+    if number < 1 || number > 1_000_000 {
+        None
+    } else {
+        Some(number as usize)
+    }
+}
+
+/// Which terminal is to play.
+fn read_profile(values: &ArgMatches<'_>) -> Result<Profile, Unreadable>
+    ensures { result ≡ profile_in (rows_of (found_of values.now)) }
+{
+    let Some(name) = value_given(values, Argument::Profile) else {
+        return Ok(Profile::Vt100);
+    };
+    profile_named(name).ok_or(Unreadable::Profile)
+}
+
+/// The profile of this name.
+#[tactic(auto, unfolding(crate::specs::CommandLine::profile_named))]
+fn profile_named(name: &str) -> Option<Profile>
+    ensures { result ≡ profile_named name.now }
+{
+    if name == "vt100" {
+        Some(Profile::Vt100)
+    } else if name == "vt102" {
+        Some(Profile::Vt102)
+    } else {
+        None
+    }
+}
+
+/// Whether a flag without a value is given.
+fn is_given(values: &ArgMatches<'_>, flag: Argument) -> bool
+    ensures { result ≡ switch_in (id_in flag) (rows_of (found_of values.now)) }
+{
+    value_text(values, flag) == "true"
+}
+
+/// The paths of a subcommand, in the line's order.
+pub fn read_paths(
+    alloc: Global,
+    subcommand: Subcommand,
+    values: &ArgMatches<'_>,
+) -> Result<Vec<String>, AllocError>
+    ensures paths { IfOk result (λ paths. map string_bytes paths.items
+        ≡ map (λ a. value_in (id_in a) (rows_of (found_of values.now))) (paths_in subcommand)) }
+    ensures len { IfOk result (λ paths. vec_len paths ≡ length (paths_in subcommand)) }
+{
+    let mut paths = Vec::new(alloc);
+    for argument in paths_of(subcommand) {
+        let path = String::from_str(alloc, value_text(values, *argument))?;
+        paths.push(path)?;
+    }
+    Ok(paths)
+}
+
+/// The value of an argument that must be given.
+fn value_text<'a>(values: &ArgMatches<'a>, argument: Argument) -> &'a str
+    ensures { result.now ≡ value_in (id_in argument) (rows_of (found_of values.now)) }
+{
+    value_given(values, argument).unwrap_or("")
+}
+
+/// The value of an argument, where it is given.
+fn value_given<'a>(values: &ArgMatches<'a>, argument: Argument) -> Option<&'a str>
+    ensures { option_map (λ text. text.now) result ≡ first_of (id_in argument) (rows_of (found_of values.now)) }
+{
+    values.get_str(id_of(argument))
+}

@@ -1,0 +1,421 @@
+//! Every job over devices that take or tell one byte a call, each of which fails in turn.
+use std::io;
+use std::io::{ErrorKind, Read, Write};
+use std::process::Abort;
+use tape_core::{Fault, Watched};
+use tape_jobs::{Job, JobFault, Outcome, run};
+use vt_term::Profile;
+
+/// A call that never comes: the device is sound.
+const NEVER: usize = usize::MAX;
+
+/// A reader that tells one byte a call, and whose call of a number fails.
+#[derive(Drop)]
+struct SlowReader<'a> {
+    left: &'a [u8],
+    calls: usize,
+    failing: usize,
+}
+
+impl Read for SlowReader<'_> {
+    fn read(&mut self, buf: &mut [u8]) -> io::Result<usize> {
+        let call = self.calls;
+        self.calls = call.saturating_add(1);
+        if call == self.failing {
+            return Err(io::Error::from(ErrorKind::Interrupted));
+        }
+        match (self.left, buf) {
+            ([byte, rest @ ..], [place, ..]) => {
+                *place = *byte;
+                self.left = rest;
+                Ok(1)
+            }
+            _ => Ok(0),
+        }
+    }
+}
+
+/// How a writer fails.
+#[derive(Clone, Copy, Debug, PartialEq, Eq)]
+enum Failure {
+    /// It never does.
+    None,
+    /// The call of this number is an error.
+    Write(usize),
+    /// The call of this number takes nothing.
+    TakesNothing(usize),
+    /// The first flush is an error, and it alone.
+    FirstFlush,
+    /// Every flush is an error.
+    EachFlush,
+}
+
+/// A writer that takes one byte a call, and may fail.
+#[derive(Drop)]
+struct SlowWriter {
+    taken: Vec<u8>,
+    calls: usize,
+    flushes: usize,
+    failure: Failure,
+}
+
+impl Write for SlowWriter {
+    fn write(&mut self, buf: &[u8]) -> io::Result<usize> {
+        let call = self.calls;
+        self.calls = call.saturating_add(1);
+        match self.failure {
+            Failure::Write(failing) if call == failing => {
+                Err(io::Error::from(ErrorKind::Interrupted))
+            }
+            Failure::TakesNothing(failing) if call == failing => Ok(0),
+            _ => match buf {
+                [byte, ..] => {
+                    self.taken.push(*byte)?;
+                    Ok(1)
+                }
+                [] => Ok(0),
+            },
+        }
+    }
+
+    fn flush(&mut self) -> io::Result<()> {
+        let flush = self.flushes;
+        self.flushes = flush.saturating_add(1);
+        match self.failure {
+            Failure::FirstFlush if flush == 0 => Err(io::Error::from(ErrorKind::Other)),
+            Failure::EachFlush => Err(io::Error::from(ErrorKind::Other)),
+            _ => Ok(()),
+        }
+    }
+}
+
+const SCRIPT: &[u8] = b"Script started on X\nab";
+
+const TIMING: &[u8] = b"0.000000 1\n0.500000 1\n";
+
+/// A job with its request lines, over two chunks of a byte each: whether it reads the lines, and both texts.
+#[derive(Clone, Copy)]
+struct Case {
+    job: Job,
+    requests: &'static [u8],
+    reads_requests: bool,
+    text: &'static [u8],
+    new_timing: &'static [u8],
+}
+
+/// A job that reads no request lines and writes one text.
+fn plain_case(job: Job, text: &'static [u8]) -> Case {
+    Case {
+        job,
+        requests: b"left alone",
+        reads_requests: false,
+        text,
+        new_timing: b"",
+    }
+}
+
+/// The end of the recording.
+const END: u64 = 500_000;
+
+/// Each job at the end of the recording.
+fn cases() -> [Case; 7] {
+    let profile = Profile::Vt100;
+    let screen = Job::Screen {
+        at: END,
+        profile,
+        escaped: false,
+    };
+    let changes = Job::Changes {
+        from: None,
+        to: END,
+        profile,
+    };
+    [
+        plain_case(Job::Due { at: END }, b"ab"),
+        plain_case(
+            Job::Info,
+            b"chunks 2\nbytes 2\nlength 0.500000\nheader 20\ntrailer 0\n",
+        ),
+        plain_case(
+            screen,
+            b"ab\n\n\n\n\n\n\n\n\n\n\n\n\n\n\n\n\n\n\n\n\n\n\n\n",
+        ),
+        plain_case(changes, b"0 0.000000 1\n1 0.500000 1\n"),
+        plain_case(Job::Reports { at: END, profile }, b"\n"),
+        save_case(),
+        session_case(profile),
+    ]
+}
+
+/// Another chunk goes in, and both files are written.
+fn save_case() -> Case {
+    Case {
+        job: Job::Save,
+        requests: b"insert 1 0.25 58\n",
+        reads_requests: true,
+        text: b"Script started on X\naXb",
+        new_timing: b"0.000000 1\n0.250000 1\n0.500000 1\n",
+    }
+}
+
+/// A chunk goes out, and what is left is told.
+fn session_case(profile: Profile) -> Case {
+    Case {
+        job: Job::Session { every: 1, profile },
+        requests: b"delete 0 1\n\ninfo",
+        reads_requests: true,
+        text: b"ok\nchunks 1\nbytes 1\nlength 0.500000\nheader 20\ntrailer 0\n",
+        new_timing: b"",
+    }
+}
+
+/// Which call of each reader fails.
+#[derive(Clone, Copy)]
+struct Failing {
+    script: usize,
+    timing: usize,
+    requests: usize,
+}
+
+const NONE_FAILS: Failing = Failing {
+    script: NEVER,
+    timing: NEVER,
+    requests: NEVER,
+};
+
+/// How a run over slow devices ended, and what became of them.
+#[derive(Drop)]
+struct Ran {
+    outcome: Outcome,
+    script_calls: usize,
+    timing_calls: usize,
+    requests_calls: usize,
+    out: Watched<SlowWriter>,
+    out_timing: Watched<SlowWriter>,
+}
+
+fn run_slowly<R: Abort + AllocGlobal>(
+    rt: &R,
+    case: &Case,
+    failing: Failing,
+    out: Failure,
+    out_timing: Failure,
+) -> Ran {
+    let mut script = Watched::new(slow_reader(SCRIPT, failing.script));
+    let mut timing = Watched::new(slow_reader(TIMING, failing.timing));
+    let mut requests = Watched::new(slow_reader(case.requests, failing.requests));
+    let mut out = Watched::new(slow_writer(rt, out));
+    let mut out_timing = Watched::new(slow_writer(rt, out_timing));
+    let outcome = run(
+        rt.alloc(),
+        case.job,
+        &mut script,
+        &mut timing,
+        &mut requests,
+        &mut out,
+        &mut out_timing,
+    );
+    Ran {
+        outcome,
+        script_calls: script.into_inner().calls,
+        timing_calls: timing.into_inner().calls,
+        requests_calls: requests.into_inner().calls,
+        out,
+        out_timing,
+    }
+}
+
+fn slow_reader(text: &[u8], failing: usize) -> SlowReader<'_> {
+    SlowReader {
+        left: text,
+        calls: 0,
+        failing,
+    }
+}
+
+fn slow_writer<R: AllocGlobal>(rt: &R, failure: Failure) -> SlowWriter {
+    SlowWriter {
+        taken: Vec::new(rt.alloc()),
+        calls: 0,
+        flushes: 0,
+        failure,
+    }
+}
+
+/// The outcome of a job that a device stopped.
+fn stopped(fault: Fault) -> Outcome {
+    Outcome {
+        status: 3,
+        fault: Some(JobFault::File(fault)),
+    }
+}
+
+#[test]
+fn jobs_over_slow_devices(rt: HostRuntime) {
+    for case in &cases() {
+        let ran = run_slowly(&rt, case, NONE_FAILS, Failure::None, Failure::None);
+        assert_eq!(rt;
+            ran.outcome,
+            Outcome {
+                status: 0,
+                fault: None
+            }
+        );
+        assert!(rt; !ran.out.failed() && !ran.out_timing.failed());
+        assert_eq!(rt; ran.requests_calls > 0, case.reads_requests);
+        let out = ran.out.into_inner();
+        assert_eq!(rt; out.taken.as_slice(), case.text, "{:?}", case.job);
+        assert_eq!(rt; out.flushes, 1);
+        let out_timing = ran.out_timing.into_inner();
+        assert_eq!(rt; out_timing.taken.as_slice(), case.new_timing);
+    }
+}
+
+/// A run whose reader fails: no call comes after the failed one, and nothing is written.
+fn compare_unread<R: Abort + AllocGlobal>(rt: &R, case: &Case, failing: Failing) {
+    let ran = run_slowly(rt, case, failing, Failure::None, Failure::None);
+    assert_eq!(rt; ran.outcome, stopped(Fault::ReadFault), "{:?}", case.job);
+    assert!(rt; ran.script_calls <= failing.script.saturating_add(1));
+    assert!(rt; ran.timing_calls <= failing.timing.saturating_add(1));
+    assert!(rt; ran.requests_calls <= failing.requests.saturating_add(1));
+    let out = ran.out.into_inner();
+    assert_eq!(rt; (out.calls, out.flushes), (0, 0), "nothing is written");
+    let out_timing = ran.out_timing.into_inner();
+    assert_eq!(rt; (out_timing.calls, out_timing.flushes), (0, 0));
+}
+
+#[test]
+fn a_script_that_fails_stops_the_job(rt: HostRuntime) {
+    for case in &cases() {
+        for call in 0..=SCRIPT.len() {
+            let failing = Failing {
+                script: call,
+                ..NONE_FAILS
+            };
+            compare_unread(&rt, case, failing);
+        }
+    }
+}
+
+#[test]
+fn a_timing_that_fails_stops_the_job(rt: HostRuntime) {
+    for case in &cases() {
+        for call in 0..=TIMING.len() {
+            let failing = Failing {
+                timing: call,
+                ..NONE_FAILS
+            };
+            compare_unread(&rt, case, failing);
+        }
+    }
+}
+
+#[test]
+fn requests_that_fail_stop_the_job(rt: HostRuntime) {
+    for case in &cases() {
+        if case.reads_requests {
+            for call in 0..=case.requests.len() {
+                let failing = Failing {
+                    requests: call,
+                    ..NONE_FAILS
+                };
+                compare_unread(&rt, case, failing);
+            }
+        }
+    }
+}
+
+/// Scripts are read before timings, and timings before request lines.
+#[test]
+fn readers_are_read_in_order(rt: HostRuntime) {
+    for case in &cases() {
+        let failing = Failing {
+            script: 0,
+            ..NONE_FAILS
+        };
+        let ran = run_slowly(&rt, case, failing, Failure::None, Failure::None);
+        assert_eq!(rt; (ran.timing_calls, ran.requests_calls), (0, 0));
+        let failing = Failing {
+            timing: 0,
+            ..NONE_FAILS
+        };
+        let ran = run_slowly(&rt, case, failing, Failure::None, Failure::None);
+        assert_eq!(rt; ran.requests_calls, 0);
+    }
+}
+
+/// A run whose first writer fails: a beginning of its text went out, nothing is tried again, and nothing of the second
+/// text is written.
+fn compare_first<R: Abort + AllocGlobal>(rt: &R, case: &Case, failure: Failure, calls: usize) {
+    let ran = run_slowly(rt, case, NONE_FAILS, failure, Failure::None);
+    assert_eq!(rt;
+        ran.outcome,
+        stopped(Fault::WriteFault),
+        "{:?} {failure:?}",
+        case.job
+    );
+    assert!(rt; ran.out.failed() && !ran.out_timing.failed());
+    let out = ran.out.into_inner();
+    assert_eq!(rt; out.calls, calls.saturating_add(1), "no fault is retried");
+    assert_eq!(rt; out.flushes, 0);
+    assert_eq!(rt; Some(out.taken.as_slice()), case.text.get(..calls));
+    assert_eq!(rt; ran.out_timing.into_inner().calls, 0);
+}
+
+#[test]
+fn a_writer_that_fails_stops_the_job(rt: HostRuntime) {
+    for case in &cases() {
+        for call in 0..case.text.len() {
+            compare_first(&rt, case, Failure::Write(call), call);
+            compare_first(&rt, case, Failure::TakesNothing(call), call);
+        }
+    }
+}
+
+#[test]
+fn a_flush_that_fails_stops_the_job(rt: HostRuntime) {
+    for case in &cases() {
+        for failure in [Failure::FirstFlush, Failure::EachFlush] {
+            let ran = run_slowly(&rt, case, NONE_FAILS, failure, Failure::None);
+            assert_eq!(rt; ran.outcome, stopped(Fault::WriteFault), "{:?}", case.job);
+            let out = ran.out.into_inner();
+            assert_eq!(rt; out.taken.as_slice(), case.text);
+            assert_eq!(rt; out.flushes, 1, "no flush is tried again");
+            assert_eq!(rt; ran.out_timing.into_inner().calls, 0);
+        }
+    }
+}
+
+/// A run whose second writer fails: the first text is whole.
+fn compare_second<R: Abort + AllocGlobal>(rt: &R, case: &Case, failure: Failure, taken: usize) {
+    let ran = run_slowly(rt, case, NONE_FAILS, Failure::None, failure);
+    assert_eq!(rt;
+        ran.outcome,
+        stopped(Fault::WriteFault),
+        "{:?} {failure:?}",
+        case.job
+    );
+    let out = ran.out.into_inner();
+    assert_eq!(rt; out.taken.as_slice(), case.text);
+    assert_eq!(rt; out.flushes, 1);
+    let out_timing = ran.out_timing.into_inner();
+    assert_eq!(rt;
+        Some(out_timing.taken.as_slice()),
+        case.new_timing.get(..taken)
+    );
+    assert!(rt; out_timing.flushes <= 1, "no flush is tried again");
+}
+
+#[test]
+fn a_second_writer_that_fails_stops_the_job(rt: HostRuntime) {
+    for case in &cases() {
+        for call in 0..case.new_timing.len() {
+            compare_second(&rt, case, Failure::Write(call), call);
+            compare_second(&rt, case, Failure::TakesNothing(call), call);
+        }
+        if !case.new_timing.is_empty() {
+            compare_second(&rt, case, Failure::FirstFlush, case.new_timing.len());
+            compare_second(&rt, case, Failure::EachFlush, case.new_timing.len());
+        }
+    }
+}

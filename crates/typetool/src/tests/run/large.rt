@@ -1,0 +1,66 @@
+//! A pair of 4 MiB through the jobs that write it again: what grows has to grow far. Real files of 40 MiB pass in tests/program.sh.
+use super::HEADER;
+use std::alloc::Global;
+use std::process::Abort;
+use std::test::Fail;
+use tape_core::Watched;
+use tape_jobs::{Job, Outcome, run};
+
+const CHUNKS: usize = 4;
+
+/// The pages of a chunk of 1 MiB.
+const PAGES: usize = 256;
+
+/// Chunks of 1 MiB, each of a letter of its own.
+fn large_body(alloc: Global) -> Result<Vec<u8>, Fail> {
+    let mut body = Vec::new(alloc);
+    for letter in (b'a'..=b'z').cycle().take(CHUNKS) {
+        let page = [letter; 4096];
+        for _ in 0..PAGES {
+            body.extend_from_slice(&page)?;
+        }
+    }
+    Ok(body)
+}
+
+/// The timing line of each, a tenth of a second.
+const LINE: &str = "0.100000 1048576\n";
+
+/// Does a job over texts in memory, and compares both texts that it writes.
+fn compare<R: Abort + AllocGlobal>(
+    rt: &R,
+    job: Job,
+    given: (&[u8], &[u8]),
+    wanted: (&[u8], &[u8]),
+) {
+    let mut out = Watched::new(Vec::new(rt.alloc()));
+    let mut out_timing = Watched::new(Vec::new(rt.alloc()));
+    let outcome = run(
+        rt.alloc(),
+        job,
+        &mut Watched::new(given.0),
+        &mut Watched::new(given.1),
+        &mut Watched::new(b"".as_slice()),
+        &mut out,
+        &mut out_timing,
+    );
+    let done = Outcome {
+        status: 0,
+        fault: None,
+    };
+    assert_eq!(rt; outcome, done);
+    assert!(rt; out.into_inner().as_slice() == wanted.0, "{job:?}");
+    assert!(rt; out_timing.into_inner().as_slice() == wanted.1, "{job:?}");
+}
+
+#[test]
+fn four_mebibytes_pass_through(rt: HostRuntime) -> Result<(), Fail> {
+    let body = large_body(rt.alloc())?;
+    let timing = LINE.repeat(rt.alloc(), CHUNKS)?;
+    let script = [HEADER, body.as_slice()].concat(rt.alloc())?;
+    let pair = (script.as_slice(), timing.as_bytes());
+    let end = Job::Due { at: 400_000 };
+    compare(&rt, end, pair, (body.as_slice(), b""));
+    compare(&rt, Job::Save, pair, pair);
+    Ok(())
+}

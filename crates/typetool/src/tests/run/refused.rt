@@ -1,0 +1,189 @@
+//! Refused growths. `tests/refused.py` runs these with the first, second, .. growth of memory refused, until none is, and
+//! counts the lines `refused: WHAT`. After a refusal a beginning has gone out, or nothing while the files are read, and
+//! the same job then answers.
+use std::alloc::Global;
+use std::process::Abort;
+use std::rt::Runtime;
+use std::test::Fail;
+use tape_core::{Fault, Watched};
+use tape_jobs::{Job, JobFault, Outcome, run};
+use vt_term::Profile;
+
+/// Three chunks, half a second apart, on lines 1, 3 and 1, and the first two with reports.
+const SCRIPT: &[u8] = b"Script started on X\nab\x1b[6n\x1b[3;1Hcd\x1b[c\x1b[1;1He";
+
+const TIMING: &[u8] = b"0.5 6\n0.5 11\n0.5 7\n";
+
+/// A job with its request lines, and both texts that it writes.
+#[derive(Clone, Copy)]
+struct Case {
+    job: Job,
+    requests: &'static [u8],
+    text: &'static [u8],
+    new_timing: &'static [u8],
+}
+
+/// A job that reads no request lines and writes one text.
+fn plain_case(job: Job, text: &'static [u8]) -> Case {
+    Case {
+        job,
+        requests: b"",
+        text,
+        new_timing: b"",
+    }
+}
+
+/// Both texts that a job wrote, and how it ended.
+#[derive(Drop)]
+struct Ended {
+    outcome: Outcome,
+    text: Vec<u8>,
+    new_timing: Vec<u8>,
+}
+
+/// Room for either text; where memory is refused, once more.
+fn room(rt: &impl Runtime<A = Global>) -> Result<Vec<u8>, Fail> {
+    match Vec::with_capacity(rt.alloc(), 300) {
+        Ok(room) => Ok(room),
+        Err(_) => {
+            println!(rt; "refused: room for a writer")?;
+            Ok(Vec::with_capacity(rt.alloc(), 300)?)
+        }
+    }
+}
+
+fn do_job(rt: &(impl Runtime<A = Global> + Abort), case: Case) -> Result<Ended, Fail> {
+    let mut out = Watched::new(room(rt)?);
+    let mut out_timing = Watched::new(room(rt)?);
+    let outcome = run(
+        rt.alloc(),
+        case.job,
+        &mut Watched::new(SCRIPT),
+        &mut Watched::new(TIMING),
+        &mut Watched::new(case.requests),
+        &mut out,
+        &mut out_timing,
+    );
+    assert_eq!(rt; (out.failed(), out_timing.failed()), (false, false));
+    Ok(Ended {
+        outcome,
+        text: out.into_inner(),
+        new_timing: out_timing.into_inner(),
+    })
+}
+
+/// Does a job; where memory is refused to it, sees what went out and does it once more.
+fn compare(rt: &(impl Runtime<A = Global> + Abort), case: Case) -> Result<(), Fail> {
+    let ended = do_job(rt, case)?;
+    let Some(fault) = ended.outcome.fault else {
+        return compare_whole(rt, case, &ended);
+    };
+    println!(rt; "refused: a job")?;
+    assert_eq!(rt; ended.outcome.status, 3);
+    assert!(rt; case.text.starts_with(ended.text.as_slice()));
+    assert!(rt; ended.text.len() < case.text.len());
+    assert!(rt; ended.new_timing.is_empty());
+    if fault != JobFault::Memory {
+        assert_eq!(rt; fault, JobFault::File(Fault::OutOfMemory));
+        assert!(rt; ended.text.is_empty());
+    }
+    compare_whole(rt, case, &do_job(rt, case)?)
+}
+
+/// Whether a job is done and wrote both texts whole.
+fn compare_whole(
+    rt: &(impl Runtime<A = Global> + Abort),
+    case: Case,
+    ended: &Ended,
+) -> Result<(), Fail> {
+    let done = Outcome {
+        status: 0,
+        fault: None,
+    };
+    assert_eq!(rt; ended.outcome, done);
+    assert_eq!(rt; ended.text.as_slice(), case.text);
+    assert_eq!(rt; ended.new_timing.as_slice(), case.new_timing);
+    Ok(())
+}
+
+#[test]
+fn run_due(rt: HostRuntime) -> Result<(), Fail> {
+    let text = b"ab\x1b[6n\x1b[3;1Hcd\x1b[c";
+    compare(&rt, plain_case(Job::Due { at: 1_000_000 }, text))
+}
+
+#[test]
+fn run_info(rt: HostRuntime) -> Result<(), Fail> {
+    let text = b"chunks 3\nbytes 24\nlength 1.500000\nheader 20\ntrailer 0\n";
+    compare(&rt, plain_case(Job::Info, text))
+}
+
+/// The screen at the end.
+fn screen(escaped: bool) -> Job {
+    Job::Screen {
+        at: 1_500_000,
+        profile: Profile::Vt100,
+        escaped,
+    }
+}
+
+#[test]
+fn run_screen(rt: HostRuntime) -> Result<(), Fail> {
+    let text = b"eb\n\ncd\n\n\n\n\n\n\n\n\n\n\n\n\n\n\n\n\n\n\n\n\n\n";
+    compare(&rt, plain_case(screen(false), text))
+}
+
+#[test]
+fn run_escaped_screen(rt: HostRuntime) -> Result<(), Fail> {
+    let text = b"\x1b[?7l\x1b)0\x1b[1;1Heb\x1b[3;1Hcd\x1b[0m\x0f\x1b[?7h\x1b[1;2H";
+    compare(&rt, plain_case(screen(true), text))
+}
+
+#[test]
+fn run_changes(rt: HostRuntime) -> Result<(), Fail> {
+    let job = Job::Changes {
+        from: None,
+        to: 9_000_000,
+        profile: Profile::Vt102,
+    };
+    let text = b"0 0.500000 1\n1 1.000000 3\n2 1.500000 1\n";
+    compare(&rt, plain_case(job, text))
+}
+
+#[test]
+fn run_reports(rt: HostRuntime) -> Result<(), Fail> {
+    let job = Job::Reports {
+        at: 1_000_000,
+        profile: Profile::Vt100,
+    };
+    compare(&rt, plain_case(job, b"1b5b313b33521b5b3f313b3263\n"))
+}
+
+/// Edits of each kind: `x` goes in before all, the first chunk goes out, and the last becomes `y`.
+#[test]
+fn run_save(rt: HostRuntime) -> Result<(), Fail> {
+    let case = Case {
+        job: Job::Save,
+        requests: b"insert 0 0.125 78\ndelete 1 2\nreplace 2 79\nretime 1 2\ncap 1\n",
+        text: b"Script started on X\nx\x1b[3;1Hcd\x1b[cy",
+        new_timing: b"0.125000 1\n1.000000 11\n0.500000 1\n",
+    };
+    compare(&rt, case)
+}
+
+/// Seeks, an edit before what was sought, and seeks again.
+#[test]
+fn run_session(rt: HostRuntime) -> Result<(), Fail> {
+    let case = Case {
+        job: Job::Session {
+            every: 1,
+            profile: Profile::Vt100,
+        },
+        requests: b"reports 0.5\nchanges - 9\ninsert 0 0.125 78\nreports 9\ninfo\nlog\n",
+        text: b"1b5b313b3352\n0 0.500000 1\n1 1.000000 3\n2 1.500000 1\nend\nok\n\
+            1b5b313b34521b5b3f313b3263\nchunks 4\nbytes 25\nlength 1.625000\nheader 20\ntrailer 0\n\
+            insert 0 0.125000 78\nend\n",
+        new_timing: b"",
+    };
+    compare(&rt, case)
+}

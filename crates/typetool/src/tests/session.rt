@@ -1,0 +1,174 @@
+use std::alloc::{AllocError, Global};
+use std::io;
+use std::process::Abort;
+use std::test::Fail;
+use tape_core::Watched;
+use tape_jobs::{Job, Outcome, WordsFault, read_words, run};
+use vt_term::Profile;
+
+const HEADER: &[u8] = b"Script started on X\n";
+
+/// Two chunks of a byte each, half a second apart.
+const AB: &str = "0.000000 1\n0.500000 1\n";
+
+/// Twenty-three lines' ends: a screen of which the first line alone shows something.
+const LINES_23: &str = "\n\n\n\n\n\n\n\n\n\n\n\n\n\n\n\n\n\n\n\n\n\n\n";
+
+/// A session over a body and a timing: its request lines, its answers, and its status.
+type Row<'a> = (&'a str, &'a str, &'a str, &'a str, u8);
+
+fn session(every: usize) -> Job {
+    Job::Session {
+        every,
+        profile: Profile::Vt100,
+    }
+}
+
+/// What each line is answered.
+const ANSWERS: [Row<'static>; 7] = [
+    ("ab", AB, "", "", 0),
+    (
+        "\x1b[cx",
+        "0 3\n0 1\n",
+        "reports 0\ndelete 0 1\nreports 0\nscreen 0\n",
+        "1b5b3f313b3263\nok\n\nx\n\n\n\n\n\n\n\n\n\n\n\n\n\n\n\n\n\n\n\n\n\n\n\n",
+        0,
+    ),
+    (
+        "ab",
+        AB,
+        "retime 0 1\ninfo\nlog\n",
+        "ok\nchunks 2\nbytes 2\nlength 1.500000\nheader 20\ntrailer 0\nretime 0 1.000000\nend\n",
+        0,
+    ),
+    (
+        "ab",
+        AB,
+        "nonsense\nchanges - 0",
+        "refused E8 BadLine\n0 0.000000 1\nend\n",
+        1,
+    ),
+    (
+        "abc",
+        "0.5 1\n3 1\n2 1\n",
+        "cap 1000000.000001\ncap 1000000\n\nlog",
+        "refused E2 DelayTooLarge\nok\ncap 1000000.000000\nend\n",
+        1,
+    ),
+    (
+        "a\x1b[m\x1b[3;1Hb",
+        "0 1\n0 3\n1.5 7\n",
+        "changes 0 2\nchanges 2 1\n \t\nlog\n",
+        "2 1.500000 3\nend\nend\nend\n",
+        0,
+    ),
+    (
+        "0123456789",
+        "0 1\n0 1\n0 1\n0 1\n0 1\n0 1\n0 1\n0 1\n0 1\n0 1\n",
+        "delete 3 3\ninsert 11 0 -\ninsert 0 1000000.000001 -\nlog\n",
+        "refused E6 BadRange\nrefused E1 NoSuchChunk\nrefused E2 DelayTooLarge\nend\n",
+        1,
+    ),
+];
+
+#[test]
+fn each_line_is_answered(rt: HostRuntime) -> Result<(), Fail> {
+    for row in &ANSWERS {
+        compare(&rt, session(100), row)?;
+    }
+    Ok(())
+}
+
+/// Where terminals are stored changes no answer. A number out of range counts as the nearest one in it.
+#[test]
+fn sessions_of_any_every_answer_alike(rt: HostRuntime) -> Result<(), Fail> {
+    let text = ["ab\n", LINES_23, "a\n", LINES_23, "\n"].concat(rt.alloc())?;
+    let row = (
+        "ab",
+        AB,
+        "screen 9\nscreen 0\nreports 1\n",
+        text.as_str(),
+        0,
+    );
+    for every in [0, 1, 2, 100, 1_000_000, 1_000_001, usize::MAX] {
+        compare(&rt, session(every), &row)?;
+    }
+    Ok(())
+}
+
+/// Does the job in memory, and compares what came out.
+fn compare<R: Abort + AllocGlobal>(rt: &R, job: Job, row: &Row<'_>) -> Result<(), Fail> {
+    let (body, timing, requests, text, status) = *row;
+    let script = [HEADER, body.as_bytes()].concat(rt.alloc())?;
+    let mut out = Watched::new(Vec::new(rt.alloc()));
+    let outcome = run(
+        rt.alloc(),
+        job,
+        &mut Watched::new(script.as_slice()),
+        &mut Watched::new(timing.as_bytes()),
+        &mut Watched::new(requests.as_bytes()),
+        &mut out,
+        &mut Watched::new(io::sink()),
+    );
+    let wanted = Outcome {
+        status,
+        fault: None,
+    };
+    assert_eq!(rt; outcome, wanted, "{requests:?}");
+    let written: Vec<u8> = out.into_inner();
+    assert_eq!(rt; written.as_slice(), text.as_bytes(), "{requests:?}");
+    Ok(())
+}
+
+/// The command line with this flag, if there is one.
+fn words(alloc: Global, flag: Option<&str>) -> Result<Vec<String>, AllocError> {
+    let mut all = Vec::new(alloc);
+    for word in ["typetool", "session", "s", "t"] {
+        all.push(String::from_str(alloc, word)?)?;
+    }
+    if let Some(flag) = flag {
+        all.push(String::from_str(alloc, flag)?)?;
+    }
+    Ok(all)
+}
+
+#[test]
+fn every_is_read(rt: HostRuntime) -> Result<(), Fail> {
+    let rows = [
+        (None, 100),
+        (Some("--every=1"), 1),
+        (Some("--every=1000000"), 1_000_000),
+        (Some("--every=000000000000000000000007"), 7),
+    ];
+    for (flag, every) in rows {
+        let words = words(rt.alloc(), flag)?;
+        let read = read_words(rt.alloc(), words.as_slice());
+        let Ok(read) = read else {
+            panic!(rt; "{words:?} is a command line");
+        };
+        assert_eq!(rt; read.job, session(every), "{words:?}");
+    }
+    Ok(())
+}
+
+#[test]
+fn every_is_refused(rt: HostRuntime) -> Result<(), Fail> {
+    for flag in [
+        "0",
+        "1000001",
+        "x",
+        "",
+        "-1",
+        "1.5",
+        "99999999999999999999999",
+    ] {
+        let flag = format!(in rt.alloc(); "--every={flag}")?;
+        let words = words(rt.alloc(), Some(flag.as_str()))?;
+        let read = read_words(rt.alloc(), words.as_slice());
+        assert!(rt; matches!(&read, Err(WordsFault::Clap(_))), "{flag}");
+    }
+    let words = words(rt.alloc(), Some("--every=+5"))?;
+    let read = read_words(rt.alloc(), words.as_slice());
+    assert!(rt; matches!(&read, Err(WordsFault::BadEvery)));
+    Ok(())
+}

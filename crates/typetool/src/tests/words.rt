@@ -1,0 +1,215 @@
+use std::alloc::{AllocError, Global};
+use std::process::Abort;
+use std::rt::Runtime;
+use std::test::Fail;
+use tape_jobs::{Job, Words, WordsFault, read_words};
+use vt_term::Profile;
+
+mod flags;
+
+/// The words of a command line, with one space between.
+pub fn words_of(alloc: Global, line: &str) -> Result<Vec<String>, AllocError> {
+    let mut words = Vec::new(alloc);
+    for word in line.split(' ') {
+        words.push(String::from_str(alloc, word)?)?;
+    }
+    Ok(words)
+}
+
+/// Sees that a line is read as a job over the paths `s` and `t`, and others behind them.
+fn compare_job(rt: &(impl Runtime<A = Global> + Abort), line: &str, job: Job) -> Result<(), Fail> {
+    let words = words_of(rt.alloc(), line)?;
+    let Ok(read) = read_words(rt.alloc(), words.as_slice()) else {
+        panic!(rt; "{line:?} is a command line");
+    };
+    assert_eq!(rt; read.job, job, "{line:?}");
+    let paths = [read.paths[0].as_str(), read.paths[1].as_str()];
+    assert_eq!(rt; paths, ["s", "t"], "{line:?}");
+    Ok(())
+}
+
+/// Lines of `due`, and their moments.
+const DUE: [(&str, u64); 7] = [
+    ("typetool due --at 0.5 s t", 500_000),
+    ("typetool due --at=0.4999999 s t", 499_999),
+    ("typetool due s t --at 12.", 12_000_000),
+    ("typetool due s --at=007 t", 7_000_000),
+    ("typetool due --at=0 -- s t", 0),
+    (
+        "./typetool due --at 1000000000000.0000001 s t",
+        1_000_000_000_000_000_000,
+    ),
+    (
+        "typetool due --at 99999999999999999999999 s t",
+        1_000_000_000_000_000_000,
+    ),
+];
+
+#[test]
+fn reads_due(rt: HostRuntime) -> Result<(), Fail> {
+    for (line, at) in &DUE {
+        compare_job(&rt, line, Job::Due { at: *at })?;
+    }
+    Ok(())
+}
+
+/// A screen as plain text.
+const fn screen(at: u64, profile: Profile) -> Job {
+    Job::Screen {
+        at,
+        profile,
+        escaped: false,
+    }
+}
+
+const fn changes(from: Option<u64>, to: u64, profile: Profile) -> Job {
+    Job::Changes { from, to, profile }
+}
+
+const fn reports(at: u64, profile: Profile) -> Job {
+    Job::Reports { at, profile }
+}
+
+#[test]
+fn reads_other_jobs(rt: HostRuntime) -> Result<(), Fail> {
+    let vt100 = Profile::Vt100;
+    let rows = [
+        ("typetool info s t", Job::Info),
+        ("typetool info -- s t", Job::Info),
+        ("typetool save s t u v", Job::Save),
+        ("typetool screen --at 0.5 s t", screen(500_000, vt100)),
+        ("typetool screen s t --at=12", screen(12_000_000, vt100)),
+        (
+            "typetool changes --from 0 --to 2 s t",
+            changes(Some(0), 2_000_000, vt100),
+        ),
+        (
+            "typetool changes s --to=0.5 t",
+            changes(None, 500_000, vt100),
+        ),
+        (
+            "typetool changes --to 1 --from=2.5 -- s t",
+            changes(Some(2_500_000), 1_000_000, vt100),
+        ),
+        (
+            "typetool reports --at=0.4999999 s t",
+            reports(499_999, vt100),
+        ),
+        ("typetool reports --at 7 -- s t", reports(7_000_000, vt100)),
+    ];
+    for (line, job) in &rows {
+        compare_job(&rt, line, *job)?;
+    }
+    Ok(())
+}
+
+/// Whether the seconds are all that is wrong with a command line.
+fn is_bad_seconds(alloc: Global, words: &[String]) -> bool {
+    matches!(&read_words(alloc, words), Err(WordsFault::BadSeconds))
+}
+
+#[test]
+fn refuses_unreadable_seconds(rt: HostRuntime) -> Result<(), Fail> {
+    for seconds in [
+        "", ".5", ".", "-1", "+1", "1e3", "1,5", "1.5s", "\t1", "1\t", "0x1", "-",
+    ] {
+        for name in ["due", "screen", "reports"] {
+            let line = format!(in rt.alloc(); "typetool {name} --at={seconds} s t")?;
+            let words = words_of(rt.alloc(), line.as_str())?;
+            assert!(rt; is_bad_seconds(rt.alloc(), words.as_slice()), "{line:?}");
+        }
+    }
+    Ok(())
+}
+
+#[test]
+fn refuses_unreadable_seconds_of_changes(rt: HostRuntime) -> Result<(), Fail> {
+    for line in [
+        "typetool changes --from=- --to=1 s t",
+        "typetool changes --from= --to=1 s t",
+        "typetool changes --from=1 --to=.5 s t",
+        "typetool changes --to=-1 s t",
+    ] {
+        let words = words_of(rt.alloc(), line)?;
+        assert!(rt; is_bad_seconds(rt.alloc(), words.as_slice()), "{line:?}");
+    }
+    Ok(())
+}
+
+/// Words with spaces in them.
+#[test]
+fn refuses_seconds_with_blanks(rt: HostRuntime) -> Result<(), Fail> {
+    for flag in ["--at= 1", "--at=1 ", "--at=1 2"] {
+        let mut words = words_of(rt.alloc(), "typetool due s t")?;
+        words.push(String::from_str(rt.alloc(), flag)?)?;
+        assert!(rt; is_bad_seconds(rt.alloc(), words.as_slice()), "{flag:?}");
+    }
+    Ok(())
+}
+
+/// Sees that a line is left to clap, as a mistake or as a wish for help.
+pub fn compare_left(
+    rt: &(impl Runtime<A = Global> + Abort),
+    line: &str,
+    is_mistake: bool,
+) -> Result<(), Fail> {
+    let words = words_of(rt.alloc(), line)?;
+    match read_words(rt.alloc(), words.as_slice()) {
+        Err(WordsFault::Clap(error)) => {
+            assert_eq!(rt; error.use_stderr(), is_mistake, "{line:?}");
+        }
+        _ => panic!(rt; "{line:?} is no command line"),
+    }
+    Ok(())
+}
+
+/// Lines that are none of the program's.
+const MISTAKES: [&str; 23] = [
+    "typetool",
+    "typetool dew",
+    "typetool help",
+    "typetool --at 1 due s t",
+    "typetool info",
+    "typetool info --at 1 s t",
+    "typetool info s t u",
+    "typetool due",
+    "typetool due s t",
+    "typetool due --at 1 s",
+    "typetool due --at 1 s t u",
+    "typetool due --at 1 --at 1 s t",
+    "typetool due --from 1 s t",
+    "typetool due --at -1 s t",
+    "typetool screen s t",
+    "typetool screen --from 1 s t",
+    "typetool reports --at 1 s",
+    "typetool reports --at 1 --escaped s t",
+    "typetool changes s t",
+    "typetool changes --from 1 s t",
+    "typetool changes --at 1 --to 1 s t",
+    "typetool changes --from=1 --from=1 --to=1 s t",
+    "typetool changes --to=1 s t u",
+];
+
+#[test]
+fn leaves_mistakes_to_clap(rt: HostRuntime) -> Result<(), Fail> {
+    for line in &MISTAKES {
+        compare_left(&rt, line, true)?;
+    }
+    Ok(())
+}
+
+#[test]
+fn leaves_help_to_clap(rt: HostRuntime) -> Result<(), Fail> {
+    for line in [
+        "typetool --help",
+        "typetool due --help",
+        "typetool due -h",
+        "typetool info --help",
+        "typetool changes --help",
+        "typetool screen --help",
+        "typetool reports -h",
+    ] {
+        compare_left(&rt, line, false)?;
+    }
+    Ok(())
+}

@@ -1,0 +1,72 @@
+//! The flags `--profile` and `--escaped`, and with which subcommands they go.
+use super::{changes, compare_job, compare_left, reports, screen, words_of};
+use std::test::Fail;
+use tape_jobs::{Job, WordsFault, read_words};
+use vt_term::Profile;
+
+#[test]
+fn reads_profiles_and_the_escaped_print(rt: HostRuntime) -> Result<(), Fail> {
+    let (vt100, vt102) = (Profile::Vt100, Profile::Vt102);
+    let escaped = Job::Screen {
+        at: 1_000_000,
+        profile: vt100,
+        escaped: true,
+    };
+    let session = |every, profile| Job::Session { every, profile };
+    let rows = [
+        ("typetool screen --at=1 --escaped s t", escaped),
+        (
+            "typetool screen s t --profile vt102 --at=1",
+            screen(1_000_000, vt102),
+        ),
+        (
+            "typetool changes --profile=vt102 --to=1 s t",
+            changes(None, 1_000_000, vt102),
+        ),
+        (
+            "typetool reports --profile=vt100 --at=1 s t",
+            reports(1_000_000, vt100),
+        ),
+        ("typetool session s t", session(100, vt100)),
+        (
+            "typetool session --every 007 --profile=vt102 s t",
+            session(7, vt102),
+        ),
+    ];
+    for (line, job) in &rows {
+        compare_job(&rt, line, *job)?;
+    }
+    Ok(())
+}
+
+#[test]
+fn refuses_other_profiles(rt: HostRuntime) -> Result<(), Fail> {
+    for line in [
+        "typetool screen --at=1 --profile= s t",
+        "typetool screen --at=1 --profile=vt220 s t",
+        "typetool screen --at=1 --profile=VT102 s t",
+        "typetool screen --at=1 --profile=vt1024 s t",
+    ] {
+        let words = words_of(rt.alloc(), line)?;
+        let read = read_words(rt.alloc(), words.as_slice());
+        assert!(rt; matches!(&read, Err(WordsFault::BadProfile)), "{line:?}");
+    }
+    Ok(())
+}
+
+#[test]
+fn leaves_misplaced_flags_to_clap(rt: HostRuntime) -> Result<(), Fail> {
+    for line in [
+        "typetool due --at=1 --profile=vt100 s t",
+        "typetool info --profile=vt100 s t",
+        "typetool save --profile=vt100 s t u v",
+        "typetool changes --to=1 --escaped s t",
+        "typetool reports --at=1 --escaped s t",
+        "typetool session --escaped s t",
+        "typetool screen --at=1 --escaped=true s t",
+        "typetool screen --at=1 --profile=vt100 --profile=vt100 s t",
+    ] {
+        compare_left(&rt, line, true)?;
+    }
+    Ok(())
+}
