@@ -28,11 +28,12 @@ test:
 	tests/damage.py bin/typetool 500
 	tests/refused.py 1 3 12
 
-# The long forms: more limits on memory, 20,000 damaged pairs, and every growth refused in turn.
+# The long forms: more limits on memory, 20,000 damaged pairs, every growth refused in turn, and more wrong bodies.
 soak: bin/typetool
 	tests/memory.py bin/typetool 16
 	tests/damage.py bin/typetool 20000
 	tests/refused.py
+	tests/edits.sh
 
 install: bin/typetool
 	install -d $(DESTDIR)$(PREFIX)/bin

@@ -12,7 +12,7 @@ import collections, concurrent.futures, itertools, os, re, subprocess, sys
 top = os.path.join(os.path.dirname(os.path.abspath(__file__)), "..")
 chosen = [int(number) for number in sys.argv[1:]]
 workers = os.cpu_count() or 1
-CRATES = ["tape_core", "vt_term", "tape_seek", "screen_print", "typetool"]
+CRATES = ["vt_tests", "tape_tests", "typetool"]
 
 
 def refuse(crate, number):
