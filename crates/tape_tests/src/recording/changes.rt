@@ -1,6 +1,7 @@
 use std::alloc::Global;
 use std::process::Abort;
 use std::test::Fail;
+use tape_core::laws::bodies_add_up;
 use tape_core::{Bytes, Chunk, Fault, Recording, read_recording};
 
 /// Three chunks: `a` at 1 second, `bb` at 3 seconds, and an empty one at the same moment.
@@ -103,6 +104,7 @@ fn replace(rt: &impl Abort, recording: &mut Recording, at: usize, bytes: Bytes) 
     assert!(rt; at < recording.chunks().len());
     assert!(rt; bytes.len() <= 1_000);
     assert!(rt; recording.body_len() <= 1_000);
+    bodies_add_up();
     recording.replace(at, bytes);
 }
 

@@ -1,12 +1,16 @@
-use Rattle.std.proofs.Common.{◌<◌, ◌≤◌, ◌+◌, length, ap, arith}
+use Rattle.std.proofs.Common.{◌<◌, ◌≤◌, ◌+◌, [], length, get_or, ap, arith}
+use Rattle.std.proofs.lemmas.List.{get_or_default}
 use Rattle.tape_core.specs.Tape.{body_len, longest_body}
-use Rattle.tape_core.proofs.ChangeLemmas.{replaced_small}
-use Rattle.tape_core.proofs.recording.changes.tests.replace.Goals as goal
+use Rattle.tape_core.specs.declared.chunk.Chunk.{Chunk}
+use Rattle.tape_tests.proofs.recording.changes.replace.Goals as goal
 
 pub replace-requires-clause-bytes : goal.replace-requires-clause-bytes
 replace-requires-clause-bytes g c =
     let tape = c.args.recording.now in
     let long = ap length c.chunks.ensures.chunks in
     let place : c.args.at < length tape.chunks = omega (arith, long) in
-    let small : body_len tape.chunks + length c.args.bytes ≤ longest_body = omega (arith, c.len.ensures, c.body_len.ensures.sum) in
-    replaced_small tape c.args.at c.args.bytes place small
+    let none : Chunk = record { delay = 0; bytes = [] } in
+    let chunk = get_or tape.chunks c.args.at none in
+    let is = get_or_default tape.chunks c.args.at none chunk place in
+    let more = c.bodies_add_up.ensures.replaced tape c.args.at c.args.bytes chunk place is in
+    omega (arith, more, c.len.ensures, c.body_len.ensures.sum)
