@@ -1,9 +1,9 @@
-use super::{SmallWriter, fed, fed_as};
+use super::{fed, fed_as};
+use crate::devices::{small_writer, wanted_of};
 use screen_print::escaped;
 use std::alloc::Global;
-use std::process::Abort;
 use std::test::Fail;
-use tape_core::{Fault, Watched};
+use tape_core::Watched;
 use vt_parser::ParserState;
 use vt_term::{Profile, Reports, Terminal};
 
@@ -112,47 +112,44 @@ fn writes_only_what_the_picture_needs(rt: HostRuntime) -> Result<(), Fail> {
     for (bytes, wanted) in TEXTS {
         let terminal = fed(rt.alloc(), bytes)?;
         let mut writer = Watched::new(Vec::new(rt.alloc()));
-        assert_eq!(rt; escaped(&terminal, &mut writer), Ok(()));
+        escaped(&terminal, &mut writer)?;
         assert_eq!(rt; writer.into_inner().as_slice(), *wanted, "after {bytes:?}");
     }
     Ok(())
 }
 
-// The escaped print of a terminal, fed to a reset one of a profile, gives the same picture and cursor.
-fn check_redrawn(
-    rt: &impl Abort,
-    alloc: Global,
-    terminal: &Terminal,
-    profile: Profile,
-) -> Result<(), Fail> {
+/// Whether two terminals show the same picture and cursor.
+fn look_alike(one: &Terminal, other: &Terminal) -> bool {
+    for line in 1..25 {
+        if *one.screen().row(line) != *other.screen().row(line) {
+            return false;
+        }
+    }
+    one.screen().columns() == other.screen().columns()
+        && one.screen().cursor() == other.screen().cursor()
+        && one.modes().reverse_screen == other.modes().reverse_screen
+}
+
+/// Whether the escaped print of a terminal, fed to a reset one of a profile, gives the same picture and cursor, and asks
+/// for nothing.
+fn is_redrawn(alloc: Global, terminal: &Terminal, profile: Profile) -> Result<bool, Fail> {
     let mut writer = Watched::new(Vec::new(alloc));
     escaped(terminal, &mut writer)?;
     let mut reports = Reports::new(alloc);
     let mut again = Terminal::reset_as(profile);
     again.feed(writer.into_inner().as_slice(), &mut reports)?;
-    assert_eq!(rt; again.screen().columns(), terminal.screen().columns());
-    assert_eq!(rt; again.screen().cursor(), terminal.screen().cursor());
-    assert_eq!(rt;
-        again.modes().reverse_screen,
-        terminal.modes().reverse_screen
-    );
-    for line in 1..25 {
-        assert_eq!(rt;
-            *again.screen().row(line) == *terminal.screen().row(line),
-            true,
-            "line {line}"
-        );
-    }
-    assert_eq!(rt; *again.parser_state() == ParserState::Ground, true);
-    assert_eq!(rt; reports.bytes().len(), 0);
-    Ok(())
+    let is_quiet = *again.parser_state() == ParserState::Ground && reports.bytes().is_empty();
+    Ok(is_quiet && look_alike(&again, terminal))
 }
 
 #[test]
 fn draws_the_same_picture_again(rt: HostRuntime) -> Result<(), Fail> {
     for bytes in PICTURES {
         let terminal = fed(rt.alloc(), bytes)?;
-        check_redrawn(&rt, rt.alloc(), &terminal, Profile::Vt100)?;
+        assert!(rt;
+            is_redrawn(rt.alloc(), &terminal, Profile::Vt100)?,
+            "after {bytes:?}"
+        );
     }
     Ok(())
 }
@@ -161,8 +158,12 @@ fn draws_the_same_picture_again(rt: HostRuntime) -> Result<(), Fail> {
 fn draws_edited_lines_again(rt: HostRuntime) -> Result<(), Fail> {
     for bytes in EDITED {
         let terminal = fed_as(rt.alloc(), Profile::Vt102, bytes)?;
-        check_redrawn(&rt, rt.alloc(), &terminal, Profile::Vt102)?;
-        check_redrawn(&rt, rt.alloc(), &terminal, Profile::Vt100)?;
+        for profile in [Profile::Vt102, Profile::Vt100] {
+            assert!(rt;
+                is_redrawn(rt.alloc(), &terminal, profile)?,
+                "on a {profile:?} after {bytes:?}"
+            );
+        }
     }
     Ok(())
 }
@@ -173,17 +174,16 @@ fn a_failing_writer_holds_a_beginning(rt: HostRuntime) -> Result<(), Fail> {
     let whole = b"\x1b[?7l\x1b)0\x1b[1;1H\x1b[0;1mone\x1b[3;1H\x0eq\x1b[0m\x0f\x1b[?7h\x1b[3;2H";
     for room in 0..whole.len() + 2 {
         for flush_fails in [false, true] {
-            let mut writer = Watched::new(SmallWriter {
-                taken: Vec::new(rt.alloc()),
-                room,
-                flush_fails,
-            });
+            let mut writer = small_writer(rt.alloc(), room, flush_fails);
             let answer = escaped(&terminal, &mut writer);
-            let succeeds = room >= whole.len() && !flush_fails;
-            assert_eq!(rt; answer.is_ok(), succeeds, "room for {room}");
-            assert_eq!(rt; writer.failed(), !succeeds);
+            let failed = writer.failed();
             let taken = writer.into_inner().taken;
-            assert_eq!(rt; taken.as_slice(), &whole[..room.min(whole.len())]);
+            let wanted = wanted_of(whole, room, flush_fails);
+            assert_eq!(rt;
+                (answer, failed, taken.as_slice()),
+                wanted,
+                "room for {room}"
+            );
         }
     }
     Ok(())

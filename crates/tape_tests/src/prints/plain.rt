@@ -1,8 +1,9 @@
-use super::{SmallWriter, fed};
+use super::fed;
+use crate::devices::{small_writer, wanted_of};
 use screen_print::plain;
 use std::alloc::Global;
 use std::test::Fail;
-use tape_core::{Fault, Watched};
+use tape_core::Watched;
 
 /// What is fed, and what is printed before empty lines fill the 24 up.
 const TEXTS: [(&[u8], &str); 15] = [
@@ -54,8 +55,8 @@ fn prints_each_line_to_its_right_margin(rt: HostRuntime) -> Result<(), Fail> {
     for (bytes, begins) in &TEXTS {
         let terminal = fed(rt.alloc(), bytes)?;
         let mut writer = Watched::new(Vec::new(rt.alloc()));
-        assert_eq!(rt; plain(&terminal, &mut writer), Ok(()));
-        assert_eq!(rt; writer.failed(), false);
+        let answer = plain(&terminal, &mut writer);
+        assert_eq!(rt; (answer, writer.failed()), (Ok(()), false));
         let wanted = filled_up(rt.alloc(), begins)?;
         let text = writer.into_inner();
         assert_eq!(rt; text.as_slice(), wanted.as_bytes(), "after {bytes:?}");
@@ -69,14 +70,9 @@ fn prints_132_columns(rt: HostRuntime) -> Result<(), Fail> {
     let mut writer = Watched::new(Vec::new(rt.alloc()));
     plain(&terminal, &mut writer)?;
     let text = writer.into_inner();
-    assert_eq!(rt; text.len(), 3 + 130 + 3 + 1 + 3 + 1 + 22);
-    assert_eq!(rt; text.as_slice().starts_with(b"\xe2\x96\x92 "), true);
-    assert_eq!(rt;
-        text.as_slice()[..].ends_with(
-            b" \xe2\x96\x92\n\xe2\x90\x89\n\n\n\n\n\n\n\n\n\n\n\n\n\n\n\n\n\n\n\n\n\n\n"
-        ),
-        true
-    );
+    let ends = b" \xe2\x96\x92\n\xe2\x90\x89\n\n\n\n\n\n\n\n\n\n\n\n\n\n\n\n\n\n\n\n\n\n\n";
+    let both = text.as_slice().starts_with(b"\xe2\x96\x92 ") && text.as_slice().ends_with(ends);
+    assert_eq!(rt; (text.len(), both), (3 + 130 + 3 + 1 + 3 + 1 + 22, true));
     Ok(())
 }
 
@@ -87,25 +83,16 @@ fn a_failing_writer_holds_a_beginning(rt: HostRuntime) -> Result<(), Fail> {
         "one\n\u{250c}\u{2500}\u{2510}\n\n  \u{2502}\n\n\n\n\n\n\n\n\n\n\n\n\n\n\n\n\n\n\n\n\n".as_bytes();
     for room in 0..whole.len() + 2 {
         for flush_fails in [false, true] {
-            let mut writer = Watched::new(SmallWriter {
-                taken: Vec::new(rt.alloc()),
-                room,
-                flush_fails,
-            });
+            let mut writer = small_writer(rt.alloc(), room, flush_fails);
             let answer = plain(&terminal, &mut writer);
-            let succeeds = room >= whole.len() && !flush_fails;
+            let failed = writer.failed();
+            let taken = writer.into_inner().taken;
+            let wanted = wanted_of(whole, room, flush_fails);
             assert_eq!(rt;
-                answer,
-                if succeeds {
-                    Ok(())
-                } else {
-                    Err(Fault::WriteFault)
-                },
+                (answer, failed, taken.as_slice()),
+                wanted,
                 "room for {room}"
             );
-            assert_eq!(rt; writer.failed(), !succeeds);
-            let taken = writer.into_inner().taken;
-            assert_eq!(rt; taken.as_slice(), &whole[..room.min(whole.len())]);
         }
     }
     Ok(())

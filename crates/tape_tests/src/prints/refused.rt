@@ -2,6 +2,7 @@
 //! counts the lines `refused: WHAT`. After a refusal all is as it must be, and the same call then answers.
 use screen_print::{ChangesFault, changes};
 use std::alloc::Global;
+use std::process::Abort;
 use std::rt::Runtime;
 use std::test::Fail;
 use tape_core::{Recording, Watched, read_recording};
@@ -47,24 +48,35 @@ fn room(rt: &impl Runtime<A = Global>) -> Result<Vec<u8>, Fail> {
     }
 }
 
+/// Whether a text is a beginning of the lines, and not all of them.
+fn is_beginning(text: &[u8]) -> bool {
+    LINES.starts_with(text) && text.len() < LINES.len()
+}
+
+/// Writes the change lines, or a beginning of them where memory is refused.
+fn check_first_changes(
+    rt: &(impl Runtime<A = Global> + Abort),
+    session: &mut Session,
+) -> Result<(), Fail> {
+    let mut writer = Watched::new(room(rt)?);
+    match changes(session, None, 9_000_000, &mut writer) {
+        Ok(()) => assert_eq!(rt; writer.into_inner().as_slice(), LINES),
+        Err(fault) => {
+            println!(rt; "refused: changes")?;
+            assert_eq!(rt; (fault, writer.failed()), (ChangesFault::Memory, false));
+            assert!(rt; is_beginning(writer.into_inner().as_slice()));
+            let kept = (session.log().len(), session.recording().chunks().len());
+            assert_eq!(rt; kept, (0, 3));
+        }
+    }
+    Ok(())
+}
+
 #[test]
 fn change_lines(rt: HostRuntime) -> Result<(), Fail> {
     let mut session = opened(&rt)?;
-    let mut cut = Watched::new(room(&rt)?);
     let mut whole = Watched::new(room(&rt)?);
-    match changes(&mut session, None, 9_000_000, &mut cut) {
-        Ok(()) => assert_eq!(rt; cut.into_inner().as_slice(), LINES),
-        Err(fault) => {
-            println!(rt; "refused: changes")?;
-            assert_eq!(rt; fault, ChangesFault::Memory);
-            assert_eq!(rt; cut.failed(), false);
-            let written = cut.into_inner();
-            assert!(rt; LINES.starts_with(written.as_slice()));
-            assert!(rt; written.len() < LINES.len());
-            assert_eq!(rt; session.log().len(), 0);
-            assert_eq!(rt; session.recording().chunks().len(), 3);
-        }
-    }
+    check_first_changes(&rt, &mut session)?;
     // What was sought stays sought, so only the rest needs memory.
     changes(&mut session, None, 9_000_000, &mut whole)?;
     assert_eq!(rt; whole.into_inner().as_slice(), LINES);

@@ -5,7 +5,7 @@ use std::process::Abort;
 use std::rt::Runtime;
 use std::test::Fail;
 use tape_core::{Bytes, Recording, read_recording};
-use tape_seek::{Edit, EditFault, LineFault, Request, Session, read_line};
+use tape_seek::{Edit, EditFault, LineFault, Refused, Request, Session, read_line};
 
 /// All that a session tells of itself, the recording by its numbers and a checksum.
 #[derive(Clone, Copy, Debug, PartialEq, Eq)]
@@ -55,15 +55,22 @@ fn opened(rt: &(impl Runtime<A = Global> + Abort), recording: Recording) -> Resu
     let before = numbers(&recording);
     let session = match Session::open(rt.alloc(), recording, 2) {
         Ok(session) => session,
-        Err(back) => {
-            println!(rt; "refused: open")?;
-            assert_eq!(rt; numbers(&back), before);
-            Session::open(rt.alloc(), back, 2)?
-        }
+        Err(back) => opened_again(rt, back, before)?,
     };
-    assert_eq!(rt; numbers(session.recording()), before);
-    assert_eq!(rt; session.log().len(), 0);
+    let after = (numbers(session.recording()), session.log().len());
+    assert_eq!(rt; after, (before, 0));
     Ok(session)
+}
+
+/// Opens a session over the recording that came back.
+fn opened_again(
+    rt: &(impl Runtime<A = Global> + Abort),
+    back: Recording,
+    before: (usize, u64, u64, u64),
+) -> Result<Session, Fail> {
+    println!(rt; "refused: open")?;
+    assert_eq!(rt; numbers(&back), before);
+    Ok(Session::open(rt.alloc(), back, 2)?)
 }
 
 /// Four chunks, a second apart, that report the cursor's place, what the terminal is, the place again, and nothing.
@@ -72,58 +79,69 @@ fn four(rt: &(impl Runtime<A = Global> + Abort)) -> Result<Session, Fail> {
     opened(rt, read(rt, script, b"1 4\n1 3\n1 7\n1 1\n")?)
 }
 
-/// Goes to a count; where memory is refused, the head is back at the given count and all else as before, and so once more.
-fn sought(
-    rt: &(impl Runtime<A = Global> + Abort),
-    session: &mut Session,
-    count: usize,
-    head: usize,
-) -> Result<usize, Fail> {
-    let before = told_by(session);
-    assert!(rt; count <= session.recording().chunks().len());
-    let is_refused = session.seek_count(count).is_err();
-    if is_refused {
-        println!(rt; "refused: a seek to {count}")?;
-        let (frontier, _, held) = before.marks;
-        assert!(rt; count > frontier, "a seek below the frontier takes memory");
-        let marks = (frontier, head, held);
-        assert_eq!(rt; told_by(session), State { marks, ..before });
+/// Whether a seek goes to a count, and all was sent that the chunks up to it ask for.
+fn reaches(session: &mut Session, count: usize) -> bool {
+    if count > session.recording().chunks().len() {
+        return false;
     }
-    assert!(rt; count <= session.recording().chunks().len());
-    let view = session.seek_count(count)?;
-    assert_eq!(rt; view.count(), count);
     let wanted: &[u8] = match count {
         0 => b"",
         1 => b"\x1b[1;1R",
         2 => b"\x1b[1;1R\x1b[?1;2c",
         _ => b"\x1b[1;1R\x1b[?1;2c\x1b[1;4R",
     };
-    assert_eq!(rt; view.reports(), wanted);
-    Ok(view.fed())
+    match session.seek_count(count) {
+        Ok(view) => view.count() == count && view.reports() == wanted,
+        Err(_) => false,
+    }
+}
+
+/// Goes to a count; where memory is refused, the head is back at the given count and all else as before, and so once more.
+fn sought(
+    rt: &(impl Runtime<A = Global> + Abort),
+    session: &mut Session,
+    count: usize,
+    head: usize,
+) -> Result<(), Fail> {
+    let before = told_by(session);
+    assert!(rt; count <= session.recording().chunks().len());
+    if session.seek_count(count).is_err() {
+        println!(rt; "refused: a seek to {count}")?;
+        let (frontier, _, held) = before.marks;
+        assert!(rt; count > frontier, "a seek below the frontier takes memory");
+        let marks = (frontier, head, held);
+        assert_eq!(rt; told_by(session), State { marks, ..before });
+    }
+    assert!(rt; reaches(session, count), "a seek to {count}");
+    Ok(())
+}
+
+/// Seeks to these counts, each with where a refusal puts the head. They end at the end.
+fn all_sought(
+    rt: &(impl Runtime<A = Global> + Abort),
+    session: &mut Session,
+    counts: &[(usize, usize)],
+) -> Result<(), Fail> {
+    for (count, head) in counts {
+        sought(rt, session, *count, *head)?;
+    }
+    assert_eq!(rt; told_by(session).marks, (4, 4, 3));
+    Ok(())
 }
 
 #[test]
 fn refused_seeks(rt: HostRuntime) -> Result<(), Fail> {
     let mut session = four(&rt)?;
-    sought(&rt, &mut session, 1, 0)?;
-    sought(&rt, &mut session, 4, 0)?;
-    // Below the frontier no growth is left to be refused.
-    for count in [3, 0, 2, 1, 4] {
-        sought(&rt, &mut session, count, 0)?;
-    }
-    assert_eq!(rt; told_by(&session).marks, (4, 4, 3));
-    Ok(())
+    // Below the frontier, which the second reaches, no growth is left to be refused.
+    let counts = [(1, 0), (4, 0), (3, 0), (0, 0), (2, 0), (1, 0), (4, 0)];
+    all_sought(&rt, &mut session, &counts)
 }
 
 #[test]
 fn refused_seeks_past_a_stored_terminal(rt: HostRuntime) -> Result<(), Fail> {
     let mut session = four(&rt)?;
-    sought(&rt, &mut session, 3, 0)?;
-    sought(&rt, &mut session, 1, 0)?;
-    // The head stood at 1, and a refusal puts it at the last stored terminal.
-    sought(&rt, &mut session, 4, 2)?;
-    assert_eq!(rt; told_by(&session).marks, (4, 4, 3));
-    Ok(())
+    // At the last the head stands at 1, and a refusal puts it at the last stored terminal.
+    all_sought(&rt, &mut session, &[(3, 0), (1, 0), (4, 2)])
 }
 
 /// Makes an edit; where memory is refused, once more with the edit that came back.
@@ -134,13 +152,23 @@ fn applied(
 ) -> Result<(), Fail> {
     let before = told_by(session);
     if let Err(refused) = session.apply(edit) {
-        println!(rt; "refused: {:?}", refused.edit)?;
-        assert_eq!(rt; refused.fault, EditFault::OutOfMemory);
-        assert_eq!(rt; told_by(session), before);
-        session.apply(refused.edit)?;
+        applied_again(rt, session, refused, before)?;
     }
     assert_eq!(rt; session.log().len(), before.log.saturating_add(1));
     Ok(())
+}
+
+/// Makes the edit that came back, of which nothing is left.
+fn applied_again(
+    rt: &(impl Runtime<A = Global> + Abort),
+    session: &mut Session,
+    refused: Refused,
+    before: State,
+) -> Result<(), Fail> {
+    println!(rt; "refused: {:?}", refused.edit)?;
+    let after = (refused.fault, told_by(session));
+    assert_eq!(rt; after, (EditFault::OutOfMemory, before));
+    Ok(session.apply(refused.edit)?)
 }
 
 /// Bytes; where memory is refused, once more.
@@ -154,75 +182,104 @@ fn bytes(rt: &impl Runtime<A = Global>, text: &[u8]) -> Result<Bytes, Fail> {
     }
 }
 
-#[test]
-fn refused_edits(rt: HostRuntime) -> Result<(), Fail> {
-    let mut session = four(&rt)?;
-    sought(&rt, &mut session, 4, 0)?;
+/// Makes an edit of each kind.
+fn all_applied(rt: &(impl Runtime<A = Global> + Abort), session: &mut Session) -> Result<(), Fail> {
     let edit = Edit::Insert {
         at: 4,
         delay: 7,
-        bytes: bytes(&rt, b"new")?,
+        bytes: bytes(rt, b"new")?,
     };
-    applied(&rt, &mut session, edit)?;
+    applied(rt, session, edit)?;
     let edit = Edit::Replace {
         at: 3,
-        bytes: bytes(&rt, b"other")?,
+        bytes: bytes(rt, b"other")?,
     };
-    applied(&rt, &mut session, edit)?;
-    applied(&rt, &mut session, Edit::Retime { at: 0, delay: 9 })?;
-    applied(&rt, &mut session, Edit::Cap { max: 500_000 })?;
-    applied(&rt, &mut session, Edit::Delete { from: 1, to: 2 })?;
-    assert_eq!(rt; told_by(&session).marks, (1, 0, 1));
-    let wanted = read(
-        &rt,
+    applied(rt, session, edit)?;
+    applied(rt, session, Edit::Retime { at: 0, delay: 9 })?;
+    applied(rt, session, Edit::Cap { max: 500_000 })?;
+    applied(rt, session, Edit::Delete { from: 1, to: 2 })
+}
+
+/// The numbers of the recording that those edits leave.
+fn numbers_left(rt: &impl Runtime<A = Global>) -> Result<(usize, u64, u64, u64), Fail> {
+    let left = read(
+        rt,
         b"\n\x1b[6nabc\x1b[6nothernew",
         b"0.000009 4\n0.5 7\n0.5 5\n0.000007 3\n",
     )?;
-    assert_eq!(rt; numbers(session.recording()), numbers(&wanted));
+    Ok(numbers(&left))
+}
+
+/// Makes the edits behind a seek, and compares what they leave.
+fn check_edits(rt: &(impl Runtime<A = Global> + Abort), session: &mut Session) -> Result<(), Fail> {
+    sought(rt, session, 4, 0)?;
+    all_applied(rt, session)?;
+    let wanted = numbers_left(rt)?;
+    let left = told_by(session);
+    assert_eq!(rt; (left.marks, left.recording), ((1, 0, 1), wanted));
     Ok(())
 }
 
-/// A log that has to grow again and again.
 #[test]
-fn refused_growths_of_the_log(rt: HostRuntime) -> Result<(), Fail> {
+fn refused_edits(rt: HostRuntime) -> Result<(), Fail> {
     let mut session = four(&rt)?;
+    check_edits(&rt, &mut session)
+}
+
+/// Lets a log grow again and again.
+fn check_growths_of_the_log(
+    rt: &(impl Runtime<A = Global> + Abort),
+    session: &mut Session,
+) -> Result<(), Fail> {
     for delay in 0..9 {
-        applied(&rt, &mut session, Edit::Retime { at: 3, delay })?;
+        applied(rt, session, Edit::Retime { at: 3, delay })?;
     }
     assert_eq!(rt; session.recording().length(), 3_000_008);
     Ok(())
 }
 
 #[test]
+fn refused_growths_of_the_log(rt: HostRuntime) -> Result<(), Fail> {
+    let mut session = four(&rt)?;
+    check_growths_of_the_log(&rt, &mut session)
+}
+
+/// Lines, and two numbers of the edit that each asks for: place and size, or the ends of the range.
+const LINES: &[(&[u8], (usize, usize))] = &[
+    (b"insert 1 0.25 58", (1, 1)),
+    (b"replace 007 4A4b", (7, 2)),
+    (b"insert 0 1 -", (0, 0)),
+    (b"delete 0 1", (0, 1)),
+];
+
+fn numbers_of(asked: &Request) -> Option<(usize, usize)> {
+    match asked {
+        Request::Edit(Edit::Insert { at, bytes, .. }) => Some((*at, bytes.len())),
+        Request::Edit(Edit::Replace { at, bytes }) => Some((*at, bytes.len())),
+        Request::Edit(Edit::Delete { from, to }) => Some((*from, *to)),
+        _ => None,
+    }
+}
+
+/// Reads a line; where memory is refused, once more.
+fn read_numbers(
+    rt: &(impl Runtime<A = Global> + Abort),
+    line: &[u8],
+) -> Result<Option<(usize, usize)>, Fail> {
+    match read_line(rt.alloc(), line) {
+        Ok(asked) => Ok(numbers_of(&asked)),
+        Err(fault) => {
+            println!(rt; "refused: {line:?}")?;
+            assert_eq!(rt; fault, LineFault::OutOfMemory);
+            Ok(numbers_of(&read_line(rt.alloc(), line)?))
+        }
+    }
+}
+
+#[test]
 fn refused_lines(rt: HostRuntime) -> Result<(), Fail> {
-    let lines: [&[u8]; 4] = [
-        b"insert 1 0.25 58",
-        b"replace 007 4A4b",
-        b"insert 0 1 -",
-        b"delete 0 1",
-    ];
-    for line in lines {
-        let asked = match read_line(rt.alloc(), line) {
-            Err(fault) => {
-                println!(rt; "refused: {line:?}")?;
-                assert_eq!(rt; fault, LineFault::OutOfMemory);
-                read_line(rt.alloc(), line)?
-            }
-            Ok(asked) => asked,
-        };
-        let (place, size) = match asked {
-            Request::Edit(Edit::Insert { at, bytes, .. }) => (at, bytes.len()),
-            Request::Edit(Edit::Replace { at, bytes }) => (at, bytes.len()),
-            Request::Edit(Edit::Delete { from, to }) => (from, to),
-            _ => (99, 99),
-        };
-        let wanted = match line.len() {
-            16 if line[0] == b'i' => (1, 1),
-            16 => (7, 2),
-            12 => (0, 0),
-            _ => (0, 1),
-        };
-        assert_eq!(rt; (place, size), wanted, "of {line:?}");
+    for (line, wanted) in LINES {
+        assert_eq!(rt; read_numbers(&rt, line)?, Some(*wanted), "of {line:?}");
     }
     Ok(())
 }

@@ -1,8 +1,9 @@
+use std::alloc::Global;
 use std::test::Fail;
 use tape_seek::{LineFault, Request, read_line};
 
 /// Lines, and what each asks for.
-const FORMS: [(&[u8], &str); 24] = [
+const FORMS: &[(&[u8], &str)] = &[
     (b"", "Nothing"),
     (b" \t  ", "Nothing"),
     (
@@ -60,18 +61,22 @@ const FORMS: [(&[u8], &str); 24] = [
     ),
 ];
 
+fn told_of(alloc: Global, line: &[u8]) -> Result<String, Fail> {
+    let asked = read_line(alloc, line)?;
+    Ok(format!(in alloc; "{asked:?}")?)
+}
+
 #[test]
 fn lines_of_every_form(rt: HostRuntime) -> Result<(), Fail> {
-    for (line, wanted) in &FORMS {
-        let asked = read_line(rt.alloc(), line)?;
-        let told = format!(in rt.alloc(); "{asked:?}")?;
+    for (line, wanted) in FORMS {
+        let told = told_of(rt.alloc(), line)?;
         assert_eq!(rt; told.as_str(), *wanted, "of {line:?}");
     }
     Ok(())
 }
 
 /// Lines that ask for nothing known.
-const NO_FORMS: [&[u8]; 54] = [
+const NO_FORMS: &[&[u8]] = &[
     b"nonsense",
     b"-",
     b"\0",
@@ -134,12 +139,17 @@ const NO_FORMS: [&[u8]; 54] = [
     b"replace 0 --",
 ];
 
+fn fault_of(alloc: Global, line: &[u8]) -> Option<LineFault> {
+    read_line(alloc, line).err()
+}
+
 #[test]
 fn lines_of_no_form(rt: HostRuntime) {
-    for line in &NO_FORMS {
-        match read_line(rt.alloc(), line) {
-            Ok(asked) => assert!(rt; false, "{line:?} is read as {asked:?}"),
-            Err(fault) => assert_eq!(rt; fault, LineFault::BadLine, "of {line:?}"),
-        }
+    for line in NO_FORMS {
+        assert_eq!(rt;
+            fault_of(rt.alloc(), line),
+            Some(LineFault::BadLine),
+            "of {line:?}"
+        );
     }
 }

@@ -1,12 +1,13 @@
 //! Worked rows.
 use super::Call::{Count, Line};
-use super::{Row, compare, recorded};
+use super::{Row, Timed, compare, opened, recorded};
+use std::alloc::Global;
 use std::test::Fail;
 use tape_seek::Session;
 use vt_term::Profile;
 
 /// Chunks of one byte each, a second apart.
-const TEN: [(&str, &[u8]); 10] = [
+const TEN: &[Timed<'static>] = &[
     ("1", b"0"),
     ("1", b"1"),
     ("1", b"2"),
@@ -21,8 +22,7 @@ const TEN: [(&str, &[u8]); 10] = [
 
 #[test]
 fn a_report_goes_with_its_chunk(rt: HostRuntime) -> Result<(), Fail> {
-    let recording = recorded(rt.alloc(), &[("0", b"\x1b[c"), ("0", b"x")])?;
-    let mut session = Session::open(rt.alloc(), recording, 100)?;
+    let mut session = opened(rt.alloc(), &[("0", b"\x1b[c"), ("0", b"x")], 100)?;
     let rows: [Row; 6] = [
         (
             Line(b"reports 0"),
@@ -38,18 +38,25 @@ fn a_report_goes_with_its_chunk(rt: HostRuntime) -> Result<(), Fail> {
     compare(&rt, rt.alloc(), &mut session, &rows)
 }
 
+/// An insertion, a request for what the terminal is in front of RIS, and another behind it.
+const INSERTED: &[Timed<'static>] = &[
+    ("1", b"ab"),
+    ("1", b"\x1b[1;1H\x1b[4h"),
+    ("1", b"XY\x1b[c"),
+    ("1", b"\x1bc"),
+    ("1", b"c\x1b[c"),
+];
+
+/// A session of a profile over these chunks, with a terminal stored at every second count.
+fn inserting(alloc: Global, profile: Profile) -> Result<Session, Fail> {
+    let recording = recorded(alloc, INSERTED)?;
+    Ok(Session::open_as(alloc, recording, 2, profile)?)
+}
+
 /// A VT102 inserts, answers as itself, and stays one from stored terminals, from the start and after RIS.
 #[test]
-fn sessions_of_a_profile(rt: HostRuntime) -> Result<(), Fail> {
-    let chunks: [(&str, &[u8]); 5] = [
-        ("1", b"ab"),
-        ("1", b"\x1b[1;1H\x1b[4h"),
-        ("1", b"XY\x1b[c"),
-        ("1", b"\x1bc"),
-        ("1", b"c\x1b[c"),
-    ];
-    let recording = recorded(rt.alloc(), &chunks)?;
-    let mut session = Session::open_as(rt.alloc(), recording, 2, Profile::Vt102)?;
+fn a_session_of_a_vt102(rt: HostRuntime) -> Result<(), Fail> {
+    let mut session = inserting(rt.alloc(), Profile::Vt102)?;
     let rows: [Row; 6] = [
         (Count(3), "count 3 fed 3 sent E[?6c 1:XYab", (3, 3, 2)),
         (Count(2), "count 2 fed 0 1:ab", (3, 2, 2)),
@@ -58,9 +65,12 @@ fn sessions_of_a_profile(rt: HostRuntime) -> Result<(), Fail> {
         (Count(0), "count 0 fed 0", (5, 0, 3)),
         (Count(1), "count 1 fed 1 1:ab", (5, 1, 3)),
     ];
-    compare(&rt, rt.alloc(), &mut session, &rows)?;
-    let recording = recorded(rt.alloc(), &chunks)?;
-    let mut session = Session::open_as(rt.alloc(), recording, 2, Profile::Vt100)?;
+    compare(&rt, rt.alloc(), &mut session, &rows)
+}
+
+#[test]
+fn a_session_of_a_vt100(rt: HostRuntime) -> Result<(), Fail> {
+    let mut session = inserting(rt.alloc(), Profile::Vt100)?;
     let rows: [Row; 2] = [
         (Count(3), "count 3 fed 3 sent E[?1;2c 1:XY", (3, 3, 2)),
         (Count(5), "count 5 fed 2 sent E[?1;2cE[?1;2c 1:c", (5, 5, 3)),
@@ -70,8 +80,7 @@ fn sessions_of_a_profile(rt: HostRuntime) -> Result<(), Fail> {
 
 #[test]
 fn stored_terminals_through_edits(rt: HostRuntime) -> Result<(), Fail> {
-    let recording = recorded(rt.alloc(), &TEN)?;
-    let mut session = Session::open(rt.alloc(), recording, 4)?;
+    let mut session = opened(rt.alloc(), TEN, 4)?;
     let rows: [Row; 12] = [
         (
             Line(b"screen 10"),
@@ -104,8 +113,7 @@ fn stored_terminals_through_edits(rt: HostRuntime) -> Result<(), Fail> {
 
 #[test]
 fn edits_of_no_chunks(rt: HostRuntime) -> Result<(), Fail> {
-    let recording = recorded(rt.alloc(), &[])?;
-    let mut session = Session::open(rt.alloc(), recording, 1)?;
+    let mut session = opened(rt.alloc(), &[], 1)?;
     let rows: [Row; 10] = [
         (Count(0), "count 0 fed 0", (0, 0, 1)),
         (Line(b"delete 0 0"), "BadRange", (0, 0, 1)),
@@ -128,8 +136,7 @@ fn edits_of_no_chunks(rt: HostRuntime) -> Result<(), Fail> {
 
 #[test]
 fn refused_edits_change_nothing(rt: HostRuntime) -> Result<(), Fail> {
-    let recording = recorded(rt.alloc(), &TEN)?;
-    let mut session = Session::open(rt.alloc(), recording, 3)?;
+    let mut session = opened(rt.alloc(), TEN, 3)?;
     let rows: [Row; 17] = [
         (Count(7), "count 7 fed 7 1:0123456", (7, 7, 3)),
         (Line(b"delete 3 3"), "BadRange", (7, 7, 3)),
@@ -159,8 +166,7 @@ fn refused_edits_change_nothing(rt: HostRuntime) -> Result<(), Fail> {
 #[test]
 fn sequences_cut_by_chunks(rt: HostRuntime) -> Result<(), Fail> {
     let chunks: [(&str, &[u8]); 4] = [("0", b"\x1b["), ("0", b"6"), ("0", b"n"), ("0", b"\x1b[c")];
-    let recording = recorded(rt.alloc(), &chunks)?;
-    let mut session = Session::open(rt.alloc(), recording, 1)?;
+    let mut session = opened(rt.alloc(), &chunks, 1)?;
     let rows: [Row; 9] = [
         (Count(4), "count 4 fed 4 sent E[1;1RE[?1;2c", (4, 4, 5)),
         (
@@ -183,8 +189,7 @@ fn sequences_cut_by_chunks(rt: HostRuntime) -> Result<(), Fail> {
 #[test]
 fn a_pending_wrap_is_stored(rt: HostRuntime) -> Result<(), Fail> {
     let line = vec![in rt.alloc(); b'A'; 80]?;
-    let recording = recorded(rt.alloc(), &[("0", line.as_slice()), ("0", b"B")])?;
-    let mut session = Session::open(rt.alloc(), recording, 1)?;
+    let mut session = opened(rt.alloc(), &[("0", line.as_slice()), ("0", b"B")], 1)?;
     let rows: [Row; 4] = [
         (Count(2), "count 2 fed 2 1:AAAAAAAA 2:B", (2, 2, 3)),
         (Count(1), "count 1 fed 0 1:AAAAAAAA wrap", (2, 1, 3)),
@@ -196,8 +201,7 @@ fn a_pending_wrap_is_stored(rt: HostRuntime) -> Result<(), Fail> {
 
 #[test]
 fn the_head_goes_back_behind_an_edit(rt: HostRuntime) -> Result<(), Fail> {
-    let recording = recorded(rt.alloc(), &TEN)?;
-    let mut session = Session::open(rt.alloc(), recording, 4)?;
+    let mut session = opened(rt.alloc(), TEN, 4)?;
     let rows: [Row; 16] = [
         (Count(10), "count 10 fed 10 1:01234567", (10, 10, 3)),
         (Line(b"replace 6 2d"), "ok", (6, 4, 2)),
