@@ -2,19 +2,21 @@
 use super::type_text;
 use vt_screen::{Screen, Size};
 
+/// Tabs, and tells the cursor.
+fn tabbed(screen: &mut Screen) -> (u8, u8) {
+    screen.tab_forward();
+    screen.cursor()
+}
+
 #[test]
 fn tabs_to_stops(rt: HostRuntime) {
     let mut screen = Screen::reset();
-    screen.tab_forward();
-    assert_eq!(rt; screen.cursor(), (1, 9));
-    screen.tab_forward();
-    assert_eq!(rt; screen.cursor(), (1, 17));
+    let stops = (tabbed(&mut screen), tabbed(&mut screen));
+    assert_eq!(rt; stops, ((1, 9), (1, 17)));
     screen.clear_tabs();
-    screen.tab_forward();
-    assert_eq!(rt; screen.cursor(), (1, 80));
+    assert_eq!(rt; tabbed(&mut screen), (1, 80));
     type_text(&mut screen, b"x");
-    assert_eq!(rt; screen.cell(1, 80).glyph, b'x');
-    assert!(rt; screen.wrap());
+    assert_eq!(rt; (screen.cell(1, 80).glyph, screen.wrap()), (b'x', true));
     screen.tab_forward();
     assert!(rt; !screen.wrap());
 }
@@ -25,18 +27,14 @@ fn sets_and_clears_stops(rt: HostRuntime) {
     screen.place(1, 5, false);
     screen.set_tab();
     screen.to_left();
-    screen.tab_forward();
-    assert_eq!(rt; screen.cursor(), (1, 5));
+    assert_eq!(rt; tabbed(&mut screen), (1, 5));
     screen.clear_tab();
     screen.to_left();
-    screen.tab_forward();
-    assert_eq!(rt; screen.cursor(), (1, 9));
+    assert_eq!(rt; tabbed(&mut screen), (1, 9));
     // a stop right of the margin of a double line is not reached
     screen.set_size(Size::Double);
     screen.step_right(31);
-    assert_eq!(rt; screen.cursor(), (1, 40));
-    screen.tab_forward();
-    assert_eq!(rt; screen.cursor(), (1, 40));
+    assert_eq!(rt; (screen.cursor(), tabbed(&mut screen)), ((1, 40), (1, 40)));
 }
 
 #[test]
@@ -49,6 +47,5 @@ fn tabs_outlive_a_change_of_columns(rt: HostRuntime) {
     screen.set_tab();
     screen.set_columns(false, false);
     screen.set_columns(true, false);
-    assert!(rt; screen.tab(132));
-    assert!(rt; screen.tab(129));
+    assert_eq!(rt; (screen.tab(132), screen.tab(129)), (true, true));
 }
