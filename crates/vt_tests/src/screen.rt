@@ -2,7 +2,7 @@
 
 ghost use Rattle.std.specs.Prelude.{◌≤◌};
 
-use vt_screen::{Rendition, Screen};
+use vt_screen::{Rendition, Screen, Size};
 
 mod edits;
 mod erasures;
@@ -58,14 +58,22 @@ fn type_text(screen: &mut Screen, text: &[u8]) {
     }
 }
 
-/// The cursor, and whether the wrap is pending.
-fn pen(screen: &Screen) -> ((u8, u8), bool) {
-    (screen.cursor(), screen.wrap())
+/// Whether the cursor is at a place, with a pending wrap or without.
+fn is_at(screen: &Screen, line: u8, col: u8, wrap: bool) -> bool {
+    screen.cursor() == (line, col) && screen.wrap() == wrap
 }
 
-/// The glyphs at columns 79 and 80 of line 1.
-fn last_glyphs(screen: &Screen) -> (u8, u8) {
-    (screen.cell(1, 79).glyph, screen.cell(1, 80).glyph)
+/// Whether a line has a size and a right margin.
+fn is_sized(screen: &Screen, line: u8, size: Size, margin: u8) -> bool
+    requires low { 1 ≤ line }
+    requires high { line ≤ 24 }
+{
+    screen.size(line) == size && screen.right_margin(line) == margin
+}
+
+/// Whether columns 79 and 80 of line 1 have these glyphs.
+fn ends_with(screen: &Screen, before: u8, last: u8) -> bool {
+    screen.cell(1, 79).glyph == before && screen.cell(1, 80).glyph == last
 }
 
 /// Column 1 of the next line.

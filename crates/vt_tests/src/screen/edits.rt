@@ -1,25 +1,25 @@
 //! Lines and cells that are inserted and deleted.
 ghost use Rattle.std.specs.Prelude.{◌≤◌};
 
-use super::{has_letters, has_text, have_text, last_glyphs, lettered, marked, pen, type_text};
+use super::{ends_with, has_letters, has_text, have_text, is_at, lettered, marked, type_text};
 use vt_screen::{Cell, Rendition, Screen, Size};
 
-/// Inserts lines at a line, and tells whether these letters are left, and the cursor.
-fn inserted_lines(line: u8, count: u16, letters: &[u8]) -> (bool, (u8, u8))
+/// Whether lines that are inserted at a line leave these letters, and the cursor at its left.
+fn inserts(line: u8, count: u16, letters: &[u8]) -> bool
     requires { 1 ≤ line }
 {
     let mut screen = lettered(u16::from(line), 7);
     screen.insert_lines(count);
-    (has_letters(&screen, letters), screen.cursor())
+    has_letters(&screen, letters) && screen.cursor() == (line, 1)
 }
 
-/// Deletes lines at a line, and tells whether these letters are left, and the cursor.
-fn deleted_lines(line: u8, count: u16, letters: &[u8]) -> (bool, (u8, u8))
+/// Whether lines that are deleted at a line leave these letters, and the cursor at its left.
+fn deletes(line: u8, count: u16, letters: &[u8]) -> bool
     requires { 1 ≤ line }
 {
     let mut screen = lettered(u16::from(line), 7);
     screen.delete_lines(count);
-    (has_letters(&screen, letters), screen.cursor())
+    has_letters(&screen, letters) && screen.cursor() == (line, 1)
 }
 
 /// A line, how many lines, and the letters that are left where so many are inserted there, and deleted.
@@ -32,41 +32,33 @@ const EDITED_LINES: &[(u8, u16, &[u8], &[u8])] = &[
 ];
 
 #[test]
-fn inserts_lines(rt: HostRuntime) {
-    for (line, count, inserted, _) in EDITED_LINES {
-        let told = inserted_lines((*line).max(1), *count, inserted);
-        assert_eq!(rt; told, (true, (*line, 1)), "{count} at {line}");
+fn inserts_and_deletes_lines(rt: HostRuntime) {
+    for (line, count, inserted, deleted) in EDITED_LINES {
+        let is_inserted = inserts((*line).max(1), *count, inserted);
+        assert!(rt; is_inserted, "{count} in at {line}");
+        let is_deleted = deletes((*line).max(1), *count, deleted);
+        assert!(rt; is_deleted, "{count} out at {line}");
     }
 }
 
-#[test]
-fn deletes_lines(rt: HostRuntime) {
-    for (line, count, _, deleted) in EDITED_LINES {
-        let told = deleted_lines((*line).max(1), *count, deleted);
-        assert_eq!(rt; told, (true, (*line, 1)), "{count} at {line}");
-    }
-}
-
-/// Inserts and deletes a line outside the margins, where a wrap is pending, and tells the cursor, the wrap,
-/// and whether the letters are left.
-fn edited_outside(line: u8) -> ((u8, u8), bool, bool)
+/// Whether lines that are inserted and deleted outside the margins leave the cursor, a pending wrap, and the letters.
+fn leaves_line(line: u8) -> bool
     requires { 1 ≤ line }
 {
     let mut screen = lettered(u16::from(line), 80);
     type_text(&mut screen, b"x");
     screen.insert_lines(1);
     screen.delete_lines(1);
-    let (cursor, wrap) = pen(&screen);
+    let stays = is_at(&screen, line, 80, true);
     screen.place(u16::from(line), 80, false);
     screen.show(b' ', Rendition::plain(), false);
-    (cursor, wrap, has_letters(&screen, b"abcd"))
+    stays && has_letters(&screen, b"abcd")
 }
 
 #[test]
 fn leaves_lines_outside_the_margins(rt: HostRuntime) {
     for line in [1u8, 4, 24] {
-        let told = edited_outside(line.max(1));
-        assert_eq!(rt; told, ((line, 80), true, true));
+        assert!(rt; leaves_line(line.max(1)), "line {line}");
     }
 }
 
@@ -79,7 +71,7 @@ fn clears_the_wrap_inside_the_margins(rt: HostRuntime) {
     screen.place(3, 80, false);
     type_text(&mut screen, b"x");
     screen.delete_lines(1);
-    assert_eq!(rt; pen(&screen), ((3, 1), false));
+    assert!(rt; is_at(&screen, 3, 1, false));
 }
 
 /// The places of lines 2 to 6.
@@ -121,7 +113,7 @@ fn sizes_travel_with_inserted_lines(rt: HostRuntime) {
     assert!(rt;
         has_sized(&screen, 1, b"", Size::Single) && has_sized(&screen, 2, b"ab", Size::Double)
     );
-    assert_eq!(rt; screen.cursor(), (1, 1));
+    assert!(rt; screen.cursor() == (1, 1));
     screen.delete_lines(1);
     assert!(rt; has_sized(&screen, 1, b"ab", Size::Double));
     screen.delete_lines(1);
@@ -135,7 +127,7 @@ fn deletes_cells(rt: HostRuntime) {
     screen.place(1, 2, false);
     screen.delete_cells(2);
     assert!(rt; has_text(&screen, 1, b"adef"));
-    assert_eq!(rt; screen.cursor(), (1, 2));
+    assert!(rt; screen.cursor() == (1, 2));
     screen.delete_cells(9999);
     assert!(rt; has_text(&screen, 1, b"a"));
 }
@@ -166,7 +158,7 @@ fn deletes_a_cell_and_keeps_the_wrap(rt: HostRuntime) {
     type_text(&mut screen, &[b'A'; 80]);
     screen.delete_cells(1);
     assert!(rt; has_text(&screen, 1, &[b'A'; 79]));
-    assert_eq!(rt; pen(&screen), ((1, 80), true));
+    assert!(rt; is_at(&screen, 1, 80, true));
 }
 
 #[test]
@@ -178,7 +170,7 @@ fn shows_inserting(rt: HostRuntime) {
     screen.show_inserting(b'Y', Rendition::plain(), true);
     screen.show(b'Z', Rendition::plain(), true);
     assert!(rt; has_text(&screen, 1, b"aXYZc"));
-    assert_eq!(rt; screen.cursor(), (1, 5));
+    assert!(rt; screen.cursor() == (1, 5));
 }
 
 /// The cell at the margin is lost.
@@ -189,12 +181,11 @@ fn shows_inserting_in_a_full_line(rt: HostRuntime) {
     type_text(&mut screen, b"B");
     screen.place(1, 1, false);
     screen.show_inserting(b'C', bold(b'C').rendition, true);
-    let cells = (screen.cell(1, 1), screen.cell(2, 1));
-    assert_eq!(rt; cells, (bold(b'C'), Cell::blank()));
-    assert_eq!(rt; (screen.cell(1, 80).glyph, screen.cursor()), (b'A', (1, 2)));
+    assert!(rt; screen.cell(1, 1) == bold(b'C') && screen.cell(2, 1) == Cell::blank());
+    assert!(rt; screen.cell(1, 80).glyph == b'A' && screen.cursor() == (1, 2));
     screen.place(1, 1, false);
     screen.show_inserting(b'D', Rendition::plain(), true);
-    assert_eq!(rt; screen.cell(1, 2), bold(b'C'));
+    assert!(rt; screen.cell(1, 2) == bold(b'C'));
 }
 
 #[test]
@@ -205,19 +196,12 @@ fn inserts_at_the_margin_and_after_the_wrap(rt: HostRuntime) {
     screen.place(1, 1, false);
     type_text(&mut screen, &[b'A'; 79]);
     screen.show_inserting(b'B', Rendition::plain(), false);
-    let before = screen.wrap();
+    assert!(rt; !screen.wrap());
     screen.show_inserting(b'C', Rendition::plain(), true);
-    assert_eq!(rt;
-        (before, pen(&screen), last_glyphs(&screen)),
-        (false, ((1, 80), true), (b'A', b'C'))
-    );
+    assert!(rt; is_at(&screen, 1, 80, true) && ends_with(&screen, b'A', b'C'));
     screen.show_inserting(b'D', Rendition::plain(), true);
-    let told = (
-        has_text(&screen, 2, b"Dxy"),
-        screen.cell(1, 80).glyph,
-        screen.cursor(),
-    );
-    assert_eq!(rt; told, (true, b'C', (2, 2)));
+    assert!(rt; has_text(&screen, 2, b"Dxy") && screen.cursor() == (2, 2));
+    assert!(rt; screen.cell(1, 80).glyph == b'C');
 }
 
 /// The first of some columns of line 2 that has not its glyph.
@@ -282,10 +266,6 @@ fn edits_a_wide_double_line(rt: HostRuntime) {
     screen.delete_cells(41);
     assert!(rt; has_sized(&screen, 2, b"x", Size::Top));
     screen.insert_lines(1);
-    let told = (
-        have_text(&screen, 1, 2, b""),
-        screen.size(3),
-        screen.right_margin(2),
-    );
-    assert_eq!(rt; told, (true, Size::Top, 132));
+    assert!(rt; have_text(&screen, 1, 2, b""));
+    assert!(rt; screen.size(3) == Size::Top && screen.right_margin(2) == 132);
 }

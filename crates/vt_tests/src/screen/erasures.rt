@@ -1,7 +1,7 @@
 //! Erased parts of lines and of the display.
 ghost use Rattle.std.specs.Prelude.{◌≤◌};
 
-use super::{has_text, have_text, next_line, type_text};
+use super::{has_text, have_text, is_at, next_line, type_text};
 use vt_screen::{Screen, Size};
 
 #[test]
@@ -61,8 +61,7 @@ fn erases_parts(rt: HostRuntime) {
         let line = has_text(&screen, 3, left) && have_text(&screen, 1, 2, &[b'E'; 80]);
         screen.erase_display(part.min(2));
         let display = has_text(&screen, 3, left) && has_erased(&screen, from, to);
-        let told = (line, display, screen.cursor());
-        assert_eq!(rt; told, (true, true, (3, 3)), "part {part}");
+        assert!(rt; line && display && screen.cursor() == (3, 3), "part {part}");
     }
 }
 
@@ -73,14 +72,13 @@ fn erasing_keeps_or_clears_the_wrap(rt: HostRuntime) {
     screen.erase_line(2);
     let line = screen.wrap();
     screen.erase_display(2);
-    assert_eq!(rt; (line, screen.wrap()), (true, true));
+    assert!(rt; line && screen.wrap());
     screen.set_size(Size::Double);
     let size = screen.wrap();
     type_text(&mut screen, b"A");
-    assert_eq!(rt; (size, screen.wrap()), (false, true));
+    assert!(rt; !size && screen.wrap());
     screen.erase_display(0);
-    let below = screen.wrap();
+    assert!(rt; screen.wrap());
     screen.erase_display(1);
-    let told = (below, screen.wrap(), screen.size(1), screen.cursor());
-    assert_eq!(rt; told, (true, false, Size::Single, (1, 40)));
+    assert!(rt; is_at(&screen, 1, 40, false) && screen.size(1) == Size::Single);
 }

@@ -1,7 +1,7 @@
 //! The cursor: steps, places, the margins that stop it, and what is put back.
 ghost use Rattle.std.specs.Prelude.{◌≤◌};
 
-use super::{has_text, pen, type_text};
+use super::{has_text, is_at, type_text};
 use vt_screen::{Screen, Size};
 
 /// Where steps of 9 up and down lead from column 3 of a line, in a region of lines 5 to 10.
@@ -38,12 +38,12 @@ fn steps_stop_at_margins(rt: HostRuntime) {
 fn steps_stop_at_columns(rt: HostRuntime) {
     let mut screen = Screen::reset();
     screen.step_right(9999);
-    assert_eq!(rt; screen.cursor(), (1, 80));
+    assert!(rt; screen.cursor() == (1, 80));
     screen.step_left(9999);
-    assert_eq!(rt; screen.cursor(), (1, 1));
+    assert!(rt; screen.cursor() == (1, 1));
     screen.set_size(Size::Double);
     screen.step_right(9999);
-    assert_eq!(rt; screen.cursor(), (1, 40));
+    assert!(rt; screen.cursor() == (1, 40));
 }
 
 #[test]
@@ -52,37 +52,26 @@ fn cuts_the_column_on_a_double_line(rt: HostRuntime) {
     screen.set_size(Size::Top);
     screen.index();
     screen.step_right(59);
-    assert_eq!(rt; screen.cursor(), (2, 60));
+    assert!(rt; screen.cursor() == (2, 60));
     screen.step_up(1);
-    assert_eq!(rt; screen.cursor(), (1, 40));
-}
-
-/// Places the cursor, lines counted from the top margin, and tells it.
-fn placed(screen: &mut Screen, line: u16, col: u16) -> (u8, u8)
-    requires line { 1 ≤ line }
-    requires col { 1 ≤ col }
-{
-    screen.place(line, col, true);
-    screen.cursor()
-}
-
-/// Moves the cursor home, and tells it.
-fn homed(screen: &mut Screen, origin: bool) -> (u8, u8) {
-    screen.home(origin);
-    screen.cursor()
+    assert!(rt; screen.cursor() == (1, 40));
 }
 
 #[test]
 fn places_in_the_region(rt: HostRuntime) {
     let mut screen = Screen::reset();
     screen.place(99, 99, false);
-    let corner = screen.cursor();
-    let is_set = screen.set_margins(5, 10, true);
-    assert_eq!(rt; (corner, is_set, screen.cursor()), ((24, 80), true, (5, 1)));
-    let places = (placed(&mut screen, 99, 1), placed(&mut screen, 2, 7));
-    assert_eq!(rt; places, ((10, 1), (6, 7)));
-    let homes = (homed(&mut screen, true), homed(&mut screen, false));
-    assert_eq!(rt; homes, ((5, 1), (1, 1)));
+    assert!(rt; screen.cursor() == (24, 80));
+    assert!(rt; screen.set_margins(5, 10, true));
+    assert!(rt; screen.cursor() == (5, 1));
+    screen.place(99, 1, true);
+    assert!(rt; screen.cursor() == (10, 1));
+    screen.place(2, 7, true);
+    assert!(rt; screen.cursor() == (6, 7));
+    screen.home(true);
+    assert!(rt; screen.cursor() == (5, 1));
+    screen.home(false);
+    assert!(rt; screen.cursor() == (1, 1));
 }
 
 /// Sets margins with the cursor at line 3 and column 3, and tells whether they are set, the margins, and the cursor.
@@ -113,18 +102,9 @@ fn refuses_margins(rt: HostRuntime) {
 fn margins_that_are_set_clear_the_wrap(rt: HostRuntime) {
     let mut screen = Screen::reset();
     type_text(&mut screen, &[b'A'; 80]);
-    let refused = (screen.set_margins(2, 1, false), screen.wrap());
-    assert_eq!(rt; refused, (false, true));
-    let set = (screen.set_margins(23, 24, false), screen.wrap());
-    assert_eq!(rt; (set, screen.margins()), ((true, false), (23, 24)));
-}
-
-/// Puts back a pending wrap at a column of line 1, and tells the cursor and the wrap.
-fn put_back_wrap(screen: &mut Screen, col: u8, autowrap: bool) -> ((u8, u8), bool)
-    requires { 1 ≤ col }
-{
-    screen.put_back(1, col, true, false, autowrap);
-    pen(screen)
+    assert!(rt; !screen.set_margins(2, 1, false) && screen.wrap());
+    assert!(rt; screen.set_margins(23, 24, false) && !screen.wrap());
+    assert!(rt; screen.margins() == (23, 24));
 }
 
 #[test]
@@ -132,23 +112,18 @@ fn puts_back_the_wrap(rt: HostRuntime) {
     let mut screen = Screen::reset();
     type_text(&mut screen, &[b'A'; 80]);
     screen.place(5, 1, false);
-    assert_eq!(rt; put_back_wrap(&mut screen, 80, true), ((1, 80), true));
+    screen.put_back(1, 80, true, false, true);
+    assert!(rt; screen.wrap());
     type_text(&mut screen, b"B");
     assert!(rt; has_text(&screen, 2, b"B"));
-}
-
-/// Without autowrap, and on a line with another right margin.
-#[test]
-fn puts_back_the_wrap_at_the_margin_alone(rt: HostRuntime) {
-    let mut screen = Screen::reset();
-    type_text(&mut screen, &[b'A'; 80]);
-    assert_eq!(rt; put_back_wrap(&mut screen, 80, false), ((1, 80), false));
+    // without autowrap, and on a line with another right margin
+    screen.put_back(1, 80, true, false, false);
+    assert!(rt; !screen.wrap());
     screen.set_size(Size::Double);
-    let double = (
-        put_back_wrap(&mut screen, 80, true),
-        put_back_wrap(&mut screen, 39, true),
-    );
-    assert_eq!(rt; double, (((1, 40), true), ((1, 39), false)));
+    screen.put_back(1, 80, true, false, true);
+    assert!(rt; is_at(&screen, 1, 40, true));
+    screen.put_back(1, 39, true, false, true);
+    assert!(rt; !screen.wrap());
 }
 
 #[test]
@@ -158,7 +133,7 @@ fn puts_back_into_the_region(rt: HostRuntime) {
     assert!(rt; screen.set_margins(5, 10, false));
     // the column is not cut at the margin of line 1
     screen.put_back(1, 80, false, true, true);
-    assert_eq!(rt; screen.cursor(), (5, 80));
+    assert!(rt; screen.cursor() == (5, 80));
     screen.put_back(24, 3, false, true, true);
-    assert_eq!(rt; screen.cursor(), (10, 3));
+    assert!(rt; screen.cursor() == (10, 3));
 }

@@ -9,7 +9,7 @@ fn scrolls_at_the_last_line(rt: HostRuntime) {
     type_text(&mut screen, b"x");
     next_line(&mut screen);
     assert!(rt; has_text(&screen, 23, b"x") && has_text(&screen, 24, b""));
-    assert_eq!(rt; screen.cursor(), (24, 1));
+    assert!(rt; screen.cursor() == (24, 1));
 }
 
 #[test]
@@ -21,7 +21,7 @@ fn reverse_index_stays_above_the_region(rt: HostRuntime) {
     assert!(rt; has_text(&screen, 1, b"x"));
     screen.place(24, 1, false);
     screen.index();
-    assert_eq!(rt; screen.cursor(), (24, 1));
+    assert!(rt; screen.cursor() == (24, 1));
     assert!(rt; has_text(&screen, 1, b"x"));
 }
 
@@ -47,7 +47,7 @@ fn turns_the_names_in_the_region(rt: HostRuntime) {
         screen.place_of(4),
     ];
     assert_eq!(rt; places, [0, 2, 1, 3]);
-    assert_eq!(rt; screen.cursor(), (3, 1));
+    assert!(rt; screen.cursor() == (3, 1));
 }
 
 #[test]

@@ -1,7 +1,7 @@
 //! Characters, the pending wrap and renditions.
 ghost use Rattle.std.specs.Prelude.{◌<◌};
 
-use super::{has_text, have_text, last_glyphs, look_alike, pen, type_text};
+use super::{ends_with, has_text, have_text, is_at, look_alike, type_text};
 use vt_screen::{Cell, Rendition, Screen, Size};
 
 #[test]
@@ -70,9 +70,9 @@ fn keeps_four_attributes(rt: HostRuntime) {
 fn wraps_with_the_next_character(rt: HostRuntime) {
     let mut screen = Screen::reset();
     type_text(&mut screen, &[b'A'; 80]);
-    assert_eq!(rt; pen(&screen), ((1, 80), true));
+    assert!(rt; is_at(&screen, 1, 80, true));
     type_text(&mut screen, b"B");
-    assert_eq!(rt; pen(&screen), ((2, 2), false));
+    assert!(rt; is_at(&screen, 2, 2, false));
     assert!(rt; has_text(&screen, 1, &[b'A'; 80]) && has_text(&screen, 2, b"B"));
 }
 
@@ -82,8 +82,8 @@ fn steps_back_from_a_pending_wrap(rt: HostRuntime) {
     type_text(&mut screen, &[b'A'; 80]);
     screen.step_left(1);
     type_text(&mut screen, b"B");
-    assert_eq!(rt; last_glyphs(&screen), (b'B', b'A'));
-    assert_eq!(rt; pen(&screen), ((1, 80), false));
+    assert!(rt; ends_with(&screen, b'B', b'A'));
+    assert!(rt; is_at(&screen, 1, 80, false));
 }
 
 #[test]
@@ -92,8 +92,7 @@ fn replaces_at_the_margin_without_autowrap(rt: HostRuntime) {
     screen.show_run(&[b'A'; 200], Rendition::plain(), false);
     screen.show(b'B', Rendition::plain(), false);
     assert!(rt; have_text(&screen, 2, 24, b""));
-    let told = (screen.cursor(), screen.wrap(), last_glyphs(&screen));
-    assert_eq!(rt; told, ((1, 80), false, (b'A', b'B')));
+    assert!(rt; is_at(&screen, 1, 80, false) && ends_with(&screen, b'A', b'B'));
 }
 
 #[test]
@@ -110,7 +109,7 @@ fn clears_the_wrap_alone(rt: HostRuntime) {
     let mut screen = Screen::reset();
     type_text(&mut screen, &[b'A'; 80]);
     screen.clear_wrap();
-    assert_eq!(rt; pen(&screen), ((1, 80), false));
+    assert!(rt; is_at(&screen, 1, 80, false));
 }
 
 /// A screen that was shown the letter A 2000 times, by itself.
@@ -141,7 +140,7 @@ fn shown_in_pieces(piece: usize) -> Screen
 fn runs_are_shows(rt: HostRuntime) {
     let shown = shown_one_by_one();
     assert!(rt; have_text(&shown, 1, 24, &[b'A'; 80]));
-    assert_eq!(rt; pen(&shown), ((24, 80), true));
+    assert!(rt; is_at(&shown, 24, 80, true));
     for piece in [2000, 1, 31, 32, 33] {
         assert!(rt;
             0 < piece && look_alike(&shown_in_pieces(piece), &shown),
@@ -169,7 +168,6 @@ fn copies(rt: HostRuntime) {
     let mut copy = Screen::reset();
     copy.copy_from(&screen);
     assert!(rt; look_alike(&copy, &screen));
-    let told = (copy.columns(), copy.margins(), copy.tab(9));
-    assert_eq!(rt; told, (132, (2, 9), false));
-    assert_eq!(rt; copy.place_of(9), screen.place_of(9));
+    assert!(rt; copy.columns() == 132 && copy.margins() == (2, 9) && !copy.tab(9));
+    assert!(rt; copy.place_of(9) == screen.place_of(9));
 }

@@ -1,28 +1,19 @@
 //! Line sizes, 132 columns, and the pattern of letters E.
 ghost use Rattle.std.specs.Prelude.{◌≤◌};
 
-use super::{has_marks, has_text, have_text, marked, type_text};
+use super::{has_marks, has_text, have_text, is_at, is_sized, marked, type_text};
 use vt_screen::{Rendition, Screen, Size};
-
-/// Gives line 1 a size, and tells its right margin, the cursor, and whether it has 40 letters A.
-fn sized_letters(screen: &mut Screen, size: Size) -> (u8, (u8, u8), bool) {
-    screen.set_size(size);
-    (
-        screen.right_margin(1),
-        screen.cursor(),
-        has_text(screen, 1, &[b'A'; 40]),
-    )
-}
 
 #[test]
 fn halves_a_line(rt: HostRuntime) {
     let mut screen = Screen::reset();
     type_text(&mut screen, &[b'A'; 50]);
-    let told = sized_letters(&mut screen, Size::Double);
-    assert_eq!(rt; told, (40, (1, 40), true));
-    assert_eq!(rt; screen.size(1), Size::Double);
-    let told = sized_letters(&mut screen, Size::Single);
-    assert_eq!(rt; told, (80, (1, 40), true));
+    screen.set_size(Size::Double);
+    assert!(rt; is_sized(&screen, 1, Size::Double, 40) && is_at(&screen, 1, 40, false));
+    assert!(rt; has_text(&screen, 1, &[b'A'; 40]));
+    screen.set_size(Size::Single);
+    assert!(rt; is_sized(&screen, 1, Size::Single, 80) && is_at(&screen, 1, 40, false));
+    assert!(rt; has_text(&screen, 1, &[b'A'; 40]));
 }
 
 #[test]
@@ -32,8 +23,8 @@ fn widens(rt: HostRuntime) {
     assert!(rt; screen.set_margins(3, 7, false));
     screen.set_columns(true, true);
     assert!(rt; have_text(&screen, 1, 24, b""));
-    let told = (screen.columns(), screen.margins(), screen.cursor());
-    assert_eq!(rt; told, (132, (1, 24), (1, 1)));
+    assert!(rt; screen.columns() == 132 && screen.margins() == (1, 24));
+    assert!(rt; screen.cursor() == (1, 1));
 }
 
 #[test]
@@ -43,8 +34,8 @@ fn wraps_a_wide_line(rt: HostRuntime) {
     screen.place(1, 132, false);
     type_text(&mut screen, b"AB");
     screen.set_size(Size::Double);
-    let glyphs = (screen.cell(1, 132).glyph, screen.cell(2, 1).glyph);
-    assert_eq!(rt; (glyphs, screen.right_margin(2)), ((b'A', b'B'), 66));
+    assert!(rt; screen.cell(1, 132).glyph == b'A' && screen.cell(2, 1).glyph == b'B');
+    assert!(rt; is_sized(&screen, 2, Size::Double, 66));
 }
 
 #[test]
@@ -53,35 +44,30 @@ fn aligns_132_columns(rt: HostRuntime) {
     screen.set_size(Size::Double);
     screen.align();
     assert!(rt; have_text(&screen, 1, 24, &[b'E'; 132]));
-    assert_eq!(rt; (screen.columns(), screen.cursor()), (132, (3, 66)));
+    assert!(rt; screen.columns() == 132 && screen.cursor() == (3, 66));
     for line in 1..25 {
-        let told = (screen.size(line), screen.right_margin(line));
-        assert_eq!(rt; told, (Size::Single, 132), "line {line}");
+        assert!(rt; is_sized(&screen, line, Size::Single, 132), "line {line}");
     }
 }
 
-/// Gives line 2 a size, and tells it, the right margin, the cursor, and whether the marks in the left half are left.
-fn sized_marks(screen: &mut Screen, size: Size) -> (Size, u8, (u8, u8), bool) {
-    screen.set_size(size);
-    (
-        screen.size(2),
-        screen.right_margin(2),
-        screen.cursor(),
-        has_marks(screen, 2, [true, true, false, false]),
-    )
+/// Whether line 2 has a size and a right margin, its marks in the left half alone, and the cursor at column 66.
+fn is_halved(screen: &Screen, size: Size, margin: u8) -> bool {
+    is_sized(screen, 2, size, margin)
+        && has_marks(screen, 2, [true, true, false, false])
+        && screen.cursor() == (2, 66)
 }
 
 #[test]
 fn halves_a_wide_line(rt: HostRuntime) {
     for size in [Size::Double, Size::Top, Size::Bottom] {
         let mut screen = marked(2, 132);
-        let told = sized_marks(&mut screen, size);
-        assert_eq!(rt; told, (size, 66, (2, 66), true));
+        screen.set_size(size);
+        assert!(rt; is_halved(&screen, size, 66));
         // between double sizes and back nothing is cut, and nothing comes back
-        let told = sized_marks(&mut screen, Size::Top);
-        assert_eq!(rt; told, (Size::Top, 66, (2, 66), true));
-        let told = sized_marks(&mut screen, Size::Single);
-        assert_eq!(rt; told, (Size::Single, 132, (2, 66), true));
+        screen.set_size(Size::Top);
+        assert!(rt; is_halved(&screen, Size::Top, 66));
+        screen.set_size(Size::Single);
+        assert!(rt; is_halved(&screen, Size::Single, 132));
     }
 }
 
@@ -98,33 +84,36 @@ fn the_narrow_half_is_40(rt: HostRuntime) {
     screen.place(1, 40, false);
     type_text(&mut screen, b"xx");
     screen.set_size(Size::Double);
-    let glyphs = (screen.cell(1, 40).glyph, screen.cell(1, 41).glyph);
-    assert_eq!(rt; (glyphs, screen.cursor()), ((b'x', b' '), (1, 40)));
+    assert!(rt; screen.cell(1, 40).glyph == b'x' && screen.cell(1, 41).glyph == b' ');
+    assert!(rt; screen.cursor() == (1, 40));
 }
 
-/// Erases a part of a marked line from a column, and tells whether it has these marks, and the cursor.
-fn erased_line(part: u8, col: u8, marks: [bool; 4]) -> (bool, (u8, u8))
+/// Whether a part of a marked line that is erased from a column leaves these marks, and the cursor.
+fn erases_line(part: u8, col: u8, marks: [bool; 4]) -> bool
     requires part { part ≤ 2 }
     requires col { 1 ≤ col }
 {
     let mut screen = marked(5, col);
     screen.erase_line(part);
-    (has_marks(&screen, 5, marks), screen.cursor())
+    has_marks(&screen, 5, marks) && screen.cursor() == (5, col)
 }
+
+/// A part, the column it is erased from, and the marks that are left.
+const LINE_PARTS: &[(u8, u8, [bool; 4])] = &[
+    (0, 67, [true, true, false, false]),
+    (0, 132, [true, true, true, false]),
+    (0, 68, [true, true, true, false]),
+    (1, 66, [false, false, true, true]),
+    (1, 131, [false, false, false, true]),
+    (1, 132, [false, false, false, false]),
+    (2, 66, [false, false, false, false]),
+];
 
 #[test]
 fn erases_in_a_wide_line(rt: HostRuntime) {
-    for (part, col, marks) in [
-        (0u8, 67u8, [true, true, false, false]),
-        (0, 132, [true, true, true, false]),
-        (0, 68, [true, true, true, false]),
-        (1, 66, [false, false, true, true]),
-        (1, 131, [false, false, false, true]),
-        (1, 132, [false, false, false, false]),
-        (2, 66, [false, false, false, false]),
-    ] {
-        let told = erased_line(part.min(2), col.max(1), marks);
-        assert_eq!(rt; told, (true, (5, col)), "part {part} at {col}");
+    for (part, col, marks) in LINE_PARTS {
+        let is_erased = erases_line((*part).min(2), (*col).max(1), *marks);
+        assert!(rt; is_erased, "part {part} at {col}");
     }
 }
 
@@ -142,21 +131,22 @@ fn erased_display(part: u8) -> Screen
     screen
 }
 
+/// A part, whether the end of line 4 is left, the marks that are left, and whether the end of line 6 is left.
+const DISPLAY_PARTS: &[(u8, bool, [bool; 4], bool)] = &[
+    (0, true, [true, true, false, false], false),
+    (1, false, [false, false, false, true], true),
+    (2, false, [false, false, false, false], false),
+];
+
 #[test]
 fn erases_in_a_wide_display(rt: HostRuntime) {
-    for (part, above, marks, below) in [
-        (0u8, true, [true, true, false, false], false),
-        (1, false, [false, false, false, true], true),
-        (2, false, [false, false, false, false], false),
-    ] {
-        let screen = erased_display(part.min(2));
-        let ends = (
-            screen.cell(4, 132).glyph == b'a',
-            screen.cell(6, 132).glyph == b'b',
-        );
-        assert_eq!(rt;
-            (ends, has_marks(&screen, 5, marks), screen.cursor()),
-            ((above, below), true, (5, 67)),
+    for (part, above, marks, below) in DISPLAY_PARTS {
+        let screen = erased_display((*part).min(2));
+        let is_above = screen.cell(4, 132).glyph == b'a';
+        let is_below = screen.cell(6, 132).glyph == b'b';
+        let is_marked = has_marks(&screen, 5, *marks) && screen.cursor() == (5, 67);
+        assert!(rt;
+            is_above == *above && is_marked && is_below == *below,
             "part {part}"
         );
     }
@@ -170,11 +160,10 @@ fn erases_a_wide_double_line(rt: HostRuntime) {
     screen.place(5, 65, false);
     screen.erase_display(1);
     assert!(rt; has_marks(&screen, 5, [false, true, false, false]));
-    assert_eq!(rt; screen.size(5), Size::Double);
+    assert!(rt; screen.size(5) == Size::Double);
     screen.place(5, 66, false);
     screen.erase_display(1);
-    let told = (screen.size(5), screen.right_margin(5), screen.cursor());
-    assert_eq!(rt; told, (Size::Single, 132, (5, 66)));
+    assert!(rt; is_sized(&screen, 5, Size::Single, 132) && screen.cursor() == (5, 66));
 }
 
 #[test]
@@ -184,5 +173,5 @@ fn aligns(rt: HostRuntime) {
     screen.set_size(Size::Top);
     screen.align();
     assert!(rt; have_text(&screen, 1, 24, &[b'E'; 80]));
-    assert_eq!(rt; (screen.size(3), screen.cursor()), (Size::Single, (3, 3)));
+    assert!(rt; screen.size(3) == Size::Single && screen.cursor() == (3, 3));
 }
