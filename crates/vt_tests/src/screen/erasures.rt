@@ -14,10 +14,7 @@ fn erases_to_the_cursor_with_sizes(rt: HostRuntime) {
     screen.set_size(Size::Bottom);
     screen.erase_display(1);
     assert!(rt; have_text(&screen, 1, 2, b""));
-    assert_eq!(rt;
-        (screen.size(1), screen.size(2)),
-        (Size::Single, Size::Bottom)
-    );
+    assert!(rt; screen.size(1) == Size::Single && screen.size(2) == Size::Bottom);
 }
 
 /// A screen of letters E with five other letters in line 3, of which a part is erased from the third.

@@ -4,33 +4,35 @@ ghost use Rattle.std.specs.Prelude.{◌≤◌};
 use super::{has_text, is_at, type_text};
 use vt_screen::{Screen, Size};
 
-/// Where steps of 9 up and down lead from column 3 of a line, in a region of lines 5 to 10.
-fn stepped(line: u16) -> ((u8, u8), (u8, u8))
+/// Whether steps of 9 up and down from column 3 of a line stop at these lines, in a region of lines 5 to 10.
+fn steps_stop(line: u16, up: u8, down: u8) -> bool
     requires { 1 ≤ line }
 {
     let mut screen = Screen::reset();
-    let _ = screen.set_margins(5, 10, false);
+    let is_set = screen.set_margins(5, 10, false);
     screen.place(line, 3, false);
     screen.step_up(9);
-    let up = screen.cursor();
+    let is_up = screen.cursor() == (up, 3);
     screen.place(line, 3, false);
     screen.step_down(9);
-    (up, screen.cursor())
+    is_set && is_up && screen.cursor() == (down, 3)
 }
+
+/// The line before, up or down by 9, and the line after.
+const STEPS: &[(u16, u8, u8)] = &[
+    (7, 5, 10),
+    (5, 5, 10),
+    (10, 5, 10),
+    (3, 1, 10),
+    (4, 1, 10),
+    (12, 5, 21),
+    (20, 11, 24),
+];
 
 #[test]
 fn steps_stop_at_margins(rt: HostRuntime) {
-    // the line before, up or down by 9, and the line after
-    for (line, up, down) in [
-        (7u16, 5, 10),
-        (5, 5, 10),
-        (10, 5, 10),
-        (3, 1, 10),
-        (4, 1, 10),
-        (12, 5, 21),
-        (20, 11, 24),
-    ] {
-        assert_eq!(rt; stepped(line.max(1)), ((up, 3), (down, 3)), "from {line}");
+    for (line, up, down) in STEPS {
+        assert!(rt; steps_stop((*line).max(1), *up, *down), "from {line}");
     }
 }
 

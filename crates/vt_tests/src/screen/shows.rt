@@ -149,22 +149,16 @@ fn runs_are_shows(rt: HostRuntime) {
     }
 }
 
-/// A screen that differs from the first one in each of its parts.
-fn changed() -> Screen {
+#[test]
+fn copies(rt: HostRuntime) {
     let mut screen = Screen::reset();
     screen.set_columns(true, false);
     type_text(&mut screen, b"abc");
     screen.set_size(Size::Double);
-    let _ = screen.set_margins(2, 9, false);
+    assert!(rt; screen.set_margins(2, 9, false));
     screen.place(9, 4, false);
     screen.index();
     screen.clear_tabs();
-    screen
-}
-
-#[test]
-fn copies(rt: HostRuntime) {
-    let screen = changed();
     let mut copy = Screen::reset();
     copy.copy_from(&screen);
     assert!(rt; look_alike(&copy, &screen));
