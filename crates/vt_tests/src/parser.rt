@@ -20,200 +20,219 @@ fn told(alloc: Global, mode: Mode, bytes: &[u8]) -> Result<String, Fail> {
     Ok(text)
 }
 
+fn see_told(
+    rt: &(impl Abort + AllocGlobal),
+    mode: Mode,
+    bytes: &[u8],
+    want: &str,
+) -> Result<(), Fail> {
+    let text = told(rt.alloc(), mode, bytes)?;
+    assert_eq!(rt; text.as_str(), want, "at {bytes:?}");
+    Ok(())
+}
+
 fn all_told(
     rt: &(impl Abort + AllocGlobal),
     mode: Mode,
     rows: &[(&[u8], &str)],
 ) -> Result<(), Fail> {
     for (bytes, want) in rows {
-        let text = told(rt.alloc(), mode, bytes)?;
-        assert_eq!(rt; text.as_str(), *want, "at {bytes:?}");
+        see_told(rt, mode, bytes, want)?;
     }
     Ok(())
 }
 
+const BEGINNINGS: &[(&[u8], &str)] = &[
+    (b"", "Ground"),
+    (b"\x1b", "Escape"),
+    (b"\x1b(", "EscapeOne(40)"),
+    (b"\x1b()", "EscapeMany"),
+    (b"\x1b()*", "EscapeMany"),
+    (b"\x1b[", "CsiStart"),
+    (
+        b"\x1b[3",
+        "Csi { private: false, params: [3], over: false }",
+    ),
+    (
+        b"\x1b[;",
+        "Csi { private: false, params: [0, 0], over: false }",
+    ),
+    (b"\x1b[?", "Csi { private: true, params: [0], over: false }"),
+    (b"\x1b[0?", "CsiIgnored"),
+    (b"\x1b[1 ", "CsiIgnored"),
+    (
+        b"\x1b[99999",
+        "Csi { private: false, params: [9999], over: false }",
+    ),
+    (b"\x1bPabc", "Text"),
+    (b"\x1bX", "Text"),
+    (b"\x1b]0;title", "Text"),
+    (b"\x1b^", "Text"),
+    (b"\x1b_", "Text"),
+];
+
+const VT52_BEGINNINGS: &[(&[u8], &str)] = &[
+    (b"", "Ground"),
+    (b"\x1b", "Vt52Escape"),
+    (b"\x1bY", "Vt52Line"),
+    (b"\x1bY%", "Vt52Column(37)"),
+];
+
 #[test]
 fn shows_how_far_a_sequence_has_come(rt: HostRuntime) -> Result<(), Fail> {
-    let rows: [(&[u8], &str); 17] = [
-        (b"", "Ground"),
-        (b"\x1b", "Escape"),
-        (b"\x1b(", "EscapeOne(40)"),
-        (b"\x1b()", "EscapeMany"),
-        (b"\x1b()*", "EscapeMany"),
-        (b"\x1b[", "CsiStart"),
-        (
-            b"\x1b[3",
-            "Csi { private: false, params: [3], over: false }",
-        ),
-        (
-            b"\x1b[;",
-            "Csi { private: false, params: [0, 0], over: false }",
-        ),
-        (b"\x1b[?", "Csi { private: true, params: [0], over: false }"),
-        (b"\x1b[0?", "CsiIgnored"),
-        (b"\x1b[1 ", "CsiIgnored"),
-        (
-            b"\x1b[99999",
-            "Csi { private: false, params: [9999], over: false }",
-        ),
-        (b"\x1bPabc", "Text"),
-        (b"\x1bX", "Text"),
-        (b"\x1b]0;title", "Text"),
-        (b"\x1b^", "Text"),
-        (b"\x1b_", "Text"),
-    ];
-    all_told(&rt, Mode::Ansi, &rows)?;
-    let rows: [(&[u8], &str); 4] = [
-        (b"", "Ground"),
-        (b"\x1b", "Vt52Escape"),
-        (b"\x1bY", "Vt52Line"),
-        (b"\x1bY%", "Vt52Column(37)"),
-    ];
-    all_told(&rt, Mode::Vt52, &rows)
+    all_told(&rt, Mode::Ansi, BEGINNINGS)?;
+    all_told(&rt, Mode::Vt52, VT52_BEGINNINGS)
 }
+
+const SEQUENCES: &[(&[u8], &str)] = &[
+    (b"\x1bc", "Esc { inter: None, last: 99 }, Ground"),
+    (
+        b"\x1b7x",
+        "Esc { inter: None, last: 55 }, Show(120), Ground",
+    ),
+    (b"\x1b#8", "Esc { inter: Some(35), last: 56 }, Ground"),
+    (b"\x1b(0", "Esc { inter: Some(40), last: 48 }, Ground"),
+    (b"\x1b()B", "Ground"),
+    (
+        b"\x1b[m",
+        "Csi { private: false, params: [0], last: 109 }, Ground",
+    ),
+    (
+        b"\x1b[5;10r",
+        "Csi { private: false, params: [5, 10], last: 114 }, Ground",
+    ),
+    (
+        b"\x1b[?25h",
+        "Csi { private: true, params: [25], last: 104 }, Ground",
+    ),
+    (b"\x1b[1 q", "Ground"),
+    (b"\x1b[<1mx", "Show(120), Ground"),
+];
+
+const VT52_SEQUENCES: &[(&[u8], &str)] = &[
+    (b"\x1bF", "Vt52(70), Ground"),
+    (b"\x1b[m", "Vt52(91), Show(109), Ground"),
+    (b"\x1bPx", "Vt52(80), Show(120), Ground"),
+    (b"\x1b Z", "Vt52(32), Show(90), Ground"),
+    (
+        b"\x1bY%*X",
+        "Vt52Address { line: 6, column: 11 }, Show(88), Ground",
+    ),
+    (b"\x1bY ~", "Vt52Address { line: 1, column: 95 }, Ground"),
+];
 
 #[test]
 fn reads_whole_sequences(rt: HostRuntime) -> Result<(), Fail> {
-    let rows: [(&[u8], &str); 10] = [
-        (b"\x1bc", "Esc { inter: None, last: 99 }, Ground"),
-        (
-            b"\x1b7x",
-            "Esc { inter: None, last: 55 }, Show(120), Ground",
-        ),
-        (b"\x1b#8", "Esc { inter: Some(35), last: 56 }, Ground"),
-        (b"\x1b(0", "Esc { inter: Some(40), last: 48 }, Ground"),
-        (b"\x1b()B", "Ground"),
-        (
-            b"\x1b[m",
-            "Csi { private: false, params: [0], last: 109 }, Ground",
-        ),
-        (
-            b"\x1b[5;10r",
-            "Csi { private: false, params: [5, 10], last: 114 }, Ground",
-        ),
-        (
-            b"\x1b[?25h",
-            "Csi { private: true, params: [25], last: 104 }, Ground",
-        ),
-        (b"\x1b[1 q", "Ground"),
-        (b"\x1b[<1mx", "Show(120), Ground"),
-    ];
-    all_told(&rt, Mode::Ansi, &rows)?;
-    let rows: [(&[u8], &str); 6] = [
-        (b"\x1bF", "Vt52(70), Ground"),
-        (b"\x1b[m", "Vt52(91), Show(109), Ground"),
-        (b"\x1bPx", "Vt52(80), Show(120), Ground"),
-        (b"\x1b Z", "Vt52(32), Show(90), Ground"),
-        (
-            b"\x1bY%*X",
-            "Vt52Address { line: 6, column: 11 }, Show(88), Ground",
-        ),
-        (b"\x1bY ~", "Vt52Address { line: 1, column: 95 }, Ground"),
-    ];
-    all_told(&rt, Mode::Vt52, &rows)
+    all_told(&rt, Mode::Ansi, SEQUENCES)?;
+    all_told(&rt, Mode::Vt52, VT52_SEQUENCES)
 }
+
+const ON_GROUND: &[(&[u8], &str)] = &[
+    (
+        b"\x00\x05\x07\x08\x0f\x10\x1f",
+        "Control(8), Control(15), Ground",
+    ),
+    (b"\x18\x1a\x7f", "Ground"),
+    (b" ~", "Show(32), Show(126), Ground"),
+    (b"\x80\xc3\xa9\xff", "Error, Error, Error, Error, Ground"),
+];
 
 #[test]
 fn takes_controls_and_other_bytes_on_ground(rt: HostRuntime) -> Result<(), Fail> {
-    let rows: [(&[u8], &str); 4] = [
-        (
-            b"\x00\x05\x07\x08\x0f\x10\x1f",
-            "Control(8), Control(15), Ground",
-        ),
-        (b"\x18\x1a\x7f", "Ground"),
-        (b" ~", "Show(32), Show(126), Ground"),
-        (b"\x80\xc3\xa9\xff", "Error, Error, Error, Error, Ground"),
-    ];
-    all_told(&rt, Mode::Ansi, &rows)
+    all_told(&rt, Mode::Ansi, ON_GROUND)
 }
+
+const IN_SEQUENCES: &[(&[u8], &str)] = &[
+    (
+        b"\x1b[1\n2A",
+        "Control(10), Csi { private: false, params: [12], last: 65 }, Ground",
+    ),
+    (b"\x1b\x07\x05D", "Esc { inter: None, last: 68 }, Ground"),
+    (b"\x1b[3\x18m", "Error, Show(109), Ground"),
+    (b"\x1b[3\x1am", "Error, Show(109), Ground"),
+    (b"\x1b(\x18B", "Error, Show(66), Ground"),
+    (
+        b"\x1b[4\x1b[1m",
+        "Csi { private: false, params: [1], last: 109 }, Ground",
+    ),
+    (b"\x1b\x1bc", "Esc { inter: None, last: 99 }, Ground"),
+    (
+        b"\x1b[1\x7f\xc8m",
+        "Csi { private: false, params: [1], last: 109 }, Ground",
+    ),
+    (
+        b"\x1b[?1\x07",
+        "Csi { private: true, params: [1], over: false }",
+    ),
+];
 
 #[test]
 fn takes_controls_and_other_bytes_in_a_sequence(rt: HostRuntime) -> Result<(), Fail> {
-    let rows: [(&[u8], &str); 9] = [
-        (
-            b"\x1b[1\n2A",
-            "Control(10), Csi { private: false, params: [12], last: 65 }, Ground",
-        ),
-        (b"\x1b\x07\x05D", "Esc { inter: None, last: 68 }, Ground"),
-        (b"\x1b[3\x18m", "Error, Show(109), Ground"),
-        (b"\x1b[3\x1am", "Error, Show(109), Ground"),
-        (b"\x1b(\x18B", "Error, Show(66), Ground"),
-        (
-            b"\x1b[4\x1b[1m",
-            "Csi { private: false, params: [1], last: 109 }, Ground",
-        ),
-        (b"\x1b\x1bc", "Esc { inter: None, last: 99 }, Ground"),
-        (
-            b"\x1b[1\x7f\xc8m",
-            "Csi { private: false, params: [1], last: 109 }, Ground",
-        ),
-        (
-            b"\x1b[?1\x07",
-            "Csi { private: true, params: [1], over: false }",
-        ),
-    ];
-    all_told(&rt, Mode::Ansi, &rows)
+    all_told(&rt, Mode::Ansi, IN_SEQUENCES)
 }
+
+const IN_STRINGS: &[(&[u8], &str)] = &[
+    (b"\x1bPabc\x1ax", "Error, Show(120), Ground"),
+    (b"\x1bPabc\x18x", "Error, Show(120), Ground"),
+    (b"\x1b]0;title\x07ok", "Show(111), Show(107), Ground"),
+    (
+        b"\x1b]0\x1b\\x",
+        "Esc { inter: None, last: 92 }, Show(120), Ground",
+    ),
+    (
+        b"\x1bXa\x1b[2J",
+        "Csi { private: false, params: [2], last: 74 }, Ground",
+    ),
+    (b"\x1b^\r\n\x7f\xc8", "Text"),
+    (b"\x1b_[m", "Text"),
+];
 
 #[test]
 fn takes_controls_and_other_bytes_in_a_string(rt: HostRuntime) -> Result<(), Fail> {
-    let rows: [(&[u8], &str); 7] = [
-        (b"\x1bPabc\x1ax", "Error, Show(120), Ground"),
-        (b"\x1bPabc\x18x", "Error, Show(120), Ground"),
-        (b"\x1b]0;title\x07ok", "Show(111), Show(107), Ground"),
-        (
-            b"\x1b]0\x1b\\x",
-            "Esc { inter: None, last: 92 }, Show(120), Ground",
-        ),
-        (
-            b"\x1bXa\x1b[2J",
-            "Csi { private: false, params: [2], last: 74 }, Ground",
-        ),
-        (b"\x1b^\r\n\x7f\xc8", "Text"),
-        (b"\x1b_[m", "Text"),
-    ];
-    all_told(&rt, Mode::Ansi, &rows)
+    all_told(&rt, Mode::Ansi, IN_STRINGS)
 }
+
+const IN_ADDRESSES: &[(&[u8], &str)] = &[
+    (b"\x1bY\x18a", "Error, Show(97), Ground"),
+    (b"\x1bY%\x1aa", "Error, Show(97), Ground"),
+    (
+        b"\x1bY%\x7f\xc8*",
+        "Vt52Address { line: 6, column: 11 }, Ground",
+    ),
+    (
+        b"\x1bY\n%\x07*",
+        "Control(10), Vt52Address { line: 6, column: 11 }, Ground",
+    ),
+    (b"\x1bY%\x1bA", "Vt52(65), Ground"),
+];
 
 #[test]
 fn takes_controls_and_other_bytes_in_an_address(rt: HostRuntime) -> Result<(), Fail> {
-    let rows: [(&[u8], &str); 5] = [
-        (b"\x1bY\x18a", "Error, Show(97), Ground"),
-        (b"\x1bY%\x1aa", "Error, Show(97), Ground"),
-        (
-            b"\x1bY%\x7f\xc8*",
-            "Vt52Address { line: 6, column: 11 }, Ground",
-        ),
-        (
-            b"\x1bY\n%\x07*",
-            "Control(10), Vt52Address { line: 6, column: 11 }, Ground",
-        ),
-        (b"\x1bY%\x1bA", "Vt52(65), Ground"),
-    ];
-    all_told(&rt, Mode::Vt52, &rows)
+    all_told(&rt, Mode::Vt52, IN_ADDRESSES)
 }
+
+const IGNORED: &[(&[u8], &str)] = &[
+    (b"\x1b[4:3m", "Ground"),
+    (b"\x1b[4:3", "CsiIgnored"),
+    (b"\x1b[:", "CsiIgnored"),
+    (b"\x1b[>c", "Ground"),
+    (b"\x1b[>", "CsiIgnored"),
+    (b"\x1b[=c", "Ground"),
+    (b"\x1b[=", "CsiIgnored"),
+    (b"\x1b[<0c", "Ground"),
+    (b"\x1b[1/c", "Ground"),
+    (b"\x1b[1?h", "Ground"),
+    (b"\x1b[1?", "CsiIgnored"),
+    (b"\x1b[?1?2h", "Ground"),
+    (b"\x1b[??h", "Ground"),
+    (b"\x1b[;?h", "Ground"),
+    (b"\x1b[3 1mx", "Show(120), Ground"),
+    (b"\x1b/x", "Esc { inter: Some(47), last: 120 }, Ground"),
+];
 
 #[test]
 fn ignores_texts_that_are_not_well_formed(rt: HostRuntime) -> Result<(), Fail> {
-    let rows: [(&[u8], &str); 16] = [
-        (b"\x1b[4:3m", "Ground"),
-        (b"\x1b[4:3", "CsiIgnored"),
-        (b"\x1b[:", "CsiIgnored"),
-        (b"\x1b[>c", "Ground"),
-        (b"\x1b[>", "CsiIgnored"),
-        (b"\x1b[=c", "Ground"),
-        (b"\x1b[=", "CsiIgnored"),
-        (b"\x1b[<0c", "Ground"),
-        (b"\x1b[1/c", "Ground"),
-        (b"\x1b[1?h", "Ground"),
-        (b"\x1b[1?", "CsiIgnored"),
-        (b"\x1b[?1?2h", "Ground"),
-        (b"\x1b[??h", "Ground"),
-        (b"\x1b[;?h", "Ground"),
-        (b"\x1b[3 1mx", "Show(120), Ground"),
-        (b"\x1b/x", "Esc { inter: Some(47), last: 120 }, Ground"),
-    ];
-    all_told(&rt, Mode::Ansi, &rows)
+    all_told(&rt, Mode::Ansi, IGNORED)
 }
 
 // What a byte that is no graphic character gives where it comes, and the state after it.
@@ -277,91 +296,113 @@ const BEGUN: [(Mode, &[u8], &str); 10] = [
     (Mode::Vt52, b"\x1bY%", "Vt52Column(37)"),
 ];
 
+// The bytes that are no graphic characters.
+fn is_other(byte: u8) -> bool {
+    !matches!(byte, 32..=126)
+}
+
+// The state after ESC in a mode.
+fn escaped(mode: Mode) -> &'static str {
+    match mode {
+        Mode::Ansi => "Escape",
+        Mode::Vt52 => "Vt52Escape",
+    }
+}
+
+// Whether a byte after the beginning of a sequence is told as the table says.
+fn agrees_in_sequence(alloc: Global, begun: &(Mode, &[u8], &str), byte: u8) -> Result<bool, Fail> {
+    let (mode, start, state) = *begun;
+    let text = told_with(alloc, mode, start, byte)?;
+    let want = in_sequence(alloc, byte, escaped(mode), state)?;
+    Ok(text.as_str() == want.as_str())
+}
+
 #[test]
 fn takes_every_other_byte_in_a_sequence_as_the_table_says(rt: HostRuntime) -> Result<(), Fail> {
     for byte in 0..=255u8 {
-        if matches!(byte, 32..=126) {
-            continue;
-        }
-        for (mode, start, state) in &BEGUN {
-            let escaped = match mode {
-                Mode::Ansi => "Escape",
-                Mode::Vt52 => "Vt52Escape",
-            };
-            let text = told_with(rt.alloc(), *mode, start, byte)?;
-            let want = in_sequence(rt.alloc(), byte, escaped, state)?;
-            assert_eq!(rt; text.as_str(), want.as_str(), "{byte} after {start:?}");
+        for begun in &BEGUN {
+            let agrees = !is_other(byte) || agrees_in_sequence(rt.alloc(), begun, byte)?;
+            assert!(rt; agrees, "{byte} in {begun:?}");
         }
     }
     Ok(())
+}
+
+// Whether a byte on ground is told as the table says.
+fn agrees_on_ground(alloc: Global, mode: Mode, byte: u8) -> Result<bool, Fail> {
+    let text = told_with(alloc, mode, b"", byte)?;
+    let want = on_ground(alloc, byte, escaped(mode))?;
+    Ok(text.as_str() == want.as_str())
 }
 
 #[test]
 fn takes_every_other_byte_on_ground_as_the_table_says(rt: HostRuntime) -> Result<(), Fail> {
     for byte in 0..=255u8 {
-        if matches!(byte, 32..=126) {
-            continue;
-        }
-        for (mode, escaped) in [(Mode::Ansi, "Escape"), (Mode::Vt52, "Vt52Escape")] {
-            let text = told_with(rt.alloc(), mode, b"", byte)?;
-            let want = on_ground(rt.alloc(), byte, escaped)?;
-            assert_eq!(rt; text.as_str(), want.as_str(), "{byte} on ground");
+        for mode in [Mode::Ansi, Mode::Vt52] {
+            let agrees = !is_other(byte) || agrees_on_ground(rt.alloc(), mode, byte)?;
+            assert!(rt; agrees, "{byte} on ground");
         }
     }
     Ok(())
+}
+
+const STRINGS: &[&[u8]] = &[b"\x1bP", b"\x1bX", b"\x1b]", b"\x1b^", b"\x1b_"];
+
+// Whether a byte in a string is told as the table says.
+fn agrees_in_string(alloc: Global, start: &[u8], byte: u8) -> Result<bool, Fail> {
+    let text = told_with(alloc, Mode::Ansi, start, byte)?;
+    Ok(text.as_str() == in_string(byte))
 }
 
 #[test]
 fn takes_every_other_byte_in_a_string_as_the_table_says(rt: HostRuntime) -> Result<(), Fail> {
     for byte in 0..=255u8 {
-        if matches!(byte, 32..=126) {
-            continue;
-        }
-        for start in [b"\x1bP", b"\x1bX", b"\x1b]", b"\x1b^", b"\x1b_"] {
-            let text = told_with(rt.alloc(), Mode::Ansi, start, byte)?;
-            assert_eq!(rt; text.as_str(), in_string(byte), "{byte} after {start:?}");
+        for start in STRINGS {
+            let agrees = !is_other(byte) || agrees_in_string(rt.alloc(), start, byte)?;
+            assert!(rt; agrees, "{byte} after {start:?}");
         }
     }
     Ok(())
 }
 
+const PARAMETERS: &[(&[u8], &str)] = &[
+    (
+        b"\x1b[0;0;0;0;0;0;0;0;0;0;0;0;0;0;0;0;7",
+        "Csi { private: false, params: [0, 0, 0, 0, 0, 0, 0, 0, 0, 0, 0, 0, 0, 0, 0, 0], over: true }",
+    ),
+    (
+        b"\x1b[1;2;3;4;5;6;7;8;9;10;11;12;13;14;15;16",
+        "Csi { private: false, params: [1, 2, 3, 4, 5, 6, 7, 8, 9, 10, 11, 12, 13, 14, 15, 16], over: false }",
+    ),
+    (
+        b"\x1b[1;2;3;4;5;6;7;8;9;10;11;12;13;14;15;16;17;18m",
+        "Csi { private: false, params: [1, 2, 3, 4, 5, 6, 7, 8, 9, 10, 11, 12, 13, 14, 15, 16], last: 109 }, Ground",
+    ),
+    (
+        b"\x1b[;;;;;;;;;;;;;;;;",
+        "Csi { private: false, params: [0, 0, 0, 0, 0, 0, 0, 0, 0, 0, 0, 0, 0, 0, 0, 0], over: true }",
+    ),
+    (
+        b"\x1b[9999m",
+        "Csi { private: false, params: [9999], last: 109 }, Ground",
+    ),
+    (
+        b"\x1b[10000;1m",
+        "Csi { private: false, params: [9999, 1], last: 109 }, Ground",
+    ),
+    (
+        b"\x1b[99999999999999999999;007H",
+        "Csi { private: false, params: [9999, 7], last: 72 }, Ground",
+    ),
+    (
+        b"\x1b[;5c",
+        "Csi { private: false, params: [0, 5], last: 99 }, Ground",
+    ),
+];
+
 #[test]
 fn counts_sixteen_parameters_of_at_most_9999(rt: HostRuntime) -> Result<(), Fail> {
-    let rows: [(&[u8], &str); 8] = [
-        (
-            b"\x1b[0;0;0;0;0;0;0;0;0;0;0;0;0;0;0;0;7",
-            "Csi { private: false, params: [0, 0, 0, 0, 0, 0, 0, 0, 0, 0, 0, 0, 0, 0, 0, 0], over: true }",
-        ),
-        (
-            b"\x1b[1;2;3;4;5;6;7;8;9;10;11;12;13;14;15;16",
-            "Csi { private: false, params: [1, 2, 3, 4, 5, 6, 7, 8, 9, 10, 11, 12, 13, 14, 15, 16], over: false }",
-        ),
-        (
-            b"\x1b[1;2;3;4;5;6;7;8;9;10;11;12;13;14;15;16;17;18m",
-            "Csi { private: false, params: [1, 2, 3, 4, 5, 6, 7, 8, 9, 10, 11, 12, 13, 14, 15, 16], last: 109 }, Ground",
-        ),
-        (
-            b"\x1b[;;;;;;;;;;;;;;;;",
-            "Csi { private: false, params: [0, 0, 0, 0, 0, 0, 0, 0, 0, 0, 0, 0, 0, 0, 0, 0], over: true }",
-        ),
-        (
-            b"\x1b[9999m",
-            "Csi { private: false, params: [9999], last: 109 }, Ground",
-        ),
-        (
-            b"\x1b[10000;1m",
-            "Csi { private: false, params: [9999, 1], last: 109 }, Ground",
-        ),
-        (
-            b"\x1b[99999999999999999999;007H",
-            "Csi { private: false, params: [9999, 7], last: 72 }, Ground",
-        ),
-        (
-            b"\x1b[;5c",
-            "Csi { private: false, params: [0, 5], last: 99 }, Ground",
-        ),
-    ];
-    all_told(&rt, Mode::Ansi, &rows)
+    all_told(&rt, Mode::Ansi, PARAMETERS)
 }
 
 // What the bytes come to in a mode, taken in pieces of at most `piece` bytes, and then the state.
@@ -384,46 +425,65 @@ fn taken(alloc: Global, mode: Mode, bytes: &[u8], piece: usize) -> Result<String
     Ok(text)
 }
 
+const RUNS_AND_SEQUENCES: &[(Mode, &[u8], &str)] = &[
+    (
+        Mode::Ansi,
+        b"ab\x1b[1;31mc",
+        "2 Show([97, 98]), 7 Csi { private: false, params: [1, 31], last: 109 }, 1 Show([99]), Ground",
+    ),
+    (
+        Mode::Ansi,
+        b"\x1b[?25h",
+        "6 Csi { private: true, params: [25], last: 104 }, Ground",
+    ),
+    (
+        Mode::Ansi,
+        b"\x1b[mx",
+        "3 Csi { private: false, params: [0], last: 109 }, 1 Show([120]), Ground",
+    ),
+    (
+        Mode::Ansi,
+        b"\x1b[1\n2A",
+        "1 Control(10), 2 Csi { private: false, params: [12], last: 65 }, Ground",
+    ),
+    (
+        Mode::Ansi,
+        b"\x00\x00\x00\r\xe9",
+        "1 Control(13), 1 Error, Ground",
+    ),
+    (
+        Mode::Ansi,
+        b"\x1b(0\x1b7",
+        "1 Esc { inter: Some(40), last: 48 }, 1 Esc { inter: None, last: 55 }, Ground",
+    ),
+    (
+        Mode::Ansi,
+        b"\x1b[;;;;;;;;;;;;;;;;;7r",
+        "21 Csi { private: false, params: [0, 0, 0, 0, 0, 0, 0, 0, 0, 0, 0, 0, 0, 0, 0, 0], last: 114 }, Ground",
+    ),
+    (
+        Mode::Ansi,
+        b"\x1b[99",
+        "Csi { private: false, params: [99], over: false }",
+    ),
+    (
+        Mode::Vt52,
+        b"\x1bA\x1bY%*x",
+        "1 Vt52(65), 1 Vt52Address { line: 6, column: 11 }, 1 Show([120]), Ground",
+    ),
+];
+
+// Whether bytes that are taken as they come, at most all of them at once, come to this.
+fn is_taken(alloc: Global, mode: Mode, bytes: &[u8], want: &str) -> Result<bool, Fail> {
+    let text = taken(alloc, mode, bytes, bytes.len().max(1))?;
+    Ok(text.as_str() == want)
+}
+
 #[test]
 fn takes_runs_and_whole_sequences_at_once(rt: HostRuntime) -> Result<(), Fail> {
-    let rows: [(&[u8], &str); 8] = [
-        (
-            b"ab\x1b[1;31mc",
-            "2 Show([97, 98]), 7 Csi { private: false, params: [1, 31], last: 109 }, 1 Show([99]), Ground",
-        ),
-        (
-            b"\x1b[?25h",
-            "6 Csi { private: true, params: [25], last: 104 }, Ground",
-        ),
-        (
-            b"\x1b[mx",
-            "3 Csi { private: false, params: [0], last: 109 }, 1 Show([120]), Ground",
-        ),
-        (
-            b"\x1b[1\n2A",
-            "1 Control(10), 2 Csi { private: false, params: [12], last: 65 }, Ground",
-        ),
-        (b"\x00\x00\x00\r\xe9", "1 Control(13), 1 Error, Ground"),
-        (
-            b"\x1b(0\x1b7",
-            "1 Esc { inter: Some(40), last: 48 }, 1 Esc { inter: None, last: 55 }, Ground",
-        ),
-        (
-            b"\x1b[;;;;;;;;;;;;;;;;;7r",
-            "21 Csi { private: false, params: [0, 0, 0, 0, 0, 0, 0, 0, 0, 0, 0, 0, 0, 0, 0, 0], last: 114 }, Ground",
-        ),
-        (
-            b"\x1b[99",
-            "Csi { private: false, params: [99], over: false }",
-        ),
-    ];
-    for (bytes, want) in &rows {
-        let text = taken(rt.alloc(), Mode::Ansi, bytes, bytes.len().max(1))?;
-        assert_eq!(rt; text.as_str(), *want, "at {bytes:?}");
+    for (mode, bytes, want) in RUNS_AND_SEQUENCES {
+        assert!(rt; is_taken(rt.alloc(), *mode, bytes, want)?, "at {bytes:?}");
     }
-    let text = taken(rt.alloc(), Mode::Vt52, b"\x1bA\x1bY%*x", 100)?;
-    let want = "1 Vt52(65), 1 Vt52Address { line: 6, column: 11 }, 1 Show([120]), Ground";
-    assert_eq!(rt; text.as_str(), want);
     Ok(())
 }
 
@@ -437,39 +497,38 @@ fn reads_on_in_the_mode_of_its_esc(rt: HostRuntime) {
     assert_eq!(rt; parser.step(Mode::Ansi, b'['), Some(Command::Vt52(b'[')));
 }
 
-#[test]
-fn goes_on_from_a_copy(rt: HostRuntime) -> Result<(), Fail> {
-    let starts: [&[u8]; 11] = [
-        b"",
-        b"\x1b",
-        b"\x1b(",
-        b"\x1b()",
-        b"\x1b[",
-        b"\x1b[?1;20",
-        b"\x1b[1 ",
-        b"\x1b]0",
-        b"\x1b[1;2;3;4;5;6;7;8;9;10;11;12;13;14;15;16;17",
-        b"\x1bY",
-        b"\x1bY%",
-    ];
-    for mode in [Mode::Ansi, Mode::Vt52] {
-        for start in &starts {
-            let mut parser = Parser::new();
-            for byte in *start {
-                let _ = parser.step(mode, *byte);
-            }
-            let mut copy = Parser::new();
-            let _ = copy.step(Mode::Ansi, 27);
-            copy.copy_from(&parser);
-            assert_eq!(rt; copy.state(), parser.state(), "after {start:?}");
-            assert_eq!(rt;
-                copy.step(mode, b'h'),
-                parser.step(mode, b'h'),
-                "after {start:?}"
-            );
-        }
+const STARTS: &[&[u8]] = &[
+    b"",
+    b"\x1b",
+    b"\x1b(",
+    b"\x1b()",
+    b"\x1b[",
+    b"\x1b[?1;20",
+    b"\x1b[1 ",
+    b"\x1b]0",
+    b"\x1b[1;2;3;4;5;6;7;8;9;10;11;12;13;14;15;16;17",
+    b"\x1bY",
+    b"\x1bY%",
+];
+
+// Whether a copy of a parser that took these bytes has its state, and takes the next byte as it does.
+fn copy_goes_on(mode: Mode, start: &[u8]) -> bool {
+    let mut parser = Parser::new();
+    for byte in start {
+        let _ = parser.step(mode, *byte);
     }
-    Ok(())
+    let mut copy = Parser::new();
+    let _ = copy.step(Mode::Ansi, 27);
+    copy.copy_from(&parser);
+    copy.state() == parser.state() && copy.step(mode, b'h') == parser.step(mode, b'h')
+}
+
+#[test]
+fn goes_on_from_a_copy(rt: HostRuntime) {
+    for start in STARTS {
+        let both = copy_goes_on(Mode::Ansi, start) && copy_goes_on(Mode::Vt52, start);
+        assert!(rt; both, "after {start:?}");
+    }
 }
 
 // The run before a byte at `n`, where nothing follows it and where 40 bytes do.
@@ -493,14 +552,20 @@ fn measures_runs_up_to_the_first_other_byte(rt: HostRuntime) {
     }
 }
 
-#[test]
-fn measures_runs_of_the_first_and_the_last_graphic_character(rt: HostRuntime) {
-    let mut bytes = [32u8; 70];
+// The first and the last graphic character by turns.
+fn graphic() -> [u8; 70] {
+    let mut bytes = [32; 70];
     for n in 0..70usize {
         if n % 2 == 1 {
             bytes[n] = 126;
         }
     }
+    bytes
+}
+
+#[test]
+fn measures_runs_of_the_first_and_the_last_graphic_character(rt: HostRuntime) {
+    let bytes = graphic();
     for n in 0..71usize {
         assert_eq!(rt; printable_run(&bytes[..n]), n);
     }

@@ -2,7 +2,7 @@
 
 ghost use Rattle.std.specs.Prelude.{◌≤◌};
 
-use vt_screen::{Rendition, Screen};
+use vt_screen::{Rendition, Screen, Size};
 
 mod edits;
 mod erasures;
@@ -58,10 +58,57 @@ fn type_text(screen: &mut Screen, text: &[u8]) {
     }
 }
 
+/// Whether the cursor is at a place, with a pending wrap or without.
+fn is_at(screen: &Screen, line: u8, col: u8, wrap: bool) -> bool {
+    screen.cursor() == (line, col) && screen.wrap() == wrap
+}
+
+/// Whether a line has a size and a right margin.
+fn is_sized(screen: &Screen, line: u8, size: Size, margin: u8) -> bool
+    requires low { 1 ≤ line }
+    requires high { line ≤ 24 }
+{
+    screen.size(line) == size && screen.right_margin(line) == margin
+}
+
+/// Whether columns 79 and 80 of line 1 have these glyphs.
+fn ends_with(screen: &Screen, before: u8, last: u8) -> bool {
+    screen.cell(1, 79).glyph == before && screen.cell(1, 80).glyph == last
+}
+
 /// Column 1 of the next line.
 fn next_line(screen: &mut Screen) {
     screen.to_left();
     screen.index();
+}
+
+/// Lines `a`, `b`, `c` and `d`, margins 2 and 3, and the cursor at a place.
+fn lettered(line: u16, col: u16) -> Screen
+    requires line { 1 ≤ line }
+    requires col { 1 ≤ col }
+{
+    let mut screen = Screen::reset();
+    for glyph in [b'a', b'b', b'c', b'd'] {
+        type_text(&mut screen, &[glyph]);
+        next_line(&mut screen);
+    }
+    let _ = screen.set_margins(2, 3, false);
+    screen.place(line, col, false);
+    screen
+}
+
+/// Whether the first lines have these letters, and the others nothing.
+fn has_letters(screen: &Screen, letters: &[u8]) -> bool {
+    for line in 1..25 {
+        let glyph = match letters.get(line as usize - 1) {
+            Some(glyph) => *glyph,
+            None => b' ',
+        };
+        if !has_text(screen, line, &[glyph]) {
+            return false;
+        }
+    }
+    true
 }
 
 /// A wide screen with `x` at columns 41, 66, 67 and 132 of a line, and the cursor at a column of it.

@@ -1,79 +1,69 @@
 //! Lines and cells that are inserted and deleted.
 ghost use Rattle.std.specs.Prelude.{◌≤◌};
 
-use super::{has_text, have_text, marked, next_line, type_text};
-use std::process::Abort;
+use super::{ends_with, has_letters, has_text, have_text, is_at, lettered, marked, type_text};
 use vt_screen::{Cell, Rendition, Screen, Size};
 
-/// Lines `a`, `b`, `c` and `d`, margins 2 and 3, and the cursor at a place.
-fn lettered(line: u16, col: u16) -> Screen
-    requires line { 1 ≤ line }
-    requires col { 1 ≤ col }
+/// Whether lines that are inserted at a line leave these letters, and the cursor at its left.
+fn inserts(line: u8, count: u16, letters: &[u8]) -> bool
+    requires { 1 ≤ line }
 {
-    let mut screen = Screen::reset();
-    for glyph in [b'a', b'b', b'c', b'd'] {
-        type_text(&mut screen, &[glyph]);
-        next_line(&mut screen);
-    }
-    let _ = screen.set_margins(2, 3, false);
-    screen.place(line, col, false);
-    screen
+    let mut screen = lettered(u16::from(line), 7);
+    screen.insert_lines(count);
+    has_letters(&screen, letters) && screen.cursor() == (line, 1)
 }
 
-/// Whether the first lines have these letters, and the others nothing.
-fn has_letters(screen: &Screen, letters: &[u8]) -> bool {
-    for line in 1..25 {
-        let glyph = match letters.get(line as usize - 1) {
-            Some(glyph) => *glyph,
-            None => b' ',
-        };
-        if !has_text(screen, line, &[glyph]) {
-            return false;
-        }
-    }
-    true
+/// Whether lines that are deleted at a line leave these letters, and the cursor at its left.
+fn deletes(line: u8, count: u16, letters: &[u8]) -> bool
+    requires { 1 ≤ line }
+{
+    let mut screen = lettered(u16::from(line), 7);
+    screen.delete_lines(count);
+    has_letters(&screen, letters) && screen.cursor() == (line, 1)
 }
+
+/// A line, how many lines, and the letters that are left where so many are inserted there, and deleted.
+const EDITED_LINES: &[(u8, u16, &[u8], &[u8])] = &[
+    (2, 1, b"a bd", b"ac d"),
+    (2, 2, b"a  d", b"a  d"),
+    (2, 5, b"a  d", b"a  d"),
+    (3, 1, b"ab d", b"ab d"),
+    (3, 9999, b"ab d", b"ab d"),
+];
 
 #[test]
 fn inserts_and_deletes_lines(rt: HostRuntime) {
-    for (line, count, inserted, deleted) in [
-        (2, 1, b"a bd", b"ac d"),
-        (2, 2, b"a  d", b"a  d"),
-        (2, 5, b"a  d", b"a  d"),
-        (3, 1, b"ab d", b"ab d"),
-        (3, 9999, b"ab d", b"ab d"),
-    ] {
-        let line: u8 = line;
-        let inserted: &[u8] = inserted;
-        let deleted: &[u8] = deleted;
-        assert!(rt; 1 <= line);
-        let mut screen = lettered(u16::from(line), 7);
-        screen.insert_lines(count);
-        assert!(rt; has_letters(&screen, inserted), "{count} in at {line}");
-        assert_eq!(rt; screen.cursor(), (line, 1));
-        let mut screen = lettered(u16::from(line), 7);
-        screen.delete_lines(count);
-        assert!(rt; has_letters(&screen, deleted), "{count} out at {line}");
-        assert_eq!(rt; screen.cursor(), (line, 1));
+    for (line, count, inserted, deleted) in EDITED_LINES {
+        let is_inserted = inserts((*line).max(1), *count, inserted);
+        assert!(rt; is_inserted, "{count} in at {line}");
+        let is_deleted = deletes((*line).max(1), *count, deleted);
+        assert!(rt; is_deleted, "{count} out at {line}");
     }
+}
+
+/// Whether lines that are inserted and deleted outside the margins leave the cursor, a pending wrap, and the letters.
+fn leaves_line(line: u8) -> bool
+    requires { 1 ≤ line }
+{
+    let mut screen = lettered(u16::from(line), 80);
+    type_text(&mut screen, b"x");
+    screen.insert_lines(1);
+    screen.delete_lines(1);
+    let stays = is_at(&screen, line, 80, true);
+    screen.place(u16::from(line), 80, false);
+    screen.show(b' ', Rendition::plain(), false);
+    stays && has_letters(&screen, b"abcd")
 }
 
 #[test]
 fn leaves_lines_outside_the_margins(rt: HostRuntime) {
-    for line in [1, 4, 24] {
-        let line: u8 = line;
-        assert!(rt; 1 <= line);
-        let mut screen = lettered(u16::from(line), 80);
-        type_text(&mut screen, b"x");
-        screen.insert_lines(1);
-        screen.delete_lines(1);
-        assert_eq!(rt; screen.cursor(), (line, 80));
-        assert!(rt; screen.wrap());
-        screen.place(u16::from(line), 80, false);
-        screen.show(b' ', Rendition::plain(), false);
-        assert!(rt; has_letters(&screen, b"abcd"));
+    for line in [1u8, 4, 24] {
+        assert!(rt; leaves_line(line.max(1)), "line {line}");
     }
-    // inside them the wrap is cleared
+}
+
+#[test]
+fn clears_the_wrap_inside_the_margins(rt: HostRuntime) {
     let mut screen = lettered(2, 80);
     type_text(&mut screen, b"x");
     screen.insert_lines(1);
@@ -81,8 +71,18 @@ fn leaves_lines_outside_the_margins(rt: HostRuntime) {
     screen.place(3, 80, false);
     type_text(&mut screen, b"x");
     screen.delete_lines(1);
-    assert!(rt; !screen.wrap());
-    assert_eq!(rt; screen.cursor(), (3, 1));
+    assert!(rt; is_at(&screen, 3, 1, false));
+}
+
+/// The places of lines 2 to 6.
+fn places(screen: &Screen) -> [u8; 5] {
+    [
+        screen.place_of(2),
+        screen.place_of(3),
+        screen.place_of(4),
+        screen.place_of(5),
+        screen.place_of(6),
+    ]
 }
 
 #[test]
@@ -91,13 +91,17 @@ fn turns_the_names_of_lines(rt: HostRuntime) {
     assert!(rt; screen.set_margins(2, 5, false));
     screen.place(3, 1, false);
     screen.insert_lines(2);
-    let names = (screen.place_of(2), screen.place_of(3), screen.place_of(4));
-    assert_eq!(rt; names, (1, 3, 4));
-    assert_eq!(rt; (screen.place_of(5), screen.place_of(6)), (2, 5));
+    assert_eq!(rt; places(&screen), [1, 3, 4, 2, 5]);
     screen.delete_lines(1);
-    let names = (screen.place_of(2), screen.place_of(3), screen.place_of(4));
-    assert_eq!(rt; names, (1, 4, 2));
-    assert_eq!(rt; (screen.place_of(5), screen.place_of(6)), (3, 5));
+    assert_eq!(rt; places(&screen), [1, 4, 2, 3, 5]);
+}
+
+/// Whether a line has this text and this size.
+fn has_sized(screen: &Screen, line: u8, text: &[u8], size: Size) -> bool
+    requires low { 1 ≤ line }
+    requires high { line ≤ 24 }
+{
+    has_text(screen, line, text) && screen.size(line) == size
 }
 
 #[test]
@@ -106,17 +110,14 @@ fn sizes_travel_with_inserted_lines(rt: HostRuntime) {
     type_text(&mut screen, b"ab");
     screen.set_size(Size::Double);
     screen.insert_lines(1);
-    assert!(rt; has_text(&screen, 1, b""));
-    assert_eq!(rt; screen.size(1), Size::Single);
-    assert!(rt; has_text(&screen, 2, b"ab"));
-    assert_eq!(rt; screen.size(2), Size::Double);
-    assert_eq!(rt; screen.cursor(), (1, 1));
+    assert!(rt;
+        has_sized(&screen, 1, b"", Size::Single) && has_sized(&screen, 2, b"ab", Size::Double)
+    );
+    assert!(rt; screen.cursor() == (1, 1));
     screen.delete_lines(1);
-    assert!(rt; has_text(&screen, 1, b"ab"));
-    assert_eq!(rt; screen.size(1), Size::Double);
+    assert!(rt; has_sized(&screen, 1, b"ab", Size::Double));
     screen.delete_lines(1);
-    assert!(rt; have_text(&screen, 1, 24, b""));
-    assert_eq!(rt; screen.size(1), Size::Single);
+    assert!(rt; have_text(&screen, 1, 24, b"") && has_sized(&screen, 1, b"", Size::Single));
 }
 
 #[test]
@@ -126,38 +127,38 @@ fn deletes_cells(rt: HostRuntime) {
     screen.place(1, 2, false);
     screen.delete_cells(2);
     assert!(rt; has_text(&screen, 1, b"adef"));
-    assert_eq!(rt; screen.cursor(), (1, 2));
+    assert!(rt; screen.cursor() == (1, 2));
     screen.delete_cells(9999);
     assert!(rt; has_text(&screen, 1, b"a"));
-    // the rendition goes with its cell, and the cell that comes in has none
-    let bold = Rendition::new(true, false, false, false);
-    screen.show(b'b', bold, true);
+}
+
+/// A bold cell.
+fn bold(glyph: u8) -> Cell {
+    let rendition = Rendition::new(true, false, false, false);
+    Cell { glyph, rendition }
+}
+
+/// The rendition goes with its cell, and the cell that comes in has none.
+#[test]
+fn deletes_cells_with_their_renditions(rt: HostRuntime) {
+    let mut screen = Screen::reset();
+    type_text(&mut screen, b"a");
+    screen.show(b'b', bold(b'b').rendition, true);
     screen.place(1, 80, false);
-    screen.show(b'z', bold, false);
+    screen.show(b'z', bold(b'z').rendition, false);
     screen.place(1, 1, false);
     screen.delete_cells(1);
-    assert_eq!(rt;
-        screen.cell(1, 1),
-        Cell {
-            glyph: b'b',
-            rendition: bold
-        }
-    );
-    assert_eq!(rt;
-        screen.cell(1, 79),
-        Cell {
-            glyph: b'z',
-            rendition: bold
-        }
-    );
-    assert_eq!(rt; screen.cell(1, 80), Cell::blank());
-    // the wrap stays pending
+    let cells = (screen.cell(1, 1), screen.cell(1, 79), screen.cell(1, 80));
+    assert_eq!(rt; cells, (bold(b'b'), bold(b'z'), Cell::blank()));
+}
+
+#[test]
+fn deletes_a_cell_and_keeps_the_wrap(rt: HostRuntime) {
     let mut screen = Screen::reset();
     type_text(&mut screen, &[b'A'; 80]);
     screen.delete_cells(1);
     assert!(rt; has_text(&screen, 1, &[b'A'; 79]));
-    assert!(rt; screen.wrap());
-    assert_eq!(rt; screen.cursor(), (1, 80));
+    assert!(rt; is_at(&screen, 1, 80, true));
 }
 
 #[test]
@@ -169,33 +170,22 @@ fn shows_inserting(rt: HostRuntime) {
     screen.show_inserting(b'Y', Rendition::plain(), true);
     screen.show(b'Z', Rendition::plain(), true);
     assert!(rt; has_text(&screen, 1, b"aXYZc"));
-    assert_eq!(rt; screen.cursor(), (1, 5));
-    // the cell at the margin is lost
+    assert!(rt; screen.cursor() == (1, 5));
+}
+
+/// The cell at the margin is lost.
+#[test]
+fn shows_inserting_in_a_full_line(rt: HostRuntime) {
     let mut screen = Screen::reset();
     type_text(&mut screen, &[b'A'; 79]);
     type_text(&mut screen, b"B");
     screen.place(1, 1, false);
-    let bold = Rendition::new(true, false, false, false);
-    screen.show_inserting(b'C', bold, true);
-    assert_eq!(rt;
-        screen.cell(1, 1),
-        Cell {
-            glyph: b'C',
-            rendition: bold
-        }
-    );
-    assert_eq!(rt; screen.cell(1, 80).glyph, b'A');
-    assert_eq!(rt; screen.cell(2, 1), Cell::blank());
-    assert_eq!(rt; screen.cursor(), (1, 2));
+    screen.show_inserting(b'C', bold(b'C').rendition, true);
+    assert!(rt; screen.cell(1, 1) == bold(b'C') && screen.cell(2, 1) == Cell::blank());
+    assert!(rt; screen.cell(1, 80).glyph == b'A' && screen.cursor() == (1, 2));
     screen.place(1, 1, false);
     screen.show_inserting(b'D', Rendition::plain(), true);
-    assert_eq!(rt;
-        screen.cell(1, 2),
-        Cell {
-            glyph: b'C',
-            rendition: bold
-        }
-    );
+    assert!(rt; screen.cell(1, 2) == bold(b'C'));
 }
 
 #[test]
@@ -208,22 +198,21 @@ fn inserts_at_the_margin_and_after_the_wrap(rt: HostRuntime) {
     screen.show_inserting(b'B', Rendition::plain(), false);
     assert!(rt; !screen.wrap());
     screen.show_inserting(b'C', Rendition::plain(), true);
-    assert!(rt; screen.wrap());
-    assert_eq!(rt; screen.cursor(), (1, 80));
-    assert_eq!(rt; screen.cell(1, 79).glyph, b'A');
-    assert_eq!(rt; screen.cell(1, 80).glyph, b'C');
+    assert!(rt; is_at(&screen, 1, 80, true) && ends_with(&screen, b'A', b'C'));
     screen.show_inserting(b'D', Rendition::plain(), true);
-    assert_eq!(rt; screen.cell(1, 80).glyph, b'C');
-    assert!(rt; has_text(&screen, 2, b"Dxy"));
-    assert_eq!(rt; screen.cursor(), (2, 2));
+    assert!(rt; has_text(&screen, 2, b"Dxy") && screen.cursor() == (2, 2));
+    assert!(rt; screen.cell(1, 80).glyph == b'C');
 }
 
-/// Sees the glyphs at some columns of line 2.
-fn compare_glyphs(rt: &impl Abort, screen: &Screen, glyphs: &[(u8, u8)]) {
+/// The first of some columns of line 2 that has not its glyph.
+fn first_other(screen: &Screen, glyphs: &[(u8, u8)]) -> Option<u8> {
     for (col, glyph) in glyphs {
-        assert!(rt; 1 <= *col && *col <= 132);
-        assert_eq!(rt; screen.cell(2, *col).glyph, *glyph, "column {col}");
+        let is_there = 1 <= *col && *col <= 132 && screen.cell(2, *col).glyph == *glyph;
+        if !is_there {
+            return Some(*col);
+        }
     }
+    None
 }
 
 #[test]
@@ -238,7 +227,7 @@ fn deletes_in_a_wide_line(rt: HostRuntime) {
         (131, b'x'),
         (132, b' '),
     ];
-    compare_glyphs(&rt, &screen, &glyphs);
+    assert_eq!(rt; first_other(&screen, &glyphs), None);
 }
 
 #[test]
@@ -253,23 +242,30 @@ fn inserts_in_a_wide_line(rt: HostRuntime) {
         (68, b'x'),
         (132, b' '),
     ];
-    compare_glyphs(&rt, &screen, &glyphs);
+    assert_eq!(rt; first_other(&screen, &glyphs), None);
 }
 
-/// The margin of a double line is 66.
-#[test]
-fn edits_a_wide_double_line(rt: HostRuntime) {
+/// A marked double line with a glyph that was inserted. Its margin is 66.
+fn marked_double() -> Screen {
     let mut screen = marked(2, 41);
     screen.set_size(Size::Top);
     screen.show_inserting(b'y', Rendition::plain(), true);
+    screen
+}
+
+#[test]
+fn inserts_in_a_wide_double_line(rt: HostRuntime) {
     let glyphs = [(41, b'y'), (42, b'x'), (66, b' '), (67, b' ')];
-    compare_glyphs(&rt, &screen, &glyphs);
+    assert_eq!(rt; first_other(&marked_double(), &glyphs), None);
+}
+
+#[test]
+fn edits_a_wide_double_line(rt: HostRuntime) {
+    let mut screen = marked_double();
     screen.place(2, 1, false);
     screen.delete_cells(41);
-    assert!(rt; has_text(&screen, 2, b"x"));
-    assert_eq!(rt; screen.size(2), Size::Top);
+    assert!(rt; has_sized(&screen, 2, b"x", Size::Top));
     screen.insert_lines(1);
     assert!(rt; have_text(&screen, 1, 2, b""));
-    assert_eq!(rt; screen.size(3), Size::Top);
-    assert_eq!(rt; screen.right_margin(2), 132);
+    assert!(rt; screen.size(3) == Size::Top && screen.right_margin(2) == 132);
 }

@@ -1,5 +1,5 @@
 //! Lines that scroll, and what travels with them.
-use super::{has_text, have_text, next_line, type_text};
+use super::{has_letters, has_text, have_text, lettered, next_line, type_text};
 use vt_screen::{Screen, Size};
 
 #[test]
@@ -8,9 +8,8 @@ fn scrolls_at_the_last_line(rt: HostRuntime) {
     screen.place(24, 1, false);
     type_text(&mut screen, b"x");
     next_line(&mut screen);
-    assert!(rt; has_text(&screen, 23, b"x"));
-    assert!(rt; has_text(&screen, 24, b""));
-    assert_eq!(rt; screen.cursor(), (24, 1));
+    assert!(rt; has_text(&screen, 23, b"x") && has_text(&screen, 24, b""));
+    assert!(rt; screen.cursor() == (24, 1));
 }
 
 #[test]
@@ -22,7 +21,7 @@ fn reverse_index_stays_above_the_region(rt: HostRuntime) {
     assert!(rt; has_text(&screen, 1, b"x"));
     screen.place(24, 1, false);
     screen.index();
-    assert_eq!(rt; screen.cursor(), (24, 1));
+    assert!(rt; screen.cursor() == (24, 1));
     assert!(rt; has_text(&screen, 1, b"x"));
 }
 
@@ -32,39 +31,48 @@ fn wraps_at_line_24_outside_the_region(rt: HostRuntime) {
     assert!(rt; screen.set_margins(2, 3, false));
     screen.place(24, 80, false);
     type_text(&mut screen, b"xy");
-    assert_eq!(rt; screen.cell(24, 80).glyph, b'x');
-    assert_eq!(rt; screen.cell(24, 1).glyph, b'y');
-    assert_eq!(rt; screen.cursor(), (24, 2));
+    let glyphs = (screen.cell(24, 80).glyph, screen.cell(24, 1).glyph);
+    assert_eq!(rt; (glyphs, screen.cursor()), ((b'x', b'y'), (24, 2)));
 }
 
 #[test]
 fn turns_the_names_in_the_region(rt: HostRuntime) {
-    let mut screen = Screen::reset();
-    for glyph in [b'a', b'b', b'c', b'd'] {
-        type_text(&mut screen, &[glyph]);
-        if glyph != b'd' {
-            next_line(&mut screen);
-        }
-    }
-    assert!(rt; screen.set_margins(2, 3, false));
-    screen.place(3, 1, false);
+    let mut screen = lettered(3, 1);
     screen.index();
-    for (line, text, place) in [(1, b"a", 0), (2, b"c", 2), (3, b" ", 1), (4, b"d", 3)] {
-        let line: u8 = line;
-        assert!(rt; 1 <= line && line <= 24);
-        assert!(rt; has_text(&screen, line, text), "line {line}");
-        assert_eq!(rt; screen.place_of(line), place, "line {line}");
-        assert_eq!(rt;
-            screen.place_cell(screen.place_of(line), 1),
-            screen.cell(line, 1)
-        );
+    assert!(rt; has_letters(&screen, b"ac d"));
+    let places = [
+        screen.place_of(1),
+        screen.place_of(2),
+        screen.place_of(3),
+        screen.place_of(4),
+    ];
+    assert_eq!(rt; places, [0, 2, 1, 3]);
+    assert!(rt; screen.cursor() == (3, 1));
+}
+
+#[test]
+fn lines_have_the_cells_of_their_places(rt: HostRuntime) {
+    let mut screen = lettered(3, 1);
+    screen.index();
+    for line in 1..5 {
+        let cell = screen.place_cell(screen.place_of(line), 1);
+        assert_eq!(rt; cell, screen.cell(line, 1), "line {line}");
     }
-    assert_eq!(rt; screen.cursor(), (3, 1));
+}
+
+#[test]
+fn turns_them_back(rt: HostRuntime) {
+    let mut screen = lettered(3, 1);
+    screen.index();
     screen.place(2, 1, false);
     screen.reverse_index();
-    assert!(rt; has_text(&screen, 2, b""));
-    assert!(rt; has_text(&screen, 3, b"c"));
+    assert!(rt; has_letters(&screen, b"a cd"));
     assert_eq!(rt; (screen.place_of(2), screen.place_of(3)), (1, 2));
+}
+
+/// Whether the lines outside margins 2 and 3 have letters E.
+fn has_letters_outside(screen: &Screen) -> bool {
+    has_text(screen, 1, &[b'E'; 80]) && have_text(screen, 4, 24, &[b'E'; 80])
 }
 
 #[test]
@@ -76,15 +84,13 @@ fn scrolls_a_thousand_times(rt: HostRuntime) {
     for _ in 0..1000 {
         screen.index();
     }
-    assert!(rt; has_text(&screen, 1, &[b'E'; 80]));
+    assert!(rt; has_letters_outside(&screen));
     assert!(rt; have_text(&screen, 2, 3, b""));
-    assert!(rt; have_text(&screen, 4, 24, &[b'E'; 80]));
     screen.place(2, 1, false);
     for _ in 0..1000 {
         screen.reverse_index();
     }
-    assert!(rt; has_text(&screen, 1, &[b'E'; 80]));
-    assert!(rt; have_text(&screen, 4, 24, &[b'E'; 80]));
+    assert!(rt; has_letters_outside(&screen));
 }
 
 #[test]
@@ -93,10 +99,14 @@ fn sizes_travel_with_lines(rt: HostRuntime) {
     screen.place(24, 1, false);
     screen.set_size(Size::Bottom);
     screen.index();
-    assert_eq!(rt; screen.size(23), Size::Bottom);
-    assert_eq!(rt; screen.size(24), Size::Single);
+    assert_eq!(rt;
+        (screen.size(23), screen.size(24)),
+        (Size::Bottom, Size::Single)
+    );
     screen.home(false);
     screen.reverse_index();
-    assert_eq!(rt; screen.size(24), Size::Bottom);
-    assert_eq!(rt; screen.size(23), Size::Single);
+    assert_eq!(rt;
+        (screen.size(23), screen.size(24)),
+        (Size::Single, Size::Bottom)
+    );
 }
