@@ -25,15 +25,30 @@ struct Left {
     reports: Reports,
 }
 
-fn feed_reset(alloc: Global, bytes: &[u8]) -> Result<Left, OutOfMemory> {
-    feed_reset_as(alloc, Profile::Vt100, bytes)
+impl Left {
+    fn feed(&mut self, pieces: &[&[u8]]) -> Result<(), OutOfMemory> {
+        for piece in pieces {
+            self.terminal.feed(piece, &mut self.reports)?;
+        }
+        Ok(())
+    }
 }
 
-fn feed_reset_as(alloc: Global, profile: Profile, bytes: &[u8]) -> Result<Left, OutOfMemory> {
-    let mut terminal = Terminal::reset_as(profile);
-    let mut reports = Reports::new(alloc);
-    terminal.feed(bytes, &mut reports)?;
-    Ok(Left { terminal, reports })
+fn reset_as(alloc: Global, profile: Profile) -> Left {
+    Left {
+        terminal: Terminal::reset_as(profile),
+        reports: Reports::new(alloc),
+    }
+}
+
+fn feed_reset(alloc: Global, bytes: &[u8]) -> Result<Left, OutOfMemory> {
+    feed_reset_as(alloc, Profile::Vt100, &[bytes])
+}
+
+fn feed_reset_as(alloc: Global, profile: Profile, pieces: &[&[u8]]) -> Result<Left, OutOfMemory> {
+    let mut left = reset_as(alloc, profile);
+    left.feed(pieces)?;
+    Ok(left)
 }
 
 // B, U, K and R stand for bold, underscore, blink and reverse.
@@ -383,6 +398,16 @@ fn told(alloc: Global, left: &Left) -> Result<String, Fail> {
     Ok(text)
 }
 
+// What is told of a terminal that the bytes were fed.
+fn told_after(alloc: Global, profile: Profile, bytes: &[u8]) -> Result<String, Fail> {
+    let left = feed_reset_as(alloc, profile, &[bytes])?;
+    told(alloc, &left)
+}
+
+fn assert_told(rt: &impl Abort, text: &str, want: &str, bytes: &[u8]) {
+    assert_eq!(rt; text, want, "at {bytes:?}");
+}
+
 // Each piece of bytes leaves what is told of it.
 fn all_leave(rt: &impl Abort, alloc: Global, rows: &[(&[u8], &str)]) -> Result<(), Fail> {
     all_leave_as(rt, alloc, Profile::Vt100, rows)
@@ -395,9 +420,43 @@ fn all_leave_as(
     rows: &[(&[u8], &str)],
 ) -> Result<(), Fail> {
     for (bytes, want) in rows {
-        let left = feed_reset_as(alloc, profile, bytes)?;
-        let text = told(alloc, &left)?;
-        assert_eq!(rt; text.as_str(), *want, "at {bytes:?}");
+        let text = told_after(alloc, profile, bytes)?;
+        assert_told(rt, text.as_str(), want, bytes);
     }
     Ok(())
+}
+
+fn are_same_screens(one: &Screen, other: &Screen) -> bool {
+    for line in 1..25 {
+        if one.row(line) != other.row(line) {
+            return false;
+        }
+    }
+    for column in 1..133 {
+        if one.tab(column) != other.tab(column) {
+            return false;
+        }
+    }
+    one.columns() == other.columns()
+        && one.cursor() == other.cursor()
+        && one.wrap() == other.wrap()
+        && one.margins() == other.margins()
+}
+
+fn are_same_terminals(one: &Terminal, other: &Terminal) -> bool {
+    are_same_screens(one.screen(), other.screen())
+        && one.profile() == other.profile()
+        && one.parser_state() == other.parser_state()
+        && one.modes() == other.modes()
+        && one.rendition() == other.rendition()
+        && one.sets() == other.sets()
+        && one.saved() == other.saved()
+        && one.leds() == other.leds()
+}
+
+// Whether two tell the same in all parts, and sent the same.
+fn are_same(one: &Left, other: &Left) -> bool {
+    are_same_terminals(&one.terminal, &other.terminal)
+        && one.reports.bytes() == other.reports.bytes()
+        && one.reports.place() == other.reports.place()
 }

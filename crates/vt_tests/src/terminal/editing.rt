@@ -1,9 +1,5 @@
 //! What a VT102 has more than a VT100: lines and cells that are inserted and deleted, and its answer to device attributes.
-use super::whole::{
-    CONTROLS_OF_SET, CONTROLS_OF_WRAPPING, MODES_OF_SET, MODES_OF_WRAPPING, MOVES_OF_SET,
-    MOVES_OF_WRAPPING, SET, SETTINGS_OF_SET, SETTINGS_OF_WRAPPING, VT52_GRAPHICS, VT52_OF_SET,
-    VT52_OF_WRAPPING, WRAPPING, all_change_as, joined,
-};
+use super::whole::{SET, WRAPPING, all_change_as};
 use super::{all_leave, all_leave_as};
 use std::test::Fail;
 use vt_term::Profile;
@@ -17,23 +13,23 @@ const FULL_LINE: &[u8] =
 
 #[test]
 fn inserts_and_deletes_lines(rt: HostRuntime) -> Result<(), Fail> {
-    let rows: [(&[u8], &str); 3] = [
+    const OF_VT102: &[(&[u8], &str)] = &[
         (b"\x1b[2;1H\x1b[L", "2: 3:b at 2 1"),
         (b"\x1b[2;1H\x1b[5M", "2-3: at 2 1"),
         (b"\x1b[1;2H\x1b[L", "at 1 2"),
     ];
-    all_change_as(&rt, rt.alloc(), Profile::Vt102, FOUR_LINES, &rows)?;
-    let rows: [(&[u8], &str); 3] = [
+    all_change_as(&rt, rt.alloc(), Profile::Vt102, &[FOUR_LINES], OF_VT102)?;
+    const OF_VT100: &[(&[u8], &str)] = &[
         (b"\x1b[2;1H\x1b[L", "at 2 1"),
         (b"\x1b[2;1H\x1b[5M", "at 2 1"),
         (b"\x1b[1;2H\x1b[L", "at 1 2"),
     ];
-    all_change_as(&rt, rt.alloc(), Profile::Vt100, FOUR_LINES, &rows)
+    all_change_as(&rt, rt.alloc(), Profile::Vt100, &[FOUR_LINES], OF_VT100)
 }
 
 #[test]
 fn inserts_and_deletes_cells(rt: HostRuntime) -> Result<(), Fail> {
-    let rows: [(&[u8], &str); 8] = [
+    const OF_VT102: &[(&[u8], &str)] = &[
         (b"abcdef\x1b[1;2H\x1b[2P", "1:adef at 1 2"),
         (b"abc\x1b[1;2H\x1b[4hXY\x1b[4lZ", "1:aXYZc at 1 5"),
         (b"abc\x1b[1;2H\x1b[4hVWXYZ", "1:aVWXYZbc at 1 7 IRM"),
@@ -46,8 +42,8 @@ fn inserts_and_deletes_cells(rt: HostRuntime) -> Result<(), Fail> {
         (b"ab\x1b[7m\x1b[H\x1b[P", "1:b at 1 1 [R]"),
         (b"a\x1b[7m\x1b[L", "2:a at 1 1 [R]"),
     ];
-    all_leave_as(&rt, rt.alloc(), Profile::Vt102, &rows)?;
-    let rows: [(&[u8], &str); 8] = [
+    all_leave_as(&rt, rt.alloc(), Profile::Vt102, OF_VT102)?;
+    const OF_VT100: &[(&[u8], &str)] = &[
         (b"abcdef\x1b[1;2H\x1b[2P", "1:abcdef at 1 2"),
         (b"abc\x1b[1;2H\x1b[4hXY\x1b[4lZ", "1:aXYZ at 1 5"),
         (b"abc\x1b[1;2H\x1b[4hVWXYZ", "1:aVWXYZ at 1 7"),
@@ -63,27 +59,27 @@ fn inserts_and_deletes_cells(rt: HostRuntime) -> Result<(), Fail> {
         (b"ab\x1b[7m\x1b[H\x1b[P", "1:ab at 1 1 [R]"),
         (b"a\x1b[7m\x1b[L", "1:a at 1 2 [R]"),
     ];
-    all_leave(&rt, rt.alloc(), &rows)
+    all_leave(&rt, rt.alloc(), OF_VT100)
 }
 
 #[test]
 fn inserts_into_a_full_line(rt: HostRuntime) -> Result<(), Fail> {
-    let rows: [(&[u8], &str); 4] = [
+    const OF_VT102: &[(&[u8], &str)] = &[
         (b"\x1b[4hC", "1:CA{79} at 1 2 +IRM"),
         (b"\x1b[4hCDE", "1:CDEA{77} at 1 4 +IRM"),
         (b"\x1b[1;80H\x1b[4hCDE", "1:A{79}C 2:DE at 2 3 +IRM"),
         (b"\x1b[1;79H\x1b[P", "1:A{78}B at 1 79"),
     ];
-    all_change_as(&rt, rt.alloc(), Profile::Vt102, FULL_LINE, &rows)?;
-    let rows: [(&[u8], &str); 2] = [
+    all_change_as(&rt, rt.alloc(), Profile::Vt102, &[FULL_LINE], OF_VT102)?;
+    const OF_VT100: &[(&[u8], &str)] = &[
         (b"\x1b[4hC", "1:CA{78}B at 1 2"),
         (b"\x1b[1;79H\x1b[P", "at 1 79"),
     ];
-    all_change_as(&rt, rt.alloc(), Profile::Vt100, FULL_LINE, &rows)
+    all_change_as(&rt, rt.alloc(), Profile::Vt100, &[FULL_LINE], OF_VT100)
 }
 
 // The cursor is in line 7, from the margins 5 to 9, and column 3 of 132.
-const LINES_OF_SET: [(&[u8], &str); 20] = [
+const LINES_OF_SET: &[(&[u8], &str)] = &[
     (b"\x1b[L", "7: 8:ghi {63}j {64}k 9(Bottom):ll at 7 1"),
     (b"\x1b[0L", "7: 8:ghi {63}j {64}k 9(Bottom):ll at 7 1"),
     (b"\x1b[2L", "7-8: 9:ghi {63}j {64}k at 7 1"),
@@ -112,7 +108,7 @@ const LINES_OF_SET: [(&[u8], &str); 20] = [
     (b"\x1b[?L\x1b[?M\x1b[1:2L\x1b[1 M", ""),
 ];
 
-const CELLS_OF_SET: [(&[u8], &str); 12] = [
+const CELLS_OF_SET: &[(&[u8], &str)] = &[
     (b"\x1b[P", "7:gh {63}j {64}k"),
     (b"\x1b[0P", "7:gh {63}j {64}k"),
     (b"\x1b[64P", "7:ghj {64}k"),
@@ -127,7 +123,7 @@ const CELLS_OF_SET: [(&[u8], &str); 12] = [
     (b"\x1b[?P", ""),
 ];
 
-const INSERT_MODE_OF_SET: [(&[u8], &str); 13] = [
+const INSERT_MODE_OF_SET: &[(&[u8], &str)] = &[
     (b"\x1b[4h", "+IRM"),
     (b"\x1b[4h\x1b[4l", ""),
     (b"\x1b[4l", ""),
@@ -154,13 +150,13 @@ const INSERT_MODE_OF_SET: [(&[u8], &str); 13] = [
 
 #[test]
 fn from_a_wide_screen(rt: HostRuntime) -> Result<(), Fail> {
-    all_change_as(&rt, rt.alloc(), Profile::Vt102, SET, &LINES_OF_SET)?;
-    all_change_as(&rt, rt.alloc(), Profile::Vt102, SET, &CELLS_OF_SET)?;
-    all_change_as(&rt, rt.alloc(), Profile::Vt102, SET, &INSERT_MODE_OF_SET)
+    all_change_as(&rt, rt.alloc(), Profile::Vt102, &[SET], LINES_OF_SET)?;
+    all_change_as(&rt, rt.alloc(), Profile::Vt102, &[SET], CELLS_OF_SET)?;
+    all_change_as(&rt, rt.alloc(), Profile::Vt102, &[SET], INSERT_MODE_OF_SET)
 }
 
 // The wrap is pending at column 40 of the double line 7, the bottom margin.
-const EDITS_OF_WRAPPING: [(&[u8], &str); 14] = [
+const EDITS_OF_WRAPPING: &[(&[u8], &str)] = &[
     (b"\x1b[L", "7: at 7 1"),
     (b"\x1b[M", "7: at 7 1"),
     (b"\x1b[6;2H\x1b[L", "6: 7:ff at 6 1"),
@@ -195,27 +191,27 @@ fn from_a_pending_wrap(rt: HostRuntime) -> Result<(), Fail> {
         &rt,
         rt.alloc(),
         Profile::Vt102,
-        WRAPPING,
-        &EDITS_OF_WRAPPING,
+        &[WRAPPING],
+        EDITS_OF_WRAPPING,
     )
 }
 
 #[test]
 fn answers(rt: HostRuntime) -> Result<(), Fail> {
-    let rows: [(&[u8], &str); 5] = [
+    const ROWS: &[(&[u8], &str)] = &[
         (b"\x1b[c", "sent E[?6c"),
         (b"\x1b[0;1c", "sent E[?6c"),
         (b"\x1bZ", "sent E[?6c"),
         (b"\x1b[1c\x1b[6c\x1b[?c", ""),
         (b"\x1b[?2l\x1bZ", "+VT52 sent E/Z"),
     ];
-    all_change_as(&rt, rt.alloc(), Profile::Vt102, WRAPPING, &rows)
+    all_change_as(&rt, rt.alloc(), Profile::Vt102, &[WRAPPING], ROWS)
 }
 
 // Of these a VT100 has none.
 #[test]
 fn changes_nothing_of_a_vt100(rt: HostRuntime) -> Result<(), Fail> {
-    let rows: [(&[u8], &str); 6] = [
+    const ROWS: &[(&[u8], &str)] = &[
         (b"\x1b[L\x1b[0L\x1b[2L\x1b[9L", ""),
         (b"\x1b[M\x1b[0M\x1b[2M\x1b[9M", ""),
         (b"\x1b[P\x1b[0P\x1b[2P\x1b[9P", ""),
@@ -223,57 +219,20 @@ fn changes_nothing_of_a_vt100(rt: HostRuntime) -> Result<(), Fail> {
         (b"\x1b[4l", ""),
         (b"\x1b[0;4;5h", ""),
     ];
-    all_change_as(&rt, rt.alloc(), Profile::Vt100, SET, &rows)?;
-    all_change_as(&rt, rt.alloc(), Profile::Vt100, WRAPPING, &rows)
+    all_change_as(&rt, rt.alloc(), Profile::Vt100, &[SET], ROWS)?;
+    all_change_as(&rt, rt.alloc(), Profile::Vt100, &[WRAPPING], ROWS)
 }
 
 // In VT52 mode neither profile has them, but insert mode acts.
 #[test]
 fn in_vt52_mode(rt: HostRuntime) -> Result<(), Fail> {
-    let start = joined(rt.alloc(), SET, b"\x1b[4h\x1b[?2l")?;
-    let rows: [(&[u8], &str); 5] = [
+    const START: &[&[u8]] = &[SET, b"\x1b[4h\x1b[?2l"];
+    const ROWS: &[(&[u8], &str)] = &[
         (b"\x1bL\x1bM\x1bP\x1b[", ""),
         (b"a", "7:gh[BR]a[]i {63}j at 7 4"),
         (b"\x1bFab\x1bG", "7:gh[BR]<2><3>[]i {63}j at 7 5"),
         (b"\x1b<a", "7:gh[BR]<2>[]i {63}j at 7 4 -VT52"),
         (b"\x1bZ", "sent E[0nE/Z"),
     ];
-    all_change_as(&rt, rt.alloc(), Profile::Vt102, start.as_slice(), &rows)
-}
-
-// What both profiles have is the same in both.
-#[test]
-fn else_is_a_vt100(rt: HostRuntime) -> Result<(), Fail> {
-    for rows in [
-        CONTROLS_OF_SET.as_slice(),
-        &MOVES_OF_SET,
-        &SETTINGS_OF_SET,
-        &MODES_OF_SET,
-    ] {
-        all_change_as(&rt, rt.alloc(), Profile::Vt102, SET, rows)?;
-    }
-    for rows in [
-        CONTROLS_OF_WRAPPING.as_slice(),
-        &MOVES_OF_WRAPPING,
-        &SETTINGS_OF_WRAPPING,
-        &MODES_OF_WRAPPING,
-    ] {
-        all_change_as(&rt, rt.alloc(), Profile::Vt102, WRAPPING, rows)?;
-    }
-    let set = joined(rt.alloc(), SET, VT52_GRAPHICS)?;
-    all_change_as(
-        &rt,
-        rt.alloc(),
-        Profile::Vt102,
-        set.as_slice(),
-        &VT52_OF_SET,
-    )?;
-    let wrapping = joined(rt.alloc(), WRAPPING, VT52_GRAPHICS)?;
-    all_change_as(
-        &rt,
-        rt.alloc(),
-        Profile::Vt102,
-        wrapping.as_slice(),
-        &VT52_OF_WRAPPING,
-    )
+    all_change_as(&rt, rt.alloc(), Profile::Vt102, START, ROWS)
 }

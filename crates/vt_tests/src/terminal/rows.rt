@@ -1,24 +1,22 @@
 //! Worked rows.
-use super::{all_leave, feed_reset, told};
+use super::{Left, all_leave, feed_reset, feed_reset_as, reset_as, told};
 use std::alloc::Global;
 use std::process::Abort;
 use std::test::Fail;
 use vt_parser::ParserState;
-use vt_term::{Reports, Terminal};
+use vt_screen::Screen;
+use vt_term::Profile;
 
-// What comes first, how many `A` follow, and what comes then.
-fn joined(alloc: Global, head: &[u8], count: usize, tail: &[u8]) -> Result<Vec<u8>, Fail> {
-    let mut bytes = Vec::from_slice(alloc, head)?;
-    for _ in 0..count {
-        bytes.push(b'A')?;
-    }
-    bytes.extend_from_slice(tail)?;
-    Ok(bytes)
+// What is told after what comes first, so many `A`, and what comes then.
+fn told_joined(alloc: Global, head: &[u8], count: usize, tail: &[u8]) -> Result<String, Fail> {
+    let letters = vec![in alloc; b'A'; count]?;
+    let left = feed_reset_as(alloc, Profile::Vt100, &[head, letters.as_slice(), tail])?;
+    told(alloc, &left)
 }
 
 #[test]
 fn shows_moves_and_erases(rt: HostRuntime) -> Result<(), Fail> {
-    let rows: [(&[u8], &str); 13] = [
+    const ROWS: &[(&[u8], &str)] = &[
         (b"\x1b[31;4mX", "1:[U]X at 1 2 [U]"),
         (b"\x1b[3\x18m", "1:<2>m at 1 3"),
         (b"\x1b[38;5;1mX", "1:[BK]X at 1 2 [BK]"),
@@ -33,12 +31,12 @@ fn shows_moves_and_erases(rt: HostRuntime) -> Result<(), Fail> {
         (b"abc\x08\x08\x1b[1K", "1:  c at 1 2"),
         (b"abc\x1b[2K", "at 1 4"),
     ];
-    all_leave(&rt, rt.alloc(), &rows)
+    all_leave(&rt, rt.alloc(), ROWS)
 }
 
 #[test]
 fn keeps_margins_tabs_saves_sets_and_sizes(rt: HostRuntime) -> Result<(), Fail> {
-    let rows: [(&[u8], &str); 14] = [
+    const ROWS: &[(&[u8], &str)] = &[
         (
             b"\x1b[5;10r\x1b[?6h\x1b[99;1H\x1b[6n",
             "at 10 1 margins 5 10 DECOM sent E[6;1R",
@@ -63,12 +61,12 @@ fn keeps_margins_tabs_saves_sets_and_sizes(rt: HostRuntime) -> Result<(), Fail> 
         (b"\x1b[?2l\x1bY%*X\x1bZ", "6: {10}X at 6 12 VT52 sent E/Z"),
         (b"\x1b[?2;7l", "at 1 1 VT52 no DECAWM"),
     ];
-    all_leave(&rt, rt.alloc(), &rows)
+    all_leave(&rt, rt.alloc(), ROWS)
 }
 
 #[test]
 fn answers(rt: HostRuntime) -> Result<(), Fail> {
-    let rows: [(&[u8], &str); 5] = [
+    const ROWS: &[(&[u8], &str)] = &[
         (b"\x1b[x", "at 1 1 sent E[2;1;1;112;112;1;0x"),
         (b"\x1b[1x", "at 1 1 sent E[3;1;1;112;112;1;0x"),
         (
@@ -78,12 +76,12 @@ fn answers(rt: HostRuntime) -> Result<(), Fail> {
         (b"\x1b[1;3q", "at 1 1 L1 L3"),
         (b"\x1b[1;3q\x1b[0;2q", "at 1 1 L2"),
     ];
-    all_leave(&rt, rt.alloc(), &rows)
+    all_leave(&rt, rt.alloc(), ROWS)
 }
 
 #[test]
 fn wraps_late(rt: HostRuntime) -> Result<(), Fail> {
-    let rows: [(&[u8], usize, &[u8], &str); 9] = [
+    const ROWS: &[(&[u8], usize, &[u8], &str)] = &[
         (b"", 80, b"", "1:A{80} at 1 80 wrap"),
         (b"", 80, b"\x1b[6nB", "1:A{80} 2:B at 2 2 sent E[1;80R"),
         (b"", 80, b"\x08B", "1:A{78}BA at 1 80"),
@@ -99,83 +97,139 @@ fn wraps_late(rt: HostRuntime) -> Result<(), Fail> {
         ),
         (b"\x1b[3g\t", 1, b"", "1: {79}A at 1 80 wrap tabs"),
     ];
-    for (head, count, tail, want) in rows {
-        let bytes = joined(rt.alloc(), head, count, tail)?;
-        let left = feed_reset(rt.alloc(), bytes.as_slice())?;
-        let text = told(rt.alloc(), &left)?;
-        assert_eq!(rt; text.as_str(), want, "at {head:?} {tail:?}");
+    for (head, count, tail, want) in ROWS {
+        let text = told_joined(rt.alloc(), head, *count, tail)?;
+        assert_eq!(rt; text.as_str(), *want, "at {head:?} {tail:?}");
     }
     Ok(())
+}
+
+// E in all cells up to column 80.
+fn has_pattern(screen: &Screen) -> bool {
+    for line in 1..25 {
+        for column in 1..133 {
+            let want = if column <= 80 { b'E' } else { b' ' };
+            if screen.cell(line, column).glyph != want {
+                return false;
+            }
+        }
+    }
+    true
 }
 
 #[test]
 fn fills_with_the_pattern(rt: HostRuntime) -> Result<(), Fail> {
     let left = feed_reset(rt.alloc(), b"\x1b[7m\x1b[3;3H\x1b#8")?;
     let screen = left.terminal.screen();
-    for line in 1..25 {
-        for column in 1..133 {
-            let cell = screen.cell(line, column);
-            let want = if column <= 80 { b'E' } else { b' ' };
-            assert_eq!(rt; cell.glyph, want, "at {line} {column}");
-        }
+    assert_eq!(rt; (has_pattern(screen), screen.cursor()), (true, (3, 3)));
+    Ok(())
+}
+
+// Whether the sequence is one of CSI with this parameter begun.
+fn is_at_parameter(state: &ParserState, parameter: u16) -> bool {
+    match state {
+        ParserState::Csi {
+            private,
+            params,
+            over,
+        } => !*private && params.as_slice() == [parameter].as_slice() && !*over,
+        _ => false,
     }
-    assert!(rt; screen.cursor() == (3, 3));
+}
+
+#[test]
+fn stands_inside_a_sequence(rt: HostRuntime) -> Result<(), Fail> {
+    let left = feed_reset(rt.alloc(), b"\x1b[3")?;
+    let glyph = left.terminal.screen().cell(1, 1).glyph;
+    assert_eq!(rt;
+        (is_at_parameter(left.terminal.parser_state(), 3), glyph),
+        (true, 32)
+    );
     Ok(())
 }
 
 #[test]
 fn goes_on_inside_a_sequence(rt: HostRuntime) -> Result<(), Fail> {
-    let mut terminal = Terminal::reset();
-    let mut reports = Reports::new(rt.alloc());
-    terminal.feed(b"\x1b[3", &mut reports)?;
-    let in_sequence = match terminal.parser_state() {
-        ParserState::Csi {
-            private,
-            params,
-            over,
-        } => !*private && params.as_slice() == [3].as_slice() && !*over,
-        _ => false,
-    };
-    assert!(rt; in_sequence);
-    assert!(rt; terminal.screen().cell(1, 1).glyph == 32);
-    terminal.feed(b"1;4mX", &mut reports)?;
-    assert!(rt; terminal.screen().cell(1, 1).rendition.underscore());
-    assert!(rt; !terminal.screen().cell(1, 1).rendition.bold());
-    terminal.feed(b"\x1b[?2l\x1bY%", &mut reports)?;
-    assert!(rt; matches!(terminal.parser_state(), ParserState::Vt52Column(37)));
+    let mut left = feed_reset(rt.alloc(), b"\x1b[3")?;
+    left.feed(&[b"1;4mX"])?;
+    let rendition = left.terminal.screen().cell(1, 1).rendition;
+    left.feed(&[b"\x1b[?2l\x1bY%"])?;
+    let is_at_column = matches!(left.terminal.parser_state(), ParserState::Vt52Column(37));
+    assert_eq!(rt;
+        (rendition.underscore(), rendition.bold(), is_at_column),
+        (true, false, true)
+    );
     Ok(())
 }
 
-// A list that holds one answer, and a terminal that gives it again.
+// A list that holds one answer, and a terminal that gives it again and so many times more.
+fn answered(alloc: Global, times: usize) -> Result<Left, Fail> {
+    let mut left = feed_reset(alloc, b"\x1b[5n")?;
+    left.reports.set_place(0);
+    for _ in 0..times {
+        left.feed(&[b"\x1b[5n"])?;
+    }
+    Ok(left)
+}
+
+fn told_answered(alloc: Global, times: usize) -> Result<String, Fail> {
+    let left = answered(alloc, times)?;
+    told(alloc, &left)
+}
+
+#[test]
+fn sends_at_the_end(rt: HostRuntime) -> Result<(), Fail> {
+    let left = feed_reset(rt.alloc(), b"\x1b[5n")?;
+    assert_eq!(rt; left.reports.place(), 4);
+    Ok(())
+}
+
 #[test]
 fn sends_at_the_place(rt: HostRuntime) -> Result<(), Fail> {
-    let mut left = feed_reset(rt.alloc(), b"\x1b[5n")?;
-    assert_eq!(rt; left.reports.place(), 4);
-    left.reports.set_place(0);
-    left.terminal.feed(b"\x1b[5n", &mut left.reports)?;
-    assert_eq!(rt; told(rt.alloc(), &left)?.as_str(), "at 1 1 sent E[0n");
-    left.terminal.feed(b"\x1b[5n", &mut left.reports)?;
-    assert_eq!(rt; told(rt.alloc(), &left)?.as_str(), "at 1 1 sent E[0nE[0n");
-    assert_eq!(rt; left.reports.place(), 8);
-    assert_eq!(rt; left.reports.bytes().len(), 8);
-    left.reports.cut(6);
-    assert_eq!(rt; told(rt.alloc(), &left)?.as_str(), "at 1 1 sent E[0nE[");
+    const ROWS: &[(usize, &str)] = &[(1, "at 1 1 sent E[0n"), (2, "at 1 1 sent E[0nE[0n")];
+    for (times, want) in ROWS {
+        let text = told_answered(rt.alloc(), *times)?;
+        assert_eq!(rt; text.as_str(), *want);
+    }
     Ok(())
+}
+
+#[test]
+fn moves_the_place(rt: HostRuntime) -> Result<(), Fail> {
+    let left = answered(rt.alloc(), 2)?;
+    assert_eq!(rt; (left.reports.place(), left.reports.bytes().len()), (8, 8));
+    Ok(())
+}
+
+#[test]
+fn cuts_the_list(rt: HostRuntime) -> Result<(), Fail> {
+    let mut left = answered(rt.alloc(), 2)?;
+    assert!(rt; left.reports.bytes().len() >= 6);
+    left.reports.cut(6);
+    let text = told(rt.alloc(), &left)?;
+    assert_eq!(rt; text.as_str(), "at 1 1 sent E[0nE[");
+    Ok(())
+}
+
+// The first glyph, the cursor, how many bytes were sent and the place.
+fn parts(left: &Left) -> (u8, (u8, u8), usize, usize) {
+    let screen = left.terminal.screen();
+    (
+        screen.cell(1, 1).glyph,
+        screen.cursor(),
+        left.reports.bytes().len(),
+        left.reports.place(),
+    )
 }
 
 // With the growth refused nothing is changed, and with memory all is done.
 #[test]
 fn a_refused_growth_changes_nothing(rt: HostRuntime) -> Result<(), Fail> {
-    let mut terminal = Terminal::reset();
-    let mut reports = Reports::new(rt.alloc());
-    if terminal.feed(b"x\x1b[5n", &mut reports).is_err() {
-        assert_eq!(rt; terminal.screen().cell(1, 1).glyph, 32);
-        assert!(rt; terminal.screen().cursor() == (1, 1));
-        assert!(rt; reports.bytes().is_empty());
-        assert_eq!(rt; reports.place(), 0);
-        terminal.feed(b"x\x1b[5n", &mut reports)?;
+    let mut left = reset_as(rt.alloc(), Profile::Vt100);
+    if left.feed(&[b"x\x1b[5n"]).is_err() {
+        assert_eq!(rt; parts(&left), (32, (1, 1), 0, 0));
+        left.feed(&[b"x\x1b[5n"])?;
     }
-    assert_eq!(rt; terminal.screen().cell(1, 1).glyph, b'x');
-    assert_eq!(rt; reports.place(), 4);
+    assert_eq!(rt; parts(&left), (b'x', (1, 2), 4, 4));
     Ok(())
 }

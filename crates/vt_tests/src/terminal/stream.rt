@@ -2,17 +2,12 @@
 ghost use Rattle.std.specs.Prelude.{◌<◌};
 
 use super::recordings::{MC, NANO, TOUR};
+use super::{Left, are_same, feed_reset, feed_reset_as};
 use std::alloc::Global;
 use std::process::Abort;
 use std::test::Fail;
 use vt_screen::Screen;
 use vt_term::{Profile, Reports, Terminal, laws};
-
-#[derive(Drop)]
-struct Left {
-    terminal: Terminal,
-    reports: Reports,
-}
 
 fn feed_pieces(alloc: Global, profile: Profile, bytes: &[u8], len: usize) -> Result<Left, Fail>
     requires { 0 < len }
@@ -47,32 +42,6 @@ fn feed_random_pieces(
         }
     }
     Ok(Left { terminal, reports })
-}
-
-fn assert_equal_screens(rt: &impl Abort, one: &Screen, other: &Screen) {
-    assert!(rt; one.columns() == other.columns());
-    assert!(rt; one.cursor() == other.cursor());
-    assert!(rt; one.wrap() == other.wrap());
-    assert!(rt; one.margins() == other.margins());
-    for line in 1..25 {
-        assert!(rt; one.row(line) == other.row(line), "line {line}");
-    }
-    for column in 1..133 {
-        assert!(rt; one.tab(column) == other.tab(column), "column {column}");
-    }
-}
-
-fn assert_equal(rt: &impl Abort, one: &Left, other: &Left) {
-    assert_equal_screens(rt, one.terminal.screen(), other.terminal.screen());
-    assert!(rt; one.terminal.profile() == other.terminal.profile());
-    assert!(rt; one.terminal.modes() == other.terminal.modes());
-    assert!(rt; one.terminal.rendition() == other.terminal.rendition());
-    assert!(rt; one.terminal.sets() == other.terminal.sets());
-    assert!(rt; one.terminal.saved() == other.terminal.saved());
-    assert!(rt; one.terminal.leds() == other.terminal.leds());
-    assert!(rt; one.terminal.parser_state() == other.terminal.parser_state());
-    assert!(rt; one.reports.bytes() == other.reports.bytes());
-    assert!(rt; one.reports.place() == other.reports.place());
 }
 
 // The number after another of a linear congruence.
@@ -172,6 +141,47 @@ fn sequences(alloc: Global, seed: u64, count: usize) -> Result<Vec<u8>, Fail> {
     Ok(bytes)
 }
 
+// Whether pieces of the length leave the same terminal and reports as all at once. No piece is empty.
+fn is_same_in_pieces(
+    alloc: Global,
+    profile: Profile,
+    bytes: &[u8],
+    len: usize,
+    whole: &Left,
+) -> Result<bool, Fail> {
+    if len == 0 {
+        return Ok(false);
+    }
+    let parts = feed_pieces(alloc, profile, bytes, len)?;
+    Ok(are_same(whole, &parts))
+}
+
+fn is_same_in_random_pieces(
+    alloc: Global,
+    profile: Profile,
+    bytes: &[u8],
+    seed: u64,
+    whole: &Left,
+) -> Result<bool, Fail> {
+    let parts = feed_random_pieces(alloc, profile, bytes, seed)?;
+    Ok(are_same(whole, &parts))
+}
+
+fn all_are_same(
+    rt: &impl Abort,
+    alloc: Global,
+    profile: Profile,
+    bytes: &[u8],
+    lengths: &[usize],
+    whole: &Left,
+) -> Result<(), Fail> {
+    for len in lengths {
+        let is_same = is_same_in_pieces(alloc, profile, bytes, *len, whole)?;
+        assert!(rt; is_same, "pieces of {len}");
+    }
+    Ok(())
+}
+
 // In pieces of any length the bytes leave the same terminal and reports as at once.
 fn assert_equal_in_pieces(
     rt: &impl Abort,
@@ -179,16 +189,11 @@ fn assert_equal_in_pieces(
     profile: Profile,
     bytes: &[u8],
 ) -> Result<(), Fail> {
-    let mut whole = feed_pieces(alloc, profile, b"", 1)?;
-    whole.terminal.feed(bytes, &mut whole.reports)?;
-    for len in [1, 7, 64, 1_000] {
-        assert!(rt; len > 0);
-        let parts = feed_pieces(alloc, profile, bytes, len)?;
-        assert_equal(rt, &whole, &parts);
-    }
+    let whole = feed_reset_as(alloc, profile, &[bytes])?;
+    all_are_same(rt, alloc, profile, bytes, &[1, 7, 64, 1_000], &whole)?;
     for seed in 0..3 {
-        let parts = feed_random_pieces(alloc, profile, bytes, seed)?;
-        assert_equal(rt, &whole, &parts);
+        let is_same = is_same_in_random_pieces(alloc, profile, bytes, seed, &whole)?;
+        assert!(rt; is_same, "pieces of seed {seed}");
     }
     Ok(())
 }
@@ -218,45 +223,56 @@ fn recordings_in_pieces(rt: HostRuntime) -> Result<(), Fail> {
     Ok(())
 }
 
-#[test]
-fn runs_in_pieces(rt: HostRuntime) -> Result<(), Fail> {
-    let bytes = vec![in rt.alloc(); b'A'; 2_000]?;
-    let whole = feed_pieces(rt.alloc(), Profile::Vt100, bytes.as_slice(), 2_000)?;
-    let screen = whole.terminal.screen();
-    assert!(rt; screen.cursor() == (24, 80));
-    assert!(rt; screen.wrap());
+// A in all cells up to column 80.
+fn is_full(screen: &Screen) -> bool {
     for line in 1..25 {
         for column in 1..81 {
-            assert!(rt; screen.cell(line, column).glyph == b'A');
+            if screen.cell(line, column).glyph != b'A' {
+                return false;
+            }
         }
     }
-    for len in [1, 31, 32, 33] {
-        assert!(rt; len > 0);
-        let parts = feed_pieces(rt.alloc(), Profile::Vt100, bytes.as_slice(), len)?;
-        assert_equal(&rt, &whole, &parts);
-    }
+    true
+}
+
+fn run_is_same(rt: &impl Abort, alloc: Global, run: &[u8]) -> Result<(), Fail> {
+    let whole = feed_reset(alloc, run)?;
+    let screen = whole.terminal.screen();
+    let shown = (screen.cursor(), screen.wrap(), is_full(screen));
+    assert_eq!(rt; shown, ((24, 80), true, true));
+    all_are_same(rt, alloc, Profile::Vt100, run, &[1, 31, 32, 33], &whole)
+}
+
+#[test]
+fn runs_in_pieces(rt: HostRuntime) -> Result<(), Fail> {
+    let run = vec![in rt.alloc(); b'A'; 2_000]?;
+    run_is_same(&rt, rt.alloc(), run.as_slice())
+}
+
+// A copy over a terminal that was elsewhere, with an empty list.
+fn copied(alloc: Global, one: &Terminal) -> Result<Left, Fail> {
+    let mut other = feed_reset(alloc, b"x\x1b[6n")?;
+    other.terminal.copy_from(one);
+    other.reports.cut(0);
+    Ok(other)
+}
+
+fn go_on(left: &mut Left) -> Result<(), Fail> {
+    left.terminal
+        .feed_in_place(b"1mc\x1b[6n", &mut left.reports)?;
     Ok(())
 }
 
 // A copy has the parser's state and all else, so it goes on as the terminal that it is of.
 #[test]
 fn a_copy_goes_on_alike(rt: HostRuntime) -> Result<(), Fail> {
-    let mut one = feed_pieces(
-        rt.alloc(),
-        Profile::Vt100,
-        b"\x1b[2;5r\x1b[?6hab\x1b[7;",
-        100,
-    )?;
-    let mut other = feed_pieces(rt.alloc(), Profile::Vt100, b"x\x1b[6n", 100)?;
-    other.terminal.copy_from(&one.terminal);
-    other.reports.cut(0);
-    one.terminal.feed_in_place(b"1mc\x1b[6n", &mut one.reports)?;
-    other
-        .terminal
-        .feed_in_place(b"1mc\x1b[6n", &mut other.reports)?;
-    assert_equal(&rt, &one, &other);
-    assert!(rt; one.reports.bytes() == b"\x1b[1;4R".as_slice());
-    assert!(rt; one.terminal.screen().cell(2, 3).rendition.reverse());
+    let mut one = feed_reset(rt.alloc(), b"\x1b[2;5r\x1b[?6hab\x1b[7;")?;
+    let mut other = copied(rt.alloc(), &one.terminal)?;
+    go_on(&mut one)?;
+    go_on(&mut other)?;
+    let is_reverse = one.terminal.screen().cell(2, 3).rendition.reverse();
+    let told = (one.reports.bytes(), is_reverse, are_same(&one, &other));
+    assert_eq!(rt; told, (b"\x1b[1;4R".as_slice(), true, true));
     Ok(())
 }
 

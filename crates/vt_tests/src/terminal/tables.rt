@@ -4,7 +4,7 @@ use std::test::Fail;
 
 #[test]
 fn controls(rt: HostRuntime) -> Result<(), Fail> {
-    let rows: [(&[u8], &str); 11] = [
+    const ROWS: &[(&[u8], &str)] = &[
         (b"ab\x08", "1:ab at 1 2"),
         (b"a\t", "1:a at 1 9"),
         (b"ab\n", "1:ab at 2 3"),
@@ -17,12 +17,12 @@ fn controls(rt: HostRuntime) -> Result<(), Fail> {
         (b"a\x05", "1:a at 1 2"),
         (b"a\x00\x07\x11\x13\x18\x1a\x7f", "1:a at 1 2"),
     ];
-    all_leave(&rt, rt.alloc(), &rows)
+    all_leave(&rt, rt.alloc(), ROWS)
 }
 
 #[test]
 fn controls_in_vt52_mode(rt: HostRuntime) -> Result<(), Fail> {
-    let rows: [(&[u8], &str); 11] = [
+    const ROWS: &[(&[u8], &str)] = &[
         (b"\x1b[?2lab\x08", "1:ab at 1 2 VT52"),
         (b"\x1b[?2la\t", "1:a at 1 9 VT52"),
         (b"\x1b[?2lab\n", "1:ab at 2 3 VT52"),
@@ -38,12 +38,12 @@ fn controls_in_vt52_mode(rt: HostRuntime) -> Result<(), Fail> {
         (b"\x1b[?2la\x05", "1:a at 1 2 VT52"),
         (b"\x1b[?2la\x00\x07\x11\x13\x18\x1a\x7f", "1:a at 1 2 VT52"),
     ];
-    all_leave(&rt, rt.alloc(), &rows)
+    all_leave(&rt, rt.alloc(), ROWS)
 }
 
 #[test]
 fn escape_sequences(rt: HostRuntime) -> Result<(), Fail> {
-    let rows: [(&[u8], &str); 16] = [
+    const ROWS: &[(&[u8], &str)] = &[
         (b"ab\x1bD", "1:ab at 2 3"),
         (b"ab\x1bE", "1:ab at 2 1"),
         (b"ab\r\nc\x1bM", "1:ab 2:c at 1 2"),
@@ -67,12 +67,12 @@ fn escape_sequences(rt: HostRuntime) -> Result<(), Fail> {
         (b"\x1b#6", "1(Double): at 1 1"),
         (b"\x1b#7\x1bN", "at 1 1"),
     ];
-    all_leave(&rt, rt.alloc(), &rows)
+    all_leave(&rt, rt.alloc(), ROWS)
 }
 
 #[test]
 fn designations(rt: HostRuntime) -> Result<(), Fail> {
-    let rows: [(&[u8], &str); 12] = [
+    const ROWS: &[(&[u8], &str)] = &[
         (b"\x1b(A", "at 1 1 G0 Uk"),
         (b"\x1b(A\x1b(B", "at 1 1"),
         (b"\x1b(0", "at 1 1 G0 SpecialGraphics"),
@@ -89,12 +89,12 @@ fn designations(rt: HostRuntime) -> Result<(), Fail> {
             "1:<0><1><2><11><25><31>^! at 1 9 G0 SpecialGraphics",
         ),
     ];
-    all_leave(&rt, rt.alloc(), &rows)
+    all_leave(&rt, rt.alloc(), ROWS)
 }
 
 #[test]
 fn control_sequences_that_move(rt: HostRuntime) -> Result<(), Fail> {
-    let rows: [(&[u8], &str); 15] = [
+    const ROWS: &[(&[u8], &str)] = &[
         (b"\x1b[5;5H\x1b[2A", "at 3 5"),
         (b"\x1b[5;5H\x1b[A\x1b[0A", "at 3 5"),
         (b"\x1b[5;5H\x1b[2B", "at 7 5"),
@@ -111,12 +111,12 @@ fn control_sequences_that_move(rt: HostRuntime) -> Result<(), Fail> {
         (b"\x1b[2;5r\x1b[r", "at 1 1"),
         (b"\x1b[2;5r\x1b[?6h\x1b[2;2H", "at 3 2 margins 2 5 DECOM"),
     ];
-    all_leave(&rt, rt.alloc(), &rows)
+    all_leave(&rt, rt.alloc(), ROWS)
 }
 
 #[test]
 fn control_sequences_that_set(rt: HostRuntime) -> Result<(), Fail> {
-    let rows: [(&[u8], &str); 17] = [
+    const ROWS: &[(&[u8], &str)] = &[
         (b"ab\r\ncd\r\nef\x1b[2;2H\x1b[J", "1:ab 2:c at 2 2"),
         (b"ab\r\ncd\r\nef\x1b[2;1H\x1b[1J", "2: d 3:ef at 2 1"),
         (b"ab\r\ncd\r\nef\x1b[2;2H\x1b[2J\x1b[3J", "at 2 2"),
@@ -138,12 +138,12 @@ fn control_sequences_that_set(rt: HostRuntime) -> Result<(), Fail> {
         (b"\x1b[1;2;3;4;5q", "at 1 1 L1 L2 L3 L4"),
         (b"\x1b[4q\x1b[q", "at 1 1"),
     ];
-    all_leave(&rt, rt.alloc(), &rows)
+    all_leave(&rt, rt.alloc(), ROWS)
 }
 
 #[test]
 fn reports(rt: HostRuntime) -> Result<(), Fail> {
-    let rows: [(&[u8], &str); 10] = [
+    const ROWS: &[(&[u8], &str)] = &[
         (b"\x1b[c", "at 1 1 sent E[?1;2c"),
         (b"\x1b[1c", "at 1 1"),
         (b"\x1b[5n", "at 1 1 sent E[0n"),
@@ -158,12 +158,12 @@ fn reports(rt: HostRuntime) -> Result<(), Fail> {
         (b"\x1b[2x", "at 1 1"),
         (b"\x1b[?5n\x1b[?c", "at 1 1"),
     ];
-    all_leave(&rt, rt.alloc(), &rows)
+    all_leave(&rt, rt.alloc(), ROWS)
 }
 
 #[test]
 fn private_modes(rt: HostRuntime) -> Result<(), Fail> {
-    let rows: [(&[u8], &str); 20] = [
+    const ROWS: &[(&[u8], &str)] = &[
         (b"\x1b[?1h", "at 1 1 DECCKM"),
         (b"\x1b[?1h\x1b[?1l", "at 1 1"),
         (b"\x1b[?2h", "at 1 1"),
@@ -185,12 +185,12 @@ fn private_modes(rt: HostRuntime) -> Result<(), Fail> {
         (b"\x1b[?25h\x1b[?1049h", "at 1 1"),
         (b"\x1b[?7m\x1b[?1q", "at 1 1"),
     ];
-    all_leave(&rt, rt.alloc(), &rows)
+    all_leave(&rt, rt.alloc(), ROWS)
 }
 
 #[test]
 fn vt52_sequences(rt: HostRuntime) -> Result<(), Fail> {
-    let rows: [(&[u8], &str); 16] = [
+    const ROWS: &[(&[u8], &str)] = &[
         (b"\x1b[5;5H\x1b[?2l\x1bA", "at 4 5 VT52"),
         (b"\x1b[5;5H\x1b[?2l\x1bB", "at 6 5 VT52"),
         (b"\x1b[5;5H\x1b[?2l\x1bC", "at 5 6 VT52"),
@@ -211,5 +211,5 @@ fn vt52_sequences(rt: HostRuntime) -> Result<(), Fail> {
         ),
         (b"\x1b[?2l\x1bM\x1bc\x1b7", "at 1 1 VT52"),
     ];
-    all_leave(&rt, rt.alloc(), &rows)
+    all_leave(&rt, rt.alloc(), ROWS)
 }

@@ -1,14 +1,14 @@
 //! Every row of the tables, fed to terminals of which each part can be told: what it changes, and that it leaves all else.
 ghost use Rattle.std.specs.Prelude.{◌≤◌, ◌+◌};
 
-use super::{Left, PARTS, Part, all_leave, feed_reset_as, write_line, write_part};
+use super::{Left, PARTS, Part, all_leave, assert_told, feed_reset_as, write_line, write_part};
 use std::alloc::Global;
 use std::fmt::Write;
 use std::process::Abort;
 use std::test::Fail;
 use vt_parser::Mode;
 use vt_screen::Screen;
-use vt_term::{Modes, OutOfMemory, Profile};
+use vt_term::{Modes, Profile};
 
 // Wide, and inside the margins under DECOM, with every mode set but DECAWM, and G1 invoked.
 pub(super) const SET: &[u8] = b"\x1b[?3h\
@@ -36,8 +36,11 @@ const WRAPPING_TOLD: &str = "5:ee 6:ff 7(Double):ghi {36}[UK]<25> 8(Top):ll 9:mm
     at 7 40 wrap margins 5 7 tabs 3 60 G0 SpecialGraphics G1 Uk L2 L4 [UK] \
     saved(6 8 DECOM [BR] G0 Uk G1 SpecialGraphics SO)";
 
+// Into VT52 mode.
+const VT52: &[u8] = b"\x1b[?2l";
+
 // Into VT52 mode, and its graphics on.
-pub(super) const VT52_GRAPHICS: &[u8] = b"\x1b[?2l\x1bF";
+const VT52_GRAPHICS: &[u8] = b"\x1b[?2l\x1bF";
 
 // The modes by their names.
 fn named_modes(modes: Modes) -> [(bool, &'static str); 11] {
@@ -103,27 +106,41 @@ fn write_changed_lines(text: &mut String, before: &Screen, after: &Screen) -> Re
     Ok(())
 }
 
+fn write_initial(text: &mut String, part: Part) -> Result<(), Fail> {
+    write!(text, "no {part:?}")?;
+    Ok(())
+}
+
 // A part as it is now, where that isn't as it was; of one that is now as in the initial state its name.
-fn write_change(
+fn write_change(text: &mut String, part: Part, was: &str, is: &str) -> Result<(), Fail> {
+    if was == is {
+        Ok(())
+    } else if is.is_empty() {
+        write_initial(text, part)
+    } else {
+        text.push_str(is)?;
+        Ok(())
+    }
+}
+
+// What is told of a part.
+fn told_part(alloc: Global, left: &Left, part: Part) -> Result<String, Fail> {
+    let mut text = String::new(alloc);
+    write_part(&mut text, left, part)?;
+    Ok(text)
+}
+
+// A part told before and after.
+fn write_told_change(
     text: &mut String,
     alloc: Global,
     before: &Left,
     after: &Left,
     part: Part,
 ) -> Result<(), Fail> {
-    let mut was = String::new(alloc);
-    write_part(&mut was, before, part)?;
-    let mut is = String::new(alloc);
-    write_part(&mut is, after, part)?;
-    if was.as_str() == is.as_str() {
-        return Ok(());
-    }
-    if is.is_empty() {
-        write!(text, "no {part:?}")?;
-        return Ok(());
-    }
-    text.push_str(is.as_str())?;
-    Ok(())
+    let was = told_part(alloc, before, part)?;
+    let is = told_part(alloc, after, part)?;
+    write_change(text, part, was.as_str(), is.as_str())
 }
 
 // A part that is changed.
@@ -139,8 +156,20 @@ fn write_changed_part(
             write_changed_lines(text, before.terminal.screen(), after.terminal.screen())
         }
         Part::Modes => write_changed_modes(text, before.terminal.modes(), after.terminal.modes()),
-        _ => write_change(text, alloc, before, after, part),
+        _ => write_told_change(text, alloc, before, after, part),
     }
+}
+
+// A word, after a space where words come before it.
+fn write_word(text: &mut String, word: &str) -> Result<(), Fail> {
+    if word.is_empty() {
+        return Ok(());
+    }
+    if !text.is_empty() {
+        text.push(' ')?;
+    }
+    text.push_str(word)?;
+    Ok(())
 }
 
 // All parts that are changed, one space between them.
@@ -149,23 +178,49 @@ fn changed(alloc: Global, before: &Left, after: &Left) -> Result<String, Fail> {
     for part in PARTS {
         let mut word = String::new(alloc);
         write_changed_part(&mut word, alloc, before, after, part)?;
-        let word = word.as_str().trim();
-        if word.is_empty() {
-            continue;
-        }
-        if !text.is_empty() {
-            text.push(' ')?;
-        }
-        text.push_str(word)?;
+        write_word(&mut text, word.as_str().trim())?;
     }
     Ok(text)
+}
+
+// What the pieces change of what the start left.
+fn changed_by_pieces(
+    alloc: Global,
+    profile: Profile,
+    start: &[&[u8]],
+    pieces: &[&[u8]],
+) -> Result<String, Fail> {
+    let before = feed_reset_as(alloc, profile, start)?;
+    let mut after = feed_reset_as(alloc, profile, start)?;
+    after.feed(pieces)?;
+    changed(alloc, &before, &after)
+}
+
+fn changed_by(
+    alloc: Global,
+    profile: Profile,
+    start: &[&[u8]],
+    bytes: &[u8],
+) -> Result<String, Fail> {
+    changed_by_pieces(alloc, profile, start, &[bytes])
+}
+
+// What a byte changes of a VT100 between what comes before it and what comes after.
+fn changed_between(
+    alloc: Global,
+    start: &[&[u8]],
+    head: &[u8],
+    byte: u8,
+    tail: &[u8],
+) -> Result<String, Fail> {
+    changed_by_pieces(alloc, Profile::Vt100, start, &[head, &[byte], tail])
 }
 
 // What the bytes of each row change of what the start left of a VT100.
 fn all_change(
     rt: &impl Abort,
     alloc: Global,
-    start: &[u8],
+    start: &[&[u8]],
     rows: &[(&[u8], &str)],
 ) -> Result<(), Fail> {
     all_change_as(rt, alloc, Profile::Vt100, start, rows)
@@ -176,24 +231,25 @@ pub(super) fn all_change_as(
     rt: &impl Abort,
     alloc: Global,
     profile: Profile,
-    start: &[u8],
+    start: &[&[u8]],
     rows: &[(&[u8], &str)],
 ) -> Result<(), Fail> {
-    let before = feed_reset_as(alloc, profile, start)?;
     for (bytes, want) in rows {
-        let mut after = feed_reset_as(alloc, profile, start)?;
-        after.terminal.feed(bytes, &mut after.reports)?;
-        let text = changed(alloc, &before, &after)?;
-        assert_eq!(rt; text.as_str(), *want, "at {bytes:?}");
+        let text = changed_by(alloc, profile, start, bytes)?;
+        assert_told(rt, text.as_str(), want, bytes);
     }
     Ok(())
 }
 
-// One piece of bytes and then another.
-pub(super) fn joined(alloc: Global, head: &[u8], tail: &[u8]) -> Result<Vec<u8>, OutOfMemory> {
-    let mut bytes = Vec::from_slice(alloc, head)?;
-    bytes.extend_from_slice(tail)?;
-    Ok(bytes)
+// What both profiles have is the same in both.
+fn all_change_in_both(
+    rt: &impl Abort,
+    alloc: Global,
+    start: &[&[u8]],
+    rows: &[(&[u8], &str)],
+) -> Result<(), Fail> {
+    all_change_as(rt, alloc, Profile::Vt100, start, rows)?;
+    all_change_as(rt, alloc, Profile::Vt102, start, rows)
 }
 
 #[test]
@@ -203,7 +259,7 @@ fn starts(rt: HostRuntime) -> Result<(), Fail> {
 }
 
 // In VT52 mode these do the same, but SO and SI nothing.
-pub(super) const CONTROLS_OF_SET: [(&[u8], &str); 9] = [
+const CONTROLS_OF_SET: &[(&[u8], &str)] = &[
     (b"\x08", "at 7 2"),
     (b"\x09", "at 7 50"),
     (b"\x0a", "at 8 1"),
@@ -218,7 +274,7 @@ pub(super) const CONTROLS_OF_SET: [(&[u8], &str); 9] = [
     (b"\x80", "7:gh[BR]<2> {63}[]j {64}k at 7 4"),
 ];
 
-pub(super) const CONTROLS_OF_WRAPPING: [(&[u8], &str); 9] = [
+const CONTROLS_OF_WRAPPING: &[(&[u8], &str)] = &[
     (b"\x08", "at 7 39"),
     (b"\x09", "at 7 40"),
     (b"\x0a", "5:ff 6(Double):ghi {36}[UK]<25> 7: at 7 40"),
@@ -235,30 +291,32 @@ pub(super) const CONTROLS_OF_WRAPPING: [(&[u8], &str); 9] = [
 
 #[test]
 fn controls(rt: HostRuntime) -> Result<(), Fail> {
-    all_change(&rt, rt.alloc(), SET, &CONTROLS_OF_SET)?;
-    all_change(&rt, rt.alloc(), WRAPPING, &CONTROLS_OF_WRAPPING)
+    all_change_in_both(&rt, rt.alloc(), &[SET], CONTROLS_OF_SET)?;
+    all_change_in_both(&rt, rt.alloc(), &[WRAPPING], CONTROLS_OF_WRAPPING)
 }
 
 #[test]
 fn controls_in_vt52_mode(rt: HostRuntime) -> Result<(), Fail> {
-    let set = joined(rt.alloc(), SET, b"\x1b[?2l")?;
-    all_change(&rt, rt.alloc(), set.as_slice(), &CONTROLS_OF_SET)?;
-    let wrapping = joined(rt.alloc(), WRAPPING, b"\x1b[?2l")?;
-    all_change(&rt, rt.alloc(), wrapping.as_slice(), &CONTROLS_OF_WRAPPING)?;
-    let rows: [(&[u8], &str); 4] = [
-        (b"\x0e", ""),
-        (b"\x0f", ""),
+    all_change(&rt, rt.alloc(), &[SET, VT52], CONTROLS_OF_SET)?;
+    all_change(&rt, rt.alloc(), &[WRAPPING, VT52], CONTROLS_OF_WRAPPING)
+}
+
+#[test]
+fn invocations_in_vt52_mode(rt: HostRuntime) -> Result<(), Fail> {
+    const INVOKING: &[(&[u8], &str)] = &[(b"\x0e", ""), (b"\x0f", "")];
+    all_change(&rt, rt.alloc(), &[SET, VT52], INVOKING)?;
+    all_change(&rt, rt.alloc(), &[WRAPPING, VT52], INVOKING)?;
+    const WRITING: &[(&[u8], &str)] = &[
         (b"a", "7:gh[BR]a {63}[]j {64}k at 7 4"),
         (
             b"\x1bFa",
             "7:gh[BR]<2> {63}[]j {64}k at 7 4 G0 Uk G1 SpecialGraphics SO graphics",
         ),
     ];
-    all_change(&rt, rt.alloc(), set.as_slice(), &rows)?;
-    all_change(&rt, rt.alloc(), wrapping.as_slice(), &rows[..2])
+    all_change(&rt, rt.alloc(), &[SET, VT52], WRITING)
 }
 
-pub(super) const ESCAPES_OF_SET: [(&[u8], &str); 25] = [
+const ESCAPES_OF_SET: &[(&[u8], &str)] = &[
     (b"\x1bD", "at 8 3"),
     (b"\x1bE", "at 8 1"),
     (b"\x1bM", "at 6 3"),
@@ -302,7 +360,7 @@ pub(super) const ESCAPES_OF_SET: [(&[u8], &str); 25] = [
     (b"\x1b)2", ""),
 ];
 
-pub(super) const ESCAPES_OF_WRAPPING: [(&[u8], &str); 25] = [
+const ESCAPES_OF_WRAPPING: &[(&[u8], &str)] = &[
     (b"\x1bD", "5:ff 6(Double):ghi {36}[UK]<25> 7: at 7 40"),
     (b"\x1bE", "5:ff 6(Double):ghi {36}[UK]<25> 7: at 7 1"),
     (b"\x1bM", "at 6 40"),
@@ -335,23 +393,27 @@ pub(super) const ESCAPES_OF_WRAPPING: [(&[u8], &str); 25] = [
 
 #[test]
 fn escape_sequences(rt: HostRuntime) -> Result<(), Fail> {
-    all_change(&rt, rt.alloc(), SET, &ESCAPES_OF_SET)?;
-    all_change(&rt, rt.alloc(), WRAPPING, &ESCAPES_OF_WRAPPING)?;
-    let invoking: [(&[u8], &str); 3] = [
+    all_change(&rt, rt.alloc(), &[SET], ESCAPES_OF_SET)?;
+    all_change(&rt, rt.alloc(), &[WRAPPING], ESCAPES_OF_WRAPPING)
+}
+
+#[test]
+fn invocations(rt: HostRuntime) -> Result<(), Fail> {
+    const OF_SET: &[(&[u8], &str)] = &[
         (b"\x0e", ""),
         (b"\x0f", "G0 Uk G1 SpecialGraphics graphics"),
         (b"a", "7:gh[BR]<2> {63}[]j {64}k at 7 4"),
     ];
-    all_change(&rt, rt.alloc(), SET, &invoking)?;
-    let invoking: [(&[u8], &str); 3] = [
+    all_change(&rt, rt.alloc(), &[SET], OF_SET)?;
+    const OF_WRAPPING: &[(&[u8], &str)] = &[
         (b"\x0e", "G0 SpecialGraphics G1 Uk SO"),
         (b"\x0f", ""),
         (b"a", "5:ff 6(Double):ghi {36}[UK]<25> 7:[UK]<2> at 7 2"),
     ];
-    all_change(&rt, rt.alloc(), WRAPPING, &invoking)
+    all_change(&rt, rt.alloc(), &[WRAPPING], OF_WRAPPING)
 }
 
-pub(super) const MOVES_OF_SET: [(&[u8], &str); 28] = [
+const MOVES_OF_SET: &[(&[u8], &str)] = &[
     (b"\x1b[A", "at 6 3"),
     (b"\x1b[2A", "at 5 3"),
     (b"\x1b[9A", "at 5 3"),
@@ -382,7 +444,7 @@ pub(super) const MOVES_OF_SET: [(&[u8], &str); 28] = [
     (b"\x1b[5;25r", ""),
 ];
 
-pub(super) const MOVES_OF_WRAPPING: [(&[u8], &str); 18] = [
+const MOVES_OF_WRAPPING: &[(&[u8], &str)] = &[
     (b"\x1b[A", "at 6 40"),
     (b"\x1b[9A", "at 5 40"),
     (b"\x1b[B", "at 7 40"),
@@ -405,11 +467,11 @@ pub(super) const MOVES_OF_WRAPPING: [(&[u8], &str); 18] = [
 
 #[test]
 fn control_sequences_that_move(rt: HostRuntime) -> Result<(), Fail> {
-    all_change(&rt, rt.alloc(), SET, &MOVES_OF_SET)?;
-    all_change(&rt, rt.alloc(), WRAPPING, &MOVES_OF_WRAPPING)
+    all_change_in_both(&rt, rt.alloc(), &[SET], MOVES_OF_SET)?;
+    all_change_in_both(&rt, rt.alloc(), &[WRAPPING], MOVES_OF_WRAPPING)
 }
 
-pub(super) const SETTINGS_OF_SET: [(&[u8], &str); 30] = [
+const SETTINGS_OF_SET: &[(&[u8], &str)] = &[
     (b"\x1b[J", "7:gh 8-10: 12:"),
     (b"\x1b[1J", "4-6: 7: {66}j {64}k"),
     (b"\x1b[2J", "4-10: 12:"),
@@ -442,7 +504,7 @@ pub(super) const SETTINGS_OF_SET: [(&[u8], &str); 30] = [
     (b"\x1b[5;6;10;11q", ""),
 ];
 
-pub(super) const SETTINGS_OF_WRAPPING: [(&[u8], &str); 25] = [
+const SETTINGS_OF_WRAPPING: &[(&[u8], &str)] = &[
     (b"\x1b[J", "7(Double):ghi 8-10:"),
     (b"\x1b[1J", "5-7: at 7 40"),
     (b"\x1b[2J", "5-10: at 7 40"),
@@ -472,11 +534,11 @@ pub(super) const SETTINGS_OF_WRAPPING: [(&[u8], &str); 25] = [
 
 #[test]
 fn control_sequences_that_set(rt: HostRuntime) -> Result<(), Fail> {
-    all_change(&rt, rt.alloc(), SET, &SETTINGS_OF_SET)?;
-    all_change(&rt, rt.alloc(), WRAPPING, &SETTINGS_OF_WRAPPING)
+    all_change_in_both(&rt, rt.alloc(), &[SET], SETTINGS_OF_SET)?;
+    all_change_in_both(&rt, rt.alloc(), &[WRAPPING], SETTINGS_OF_WRAPPING)
 }
 
-pub(super) const REPORTS_OF_WRAPPING: [(&[u8], &str); 9] = [
+const REPORTS_OF_WRAPPING: &[(&[u8], &str)] = &[
     (b"\x1b[c", "sent E[?1;2c"),
     (b"\x1b[0c", "sent E[?1;2c"),
     (b"\x1b[1c", ""),
@@ -490,15 +552,15 @@ pub(super) const REPORTS_OF_WRAPPING: [(&[u8], &str); 9] = [
 
 #[test]
 fn reports(rt: HostRuntime) -> Result<(), Fail> {
-    all_change(&rt, rt.alloc(), WRAPPING, &REPORTS_OF_WRAPPING)?;
-    let rows: [(&[u8], &str); 2] = [
+    all_change(&rt, rt.alloc(), &[WRAPPING], REPORTS_OF_WRAPPING)?;
+    const ROWS: &[(&[u8], &str)] = &[
         (b"\x1b[6n", "sent E[0nE[3;3R"),
         (b"\x1b[2x\x1b[3x\x1b[1c\x1b[?5n\x1b[?6n\x1b[?c\x1b[?x", ""),
     ];
-    all_change(&rt, rt.alloc(), SET, &rows)
+    all_change(&rt, rt.alloc(), &[SET], ROWS)
 }
 
-pub(super) const MODES_OF_SET: [(&[u8], &str); 20] = [
+const MODES_OF_SET: &[(&[u8], &str)] = &[
     (b"\x1b[?1h", ""),
     (b"\x1b[?1l", "-DECCKM"),
     (b"\x1b[?2h", ""),
@@ -521,7 +583,7 @@ pub(super) const MODES_OF_SET: [(&[u8], &str); 20] = [
     (b"\x1b[?0;10;20;25;1049h\x1b[?0;10;20;25;1049l", ""),
 ];
 
-pub(super) const MODES_OF_WRAPPING: [(&[u8], &str); 19] = [
+const MODES_OF_WRAPPING: &[(&[u8], &str)] = &[
     (b"\x1b[?1h", "+DECCKM"),
     (b"\x1b[?1l", ""),
     (b"\x1b[?2h", ""),
@@ -545,11 +607,11 @@ pub(super) const MODES_OF_WRAPPING: [(&[u8], &str); 19] = [
 
 #[test]
 fn private_modes(rt: HostRuntime) -> Result<(), Fail> {
-    all_change(&rt, rt.alloc(), SET, &MODES_OF_SET)?;
-    all_change(&rt, rt.alloc(), WRAPPING, &MODES_OF_WRAPPING)
+    all_change_in_both(&rt, rt.alloc(), &[SET], MODES_OF_SET)?;
+    all_change_in_both(&rt, rt.alloc(), &[WRAPPING], MODES_OF_WRAPPING)
 }
 
-pub(super) const VT52_OF_SET: [(&[u8], &str); 17] = [
+const VT52_OF_SET: &[(&[u8], &str)] = &[
     (b"\x1bA", "at 6 3"),
     (b"\x1bB", "at 8 3"),
     (b"\x1bC", "at 7 4"),
@@ -569,7 +631,7 @@ pub(super) const VT52_OF_SET: [(&[u8], &str); 17] = [
     (b"\x1b<", "-VT52"),
 ];
 
-pub(super) const VT52_OF_WRAPPING: [(&[u8], &str); 17] = [
+const VT52_OF_WRAPPING: &[(&[u8], &str)] = &[
     (b"\x1bA", "at 6 40"),
     (b"\x1bB", "at 7 40"),
     (b"\x1bC", "at 7 40"),
@@ -591,25 +653,28 @@ pub(super) const VT52_OF_WRAPPING: [(&[u8], &str); 17] = [
 
 #[test]
 fn vt52_sequences(rt: HostRuntime) -> Result<(), Fail> {
-    let set = joined(rt.alloc(), SET, VT52_GRAPHICS)?;
-    all_change(&rt, rt.alloc(), set.as_slice(), &VT52_OF_SET)?;
-    let wrapping = joined(rt.alloc(), WRAPPING, VT52_GRAPHICS)?;
-    all_change(&rt, rt.alloc(), wrapping.as_slice(), &VT52_OF_WRAPPING)
+    all_change_in_both(&rt, rt.alloc(), &[SET, VT52_GRAPHICS], VT52_OF_SET)?;
+    all_change_in_both(
+        &rt,
+        rt.alloc(),
+        &[WRAPPING, VT52_GRAPHICS],
+        VT52_OF_WRAPPING,
+    )
 }
 
 // Each final byte from the first on but those named changes nothing, after what comes before it.
 fn others_change_nothing(
     rt: &impl Abort,
     alloc: Global,
-    start: &[u8],
-    head: &[u8],
-    finals: (u8, &[u8]),
+    start: &[&[u8]],
+    rows: &[(&[u8], u8, &[u8])],
 ) -> Result<(), Fail> {
-    let (first, named) = finals;
-    for byte in first..127 {
-        if !named.contains(&byte) {
-            let bytes = joined(alloc, head, &[byte])?;
-            all_change(rt, alloc, start, &[(bytes.as_slice(), "")])?;
+    for (head, first, named) in rows {
+        for byte in *first..127 {
+            if !named.contains(&byte) {
+                let text = changed_between(alloc, start, head, byte, b"")?;
+                assert_eq!(rt; text.as_str(), "", "at {byte} after {head:?}");
+            }
         }
     }
     Ok(())
@@ -618,7 +683,7 @@ fn others_change_nothing(
 // What stands in no table has no effect.
 #[test]
 fn other_finals(rt: HostRuntime) -> Result<(), Fail> {
-    let rows: [(&[u8], u8, &[u8]); 8] = [
+    const ROWS: &[(&[u8], u8, &[u8])] = &[
         (b"\x1b", 48, b"DEMHZc78=>[PX]^_"),
         (b"\x1b#", 48, b"34568"),
         (b"\x1b(", 48, b"AB012"),
@@ -628,29 +693,29 @@ fn other_finals(rt: HostRuntime) -> Result<(), Fail> {
         (b"\x1b[1;2", 64, b"ABCDHfJKrgmhlqcnx"),
         (b"\x1b[?1;3", 64, b"hl"),
     ];
-    for (head, first, named) in rows {
-        others_change_nothing(&rt, rt.alloc(), SET, head, (first, named))?;
-    }
-    let vt52 = joined(rt.alloc(), SET, VT52_GRAPHICS)?;
-    let named = b"ABCDFGHIJKYZ=><".as_slice();
-    others_change_nothing(&rt, rt.alloc(), vt52.as_slice(), b"\x1b", (32, named))
+    others_change_nothing(&rt, rt.alloc(), &[SET], ROWS)?;
+    const IN_VT52_MODE: &[(&[u8], u8, &[u8])] = &[(b"\x1b", 32, b"ABCDFGHIJKYZ=><")];
+    others_change_nothing(&rt, rt.alloc(), &[SET, VT52_GRAPHICS], IN_VT52_MODE)
 }
 
 // Each byte that is dropped inside a sequence leaves it going on.
 fn all_go_on(
     rt: &impl Abort,
     alloc: Global,
-    start: &[u8],
-    head: &[u8],
-    tail: &[u8],
-    want: &str,
+    start: &[&[u8]],
+    rows: &[(&[u8], &[u8], &str)],
 ) -> Result<(), Fail> {
-    for byte in 0..=255 {
-        let acts = matches!(byte, 8..=15 | 24 | 26 | 27 | 32..=126);
-        if !acts {
-            let begun = joined(alloc, head, &[byte])?;
-            let bytes = joined(alloc, begun.as_slice(), tail)?;
-            all_change(rt, alloc, start, &[(bytes.as_slice(), want)])?;
+    for (head, tail, want) in rows {
+        for byte in 0..=255 {
+            let acts = matches!(byte, 8..=15 | 24 | 26 | 27 | 32..=126);
+            if !acts {
+                let text = changed_between(alloc, start, head, byte, tail)?;
+                assert_eq!(rt;
+                    text.as_str(),
+                    *want,
+                    "at {byte} between {head:?} and {tail:?}"
+                );
+            }
         }
     }
     Ok(())
@@ -658,32 +723,26 @@ fn all_go_on(
 
 #[test]
 fn dropped_bytes(rt: HostRuntime) -> Result<(), Fail> {
-    let rows: [(&[u8], &[u8], &str); 5] = [
+    const ROWS: &[(&[u8], &[u8], &str)] = &[
         (b"\x1b", b"D", "at 8 3"),
         (b"\x1b(", b"B", "G1 SpecialGraphics SO graphics"),
         (b"\x1b[", b"4m", "[BUR]"),
         (b"\x1b[0;", b"4m", "[U]"),
         (b"\x1b[?", b"5l", "-DECSCNM"),
     ];
-    for (head, tail, want) in rows {
-        all_go_on(&rt, rt.alloc(), SET, head, tail, want)?;
-    }
-    let vt52 = joined(rt.alloc(), SET, VT52_GRAPHICS)?;
-    let rows: [(&[u8], &[u8], &str); 3] = [
+    all_go_on(&rt, rt.alloc(), &[SET], ROWS)?;
+    const IN_VT52_MODE: &[(&[u8], &[u8], &str)] = &[
         (b"\x1b", b"B", "at 8 3"),
         (b"\x1bY", b"!#", "at 6 4"),
         (b"\x1bY!", b"#", "at 6 4"),
     ];
-    for (head, tail, want) in rows {
-        all_go_on(&rt, rt.alloc(), vt52.as_slice(), head, tail, want)?;
-    }
-    Ok(())
+    all_go_on(&rt, rt.alloc(), &[SET, VT52_GRAPHICS], IN_VT52_MODE)
 }
 
 // Texts that aren't well formed, controls inside sequences, and sequences that are ended by another.
 #[test]
 fn odd_sequences(rt: HostRuntime) -> Result<(), Fail> {
-    let rows: [(&[u8], &str); 14] = [
+    const ROWS: &[(&[u8], &str)] = &[
         (b"\x1b[4:3m\x1b[4:m", ""),
         (b"\x1b[:C\x1b[1:l\x1b[:D", ""),
         (b"\x1b[>c\x1b[=c\x1b[<m\x1b[1 q", ""),
@@ -702,13 +761,14 @@ fn odd_sequences(rt: HostRuntime) -> Result<(), Fail> {
         (b"\x1b^q\x18", "7:gh[BR]<2> {63}[]j {64}k at 7 4"),
         (b"\x1b_q\x1a", "7:gh[BR]<2> {63}[]j {64}k at 7 4"),
     ];
-    all_change(&rt, rt.alloc(), SET, &rows)
+    all_change(&rt, rt.alloc(), &[SET], ROWS)
 }
 
 // Without a save: home, counted from line 1, without rendition, and ASCII in both slots.
 #[test]
 fn restores_without_a_save(rt: HostRuntime) -> Result<(), Fail> {
-    let start = b"\x1b(0\x1b)A\x0e\x1b[7m\x1b[2;5r\x1b[?6h\x1b[2;2H\x1b=\x1b[2q\x1b[?2l\x1bF\x1b<";
-    let rows: [(&[u8], &str); 1] = [(b"\x1b8", "at 1 1 -DECOM graphics no Rendition")];
-    all_change(&rt, rt.alloc(), start.as_slice(), &rows)
+    const START: &[u8] =
+        b"\x1b(0\x1b)A\x0e\x1b[7m\x1b[2;5r\x1b[?6h\x1b[2;2H\x1b=\x1b[2q\x1b[?2l\x1bF\x1b<";
+    const ROWS: &[(&[u8], &str)] = &[(b"\x1b8", "at 1 1 -DECOM graphics no Rendition")];
+    all_change(&rt, rt.alloc(), &[START], ROWS)
 }

@@ -1,8 +1,21 @@
 //! What clears the pending wrap and what leaves it, also where nothing moves.
-use super::{feed_reset, write_cursor};
+use super::{assert_told, feed_reset, feed_reset_as, write_cursor};
 use std::alloc::Global;
 use std::process::Abort;
 use std::test::Fail;
+use vt_term::Profile;
+
+fn is_pending(alloc: Global, start: &[u8]) -> Result<bool, Fail> {
+    Ok(feed_reset(alloc, start)?.terminal.screen().wrap())
+}
+
+// The cursor and the wrap, as they are told.
+fn cursor_after(alloc: Global, start: &[u8], bytes: &[u8]) -> Result<String, Fail> {
+    let left = feed_reset_as(alloc, Profile::Vt100, &[start, bytes])?;
+    let mut text = String::new(alloc);
+    write_cursor(&mut text, left.terminal.screen())?;
+    Ok(text)
+}
 
 // Each begins with the wrap pending, and leaves the cursor and the wrap as told.
 fn all_leave_cursor(
@@ -11,16 +24,11 @@ fn all_leave_cursor(
     start: &[u8],
     rows: &[(&[u8], &str)],
 ) -> Result<(), Fail> {
-    assert!(rt;
-        feed_reset(alloc, start)?.terminal.screen().wrap(),
-        "{start:?}"
-    );
+    let is_pending = is_pending(alloc, start)?;
+    assert!(rt; is_pending, "{start:?}");
     for (bytes, want) in rows {
-        let mut left = feed_reset(alloc, start)?;
-        left.terminal.feed(bytes, &mut left.reports)?;
-        let mut text = String::new(alloc);
-        write_cursor(&mut text, left.terminal.screen())?;
-        assert_eq!(rt; text.as_str(), *want, "at {bytes:?}");
+        let text = cursor_after(alloc, start, bytes)?;
+        assert_told(rt, text.as_str(), want, bytes);
     }
     Ok(())
 }
@@ -48,7 +56,7 @@ const VT52: &[u8] = b"\x1b[5;80HA\x1b[?2l\x1bF";
 
 #[test]
 fn controls_clear_it(rt: HostRuntime) -> Result<(), Fail> {
-    let rows: [(&[u8], &str); 9] = [
+    const ROWS: &[(&[u8], &str)] = &[
         (b"\x08", "at 5 79"),
         (b"\x09", "at 5 80"),
         (b"\x0a", "at 6 80"),
@@ -59,13 +67,13 @@ fn controls_clear_it(rt: HostRuntime) -> Result<(), Fail> {
         (b"\x1b(\x09", "at 5 80"),
         (b"\x1b[20h\x0a", "at 6 1"),
     ];
-    all_leave_cursor(&rt, rt.alloc(), PENDING, &rows)?;
-    all_leave_cursor(&rt, rt.alloc(), VT52, &rows[..6])
+    all_leave_cursor(&rt, rt.alloc(), PENDING, ROWS)?;
+    all_leave_cursor(&rt, rt.alloc(), VT52, &ROWS[..6])
 }
 
 #[test]
 fn moves_clear_it(rt: HostRuntime) -> Result<(), Fail> {
-    let rows: [(&[u8], &str); 13] = [
+    const ROWS: &[(&[u8], &str)] = &[
         (b"\x1bD", "at 6 80"),
         (b"\x1bE", "at 6 1"),
         (b"\x1bM", "at 4 80"),
@@ -80,36 +88,36 @@ fn moves_clear_it(rt: HostRuntime) -> Result<(), Fail> {
         (b"\x1b[H", "at 1 1"),
         (b"\x1b[f", "at 1 1"),
     ];
-    all_leave_cursor(&rt, rt.alloc(), PENDING, &rows)
+    all_leave_cursor(&rt, rt.alloc(), PENDING, ROWS)
 }
 
 #[test]
 fn moves_that_move_nothing_clear_it(rt: HostRuntime) -> Result<(), Fail> {
-    let up: [(&[u8], &str); 2] = [(b"\x1b[A", "at 5 80"), (b"\x1bM", "at 5 80")];
-    all_leave_cursor(&rt, rt.alloc(), AT_TOP, &up)?;
-    let down: [(&[u8], &str); 5] = [
+    const UP: &[(&[u8], &str)] = &[(b"\x1b[A", "at 5 80"), (b"\x1bM", "at 5 80")];
+    all_leave_cursor(&rt, rt.alloc(), AT_TOP, UP)?;
+    const DOWN: &[(&[u8], &str)] = &[
         (b"\x1b[B", "at 9 80"),
         (b"\x1bD", "at 9 80"),
         (b"\x0a", "at 9 80"),
         (b"\x0b", "at 9 80"),
         (b"\x0c", "at 9 80"),
     ];
-    all_leave_cursor(&rt, rt.alloc(), AT_BOTTOM, &down)?;
-    let above: [(&[u8], &str); 2] = [(b"\x1b[A", "at 1 80"), (b"\x1bM", "at 1 80")];
-    all_leave_cursor(&rt, rt.alloc(), ABOVE, &above)?;
-    let below: [(&[u8], &str); 5] = [
+    all_leave_cursor(&rt, rt.alloc(), AT_BOTTOM, DOWN)?;
+    const UP_ABOVE: &[(&[u8], &str)] = &[(b"\x1b[A", "at 1 80"), (b"\x1bM", "at 1 80")];
+    all_leave_cursor(&rt, rt.alloc(), ABOVE, UP_ABOVE)?;
+    const DOWN_BELOW: &[(&[u8], &str)] = &[
         (b"\x1b[B", "at 24 80"),
         (b"\x1bD", "at 24 80"),
         (b"\x0a", "at 24 80"),
         (b"\x0b", "at 24 80"),
         (b"\x0c", "at 24 80"),
     ];
-    all_leave_cursor(&rt, rt.alloc(), BELOW, &below)
+    all_leave_cursor(&rt, rt.alloc(), BELOW, DOWN_BELOW)
 }
 
 #[test]
 fn vt52_moves_clear_it(rt: HostRuntime) -> Result<(), Fail> {
-    let rows: [(&[u8], &str); 8] = [
+    const ROWS: &[(&[u8], &str)] = &[
         (b"\x1bA", "at 4 80"),
         (b"\x1bB", "at 6 80"),
         (b"\x1bC", "at 5 80"),
@@ -119,12 +127,12 @@ fn vt52_moves_clear_it(rt: HostRuntime) -> Result<(), Fail> {
         (b"\x1bY$o", "at 5 80"),
         (b"\x1bY  ", "at 1 1"),
     ];
-    all_leave_cursor(&rt, rt.alloc(), VT52, &rows)
+    all_leave_cursor(&rt, rt.alloc(), VT52, ROWS)
 }
 
 #[test]
 fn settings_clear_it(rt: HostRuntime) -> Result<(), Fail> {
-    let rows: [(&[u8], &str); 15] = [
+    const ROWS: &[(&[u8], &str)] = &[
         (b"\x1b[2;9r", "at 1 1"),
         (b"\x1b[r", "at 1 1"),
         (b"\x1b[?6h", "at 1 1"),
@@ -141,12 +149,12 @@ fn settings_clear_it(rt: HostRuntime) -> Result<(), Fail> {
         (b"\x1b8", "at 1 1"),
         (b"\x1b[?2l\x1b<\x1b[?7l", "at 5 80"),
     ];
-    all_leave_cursor(&rt, rt.alloc(), PENDING, &rows)
+    all_leave_cursor(&rt, rt.alloc(), PENDING, ROWS)
 }
 
 #[test]
 fn on_a_double_line(rt: HostRuntime) -> Result<(), Fail> {
-    let rows: [(&[u8], &str); 19] = [
+    const ROWS: &[(&[u8], &str)] = &[
         (b"\x09", "at 5 40"),
         (b"\x1b[C", "at 5 40"),
         (b"\x1b[5;80H", "at 5 40"),
@@ -167,24 +175,24 @@ fn on_a_double_line(rt: HostRuntime) -> Result<(), Fail> {
         (b"\x1b[?2l\x1bK", "at 5 40 wrap"),
         (b"\x1b[m", "at 5 40 wrap"),
     ];
-    all_leave_cursor(&rt, rt.alloc(), DOUBLE, &rows)
+    all_leave_cursor(&rt, rt.alloc(), DOUBLE, ROWS)
 }
 
 // The two halves of a double height are double sizes too.
 #[test]
 fn erasing_a_double_height_clears_it(rt: HostRuntime) -> Result<(), Fail> {
-    let rows: [(&[u8], &str); 3] = [
+    const ROWS: &[(&[u8], &str)] = &[
         (b"\x1b[1J", "at 5 40"),
         (b"\x1b[2J", "at 5 40"),
         (b"\x1b[J", "at 5 40 wrap"),
     ];
-    all_leave_cursor(&rt, rt.alloc(), b"\x1b[5;1H\x1b#3\x1b[5;40HA", &rows)?;
-    all_leave_cursor(&rt, rt.alloc(), b"\x1b[5;1H\x1b#4\x1b[5;40HA", &rows)
+    all_leave_cursor(&rt, rt.alloc(), b"\x1b[5;1H\x1b#3\x1b[5;40HA", ROWS)?;
+    all_leave_cursor(&rt, rt.alloc(), b"\x1b[5;1H\x1b#4\x1b[5;40HA", ROWS)
 }
 
 #[test]
 fn restoring_sets_it(rt: HostRuntime) -> Result<(), Fail> {
-    let rows: [(&[u8], &str); 6] = [
+    const ROWS: &[(&[u8], &str)] = &[
         // What is saved comes back as it was saved ..
         (b"\x1b7\x1b[5;80H\x1b8", "at 5 80 wrap"),
         (b"\x1b7\x1b[9;9H\x1b8", "at 5 80 wrap"),
@@ -194,12 +202,12 @@ fn restoring_sets_it(rt: HostRuntime) -> Result<(), Fail> {
         (b"\x1b7\x1b[?3h\x1b8", "at 5 80"),
         (b"\x1b7\x1b#6\x1b8", "at 5 40 wrap"),
     ];
-    all_leave_cursor(&rt, rt.alloc(), PENDING, &rows)
+    all_leave_cursor(&rt, rt.alloc(), PENDING, ROWS)
 }
 
 #[test]
 fn erasing_a_single_line_leaves_it(rt: HostRuntime) -> Result<(), Fail> {
-    let rows: [(&[u8], &str); 8] = [
+    const ROWS: &[(&[u8], &str)] = &[
         (b"\x1b[J", "at 5 80 wrap"),
         (b"\x1b[1J", "at 5 80 wrap"),
         (b"\x1b[2J", "at 5 80 wrap"),
@@ -209,12 +217,12 @@ fn erasing_a_single_line_leaves_it(rt: HostRuntime) -> Result<(), Fail> {
         (b"\x1b[2K", "at 5 80 wrap"),
         (b"\x1b[3K", "at 5 80 wrap"),
     ];
-    all_leave_cursor(&rt, rt.alloc(), PENDING, &rows)
+    all_leave_cursor(&rt, rt.alloc(), PENDING, ROWS)
 }
 
 #[test]
 fn settings_that_leave_it(rt: HostRuntime) -> Result<(), Fail> {
-    let rows: [(&[u8], &str); 20] = [
+    const ROWS: &[(&[u8], &str)] = &[
         (b"\x1b[m", "at 5 80 wrap"),
         (b"\x1b[1;4;5;7m", "at 5 80 wrap"),
         (b"\x1bH", "at 5 80 wrap"),
@@ -236,12 +244,12 @@ fn settings_that_leave_it(rt: HostRuntime) -> Result<(), Fail> {
         (b"\x0e\x0f", "at 5 80 wrap"),
         (b"\x1b7", "at 5 80 wrap"),
     ];
-    all_leave_cursor(&rt, rt.alloc(), PENDING, &rows)
+    all_leave_cursor(&rt, rt.alloc(), PENDING, ROWS)
 }
 
 #[test]
 fn questions_and_what_has_no_effect_leave_it(rt: HostRuntime) -> Result<(), Fail> {
-    let rows: [(&[u8], &str); 13] = [
+    const ROWS: &[(&[u8], &str)] = &[
         (b"\x1bZ", "at 5 80 wrap"),
         (b"\x1b[c", "at 5 80 wrap"),
         (b"\x1b[5n\x1b[6n", "at 5 80 wrap"),
@@ -256,12 +264,12 @@ fn questions_and_what_has_no_effect_leave_it(rt: HostRuntime) -> Result<(), Fail
         (b"\x1b[4:3m\x1b[>c\x1b[1 q", "at 5 80 wrap"),
         (b"\x1bN\x1b#7\x1b(C\x1b<", "at 5 80 wrap"),
     ];
-    all_leave_cursor(&rt, rt.alloc(), PENDING, &rows)
+    all_leave_cursor(&rt, rt.alloc(), PENDING, ROWS)
 }
 
 #[test]
 fn what_leaves_it_in_vt52_mode(rt: HostRuntime) -> Result<(), Fail> {
-    let rows: [(&[u8], &str); 11] = [
+    const ROWS: &[(&[u8], &str)] = &[
         (b"\x1bF\x1bG", "at 5 80 wrap"),
         (b"\x1bZ", "at 5 80 wrap"),
         (b"\x1b=\x1b>", "at 5 80 wrap"),
@@ -274,20 +282,20 @@ fn what_leaves_it_in_vt52_mode(rt: HostRuntime) -> Result<(), Fail> {
         (b"\x1bY", "at 5 80 wrap"),
         (b"\x1bY$", "at 5 80 wrap"),
     ];
-    all_leave_cursor(&rt, rt.alloc(), VT52, &rows)
+    all_leave_cursor(&rt, rt.alloc(), VT52, ROWS)
 }
 
 // A character takes it, and at the right margin it is pending again where DECAWM is set.
 #[test]
 fn characters_take_it(rt: HostRuntime) -> Result<(), Fail> {
-    let rows: [(&[u8], &str); 5] = [
+    const ROWS: &[(&[u8], &str)] = &[
         (b"B", "at 6 2"),
         (b"\xc3", "at 6 2"),
         (b"\x1b[\x18", "at 6 2"),
         (b"B\x1b[79CB", "at 6 80 wrap"),
         (b"\x1b[?7lBB", "at 5 80"),
     ];
-    all_leave_cursor(&rt, rt.alloc(), PENDING, &rows)?;
-    let below: [(&[u8], &str); 1] = [(b"B", "at 24 2")];
-    all_leave_cursor(&rt, rt.alloc(), BELOW, &below)
+    all_leave_cursor(&rt, rt.alloc(), PENDING, ROWS)?;
+    const ROWS_BELOW: &[(&[u8], &str)] = &[(b"B", "at 24 2")];
+    all_leave_cursor(&rt, rt.alloc(), BELOW, ROWS_BELOW)
 }
