@@ -2,7 +2,7 @@
 use std::alloc::Global;
 use std::io;
 use std::io::{ErrorKind, Write};
-use tape_core::{Fault, Watched};
+use tape_core::Fault;
 
 /// A writer that takes at most three bytes a call, and that fails once it holds so many. A flush fails where it is to.
 #[derive(Drop)]
@@ -13,12 +13,12 @@ pub(crate) struct SmallWriter {
 }
 
 /// Such a writer that holds nothing yet.
-pub(crate) fn small_writer(alloc: Global, room: usize, flush_fails: bool) -> Watched<SmallWriter> {
-    Watched::new(SmallWriter {
+pub(crate) fn small_writer(alloc: Global, room: usize, flush_fails: bool) -> SmallWriter {
+    SmallWriter {
         taken: Vec::new(alloc),
         room,
         flush_fails,
-    })
+    }
 }
 
 /// What writing a text to such a writer is to answer, whether it is to have failed, and what it is to have taken.

@@ -174,7 +174,7 @@ fn a_failing_writer_holds_a_beginning(rt: HostRuntime) -> Result<(), Fail> {
     let whole = b"\x1b[?7l\x1b)0\x1b[1;1H\x1b[0;1mone\x1b[3;1H\x0eq\x1b[0m\x0f\x1b[?7h\x1b[3;2H";
     for room in 0..whole.len() + 2 {
         for flush_fails in [false, true] {
-            let mut writer = small_writer(rt.alloc(), room, flush_fails);
+            let mut writer = Watched::new(small_writer(rt.alloc(), room, flush_fails));
             let answer = escaped(&terminal, &mut writer);
             let failed = writer.failed();
             let taken = writer.into_inner().taken;

@@ -83,7 +83,7 @@ fn a_failing_writer_holds_a_beginning(rt: HostRuntime) -> Result<(), Fail> {
         "one\n\u{250c}\u{2500}\u{2510}\n\n  \u{2502}\n\n\n\n\n\n\n\n\n\n\n\n\n\n\n\n\n\n\n\n\n".as_bytes();
     for room in 0..whole.len() + 2 {
         for flush_fails in [false, true] {
-            let mut writer = small_writer(rt.alloc(), room, flush_fails);
+            let mut writer = Watched::new(small_writer(rt.alloc(), room, flush_fails));
             let answer = plain(&terminal, &mut writer);
             let failed = writer.failed();
             let taken = writer.into_inner().taken;

@@ -72,14 +72,21 @@ fn check_first_changes(
     Ok(())
 }
 
+/// Writes all change lines. What was sought stays sought, so only the rest needs memory.
+fn check_all_changes(
+    rt: &(impl Runtime<A = Global> + Abort),
+    session: &mut Session,
+) -> Result<(), Fail> {
+    let mut writer = Watched::new(room(rt)?);
+    changes(session, None, 9_000_000, &mut writer)?;
+    assert_eq!(rt; writer.into_inner().as_slice(), LINES);
+    assert_eq!(rt; (session.frontier(), session.held()), (3, 4));
+    Ok(())
+}
+
 #[test]
 fn change_lines(rt: HostRuntime) -> Result<(), Fail> {
     let mut session = opened(&rt)?;
-    let mut whole = Watched::new(room(&rt)?);
     check_first_changes(&rt, &mut session)?;
-    // What was sought stays sought, so only the rest needs memory.
-    changes(&mut session, None, 9_000_000, &mut whole)?;
-    assert_eq!(rt; whole.into_inner().as_slice(), LINES);
-    assert_eq!(rt; (session.frontier(), session.held()), (3, 4));
-    Ok(())
+    check_all_changes(&rt, &mut session)
 }

@@ -116,7 +116,7 @@ fn replaced(alloc: Global, session: &mut Session, at: usize, size: usize) -> Res
     applied(session, Edit::Replace { at, bytes })
 }
 
-/// Chunks of the most bytes and of one more: what edits that bring them answer, and what the log and the body then hold.
+/// Chunks of the most bytes and of one more: what edits that bring them answer, and what log and body then hold.
 fn long_chunks(alloc: Global, session: &mut Session) -> ([Result<(), EditFault>; 3], (usize, u64)) {
     let answers = [
         inserted(alloc, session, 1, LONGEST_CHUNK),

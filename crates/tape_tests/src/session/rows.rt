@@ -20,22 +20,23 @@ const TEN: &[Timed<'static>] = &[
     ("1", b"9"),
 ];
 
+const ONE_REPORT: &[Row<'static>] = &[
+    (
+        Line(b"reports 0"),
+        "count 2 fed 2 sent E[?1;2c 1:x",
+        (2, 2, 1),
+    ),
+    (Line(b"delete 0 1"), "ok", (0, 0, 1)),
+    (Line(b"reports 0"), "count 1 fed 1 1:x", (1, 1, 1)),
+    (Line(b"screen 0"), "count 1 fed 0 1:x", (1, 1, 1)),
+    (Line(b"log"), "delete 0 1\n", (1, 1, 1)),
+    (Line(b"info"), "1 chunks, 1 bytes, 0 us", (1, 1, 1)),
+];
+
 #[test]
 fn a_report_goes_with_its_chunk(rt: HostRuntime) -> Result<(), Fail> {
     let mut session = opened(rt.alloc(), &[("0", b"\x1b[c"), ("0", b"x")], 100)?;
-    let rows: [Row; 6] = [
-        (
-            Line(b"reports 0"),
-            "count 2 fed 2 sent E[?1;2c 1:x",
-            (2, 2, 1),
-        ),
-        (Line(b"delete 0 1"), "ok", (0, 0, 1)),
-        (Line(b"reports 0"), "count 1 fed 1 1:x", (1, 1, 1)),
-        (Line(b"screen 0"), "count 1 fed 0 1:x", (1, 1, 1)),
-        (Line(b"log"), "delete 0 1\n", (1, 1, 1)),
-        (Line(b"info"), "1 chunks, 1 bytes, 0 us", (1, 1, 1)),
-    ];
-    compare(&rt, rt.alloc(), &mut session, &rows)
+    compare(&rt, rt.alloc(), &mut session, ONE_REPORT)
 }
 
 /// An insertion, a request for what the terminal is in front of RIS, and another behind it.
@@ -53,175 +54,183 @@ fn inserting(alloc: Global, profile: Profile) -> Result<Session, Fail> {
     Ok(Session::open_as(alloc, recording, 2, profile)?)
 }
 
+const OF_A_VT102: &[Row<'static>] = &[
+    (Count(3), "count 3 fed 3 sent E[?6c 1:XYab", (3, 3, 2)),
+    (Count(2), "count 2 fed 0 1:ab", (3, 2, 2)),
+    (Count(1), "count 1 fed 1 1:ab", (3, 1, 2)),
+    (Count(5), "count 5 fed 3 sent E[?6cE[?6c 1:c", (5, 5, 3)),
+    (Count(0), "count 0 fed 0", (5, 0, 3)),
+    (Count(1), "count 1 fed 1 1:ab", (5, 1, 3)),
+];
+
 /// A VT102 inserts, answers as itself, and stays one from stored terminals, from the start and after RIS.
 #[test]
 fn a_session_of_a_vt102(rt: HostRuntime) -> Result<(), Fail> {
     let mut session = inserting(rt.alloc(), Profile::Vt102)?;
-    let rows: [Row; 6] = [
-        (Count(3), "count 3 fed 3 sent E[?6c 1:XYab", (3, 3, 2)),
-        (Count(2), "count 2 fed 0 1:ab", (3, 2, 2)),
-        (Count(1), "count 1 fed 1 1:ab", (3, 1, 2)),
-        (Count(5), "count 5 fed 3 sent E[?6cE[?6c 1:c", (5, 5, 3)),
-        (Count(0), "count 0 fed 0", (5, 0, 3)),
-        (Count(1), "count 1 fed 1 1:ab", (5, 1, 3)),
-    ];
-    compare(&rt, rt.alloc(), &mut session, &rows)
+    compare(&rt, rt.alloc(), &mut session, OF_A_VT102)
 }
+
+const OF_A_VT100: &[Row<'static>] = &[
+    (Count(3), "count 3 fed 3 sent E[?1;2c 1:XY", (3, 3, 2)),
+    (Count(5), "count 5 fed 2 sent E[?1;2cE[?1;2c 1:c", (5, 5, 3)),
+];
 
 #[test]
 fn a_session_of_a_vt100(rt: HostRuntime) -> Result<(), Fail> {
     let mut session = inserting(rt.alloc(), Profile::Vt100)?;
-    let rows: [Row; 2] = [
-        (Count(3), "count 3 fed 3 sent E[?1;2c 1:XY", (3, 3, 2)),
-        (Count(5), "count 5 fed 2 sent E[?1;2cE[?1;2c 1:c", (5, 5, 3)),
-    ];
-    compare(&rt, rt.alloc(), &mut session, &rows)
+    compare(&rt, rt.alloc(), &mut session, OF_A_VT100)
 }
+
+const STORED: &[Row<'static>] = &[
+    (
+        Line(b"screen 10"),
+        "count 10 fed 10 1:01234567",
+        (10, 10, 3),
+    ),
+    (Line(b"screen 5"), "count 5 fed 1 1:01234", (10, 5, 3)),
+    (Line(b"replace 6 2d"), "ok", (6, 5, 2)),
+    (Line(b"screen 10"), "count 10 fed 5 1:012345-7", (10, 10, 3)),
+    (Line(b"retime 0 2"), "ok", (10, 10, 3)),
+    (Line(b"screen 11"), "count 10 fed 0 1:012345-7", (10, 10, 3)),
+    (
+        Line(b"screen 10.999999"),
+        "count 9 fed 1 1:012345-7",
+        (10, 9, 3),
+    ),
+    // Each delay becomes half a second at most.
+    (Line(b"cap 0.5"), "ok", (10, 9, 3)),
+    (Line(b"screen 5"), "count 10 fed 1 1:012345-7", (10, 10, 3)),
+    (Line(b"screen 4.75"), "count 9 fed 1 1:012345-7", (10, 9, 3)),
+    (Line(b"info"), "10 chunks, 10 bytes, 5000000 us", (10, 9, 3)),
+    (
+        Line(b"log"),
+        "replace 6 2d\nretime 0 2.000000\ncap 0.500000\n",
+        (10, 9, 3),
+    ),
+];
 
 #[test]
 fn stored_terminals_through_edits(rt: HostRuntime) -> Result<(), Fail> {
     let mut session = opened(rt.alloc(), TEN, 4)?;
-    let rows: [Row; 12] = [
-        (
-            Line(b"screen 10"),
-            "count 10 fed 10 1:01234567",
-            (10, 10, 3),
-        ),
-        (Line(b"screen 5"), "count 5 fed 1 1:01234", (10, 5, 3)),
-        (Line(b"replace 6 2d"), "ok", (6, 5, 2)),
-        (Line(b"screen 10"), "count 10 fed 5 1:012345-7", (10, 10, 3)),
-        (Line(b"retime 0 2"), "ok", (10, 10, 3)),
-        (Line(b"screen 11"), "count 10 fed 0 1:012345-7", (10, 10, 3)),
-        (
-            Line(b"screen 10.999999"),
-            "count 9 fed 1 1:012345-7",
-            (10, 9, 3),
-        ),
-        // Each delay becomes half a second at most.
-        (Line(b"cap 0.5"), "ok", (10, 9, 3)),
-        (Line(b"screen 5"), "count 10 fed 1 1:012345-7", (10, 10, 3)),
-        (Line(b"screen 4.75"), "count 9 fed 1 1:012345-7", (10, 9, 3)),
-        (Line(b"info"), "10 chunks, 10 bytes, 5000000 us", (10, 9, 3)),
-        (
-            Line(b"log"),
-            "replace 6 2d\nretime 0 2.000000\ncap 0.500000\n",
-            (10, 9, 3),
-        ),
-    ];
-    compare(&rt, rt.alloc(), &mut session, &rows)
+    compare(&rt, rt.alloc(), &mut session, STORED)
 }
+
+const NO_CHUNKS: &[Row<'static>] = &[
+    (Count(0), "count 0 fed 0", (0, 0, 1)),
+    (Line(b"delete 0 0"), "BadRange", (0, 0, 1)),
+    (Line(b"delete 0 1"), "BadRange", (0, 0, 1)),
+    (Line(b"replace 0 -"), "NoSuchChunk", (0, 0, 1)),
+    (Line(b"retime 0 0"), "NoSuchChunk", (0, 0, 1)),
+    // The first fault that holds.
+    (Line(b"insert 1 1000000.000001 -"), "NoSuchChunk", (0, 0, 1)),
+    (Line(b"cap 0"), "ok", (0, 0, 1)),
+    (Line(b"insert 0 1000000 61"), "ok", (0, 0, 1)),
+    (Line(b"screen 1000000"), "count 1 fed 1 1:a", (1, 1, 2)),
+    (
+        Line(b"log"),
+        "cap 0.000000\ninsert 0 1000000.000000 61\n",
+        (1, 1, 2),
+    ),
+];
 
 #[test]
 fn edits_of_no_chunks(rt: HostRuntime) -> Result<(), Fail> {
     let mut session = opened(rt.alloc(), &[], 1)?;
-    let rows: [Row; 10] = [
-        (Count(0), "count 0 fed 0", (0, 0, 1)),
-        (Line(b"delete 0 0"), "BadRange", (0, 0, 1)),
-        (Line(b"delete 0 1"), "BadRange", (0, 0, 1)),
-        (Line(b"replace 0 -"), "NoSuchChunk", (0, 0, 1)),
-        (Line(b"retime 0 0"), "NoSuchChunk", (0, 0, 1)),
-        // The first fault that holds.
-        (Line(b"insert 1 1000000.000001 -"), "NoSuchChunk", (0, 0, 1)),
-        (Line(b"cap 0"), "ok", (0, 0, 1)),
-        (Line(b"insert 0 1000000 61"), "ok", (0, 0, 1)),
-        (Line(b"screen 1000000"), "count 1 fed 1 1:a", (1, 1, 2)),
-        (
-            Line(b"log"),
-            "cap 0.000000\ninsert 0 1000000.000000 61\n",
-            (1, 1, 2),
-        ),
-    ];
-    compare(&rt, rt.alloc(), &mut session, &rows)
+    compare(&rt, rt.alloc(), &mut session, NO_CHUNKS)
 }
+
+const REFUSED: &[Row<'static>] = &[
+    (Count(7), "count 7 fed 7 1:0123456", (7, 7, 3)),
+    (Line(b"delete 3 3"), "BadRange", (7, 7, 3)),
+    (Line(b"delete 4 3"), "BadRange", (7, 7, 3)),
+    (Line(b"delete 0 11"), "BadRange", (7, 7, 3)),
+    (Line(b"insert 11 0 -"), "NoSuchChunk", (7, 7, 3)),
+    (
+        Line(b"insert 0 1000000.000001 -"),
+        "DelayTooLarge",
+        (7, 7, 3),
+    ),
+    (Line(b"replace 10 -"), "NoSuchChunk", (7, 7, 3)),
+    (Line(b"retime 10 0"), "NoSuchChunk", (7, 7, 3)),
+    (Line(b"retime 9 1000000.000001"), "DelayTooLarge", (7, 7, 3)),
+    (Line(b"cap 1000000.000001"), "DelayTooLarge", (7, 7, 3)),
+    (Line(b"log"), "", (7, 7, 3)),
+    (Line(b"info"), "10 chunks, 10 bytes, 10000000 us", (7, 7, 3)),
+    (Count(7), "count 7 fed 0 1:0123456", (7, 7, 3)),
+    (Line(b"cap 1000000"), "ok", (7, 7, 3)),
+    (Line(b"info"), "10 chunks, 10 bytes, 10000000 us", (7, 7, 3)),
+    (Count(2), "count 2 fed 2 1:01", (7, 2, 3)),
+    (Line(b"log"), "cap 1000000.000000\n", (7, 2, 3)),
+];
 
 #[test]
 fn refused_edits_change_nothing(rt: HostRuntime) -> Result<(), Fail> {
     let mut session = opened(rt.alloc(), TEN, 3)?;
-    let rows: [Row; 17] = [
-        (Count(7), "count 7 fed 7 1:0123456", (7, 7, 3)),
-        (Line(b"delete 3 3"), "BadRange", (7, 7, 3)),
-        (Line(b"delete 4 3"), "BadRange", (7, 7, 3)),
-        (Line(b"delete 0 11"), "BadRange", (7, 7, 3)),
-        (Line(b"insert 11 0 -"), "NoSuchChunk", (7, 7, 3)),
-        (
-            Line(b"insert 0 1000000.000001 -"),
-            "DelayTooLarge",
-            (7, 7, 3),
-        ),
-        (Line(b"replace 10 -"), "NoSuchChunk", (7, 7, 3)),
-        (Line(b"retime 10 0"), "NoSuchChunk", (7, 7, 3)),
-        (Line(b"retime 9 1000000.000001"), "DelayTooLarge", (7, 7, 3)),
-        (Line(b"cap 1000000.000001"), "DelayTooLarge", (7, 7, 3)),
-        (Line(b"log"), "", (7, 7, 3)),
-        (Line(b"info"), "10 chunks, 10 bytes, 10000000 us", (7, 7, 3)),
-        (Count(7), "count 7 fed 0 1:0123456", (7, 7, 3)),
-        (Line(b"cap 1000000"), "ok", (7, 7, 3)),
-        (Line(b"info"), "10 chunks, 10 bytes, 10000000 us", (7, 7, 3)),
-        (Count(2), "count 2 fed 2 1:01", (7, 2, 3)),
-        (Line(b"log"), "cap 1000000.000000\n", (7, 2, 3)),
-    ];
-    compare(&rt, rt.alloc(), &mut session, &rows)
+    compare(&rt, rt.alloc(), &mut session, REFUSED)
 }
+
+const CUT: &[Row<'static>] = &[
+    (Count(4), "count 4 fed 4 sent E[1;1RE[?1;2c", (4, 4, 5)),
+    (
+        Count(2),
+        "count 2 fed 0 in Csi { private: false, params: [6], over: false }",
+        (4, 2, 5),
+    ),
+    (Count(3), "count 3 fed 0 sent E[1;1R", (4, 3, 5)),
+    (Line(b"replace 2 63"), "ok", (2, 2, 3)),
+    // Parameter 6 of a device attributes request is of no effect.
+    (Count(4), "count 4 fed 2 sent E[?1;2c", (4, 4, 5)),
+    (Count(3), "count 3 fed 0", (4, 3, 5)),
+    (Line(b"delete 0 1"), "ok", (0, 0, 1)),
+    (Count(3), "count 3 fed 3 sent E[?1;2c 1:6c", (3, 3, 4)),
+    (Count(0), "count 0 fed 0", (3, 0, 4)),
+];
 
 #[test]
 fn sequences_cut_by_chunks(rt: HostRuntime) -> Result<(), Fail> {
     let chunks: [(&str, &[u8]); 4] = [("0", b"\x1b["), ("0", b"6"), ("0", b"n"), ("0", b"\x1b[c")];
     let mut session = opened(rt.alloc(), &chunks, 1)?;
-    let rows: [Row; 9] = [
-        (Count(4), "count 4 fed 4 sent E[1;1RE[?1;2c", (4, 4, 5)),
-        (
-            Count(2),
-            "count 2 fed 0 in Csi { private: false, params: [6], over: false }",
-            (4, 2, 5),
-        ),
-        (Count(3), "count 3 fed 0 sent E[1;1R", (4, 3, 5)),
-        (Line(b"replace 2 63"), "ok", (2, 2, 3)),
-        // Parameter 6 of a device attributes request is of no effect.
-        (Count(4), "count 4 fed 2 sent E[?1;2c", (4, 4, 5)),
-        (Count(3), "count 3 fed 0", (4, 3, 5)),
-        (Line(b"delete 0 1"), "ok", (0, 0, 1)),
-        (Count(3), "count 3 fed 3 sent E[?1;2c 1:6c", (3, 3, 4)),
-        (Count(0), "count 0 fed 0", (3, 0, 4)),
-    ];
-    compare(&rt, rt.alloc(), &mut session, &rows)
+    compare(&rt, rt.alloc(), &mut session, CUT)
 }
+
+const WRAPPED: &[Row<'static>] = &[
+    (Count(2), "count 2 fed 2 1:AAAAAAAA 2:B", (2, 2, 3)),
+    (Count(1), "count 1 fed 0 1:AAAAAAAA wrap", (2, 1, 3)),
+    (Count(2), "count 2 fed 0 1:AAAAAAAA 2:B", (2, 2, 3)),
+    (Count(0), "count 0 fed 0", (2, 0, 3)),
+];
 
 #[test]
 fn a_pending_wrap_is_stored(rt: HostRuntime) -> Result<(), Fail> {
     let line = vec![in rt.alloc(); b'A'; 80]?;
     let mut session = opened(rt.alloc(), &[("0", line.as_slice()), ("0", b"B")], 1)?;
-    let rows: [Row; 4] = [
-        (Count(2), "count 2 fed 2 1:AAAAAAAA 2:B", (2, 2, 3)),
-        (Count(1), "count 1 fed 0 1:AAAAAAAA wrap", (2, 1, 3)),
-        (Count(2), "count 2 fed 0 1:AAAAAAAA 2:B", (2, 2, 3)),
-        (Count(0), "count 0 fed 0", (2, 0, 3)),
-    ];
-    compare(&rt, rt.alloc(), &mut session, &rows)
+    compare(&rt, rt.alloc(), &mut session, WRAPPED)
 }
+
+const BEHIND: &[Row<'static>] = &[
+    (Count(10), "count 10 fed 10 1:01234567", (10, 10, 3)),
+    (Line(b"replace 6 2d"), "ok", (6, 4, 2)),
+    (Count(6), "count 6 fed 2 1:012345", (6, 6, 2)),
+    (Count(10), "count 10 fed 4 1:012345-7", (10, 10, 3)),
+    // An edit exactly at a stored terminal's count keeps it.
+    (Line(b"delete 8 9"), "ok", (8, 8, 3)),
+    (Count(4), "count 4 fed 0 1:0123", (8, 4, 3)),
+    (Line(b"insert 4 0 2a"), "ok", (4, 4, 2)),
+    (Count(5), "count 5 fed 1 1:0123*", (5, 5, 2)),
+    // At the frontier and past it nothing is given up.
+    (Line(b"insert 5 0 2b"), "ok", (5, 5, 2)),
+    (Line(b"replace 10 -"), "ok", (5, 5, 2)),
+    (Count(8), "count 8 fed 3 1:0123*+45", (8, 8, 3)),
+    (Line(b"insert 3 0 1b5b324a"), "ok", (3, 0, 1)),
+    (Count(3), "count 3 fed 3 1:012", (3, 3, 1)),
+    // ED without a way home: what comes next stands where it stood.
+    (Count(5), "count 5 fed 2 1:   3", (5, 5, 2)),
+    (Line(b"delete 0 12"), "ok", (0, 0, 1)),
+    (Count(0), "count 0 fed 0", (0, 0, 1)),
+];
 
 #[test]
 fn the_head_goes_back_behind_an_edit(rt: HostRuntime) -> Result<(), Fail> {
     let mut session = opened(rt.alloc(), TEN, 4)?;
-    let rows: [Row; 16] = [
-        (Count(10), "count 10 fed 10 1:01234567", (10, 10, 3)),
-        (Line(b"replace 6 2d"), "ok", (6, 4, 2)),
-        (Count(6), "count 6 fed 2 1:012345", (6, 6, 2)),
-        (Count(10), "count 10 fed 4 1:012345-7", (10, 10, 3)),
-        // An edit exactly at a stored terminal's count keeps it.
-        (Line(b"delete 8 9"), "ok", (8, 8, 3)),
-        (Count(4), "count 4 fed 0 1:0123", (8, 4, 3)),
-        (Line(b"insert 4 0 2a"), "ok", (4, 4, 2)),
-        (Count(5), "count 5 fed 1 1:0123*", (5, 5, 2)),
-        // At the frontier and past it nothing is given up.
-        (Line(b"insert 5 0 2b"), "ok", (5, 5, 2)),
-        (Line(b"replace 10 -"), "ok", (5, 5, 2)),
-        (Count(8), "count 8 fed 3 1:0123*+45", (8, 8, 3)),
-        (Line(b"insert 3 0 1b5b324a"), "ok", (3, 0, 1)),
-        (Count(3), "count 3 fed 3 1:012", (3, 3, 1)),
-        // ED without a way home: what comes next stands where it stood.
-        (Count(5), "count 5 fed 2 1:   3", (5, 5, 2)),
-        (Line(b"delete 0 12"), "ok", (0, 0, 1)),
-        (Count(0), "count 0 fed 0", (0, 0, 1)),
-    ];
-    compare(&rt, rt.alloc(), &mut session, &rows)
+    compare(&rt, rt.alloc(), &mut session, BEHIND)
 }

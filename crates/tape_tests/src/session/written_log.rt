@@ -87,7 +87,7 @@ fn a_failing_writer_holds_a_beginning(rt: HostRuntime) -> Result<(), Fail> {
     let edits = edits_of(rt.alloc(), &lines)?;
     for room in 0..whole.len() + 2 {
         for flush_fails in [false, true] {
-            let mut writer = small_writer(rt.alloc(), room, flush_fails);
+            let mut writer = Watched::new(small_writer(rt.alloc(), room, flush_fails));
             let answer = write_log(edits.as_slice(), &mut writer);
             let failed = writer.failed();
             let taken = writer.into_inner().taken;
