@@ -9,26 +9,6 @@ use std::rt::Runtime;
 use std::test::Fail;
 use vt_term::{Profile, Reports, Terminal};
 
-// The length of the list, and the place.
-fn held(reports: &Reports) -> (usize, usize) {
-    (reports.bytes().len(), reports.place())
-}
-
-// Memory was refused: terminal, list and place are as before, and the same call then answers.
-fn feed_again(
-    rt: &(impl Runtime<A = Global> + Abort),
-    left: &mut Left,
-    bytes: &[u8],
-    before: &Terminal,
-    held_before: (usize, usize),
-) -> Result<(), Fail> {
-    println!(rt; "refused: feed")?;
-    let is_same = are_same_terminals(&left.terminal, before);
-    assert!(rt; is_same && held(&left.reports) == held_before);
-    left.terminal.feed(bytes, &mut left.reports)?;
-    Ok(())
-}
-
 /// Feeds the bytes; where memory is refused, terminal, list and place are as before, and so once more.
 fn feed(
     rt: &(impl Runtime<A = Global> + Abort),
@@ -37,34 +17,38 @@ fn feed(
 ) -> Result<(), Fail> {
     let mut before = Terminal::reset();
     before.copy_from(&left.terminal);
-    let held_before = held(&left.reports);
-    if left.terminal.feed(bytes, &mut left.reports).is_ok() {
-        return Ok(());
-    }
-    feed_again(rt, left, bytes, &before, held_before)
-}
-
-fn feed_all(
-    rt: &(impl Runtime<A = Global> + Abort),
-    left: &mut Left,
-    pieces: &[&[u8]],
-) -> Result<(), Fail> {
-    for piece in pieces {
-        feed(rt, left, piece)?;
+    let held = (left.reports.bytes().len(), left.reports.place());
+    if left.terminal.feed(bytes, &mut left.reports).is_err() {
+        println!(rt; "refused: feed")?;
+        let holds = (left.reports.bytes().len(), left.reports.place());
+        assert_eq!(rt;
+            (are_same_terminals(&left.terminal, &before), holds),
+            (true, held)
+        );
+        left.terminal.feed(bytes, &mut left.reports)?;
     }
     Ok(())
 }
 
-fn has_sent(reports: &Reports, bytes: &[u8]) -> bool {
-    reports.bytes() == bytes && reports.place() == bytes.len()
+fn fed(rt: &(impl Runtime<A = Global> + Abort), pieces: &[&[u8]]) -> Result<Left, Fail> {
+    let mut left = reset_as(rt.alloc(), Profile::Vt100);
+    for piece in pieces {
+        feed(rt, &mut left, piece)?;
+    }
+    Ok(left)
+}
+
+// Whether the glyph is shown first, the list holds the bytes, and its place is their end.
+fn shows_and_sent(left: &Left, glyph: u8, bytes: &[u8]) -> bool {
+    left.terminal.screen().cell(1, 1).glyph == glyph
+        && left.reports.bytes() == bytes
+        && left.reports.place() == bytes.len()
 }
 
 #[test]
 fn a_first_report(rt: HostRuntime) -> Result<(), Fail> {
-    let mut left = reset_as(rt.alloc(), Profile::Vt100);
-    feed(&rt, &mut left, b"x\x1b[5n")?;
-    let glyph = left.terminal.screen().cell(1, 1).glyph;
-    assert_eq!(rt; (has_sent(&left.reports, b"\x1b[0n"), glyph), (true, b'x'));
+    let left = fed(&rt, &[b"x\x1b[5n"])?;
+    assert!(rt; shows_and_sent(&left, b'x', b"\x1b[0n"));
     Ok(())
 }
 
@@ -79,10 +63,8 @@ fn many_reports(rt: HostRuntime) -> Result<(), Fail> {
         b"5n\x1b[?2l\x1bZ\x1bY%",
         b"*\x1b<\x1b[x\x1b[x\x1b[x\x1b[x\x1b[x",
     ];
-    let mut one = reset_as(rt.alloc(), Profile::Vt100);
-    feed_all(&rt, &mut one, PIECES)?;
-    let mut other = reset_as(rt.alloc(), Profile::Vt100);
-    feed_all(&rt, &mut other, PIECES)?;
+    let one = fed(&rt, PIECES)?;
+    let other = fed(&rt, PIECES)?;
     // 6 of the cursor, 7 of the device, 7 times 20 of parameters, 6 of the cursor, 4 of the status and 3 of a VT52.
     let len = 6 + 7 + 140 + 6 + 4 + 3;
     assert_eq!(rt;
@@ -99,17 +81,12 @@ fn sends_the_same(reports: &mut Reports) -> bool {
     is_sent && reports.bytes() == b"\x1b[0n\x1b[?1;2c".as_slice()
 }
 
-fn send_the_same(rt: &impl Abort, reports: &mut Reports) {
-    for _ in 0..3 {
-        assert!(rt; sends_the_same(reports));
-    }
-}
-
 /// Fed again from the list's start, a terminal sends nothing new and takes no memory.
 #[test]
 fn no_growth_within_the_list(rt: HostRuntime) -> Result<(), Fail> {
-    let mut left = reset_as(rt.alloc(), Profile::Vt100);
-    feed(&rt, &mut left, b"\x1b[5n\x1b[c")?;
-    send_the_same(&rt, &mut left.reports);
+    let mut left = fed(&rt, &[b"\x1b[5n\x1b[c"])?;
+    for _ in 0..3 {
+        assert!(rt; sends_the_same(&mut left.reports));
+    }
     Ok(())
 }
