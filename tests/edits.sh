@@ -1,6 +1,6 @@
 #!/bin/sh
 # Tries the edits of tests/edits/CRATE/, the long form of crates/CRATE/must-fail/: the prover must refuse the crate with
-# each of them. Most turn a function that an edit of the gate turns in another way.
+# each of them. They turn private functions, or one that an edit of the gate turns in another way.
 set -e
 top=$(cd "$(dirname "$0")/.." && pwd)
 room=$(mktemp -d)
