@@ -87,14 +87,19 @@ fn parts_of_a_pair(rt: HostRuntime) -> Result<(), Fail> {
     Ok(())
 }
 
+/// Whether a chunk has these bytes.
+fn has_bytes(recording: &Recording, i: usize, bytes: &[u8]) -> bool {
+    match recording.chunks().get(i) {
+        Some(chunk) => chunk.bytes.as_slice() == bytes,
+        None => false,
+    }
+}
+
 #[test]
 fn chunks_of_a_pair(rt: HostRuntime) -> Result<(), Fail> {
     let recording = a_then_b(rt.alloc())?;
-    let texts = recording
-        .chunks()
-        .iter()
-        .map(|chunk| chunk.bytes.as_slice());
-    assert!(rt; texts.eq([b"a".as_slice(), b"b".as_slice()]));
+    assert_eq!(rt; recording.chunks().len(), 2);
+    assert!(rt; has_bytes(&recording, 0, b"a") && has_bytes(&recording, 1, b"b"));
     Ok(())
 }
 

@@ -6,6 +6,7 @@ use std::io::Read;
 use std::process::Abort;
 use std::rt::Runtime;
 use std::test::Fail;
+use tape_core::limits::LONGEST_DELAY;
 use tape_core::{Bytes, Chunk, Fault, Recording, Watched, read_recording, slurp};
 
 #[test]
@@ -68,9 +69,8 @@ fn insert(
     recording: &mut Recording,
     chunk: Chunk,
 ) -> Result<(), Fail> {
-    assert!(rt;
-        recording.chunks().len() == 3 && recording.body_len() == 3 && chunk.bytes.len() == 3
-    );
+    assert!(rt; recording.chunks().len() == 3 && recording.body_len() == 3);
+    assert!(rt; chunk.bytes.len() == 3 && chunk.delay <= LONGEST_DELAY);
     if let Err(back) = recording.insert(1, chunk) {
         println!(rt; "refused: insert")?;
         assert!(rt; has_chunks(recording, &[A, BB, EMPTY]));
