@@ -1,6 +1,7 @@
 //! Refused growths. `tests/refused.py` runs these with the first, second, .. growth of memory refused, until none is, and
 //! counts the lines `refused: WHAT`. After a refusal all is as it must be, and the same call then answers.
 use super::changes::{A, BB, EMPTY, NEW, has_chunks, three};
+use std::alloc::Global;
 use std::io;
 use std::io::Read;
 use std::process::Abort;
@@ -81,12 +82,20 @@ fn insert(
     Ok(())
 }
 
+/// Three chunks; where memory is refused, once more.
+fn chunks(rt: &impl Runtime<A = Global>) -> Result<Recording, Fail> {
+    match three(rt.alloc()) {
+        Ok(recording) => Ok(recording),
+        Err(_) => {
+            println!(rt; "refused: a recording")?;
+            Ok(three(rt.alloc())?)
+        }
+    }
+}
+
 #[test]
 fn an_insert(rt: HostRuntime) -> Result<(), Fail> {
-    let mut recording = match three(rt.alloc()) {
-        Ok(recording) => recording,
-        Err(_) => three(rt.alloc())?,
-    };
+    let mut recording = chunks(&rt)?;
     let bytes = match Bytes::copy_of(rt.alloc(), NEW.1) {
         Ok(bytes) => bytes,
         Err(_) => Bytes::copy_of(rt.alloc(), NEW.1)?,
