@@ -61,8 +61,8 @@ fn lines_of_another_form(rt: HostRuntime) {
 }
 
 #[test]
-fn lines_of_no_form(rt: HostRuntime) {
-    let rows: [(&[u8], Fault); 19] = [
+fn faults_of_lines(rt: HostRuntime) {
+    let rows: [(&[u8], Fault); 20] = [
         (b".\n", Fault::BadDelay(1)),
         (b"0\n", Fault::BadCount(1)),
         (b"0.500000\n", Fault::BadCount(1)),
@@ -80,6 +80,8 @@ fn lines_of_no_form(rt: HostRuntime) {
         (b"1000000.000001 0\n", Fault::DelayTooLarge(1)),
         (b"1000000000001.000000 0\n", Fault::DelayTooLarge(1)),
         (b"99999999999999999999.000000 0\n", Fault::DelayTooLarge(1)),
+        // A chunk may be as long as this; the script is too short for it.
+        (b"0.000000 1048576\n", Fault::ScriptShort(0)),
         (b"0.000000 1048577\n", Fault::ChunkTooLong(1)),
         (b"0.000000 99999999999999999999\n", Fault::ChunkTooLong(1)),
     ];
