@@ -1,11 +1,12 @@
 //! Refused growths. `tests/refused.py` runs these with the first, second, .. growth of memory refused, until none is, and
 //! counts the lines `refused: WHAT`. After a refusal all is as it must be, and the same call then answers.
+use crate::once_more::read;
 use screen_print::{ChangesFault, changes};
 use std::alloc::Global;
 use std::process::Abort;
 use std::rt::Runtime;
 use std::test::Fail;
-use tape_core::{Recording, Watched, read_recording};
+use tape_core::Watched;
 use tape_seek::Session;
 
 /// Three chunks, half a second apart, on lines 1, 3 and 1, and the first two with reports.
@@ -15,20 +16,9 @@ const TIMING: &[u8] = b"0.5 6\n0.5 11\n0.5 7\n";
 
 const LINES: &[u8] = b"0 0.500000 1\n1 1.000000 3\n2 1.500000 1\n";
 
-/// Reads the recording; where memory is refused, once more.
-fn read(rt: &impl Runtime<A = Global>) -> Result<Recording, Fail> {
-    match read_recording(rt.alloc(), SCRIPT, TIMING) {
-        Ok(recording) => Ok(recording),
-        Err(_) => {
-            println!(rt; "refused: a recording")?;
-            Ok(read_recording(rt.alloc(), SCRIPT, TIMING)?)
-        }
-    }
-}
-
 /// Opens a session with a terminal stored at each count; where memory is refused, once more.
 fn opened(rt: &impl Runtime<A = Global>) -> Result<Session, Fail> {
-    match Session::open(rt.alloc(), read(rt)?, 1) {
+    match Session::open(rt.alloc(), read(rt, SCRIPT, TIMING)?, 1) {
         Ok(session) => Ok(session),
         Err(back) => {
             println!(rt; "refused: open")?;

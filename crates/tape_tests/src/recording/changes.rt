@@ -5,8 +5,12 @@ use tape_core::laws::bodies_add_up;
 use tape_core::{Bytes, Chunk, Fault, Recording, read_recording};
 
 /// Three chunks: `a` at 1 second, `bb` at 3 seconds, and an empty one at the same moment.
-pub fn three(alloc: Global) -> Result<Recording, Fault> {
-    read_recording(alloc, b"head\nabbtail", b"1 1\n2 2\n0 0\n")
+pub const SCRIPT: &[u8] = b"head\nabbtail";
+
+pub const TIMING: &[u8] = b"1 1\n2 2\n0 0\n";
+
+fn three(alloc: Global) -> Result<Recording, Fault> {
+    read_recording(alloc, SCRIPT, TIMING)
 }
 
 /// A chunk's delay and bytes.

@@ -1,14 +1,14 @@
 //! Refused growths. `tests/refused.py` runs these with the first, second, .. growth of memory refused, until none is, and
 //! counts the lines `refused: WHAT`. After a refusal all is as it must be, and the same call then answers.
-use super::changes::{A, BB, EMPTY, NEW, has_chunks, three};
-use std::alloc::Global;
+use super::changes::{A, BB, EMPTY, NEW, SCRIPT, TIMING, has_chunks};
+use crate::once_more::{bytes, read};
 use std::io;
 use std::io::Read;
 use std::process::Abort;
 use std::rt::Runtime;
 use std::test::Fail;
 use tape_core::limits::LONGEST_DELAY;
-use tape_core::{Bytes, Chunk, Fault, Recording, Watched, read_recording, slurp};
+use tape_core::{Chunk, Fault, Recording, Watched, read_recording, slurp};
 
 #[test]
 fn a_slurp(rt: HostRuntime) -> Result<(), Fail> {
@@ -82,24 +82,10 @@ fn insert(
     Ok(())
 }
 
-/// Three chunks; where memory is refused, once more.
-fn chunks(rt: &impl Runtime<A = Global>) -> Result<Recording, Fail> {
-    match three(rt.alloc()) {
-        Ok(recording) => Ok(recording),
-        Err(_) => {
-            println!(rt; "refused: a recording")?;
-            Ok(three(rt.alloc())?)
-        }
-    }
-}
-
 #[test]
 fn an_insert(rt: HostRuntime) -> Result<(), Fail> {
-    let mut recording = chunks(&rt)?;
-    let bytes = match Bytes::copy_of(rt.alloc(), NEW.1) {
-        Ok(bytes) => bytes,
-        Err(_) => Bytes::copy_of(rt.alloc(), NEW.1)?,
-    };
+    let mut recording = read(&rt, SCRIPT, TIMING)?;
+    let bytes = bytes(&rt, NEW.1)?;
     let delay = NEW.0;
     insert(&rt, &mut recording, Chunk { delay, bytes })?;
     assert!(rt; has_chunks(&recording, &[A, NEW, BB, EMPTY]));

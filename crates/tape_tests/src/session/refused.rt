@@ -1,10 +1,11 @@
 //! Refused growths. `tests/refused.py` runs these with the first, second, .. growth of memory refused, until none is, and
 //! counts the lines `refused: WHAT`. After a refusal all is as before, and the same call then answers.
+use crate::once_more::{bytes, read};
 use std::alloc::Global;
 use std::process::Abort;
 use std::rt::Runtime;
 use std::test::Fail;
-use tape_core::{Bytes, Recording, read_recording};
+use tape_core::Recording;
 use tape_seek::{Edit, EditFault, LineFault, Refused, Request, Session, read_line};
 
 /// All that a session tells of itself, the recording by its numbers and a checksum.
@@ -36,17 +37,6 @@ fn told_by(session: &Session) -> State {
         recording: numbers(session.recording()),
         log: session.log().len(),
         marks: (session.frontier(), session.head(), session.held()),
-    }
-}
-
-/// Reads a recording; where memory is refused, once more.
-fn read(rt: &impl Runtime<A = Global>, script: &[u8], timing: &[u8]) -> Result<Recording, Fail> {
-    match read_recording(rt.alloc(), script, timing) {
-        Ok(recording) => Ok(recording),
-        Err(_) => {
-            println!(rt; "refused: a recording")?;
-            Ok(read_recording(rt.alloc(), script, timing)?)
-        }
     }
 }
 
@@ -169,17 +159,6 @@ fn applied_again(
     let after = (refused.fault, told_by(session));
     assert_eq!(rt; after, (EditFault::OutOfMemory, before));
     Ok(session.apply(refused.edit)?)
-}
-
-/// Bytes; where memory is refused, once more.
-fn bytes(rt: &impl Runtime<A = Global>, text: &[u8]) -> Result<Bytes, Fail> {
-    match Bytes::copy_of(rt.alloc(), text) {
-        Ok(bytes) => Ok(bytes),
-        Err(_) => {
-            println!(rt; "refused: bytes")?;
-            Ok(Bytes::copy_of(rt.alloc(), text)?)
-        }
-    }
 }
 
 /// Makes an edit of each kind.
