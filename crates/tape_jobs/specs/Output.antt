@@ -1,9 +1,6 @@
 -- What a job comes to: a function of its files, with no device and no want of memory in it.
-use Rattle.std.specs.Prelude.{◌≡◌, ℕ, ◌⊎◌, ◌∷◌, ◌++◌, Bool, true, false, List, [], Option, Some, None, MatchOption, Result, Ok, Err, if◌then◌else◌}
-use Rattle.hex.specs.Hex.{encode_lower}
+use Rattle.std.specs.Prelude.{◌≡◌, ℕ, ◌⊎◌, Bool, true, false, List, [], Option, Some, None, MatchOption, Result, Ok, Err, if◌then◌else◌}
 use Rattle.screen_print.specs.ChangeLines.{change_lines}
-use Rattle.screen_print.specs.EscapedText.{escaped_text}
-use Rattle.screen_print.specs.PlainText.{plain_text}
 use Rattle.tape_core.specs.Devices.{inner_of, Took, StoppedIn}
 use Rattle.tape_core.specs.Due.{due}
 use Rattle.tape_core.specs.Faults.{is_stop}
@@ -12,12 +9,12 @@ use Rattle.tape_core.specs.Tape.{Tape}
 use Rattle.tape_core.specs.Text.{lines_of}
 use Rattle.tape_core.specs.Written.{script_text, timing_text}
 use Rattle.tape_seek.specs.Moments.{term_at}
-use Rattle.vt_term.specs.Console.{Console}
 use Rattle.vt_term.specs.declared.profile.Profile.TheVariants.{Vt100}
 use Rattle.tape_seek.specs.declared.edits.EditFault.{EditFault}
 use Rattle.tape_core.specs.declared.devices.Watched.{Watched}
 use Rattle.tape_core.specs.declared.fault.Fault.TheVariants as fault
 use Rattle.tape_jobs.specs.Info.{info_text}
+use Rattle.tape_jobs.specs.Moment.{hex_line, screen_text}
 use Rattle.screen_print.specs.Stops.{Began}
 use Rattle.tape_jobs.specs.Requests.{saved, started}
 use Rattle.tape_jobs.specs.Session.{answered, any_refused}
@@ -61,11 +58,6 @@ writes_timing (Reports at profile) = false
 writes_timing Save = true
 writes_timing (Session every profile) = false
 
--- a screen, as a text that draws it again or as plain text (profile)
-abbrev pub screen_text : Bool → Console → List ℕ
-screen_text true s = escaped_text s
-screen_text false s = plain_text s.picture
-
 -- what a job comes to that is done with these texts (profile)
 abbrev pub done_with : List ℕ → List ℕ → Done
 done_with text timing = record { text = text; timing = timing; outcome = record { status = 0; fault = None } }
@@ -98,7 +90,7 @@ done_on (Due at) tape requests = done_with (due tape.chunks at) []
 done_on Info tape requests = done_with (info_text tape) []
 done_on (Screen at profile escaped) tape requests = done_with (screen_text escaped (term_at profile tape at).console) []
 done_on (Changes from to profile) tape requests = done_with (change_lines profile tape from to) []
-done_on (Reports at profile) tape requests = done_with (encode_lower (term_at profile tape at).reports ++ 10 ∷ []) []
+done_on (Reports at profile) tape requests = done_with (hex_line (term_at profile tape at).reports) []
 done_on Save tape requests = done_saving (saved 1 (started Vt100 tape) (lines_of requests))
 done_on (Session every profile) tape requests =
     done_answering (answered (started profile tape) (lines_of requests)) (any_refused (started profile tape) (lines_of requests))

@@ -1,11 +1,9 @@
 //! The terminal at a moment, and what it has sent by then: the jobs `screen` and `reports`, and those requests of a session.
 
-ghost use Rattle.std.specs.Prelude.{◌≡◌, ◌∷◌, ◌++◌, [], false, true, OnOk, IfErr, OnErr};
-ghost use Rattle.hex.specs.Hex.{encode_lower};
+ghost use Rattle.std.specs.Prelude.{◌≡◌, false, true, OnOk, IfErr, OnErr};
 ghost use Rattle.tape_core.specs.Devices.{has_failed, is_flushed, Took, StoppedIn};
 ghost use Rattle.tape_seek.specs.Moments.{term_at};
-ghost use Rattle.tape_jobs.specs.Moment.{StopsAt};
-ghost use Rattle.tape_jobs.specs.Output.{screen_text};
+ghost use Rattle.tape_jobs.specs.Moment.{StopsAt, hex_line, screen_text};
 ghost use Rattle.tape_jobs.specs.Requests.{course_of};
 
 use crate::job::JobFault;
@@ -65,6 +63,7 @@ pub fn put_screen<O: Write>(
 }
 
 /// Writes what a terminal shows, as plain text or as a text that draws it again, and flushes.
+#[tactic(auto, unfolding(crate::specs::Moment::screen_text))]
 fn put_print<O: Write>(
     terminal: &Terminal,
     escaped: bool,
@@ -94,10 +93,10 @@ pub fn write_reports<O: Write>(
 ) -> Result<(), JobFault>
     requires { has_failed out.old ≡ false }
     ensures ok { OnOk result (Took O.contents out.old out.new
-        (encode_lower (term_at profile recording at).reports ++ 10 ∷ [])) }
+        (hex_line (term_at profile recording at).reports)) }
     ensures flushed { OnOk result (is_flushed out.new ≡ true) }
     ensures fault { IfErr result (StopsAt O.contents out.old out.new
-        (encode_lower (term_at profile recording at).reports ++ 10 ∷ [])) }
+        (hex_line (term_at profile recording at).reports)) }
 {
     stops_join::<O>();
     let Ok(session) = Session::open_as(alloc, recording, EVERY, profile) else {
@@ -115,10 +114,10 @@ pub fn put_reports<O: Write>(
 ) -> Result<(), JobFault>
     requires { has_failed out.old ≡ false }
     ensures ok { OnOk result (Took O.contents out.old out.new
-        (encode_lower (term_at session.old.profile session.old.recording at).reports ++ 10 ∷ [])) }
+        (hex_line (term_at session.old.profile session.old.recording at).reports)) }
     ensures flushed { OnOk result (is_flushed out.new ≡ true) }
     ensures fault { IfErr result (StopsAt O.contents out.old out.new
-        (encode_lower (term_at session.old.profile session.old.recording at).reports ++ 10 ∷ [])) }
+        (hex_line (term_at session.old.profile session.old.recording at).reports)) }
     ensures stays { course_of session.new ≡ course_of session.old }
 {
     stops_join::<O>();
@@ -129,10 +128,10 @@ pub fn put_reports<O: Write>(
 /// Writes bytes in lower-case hexadecimal and then LF, and flushes.
 fn write_hex_line<O: Write>(bytes: &[u8], out: &mut Watched<O>) -> Result<(), Fault>
     requires { has_failed out.old ≡ false }
-    ensures ok { OnOk result (Took O.contents out.old out.new (encode_lower bytes.now ++ 10 ∷ [])) }
+    ensures ok { OnOk result (Took O.contents out.old out.new (hex_line bytes.now)) }
     ensures flushed { OnOk result (is_flushed out.new ≡ true) }
     ensures fault { IfErr result (λ fault. fault ≡ Fault.WriteFault) }
-    ensures stopped { OnErr result (StoppedIn O.contents out.old out.new (encode_lower bytes.now ++ 10 ∷ [])) }
+    ensures stopped { OnErr result (StoppedIn O.contents out.old out.new (hex_line bytes.now)) }
 {
     writers_join::<O>();
     put_hex(bytes, out)?;
