@@ -1,7 +1,109 @@
 //! Jobs over readers and writers in memory, and the words of command lines.
 
+use std::alloc::Global;
+use std::process::Abort;
+use std::test::Fail;
+use tape_core::Watched;
+use tape_jobs::{Job, Outcome};
+
 mod jobs;
 mod moments;
 mod run;
 mod session;
 mod words;
+
+/// The header of the scripts here, of 20 bytes.
+const HEADER: &[u8] = b"Script started on X\n";
+
+/// Two chunks of a byte each, half a second apart.
+const AB: &str = "0.000000 1\n0.500000 1\n";
+
+/// A job over texts in memory: the script without its header, the timing and the request lines, and then both texts that
+/// come out and the outcome.
+#[derive(Clone, Copy)]
+struct Case<'a> {
+    job: Job,
+    body: &'a str,
+    timing: &'a str,
+    requests: &'a str,
+    text: &'a str,
+    new_timing: &'a str,
+    outcome: Outcome,
+}
+
+/// The outcome of a job that is done.
+const DONE: Outcome = Outcome {
+    status: 0,
+    fault: None,
+};
+
+/// A job without requests or a new timing, which is done.
+fn done<'a>(job: Job, body: &'a str, timing: &'a str, text: &'a str) -> Case<'a> {
+    Case {
+        job,
+        body,
+        timing,
+        requests: "",
+        text,
+        new_timing: "",
+        outcome: DONE,
+    }
+}
+
+/// Both texts that a job wrote, and how it ended.
+#[derive(Drop)]
+struct Ended {
+    outcome: Outcome,
+    text: Vec<u8>,
+    new_timing: Vec<u8>,
+}
+
+/// Does a job over texts in memory.
+fn do_job(alloc: Global, job: Job, script: &[u8], timing: &[u8], requests: &[u8]) -> Ended {
+    let mut out = Watched::new(Vec::new(alloc));
+    let mut out_timing = Watched::new(Vec::new(alloc));
+    let outcome = tape_jobs::run(
+        alloc,
+        job,
+        &mut Watched::new(script),
+        &mut Watched::new(timing),
+        &mut Watched::new(requests),
+        &mut out,
+        &mut out_timing,
+    );
+    Ended {
+        outcome,
+        text: out.into_inner(),
+        new_timing: out_timing.into_inner(),
+    }
+}
+
+/// Does a job in memory, and compares what came out.
+fn compare<R: Abort + AllocGlobal>(rt: &R, case: &Case<'_>) -> Result<(), Fail> {
+    let script = [HEADER, case.body.as_bytes()].concat(rt.alloc())?;
+    compare_over(rt, script.as_slice(), case);
+    Ok(())
+}
+
+/// Does a job over this script, and compares what came out.
+fn compare_over<R: Abort + AllocGlobal>(rt: &R, script: &[u8], case: &Case<'_>) {
+    let timing = case.timing.as_bytes();
+    let requests = case.requests.as_bytes();
+    let ended = do_job(rt.alloc(), case.job, script, timing, requests);
+    assert_eq!(rt;
+        (
+            ended.outcome,
+            ended.text.as_slice(),
+            ended.new_timing.as_slice()
+        ),
+        (
+            case.outcome,
+            case.text.as_bytes(),
+            case.new_timing.as_bytes()
+        ),
+        "{:?} {:?} {:?}",
+        case.job,
+        case.timing,
+        case.requests
+    );
+}

@@ -1,50 +1,14 @@
+use super::{AB, Case, DONE, compare, done};
 use std::process::Abort;
 use std::test::Fail;
-use tape_core::{Fault, Watched};
-use tape_jobs::{Job, JobFault, Outcome, run};
+use tape_core::Fault;
+use tape_jobs::{Job, JobFault, Outcome};
 use tape_seek::EditFault;
 use vt_term::Profile;
 
-const HEADER: &[u8] = b"Script started on X\n";
-
-/// A job over texts in memory: the script without its header, the timing and the request lines, and then both texts that
-/// come out and the outcome.
-#[derive(Drop)]
-struct Row<'a> {
-    job: Job,
-    body: &'a str,
-    timing: &'a str,
-    requests: &'a str,
-    text: &'a str,
-    new_timing: &'a str,
-    outcome: Outcome,
-}
-
-/// The outcome of a job that is done.
-const DONE: Outcome = Outcome {
-    status: 0,
-    fault: None,
-};
-
-/// A row of a job without requests or a new timing, which is done.
-fn done<'a>(job: Job, body: &'a str, timing: &'a str, text: &'a str) -> Row<'a> {
-    Row {
-        job,
-        body,
-        timing,
-        requests: "",
-        text,
-        new_timing: "",
-        outcome: DONE,
-    }
-}
-
-/// Two chunks of a byte each, half a second apart.
-const AB: &str = "0.000000 1\n0.500000 1\n";
-
 #[test]
 fn info_tells_what_a_recording_holds(rt: HostRuntime) -> Result<(), Fail> {
-    compare(
+    compare_all(
         &rt,
         &[
             done(
@@ -65,7 +29,7 @@ fn info_tells_what_a_recording_holds(rt: HostRuntime) -> Result<(), Fail> {
                 "1000000 1\n-3 0\n1.0000019 2",
                 "chunks 3\nbytes 3\nlength 1000001.000001\nheader 20\ntrailer 2\n",
             ),
-            Row {
+            Case {
                 job: Job::Info,
                 body: "",
                 timing: "0 1\n",
@@ -104,20 +68,20 @@ fn changes_tells_what_each_chunk_changes(rt: HostRuntime) -> Result<(), Fail> {
             to,
             profile: Profile::Vt100,
         };
-        compare(&rt, &[done(job, THREE, THREE_TIMING, text)])?;
+        compare(&rt, &done(job, THREE, THREE_TIMING, text))?;
     }
     Ok(())
 }
 
-/// A row of `save` over a body, a timing and request lines, which is done: the new script and the new timing.
+/// A case of `save` over a body, a timing and request lines, which is done: the new script and the new timing.
 fn saved<'a>(
     body: &'a str,
     timing: &'a str,
     requests: &'a str,
     new_body: &'a str,
     new_timing: &'a str,
-) -> Row<'a> {
-    Row {
+) -> Case<'a> {
+    Case {
         job: Job::Save,
         body,
         timing,
@@ -128,9 +92,9 @@ fn saved<'a>(
     }
 }
 
-/// A row of `save` over two chunks, whose line of this number is refused.
-fn refused<'a>(requests: &'a str, line: u64, fault: EditFault) -> Row<'a> {
-    Row {
+/// A case of `save` over two chunks, whose line of this number is refused.
+fn refused<'a>(requests: &'a str, line: u64, fault: EditFault) -> Case<'a> {
+    Case {
         job: Job::Save,
         body: "ab",
         timing: AB,
@@ -146,7 +110,7 @@ fn refused<'a>(requests: &'a str, line: u64, fault: EditFault) -> Row<'a> {
 
 #[test]
 fn save_writes_both_files(rt: HostRuntime) -> Result<(), Fail> {
-    compare(
+    compare_all(
         &rt,
         &[
             saved("ab", AB, "", "Script started on X\nab", AB),
@@ -184,7 +148,7 @@ fn save_writes_both_files(rt: HostRuntime) -> Result<(), Fail> {
 
 #[test]
 fn save_refuses_a_line_and_writes_nothing(rt: HostRuntime) -> Result<(), Fail> {
-    compare(
+    compare_all(
         &rt,
         &[
             refused("delete 0 1\n\ndelete 5 6\n", 3, EditFault::BadRange),
@@ -195,7 +159,7 @@ fn save_refuses_a_line_and_writes_nothing(rt: HostRuntime) -> Result<(), Fail> {
             refused("cap 1\ncap\n", 2, EditFault::BadLine),
             refused("cap 1 2\n", 1, EditFault::BadLine),
             refused("insert 0 0 61\r\n", 1, EditFault::BadLine),
-            Row {
+            Case {
                 job: Job::Save,
                 body: "ab",
                 timing: "0 3\n",
@@ -212,35 +176,9 @@ fn save_refuses_a_line_and_writes_nothing(rt: HostRuntime) -> Result<(), Fail> {
 }
 
 /// Does each job in memory, and compares what came out.
-fn compare<R: Abort + AllocGlobal>(rt: &R, rows: &[Row<'_>]) -> Result<(), Fail> {
-    for row in rows {
-        let script = [HEADER, row.body.as_bytes()].concat(rt.alloc())?;
-        let mut out = Watched::new(Vec::new(rt.alloc()));
-        let mut out_timing = Watched::new(Vec::new(rt.alloc()));
-        let outcome = run(
-            rt.alloc(),
-            row.job,
-            &mut Watched::new(script.as_slice()),
-            &mut Watched::new(row.timing.as_bytes()),
-            &mut Watched::new(row.requests.as_bytes()),
-            &mut out,
-            &mut out_timing,
-        );
-        assert_eq!(rt; outcome, row.outcome, "{:?} {:?}", row.job, row.requests);
-        assert_eq!(rt;
-            out.into_inner().as_slice(),
-            row.text.as_bytes(),
-            "{:?} {:?}",
-            row.job,
-            row.requests
-        );
-        assert_eq!(rt;
-            out_timing.into_inner().as_slice(),
-            row.new_timing.as_bytes(),
-            "{:?} {:?}",
-            row.job,
-            row.requests
-        );
+fn compare_all<R: Abort + AllocGlobal>(rt: &R, cases: &[Case<'_>]) -> Result<(), Fail> {
+    for case in cases {
+        compare(rt, case)?;
     }
     Ok(())
 }

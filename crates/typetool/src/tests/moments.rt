@@ -1,14 +1,11 @@
+use super::{AB, compare, done};
 use std::alloc::{AllocError, Global};
-use std::io;
 use std::process::Abort;
 use std::test::Fail;
-use tape_core::Watched;
-use tape_jobs::{Job, Outcome, run};
+use tape_jobs::Job;
 use vt_term::Profile;
 
 mod profiles;
-
-const HEADER: &str = "Script started on X\n";
 
 /// Half of a line's 80 columns.
 const A40: &str = "AAAAAAAAAAAAAAAAAAAAAAAAAAAAAAAAAAAAAAAA";
@@ -34,7 +31,7 @@ type Row<'a> = (&'a [&'a str], &'a [&'a str], &'a str);
 
 #[test]
 fn sequences_and_strings(rt: HostRuntime) -> Result<(), Fail> {
-    compare(
+    compare_all(
         &rt,
         &[
             (&[], &[], ""),
@@ -50,7 +47,7 @@ fn sequences_and_strings(rt: HostRuntime) -> Result<(), Fail> {
 
 #[test]
 fn cursor_wrap_and_erasing(rt: HostRuntime) -> Result<(), Fail> {
-    compare(
+    compare_all(
         &rt,
         &[
             (
@@ -74,7 +71,7 @@ fn cursor_wrap_and_erasing(rt: HostRuntime) -> Result<(), Fail> {
 
 #[test]
 fn margins_origin_and_tabs(rt: HostRuntime) -> Result<(), Fail> {
-    compare(
+    compare_all(
         &rt,
         &[
             (
@@ -98,7 +95,7 @@ fn margins_origin_and_tabs(rt: HostRuntime) -> Result<(), Fail> {
 
 #[test]
 fn sizes_sets_and_saving(rt: HostRuntime) -> Result<(), Fail> {
-    compare(
+    compare_all(
         &rt,
         &[
             (&[A40, "AAAAAAAAAA\x1b#6"], &[A40], ""),
@@ -118,7 +115,7 @@ fn sizes_sets_and_saving(rt: HostRuntime) -> Result<(), Fail> {
 
 #[test]
 fn replies_and_vt52(rt: HostRuntime) -> Result<(), Fail> {
-    compare(
+    compare_all(
         &rt,
         &[
             (
@@ -144,38 +141,37 @@ fn replies_and_vt52(rt: HostRuntime) -> Result<(), Fail> {
 fn the_alignment_pattern(rt: HostRuntime) -> Result<(), Fail> {
     let line = [E40, E40, "\n"].concat(rt.alloc())?;
     let text = line.as_str().repeat(rt.alloc(), 24)?;
-    let screen = Job::Screen {
-        at: 0,
-        profile: Profile::Vt100,
-        escaped: false,
-    };
-    let written = play(&rt, screen, b"\x1b[3;3H\x1b#8", "0 9\n")?;
-    assert_eq!(rt; written.as_slice(), text.as_str().as_bytes());
-    Ok(())
+    let fed = "\x1b[3;3H\x1b#8";
+    compare(&rt, &done(screen(0), fed, "0 9\n", text.as_str()))
 }
+
+/// A body, a timing and a moment, and what is then shown and was sent.
+type Moment<'a> = (&'a str, &'a str, u64, &'a str, &'a str);
+
+/// Two requests for a report, the second one whole half a second later.
+const TWO_REQUESTS: &str = "\x1b[5n\x1b[5n";
+
+/// The last moment before half a second, and half a second.
+const BEFORE: u64 = 499_999;
+
+const HALF: u64 = 500_000;
+
+const MOMENTS: [Moment<'static>; 7] = [
+    ("", "", 7_000_000, "", ""),
+    ("ab", AB, BEFORE, "a", ""),
+    ("ab", AB, HALF, "ab", ""),
+    ("\x1b[31;4mX", "0 3\n0.5 5\n", BEFORE, "", ""),
+    ("\x1b[31;4mX", "0 3\n0.5 5\n", HALF, "X", ""),
+    (TWO_REQUESTS, "0 7\n0.5 1\n", BEFORE, "", "1b5b306e"),
+    (TWO_REQUESTS, "0 7\n0.5 1\n", HALF, "", "1b5b306e1b5b306e"),
+];
 
 /// What is due counts alone, and sequences go on over chunks.
 #[test]
 fn moments(rt: HostRuntime) -> Result<(), Fail> {
-    let half = 500_000;
-    let rows: [(&str, &str, u64, &str, &str); 7] = [
-        ("", "", 7_000_000, "", ""),
-        ("ab", "0.000000 1\n0.500000 1\n", half - 1, "a", ""),
-        ("ab", "0.000000 1\n0.500000 1\n", half, "ab", ""),
-        ("\x1b[31;4mX", "0 3\n0.5 5\n", half - 1, "", ""),
-        ("\x1b[31;4mX", "0 3\n0.5 5\n", half, "X", ""),
-        ("\x1b[5n\x1b[5n", "0 7\n0.5 1\n", half - 1, "", "1b5b306e"),
-        (
-            "\x1b[5n\x1b[5n",
-            "0 7\n0.5 1\n",
-            half,
-            "",
-            "1b5b306e1b5b306e",
-        ),
-    ];
-    for (body, timing, at, shown, sent) in rows {
-        shows(&rt, at, body.as_bytes(), timing, &[shown])?;
-        sends(&rt, at, body.as_bytes(), timing, sent)?;
+    for (body, timing, at, shown, sent) in &MOMENTS {
+        shows(&rt, *at, body, timing, &[shown])?;
+        sends(&rt, *at, body, timing, sent)?;
     }
     Ok(())
 }
@@ -185,54 +181,61 @@ fn moments(rt: HostRuntime) -> Result<(), Fail> {
 fn many_replies(rt: HostRuntime) -> Result<(), Fail> {
     let body = "\x1b[5n".repeat(rt.alloc(), 25_000)?;
     let sent = "1b5b306e".repeat(rt.alloc(), 25_000)?;
-    sends(
-        &rt,
-        0,
-        body.as_str().as_bytes(),
-        "0 100000\n",
-        sent.as_str(),
-    )
+    sends(&rt, 0, body.as_str(), "0 100000\n", sent.as_str())
 }
 
 /// Feeds each row's text as one chunk, and compares screen and replies.
-fn compare<R: Abort + AllocGlobal>(rt: &R, rows: &[Row<'_>]) -> Result<(), Fail> {
+fn compare_all<R: Abort + AllocGlobal>(rt: &R, rows: &[Row<'_>]) -> Result<(), Fail> {
     for (fed, shown, sent) in rows {
-        let body = fed.concat(rt.alloc())?;
-        let timing = format!(in rt.alloc(); "0 {}\n", body.len())?;
-        shows(rt, 0, body.as_str().as_bytes(), timing.as_str(), shown)?;
-        sends(rt, 0, body.as_str().as_bytes(), timing.as_str(), sent)?;
+        compare_chunk(rt, fed, shown, sent)?;
     }
     Ok(())
+}
+
+/// Feeds a text in parts as one chunk, and compares screen and replies.
+fn compare_chunk<R: Abort + AllocGlobal>(
+    rt: &R,
+    fed: &[&str],
+    shown: &[&str],
+    sent: &str,
+) -> Result<(), Fail> {
+    let body = fed.concat(rt.alloc())?;
+    let timing = one_chunk(rt.alloc(), body.as_str())?;
+    shows(rt, 0, body.as_str(), timing.as_str(), shown)?;
+    sends(rt, 0, body.as_str(), timing.as_str(), sent)
+}
+
+/// The timing of one chunk that comes at once.
+fn one_chunk(alloc: Global, body: &str) -> Result<String, AllocError> {
+    format!(in alloc; "0 {}\n", body.len())
+}
+
+/// The job that tells what a VT100 shows at a moment.
+fn screen(at: u64) -> Job {
+    Job::Screen {
+        at,
+        profile: Profile::Vt100,
+        escaped: false,
+    }
 }
 
 /// Sees what a VT100 shows at a moment.
 fn shows<R: Abort + AllocGlobal>(
     rt: &R,
     at: u64,
-    body: &[u8],
+    body: &str,
     timing: &str,
     shown: &[&str],
 ) -> Result<(), Fail> {
-    let screen = Job::Screen {
-        at,
-        profile: Profile::Vt100,
-        escaped: false,
-    };
     let text = screen_text(rt.alloc(), shown)?;
-    let written = play(rt, screen, body, timing)?;
-    assert_eq!(rt;
-        written.as_slice(),
-        text.as_str().as_bytes(),
-        "{body:?} at {at}"
-    );
-    Ok(())
+    compare(rt, &done(screen(at), body, timing, text.as_str()))
 }
 
 /// Sees what a VT100 has sent by a moment.
 fn sends<R: Abort + AllocGlobal>(
     rt: &R,
     at: u64,
-    body: &[u8],
+    body: &str,
     timing: &str,
     sent: &str,
 ) -> Result<(), Fail> {
@@ -240,14 +243,8 @@ fn sends<R: Abort + AllocGlobal>(
         at,
         profile: Profile::Vt100,
     };
-    let line = format!(in rt.alloc(); "{sent}\n")?;
-    let written = play(rt, reports, body, timing)?;
-    assert_eq!(rt;
-        written.as_slice(),
-        line.as_str().as_bytes(),
-        "{body:?} at {at}"
-    );
-    Ok(())
+    let line = [sent, "\n"].concat(rt.alloc())?;
+    compare(rt, &done(reports, body, timing, line.as_str()))
 }
 
 /// The 24 lines of a screen from its parts, without the empty lines at the end.
@@ -263,30 +260,4 @@ fn screen_text(alloc: Global, shown: &[&str]) -> Result<String, AllocError> {
         text.push_str("\n")?;
     }
     Ok(text)
-}
-
-/// Does a job in memory, and answers what it wrote.
-fn play<R: Abort + AllocGlobal>(
-    rt: &R,
-    job: Job,
-    body: &[u8],
-    timing: &str,
-) -> Result<Vec<u8>, Fail> {
-    let script = [HEADER.as_bytes(), body].concat(rt.alloc())?;
-    let mut out = Watched::new(Vec::new(rt.alloc()));
-    let outcome = run(
-        rt.alloc(),
-        job,
-        &mut Watched::new(script.as_slice()),
-        &mut Watched::new(timing.as_bytes()),
-        &mut Watched::new(io::empty()),
-        &mut out,
-        &mut Watched::new(io::sink()),
-    );
-    let done = Outcome {
-        status: 0,
-        fault: None,
-    };
-    assert_eq!(rt; outcome, done);
-    Ok(out.into_inner())
 }

@@ -1,15 +1,9 @@
+use super::{AB, Case, compare};
 use std::alloc::{AllocError, Global};
-use std::io;
 use std::process::Abort;
 use std::test::Fail;
-use tape_core::Watched;
-use tape_jobs::{Job, Outcome, WordsFault, read_words, run};
+use tape_jobs::{Job, Outcome, WordsFault, read_words};
 use vt_term::Profile;
-
-const HEADER: &[u8] = b"Script started on X\n";
-
-/// Two chunks of a byte each, half a second apart.
-const AB: &str = "0.000000 1\n0.500000 1\n";
 
 /// Twenty-three lines' ends: a screen of which the first line alone shows something.
 const LINES_23: &str = "\n\n\n\n\n\n\n\n\n\n\n\n\n\n\n\n\n\n\n\n\n\n\n";
@@ -74,7 +68,7 @@ const ANSWERS: [Row<'static>; 7] = [
 #[test]
 fn each_line_is_answered(rt: HostRuntime) -> Result<(), Fail> {
     for row in &ANSWERS {
-        compare(&rt, session(100), row)?;
+        compare_row(&rt, session(100), row)?;
     }
     Ok(())
 }
@@ -91,33 +85,28 @@ fn sessions_of_any_every_answer_alike(rt: HostRuntime) -> Result<(), Fail> {
         0,
     );
     for every in [0, 1, 2, 100, 1_000_000, 1_000_001, usize::MAX] {
-        compare(&rt, session(every), &row)?;
+        compare_row(&rt, session(every), &row)?;
     }
     Ok(())
 }
 
 /// Does the job in memory, and compares what came out.
-fn compare<R: Abort + AllocGlobal>(rt: &R, job: Job, row: &Row<'_>) -> Result<(), Fail> {
+fn compare_row<R: Abort + AllocGlobal>(rt: &R, job: Job, row: &Row<'_>) -> Result<(), Fail> {
     let (body, timing, requests, text, status) = *row;
-    let script = [HEADER, body.as_bytes()].concat(rt.alloc())?;
-    let mut out = Watched::new(Vec::new(rt.alloc()));
-    let outcome = run(
-        rt.alloc(),
-        job,
-        &mut Watched::new(script.as_slice()),
-        &mut Watched::new(timing.as_bytes()),
-        &mut Watched::new(requests.as_bytes()),
-        &mut out,
-        &mut Watched::new(io::sink()),
-    );
-    let wanted = Outcome {
+    let outcome = Outcome {
         status,
         fault: None,
     };
-    assert_eq!(rt; outcome, wanted, "{requests:?}");
-    let written: Vec<u8> = out.into_inner();
-    assert_eq!(rt; written.as_slice(), text.as_bytes(), "{requests:?}");
-    Ok(())
+    let case = Case {
+        job,
+        body,
+        timing,
+        requests,
+        text,
+        new_timing: "",
+        outcome,
+    };
+    compare(rt, &case)
 }
 
 /// The command line with this flag, if there is one.

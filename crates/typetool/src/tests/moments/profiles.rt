@@ -1,5 +1,7 @@
 //! The jobs `screen`, `reports` and `changes` of a VT102, and the escaped print.
-use super::{play, screen_text};
+use super::{one_chunk, screen_text};
+use crate::tests::{compare, done};
+use std::process::Abort;
 use std::test::Fail;
 use tape_jobs::Job;
 use vt_term::Profile;
@@ -26,53 +28,60 @@ const EDITED: [(&str, &str, &str, &str); 6] = [
 fn a_vt102_edits_lines_and_cells(rt: HostRuntime) -> Result<(), Fail> {
     for (first, then, vt100, vt102) in EDITED {
         let body = [first, then].concat(rt.alloc())?;
-        let timing = format!(in rt.alloc(); "0 {}\n", body.len())?;
-        for (profile, shown) in [(Profile::Vt100, vt100), (Profile::Vt102, vt102)] {
-            let screen = Job::Screen {
-                at: 0,
-                profile,
-                escaped: false,
-            };
-            let text = screen_text(rt.alloc(), &[shown])?;
-            let written = play(&rt, screen, body.as_str().as_bytes(), timing.as_str())?;
-            assert_eq!(rt;
-                written.as_slice(),
-                text.as_str().as_bytes(),
-                "{then:?} {profile:?}"
-            );
-        }
+        compare_screen(&rt, Profile::Vt100, body.as_str(), vt100)?;
+        compare_screen(&rt, Profile::Vt102, body.as_str(), vt102)?;
     }
     Ok(())
 }
+
+/// Feeds a terminal of this profile one chunk, and compares its screen.
+fn compare_screen<R: Abort + AllocGlobal>(
+    rt: &R,
+    profile: Profile,
+    body: &str,
+    shown: &str,
+) -> Result<(), Fail> {
+    let screen = Job::Screen {
+        at: 0,
+        profile,
+        escaped: false,
+    };
+    let timing = one_chunk(rt.alloc(), body)?;
+    let text = screen_text(rt.alloc(), &[shown])?;
+    compare(rt, &done(screen, body, timing.as_str(), text.as_str()))
+}
+
+/// What a request for the attributes of each profile is answered.
+const ATTRIBUTES: [(Profile, &str); 2] = [
+    (Profile::Vt100, "1b5b3f313b3263\n"),
+    (Profile::Vt102, "1b5b3f3663\n"),
+];
 
 #[test]
 fn profiles_answer_for_themselves(rt: HostRuntime) -> Result<(), Fail> {
-    let rows = [
-        (Profile::Vt100, "1b5b3f313b3263\n"),
-        (Profile::Vt102, "1b5b3f3663\n"),
-    ];
-    for (profile, line) in rows {
+    for (profile, line) in ATTRIBUTES {
         let reports = Job::Reports { at: 0, profile };
-        let written = play(&rt, reports, b"\x1b[c", "0 3\n")?;
-        assert_eq!(rt; written.as_slice(), line.as_bytes());
+        compare(&rt, &done(reports, "\x1b[c", "0 3\n", line))?;
     }
     Ok(())
 }
 
+/// Which lines each profile changes where one is deleted in the second chunk.
+const CHANGED: [(Profile, &str); 2] = [
+    (Profile::Vt100, "0 0.000000 1 2\n"),
+    (Profile::Vt102, "0 0.000000 1 2\n1 0.500000 1 2\n"),
+];
+
 #[test]
 fn changes_of_a_vt102(rt: HostRuntime) -> Result<(), Fail> {
-    let rows = [
-        (Profile::Vt100, "0 0.000000 1 2\n"),
-        (Profile::Vt102, "0 0.000000 1 2\n1 0.500000 1 2\n"),
-    ];
-    for (profile, lines) in rows {
+    for (profile, lines) in CHANGED {
         let changes = Job::Changes {
             from: None,
             to: 500_000,
             profile,
         };
-        let written = play(&rt, changes, b"a\r\nb\x1b[H\x1b[M", "0 4\n0.5 6\n")?;
-        assert_eq!(rt; written.as_slice(), lines.as_bytes());
+        let fed = "a\r\nb\x1b[H\x1b[M";
+        compare(&rt, &done(changes, fed, "0 4\n0.5 6\n", lines))?;
     }
     Ok(())
 }
@@ -97,16 +106,24 @@ const DRAWN: [(&str, &str); 4] = [
 #[test]
 fn the_escaped_print_of_a_moment(rt: HostRuntime) -> Result<(), Fail> {
     for (body, text) in DRAWN {
-        let timing = format!(in rt.alloc(); "0 {}\n", body.len())?;
-        for profile in [Profile::Vt100, Profile::Vt102] {
-            let screen = Job::Screen {
-                at: 0,
-                profile,
-                escaped: true,
-            };
-            let written = play(&rt, screen, body.as_bytes(), timing.as_str())?;
-            assert_eq!(rt; written.as_slice(), text.as_bytes(), "{body:?}");
-        }
+        compare_drawn(&rt, Profile::Vt100, body, text)?;
+        compare_drawn(&rt, Profile::Vt102, body, text)?;
     }
     Ok(())
+}
+
+/// Feeds a terminal of this profile one chunk, and compares the text that draws its screen again.
+fn compare_drawn<R: Abort + AllocGlobal>(
+    rt: &R,
+    profile: Profile,
+    body: &str,
+    text: &str,
+) -> Result<(), Fail> {
+    let screen = Job::Screen {
+        at: 0,
+        profile,
+        escaped: true,
+    };
+    let timing = one_chunk(rt.alloc(), body)?;
+    compare(rt, &done(screen, body, timing.as_str(), text))
 }

@@ -1,4 +1,5 @@
 //! Every job over devices that take or tell one byte a call, each of which fails in turn.
+use crate::tests::DONE;
 use std::io;
 use std::io::{ErrorKind, Read, Write};
 use std::process::Abort;
@@ -250,38 +251,52 @@ fn stopped(fault: Fault) -> Outcome {
     }
 }
 
+/// A run over sound devices: both texts go out whole, with one flush, and request lines are read where the job takes them.
+fn compare_sound<R: Abort + AllocGlobal>(rt: &R, case: &Case) {
+    let ran = run_slowly(rt, case, NONE_FAILS, Failure::None, Failure::None);
+    assert_eq!(rt;
+        (ran.outcome, ran.requests_calls > 0),
+        (DONE, case.reads_requests)
+    );
+    assert!(rt; !ran.out.failed() && !ran.out_timing.failed());
+    let (out, out_timing) = (ran.out.into_inner(), ran.out_timing.into_inner());
+    assert_eq!(rt;
+        (
+            out.taken.as_slice(),
+            out_timing.taken.as_slice(),
+            out.flushes
+        ),
+        (case.text, case.new_timing, 1),
+        "{:?}",
+        case.job
+    );
+}
+
 #[test]
 fn jobs_over_slow_devices(rt: HostRuntime) {
     for case in &cases() {
-        let ran = run_slowly(&rt, case, NONE_FAILS, Failure::None, Failure::None);
-        assert_eq!(rt;
-            ran.outcome,
-            Outcome {
-                status: 0,
-                fault: None
-            }
-        );
-        assert!(rt; !ran.out.failed() && !ran.out_timing.failed());
-        assert_eq!(rt; ran.requests_calls > 0, case.reads_requests);
-        let out = ran.out.into_inner();
-        assert_eq!(rt; out.taken.as_slice(), case.text, "{:?}", case.job);
-        assert_eq!(rt; out.flushes, 1);
-        let out_timing = ran.out_timing.into_inner();
-        assert_eq!(rt; out_timing.taken.as_slice(), case.new_timing);
+        compare_sound(&rt, case);
     }
+}
+
+/// Whether no reader was called again after the call that failed.
+fn is_not_retried(ran: &Ran, failing: Failing) -> bool {
+    ran.script_calls <= failing.script.saturating_add(1)
+        && ran.timing_calls <= failing.timing.saturating_add(1)
+        && ran.requests_calls <= failing.requests.saturating_add(1)
 }
 
 /// A run whose reader fails: no call comes after the failed one, and nothing is written.
 fn compare_unread<R: Abort + AllocGlobal>(rt: &R, case: &Case, failing: Failing) {
     let ran = run_slowly(rt, case, failing, Failure::None, Failure::None);
     assert_eq!(rt; ran.outcome, stopped(Fault::ReadFault), "{:?}", case.job);
-    assert!(rt; ran.script_calls <= failing.script.saturating_add(1));
-    assert!(rt; ran.timing_calls <= failing.timing.saturating_add(1));
-    assert!(rt; ran.requests_calls <= failing.requests.saturating_add(1));
-    let out = ran.out.into_inner();
-    assert_eq!(rt; (out.calls, out.flushes), (0, 0), "nothing is written");
-    let out_timing = ran.out_timing.into_inner();
-    assert_eq!(rt; (out_timing.calls, out_timing.flushes), (0, 0));
+    assert!(rt; is_not_retried(&ran, failing));
+    let (out, out_timing) = (ran.out.into_inner(), ran.out_timing.into_inner());
+    assert_eq!(rt;
+        (out.calls, out.flushes, out_timing.calls, out_timing.flushes),
+        (0, 0, 0, 0),
+        "nothing is written"
+    );
 }
 
 #[test]
@@ -355,11 +370,13 @@ fn compare_first<R: Abort + AllocGlobal>(rt: &R, case: &Case, failure: Failure, 
         case.job
     );
     assert!(rt; ran.out.failed() && !ran.out_timing.failed());
-    let out = ran.out.into_inner();
-    assert_eq!(rt; out.calls, calls.saturating_add(1), "no fault is retried");
-    assert_eq!(rt; out.flushes, 0);
+    let (out, out_timing) = (ran.out.into_inner(), ran.out_timing.into_inner());
+    assert_eq!(rt;
+        (out.calls, out.flushes, out_timing.calls),
+        (calls.saturating_add(1), 0, 0),
+        "no fault is retried"
+    );
     assert_eq!(rt; Some(out.taken.as_slice()), case.text.get(..calls));
-    assert_eq!(rt; ran.out_timing.into_inner().calls, 0);
 }
 
 #[test]
@@ -372,17 +389,22 @@ fn a_writer_that_fails_stops_the_job(rt: HostRuntime) {
     }
 }
 
+/// A run whose first writer fails at its flush: its text is whole, and no flush is tried again.
+fn compare_unflushed<R: Abort + AllocGlobal>(rt: &R, case: &Case, failure: Failure) {
+    let ran = run_slowly(rt, case, NONE_FAILS, failure, Failure::None);
+    assert_eq!(rt; ran.outcome, stopped(Fault::WriteFault), "{:?}", case.job);
+    let (out, out_timing) = (ran.out.into_inner(), ran.out_timing.into_inner());
+    assert_eq!(rt;
+        (out.taken.as_slice(), out.flushes, out_timing.calls),
+        (case.text, 1, 0)
+    );
+}
+
 #[test]
 fn a_flush_that_fails_stops_the_job(rt: HostRuntime) {
     for case in &cases() {
-        for failure in [Failure::FirstFlush, Failure::EachFlush] {
-            let ran = run_slowly(&rt, case, NONE_FAILS, failure, Failure::None);
-            assert_eq!(rt; ran.outcome, stopped(Fault::WriteFault), "{:?}", case.job);
-            let out = ran.out.into_inner();
-            assert_eq!(rt; out.taken.as_slice(), case.text);
-            assert_eq!(rt; out.flushes, 1, "no flush is tried again");
-            assert_eq!(rt; ran.out_timing.into_inner().calls, 0);
-        }
+        compare_unflushed(&rt, case, Failure::FirstFlush);
+        compare_unflushed(&rt, case, Failure::EachFlush);
     }
 }
 
@@ -395,13 +417,14 @@ fn compare_second<R: Abort + AllocGlobal>(rt: &R, case: &Case, failure: Failure,
         "{:?} {failure:?}",
         case.job
     );
-    let out = ran.out.into_inner();
-    assert_eq!(rt; out.taken.as_slice(), case.text);
-    assert_eq!(rt; out.flushes, 1);
-    let out_timing = ran.out_timing.into_inner();
+    let (out, out_timing) = (ran.out.into_inner(), ran.out_timing.into_inner());
     assert_eq!(rt;
-        Some(out_timing.taken.as_slice()),
-        case.new_timing.get(..taken)
+        (
+            out.taken.as_slice(),
+            out.flushes,
+            Some(out_timing.taken.as_slice())
+        ),
+        (case.text, 1, case.new_timing.get(..taken))
     );
     assert!(rt; out_timing.flushes <= 1, "no flush is tried again");
 }

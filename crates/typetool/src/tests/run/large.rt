@@ -1,10 +1,10 @@
 //! A pair of 4 MiB through the jobs that write it again: what grows has to grow far. Real files of 40 MiB pass in tests/program.sh.
-use super::HEADER;
+use super::{HEADER, do_job};
+use crate::tests::DONE;
 use std::alloc::Global;
 use std::process::Abort;
 use std::test::Fail;
-use tape_core::Watched;
-use tape_jobs::{Job, Outcome, run};
+use tape_jobs::Job;
 
 const CHUNKS: usize = 4;
 
@@ -33,24 +33,10 @@ fn compare<R: Abort + AllocGlobal>(
     given: (&[u8], &[u8]),
     wanted: (&[u8], &[u8]),
 ) {
-    let mut out = Watched::new(Vec::new(rt.alloc()));
-    let mut out_timing = Watched::new(Vec::new(rt.alloc()));
-    let outcome = run(
-        rt.alloc(),
-        job,
-        &mut Watched::new(given.0),
-        &mut Watched::new(given.1),
-        &mut Watched::new(b"".as_slice()),
-        &mut out,
-        &mut out_timing,
-    );
-    let done = Outcome {
-        status: 0,
-        fault: None,
-    };
-    assert_eq!(rt; outcome, done);
-    assert!(rt; out.into_inner().as_slice() == wanted.0, "{job:?}");
-    assert!(rt; out_timing.into_inner().as_slice() == wanted.1, "{job:?}");
+    let ended = do_job(rt.alloc(), job, given.0, given.1, b"");
+    assert_eq!(rt; ended.outcome, DONE);
+    let texts = (ended.text.as_slice(), ended.new_timing.as_slice());
+    assert!(rt; texts == wanted, "{job:?}");
 }
 
 #[test]

@@ -1,12 +1,13 @@
 //! Refused growths. `tests/refused.py` runs these with the first, second, .. growth of memory refused, until none is, and
 //! counts the lines `refused: WHAT`. After a refusal a beginning has gone out, or nothing while the files are read, and
 //! the same job then answers.
+use crate::tests::{DONE, Ended};
 use std::alloc::Global;
 use std::process::Abort;
 use std::rt::Runtime;
 use std::test::Fail;
 use tape_core::{Fault, Watched};
-use tape_jobs::{Job, JobFault, Outcome, run};
+use tape_jobs::{Job, JobFault, run};
 use vt_term::Profile;
 
 /// Three chunks, half a second apart, on lines 1, 3 and 1, and the first two with reports.
@@ -31,14 +32,6 @@ fn plain_case(job: Job, text: &'static [u8]) -> Case {
         text,
         new_timing: b"",
     }
-}
-
-/// Both texts that a job wrote, and how it ended.
-#[derive(Drop)]
-struct Ended {
-    outcome: Outcome,
-    text: Vec<u8>,
-    new_timing: Vec<u8>,
 }
 
 /// Room for either text; where memory is refused, once more.
@@ -76,34 +69,44 @@ fn do_job(rt: &(impl Runtime<A = Global> + Abort), case: Case) -> Result<Ended, 
 fn compare(rt: &(impl Runtime<A = Global> + Abort), case: Case) -> Result<(), Fail> {
     let ended = do_job(rt, case)?;
     let Some(fault) = ended.outcome.fault else {
-        return compare_whole(rt, case, &ended);
+        compare_whole(rt, case, &ended);
+        return Ok(());
     };
     println!(rt; "refused: a job")?;
     assert_eq!(rt; ended.outcome.status, 3);
-    assert!(rt; case.text.starts_with(ended.text.as_slice()));
-    assert!(rt; ended.text.len() < case.text.len());
-    assert!(rt; ended.new_timing.is_empty());
-    if fault != JobFault::Memory {
-        assert_eq!(rt; fault, JobFault::File(Fault::OutOfMemory));
-        assert!(rt; ended.text.is_empty());
-    }
-    compare_whole(rt, case, &do_job(rt, case)?)
+    compare_begun(rt, case, &ended, fault);
+    compare_whole(rt, case, &do_job(rt, case)?);
+    Ok(())
 }
 
-/// Whether a job is done and wrote both texts whole.
-fn compare_whole(
+/// Sees that a beginning of the text went out, or nothing where memory was refused as the files were read.
+fn compare_begun(
     rt: &(impl Runtime<A = Global> + Abort),
     case: Case,
     ended: &Ended,
-) -> Result<(), Fail> {
-    let done = Outcome {
-        status: 0,
-        fault: None,
-    };
-    assert_eq!(rt; ended.outcome, done);
-    assert_eq!(rt; ended.text.as_slice(), case.text);
-    assert_eq!(rt; ended.new_timing.as_slice(), case.new_timing);
-    Ok(())
+    fault: JobFault,
+) {
+    let begun = ended.text.as_slice();
+    assert!(rt; case.text.starts_with(begun) && begun.len() < case.text.len());
+    assert!(rt; ended.new_timing.is_empty());
+    if fault != JobFault::Memory {
+        assert_eq!(rt;
+            (fault, begun),
+            (JobFault::File(Fault::OutOfMemory), b"".as_slice())
+        );
+    }
+}
+
+/// Sees that a job is done and wrote both texts whole.
+fn compare_whole(rt: &(impl Runtime<A = Global> + Abort), case: Case, ended: &Ended) {
+    assert_eq!(rt;
+        (
+            ended.outcome,
+            ended.text.as_slice(),
+            ended.new_timing.as_slice()
+        ),
+        (DONE, case.text, case.new_timing)
+    );
 }
 
 #[test]
