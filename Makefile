@@ -26,7 +26,7 @@ test:
 	tests/limits.py bin/typetool
 	tests/memory.py bin/typetool
 	tests/damage.py bin/typetool 500
-	tests/refused.py 1 3 12
+	tests/refused.py 1 12
 
 # The long forms: more limits on memory, 20,000 damaged pairs, every growth refused in turn, and more wrong bodies.
 soak: bin/typetool

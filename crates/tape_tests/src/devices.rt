@@ -2,7 +2,8 @@
 use std::alloc::Global;
 use std::io;
 use std::io::{ErrorKind, Write};
-use tape_core::Fault;
+use std::process::Abort;
+use tape_core::{Fault, Watched};
 
 /// A writer that takes at most three bytes a call, and that fails once it holds so many. A flush fails where it is to.
 #[derive(Drop)]
@@ -21,12 +22,22 @@ pub(crate) fn small_writer(alloc: Global, room: usize, flush_fails: bool) -> Sma
     }
 }
 
-/// What writing a text to such a writer is to answer, whether it is to have failed, and what it is to have taken.
-pub(crate) fn wanted_of(
+/// Compares what writing a text to such a writer answered, whether it has failed, and what it took.
+pub(crate) fn compare_taken(
+    rt: &impl Abort,
+    answer: Result<(), Fault>,
+    writer: Watched<SmallWriter>,
     whole: &[u8],
-    room: usize,
-    flush_fails: bool,
-) -> (Result<(), Fault>, bool, &[u8]) {
+) {
+    let failed = writer.failed();
+    let writer = writer.into_inner();
+    let wanted = wanted_of(whole, writer.room, writer.flush_fails);
+    let told = (answer, failed, writer.taken.as_slice());
+    assert_eq!(rt; told, wanted, "room for {}", writer.room);
+}
+
+/// What writing a text to such a writer is to answer, whether it is to have failed, and what it is to have taken.
+fn wanted_of(whole: &[u8], room: usize, flush_fails: bool) -> (Result<(), Fault>, bool, &[u8]) {
     let taken = &whole[..room.min(whole.len())];
     if room < whole.len() || flush_fails {
         (Err(Fault::WriteFault), true, taken)

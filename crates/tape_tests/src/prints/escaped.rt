@@ -1,5 +1,5 @@
 use super::{fed, fed_as};
-use crate::devices::{small_writer, wanted_of};
+use crate::devices::{compare_taken, small_writer};
 use screen_print::escaped;
 use std::alloc::Global;
 use std::test::Fail;
@@ -107,13 +107,19 @@ const EDITED: &[&[u8]] = &[
     b"ab\x1b[4h\rc",
 ];
 
+/// The text that draws the screen of a terminal that was fed these bytes.
+fn drawn(alloc: Global, bytes: &[u8]) -> Result<Vec<u8>, Fail> {
+    let terminal = fed(alloc, bytes)?;
+    let mut writer = Watched::new(Vec::new(alloc));
+    escaped(&terminal, &mut writer)?;
+    Ok(writer.into_inner())
+}
+
 #[test]
 fn writes_only_what_the_picture_needs(rt: HostRuntime) -> Result<(), Fail> {
     for (bytes, wanted) in TEXTS {
-        let terminal = fed(rt.alloc(), bytes)?;
-        let mut writer = Watched::new(Vec::new(rt.alloc()));
-        escaped(&terminal, &mut writer)?;
-        assert_eq!(rt; writer.into_inner().as_slice(), *wanted, "after {bytes:?}");
+        let text = drawn(rt.alloc(), bytes)?;
+        assert_eq!(rt; text.as_slice(), *wanted, "after {bytes:?}");
     }
     Ok(())
 }
@@ -154,16 +160,20 @@ fn draws_the_same_picture_again(rt: HostRuntime) -> Result<(), Fail> {
     Ok(())
 }
 
+/// Whether the escaped print of a VT102 that was fed these bytes gives the same picture on a terminal of this profile.
+fn is_redrawn_on(alloc: Global, bytes: &[u8], profile: Profile) -> Result<bool, Fail> {
+    let terminal = fed_as(alloc, Profile::Vt102, bytes)?;
+    is_redrawn(alloc, &terminal, profile)
+}
+
 #[test]
 fn draws_edited_lines_again(rt: HostRuntime) -> Result<(), Fail> {
     for bytes in EDITED {
-        let terminal = fed_as(rt.alloc(), Profile::Vt102, bytes)?;
-        for profile in [Profile::Vt102, Profile::Vt100] {
-            assert!(rt;
-                is_redrawn(rt.alloc(), &terminal, profile)?,
-                "on a {profile:?} after {bytes:?}"
-            );
-        }
+        let alike = (
+            is_redrawn_on(rt.alloc(), bytes, Profile::Vt102)?,
+            is_redrawn_on(rt.alloc(), bytes, Profile::Vt100)?,
+        );
+        assert_eq!(rt; alike, (true, true), "after {bytes:?}");
     }
     Ok(())
 }
@@ -176,14 +186,7 @@ fn a_failing_writer_holds_a_beginning(rt: HostRuntime) -> Result<(), Fail> {
         for flush_fails in [false, true] {
             let mut writer = Watched::new(small_writer(rt.alloc(), room, flush_fails));
             let answer = escaped(&terminal, &mut writer);
-            let failed = writer.failed();
-            let taken = writer.into_inner().taken;
-            let wanted = wanted_of(whole, room, flush_fails);
-            assert_eq!(rt;
-                (answer, failed, taken.as_slice()),
-                wanted,
-                "room for {room}"
-            );
+            compare_taken(&rt, answer, writer, whole);
         }
     }
     Ok(())

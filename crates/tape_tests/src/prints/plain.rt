@@ -1,5 +1,5 @@
 use super::fed;
-use crate::devices::{small_writer, wanted_of};
+use crate::devices::{compare_taken, small_writer};
 use screen_print::plain;
 use std::alloc::Global;
 use std::test::Fail;
@@ -50,15 +50,19 @@ fn filled_up(alloc: Global, begins: &str) -> Result<String, Fail> {
     Ok(text)
 }
 
+/// The plain text of a terminal that was fed these bytes.
+fn printed(alloc: Global, bytes: &[u8]) -> Result<Vec<u8>, Fail> {
+    let terminal = fed(alloc, bytes)?;
+    let mut writer = Watched::new(Vec::new(alloc));
+    plain(&terminal, &mut writer)?;
+    Ok(writer.into_inner())
+}
+
 #[test]
 fn prints_each_line_to_its_right_margin(rt: HostRuntime) -> Result<(), Fail> {
     for (bytes, begins) in &TEXTS {
-        let terminal = fed(rt.alloc(), bytes)?;
-        let mut writer = Watched::new(Vec::new(rt.alloc()));
-        let answer = plain(&terminal, &mut writer);
-        assert_eq!(rt; (answer, writer.failed()), (Ok(()), false));
+        let text = printed(rt.alloc(), bytes)?;
         let wanted = filled_up(rt.alloc(), begins)?;
-        let text = writer.into_inner();
         assert_eq!(rt; text.as_slice(), wanted.as_bytes(), "after {bytes:?}");
     }
     Ok(())
@@ -66,10 +70,7 @@ fn prints_each_line_to_its_right_margin(rt: HostRuntime) -> Result<(), Fail> {
 
 #[test]
 fn prints_132_columns(rt: HostRuntime) -> Result<(), Fail> {
-    let terminal = fed(rt.alloc(), b"\x1b[?3h\x1b(0\x1b[1;1Ha\x1b[1;132Hab")?;
-    let mut writer = Watched::new(Vec::new(rt.alloc()));
-    plain(&terminal, &mut writer)?;
-    let text = writer.into_inner();
+    let text = printed(rt.alloc(), b"\x1b[?3h\x1b(0\x1b[1;1Ha\x1b[1;132Hab")?;
     let ends = b" \xe2\x96\x92\n\xe2\x90\x89\n\n\n\n\n\n\n\n\n\n\n\n\n\n\n\n\n\n\n\n\n\n\n";
     let both = text.as_slice().starts_with(b"\xe2\x96\x92 ") && text.as_slice().ends_with(ends);
     assert_eq!(rt; (text.len(), both), (3 + 130 + 3 + 1 + 3 + 1 + 22, true));
@@ -85,14 +86,7 @@ fn a_failing_writer_holds_a_beginning(rt: HostRuntime) -> Result<(), Fail> {
         for flush_fails in [false, true] {
             let mut writer = Watched::new(small_writer(rt.alloc(), room, flush_fails));
             let answer = plain(&terminal, &mut writer);
-            let failed = writer.failed();
-            let taken = writer.into_inner().taken;
-            let wanted = wanted_of(whole, room, flush_fails);
-            assert_eq!(rt;
-                (answer, failed, taken.as_slice()),
-                wanted,
-                "room for {room}"
-            );
+            compare_taken(&rt, answer, writer, whole);
         }
     }
     Ok(())
