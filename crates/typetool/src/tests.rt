@@ -101,8 +101,9 @@ fn compare_over<R: Abort + AllocGlobal>(rt: &R, script: &[u8], case: &Case<'_>) 
             case.text.as_bytes(),
             case.new_timing.as_bytes()
         ),
-        "{:?} {:?} {:?}",
+        "{:?} {:?} {:?} {:?}",
         case.job,
+        case.body,
         case.timing,
         case.requests
     );

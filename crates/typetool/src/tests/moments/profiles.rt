@@ -41,14 +41,25 @@ fn compare_screen<R: Abort + AllocGlobal>(
     body: &str,
     shown: &str,
 ) -> Result<(), Fail> {
+    let text = screen_text(rt.alloc(), &[shown])?;
+    compare_print(rt, profile, false, body, text.as_str())
+}
+
+/// Feeds a terminal of this profile one chunk, and compares its plain or escaped print.
+fn compare_print<R: Abort + AllocGlobal>(
+    rt: &R,
+    profile: Profile,
+    escaped: bool,
+    body: &str,
+    text: &str,
+) -> Result<(), Fail> {
     let screen = Job::Screen {
         at: 0,
         profile,
-        escaped: false,
+        escaped,
     };
     let timing = one_chunk(rt.alloc(), body)?;
-    let text = screen_text(rt.alloc(), &[shown])?;
-    compare(rt, &done(screen, body, timing.as_str(), text.as_str()))
+    compare(rt, &done(screen, body, timing.as_str(), text))
 }
 
 /// What a request for the attributes of each profile is answered.
@@ -106,24 +117,8 @@ const DRAWN: [(&str, &str); 4] = [
 #[test]
 fn the_escaped_print_of_a_moment(rt: HostRuntime) -> Result<(), Fail> {
     for (body, text) in DRAWN {
-        compare_drawn(&rt, Profile::Vt100, body, text)?;
-        compare_drawn(&rt, Profile::Vt102, body, text)?;
+        compare_print(&rt, Profile::Vt100, true, body, text)?;
+        compare_print(&rt, Profile::Vt102, true, body, text)?;
     }
     Ok(())
-}
-
-/// Feeds a terminal of this profile one chunk, and compares the text that draws its screen again.
-fn compare_drawn<R: Abort + AllocGlobal>(
-    rt: &R,
-    profile: Profile,
-    body: &str,
-    text: &str,
-) -> Result<(), Fail> {
-    let screen = Job::Screen {
-        at: 0,
-        profile,
-        escaped: true,
-    };
-    let timing = one_chunk(rt.alloc(), body)?;
-    compare(rt, &done(screen, body, timing.as_str(), text))
 }
