@@ -1,4 +1,4 @@
--- Which lines of the screen each chunk changes, and how that is written. Profile.
+-- Which lines of the screen each chunk changes, and how that is written (ours).
 use Rattle.std.specs.Prelude.{ℕ, ◌+◌, Bool, not, ◌&&◌, List, [], ◌∷◌, ◌++◌, filter, Option, None, Some, nat_lt, nat_le}
 use Rattle.std.specs.Fmt.{decimal}
 use Rattle.std.specs.List.{flat_map, range_with_len}

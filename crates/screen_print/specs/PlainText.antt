@@ -1,4 +1,4 @@
--- The plain print: what stands on the screen, as text without renditions (profile).
+-- The plain print: what stands on the screen, as text without renditions (ours).
 use Rattle.std.specs.Prelude.{ℕ, ◌-◌, Bool, List, [], ◌∷◌, ◌++◌, length, take, ◌==◌, ◌||◌, encode_utf8}
 use Rattle.std.specs.List.{suffix_len, flat_map}
 use Rattle.vt_screen.specs.declared.cell.Cell.{Cell}

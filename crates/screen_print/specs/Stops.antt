@@ -8,7 +8,7 @@ use Rattle.tape_seek.specs.State.{State}
 use Rattle.screen_print.specs.declared.chunk_changes.ChangesFault.{ChangesFault}
 use Rattle.screen_print.specs.declared.chunk_changes.ChangesFault.TheVariants.{Write, Memory}
 
--- the writer is sound, and has taken a beginning of this text after what it held (profile)
+-- the writer is sound, and has taken a beginning of this text after what it held (ours)
 pub record Began {T : Type 0} (contents : T → Option (List ℕ)) (old new : Watched T) (text : List ℕ) : Type 0 where
   pub front : List ℕ
   pub rest : List ℕ

@@ -1,4 +1,4 @@
--- When chunks are due, and which bytes are due by a moment. Profile: a chunk is due at the sum of the delays up to its own.
+-- When chunks are due, and which bytes are due by a moment. Ours: a chunk is due at the sum of the delays up to its own.
 use Rattle.std.specs.Prelude.{ℕ, ◌+◌, List, length, take, drop, sum_by, count_by, filter, nat_le}
 use Rattle.std.specs.List.{flat_map, range_with_len}
 use Rattle.tape_core.specs.declared.chunk.Chunk.{Chunk}

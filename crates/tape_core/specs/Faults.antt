@@ -1,14 +1,14 @@
--- The texts of the faults, as the program prints them (profile).
+-- The texts of the faults, as the program prints them (ours).
 use Rattle.std.specs.Prelude.{ℕ, Bool, true, false, List, ◌++◌, codes}
 use Rattle.std.specs.Fmt.{decimal}
 use Rattle.tape_core.specs.declared.fault.Fault.{Fault}
 use Rattle.tape_core.specs.declared.fault.Fault.TheVariants.{NoHeader, BadDelay, BadCount, MultiStream, DelayTooLarge, ChunkTooLong, TooManyChunks, TooManyBytes, ScriptShort, OutOfMemory, ReadFault, WriteFault}
 
--- a fault of a line of the timing file, told with its number (profile)
+-- a fault of a line of the timing file, told with its number (ours)
 abbrev pub line_text : ℕ → List ℕ → List ℕ
 line_text line what = codes "timing line " ++ decimal line ++ what
 
--- the text of each fault (profile)
+-- the text of each fault (ours)
 abbrev pub fault_text : Fault → List ℕ
 fault_text NoHeader = codes "typescript has no header line"
 fault_text (BadDelay line) = line_text line (codes ": bad delay")
@@ -23,7 +23,7 @@ fault_text OutOfMemory = codes "out of memory"
 fault_text ReadFault = codes "read fault"
 fault_text WriteFault = codes "write fault"
 
--- a device or want of memory, and nothing in the files (profile)
+-- a device or want of memory, and nothing in the files (ours)
 abbrev pub is_stop : Fault → Bool
 is_stop OutOfMemory = true
 is_stop ReadFault = true

@@ -25,7 +25,7 @@ first_short bytes entries = position (λ i. nat_lt bytes (counted_bytes (take (i
 abbrev pub script_fault : List ℕ → List Entry → Option Fault
 script_fault script entries = if has_header script then option_map fault.ScriptShort (first_short (length script - header_len script) entries) else Some fault.NoHeader
 
--- The fault of a pair of files: the timing is judged first. Profile.
+-- The fault of a pair of files: the timing is judged first (ours).
 unfoldable pub fault_of : List ℕ → List ℕ → Option Fault
 fault_of script timing = option_or (timing_fault timing) (script_fault script (entries_of (lines_of timing)))
 

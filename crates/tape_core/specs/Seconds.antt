@@ -30,10 +30,10 @@ micros_of text =
     let decimals = after_first (λ b. b == 46) text in
     if nat_lt 0 (length whole) && (list_all is_ascii_digit whole && list_all is_ascii_digit decimals) then Some (micros whole decimals) else None
 
--- The greatest moment, in microseconds. Profile.
+-- The greatest moment, in microseconds (ours).
 abbrev pub last_moment : ℕ
 last_moment = 1000000000000000000
 
--- A moment or delay in an argument or a request line: a value above the greatest moment counts as it. Profile.
+-- A moment or delay in an argument or a request line: a value above the greatest moment counts as it (ours).
 unfoldable pub seconds_of : List ℕ → Option ℕ
 seconds_of text = option_map (λ us. min us last_moment) (micros_of text)

@@ -17,7 +17,7 @@ body chunks = flat_map (λ c. c.bytes) chunks
 abbrev pub body_len : List Chunk → ℕ
 body_len chunks = sum_by (λ c. length c.bytes) chunks
 
--- The limits of a recording. Profile.
+-- The limits of a recording (ours).
 abbrev pub most_chunks : ℕ
 most_chunks = 1000000
 

@@ -4,7 +4,7 @@ use Rattle.std.specs.Char.{is_ascii_digit}
 use Rattle.std.specs.List.{AllPass, list_all, slice_split}
 use Rattle.std.specs.Str.Parse.{digits_value}
 
--- Blanks are space and tab. Profile.
+-- Blanks are space and tab (ours).
 abbrev pub is_blank : ℕ → Bool
 is_blank b = b == 32 || b == 9
 

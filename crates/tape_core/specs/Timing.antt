@@ -48,7 +48,7 @@ abbrev pub begins_with_letter : List ℕ → Bool
 begins_with_letter [] = false
 begins_with_letter (b ∷ bs) = is_letter b
 
--- The faults of a line, in the order in which they are tried: multi-stream, bad delay, bad count, delay too large, chunk too long. Profile.
+-- The faults of a line, in the order in which they are tried: multi-stream, bad delay, bad count, delay too large, chunk too long (ours).
 abbrev pub within_limits : ℕ → ℕ → Result (Option Entry) LineFault
 within_limits delay count =
     if nat_lt longest_delay delay then Err line.DelayTooLarge
@@ -90,7 +90,7 @@ at_line line.BadCount n = fault.BadCount n
 at_line line.DelayTooLarge n = fault.DelayTooLarge n
 at_line line.ChunkTooLong n = fault.ChunkTooLong n
 
--- The fault of line n, after so many entries that count so many bytes: its own, or one entry or one byte too many. Profile.
+-- The fault of line n, after so many entries that count so many bytes: its own, or one entry or one byte too many (ours).
 abbrev pub fault_on : ℕ → ℕ → ℕ → Result (Option Entry) LineFault → Option Fault
 fault_on n entries bytes (Err f) = Some (at_line f n)
 fault_on n entries bytes (Ok None) = None
@@ -111,7 +111,7 @@ first_fault before (text ∷ rest) = option_or (fault_after before text) (first_
 abbrev pub timing_fault : List ℕ → Option Fault
 timing_fault timing = first_fault [] (lines_of timing)
 
--- The limits of one entry, and of all together. Profile.
+-- The limits of one entry, and of all together (ours).
 pub record IsWithin (entry : Entry) : Type 0 where
   pub delay : entry.delay ≤ longest_delay
   pub count : entry.count ≤ longest_chunk

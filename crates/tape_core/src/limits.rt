@@ -1,4 +1,4 @@
-//! The limits of a recording, and the greatest moment. Profile.
+//! The limits of a recording, and the greatest moment (ours).
 
 /// Chunks of a recording.
 pub const MOST_CHUNKS: usize = 1_000_000;

@@ -94,7 +94,7 @@ impl Recording {
         self.dues.last().copied().unwrap_or(0)
     }
 
-    /// The moment at which chunk `i` is due, in microseconds: the sum of delays 0 to `i`. Profile.
+    /// The moment at which chunk `i` is due, in microseconds: the sum of delays 0 to `i` (ours).
     pub fn due_time(&self, i: usize) -> u64
         requires { i < length self.now.chunks }
         ensures { result ≡ due_time self.now.chunks i }
@@ -102,7 +102,7 @@ impl Recording {
         self.dues[i]
     }
 
-    /// How many chunks are due by the moment, in microseconds. Logarithmic in their number. Profile.
+    /// How many chunks are due by the moment, in microseconds. Logarithmic in their number (ours).
     pub fn due_count(&self, moment: u64) -> usize
         ensures count { result ≡ due_count self.now.chunks moment }
         ensures within { result ≤ length self.now.chunks }

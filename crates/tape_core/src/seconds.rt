@@ -49,7 +49,7 @@ fn capped_micros(whole: &[u8], decimals: &[u8]) -> u64
 
 /// Reads seconds as whole microseconds: one or more digits, optionally `.` and zero or more digits.
 /// Digits past the sixth decimal are dropped, and a value above 10^18 microseconds counts as 10^18.
-/// None for every other text. Profile.
+/// None for every other text (ours).
 #[tactic(auto, unfolding(crate::specs::Seconds::seconds_of))]
 pub fn read_seconds(text: &[u8]) -> Option<u64>
     ensures { result ≡ seconds_of text.now }

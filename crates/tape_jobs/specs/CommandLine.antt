@@ -23,11 +23,11 @@ use Rattle.vt_term.specs.declared.profile.Profile.TheVariants.{Vt100, Vt102}
 
 -- ---- the table
 
--- the subcommands, in the order in which help tells them (profile)
+-- the subcommands, in the order in which help tells them (ours)
 abbrev pub subcommands_in_order : List Subcommand
 subcommands_in_order = Due ∷ Info ∷ Screen ∷ Changes ∷ Reports ∷ Save ∷ Session ∷ []
 
--- the name of a subcommand (profile)
+-- the name of a subcommand (ours)
 unfoldable pub name_in : Subcommand → Text
 name_in Due = codes "due"
 name_in Info = codes "info"
@@ -37,7 +37,7 @@ name_in Reports = codes "reports"
 name_in Save = codes "save"
 name_in Session = codes "session"
 
--- the flags of a subcommand (profile)
+-- the flags of a subcommand (ours)
 unfoldable pub flags_in : Subcommand → List Argument
 flags_in Due = At ∷ []
 flags_in Info = []
@@ -47,7 +47,7 @@ flags_in Reports = At ∷ Profile ∷ []
 flags_in Save = []
 flags_in Session = Every ∷ Profile ∷ []
 
--- the paths of a subcommand, in the line's order (profile)
+-- the paths of a subcommand, in the line's order (ours)
 unfoldable pub paths_in : Subcommand → List Argument
 paths_in Due = Script ∷ Timing ∷ []
 paths_in Info = Script ∷ Timing ∷ []
@@ -57,7 +57,7 @@ paths_in Reports = Script ∷ Timing ∷ []
 paths_in Save = Script ∷ Timing ∷ NewScript ∷ NewTiming ∷ []
 paths_in Session = Script ∷ Timing ∷ []
 
--- the name of an argument (profile)
+-- the name of an argument (ours)
 unfoldable pub id_in : Argument → Text
 id_in At = codes "at"
 id_in From = codes "from"
@@ -70,27 +70,27 @@ id_in Timing = codes "timing"
 id_in NewScript = codes "new-script"
 id_in NewTiming = codes "new-timing"
 
--- a flag that takes seconds, such as `--at 12.5`, and must be given (profile)
+-- a flag that takes seconds, such as `--at 12.5`, and must be given (ours)
 abbrev pub seconds_rule : Text → Rule
 seconds_rule id = record (new_rule id) { long = Some id; action = Some Set; required = true; value_names = 1 }
 
--- a flag with a value that may be left out (profile)
+-- a flag with a value that may be left out (ours)
 abbrev pub optional_rule : Text → Rule
 optional_rule id = record (new_rule id) { long = Some id; action = Some Set; value_names = 1 }
 
--- such a flag that takes a number of chunks: clap refuses what isn't from 1 to 1,000,000 (profile)
+-- such a flag that takes a number of chunks: clap refuses what isn't from 1 to 1,000,000 (ours)
 abbrev pub every_rule : Text → Rule
 every_rule id = record (optional_rule id) { parser = Some (parses.Unsigned 1 1000000) }
 
--- a flag without a value (profile)
+-- a flag without a value (ours)
 abbrev pub switch_rule : Text → Rule
 switch_rule id = record (new_rule id) { long = Some id; action = Some SetTrue }
 
--- a path that must be given (profile)
+-- a path that must be given (ours)
 abbrev pub path_rule : Text → Rule
 path_rule id = record (new_rule id) { action = Some Set; required = true; value_names = 1 }
 
--- what clap is told of an argument (profile)
+-- what clap is told of an argument (ours)
 unfoldable pub rule_in : Argument → Rule
 rule_in At = seconds_rule (id_in At)
 rule_in From = optional_rule (id_in From)
@@ -105,69 +105,69 @@ rule_in NewTiming = path_rule (id_in NewTiming)
 
 -- ---- values
 
--- the value of an argument that must be given (profile)
+-- the value of an argument that must be given (ours)
 abbrev pub value_in : Text → List Row → Text
 value_in id rows = unwrap_or (first_of id rows) []
 
--- what was read, or what isn't readable (profile)
+-- what was read, or what isn't readable (ours)
 abbrev pub readable : {A : Type 0} → Unreadable → Option A → Result A Unreadable
 readable fault None = Err fault
 readable fault (Some x) = Ok x
 
--- what comes after a value that was read (profile)
+-- what comes after a value that was read (ours)
 abbrev pub after : {A B : Type 0} → Result A Unreadable → (A → Result B Unreadable) → Result B Unreadable
 after (Ok x) next = next x
 after (Err fault) next = Err fault
 
--- the moment that a flag gives, in microseconds (profile)
+-- the moment that a flag gives, in microseconds (ours)
 abbrev pub moment_in : Text → List Row → Result ℕ Unreadable
 moment_in id rows = readable unread.Seconds (seconds_of (value_in id rows))
 
--- the moment in a text, if there is a text (profile)
+-- the moment in a text, if there is a text (ours)
 abbrev pub moment_if : Option Text → Result (Option ℕ) Unreadable
 moment_if None = Ok None
 moment_if (Some text) = after (readable unread.Seconds (seconds_of text)) (λ moment. Ok (Some moment))
 
--- the moment that a flag gives, in microseconds, if it is given (profile)
+-- the moment that a flag gives, in microseconds, if it is given (ours)
 abbrev pub moment_given_in : Text → List Row → Result (Option ℕ) Unreadable
 moment_given_in id rows = moment_if (first_of id rows)
 
--- the number, if so many chunks may lie between stored terminals: from 1 to 1,000,000 (profile)
+-- the number, if so many chunks may lie between stored terminals: from 1 to 1,000,000 (ours)
 abbrev pub every_allowed : ℕ → Option ℕ
 every_allowed n = if nat_lt n 1 || nat_lt 1000000 n then None else Some n
 
--- such a number in digits alone (profile)
+-- such a number in digits alone (ours)
 unfoldable pub every_of : Text → Option ℕ
 every_of text = option_and_then every_allowed (place_of text)
 
--- the number in a text, and 100 if there is no text (profile)
+-- the number in a text, and 100 if there is no text (ours)
 abbrev pub every_if : Option Text → Result ℕ Unreadable
 every_if None = Ok 100
 every_if (Some text) = readable unread.Every (every_of text)
 
--- how many chunks are to lie between stored terminals (profile)
+-- how many chunks are to lie between stored terminals (ours)
 abbrev pub every_in : List Row → Result ℕ Unreadable
 every_in rows = every_if (first_of (id_in Every) rows)
 
--- the profile of this name (profile)
+-- the profile of this name (ours)
 unfoldable pub profile_named : Text → Option Played
 profile_named name =
     if bytes_eq name (codes "vt100") then Some Vt100 else (if bytes_eq name (codes "vt102") then Some Vt102 else None)
 
--- the profile that a text names, and a VT100 if there is no text (profile)
+-- the profile that a text names, and a VT100 if there is no text (ours)
 abbrev pub profile_if : Option Text → Result Played Unreadable
 profile_if None = Ok Vt100
 profile_if (Some text) = readable unread.Profile (profile_named text)
 
--- which terminal is to play (profile)
+-- which terminal is to play (ours)
 abbrev pub profile_in : List Row → Result Played Unreadable
 profile_in rows = profile_if (first_of (id_in Profile) rows)
 
--- whether a flag without a value is given: clap tells `true` then, and else `false` (profile)
+-- whether a flag without a value is given: clap tells `true` then, and else `false` (ours)
 abbrev pub switch_in : Text → List Row → Bool
 switch_in id rows = bytes_eq (value_in id rows) (codes "true")
 
--- the job that a subcommand's values mean, or what of them isn't readable (profile)
+-- the job that a subcommand's values mean, or what of them isn't readable (ours)
 unfoldable pub job_in : Subcommand → List Row → Result Job Unreadable
 job_in Due rows = after (moment_in (id_in At) rows) (λ at. Ok (job.Due at))
 job_in Info rows = Ok job.Info
@@ -181,67 +181,67 @@ job_in Session rows = after (every_in rows) (λ every. after (profile_in rows) (
 
 -- ---- what clap is told
 
--- a command with more arguments (profile)
+-- a command with more arguments (ours)
 abbrev pub with_rules : App → List Rule → App
 with_rules a rules = record a { top = record a.top { rules = a.top.rules ++ rules } }
 
--- a subcommand: its flags, and then its paths (profile)
+-- a subcommand: its flags, and then its paths (ours)
 unfoldable pub app_in : Subcommand → App
 app_in s = with_rules (with_rules (new_app (name_in s)) (map rule_in (flags_in s))) (map rule_in (paths_in s))
 
--- the program's name, and that a subcommand must follow (profile)
+-- the program's name, and that a subcommand must follow (ours)
 abbrev pub top_app : App
 top_app = record { top = record (new_app (codes "typetool")).top { arg_required_else_help = true; subcommand_required = true; disable_help_subcommand = true }; subs = [] }
 
--- a command with these subcommands (profile)
+-- a command with these subcommands (ours)
 abbrev pub with_subcommands : App → List Subcommand → App
 with_subcommands a list = fold (λ app s. with_subcommand app (app_in s).top) a list
 
--- the whole command line (profile)
+-- the whole command line (ours)
 unfoldable pub typetool_app : App
 typetool_app = with_subcommands top_app subcommands_in_order
 
--- the kinds of fault that clap finds in these words: none where it reads them (profile)
+-- the kinds of fault that clap finds in these words: none where it reads them (ours)
 unfoldable pub clap_faults : List Text → Kinds
 clap_faults words = fault_of typetool_app words
 
--- whether clap promises to take these words (profile)
+-- whether clap promises to take these words (ours)
 unfoldable pub clap_takes : List Text → Bool
 clap_takes words = takes typetool_app words
 
--- the name and the values of the subcommand that clap finds in these words (profile)
+-- the name and the values of the subcommand that clap finds in these words (ours)
 unfoldable pub subcommand_in : List Text → Option (Text × List Row)
 subcommand_in words = subcommand_of typetool_app words
 
--- the name is that of one of these subcommands (profile)
+-- the name is that of one of these subcommands (ours)
 abbrev pub IsNamed : Option Text → List Shape → Type 0
 IsNamed name [] = ⊥
 IsNamed name (s ∷ rest) = (name ≡ Some s.name) ⊎ IsNamed name rest
 
 -- ---- what the words mean
 
--- a job, and the paths in the line's order (profile)
+-- a job, and the paths in the line's order (ours)
 pub record Meaning : Type 0 where
   pub job : Job
   pub paths : List Text
 
--- what a subcommand means with these values, or what of them isn't readable (profile)
+-- what a subcommand means with these values, or what of them isn't readable (ours)
 abbrev pub meaning_in : Subcommand → List Row → Result Meaning Unreadable
 meaning_in s rows = after (job_in s rows) (λ job. Ok (record { job = job; paths = map (λ a. value_in (id_in a) rows) (paths_in s) }))
 
--- what a subcommand means by its name and its values (profile)
+-- what a subcommand means by its name and its values (ours)
 abbrev pub meaning_of : Text × List Row → Option (Result Meaning Unreadable)
 meaning_of met = option_map (λ s. meaning_in s met.1) (find (λ s. bytes_eq (name_in s) met.0) subcommands_in_order)
 
--- what a command line means (profile)
+-- what a command line means (ours)
 unfoldable pub meaning_of_words : List Text → Option (Result Meaning Unreadable)
 meaning_of_words words = option_and_then meaning_of (subcommand_in words)
 
--- the job and the paths that were read (profile)
+-- the job and the paths that were read (ours)
 abbrev pub meaning_read : Words → Meaning
 meaning_read words = record { job = words.job; paths = map string_bytes words.paths.items }
 
--- how many paths a job has (profile)
+-- how many paths a job has (ours)
 abbrev pub path_count : Job → ℕ
 path_count (job.Due at) = 2
 path_count job.Info = 2
@@ -251,13 +251,13 @@ path_count (job.Reports at profile) = 2
 path_count job.Save = 4
 path_count (job.Session every profile) = 2
 
--- the fault of words that clap takes and that aren't readable (profile)
+-- the fault of words that clap takes and that aren't readable (ours)
 abbrev pub fault_of_unread : Unreadable → WordsFault
 fault_of_unread unread.Seconds = BadSeconds
 fault_of_unread unread.Every = BadEvery
 fault_of_unread unread.Profile = BadProfile
 
--- why words aren't a job: clap finds a fault of that kind in them and doesn't promise to take them, or it reads them and some seconds aren't readable, or the number of chunks, or the profile; memory may always be refused (profile)
+-- why words aren't a job: clap finds a fault of that kind in them and doesn't promise to take them, or it reads them and some seconds aren't readable, or the number of chunks, or the profile; memory may always be refused (ours)
 abbrev pub FailsFor : List Text → WordsFault → Type 0
 FailsFor words (Clap e) = IsAmong (kind_of e) (clap_faults words) × (clap_takes words ≡ false)
 FailsFor words Memory = Unit {0}

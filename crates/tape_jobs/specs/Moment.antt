@@ -13,21 +13,21 @@ use Rattle.screen_print.specs.Stops.{Began}
 use Rattle.tape_jobs.specs.declared.job.JobFault.{JobFault}
 use Rattle.tape_jobs.specs.declared.job.JobFault.TheVariants.{File, Memory}
 
--- a screen, as a text that draws it again or as plain text (profile)
+-- a screen, as a text that draws it again or as plain text (ours)
 unfoldable pub screen_text : Bool → Console → List ℕ
 screen_text true s = escaped_text s
 screen_text false s = plain_text s.picture
 
--- bytes as a line: in lower-case hexadecimal, with LF (profile)
+-- bytes as a line: in lower-case hexadecimal, with LF (ours)
 abbrev pub hex_line : List ℕ → List ℕ
 hex_line bytes = encode_lower bytes ++ 10 ∷ []
 
--- why a job stops in the text that it writes on a recording: for want of memory, or as the writer fails (profile)
+-- why a job stops in the text that it writes on a recording: for want of memory, or as the writer fails (ours)
 abbrev pub StopsAt : {O : Type 0} → (O → Option (List ℕ)) → Watched O → Watched O → List ℕ → JobFault → Type 0
 StopsAt contents old new text f =
     ((f ≡ Memory) × Began contents old new text) ⊎ ((f ≡ File WriteFault) × StoppedIn contents old new text)
 
--- why change lines end early, as a fault of a job (profile)
+-- why change lines end early, as a fault of a job (ours)
 abbrev pub fault_of_changes : ChangesFault → JobFault
 fault_of_changes changes.Write = File WriteFault
 fault_of_changes changes.Memory = Memory

@@ -13,26 +13,26 @@ use Rattle.vt_term.specs.declared.profile.Profile.{Profile}
 use Rattle.tape_jobs.specs.declared.job.JobFault.{JobFault}
 use Rattle.tape_jobs.specs.declared.job.JobFault.TheVariants.{File, Line, Memory}
 
--- where request lines have led: which terminal plays, the recording as edited, and the accepted edits in order (profile)
+-- where request lines have led: which terminal plays, the recording as edited, and the accepted edits in order (ours)
 pub record Course : Type 0 where
   pub profile : Profile
   pub tape : Tape
   pub log : List Edit
 
--- before the first line (profile)
+-- before the first line (ours)
 abbrev pub started : Profile → Tape → Course
 started profile tape = record { profile = profile; tape = tape; log = [] }
 
--- where a session stands (profile)
+-- where a session stands (ours)
 abbrev pub course_of : State → Course
 course_of session = record { profile = session.profile; tape = session.recording; log = session.log }
 
--- an edit without a fault changes the recording and stands in the log; any other leaves both (profile)
+-- an edit without a fault changes the recording and stands in the log; any other leaves both (ours)
 abbrev pub after_judging : Course → Edit → Option EditFault → Course
 after_judging course edit None = record { profile = course.profile; tape = edited course.tape edit; log = course.log ++ edit ∷ [] }
 after_judging course edit (Some f) = course
 
--- after what a line asks for; none is a line of no known form (profile)
+-- after what a line asks for; none is a line of no known form (ours)
 abbrev pub course_after : Course → Option Request → Course
 course_after course None = course
 course_after course (Some asks.Nothing) = course
@@ -43,7 +43,7 @@ course_after course (Some (asks.Changes from to)) = course
 course_after course (Some asks.Info) = course
 course_after course (Some asks.Log) = course
 
--- the edit that `save` is asked for, if any: a line that asks for something else counts as one of no known form (profile)
+-- the edit that `save` is asked for, if any: a line that asks for something else counts as one of no known form (ours)
 abbrev pub edit_asked : Option Request → Result (Option Edit) EditFault
 edit_asked None = Err fault.BadLine
 edit_asked (Some asks.Nothing) = Ok None
@@ -54,24 +54,24 @@ edit_asked (Some (asks.Changes from to)) = Err fault.BadLine
 edit_asked (Some asks.Info) = Err fault.BadLine
 edit_asked (Some asks.Log) = Err fault.BadLine
 
--- why it is refused, if it is (profile)
+-- why it is refused, if it is (ours)
 abbrev pub refusal_of : Tape → Result (Option Edit) EditFault → Option EditFault
 refusal_of tape (Err f) = Some f
 refusal_of tape (Ok None) = None
 refusal_of tape (Ok (Some edit)) = edit_fault tape edit
 
--- what is left to do after a line, or that it is refused: its number, counted from 1 with the blank ones, and why (profile)
+-- what is left to do after a line, or that it is refused: its number, counted from 1 with the blank ones, and why (ours)
 abbrev pub unless_refused : ℕ → Option EditFault → Result Tape (ℕ × EditFault) → Result Tape (ℕ × EditFault)
 unless_refused line None rest = rest
 unless_refused line (Some f) rest = Err (line, f)
 
--- the recording that `save` saves, from a line of this number on, or which line is refused first and why (profile)
+-- the recording that `save` saves, from a line of this number on, or which line is refused first and why (ours)
 unfoldable pub saved : ℕ → Course → List (List ℕ) → Result Tape (ℕ × EditFault)
 saved line course [] = Ok course.tape
 saved line course (text ∷ rest) =
     unless_refused line (refusal_of course.tape (edit_asked (request text))) (saved (line + 1) (course_after course (request text)) rest)
 
--- a refused line as a fault of the job; want of memory has no line (profile)
+-- a refused line as a fault of the job; want of memory has no line (ours)
 abbrev pub fault_on : ℕ → EditFault → JobFault
 fault_on line fault.NoSuchChunk = Line line fault.NoSuchChunk
 fault_on line fault.DelayTooLarge = Line line fault.DelayTooLarge
@@ -82,13 +82,13 @@ fault_on line fault.BadRange = Line line fault.BadRange
 fault_on line fault.OutOfMemory = Memory
 fault_on line fault.BadLine = Line line fault.BadLine
 
--- the fault of a job whose request lines aren't all done: the first that is refused, or want of memory (profile)
+-- the fault of a job whose request lines aren't all done: the first that is refused, or want of memory (ours)
 abbrev pub StopsEditing : Result Tape (ℕ × EditFault) → JobFault → Type 0
 StopsEditing saving (File f) = ⊥
 StopsEditing saving (Line line f) = saving ≡ Err (line, f)
 StopsEditing saving Memory = Unit {0}
 
--- the code and the name of a fault (profile)
+-- the code and the name of a fault (ours)
 unfoldable pub fault_text : EditFault → List ℕ
 fault_text fault.NoSuchChunk = codes "E1 NoSuchChunk"
 fault_text fault.DelayTooLarge = codes "E2 DelayTooLarge"

@@ -13,20 +13,20 @@ use Rattle.tape_jobs.specs.Info.{info_line, info_text}
 use Rattle.tape_jobs.specs.Moment.{hex_line, screen_text}
 use Rattle.tape_jobs.specs.Requests.{Course, course_after, fault_text}
 
--- lines, and the one behind them that says that there are no more (profile)
+-- lines, and the one behind them that says that there are no more (ours)
 abbrev pub ended : List ℕ → List ℕ
 ended lines = lines ++ (codes "end" ++ 10 ∷ [])
 
--- the answer to a line that is refused (profile)
+-- the answer to a line that is refused (ours)
 abbrev pub refusal : EditFault → List ℕ
 refusal f = info_line (codes "refused ") (fault_text f)
 
--- the answer to an edit with this fault, or with none (profile)
+-- the answer to an edit with this fault, or with none (ours)
 abbrev pub edit_answer : Option EditFault → List ℕ
 edit_answer None = codes "ok" ++ 10 ∷ []
 edit_answer (Some f) = refusal f
 
--- the answer to a line, by what it asks for; none is a line of no known form (profile)
+-- the answer to a line, by what it asks for; none is a line of no known form (ours)
 abbrev pub answer : Course → Option Request → List ℕ
 answer course None = refusal fault.BadLine
 answer course (Some asks.Nothing) = []
@@ -37,7 +37,7 @@ answer course (Some (asks.Changes from to)) = ended (change_lines course.profile
 answer course (Some asks.Info) = info_text course.tape
 answer course (Some asks.Log) = ended (log_text course.log)
 
--- whether a line is refused: it is of no known form, or an edit with a fault (profile)
+-- whether a line is refused: it is of no known form, or an edit with a fault (ours)
 abbrev pub is_refused : Course → Option Request → Bool
 is_refused course None = true
 is_refused course (Some asks.Nothing) = false
@@ -48,12 +48,12 @@ is_refused course (Some (asks.Changes from to)) = false
 is_refused course (Some asks.Info) = false
 is_refused course (Some asks.Log) = false
 
--- the answers to lines, one after another (profile)
+-- the answers to lines, one after another (ours)
 unfoldable pub answered : Course → List (List ℕ) → List ℕ
 answered course [] = []
 answered course (line ∷ rest) = answer course (request line) ++ answered (course_after course (request line)) rest
 
--- whether any of them is refused (profile)
+-- whether any of them is refused (ours)
 unfoldable pub any_refused : Course → List (List ℕ) → Bool
 any_refused course [] = false
 any_refused course (line ∷ rest) = is_refused course (request line) || any_refused (course_after course (request line)) rest

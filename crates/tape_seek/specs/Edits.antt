@@ -69,7 +69,7 @@ has_a_bad_range tape (Replace at bytes) = false
 has_a_bad_range tape (Retime at delay) = false
 has_a_bad_range tape (Cap max) = false
 
--- Whether the edit has the fault. Want of memory and lines of no known form are faults of no edit. Profile.
+-- Whether the edit has the fault. Want of memory and lines of no known form are faults of no edit (ours).
 abbrev pub has_fault : Tape → Edit → EditFault → Bool
 has_fault tape edit NoSuchChunk = names_no_chunk tape edit
 has_fault tape edit DelayTooLarge = delays_too_long edit
@@ -80,7 +80,7 @@ has_fault tape edit BadRange = has_a_bad_range tape edit
 has_fault tape edit OutOfMemory = false
 has_fault tape edit BadLine = false
 
--- The order in which faults are judged. Profile.
+-- The order in which faults are judged (ours).
 abbrev pub judged : List EditFault
 judged = NoSuchChunk ∷ DelayTooLarge ∷ ChunkTooLong ∷ TooManyChunks ∷ TooManyBytes ∷ BadRange ∷ []
 

@@ -1,4 +1,4 @@
--- What a request line asks for. Profile.
+-- What a request line asks for (ours).
 use Rattle.std.specs.Prelude.{ℕ, ◌≢◌, List, [], ◌∷◌, length, Option, Some, None, if◌then◌else◌, nat_lt, min, codes}
 use Rattle.std.specs.Option.{option_map}
 use Rattle.std.specs.Result.{result_ok}

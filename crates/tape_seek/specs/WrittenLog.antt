@@ -1,4 +1,4 @@
--- How edits are written: a request line for each. Profile.
+-- How edits are written: a request line for each (ours).
 use Rattle.std.specs.Prelude.{ℕ, List, [], ◌∷◌, ◌++◌, codes}
 use Rattle.std.specs.Fmt.{decimal}
 use Rattle.std.specs.List.{flat_map, join_with_byte}

@@ -1,7 +1,7 @@
 //! Edits of a recording, and why one is refused.
 use tape_core::Bytes;
 
-/// One change of a recording. Places are those of chunks, counted from 0; delays are microseconds. Profile.
+/// One change of a recording. Places are those of chunks, counted from 0; delays are microseconds (ours).
 #[derive(Debug, Drop)]
 pub enum Edit {
     /// A chunk comes in before chunk `at`, at the end where `at` is their number.
@@ -16,7 +16,7 @@ pub enum Edit {
     Cap { max: u64 },
 }
 
-/// Why an edit or a request line is refused, in the order in which they are judged. Profile.
+/// Why an edit or a request line is refused, in the order in which they are judged (ours).
 #[derive(Debug, Clone, Copy, PartialEq, Eq)]
 pub enum EditFault {
     /// E1: a place past the end.

@@ -11,7 +11,7 @@ use std::alloc::Global;
 use tape_core::text::{next_field, only_field, read_number};
 use tape_core::{Bytes, read_seconds};
 
-/// What a line asks for. Moments are microseconds. Profile.
+/// What a line asks for. Moments are microseconds (ours).
 #[derive(Debug, Drop)]
 pub enum Request {
     /// A line of blanks alone.

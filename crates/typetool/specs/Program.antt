@@ -10,13 +10,13 @@ use Rattle.typetool.specs.declared.program.Stop.{Stop}
 use Rattle.typetool.specs.declared.program.Stop.TheVariants.{Words, NotText, Memory, CannotOpen, CannotCreate, Job as of_job}
 use Rattle.tape_jobs.specs.declared.words.WordsFault.TheVariants as words
 
--- 0 where help is asked for, and 2 for a mistake (profile)
+-- 0 where help is asked for, and 2 for a mistake (ours)
 abbrev pub clap_status : ErrorKind → ℕ
 clap_status DisplayHelp = 0
 clap_status DisplayVersion = 0
 clap_status _ = 2
 
--- the status where the program stops (profile)
+-- the status where the program stops (ours)
 abbrev pub stop_status : Stop → ℕ
 stop_status (Words (words.Clap e)) = clap_status (kind_of e)
 stop_status (Words words.BadSeconds) = 2
@@ -29,15 +29,15 @@ stop_status (CannotOpen path) = 3
 stop_status (CannotCreate path) = 3
 stop_status (of_job fault) = status_of fault
 
--- how the job ends: with the status of its fault where it has one, and else with one of a job that is done (profile)
+-- how the job ends: with the status of its fault where it has one, and else with one of a job that is done (ours)
 abbrev pub IsOutcome : Job → Outcome → Type 0
 IsOutcome job outcome = MatchOption outcome.fault (IsDoneStatus job outcome.status) (λ fault. outcome.status ≡ status_of fault)
 
--- it ends as the job does on these files (profile)
+-- it ends as the job does on these files (ours)
 abbrev pub IsAnswer : Job → Files → Outcome → Type 0
 IsAnswer job files outcome = (done : Done) × Comes job files done × (outcome ≡ done.outcome)
 
--- why a file isn't open: the file of this path can't be opened, or memory was refused (profile)
+-- why a file isn't open: the file of this path can't be opened, or memory was refused (ours)
 abbrev pub IsNotOpen : List ℕ → Stop → Type 0
 IsNotOpen path (CannotOpen name) = string_bytes name ≡ path
 IsNotOpen path Memory = Unit {0}
@@ -46,7 +46,7 @@ IsNotOpen path (Words fault) = ⊥
 IsNotOpen path NotText = ⊥
 IsNotOpen path (of_job fault) = ⊥
 
--- why a file isn't created: none of this path can be created, or memory was refused (profile)
+-- why a file isn't created: none of this path can be created, or memory was refused (ours)
 abbrev pub IsNotCreated : List ℕ → Stop → Type 0
 IsNotCreated path (CannotCreate name) = string_bytes name ≡ path
 IsNotCreated path Memory = Unit {0}

@@ -150,11 +150,11 @@ is_well_formed text = list_all is_plain (after_mark text)
 abbrev pub decimal_value : List ℕ → ℕ
 decimal_value digits = fold (λ value digit. 10 * value + (digit - 48)) 0 digits
 
--- the greatest parameter (profile)
+-- the greatest parameter (ours)
 abbrev pub greatest_param : ℕ
 greatest_param = 9999
 
--- a parameter: its decimal value, at most the greatest (profile)
+-- a parameter: its decimal value, at most the greatest (ours)
 abbrev pub parameter : List ℕ → ℕ
 parameter piece = min greatest_param (decimal_value piece)
 
@@ -162,7 +162,7 @@ parameter piece = min greatest_param (decimal_value piece)
 unfoldable pub numbers : List ℕ → List ℕ
 numbers text = map parameter (slice_split is_semicolon text)
 
--- how many parameters count (profile)
+-- how many parameters count (ours)
 abbrev pub most_params : ℕ
 most_params = 16
 
@@ -186,7 +186,7 @@ escape_meaning [] last = Some (Esc None last)
 escape_meaning (inter ∷ []) last = Some (Esc (Some inter) last)
 escape_meaning (inter ∷ next ∷ rest) last = None
 
--- of a control sequence by its text; one that isn't well formed has no effect (profile)
+-- of a control sequence by its text; one that isn't well formed has no effect (ours)
 abbrev pub control_meaning : List ℕ → ℕ → Option Command
 control_meaning text last =
     if is_well_formed text then Some (Csi (is_private text) (held (params (after_mark text))) last) else None

@@ -1,4 +1,4 @@
-//! The limits of a control sequence. Profile.
+//! The limits of a control sequence (ours).
 
 /// Parameters that count.
 pub const MOST_PARAMS: usize = 16;

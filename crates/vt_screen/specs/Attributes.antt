@@ -12,7 +12,7 @@ pub record Attributes : Type 0 where
 abbrev pub plain : Attributes
 plain = record { bold = false; underscore = false; blink = false; reverse = false }
 
--- a rendition's byte: bit 0 is bold, bit 1 underscore, bit 2 blink, bit 3 reverse (profile)
+-- a rendition's byte: bit 0 is bold, bit 1 underscore, bit 2 blink, bit 3 reverse (ours)
 abbrev pub attributes_of : ℕ → Attributes
 attributes_of byte = record {
   bold = byte % 2 == 1;

@@ -8,7 +8,7 @@ use Rattle.vt_screen.specs.Attributes.{plain}
 use Rattle.vt_screen.specs.Table.{table, nth}
 use Rattle.vt_screen.specs.Limits.{line_count, wide_columns}
 
--- a space without rendition (profile)
+-- a space without rendition (ours)
 abbrev pub blank : Cell
 blank = record { glyph = 32; rendition = plain }
 
@@ -16,7 +16,7 @@ blank = record { glyph = 32; rendition = plain }
 unfoldable pub blank_cells : List Cell
 blank_cells = replicate wide_columns blank
 
--- blank and single width: the row that enters as lines scroll (profile)
+-- blank and single width: the row that enters as lines scroll (ours)
 abbrev pub blank_row : Row
 blank_row = record { size = Single; cells = blank_cells }
 

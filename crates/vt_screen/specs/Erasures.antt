@@ -25,7 +25,7 @@ abbrev pub in_part : ℕ → Picture → ℕ → ℕ → Bool
 in_part part p line column =
     if line == p.line then in_line_part part p.column column else in_other_lines part p.line line
 
--- a line is erased completely where the part has all its columns from 1 to its right margin (profile)
+-- a line is erased completely where the part has all its columns from 1 to its right margin (ours)
 abbrev pub erased_whole : ℕ → Picture → ℕ → Bool
 erased_whole part p line = list_all (in_part part p line) (range_with_len 1 (right_margin p line))
 

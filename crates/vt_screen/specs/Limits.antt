@@ -13,6 +13,6 @@ wide_columns = 132
 abbrev pub narrow_columns : ℕ
 narrow_columns = 80
 
--- the greatest number of a glyph (profile)
+-- the greatest number of a glyph (ours)
 abbrev pub last_glyph : ℕ
 last_glyph = 126

@@ -11,7 +11,7 @@ use Rattle.vt_screen.specs.Moves.{moved_home}
 use Rattle.vt_screen.specs.Puts.{with_row}
 use Rattle.vt_screen.specs.Limits.{line_count}
 
--- a row of another size: from single to double the cells right of the middle are blank (profile)
+-- a row of another size: from single to double the cells right of the middle are blank (ours)
 abbrev pub resized : Bool → Size → Row → Row
 resized wide size row = row_by size (λ column.
     if is_single row.size && not (is_single size) && nat_lt (margin_of wide size) column
@@ -27,7 +27,7 @@ size_set size p = record p {
   wrap = false;
 }
 
--- DECCOLM, also to the width already there: all blank and single, margins 1 and 24, home (profile)
+-- DECCOLM, also to the width already there: all blank and single, margins 1 and 24, home (ours)
 abbrev pub columns_set : Bool → Bool → Picture → Picture
 columns_set wide origin p =
     moved_home origin (record p { wide = wide; rows = rows_by (λ _. blank_row); top = 1; bottom = line_count })

@@ -1,4 +1,4 @@
--- Moves of the cursor. Each takes the pending wrap away (profile).
+-- Moves of the cursor. Each takes the pending wrap away (ours).
 use Rattle.std.specs.Prelude.{ℕ, ◌+◌, ◌-◌, Bool, false, nat_le, ◌==◌, ◌&&◌, min, max, if◌then◌else◌}
 use Rattle.vt_screen.specs.Picture.{Picture, right_margin}
 use Rattle.vt_screen.specs.Limits.{line_count}
@@ -43,11 +43,11 @@ placed line column origin p =
 abbrev pub moved_home : Bool → Picture → Picture
 moved_home origin p = record p { line = (if origin then p.top else 1); column = 1; wrap = false }
 
--- the wrap alone is cleared (profile)
+-- the wrap alone is cleared (ours)
 abbrev pub wrap_cleared : Picture → Picture
 wrap_cleared p = record p { wrap = false }
 
--- DECRC's part on the screen (profile): the line, moved into the margins where the origin is there;
+-- DECRC's part on the screen (ours): the line, moved into the margins where the origin is there;
 -- the column, cut to that line's right margin; the wrap where autowrap is set and the column is that margin
 abbrev pub put_back : ℕ → ℕ → Bool → Bool → Bool → Picture → Picture
 put_back line column wrap origin autowrap p =

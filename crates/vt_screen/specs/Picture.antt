@@ -51,7 +51,7 @@ pub record SoundRow (wide : Bool) (row : Row) : Type 0 where
   pub glyphs : (column : ℕ) → (cell_at row column).glyph ≤ last_glyph
 
 -- what every screen keeps: 24 such rows, the cursor within the right margin of its line, and a top
--- margin above the bottom one (profile)
+-- margin above the bottom one (ours)
 pub record Sound (p : Picture) : Type 0 where
   pub rows : length p.rows ≡ line_count
   pub row : (line : ℕ) → SoundRow p.wide (row_at p.rows line)
@@ -79,11 +79,11 @@ KeepsInside op = (p : Picture) → Sound p → Inside p → Inside (op p)
 abbrev pub GoesInside : (Picture → Picture) → Type 0
 GoesInside op = (p : Picture) → Sound p → Inside (op p)
 
--- a tab stops at every eighth column from 9 to 129 (profile)
+-- a tab stops at every eighth column from 9 to 129 (ours)
 abbrev pub first_tabs : List Bool
 first_tabs = table wide_columns (λ column. nat_lt 1 column && (column % 8 == 1))
 
--- the initial screen (profile): 80 columns, all blank and single width
+-- the initial screen (ours): 80 columns, all blank and single width
 abbrev pub reset : Picture
 reset = record {
   wide = false;

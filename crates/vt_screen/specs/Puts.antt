@@ -29,7 +29,7 @@ put cell autowrap p =
     then record p { rows = rows; wrap = autowrap }
     else record p { rows = rows; column = p.column + 1 }
 
--- a character is shown: the pending wrap first, then its cell (profile)
+-- a character is shown: the pending wrap first, then its cell (ours)
 abbrev pub shown : ℕ → Attributes → Bool → Picture → Picture
 shown glyph rendition autowrap p = put (record { glyph = glyph; rendition = rendition }) autowrap (wrap_taken p)
 

@@ -1,5 +1,5 @@
 -- Where rows lie: 24 slots, and for each line the name of its slot, from 0 to 23. All of it is the
--- project's own (profile): no crate above sees it.
+-- project's own (ours): no crate above sees it.
 use Rattle.std.specs.Prelude.{◌≡◌, ℕ, ◌+◌, ◌-◌, ◌<◌, ◌≤◌, List, length, nat_le, min, slice_index_or, slice_set, ◌==◌, ◌&&◌, if◌then◌else◌}
 use Rattle.vt_screen.specs.declared.cell.Row.{Row}
 use Rattle.vt_screen.specs.Table.{table, nth}

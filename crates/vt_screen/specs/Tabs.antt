@@ -9,7 +9,7 @@ use Rattle.vt_screen.specs.Limits.{wide_columns}
 abbrev pub stop_at : List Bool → ℕ → Bool
 stop_at tabs column = nth false tabs column
 
--- the first stop right of a column and up to the margin, or the margin where there is none (profile)
+-- the first stop right of a column and up to the margin, or the margin where there is none (ours)
 abbrev pub stop_after : List Bool → ℕ → ℕ → ℕ
 stop_after tabs column margin =
     unwrap_or (find (stop_at tabs) (range_with_len (column + 1) (margin - column))) margin

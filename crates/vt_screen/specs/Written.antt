@@ -1,4 +1,4 @@
--- Parts of a row that are written at once: what the bodies below the operations leave (profile).
+-- Parts of a row that are written at once: what the bodies below the operations leave (ours).
 use Rattle.std.specs.Prelude.{ℕ, ◌+◌, List, [], ◌∷◌, nat_le, nat_lt, ◌&&◌, if◌then◌else◌}
 use Rattle.vt_screen.specs.declared.cell.Cell.{Cell}
 use Rattle.vt_screen.specs.declared.cell.Row.{Row}

@@ -27,7 +27,7 @@ pub record Console : Type 0 where
   -- L1 to L4
   pub leds : List Bool
 
--- ANSI mode and DECAWM set, every other mode reset, numeric keypad (profile)
+-- ANSI mode and DECAWM set, every other mode reset, numeric keypad (ours)
 abbrev pub first_modes : Modes
 first_modes = record {
   mode = Ansi;
@@ -47,7 +47,7 @@ first_modes = record {
 abbrev pub dark : List Bool
 dark = false ∷ false ∷ false ∷ false ∷ []
 
--- the initial state of a profile (profile)
+-- the initial state of a profile (ours)
 abbrev pub reset_console : Profile → Console
 reset_console profile = record {
   profile = profile;
@@ -71,7 +71,7 @@ on_modes change s = record s { modes = change s.modes }
 abbrev pub on_sets : (Sets → Sets) → Console → Console
 on_sets change s = record s { sets = change s.sets }
 
--- What stands in no table has no effect (profile).
+-- What stands in no table has no effect (ours).
 abbrev pub effect_of : {Row : Type 0} → (Row → Console → Console) → Option Row → Console → Console
 effect_of effect None s = s
 effect_of effect (Some row) s = effect row s
@@ -88,7 +88,7 @@ console_of fields = record {
   leds = fields.leds;
 }
 
--- a saved cursor stands on the screen (profile)
+-- a saved cursor stands on the screen (ours)
 abbrev pub IsSavedWell : Option Saved → Type 0
 IsSavedWell None = Unit {0}
 IsSavedWell (Some saved) = (1 ≤ saved.line) × (saved.line ≤ line_count) × (1 ≤ saved.column) × (saved.column ≤ wide_columns)

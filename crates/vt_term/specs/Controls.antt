@@ -35,7 +35,7 @@ control_named = named controls
 abbrev pub line_fed : Bool → Picture → Picture
 line_fed newline p = indexed (if newline then moved_to_left p else p)
 
--- SO and SI: the other slot is invoked; nothing in VT52 mode (profile)
+-- SO and SI: the other slot is invoked; nothing in VT52 mode (ours)
 abbrev pub invoked : Slot → Mode → Console → Console
 invoked slot Ansi s = on_sets (λ sets. record sets { invoked = slot }) s
 invoked slot Vt52 s = s

@@ -45,7 +45,7 @@ line_escapes =
     (56, Decaln) ∷  -- 8
     []
 
--- the final bytes of SCS; the alternate ROMs of 1 and 2 are ASCII and special graphics (profile)
+-- the final bytes of SCS; the alternate ROMs of 1 and 2 are ASCII and special graphics (ours)
 abbrev pub character_sets : List (ℕ × CharacterSet)
 character_sets =
     (65, Uk) ∷  -- A
@@ -68,7 +68,7 @@ escape_named (Some inter) last =
     else (if inter == 41 then designation_named G1 last  -- )
     else None))
 
--- DECSC: cursor, rendition and sets (EK-VT100-UG chapter 3), and also the pending wrap and DECOM (profile)
+-- DECSC: cursor, rendition and sets (EK-VT100-UG chapter 3), and also the pending wrap and DECOM (ours)
 abbrev pub saved_from : Console → Saved
 saved_from s = record {
   line = s.picture.line;
@@ -81,7 +81,7 @@ saved_from s = record {
   origin = s.modes.origin;
 }
 
--- DECRC (profile): what was saved comes back and stays saved; without a save home with DECOM reset, no wrap and no
+-- DECRC (ours): what was saved comes back and stays saved; without a save home with DECOM reset, no wrap and no
 -- rendition, ASCII in G0 and G1, and G0 invoked
 abbrev pub restored : Option Saved → Console → Console
 restored None s = record s {

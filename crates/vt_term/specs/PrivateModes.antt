@@ -31,7 +31,7 @@ switches =
     (108, false) ∷  -- l
     []
 
--- DECANM reset: VT52 mode (EK-VT100-UG chapter 3), its graphics off (profile)
+-- DECANM reset: VT52 mode (EK-VT100-UG chapter 3), its graphics off (ours)
 abbrev pub vt52_entered : Console → Console
 vt52_entered s = record s {
   modes = record s.modes { mode = Vt52 };

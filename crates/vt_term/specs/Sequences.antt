@@ -90,7 +90,7 @@ ansi_mode_set profile value modes param =
     else (if param == 4 && has_editing profile then record modes { insert = value }
     else modes)
 
--- IL, DL and DCH do nothing where the profile hasn't them (profile)
+-- IL, DL and DCH do nothing where the profile hasn't them (ours)
 abbrev pub where_it_edits : (Picture → Picture) → Console → Console
 where_it_edits edit s = if has_editing s.profile then on_picture edit s else s
 
@@ -102,7 +102,7 @@ leds_set leds param =
     else leds)
 
 -- The table of their effects. SGR, SM, RM and DECLL take every parameter, from left to right; the others take the first
--- one, or two, and drop the rest (profile). DA, DSR and DECREQTPARM reply and have no effect.
+-- one, or two, and drop the rest (ours). DA, DSR and DECREQTPARM reply and have no effect.
 abbrev pub sequence_effect : Sequence → List ℕ → Console → Console
 sequence_effect Cuu params s = on_picture (stepped_up (counted (first_of params))) s
 sequence_effect Cud params s = on_picture (stepped_down (counted (first_of params))) s

@@ -15,7 +15,7 @@ glyph_of Ascii byte = byte
 glyph_of Uk byte = if byte == 35 then 30 else byte
 glyph_of SpecialGraphics byte = if nat_le 95 byte then byte - 95 else byte
 
--- the error character: the checkerboard (profile)
+-- the error character: the checkerboard (ours)
 abbrev pub checkerboard : ℕ
 checkerboard = 2
 
@@ -30,7 +30,7 @@ abbrev pub set_in_use : Mode → Sets → CharacterSet
 set_in_use Ansi sets = set_in sets.invoked sets
 set_in_use Vt52 sets = if sets.vt52_graphics then SpecialGraphics else Ascii
 
--- ASCII in G0 and G1, G0 invoked, VT52 graphics off (profile)
+-- ASCII in G0 and G1, G0 invoked, VT52 graphics off (ours)
 abbrev pub first_sets : Sets
 first_sets = record { g0 = Ascii; g1 = Ascii; invoked = G0; vt52_graphics = false }
 

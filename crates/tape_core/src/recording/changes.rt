@@ -12,7 +12,7 @@ use crate::chunk::Chunk;
 
 impl Recording {
     /// Puts the chunk before chunk `at`, or at the end where `at` is the number of chunks. For want of
-    /// memory the chunk comes back, and nothing has changed. Profile.
+    /// memory the chunk comes back, and nothing has changed (ours).
     pub fn insert(&mut self, at: usize, chunk: Chunk) -> Result<(), Chunk>
         requires place { at ≤ length self.old.chunks }
         requires few { length self.old.chunks < most_chunks }
@@ -37,7 +37,7 @@ impl Recording {
         Ok(())
     }
 
-    /// Takes the chunks from `from` up to and without `to` out, delays and all. Takes no memory. Profile.
+    /// Takes the chunks from `from` up to and without `to` out, delays and all. Takes no memory (ours).
     pub fn remove(&mut self, from: usize, to: usize)
         requires some { from < to }
         requires within { to ≤ length self.old.chunks }
@@ -50,7 +50,7 @@ impl Recording {
         add_up(&mut self.dues, &self.chunks, from);
     }
 
-    /// Gives chunk `at` other bytes. Takes no memory. Profile.
+    /// Gives chunk `at` other bytes. Takes no memory (ours).
     pub fn replace(&mut self, at: usize, bytes: Bytes)
         requires place { at < length self.old.chunks }
         requires len { length bytes ≤ longest_chunk }
@@ -64,7 +64,7 @@ impl Recording {
         chunk.bytes = bytes;
     }
 
-    /// Gives chunk `at` another delay, in microseconds. Takes no memory. Profile.
+    /// Gives chunk `at` another delay, in microseconds. Takes no memory (ours).
     pub fn retime(&mut self, at: usize, delay: u64)
         requires place { at < length self.old.chunks }
         requires delay { delay ≤ longest_delay }
@@ -75,7 +75,7 @@ impl Recording {
         add_up(&mut self.dues, &self.chunks, at);
     }
 
-    /// Lowers each delay above `max`, in microseconds, to `max`. Takes no memory. Profile: what
+    /// Lowers each delay above `max`, in microseconds, to `max`. Takes no memory. Ours: what
     /// `scriptreplay --maxdelay` does as it plays.
     pub fn cap(&mut self, max: u64)
         requires { max ≤ longest_delay }
