@@ -1,0 +1,284 @@
+#!/usr/bin/env python3
+"""Sees that docs/READING.md lists just the definitions that the contract of `seek` rests on.
+
+    tests/reading.py [--write]
+
+The list is computed: every name that a clause of `Session::seek` cites, every name that those definitions cite, and so
+on, by the `use` lines of the specs/ folders. A record, a data type and its constructors count as one; so does a type of
+the code that the definitions speak of. With --write the page gets the list's rows anew: its headings and their order
+stay, names that went are dropped, new ones stand behind the definition that stands before them in their file. A row's
+text is the comment of the definition, so a wrong text is mended there.
+"""
+import glob
+import itertools
+import os
+import re
+import sys
+
+TOP = os.path.join(os.path.dirname(os.path.abspath(__file__)), "..")
+PAGE = "docs/READING.md"
+NAME = r"[^\W\d]\w*(?:\.\w+)*"
+USE = re.compile(r"^\s*(?:ghost )?use (Rattle\.[\w.]+?)(?:\.\{([^}]*)\}| as (\w+))?;?$", re.M)
+HEAD = re.compile(r"^(?:abbrev |unfoldable )?pub (?:record |data )?(\w+)", re.M)
+
+
+def read(path):
+    with open(os.path.join(TOP, path), encoding="utf-8") as file:
+        return file.read()
+
+
+def files(pattern):
+    return sorted(os.path.relpath(path, TOP) for path in glob.glob(os.path.join(TOP, pattern), recursive=True))
+
+
+class Definition:
+    """A definition of specs/, or a type of the code that definitions speak of."""
+
+    def __init__(self, name, place, text, comment):
+        self.name, self.place, self.text, self.comment = name, place, text, comment
+
+    def row(self):
+        crate, _, rest = self.place.removeprefix("crates/").partition("/")
+        return (
+            f"| `{self.name}` | {self.comment.replace('|', chr(92) + '|')} | `{crate}` `{rest.removesuffix('.antt')}` |"
+        )
+
+
+def imports(text):
+    """Each name that the use lines bring, with the module that has it, and each other name of a module."""
+    names, modules = {}, {}
+    for path, listed, alias in USE.findall(text):
+        for piece in filter(None, (piece.strip() for piece in (listed or "").split(","))):
+            name, _, other = piece.partition(" as ")
+            names[other or name] = (path, name)
+        if alias:
+            modules[alias] = path
+    return names, modules
+
+
+def sentence(lines):
+    """A comment as one sentence of a table."""
+    text = " ".join(line.strip() for line in lines)
+    return text[:1].upper() + text[1:].removesuffix(".")
+
+
+def blocks(path):
+    """The definitions of a file of specs/, in order. One without a comment has that before it."""
+    text = read(path).split("\n")
+    comment = sentence(line[2:] for line in itertools.takewhile(lambda line: line.startswith("--"), text))
+    pending, lines, found = [], [], []
+    for line in text + ["pub end"]:
+        head = HEAD.match(line)
+        starts = head and not line.startswith("pub mod ")
+        if lines and (starts or re.match(r"(--|use |infixl |$)", line)):
+            found.append((HEAD.match(lines[0])[1], "\n".join(lines), comment))
+            lines = []
+        if line.startswith("-- ----") or not line:
+            pending = []
+        elif line.startswith("--"):
+            pending.append(line[2:])
+        elif starts:
+            comment, pending, lines = sentence(pending) if pending else comment, [], [line]
+        elif lines:
+            lines.append(line)
+    return [Definition(name, path, text, said) for name, text, said in found]
+
+
+def code_type(crate, name):
+    """A type of the code: its fields or variants, and what its comment says."""
+    for path in files(f"crates/{crate}/src/**/*.rt"):
+        text = read(path)
+        found = re.search(
+            rf"((?:^///[^\n]*\n)*)(?:^#\[[^\n]*\n)*^pub (?:struct|enum) {name}\b[^{{;]*[{{;](.*?)^\}}",
+            text,
+            re.M | re.S,
+        )
+        if found:
+            said = sentence(line[3:] for line in found[1].strip().split("\n"))
+            return Definition(name, path, re.sub(r"//.*", "", found[2]), said)
+    sys.exit(f"no type {name} in crates/{crate}/src")
+
+
+class Book:
+    """All definitions, found by their modules."""
+
+    def __init__(self):
+        self.modules, self.order, self.seen = {}, {}, {}
+
+    def module(self, path):
+        """The definitions of specs/PATH of a crate, by name; constructors give their data type."""
+        if path not in self.modules:
+            _, crate, _, *rest = path.split(".")
+            file = f"crates/{crate}/specs/{'/'.join(rest)}.antt"
+            known = blocks(file) if os.path.exists(os.path.join(TOP, file)) else []
+            self.modules[path] = {definition.name: definition for definition in known}
+            self.order[file] = [definition.name for definition in known]
+            for definition in known:
+                if definition.text.startswith("pub data "):
+                    for names in re.findall(r"^  ([\w ]+) :", definition.text, re.M):
+                        for name in names.split():
+                            self.modules[path].setdefault(name, definition)
+        return self.modules[path]
+
+    def find(self, path, name):
+        """The definition that a module has under a name, or None where it is none of the repository's."""
+        parts = path.split(".")
+        if len(parts) < 4 or parts[2] != "specs" or not os.path.isdir(os.path.join(TOP, "crates", parts[1])):
+            return None
+        if parts[3] == "declared":
+            owner = parts[-2] if parts[-1] == "TheVariants" else parts[-1]
+            if (parts[1], owner) not in self.seen:
+                self.seen[parts[1], owner] = code_type(parts[1], owner)
+            return self.seen[parts[1], owner]
+        return self.module(path).get(name)
+
+    def cited(self, definition):
+        """The definitions that one cites."""
+        text = read(definition.place)
+        if definition.place.endswith(".rt"):
+            return self.types_in(definition, text)
+        names, modules = imports(text)
+        own = f"Rattle.{definition.place.split('/')[1]}.specs." + definition.place.split("/specs/")[1][:-5].replace(
+            "/", "."
+        )
+        found = []
+        for clause in clauses(definition):
+            for word in free_names(clause):
+                head, _, rest = word.partition(".")
+                if head in modules:
+                    found.append(self.find(modules[head], rest.split(".")[0]))
+                elif head in names:
+                    found.append(self.find(*names[head]))
+                else:
+                    found.append(self.module(own).get(head))
+        return [one for one in found if one and one is not definition]
+
+    def types_in(self, definition, text):
+        """The types of the fields of one in the code: as contracts see them."""
+        crate, found = definition.place.split("/")[1], []
+        for name in set(re.findall(r"\b[A-Z]\w+", definition.text)) - {"Vec", "Option", "Some", "None", "Box"}:
+            outside = re.search(rf"^use (\w+)::\{{?[^;]*\b{name}\b", text, re.M)
+            home = outside[1] if outside and outside[1] not in ("crate", "super", "std") else crate
+            for path in files(f"crates/{home}/src/**/*.rt"):
+                source = read(path)
+                if not re.search(rf"^pub (?:struct|enum) {name}\b", source, re.M):
+                    continue
+                model = re.search(rf"^impl Model for {name} \{{.*?ghost Value = \{{ (.*?) \}};", source, re.M | re.S)
+                if model and model[1] in imports(source)[0]:
+                    found.append(self.find(*imports(source)[0][model[1]]))
+                elif not model:
+                    found.append(self.find(f"Rattle.{home}.specs.declared.{name}", name))
+        return [one for one in found if one]
+
+
+def clauses(definition):
+    """A definition cut into its equations; a record or a data type is one, and its fields are no names."""
+    text = re.sub(r"--.*", "", definition.text)
+    if text.startswith(("pub record", "pub data")):
+        return [re.sub(r"^  (?:pub )?[\w ]+ :", "", text, flags=re.M).replace(f" {definition.name} ", " ", 1)]
+    head, *rest = re.split(rf"^(?={definition.name}\b)", text, flags=re.M)
+    return [head.split(":", 1)[1] if ":" in head else "", *rest]
+
+
+def free_names(clause):
+    """The names of an equation that it doesn't bind itself. Constructors in its patterns count."""
+    left, equals, right = (
+        re.match(r"(\w[^=\n]*?)?( = |=\n)?(.*)", clause, re.S).groups() if "=" in clause else ("", "", clause)
+    )
+    bound = {name for name in re.findall(NAME, left or "") if name[0].islower()} if equals else set()
+    body = right if equals else clause
+    bound |= {name for names in re.findall(r"λ ([^.]*)\.", body) for name in names.split()}
+    bound |= set(re.findall(r"\blet (\w+) =", body))
+    bound |= {name for names in re.findall(r"[({]((?:\w+ )+): ", body) for name in names.split()}
+    fields = set(re.findall(r"[{;]\s*(\w+) = ", body))
+    names = re.findall(NAME, body) + [name for name in re.findall(NAME, left or "") if name[0].isupper()]
+    body_alone = {name for name in re.findall(r"(?<![{;] )(?<!\w)(\w+)(?! = )\b", body)}
+    return [name for name in names if name.split(".")[0] not in bound and (name not in fields or name in body_alone)]
+
+
+def contract_of_seek():
+    """The file of `seek`, and the clauses of its contract with what the contracts see of a session."""
+    for path in files("crates/tape_seek/src/**/*.rt"):
+        text = read(path)
+        found = re.search(r"^    pub fn seek\(.*?^    \{", text, re.M | re.S)
+        if found:
+            values = re.findall(r"ghost Value = \{ (\w+) \};", text)
+            return path, text, re.sub(r"//.*", "", found[0]) + " " + " ".join(values)
+    sys.exit("no function seek in crates/tape_seek")
+
+
+def rests_on():
+    """The definitions that the contract of `seek` cites, and those that they cite, each once."""
+    book = Book()
+    _, text, clause = contract_of_seek()
+    names, _ = imports(text)
+    found, waiting = {}, [book.find(*names[word]) for word in re.findall(r"\w+", clause) if word in names]
+    while waiting:
+        one = waiting.pop()
+        if one and (one.name, one.place) not in found:
+            found[one.name, one.place] = one
+            waiting += book.cited(one)
+    return found, book
+
+
+ROW = re.compile(r"^\| `(\w+)` \| .* \| `(\w+)` `([\w/.]+)` \|$")
+
+
+def key_of(match):
+    rest = match[3] if match[3].endswith(".rt") else f"{match[3]}.antt"
+    return match[1], f"crates/{match[2]}/{rest}"
+
+
+def place_of_new(key, lines, order):
+    """Where a row that the page lacks comes in: behind the nearest one before it in its file, or else at the end."""
+    name, place = key
+    names = order.get(place, [name])
+    before = names[: names.index(name)] if name in names else []
+    rows = {key_of(match): at for at, match in enumerate(map(ROW.match, lines)) if match}
+    for other in reversed(before):
+        if (other, place) in rows:
+            return rows[other, place] + 1
+    same = [at for (_, where), at in rows.items() if where == place]
+    return min(same) if same else (max(rows.values(), default=len(lines) - 1) + 1)
+
+
+def written(page, found, book):
+    """The page with the rows of these definitions."""
+    lines = []
+    for line in page.split("\n"):
+        match = ROW.match(line)
+        if not match:
+            lines.append(line)
+        elif key_of(match) in found:
+            lines.append(found[key_of(match)].row())
+    there = {key_of(match) for match in map(ROW.match, lines) if match}
+    rank = {(name, place): at for place, names in book.order.items() for at, name in enumerate(names)}
+    for key in sorted(found.keys() - there, key=lambda key: (key[1], rank.get(key, -1))):
+        lines.insert(place_of_new(key, lines, book.order), found[key].row())
+    text = "\n".join(lines)
+    count = f"**{len(found)} definitions**"
+    return re.sub(r"\*\*\d+ definitions\*\*", count, text)
+
+
+def main():
+    found, book = rests_on()
+    page = read(PAGE)
+    wanted = written(page, found, book)
+    if sys.argv[1:] == ["--write"]:
+        with open(os.path.join(TOP, PAGE), "w", encoding="utf-8") as file:
+            file.write(wanted)
+        return 0
+    if page == wanted:
+        print(f"reading: {len(found)} definitions passed, 0 failed")
+        return 0
+    old, new = set(page.split("\n")), set(wanted.split("\n"))
+    for line in sorted(old - new):
+        print(f"FAILED {PAGE} has: {line[:150]}")
+    for line in sorted(new - old):
+        print(f"FAILED {PAGE} lacks: {line[:150]}")
+    print("tests/reading.py --write brings the page in step")
+    return 1
+
+
+if __name__ == "__main__":
+    sys.exit(main())
