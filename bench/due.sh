@@ -7,27 +7,13 @@ program=$(realpath "${1:-$here/../bin/typetool}")
 place=$(mktemp -d)
 trap 'rm -rf "$place"' EXIT
 cd "$place"
-python3 "$here/repeat.py" "$here/../examples/tour.script" "$here/../examples/tour.timing" 67108864 big.script big.timing
-
-# measure OUT COMMAND..: user and system seconds, and the greatest resident size in KiB.
-measure() {
-    python3 - "$@" <<'END'
-import os, sys
-out, *command = sys.argv[1:]
-pid = os.fork()
-if pid == 0:
-    os.dup2(os.open(out, os.O_WRONLY | os.O_CREAT | os.O_TRUNC), 1)
-    os.execvp(command[0], command)
-_, status, use = os.wait4(pid, 0)
-assert status == 0, status
-print(use.ru_utime + use.ru_stime, use.ru_maxrss)
-END
-}
+python3 "$here/shared.py" repeat "$here/../examples/tour.script" "$here/../examples/tour.timing" 67108864 big.script big.timing
 
 # The least of five runs each, in turn, so that other work on the machine counts little.
 for _ in 1 2 3 4 5; do
-    measure ours.bin "$program" due --at 1000000000 big.script big.timing >>ours.txt
-    measure theirs.bin scriptreplay --maxdelay 0.00001 --log-out big.script --log-timing big.timing >>theirs.txt
+    python3 "$here/shared.py" measure /dev/null ours.bin "$program" due --at 1000000000 big.script big.timing >>ours.txt
+    python3 "$here/shared.py" measure /dev/null theirs.bin \
+        scriptreplay --maxdelay 0.00001 --log-out big.script --log-timing big.timing >>theirs.txt
 done
 read -r ours memory < <(sort -g ours.txt)
 read -r theirs _ < <(sort -g theirs.txt)

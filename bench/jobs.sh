@@ -8,45 +8,36 @@ program=$(realpath "${1:-$here/../bin/typetool}")
 place=$(mktemp -d)
 trap 'rm -rf "$place"' EXIT
 cd "$place"
-python3 "$here/repeat.py" "$here/../examples/tour.script" "$here/../examples/tour.timing" 67108864 big.script big.timing
+python3 "$here/shared.py" repeat "$here/../examples/tour.script" "$here/../examples/tour.timing" 67108864 big.script big.timing
 sed -i '1s/^/0.000001 0\n/' big.timing
 echo 'screen 1000000000' >end.requests
 end=(--at 1000000000 big.script big.timing)
 
-# measure NAME COMMAND..: adds the user and system seconds of a run to NAME.txt.
+# measure NAME REQUESTS COMMAND..: adds the user and system seconds of a run on these requests to NAME.txt.
 measure() {
-    python3 - "$@" <<'END' >>"$1.txt"
-import os, sys
-_, *command = sys.argv[1:]
-pid = os.fork()
-if pid == 0:
-    os.dup2(os.open("end.requests", os.O_RDONLY), 0)
-    os.dup2(os.open("out.bin", os.O_WRONLY | os.O_CREAT | os.O_TRUNC), 1)
-    os.execvp(command[0], command)
-_, status, use = os.wait4(pid, 0)
-assert status == 0, status
-print(use.ru_utime + use.ru_stime)
-END
+    python3 "$here/shared.py" measure "$2" out.bin "${@:3}" >>"$1.txt"
 }
 
 # The least of five runs each, in turn, so that other work on the machine counts little.
 for _ in 1 2 3 4 5; do
-    measure read "$program" due --at 0 big.script big.timing
-    measure due "$program" due "${end[@]}"
-    measure info "$program" info big.script big.timing
-    measure screen "$program" screen "${end[@]}"
-    measure feed "$program" session --every 1000000 big.script big.timing
-    measure changes "$program" changes --to 1000000000 big.script big.timing
-    : >no.requests
-    mv end.requests kept.requests && mv no.requests end.requests
-    measure save "$program" save big.script big.timing new.script new.timing
-    mv kept.requests end.requests
+    measure read end.requests "$program" due --at 0 big.script big.timing
+    measure due end.requests "$program" due "${end[@]}"
+    measure info end.requests "$program" info big.script big.timing
+    measure screen end.requests "$program" screen "${end[@]}"
+    measure feed end.requests "$program" session --every 1000000 big.script big.timing
+    measure changes end.requests "$program" changes --to 1000000000 big.script big.timing
+    measure save /dev/null "$program" save big.script big.timing new.script new.timing
     rm -f new.script new.timing
 done
 
+# least NAME: the least time of a job.
+least() {
+    cut -d' ' -f1 "$1.txt" | sort -g | head -n 1
+}
+
 # ratio ONE OTHER GOAL: the least time of one over that of the other.
 ratio() {
-    awk -v a="$(sort -g "$1.txt" | head -n 1)" -v b="$(sort -g "$2.txt" | head -n 1)" -v one="$1" -v other="$2" -v goal="$3" \
+    awk -v a="$(least "$1")" -v b="$(least "$2")" -v one="$1" -v other="$2" -v goal="$3" \
         'BEGIN { printf "%s %.2f s over %s %.2f s: %.3f (wanted: at most %s)\n", one, a, other, b, a / b, goal }'
 }
 ratio changes screen 2

@@ -1,35 +1,16 @@
 """Makes the input of seek.sh, and times both sides on it."""
-import glob
 import os
 import re
 import subprocess
 import sys
 import time
 
+from shared import shipped, spent, write_recording
+
 typetool, work, mib, libtty = sys.argv[1:]
 size = int(mib) << 20
 places = 2000
 delay = 100  # microseconds between chunks
-
-
-def body(script):
-    """A recording's bytes between its header line and the line that script(1) ends it with."""
-    text = open(script, "rb").read()
-    text = text[text.index(b"\n") + 1:]
-    end = re.search(rb"\nScript done on [^\n]*\n\Z", text)
-    return text[:end.start()] if end else text
-
-
-def write_recording():
-    piece = b"".join(body(script) for script in sorted(glob.glob("examples/*.script") + glob.glob("tests/recordings/*.script")))
-    text = (piece * (size // len(piece) + 1))[:size]
-    script, timing = os.path.join(work, "script"), os.path.join(work, "timing")
-    with open(script, "wb") as file:
-        file.write(b"Script started\n" + text)
-    chunks = [min(80, len(text) - start) for start in range(0, len(text), 80)]
-    with open(timing, "w") as file:
-        file.writelines(f"0.{delay:06} {count}\n" for count in chunks)
-    return script, timing, len(chunks)
 
 
 def moments(chunks):
@@ -51,42 +32,31 @@ def request_file(requests):
     return path
 
 
-def run_once(words, path):
-    pid = os.fork()
-    if pid == 0:
-        os.dup2(os.open(path, os.O_RDONLY), 0)
-        os.dup2(os.open(os.devnull, os.O_WRONLY), 1)
-        os.execvp(words[0], words)
-    _, status, usage = os.wait4(pid, 0)
-    if status:
-        sys.exit(f"{words[0]} failed")
-    return usage.ru_utime + usage.ru_stime
-
-
 def run(words, requests):
     """The processor seconds of the fastest of three runs on these requests; their output is thrown away."""
     path = request_file(requests)
-    return min(run_once(words, path) for _ in range(3))
+    return min(spent(words, path)[0] for _ in range(3))
 
 
 def resident(words, requests):
-    """The memory in MB of a run that waits: with requests for somebody to read its answers, without any for the first."""
+    """The memory in MB of a run that waits: with requests for a reader of its answers, without any for the first."""
     stdin = open(request_file(requests)) if requests else subprocess.PIPE
     ran = subprocess.Popen(words, stdin=stdin, stdout=subprocess.PIPE)
-    spent = None
+    used = None
     while True:
         time.sleep(0.5)
         fields = open(f"/proc/{ran.pid}/stat").read().rsplit(")", 1)[1].split()
-        if fields[0] == "S" and fields[11] == spent:
+        if fields[0] == "S" and fields[11] == used:
             break
-        spent = fields[11]
+        used = fields[11]
     status = open(f"/proc/{ran.pid}/status").read()
     ran.kill()
     ran.wait()
     return int(re.search(r"VmRSS:\s+(\d+)", status)[1]) * 1024 / 1000000
 
 
-script, timing, chunks = write_recording()
+script, timing = write_recording(work, "recording", shipped(size), 80, delay)
+chunks = -(-size // 80)
 end = f"screen {seconds(chunks * delay)}"
 spread = [f"screen {seconds(moment)}" for moment in moments(chunks)]
 
@@ -111,5 +81,5 @@ if libtty:
     words = [libtty, script, timing]
     stdin = [str(moment) for moment in moments(chunks)]
     libtty_memory = resident(words, []) - size / 1000000
-    loaded, libtty_all = run_once(words, request_file([])), run_once(words, request_file(stdin))
+    loaded, libtty_all = spent(words, request_file([]))[0], spent(words, request_file(stdin))[0]
     print(f"libtty: a seek {1000 * (libtty_all - loaded) / places:.3f} ms, {libtty_memory:.0f} MB beside the recording")
