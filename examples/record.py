@@ -6,14 +6,25 @@
 Waits WAIT seconds before it types KEYS (\\e, \\r and the like are escapes) and ends when the command ends. The program
 runs under TERM=vt100, or the name that RECORD_TERM has.
 """
-import fcntl, os, pty, struct, sys, termios, threading, time
+import fcntl
+import os
+import pty
+import struct
+import sys
+import termios
+import threading
+import time
 
 script, timing, command, *keys = sys.argv[1:]
 pid, terminal = pty.fork()
 if pid == 0:
     os.environ.update(TERM=os.environ.get("RECORD_TERM", "vt100"), LINES="24", COLUMNS="80", LC_ALL="C")
-    os.execvp("script", ["script", "--logging-format", "classic", "--log-out", script, "--log-timing", timing, "--command", command])
+    os.execvp(
+        "script",
+        ["script", "--logging-format", "classic", "--log-out", script, "--log-timing", timing, "--command", command],
+    )
 fcntl.ioctl(terminal, termios.TIOCSWINSZ, struct.pack("HHHH", 24, 80, 0, 0))
+
 
 def drain():
     try:
@@ -21,6 +32,7 @@ def drain():
             pass
     except OSError:
         pass
+
 
 reader = threading.Thread(target=drain)
 reader.start()

@@ -4,10 +4,10 @@
     tests/compare.py [--profile PROFILE] TYPETOOL SCRIPT TIMING [MOMENT..]
     tests/compare.py [--profile PROFILE] --write TERMINAL SCRIPT TIMING MOMENT..
 
-The others are pyte (Debian's python3-pyte), libvterm (libvterm-dev, by libvterm_screen.c and cc), tmux and xterm (with a
-DISPLAY, such as xvfb-run gives), each where it is there. Without moments it takes twenty, spread over the recording. For
-each moment and terminal it prints `same`, or the lines that differ. The status is 1 if any does. The profile is `vt100`, or
-`vt102`; xterm is told to be that too.
+The others are pyte (Debian's python3-pyte), libvterm (libvterm-dev, by libvterm_screen.c and cc), tmux and xterm (with
+a DISPLAY, such as xvfb-run gives), each where it is there. Without moments it takes twenty, spread over the recording.
+For each moment and terminal it prints `same`, or the lines that differ. The status is 1 if any does. The profile is
+`vt100`, or `vt102`; xterm is told to be that too.
 
 The second form writes what one of them shows, in the form that recordings.sh reads: `at MOMENT`, and 24 lines.
 """
@@ -46,7 +46,7 @@ def due_chunks(script, timing):
         if line.split():
             delay, length = line.split()
             moment += 0 if delay.startswith("-") else micros(delay)
-            yield moment, text[at:at + int(length)]
+            yield moment, text[at : at + int(length)]
             at += int(length)
 
 
@@ -70,12 +70,16 @@ def screen_of_libvterm(data, *options):
     program = os.path.join(tempfile.gettempdir(), f"libvterm_screen.{os.getuid()}")
     source = os.path.join(folder, "libvterm_screen.c")
     if not os.path.exists(program) or os.path.getmtime(program) < os.path.getmtime(source):
-        flags = subprocess.run(["pkg-config", "--cflags", "--libs", "vterm"], check=True, capture_output=True, text=True).stdout.split()
+        flags = subprocess.run(
+            ["pkg-config", "--cflags", "--libs", "vterm"], check=True, capture_output=True, text=True
+        ).stdout.split()
         subprocess.run(["cc", "-O2", "-o", program, source, *flags], check=True)
     with tempfile.NamedTemporaryFile() as file:
         file.write(data)
         file.flush()
-        return subprocess.run([program, *options, file.name], check=True, capture_output=True).stdout.decode().split("\n")
+        return (
+            subprocess.run([program, *options, file.name], check=True, capture_output=True).stdout.decode().split("\n")
+        )
 
 
 def plain_of_captured(text):
@@ -106,7 +110,9 @@ def screen_of_tmux(data):
         try:
             subprocess.run([*tmux, "new-session", "-d", "-x", "80", "-y", "24", shell], check=True)
             wait_for(done)
-            captured = subprocess.run([*tmux, "capture-pane", "-p", "-e"], check=True, capture_output=True).stdout.decode()
+            captured = subprocess.run(
+                [*tmux, "capture-pane", "-p", "-e"], check=True, capture_output=True
+            ).stdout.decode()
             return plain_of_captured(captured).split("\n")
         finally:
             subprocess.run([*tmux, "kill-server"], capture_output=True)
@@ -122,7 +128,15 @@ def printed_by_xterm(data):
         shell, done = shell_that_feeds(folder, data + b"\x18\x1b<\x1b[?19h\x1b[i")
         options = ["-u8", "-132", "-ti", profile, "-geometry", "80x24", "-fn", "fixed"]
         resources = [f"*printerCommand: cat > {printed}", "*printerAutoClose: true", f"*decTerminalID: {profile[2:]}"]
-        words = ["xterm", *options, *(word for resource in resources for word in ("-xrm", resource)), "-e", "sh", "-c", shell]
+        words = [
+            "xterm",
+            *options,
+            *(word for resource in resources for word in ("-xrm", resource)),
+            "-e",
+            "sh",
+            "-c",
+            shell,
+        ]
         xterm = subprocess.Popen(words, env={**os.environ, "LC_ALL": "C.UTF-8"})
         wait_for(done)
         xterm.terminate()

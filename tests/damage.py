@@ -3,13 +3,19 @@
 
     tests/damage.py TYPETOOL [PAIRS [SEED]]
 
-Each pair is a real recording, or pieces of several, whose bytes were flipped, cut, doubled and joined. Every command has
-to return in time, with a status of the table: where the plain reader (plain_reader.py) finds a fault, 1 and just that
-fault, nothing written; else 0, or 1 where `save` refuses a request line, and the text that the plain reader comes to, where
-it knows it. What `save` writes is the pair that the plain reader's edits come to.
+Each pair is a real recording, or pieces of several, whose bytes were flipped, cut, doubled and joined. Every command
+has to return in time, with a status of the table: where the plain reader (plain_reader.py) finds a fault, 1 and just
+that fault, nothing written; else 0, or 1 where `save` refuses a request line, and the text that the plain reader comes
+to, where it knows it. What `save` writes is the pair that the plain reader's edits come to.
 The last line is 'N passed, M failed'.
 """
-import concurrent.futures, glob, os, random, subprocess, sys, tempfile
+import concurrent.futures
+import glob
+import os
+import random
+import subprocess
+import sys
+import tempfile
 
 import plain_reader as plain
 
@@ -24,8 +30,10 @@ PATIENCE = 20
 def recordings():
     """The real recordings, each cut to its first chunks, so that many can be played."""
     found = []
-    for script in sorted(glob.glob(os.path.join(here, "recordings", "*.script")) +
-                         glob.glob(os.path.join(here, "..", "examples", "*.script"))):
+    for script in sorted(
+        glob.glob(os.path.join(here, "recordings", "*.script"))
+        + glob.glob(os.path.join(here, "..", "examples", "*.script"))
+    ):
         with open(script, "rb") as one, open(script[:-7] + ".timing", "rb") as two:
             header, chunks, trailer = plain.read(one.read(), two.read())
         found.append((header, chunks, trailer))
@@ -78,18 +86,40 @@ def damaged(rng, whole):
 
 
 def moment(rng):
-    return b"%d.%06d" % (rng.choice([0, 0, 1, 2, 5, 60, 10**6, 10**13]), rng.choice([0, 1, 250000, rng.randrange(10**6)]))
+    return b"%d.%06d" % (
+        rng.choice([0, 0, 1, 2, 5, 60, 10**6, 10**13]),
+        rng.choice([0, 1, 250000, rng.randrange(10**6)]),
+    )
 
 
 def request(rng, count):
     """A request line about a recording of so many chunks, now and then a bad one."""
-    at = lambda: b"%d" % rng.choice([0, rng.randint(0, count), count, count + 1, rng.randint(0, max(count - 1, 0))])
-    text = lambda: rng.choice([b"-", b"1b5b", b"41", b"1b5b366e", b"0d0a", b"zz", b"4", bytes(rng.randrange(256) for _ in range(9)).hex().encode()])
-    delay = lambda: rng.choice([b"0", b"0.5", b"1.", b"1000000", b"1000000.000001", b".5", b"-1"])
-    line = rng.choice([
-        lambda: b"insert %s %s %s" % (at(), delay(), text()), lambda: b"delete %s %s" % (at(), at()),
-        lambda: b"replace %s %s" % (at(), text()), lambda: b"retime %s %s" % (at(), delay()), lambda: b"cap %s" % delay(),
-        lambda: b"\tinfo ", lambda: b"log", lambda: b"", lambda: b" \t", lambda: b"nonsense", lambda: b"cap 1\r"])
+
+    def at():
+        return b"%d" % rng.choice([0, rng.randint(0, count), count, count + 1, rng.randint(0, max(count - 1, 0))])
+
+    def text():
+        nine = bytes(rng.randrange(256) for _ in range(9)).hex().encode()
+        return rng.choice([b"-", b"1b5b", b"41", b"1b5b366e", b"0d0a", b"zz", b"4", nine])
+
+    def delay():
+        return rng.choice([b"0", b"0.5", b"1.", b"1000000", b"1000000.000001", b".5", b"-1"])
+
+    line = rng.choice(
+        [
+            lambda: b"insert %s %s %s" % (at(), delay(), text()),
+            lambda: b"delete %s %s" % (at(), at()),
+            lambda: b"replace %s %s" % (at(), text()),
+            lambda: b"retime %s %s" % (at(), delay()),
+            lambda: b"cap %s" % delay(),
+            lambda: b"\tinfo ",
+            lambda: b"log",
+            lambda: b"",
+            lambda: b" \t",
+            lambda: b"nonsense",
+            lambda: b"cap 1\r",
+        ]
+    )
     return line()
 
 
@@ -131,8 +161,14 @@ class Damage:
 
     def refused(self, fault):
         told = (1, b"", f"typetool: {fault}\n".encode())
-        for words in (["due", "--at", "1"], ["info"], ["screen", "--at", "1"], ["changes", "--to", "1"],
-                      ["reports", "--at", "1"], ["session"]):
+        for words in (
+            ["due", "--at", "1"],
+            ["info"],
+            ["screen", "--at", "1"],
+            ["changes", "--to", "1"],
+            ["reports", "--at", "1"],
+            ["session"],
+        ):
             self.expect(words[0], self.run([*words, "s", "t"], b"info\n"), told)
         self.expect("save", self.run(["save", "s", "t", "s2", "t2"], b"cap 1\n"), told)
         self.expect("what save left", (self.text("s2"), self.text("t2")), (b"", b""))
@@ -160,8 +196,11 @@ class Damage:
         self.expect("changes", (status, errors, places), (0, b"", sorted(set(places))))
         for row in rows:
             lines = [int(line) for line in row[2:]]
-            self.expect("a change", (row[1], times[int(row[0])] <= us, lines and set(lines) <= set(range(1, 25)), lines),
-                        (plain.written(times[int(row[0])]), True, True, sorted(set(lines))))
+            self.expect(
+                "a change",
+                (row[1], times[int(row[0])] <= us, lines and set(lines) <= set(range(1, 25)), lines),
+                (plain.written(times[int(row[0])]), True, True, sorted(set(lines))),
+            )
         first = self.run(["changes", "--from", at, "--to", at, "s", "t"])
         self.expect("changes of no time", first, (0, b"", b""))
 
@@ -181,8 +220,8 @@ class Damage:
         self.asked(recording, lines, accepted)
 
     def asked(self, recording, lines, accepted):
-        """The same lines in a session, and what it answers of a moment once they are made: what the commands tell of the pair
-        that was saved, wherever terminals are stored."""
+        """The same lines in a session, and what it answers of a moment once they are made: what the commands tell of
+        the pair that was saved, wherever terminals are stored."""
         status, text = plain.session(recording, b"\n".join(lines))
         self.expect("session", self.run(["session", "s", "t"], b"\n".join(lines)), (status, text, b""))
         at = moment(self.rng)
@@ -191,7 +230,9 @@ class Damage:
             told += self.run([*words, "s2", "t2"])[1] + (b"end\n" if words[0] == "changes" else b"")
         questions = accepted + b"screen %s\nreports %s\nchanges - %s\ninfo\n" % (at, at, at)
         for every in ("1", "3", "1000000"):
-            self.expect(f"session, every {every}", self.run(["session", "--every", every, "s", "t"], questions), (0, told, b""))
+            self.expect(
+                f"session, every {every}", self.run(["session", "--every", every, "s", "t"], questions), (0, told, b"")
+            )
 
     def saved(self, recording, edits):
         wanted = plain.save(recording, edits)

@@ -6,7 +6,10 @@
 What is expected is written out here, or comes from the plain reader (plain_reader.py). The last line is
 'N passed, M failed'.
 """
-import os, subprocess, sys, tempfile
+import os
+import subprocess
+import sys
+import tempfile
 
 import plain_reader as plain
 
@@ -117,21 +120,37 @@ def limits_of_edits():
     pair(HEADER + b"ab", b"0 1\n0.5 1\n")
     longest = b"41" * 1_048_576
     for line, answer in [
-        (b"insert 2 1000000 -", ""), (b"insert 3 0 -", "E1 NoSuchChunk"), (b"insert 0 1000000.000001 -", "E2 DelayTooLarge"),
-        (b"retime 0 1000000.000001", "E2 DelayTooLarge"), (b"cap 1000000.000001", "E2 DelayTooLarge"), (b"cap 1000000", ""),
-        (b"insert 0 0 " + longest, ""), (b"insert 0 0 " + longest + b"41", "E3 ChunkTooLong"), (b"replace 0 " + longest, ""),
-        (b"replace 1 " + longest + b"41", "E3 ChunkTooLong"), (b"replace 2 -", "E1 NoSuchChunk"), (b"delete 0 2", ""),
-        (b"delete 0 3", "E6 BadRange"), (b"delete 1 1", "E6 BadRange"),
+        (b"insert 2 1000000 -", ""),
+        (b"insert 3 0 -", "E1 NoSuchChunk"),
+        (b"insert 0 1000000.000001 -", "E2 DelayTooLarge"),
+        (b"retime 0 1000000.000001", "E2 DelayTooLarge"),
+        (b"cap 1000000.000001", "E2 DelayTooLarge"),
+        (b"cap 1000000", ""),
+        (b"insert 0 0 " + longest, ""),
+        (b"insert 0 0 " + longest + b"41", "E3 ChunkTooLong"),
+        (b"replace 0 " + longest, ""),
+        (b"replace 1 " + longest + b"41", "E3 ChunkTooLong"),
+        (b"replace 2 -", "E1 NoSuchChunk"),
+        (b"delete 0 2", ""),
+        (b"delete 0 3", "E6 BadRange"),
+        (b"delete 1 1", "E6 BadRange"),
         (b"delete 99999999999999999999 99999999999999999999", "E6 BadRange"),
         (b"insert 99999999999999999999 0 -", "E1 NoSuchChunk"),
     ]:
         check(line[:40].decode(), saved(line + b"\n"), told(f"request line 1: {answer}") if answer else (0, b"", b""))
         text = f"refused {answer}\n" if answer else "ok\n"
-        check(line[:40].decode() + " in a session", run(["session", "s", "t"], line), (int(bool(answer)), text.encode(), b""))
+        check(
+            line[:40].decode() + " in a session",
+            run(["session", "s", "t"], line),
+            (int(bool(answer)), text.encode(), b""),
+        )
     pair(HEADER, b"0 0\n" * 999_999)
     check("chunks by edits", saved(b"insert 0 0 -\ninsert 0 0 -\n"), told("request line 2: E4 TooManyChunks"))
-    check("chunks by edits in a session", run(["session", "s", "t"], b"insert 0 0 -\ninsert 0 0 -\n"),
-          (1, b"ok\nrefused E4 TooManyChunks\n", b""))
+    check(
+        "chunks by edits in a session",
+        run(["session", "s", "t"], b"insert 0 0 -\ninsert 0 0 -\n"),
+        (1, b"ok\nrefused E4 TooManyChunks\n", b""),
+    )
 
 
 def limits_of_words():
@@ -141,7 +160,17 @@ def limits_of_words():
         check(f"due at {at}", run(["due", "--at", at, "s", "t"]), (0, b"ab", b""))
         check(f"changes by {at}", run(["changes", "--to", at, "s", "t"]), (0, b"0 0.000000 1\n1 0.500000 1\n", b""))
         check(f"changes after {at}", run(["changes", "--from", at, "--to", at, "s", "t"]), (0, b"", b""))
-    for every, status in [("0", 2), ("1", 0), ("1000000", 0), ("1000001", 2), ("9" * 60, 2), ("+5", 2), ("", 2), ("-1", 2), ("005", 0)]:
+    for every, status in [
+        ("0", 2),
+        ("1", 0),
+        ("1000000", 0),
+        ("1000001", 2),
+        ("9" * 60, 2),
+        ("+5", 2),
+        ("", 2),
+        ("-1", 2),
+        ("005", 0),
+    ]:
         check(f"every {every}", run(["session", f"--every={every}", "s", "t"])[0], status)
 
 

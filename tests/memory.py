@@ -7,7 +7,11 @@ Each run has to end with status 0 and the whole output, or with status 3, `typet
 the output (the second file of `save` empty unless the first is whole). The steps begin where the program can be started
 at all. A command that met no refusal fails. The last line is 'N passed, M failed'.
 """
-import os, resource, subprocess, sys, tempfile
+import os
+import resource
+import subprocess
+import sys
+import tempfile
 
 program = os.path.abspath(sys.argv[1])
 step = 1024 * (int(sys.argv[2]) if len(sys.argv) > 2 else 256)
@@ -19,8 +23,14 @@ def limited(limit):
 
 
 def run(words, folder, limit, stdin=b""):
-    done = subprocess.run([program, *words], input=stdin, capture_output=True, cwd=folder,
-                          preexec_fn=limited(limit) if limit else None, timeout=60)
+    done = subprocess.run(
+        [program, *words],
+        input=stdin,
+        capture_output=True,
+        cwd=folder,
+        preexec_fn=limited(limit) if limit else None,
+        timeout=60,
+    )
     return done.returncode, done.stdout, done.stderr
 
 

@@ -98,8 +98,12 @@ def due(chunks, moment):
 def info(recording):
     header, chunks, trailer = recording
     return b"chunks %d\nbytes %d\nlength %s\nheader %d\ntrailer %d\n" % (
-        len(chunks), sum(len(text) for _, text in chunks), written(sum(delay for delay, _ in chunks)),
-        len(header), len(trailer))
+        len(chunks),
+        sum(len(text) for _, text in chunks),
+        written(sum(delay for delay, _ in chunks)),
+        len(header),
+        len(trailer),
+    )
 
 
 def files_of(recording):
@@ -121,8 +125,13 @@ def hexed(text):
     return bytes.fromhex(text.decode())
 
 
-KINDS = {b"insert": (place, seconds, hexed), b"delete": (place, place), b"replace": (place, hexed),
-         b"retime": (place, seconds), b"cap": (seconds,)}
+KINDS = {
+    b"insert": (place, seconds, hexed),
+    b"delete": (place, place),
+    b"replace": (place, hexed),
+    b"retime": (place, seconds),
+    b"cap": (seconds,),
+}
 
 
 def edit_of(line):
@@ -177,7 +186,7 @@ def log_line(word, values):
 
 
 def session(recording, requests):
-    """(status, text) of the answers to edits, `info`, `log` and lines of no known form: a plain reader has no terminal."""
+    """(status, text) of the answers to edits, `info`, `log` and lines of no known form: there is no terminal here."""
     header, chunks, trailer = recording
     chunks, log, out, status = [list(chunk) for chunk in chunks], b"", b"", 0
     for line in lines_of(requests):

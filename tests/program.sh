@@ -74,41 +74,41 @@ E='\x1b'
 A40=$(printf 'A%.0s' $(seq 40)) A80=$A40$A40
 S79=$(printf ' %.0s' $(seq 79)) S131=$(printf ' %.0s' $(seq 131))
 played 'nothing' '' '' ''
-played 'a report before the wrap' "$A80$E[6nB" "$A80"'\nB' 1b5b313b383052
+played 'a report before the wrap' "$A80${E}[6nB" "$A80"'\nB' 1b5b313b383052
 played 'no wrap pending after BS' "$A80"'\bB' "${A80:2}BA" ''
-played 'a cancelled sequence' "$E[3"'\030m' '\342\226\222m' ''
-played 'unknown renditions' "$E[38;5;1mX" X ''
-played 'a report in origin mode' "$E[5;10r$E[?6h$E[99;1H$E[6n" '' 1b5b363b3152
+played 'a cancelled sequence' "${E}[3"'\030m' '\342\226\222m' ''
+played 'unknown renditions' "${E}[38;5;1mX" X ''
+played 'a report in origin mode' "${E}[5;10r${E}[?6h${E}[99;1H${E}[6n" '' 1b5b363b3152
 played 'a line made double' "$A40"'AAAAAAAAAA'"$E#6" "$A40" ''
-played 'VT52 mode' "$E[?2l${E}Y%*X${E}Z" '\n\n\n\n\n          X' 1b2f5a
+played 'VT52 mode' "${E}[?2l${E}Y%*X${E}Z" '\n\n\n\n\n          X' 1b2f5a
 played 'a title' "$E]0;title"'\007ok' ok ''
 played 'bytes that are not ASCII' '\303\251' '\342\226\222\342\226\222' ''
-played 'refused margins' "$E[3;3H$E[10;5r$E[6n" '' 1b5b333b3352
+played 'refused margins' "${E}[3;3H${E}[10;5r${E}[6n" '' 1b5b333b3352
 played 'line drawing' "$E(0lqk" '\342\224\214\342\224\200\342\224\220' ''
-played 'scrolling between margins' 'a\r\nb\r\nc\r\nd'"$E[2;3r$E[3;1H"'\n' 'a\nc\n\nd' ''
-played 'restoring what was never saved' "$E[7m$E[5;5H${E}8X" X ''
-played '132 columns' "$E[?3h$E[1;132HAB" "$S131"'A\nB' ''
-played 'terminal parameters' "$E[x$E[1x" '' \
+played 'scrolling between margins' 'a\r\nb\r\nc\r\nd'"${E}[2;3r${E}[3;1H"'\n' 'a\nc\n\nd' ''
+played 'restoring what was never saved' "${E}[7m${E}[5;5H${E}8X" X ''
+played '132 columns' "${E}[?3h${E}[1;132HAB" "$S131"'A\nB' ''
+played 'terminal parameters' "${E}[x${E}[1x" '' \
     1b5b323b313b313b3131323b3131323b313b30781b5b333b313b313b3131323b3131323b313b3078
-played 'erasing to the end' "abc$E[2D$E[K" a ''
-played 'scrolling at the bottom' "$E[24;1Hx"'\r\n' '\n\n\n\n\n\n\n\n\n\n\n\n\n\n\n\n\n\n\n\n\n\nx' ''
-played 'no autowrap' "$E[?7l${A80}B" "${A80:1}B" ''
-played 'a rendition leaves the wrap' "$A80$E[0mB" "$A80"'\nB' ''
-played 'the last column' "$E[99;99Hx" '\n\n\n\n\n\n\n\n\n\n\n\n\n\n\n\n\n\n\n\n\n\n\n'"${S79}x" ''
-played 'no tabs' "$E[3g"'\tx' "${S79}x" ''
-played 'a tab' "$E[1;5H${E}H"'\r\tx' '    x' ''
-played 'up in a region' "$E[2;4r$E[?6h$E[9Ax" '\nx' ''
-played 'double sizes erased' "ab$E#3"'\r\n'"ab$E#4$E[1J" '' ''
-played 'the wrap is saved' "$A80${E}7$E[5;1H${E}8B" "$A80"'\nB' ''
-played 'up above a region' "$E[2;3r${E}Mx" x ''
+played 'erasing to the end' "abc${E}[2D${E}[K" a ''
+played 'scrolling at the bottom' "${E}[24;1Hx"'\r\n' '\n\n\n\n\n\n\n\n\n\n\n\n\n\n\n\n\n\n\n\n\n\nx' ''
+played 'no autowrap' "${E}[?7l${A80}B" "${A80:1}B" ''
+played 'a rendition leaves the wrap' "$A80${E}[0mB" "$A80"'\nB' ''
+played 'the last column' "${E}[99;99Hx" '\n\n\n\n\n\n\n\n\n\n\n\n\n\n\n\n\n\n\n\n\n\n\n'"${S79}x" ''
+played 'no tabs' "${E}[3g"'\tx' "${S79}x" ''
+played 'a tab' "${E}[1;5H${E}H"'\r\tx' '    x' ''
+played 'up in a region' "${E}[2;4r${E}[?6h${E}[9Ax" '\nx' ''
+played 'double sizes erased' "ab$E#3"'\r\n'"ab$E#4${E}[1J" '' ''
+played 'the wrap is saved' "$A80${E}7${E}[5;1H${E}8B" "$A80"'\nB' ''
+played 'up above a region' "${E}[2;3r${E}Mx" x ''
 played 'the pound sign' "$E(A#" '\302\243' ''
-played 'VT52 graphics' "$E[?2l${E}Fa${E}<a" '\342\226\222a' ''
+played 'VT52 graphics' "${E}[?2l${E}Fa${E}<a" '\342\226\222a' ''
 
 check 'a screen before the second chunk' 0 "$(screen_of a)" '' screen --at 0.499999 ab.script ab.timing
 check 'a screen at the second chunk' 0 "$(screen_of ab)" '' screen --at 0.5 ab.script ab.timing
 check 'a screen of nothing' 0 "$(screen_of '')" '' screen --at 7 empty.script empty.timing
 check 'no reports' 0 '\n' '' reports --at 7 empty.script empty.timing
-printf '%b%b' "$head" "$E[31;4mX$E[5n" >cut.script
+printf '%b%b' "$head" "${E}[31;4mX${E}[5n" >cut.script
 printf '0 3\n0.5 6\n0.5 3\n' >cut.timing
 check 'a sequence cut in two' 0 "$(screen_of '')" '' screen --at 0.4 cut.script cut.timing
 check 'a sequence over two chunks' 0 "$(screen_of X)" '' screen --at 0.5 cut.script cut.timing
@@ -117,9 +117,10 @@ check 'an answer' 0 '1b5b306e\n' '' reports --at 1 cut.script cut.timing
 
 # refused NAME STATUS ERR SCRIPT TIMING: a damaged pair, which is only told, whatever the command.
 refused() {
-    local command
+    local command words
     for command in 'due --at 1' info 'screen --at 1' 'changes --to 1' 'reports --at 1' session; do
-        check "$1: ${command%% *}" "$2" '' "typetool: $3\n" $command "$4" "$5" </dev/null
+        read -ra words <<<"$command"
+        check "$1: ${words[0]}" "$2" '' "typetool: $3\n" "${words[@]}" "$4" "$5" </dev/null
     done
 }
 
@@ -154,12 +155,14 @@ status() {
     local name=$1 status=$2
     shift 2
     "$program" "$@" >out.txt 2>err.txt
-    local got=$?
-    : >want
-    if [ "$status" = 0 ]; then [ -s out.txt ] && [ ! -s err.txt ]; else [ ! -s out.txt ] && [ -s err.txt ]; fi
-    [ $? = 0 ] && [ "$got" = "$status" ] && passed=$((passed + 1)) && return
-    failed=$((failed + 1))
-    printf 'FAILED %s: status %s, wanted %s\n' "$name" "$got" "$status"
+    local got=$? told=out.txt silent=err.txt
+    if [ "$status" != 0 ]; then told=err.txt silent=out.txt; fi
+    if [ "$got" = "$status" ] && [ -s $told ] && [ ! -s $silent ]; then
+        passed=$((passed + 1))
+    else
+        failed=$((failed + 1))
+        printf 'FAILED %s: status %s, wanted %s\n' "$name" "$got" "$status"
+    fi
 }
 status 'help' 0 --help
 status 'help of a command' 0 due --help
@@ -217,6 +220,16 @@ saved 'a CR' 1 'typetool: request line 1: E8 BadLine\n' 'cap 1\r\n' ab.script ab
 saved 'a short script' 1 'typetool: typescript ends inside chunk 0\n' 'nonsense' empty.script ab.timing
 holds 'a short script' new.script ''
 
+# absent NAME FILE: there is no such file.
+absent() {
+    if [ -e "$2" ]; then
+        failed=$((failed + 1))
+        echo "FAILED $1: $2"
+    else
+        passed=$((passed + 1))
+    fi
+}
+
 # Creating is exclusive, and what was there stays as it is.
 # uncreated NAME PATH NEWSCRIPT NEWTIMING: PATH can't be created.
 uncreated() {
@@ -228,7 +241,7 @@ echo kept >there
 ln -s nowhere dangling
 uncreated 'an existing script' there there new.timing
 holds 'an existing script' there 'kept\n'
-[ ! -e new.timing ] && passed=$((passed + 1)) || { failed=$((failed + 1)); echo 'FAILED: a timing was created'; }
+absent 'no timing is created after a script that exists' new.timing
 uncreated 'an existing timing' there new.script there
 holds 'a script created before' new.script ''
 rm -f new.script
@@ -240,7 +253,7 @@ uncreated 'no such directory' nowhere/new nowhere/new new.timing
 uncreated 'its own script' ab.script ab.script new.timing
 "$program" save nowhere ab.timing new.script new.timing </dev/null >out.txt 2>err.txt
 verdict 'a missing script' 3 $? '' 'typetool: cannot open nowhere\n'
-[ ! -e new.script ] && passed=$((passed + 1)) || { failed=$((failed + 1)); echo 'FAILED: a script was created'; }
+absent 'nothing is created where a file is missing' new.script
 "$program" save ab.script ab.timing new.script new.timing 0>>there >out.txt 2>err.txt
 verdict 'a standard input that is only written' 3 $? '' 'typetool: read fault\n'
 rm -f new.script new.timing
@@ -258,7 +271,7 @@ status 'save with a moment' 2 save --at 1 ab.script ab.timing new.script new.tim
 status 'save with two paths' 2 save ab.script ab.timing
 status 'help of save' 0 save --help
 
-printf '%b%b' "$head" "a$E[m$E[3;1Hb" >three.script
+printf '%b%b' "$head" "a${E}[m${E}[3;1Hb" >three.script
 printf '0 1\n0 3\n1.5 7\n' >three.timing
 check 'changes by a moment' 0 '0 0.000000 1\n2 1.500000 3\n' '' changes --to 2 three.script three.timing
 check 'changes after a moment' 0 '2 1.500000 3\n' '' changes --from 0 --to 2 three.script three.timing
@@ -280,7 +293,7 @@ asked() {
     verdict "$name" "$wanted" $? "$out" ''
 }
 
-printf '%b%b' "$head" "$E[cx" >asks.script
+printf '%b%b' "$head" "${E}[cx" >asks.script
 printf '0 3\n0 1\n' >asks.timing
 asked 'a report of a deleted chunk' 0 'reports 0\ndelete 0 1\nreports 0\nscreen 0\n' \
     "1b5b3f313b3263\\nok\\n\\n$(screen_of x)" asks.script asks.timing
@@ -380,12 +393,12 @@ same 'a long recording' due --at 20 long.script long.timing
 tail -n +2 long.script | head -c 7340032 >want.bin
 same 'a part of a long recording' due --at 3.5 long.script long.timing
 # The end of the last chunk fills the screen.
-for line in $(seq 24); do yes 49 | tr -d '\n' | head -c 80; echo; done >want.bin
+for _ in $(seq 24); do yes 49 | tr -d '\n' | head -c 80; echo; done >want.bin
 same 'the screen of a long recording' screen --at 20 long.script long.timing
 
 # 8 MiB that are answered by 53 MiB. Where there is room to read the pair and not to keep its replies, memory is refused to
 # them alone.
-printf "$E[x%.0s" $(seq 349525) >asked.bin
+printf "${E}[x%.0s" $(seq 349525) >asked.bin
 {
     printf '%b' "$head"
     for chunk in $(seq 8); do cat asked.bin; done
@@ -397,14 +410,12 @@ yes '0 1048575' | head -n 8 >asked.timing
 } >want.bin
 same 'many replies' reports --at 0 asked.script asked.timing
 tail -n +2 asked.script >want.bin
-(
-    ulimit -v 60000
-    passed=0 failed=0
-    same 'a pair that memory is there for' due --at 0 asked.script asked.timing
-    check 'memory refused to replies' 3 '' 'typetool: out of memory\n' reports --at 0 asked.script asked.timing
-    [ "$passed" = 2 ]
-)
-if [ $? = 0 ]; then passed=$((passed + 2)); else failed=$((failed + 1)); fi
+printf '#!/bin/bash\nulimit -v 60000\nexec "%s" "$@"\n' "$program" >limited
+chmod +x limited
+whole=$program program=./limited
+same 'a pair that memory is there for' due --at 0 asked.script asked.timing
+check 'memory refused to replies' 3 '' 'typetool: out of memory\n' reports --at 0 asked.script asked.timing
+program=$whole
 rm long.script asked.script asked.bin want.bin
 
 # The shipped recording, against a count of its timing file's bytes.

@@ -3,11 +3,11 @@
 
     tests/redraw.py TYPETOOL SCRIPT TIMING [MOMENT..]
 
-At each moment the escaped text goes to typetool itself, which must print the same as at that moment, and to xterm (with a
-DISPLAY, such as xvfb-run gives) and libvterm, each where it is there: it must show there what the recording itself shows
-when it is played in them up to that moment, renditions included. A moment at which another terminal shows something else
-than ours of the recording itself is passed over there, since then the two don't agree on the recording. Without moments it
-takes twenty, spread over the recording. The status is 1 if anything differs.
+At each moment the escaped text goes to typetool itself, which must print the same as at that moment, and to xterm (with
+a DISPLAY, such as xvfb-run gives) and libvterm, each where it is there: it must show there what the recording itself
+shows when it is played in them up to that moment, renditions included. A moment at which another terminal shows
+something else than ours of the recording itself is passed over there, since then the two don't agree on the recording.
+Without moments it takes twenty, spread over the recording. The status is 1 if anything differs.
 """
 import os
 import re

@@ -3,11 +3,17 @@
 
     tests/refused.py [N..]
 
-`rt try --test --fail-alloc N` refuses the Nth growth of each test. The test then compares what the call left with what was
-there before, makes the call again with memory, and prints `refused: CALL`. With numbers these growths alone are refused in
-turn. Prints how many refusals each test met; fails where a test fails or met none.
+`rt try --test --fail-alloc N` refuses the Nth growth of each test. The test then compares what the call left with what
+was there before, makes the call again with memory, and prints `refused: CALL`. With numbers these growths alone are
+refused in turn. Prints how many refusals each test met; fails where a test fails or met none.
 """
-import collections, concurrent.futures, itertools, os, re, subprocess, sys
+import collections
+import concurrent.futures
+import itertools
+import os
+import re
+import subprocess
+import sys
 
 top = os.path.join(os.path.dirname(os.path.abspath(__file__)), "..")
 chosen = [int(number) for number in sys.argv[1:]]
@@ -18,7 +24,9 @@ CRATES = ["vt_tests", "tape_tests", "typetool"]
 def refuse(crate, number):
     """Whether the crate's tests pass with this growth refused, how many refusals each met, and what was printed."""
     words = ["rt", "try", "--test", "--fail-alloc", str(number), "--", "refused::"]
-    done = subprocess.run(words, cwd=f"{top}/crates/{crate}", text=True, stdout=subprocess.PIPE, stderr=subprocess.STDOUT)
+    done = subprocess.run(
+        words, cwd=f"{top}/crates/{crate}", text=True, stdout=subprocess.PIPE, stderr=subprocess.STDOUT
+    )
     met, test = collections.Counter(), None
     for line in done.stdout.splitlines():
         begins = re.match(r"test (\S+) \.\.\. ", line)
@@ -31,7 +39,7 @@ def refuse(crate, number):
 
 
 def batches():
-    """The growths to refuse, as many at once as there are workers: those chosen, or one after the other without an end."""
+    """The growths to refuse, as many at once as there are workers: those chosen, or one after the other, endlessly."""
     numbers = iter(chosen) if chosen else itertools.count(1)
     while batch := list(itertools.islice(numbers, workers)):
         yield batch

@@ -1,0 +1,59 @@
+#!/usr/bin/env bash
+# Looks over the shell, the Python and the layout of all crates.
+#
+#     tests/lint.sh
+#
+# It takes Debian's shellcheck, flake8 and black (apt-get install shellcheck flake8 black), and rt. A linter that isn't
+# there is passed over with a sentence that says so. The last line is 'N passed, M failed'.
+set -u
+cd "$(dirname "$0")/.." || exit 2
+shell=(tests/*.sh bench/*.sh .ci/run)
+python=(tests/*.py bench/*.py examples/*.py)
+passed=0 failed=0
+
+# look NAME COMMAND..: runs a linter, which answers 0 where all is well.
+look() {
+    local name=$1
+    shift
+    if ! command -v "$1" >/dev/null; then
+        echo "lint: $name is passed over, since $1 isn't installed (apt-get install $1)"
+    elif "$@"; then
+        passed=$((passed + 1))
+    else
+        failed=$((failed + 1))
+        echo "FAILED lint: $name"
+    fi
+}
+
+# layout CRATE..: whether rt fmt would leave each crate as it is. It works on copies of the sources.
+layout() {
+    local place crate out
+    place=$(mktemp -d)
+    out=0
+    mkdir "$place/crates"
+    cp crates.txt "$place"
+    for crate in "$@"; do
+        mkdir -p "$place/$crate"
+        (cd "$crate" && tar -c --exclude=./out .) | tar -x -C "$place/$crate"
+        (cd "$place/$crate" && rt fmt >"$place/told" 2>&1) || { cat "$place/told"; out=1; }
+        diff -r --exclude=out "$crate" "$place/$crate" || out=1
+    done
+    rm -rf "$place"
+    return $out
+}
+
+look 'the shell' shellcheck "${shell[@]}"
+look 'the Python' flake8 --max-line-length 120 --extend-ignore E203 "${python[@]}"
+# Another edition of black lays out otherwise, and says so without an opinion on the files.
+if command -v black >/dev/null && ! black --version | grep -q '^black, 23'; then
+    echo "lint: the layout of the Python is passed over, since this black isn't Debian 12's 23.1"
+else
+    look 'the layout of the Python' black --quiet --check --diff --line-length 120 "${python[@]}"
+fi
+if command -v rt >/dev/null; then
+    if layout crates/*; then passed=$((passed + 1)); else failed=$((failed + 1)); fi
+else
+    echo "lint: the layout of the crates is passed over, since rt isn't installed"
+fi
+echo "lint: $passed passed, $failed failed"
+[ "$failed" = 0 ]
