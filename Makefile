@@ -1,10 +1,16 @@
-# Proves and builds the program, shows it at work, tests it, installs it. `rt` is the toolchain's command.
+# Shows, proves, builds, tests and installs the program. `rt` is the toolchain's command.
 PREFIX ?= /usr/local
 SOURCES := crates.txt $(shell find crates -name out -prune -o -type f -print)
 
-.PHONY: all demo test soak install clean
+.PHONY: all quick demo lint test soak install clean
 
 all: bin/typetool
+
+# The program at work before any proof: a minute. `rt try` compiles it, runs it once and keeps nothing.
+quick:
+	@echo "UNPROVED: rt try compiles the program and proves nothing; 'make' proves it, and builds bin/typetool."
+	cd crates/typetool && rt try --data tour.script=../../examples/tour.script \
+		--data tour.timing=../../examples/tour.timing -- screen --at 10 tour.script tour.timing
 
 # `rt run` proves each crate that has changed before it builds the program.
 bin/typetool: $(SOURCES)
@@ -16,8 +22,14 @@ bin/typetool: $(SOURCES)
 demo: bin/typetool
 	bin/typetool screen --at 10 examples/tour.script examples/tour.timing
 
+# A look over shell, Python, layout, the list of docs/READING.md and the edits, in seconds and without the program.
+lint:
+	tests/edits_apply.py
+	tests/reading.py
+	tests/lint.sh
+
 # The scripts run the program that the gate has proved and built.
-test:
+test: lint
 	rt ci
 	mkdir -p bin
 	cp crates/typetool/out/typetool bin/typetool
