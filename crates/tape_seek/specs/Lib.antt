@@ -2,6 +2,7 @@ pub mod Edits
 pub mod Marks
 pub mod Moments
 pub mod State
+pub mod Headline
 pub mod Kept
 pub mod Requests
 pub mod WrittenLog

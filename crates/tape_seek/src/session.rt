@@ -66,6 +66,7 @@ impl Session {
     ghost use denote.Follow.{follows_so};
     ghost use mathlib.Core.Option.{none};
     ghost use Rattle.tape_seek.specs.contracts.session.Session.{the_row};
+    ghost use Rattle.tape_seek.specs.Headline.{TellsCount, TellsMoment};
     ghost use Rattle.tape_seek.specs.Moments.{term_at, up_to};
     ghost use Rattle.tape_seek.specs.State.{KeepsHistory, Leaves, accepted, opened};
 
@@ -136,6 +137,8 @@ impl Session {
     pub fn seek(&mut self, moment: u64) -> Result<View<'_>, OutOfMemory>
         ensures* state { sem 𝓛 (follows_so the_row the_row self.entry.ghost_name none (λ _ _. ⊤)
             (λ new. Leaves result (due_count self.old.recording.chunks moment) self.old new × KeepsHistory self.old new)) }
+        // The headline: of the recording that the session was opened with, edited by the log.
+        ensures headline { IfOk result (λ view. TellsMoment self.old moment view.terminal.now view.reports.now) }
         ensures shows { IfOk result (λ view. Shows view.terminal.now (term_at self.old.profile self.old.recording moment)) }
         ensures reports { IfOk result (λ view. view.reports.now ≡ (term_at self.old.profile self.old.recording moment).reports) }
         ensures count { IfOk result (λ view. view.count ≡ due_count self.old.recording.chunks moment) }
@@ -161,6 +164,7 @@ impl Session {
         requires { count ≤ length self.old.recording.chunks }
         ensures* state { sem 𝓛 (follows_so the_row the_row self.entry.ghost_name none (λ _ _. ⊤)
             (λ new. Leaves result count self.old new × KeepsHistory self.old new)) }
+        ensures headline { IfOk result (λ view. TellsCount self.old count view.terminal.now view.reports.now) }
         ensures shows { IfOk result (λ view. Shows view.terminal.now (up_to self.old.profile self.old.recording count)) }
         ensures reports { IfOk result (λ view. view.reports.now ≡ (up_to self.old.profile self.old.recording count).reports) }
         ensures count { IfOk result (λ view. view.count ≡ count) }

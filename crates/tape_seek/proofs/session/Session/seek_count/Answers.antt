@@ -1,6 +1,9 @@
-use Rattle.std.proofs.Common.{refl, sym, ap, ◌∙◌}
+use Rattle.std.proofs.Common.{refl, sym, ap, subst, ◌∙◌}
+use Rattle.tape_core.specs.Tape.{Tape}
 use Rattle.tape_seek.specs.Edits.{edited_all}
+use Rattle.tape_seek.specs.Headline.{Tells}
 use Rattle.tape_seek.specs.Marks.{fed_by}
+use Rattle.tape_seek.specs.Moments.{up_to}
 use Rattle.tape_seek.specs.State.{sought}
 use Rattle.tape_seek.proofs.SessionLemmas.{reports_up_to, same_marks, shows_up_to}
 use Rattle.tape_seek.proofs.session.Session.seek_count.Goals as goal
@@ -11,7 +14,11 @@ returns c =
     let chunks = c.chunks.result.now in
     let same = c.chunks.ensures.chunks ∙ ap (λ s. s.recording.chunks) c.self.view_is in
     let went = c.in_ok-seek.ensures in
-    let plays = went.profile ∙ ap (λ s. s.profile) c.self.view_is in (
+    let plays = went.profile ∙ ap (λ s. s.profile) c.self.view_is in
+    let tells : Tells c.seek.new.self.head c.sent_by.result.now (up_to c.args.self.now.profile c.args.self.now.recording count) = record {
+      shows = shows_up_to c.args.self.now.profile chunks c.args.self.now.recording c.seek.new.self count plays same went.replay went.at;
+      sent = reports_up_to c.sent_is_appended.ensures c.args.self.now.profile c.seek.new.self.profile chunks c.args.self.now.recording c.sent_by.result.now count plays same (c.sent_by.ensures chunks went.replay);
+    } in (
       (
         refl,
         λ _. tt,
@@ -22,8 +29,9 @@ returns c =
       ),
       record {
         state = tt;
-        shows = shows_up_to c.args.self.now.profile chunks c.args.self.now.recording c.seek.new.self count plays same went.replay went.at;
-        reports = reports_up_to c.sent_is_appended.ensures c.args.self.now.profile c.seek.new.self.profile chunks c.args.self.now.recording c.sent_by.result.now count plays same (c.sent_by.ensures chunks went.replay);
+        headline = λ o is. subst (λ (tape : Tape). Tells c.seek.new.self.head c.sent_by.result.now (up_to c.args.self.now.profile tape count)) is tells;
+        shows = tells.shows;
+        reports = tells.sent;
         count = refl;
         fed = went.fed ∙ ap (λ s. fed_by s.every count s.marks) c.self.view_is;
         room = λ _. refl;
