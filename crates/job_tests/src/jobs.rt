@@ -1,4 +1,4 @@
-use super::{AB, Case, DONE, compare, done};
+use crate::in_memory::{AB, Case, DONE, compare, done};
 use std::process::Abort;
 use std::test::Fail;
 use tape_core::Fault;

@@ -1,4 +1,4 @@
-//! Jobs over readers and writers in memory, and the words of command lines.
+//! A job over texts in memory, and the comparison of what comes out: the tests of jobs share them.
 
 use std::alloc::Global;
 use std::process::Abort;
@@ -6,39 +6,33 @@ use std::test::Fail;
 use tape_core::Watched;
 use tape_jobs::{Job, Outcome};
 
-mod jobs;
-mod moments;
-mod run;
-mod session;
-mod words;
-
 /// The header of the scripts here, of 20 bytes.
-const HEADER: &[u8] = b"Script started on X\n";
+pub(crate) const HEADER: &[u8] = b"Script started on X\n";
 
 /// Two chunks of a byte each, half a second apart.
-const AB: &str = "0.000000 1\n0.500000 1\n";
+pub(crate) const AB: &str = "0.000000 1\n0.500000 1\n";
 
 /// A job over texts in memory: the script without its header, the timing and the request lines, and then both texts that
 /// come out and the outcome.
 #[derive(Clone, Copy)]
-struct Case<'a> {
-    job: Job,
-    body: &'a str,
-    timing: &'a str,
-    requests: &'a str,
-    text: &'a str,
-    new_timing: &'a str,
-    outcome: Outcome,
+pub(crate) struct Case<'a> {
+    pub(crate) job: Job,
+    pub(crate) body: &'a str,
+    pub(crate) timing: &'a str,
+    pub(crate) requests: &'a str,
+    pub(crate) text: &'a str,
+    pub(crate) new_timing: &'a str,
+    pub(crate) outcome: Outcome,
 }
 
 /// The outcome of a job that is done.
-const DONE: Outcome = Outcome {
+pub(crate) const DONE: Outcome = Outcome {
     status: 0,
     fault: None,
 };
 
 /// A job without requests or a new timing, which is done.
-fn done<'a>(job: Job, body: &'a str, timing: &'a str, text: &'a str) -> Case<'a> {
+pub(crate) fn done<'a>(job: Job, body: &'a str, timing: &'a str, text: &'a str) -> Case<'a> {
     Case {
         job,
         body,
@@ -52,14 +46,20 @@ fn done<'a>(job: Job, body: &'a str, timing: &'a str, text: &'a str) -> Case<'a>
 
 /// Both texts that a job wrote, and how it ended.
 #[derive(Drop)]
-struct Ended {
-    outcome: Outcome,
-    text: Vec<u8>,
-    new_timing: Vec<u8>,
+pub(crate) struct Ended {
+    pub(crate) outcome: Outcome,
+    pub(crate) text: Vec<u8>,
+    pub(crate) new_timing: Vec<u8>,
 }
 
 /// Does a job over texts in memory.
-fn do_job(alloc: Global, job: Job, script: &[u8], timing: &[u8], requests: &[u8]) -> Ended {
+pub(crate) fn do_job(
+    alloc: Global,
+    job: Job,
+    script: &[u8],
+    timing: &[u8],
+    requests: &[u8],
+) -> Ended {
     let mut out = Watched::new(Vec::new(alloc));
     let mut out_timing = Watched::new(Vec::new(alloc));
     let outcome = tape_jobs::run(
@@ -79,14 +79,14 @@ fn do_job(alloc: Global, job: Job, script: &[u8], timing: &[u8], requests: &[u8]
 }
 
 /// Does a job in memory, and compares what came out.
-fn compare<R: Abort + AllocGlobal>(rt: &R, case: &Case<'_>) -> Result<(), Fail> {
+pub(crate) fn compare<R: Abort + AllocGlobal>(rt: &R, case: &Case<'_>) -> Result<(), Fail> {
     let script = [HEADER, case.body.as_bytes()].concat(rt.alloc())?;
     compare_over(rt, script.as_slice(), case);
     Ok(())
 }
 
 /// Does a job over this script, and compares what came out.
-fn compare_over<R: Abort + AllocGlobal>(rt: &R, script: &[u8], case: &Case<'_>) {
+pub(crate) fn compare_over<R: Abort + AllocGlobal>(rt: &R, script: &[u8], case: &Case<'_>) {
     let timing = case.timing.as_bytes();
     let requests = case.requests.as_bytes();
     let ended = do_job(rt.alloc(), case.job, script, timing, requests);

@@ -1,7 +1,7 @@
 //! Refused growths. `tests/refused.py` runs these with the first, second, .. growth of memory refused, until none is, and
 //! counts the lines `refused: WHAT`. After a refusal a beginning has gone out, or nothing while the files are read, and
 //! the same job then answers.
-use crate::tests::{DONE, Ended};
+use crate::in_memory::{DONE, Ended};
 use std::alloc::Global;
 use std::process::Abort;
 use std::rt::Runtime;

@@ -1,6 +1,5 @@
 //! A pair of 4 MiB through the jobs that write it again: what grows has to grow far. Real files of 40 MiB pass in tests/program.sh.
-use super::{HEADER, do_job};
-use crate::tests::DONE;
+use crate::in_memory::{DONE, HEADER, do_job};
 use std::alloc::Global;
 use std::process::Abort;
 use std::test::Fail;

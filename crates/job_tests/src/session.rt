@@ -1,4 +1,4 @@
-use super::{AB, Case, compare};
+use crate::in_memory::{AB, Case, compare};
 use std::alloc::{AllocError, Global};
 use std::process::Abort;
 use std::test::Fail;

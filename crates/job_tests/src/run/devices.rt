@@ -1,5 +1,5 @@
 //! Every job over devices that take or tell one byte a call, each of which fails in turn.
-use crate::tests::DONE;
+use crate::in_memory::DONE;
 use std::io;
 use std::io::{ErrorKind, Read, Write};
 use std::process::Abort;

@@ -1,6 +1,6 @@
 //! The jobs `screen`, `reports` and `changes` of a VT102, and the escaped print.
 use super::{one_chunk, screen_text};
-use crate::tests::{compare, done};
+use crate::in_memory::{compare, done};
 use std::process::Abort;
 use std::test::Fail;
 use tape_jobs::Job;

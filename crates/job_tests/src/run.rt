@@ -1,4 +1,4 @@
-use super::{Case, HEADER, compare, compare_over, do_job};
+use crate::in_memory::{Case, compare, compare_over};
 use screen_print::ChangesFault;
 use std::alloc::{AllocError, Global};
 use std::process::Abort;

@@ -1,4 +1,4 @@
-use super::{AB, compare, done};
+use crate::in_memory::{AB, compare, done};
 use std::alloc::{AllocError, Global};
 use std::process::Abort;
 use std::test::Fail;

@@ -1,0 +1,17 @@
+//! Tests of jobs over readers and writers in memory, and of the words of command lines, which call what `tape_jobs` makes public.
+//!
+//! They stand in a crate of their own, so that the gate proves the program once, and tests see no more than other crates do.
+#![tactic(auto)]
+
+#[cfg(test)]
+mod in_memory;
+#[cfg(test)]
+mod jobs;
+#[cfg(test)]
+mod moments;
+#[cfg(test)]
+mod run;
+#[cfg(test)]
+mod session;
+#[cfg(test)]
+mod words;
