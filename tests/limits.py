@@ -153,6 +153,38 @@ def limits_of_edits():
     )
 
 
+def full_body():
+    """Edits of a recording with the most chunks and room for one byte. Of several faults of an edit the first one of E1 to
+    E8 is told; tests of pairs without E5 stand in crates/tape_tests."""
+    with open("s", "wb") as script:
+        script.write(b"\n")
+        script.truncate(1 << 30)
+    put("t", b"0 1048575\n" + b"0 1048576\n" * 1023 + b"0 0\n" * (1_000_000 - 1024))
+    longest, longer = b"41" * 1_048_576, b"41" * 1_048_577
+    rows = [
+        (b"insert 1000001 0 4141", "E1 NoSuchChunk"),
+        (b"insert 0 1000000.000001 4141", "E2 DelayTooLarge"),
+        (b"insert 0 0 " + longer, "E3 ChunkTooLong"),
+        (b"insert 0 0 4141", "E4 TooManyChunks"),
+        (b"replace 1000000 4141", "E1 NoSuchChunk"),
+        (b"replace 1024 " + longer, "E3 ChunkTooLong"),
+        (b"replace 1024 4141", "E5 TooManyBytes"),
+        (b"delete 1024 1025", ""),
+        (b"insert 0 0 4141", "E5 TooManyBytes"),
+        (b"insert 0 1000000 41", ""),
+        (b"replace 1025 41", "E5 TooManyBytes"),
+        (b"replace 0 -", ""),
+        (b"replace 1 " + longest, ""),
+        (b"replace 0 41", "E5 TooManyBytes"),
+    ]
+    status, out, err = run(["session", "s", "t"], b"\n".join([line for line, _ in rows]))
+    check("a full body", (status, err), (1, b""))
+    for (line, answer), got in zip(rows, out.split(b"\n")):
+        check("a full body: " + line[:40].decode(), got.decode(), f"refused {answer}" if answer else "ok")
+    check("a byte too many", saved(b"cap 1\nreplace 1024 4141\n"), told("request line 2: E5 TooManyBytes"))
+    os.remove("s")
+
+
 def limits_of_words():
     """Seconds, and chunks between stored terminals."""
     pair(HEADER + b"ab", b"0 1\n0.5 1\n")
@@ -196,6 +228,7 @@ def main():
         cut_both(recordings)
         limits_of_files()
         limits_of_edits()
+        full_body()
         limits_of_words()
         parameters()
     print(f"limits: {passed} passed, {failed} failed")

@@ -1,5 +1,6 @@
 #!/usr/bin/env bash
-# Runs the program on real files: exit status, standard output, standard error, and files left as they were.
+# Runs the program on real files: exit status, standard output, standard error, and files left as they were. What the jobs
+# write, and which command lines there are, is tested in crates/job_tests.
 # Usage: tests/program.sh PROGRAM. The last line is 'N passed, M failed'.
 set -u
 program=$(realpath "$1")
@@ -36,21 +37,12 @@ printf '%bab' "$head" >ab.script
 printf '%b' "$head" >empty.script
 printf 'no line' >headless.script
 printf '0.000000 1\n0.500000 1\n' >ab.timing
-printf '0 1\n0 1\n' >zero.timing
-printf '0.25 1\n0.25 1\n' >quarter.timing
 : >empty.timing
 
 check 'before the second chunk' 0 'a' '' due --at 0.499999 ab.script ab.timing
 check 'at the second chunk' 0 'ab' '' due --at 0.5 ab.script ab.timing
-check 'no delays' 0 'ab' '' due --at 0 ab.script zero.timing
-check 'decimals past the sixth' 0 'a' '' due --at 0.4999999 ab.script quarter.timing
-check 'an empty recording' 0 '' '' due --at 7 empty.script empty.timing
-check 'flags after paths' 0 'ab' '' due ab.script ab.timing --at=9
-check 'two dashes' 0 'ab' '' due --at 9 -- ab.script ab.timing
 
 check 'what a recording holds' 0 'chunks 2\nbytes 2\nlength 0.500000\nheader 20\ntrailer 0\n' '' info ab.script ab.timing
-check 'what an empty recording holds' 0 'chunks 0\nbytes 0\nlength 0.000000\nheader 20\ntrailer 0\n' '' \
-    info empty.script empty.timing
 # screen_of TEXT: the 24 lines of a screen that begins with TEXT, with an LF for each empty line that TEXT leaves out.
 screen_of() {
     local text=$1 plain=${1//'\n'/}
@@ -62,58 +54,12 @@ screen_of() {
     printf '%s' "$text"
 }
 
-# played NAME BODY SCREEN REPORTS: feeds a body as one chunk, and compares both what is shown and what was sent.
-played() {
-    printf '%b%b' "$head" "$2" >row.script
-    printf '0 %d\n' $(($(wc -c <row.script) - 20)) >row.timing
-    check "$1: the screen" 0 "$(screen_of "$3")" '' screen --at 0 row.script row.timing
-    check "$1: the reports" 0 "$4\n" '' reports --at 0 row.script row.timing
-}
-
 E='\x1b'
-A40=$(printf 'A%.0s' $(seq 40)) A80=$A40$A40
-S79=$(printf ' %.0s' $(seq 79)) S131=$(printf ' %.0s' $(seq 131))
-played 'nothing' '' '' ''
-played 'a report before the wrap' "$A80${E}[6nB" "$A80"'\nB' 1b5b313b383052
-played 'no wrap pending after BS' "$A80"'\bB' "${A80:2}BA" ''
-played 'a cancelled sequence' "${E}[3"'\030m' '\342\226\222m' ''
-played 'unknown renditions' "${E}[38;5;1mX" X ''
-played 'a report in origin mode' "${E}[5;10r${E}[?6h${E}[99;1H${E}[6n" '' 1b5b363b3152
-played 'a line made double' "$A40"'AAAAAAAAAA'"$E#6" "$A40" ''
-played 'VT52 mode' "${E}[?2l${E}Y%*X${E}Z" '\n\n\n\n\n          X' 1b2f5a
-played 'a title' "$E]0;title"'\007ok' ok ''
-played 'bytes that are not ASCII' '\303\251' '\342\226\222\342\226\222' ''
-played 'refused margins' "${E}[3;3H${E}[10;5r${E}[6n" '' 1b5b333b3352
-played 'line drawing' "$E(0lqk" '\342\224\214\342\224\200\342\224\220' ''
-played 'scrolling between margins' 'a\r\nb\r\nc\r\nd'"${E}[2;3r${E}[3;1H"'\n' 'a\nc\n\nd' ''
-played 'restoring what was never saved' "${E}[7m${E}[5;5H${E}8X" X ''
-played '132 columns' "${E}[?3h${E}[1;132HAB" "$S131"'A\nB' ''
-played 'terminal parameters' "${E}[x${E}[1x" '' \
-    1b5b323b313b313b3131323b3131323b313b30781b5b333b313b313b3131323b3131323b313b3078
-played 'erasing to the end' "abc${E}[2D${E}[K" a ''
-played 'scrolling at the bottom' "${E}[24;1Hx"'\r\n' '\n\n\n\n\n\n\n\n\n\n\n\n\n\n\n\n\n\n\n\n\n\nx' ''
-played 'no autowrap' "${E}[?7l${A80}B" "${A80:1}B" ''
-played 'a rendition leaves the wrap' "$A80${E}[0mB" "$A80"'\nB' ''
-played 'the last column' "${E}[99;99Hx" '\n\n\n\n\n\n\n\n\n\n\n\n\n\n\n\n\n\n\n\n\n\n\n'"${S79}x" ''
-played 'no tabs' "${E}[3g"'\tx' "${S79}x" ''
-played 'a tab' "${E}[1;5H${E}H"'\r\tx' '    x' ''
-played 'up in a region' "${E}[2;4r${E}[?6h${E}[9Ax" '\nx' ''
-played 'double sizes erased' "ab$E#3"'\r\n'"ab$E#4${E}[1J" '' ''
-played 'the wrap is saved' "$A80${E}7${E}[5;1H${E}8B" "$A80"'\nB' ''
-played 'up above a region' "${E}[2;3r${E}Mx" x ''
-played 'the pound sign' "$E(A#" '\302\243' ''
-played 'VT52 graphics' "${E}[?2l${E}Fa${E}<a" '\342\226\222a' ''
-
 check 'a screen before the second chunk' 0 "$(screen_of a)" '' screen --at 0.499999 ab.script ab.timing
 check 'a screen at the second chunk' 0 "$(screen_of ab)" '' screen --at 0.5 ab.script ab.timing
-check 'a screen of nothing' 0 "$(screen_of '')" '' screen --at 7 empty.script empty.timing
-check 'no reports' 0 '\n' '' reports --at 7 empty.script empty.timing
-printf '%b%b' "$head" "${E}[31;4mX${E}[5n" >cut.script
-printf '0 3\n0.5 6\n0.5 3\n' >cut.timing
-check 'a sequence cut in two' 0 "$(screen_of '')" '' screen --at 0.4 cut.script cut.timing
-check 'a sequence over two chunks' 0 "$(screen_of X)" '' screen --at 0.5 cut.script cut.timing
-check 'a question not asked yet' 0 '\n' '' reports --at 0.9 cut.script cut.timing
-check 'an answer' 0 '1b5b306e\n' '' reports --at 1 cut.script cut.timing
+printf '%b%b' "$head" "${E}[cx" >asks.script
+printf '0 3\n0 1\n' >asks.timing
+check 'an answer' 0 '1b5b3f313b3263\n' '' reports --at 0 asks.script asks.timing
 
 # refused NAME STATUS ERR SCRIPT TIMING: a damaged pair, which is only told, whatever the command.
 refused() {
@@ -147,8 +93,6 @@ refused 'a directory' 3 'read fault' . ab.timing
 refused 'script and timing swapped' 1 'timing line 1: multi-stream format' ab.timing ab.script
 
 check 'bad seconds' 2 '' 'typetool: bad seconds\n' due --at .5 nowhere nowhere
-check 'no seconds' 2 '' 'typetool: bad seconds\n' due --at '' nowhere nowhere
-check 'a moment is never a dash' 2 '' 'typetool: bad seconds\n' due --at=- nowhere nowhere
 
 # status NAME STATUS WORD..: clap's texts are clap's own.
 status() {
@@ -168,17 +112,7 @@ status 'help' 0 --help
 status 'help of a command' 0 due --help
 status 'no command' 2
 status 'an unknown command' 2 play
-status 'an unknown flag' 2 due --at 1 --fast ab.script ab.timing
-status 'a repeated flag' 2 due --at 1 --at 2 ab.script ab.timing
 status 'a missing path' 2 due --at 1 ab.script
-status 'a path too many' 2 due --at 1 ab.script ab.timing more
-status 'no moment' 2 due ab.script ab.timing
-status 'help of screen' 0 screen --help
-status 'help of reports' 0 reports -h
-status 'a screen of no moment' 2 screen ab.script ab.timing
-status 'reports escaped' 2 reports --at 1 --escaped ab.script ab.timing
-check 'bad seconds of a screen' 2 '' 'typetool: bad seconds\n' screen --at 1e3 nowhere nowhere
-check 'bad seconds of reports' 2 '' 'typetool: bad seconds\n' reports --at '' nowhere nowhere
 
 # saved NAME STATUS ERR LINES SCRIPT TIMING: saves what LINES ask for into new.script and new.timing.
 saved() {
@@ -202,21 +136,9 @@ saved 'an insert' 0 '' 'insert 1 0.25 58\n' ab.script ab.timing
 holds 'an insert' new.script "$head"aXb
 holds 'an insert' new.timing '0.000000 1\n0.250000 1\n0.500000 1\n'
 check 'what was saved is read' 0 'aXb' '' due --at 1 new.script new.timing
-printf '%babc' "$head" >abc.script
-printf ' 0.1\t2 \n\n-0.5 1' >loose.timing
-saved 'no edits' 0 '' '' abc.script loose.timing
-holds 'no edits' new.script "$head"abc
-holds 'no edits' new.timing '0.100000 2\n0.000000 1\n'
-printf '0.5 1\n3 1\n2 1\n' >slow.timing
-saved 'a cap' 0 '' 'cap 2\n' abc.script slow.timing
-holds 'a cap' new.timing '0.500000 1\n2.000000 1\n2.000000 1\n'
 saved 'a bad range' 1 'typetool: request line 3: E6 BadRange\n' 'delete 0 1\n\ndelete 5 6\n' ab.script ab.timing
 holds 'a bad range' new.script ''
 holds 'a bad range' new.timing ''
-saved 'a question' 1 'typetool: request line 1: E8 BadLine\n' 'info\n' ab.script ab.timing
-saved 'no such chunk' 1 'typetool: request line 1: E1 NoSuchChunk\n' 'insert 11 0 -' ab.script ab.timing
-saved 'too large a delay' 1 'typetool: request line 1: E2 DelayTooLarge\n' 'insert 0 1000000.000001 -' ab.script ab.timing
-saved 'a CR' 1 'typetool: request line 1: E8 BadLine\n' 'cap 1\r\n' ab.script ab.timing
 saved 'a short script' 1 'typetool: typescript ends inside chunk 0\n' 'nonsense' empty.script ab.timing
 holds 'a short script' new.script ''
 
@@ -266,24 +188,10 @@ got=$?
 : >out.txt
 verdict 'a limit on file size' 3 $got '' 'typetool: write fault\n'
 holds 'no timing before the script is whole' new.timing ''
-status 'info with a moment' 2 info --at 1 ab.script ab.timing
-status 'save with a moment' 2 save --at 1 ab.script ab.timing new.script new.timing
-status 'save with two paths' 2 save ab.script ab.timing
-status 'help of save' 0 save --help
 
 printf '%b%b' "$head" "a${E}[m${E}[3;1Hb" >three.script
 printf '0 1\n0 3\n1.5 7\n' >three.timing
 check 'changes by a moment' 0 '0 0.000000 1\n2 1.500000 3\n' '' changes --to 2 three.script three.timing
-check 'changes after a moment' 0 '2 1.500000 3\n' '' changes --from 0 --to 2 three.script three.timing
-check 'changes up to the chunk before' 0 '0 0.000000 1\n' '' changes --to=1.4999999 three.script three.timing
-check 'no changes' 0 '' '' changes --from 2 --to 1 three.script three.timing
-check 'changes of nothing' 0 '' '' changes --to 7 empty.script empty.timing
-check 'bad seconds of changes' 2 '' 'typetool: bad seconds\n' changes --from=- --to 1 nowhere nowhere
-check 'bad seconds of changes by a moment' 2 '' 'typetool: bad seconds\n' changes --from 1 --to .5 nowhere nowhere
-status 'help of changes' 0 changes --help
-status 'changes by no moment' 2 changes --from 1 ab.script ab.timing
-status 'changes at a moment' 2 changes --at 1 --to 1 ab.script ab.timing
-status 'changes after two moments' 2 changes --from 1 --from 2 --to 3 ab.script ab.timing
 
 # asked NAME STATUS LINES OUT SCRIPT TIMING [FLAG..]: a session over request lines, with nothing on standard error.
 asked() {
@@ -293,51 +201,23 @@ asked() {
     verdict "$name" "$wanted" $? "$out" ''
 }
 
-printf '%b%b' "$head" "${E}[cx" >asks.script
-printf '0 3\n0 1\n' >asks.timing
 asked 'a report of a deleted chunk' 0 'reports 0\ndelete 0 1\nreports 0\nscreen 0\n' \
     "1b5b3f313b3263\\nok\\n\\n$(screen_of x)" asks.script asks.timing
 printf '%b0123456789' "$head" >ten.script
 yes '0 1' | head -n 10 >ten.timing
 asked 'refused edits' 1 'delete 3 3\ninsert 11 0 -\ninsert 0 1000000.000001 -\nlog\n' \
     'refused E6 BadRange\nrefused E1 NoSuchChunk\nrefused E2 DelayTooLarge\nend\n' ten.script ten.timing
-asked 'a delay, what it holds and the log' 0 'retime 0 1\ninfo\nlog\n' \
-    'ok\nchunks 2\nbytes 2\nlength 1.500000\nheader 20\ntrailer 0\nretime 0 1.000000\nend\n' ab.script ab.timing
-asked 'a line of no known form' 1 'nonsense\nchanges - 0' 'refused E8 BadLine\n0 0.000000 1\nend\n' ab.script ab.timing
-asked 'capped delays' 1 'cap 1000000.000001\ncap 1000000\nlog\n' \
-    'refused E2 DelayTooLarge\nok\ncap 1000000.000000\nend\n' abc.script slow.timing
-asked 'caps of no known form' 1 'cap\ncap 1 2\n' 'refused E8 BadLine\nrefused E8 BadLine\n' abc.script slow.timing
-asked 'blank lines' 0 '\n \t\n\n' '' ab.script ab.timing
 asked 'no lines' 0 '' '' ab.script ab.timing
-asked 'a CR' 1 'info\r\n' 'refused E8 BadLine\n' ab.script ab.timing
-for every in 1 7 100 0001000000; do
-    asked "every $every" 0 'screen 9\nscreen 0\nchanges 0 9\n' "$(screen_of ab)$(screen_of a)"'1 0.500000 1\nend\n' \
-        ab.script ab.timing --every "$every"
-done
-status 'help of session' 0 session --help
-status 'every 0' 2 session --every 0 ab.script ab.timing
-status 'every above the most' 2 session --every 1000001 ab.script ab.timing
-status 'every that is no number' 2 session --every x ab.script ab.timing
-status 'every twice' 2 session --every 1 --every 1 ab.script ab.timing
-status 'a session at a moment' 2 session --at 1 ab.script ab.timing
+asked 'a terminal at every chunk' 0 'screen 9\nscreen 0\n' "$(screen_of ab)$(screen_of a)" ab.script ab.timing --every 1
 check 'every with a sign' 2 '' 'typetool: bad number of chunks\n' session --every=+5 nowhere nowhere
 
 # The second profile and the escaped print.
 printf 'Script started on X\nabcdef\033[1;2H\033[2P\033[c' >edits.script
 printf '0.5 19\n' >edits.timing
 check 'cells deleted under a VT102' 0 "$(screen_of adef)" '' screen --at 1 --profile vt102 edits.script edits.timing
-check 'and not under a VT100' 0 "$(screen_of abcdef)" '' screen --at 1 --profile=vt100 edits.script edits.timing
-check 'nor where no profile is given' 0 "$(screen_of abcdef)" '' screen --at 1 edits.script edits.timing
-check 'what a VT102 is' 0 '1b5b3f3663\n' '' reports --profile vt102 --at 1 edits.script edits.timing
-check 'changes of a VT102' 0 '0 0.500000 1\n' '' changes --profile vt102 --to 1 edits.script edits.timing
 asked 'a session of a VT102' 0 'reports 1\nscreen 1\n' '1b5b3f3663\n'"$(screen_of adef)" \
     edits.script edits.timing --profile vt102
 check 'another profile' 2 '' 'typetool: bad profile\n' screen --at 1 --profile vt220 nowhere nowhere
-status 'a profile of due' 2 due --at 1 --profile vt100 edits.script edits.timing
-status 'a profile of info' 2 info --profile vt100 edits.script edits.timing
-status 'a profile of save' 2 save --profile vt100 edits.script edits.timing not.script not.timing
-status 'a profile twice' 2 screen --at 1 --profile vt100 --profile vt100 edits.script edits.timing
-status 'the escaped print of changes' 2 changes --to 1 --escaped edits.script edits.timing
 check 'the escaped print' 0 '\033[?7l\033)0\033[1;1Hadef\033[0m\017\033[?7h\033[1;2H' '' \
     screen --at 1 --escaped --profile vt102 edits.script edits.timing
 "$program" session ab.script ab.timing 0>>there >out.txt 2>err.txt
