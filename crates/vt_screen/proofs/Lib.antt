@@ -1,4 +1,5 @@
 mod Answers
+mod Blanked
 mod Drawing
 mod Erased
 mod Index

@@ -1,5 +1,5 @@
 -- A run of characters on one line, written at once.
-use Rattle.std.proofs.Common.{◌≡◌, ◌≢◌, ℕ, ◌+◌, ◌<◌, ◌≤◌, Bool, true, false, List, [], ◌∷◌, length, take, drop, refl, sym, ap, ap₂, inl, inr, ◌∙◌, arith}
+use Rattle.std.proofs.Common.{◌≡◌, ◌≢◌, ℕ, ◌+◌, ◌<◌, ◌≤◌, Bool, true, false, List, [], ◌∷◌, ◌++◌, length, take, drop, refl, sym, ap, ap₂, inl, inr, ◌∙◌, arith}
 use Rattle.std.specs.Prelude.{if◌then◌else◌, ◌==◌}
 use Rattle.std.proofs.lemmas.Bool.{cases_eq}
 use Rattle.std.proofs.lemmas.Bool.Decides.{nat_tests}
@@ -13,6 +13,7 @@ use Rattle.vt_screen.specs.Picture.{Picture, margin_of, right_margin}
 use Rattle.vt_screen.specs.Moves.{moved_to_left, on_line}
 use Rattle.vt_screen.specs.Scrolls.{indexed, scrolled_up}
 use Rattle.vt_screen.specs.Puts.{with_row, with_cell, put, wrap_taken, shown, run_shown}
+use Rattle.vt_screen.specs.Slots.{order_indexed, order_wrap_taken, order_run_shown}
 use Rattle.vt_screen.specs.Written.{written}
 use Rattle.vt_screen.proofs.Tables.{length-table, nth-table, table_ext, table_is}
 use Rattle.vt_screen.proofs.Soundness.{row_put, either_picture}
@@ -106,3 +107,36 @@ module _ (rendition : Attributes) (autowrap : Bool) where
   pub run_step : (n : ℕ) (glyphs : List ℕ) (p now : Picture) → 0 < length glyphs → now ≡ run_shown (take n glyphs) rendition autowrap (wrap_taken p) → run_shown (drop n glyphs) rendition autowrap now ≡ run_shown glyphs rendition autowrap p
   run_step n glyphs p now some written =
       ap (run_shown (drop n glyphs) rendition autowrap) written ∙ run_parts n glyphs (wrap_taken p) ∙ run_wrapped glyphs p some
+
+  -- outside a pending wrap the names stay
+  order_unwrapped : (p : Picture) (order : List ℕ) → p.wrap ≡ false → order_wrap_taken p order ≡ order
+  order_unwrapped p order unwrapped = ap (λ (b : Bool). if b then order_indexed p order else order) unwrapped
+
+  -- none of them wraps before the next
+  pub order_within : (glyphs : List ℕ) (p : Picture) (order : List ℕ) → p.wrap ≡ false → 1 ≤ p.line → p.line ≤ 24 → p.column + length glyphs ≤ right_margin p p.line + 1 → order_run_shown glyphs rendition autowrap p order ≡ order
+  order_within [] p order unwrapped low high fits = refl
+  order_within (glyph ∷ []) p order unwrapped low high fits = order_unwrapped p order unwrapped
+  order_within (glyph ∷ other ∷ glyphs) p order unwrapped low high fits =
+      ap₂ (λ (q : Picture) (names : List ℕ). order_run_shown (other ∷ glyphs) rendition autowrap q names) (shown_next glyph p unwrapped (omega arith)) (order_unwrapped p order unwrapped)
+      ∙ order_within (other ∷ glyphs) (next glyph p) order unwrapped low high (omega (arith, margin_next glyph p low high))
+
+  order_parts : (xs ys : List ℕ) (p : Picture) (order : List ℕ) → order_run_shown (xs ++ ys) rendition autowrap p order ≡ order_run_shown ys rendition autowrap (run_shown xs rendition autowrap p) (order_run_shown xs rendition autowrap p order)
+  order_parts [] ys p order = refl
+  order_parts (x ∷ xs) ys p order = order_parts xs ys (shown x rendition autowrap p) (order_wrap_taken p order)
+
+  order_wrapped : (glyphs : List ℕ) (p : Picture) (order : List ℕ) → 0 < length glyphs → order_run_shown glyphs rendition autowrap (wrap_taken p) (order_wrap_taken p order) ≡ order_run_shown glyphs rendition autowrap p order
+  order_wrapped [] p order some = absurd (omega arith)
+  order_wrapped (glyph ∷ glyphs) p order some =
+      ap₂ (λ (q : Picture) (names : List ℕ). order_run_shown glyphs rendition autowrap q names) (shown_unwrapped glyph (wrap_taken p) (wrap_gone p))
+      (order_unwrapped (wrap_taken p) (order_wrap_taken p order) (wrap_gone p))
+
+  -- the names in a loop's step
+  pub order_step : (n : ℕ) (glyphs : List ℕ) (p now : Picture) (order wrapped names : List ℕ) → 0 < length glyphs → now ≡ run_shown (take n glyphs) rendition autowrap (wrap_taken p)
+      → wrapped ≡ order_wrap_taken p order → names ≡ order_run_shown (take n glyphs) rendition autowrap (wrap_taken p) wrapped
+      → order_run_shown (drop n glyphs) rendition autowrap now names ≡ order_run_shown glyphs rendition autowrap p order
+  order_step n glyphs p now order wrapped names some written turned shown_there =
+      ap₂ (λ (q : Picture) (held : List ℕ). order_run_shown (drop n glyphs) rendition autowrap q held) written shown_there
+      ∙ sym (order_parts (take n glyphs) (drop n glyphs) (wrap_taken p) wrapped)
+      ∙ ap (λ (gs : List ℕ). order_run_shown gs rendition autowrap (wrap_taken p) wrapped) (take-append-drop n glyphs)
+      ∙ ap (λ (held : List ℕ). order_run_shown glyphs rendition autowrap (wrap_taken p) held) turned
+      ∙ order_wrapped glyphs p order some

@@ -49,10 +49,10 @@ filled_with now was first last cell other to column same_cell same_column filled
     filled ∙ ap₂ (λ (e : Cell) (k : ℕ). lines_changed (filled_to e k) first last was) same_cell same_column
 
 -- the cursor is inside the margins
-pub in_region : (p q : Picture) → p.top ≤ p.line → p.line ≤ p.bottom → q ≡ (if is_in_region p then q else p)
-in_region p q below above =
+pub in_region : {X : Type 0} (p : Picture) (q r : X) → p.top ≤ p.line → p.line ≤ p.bottom → q ≡ (if is_in_region p then q else r)
+in_region p q r below above =
     let inside : is_in_region p ≡ true = grind (arith, nat_tests) in
-    ap (λ (b : Bool). if b then q else p) (sym inside)
+    ap (λ (b : Bool). if b then q else r) (sym inside)
 
 -- up and down by a count: n, or all of the lines
 module _ (rows : List Row) (n count top bottom : ℕ) (apart : top ≤ bottom) (few : count ≡ min n (bottom + 1 - top)) where

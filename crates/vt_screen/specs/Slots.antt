@@ -1,10 +1,13 @@
 -- Where rows lie: 24 slots, and for each line the name of its slot, from 0 to 23. All of it is the
 -- project's own (ours): no crate above sees it.
-use Rattle.std.specs.Prelude.{◌≡◌, ℕ, ◌+◌, ◌-◌, ◌<◌, ◌≤◌, List, length, nat_le, min, slice_index_or, slice_set, ◌==◌, ◌&&◌, if◌then◌else◌}
+use Rattle.std.specs.Prelude.{◌≡◌, ℕ, ◌+◌, ◌-◌, ◌<◌, ◌≤◌, Bool, List, [], ◌∷◌, fold, length, nat_le, min, slice_index_or, slice_set, ◌==◌, ◌&&◌, if◌then◌else◌}
+use Rattle.std.specs.List.{range_with_len}
 use Rattle.vt_screen.specs.declared.cell.Row.{Row}
 use Rattle.vt_screen.specs.Table.{table, nth}
 use Rattle.vt_screen.specs.Cells.{blank_row, rows_by}
+use Rattle.vt_screen.specs.Attributes.{Attributes}
 use Rattle.vt_screen.specs.Picture.{Picture}
+use Rattle.vt_screen.specs.Puts.{shown}
 use Rattle.vt_screen.specs.Scrolls.{is_in_region}
 use Rattle.vt_screen.specs.Limits.{line_count, wide_columns}
 
@@ -90,3 +93,29 @@ order_lines_deleted n p order =
 abbrev pub order_lines_inserted : ℕ → Picture → List ℕ → List ℕ
 order_lines_inserted n p order =
     if is_in_region p then turned_down (min n (p.bottom + 1 - p.line)) p.line p.bottom order else order
+
+-- the slots of n lines from one on become blank, and the others stay
+unfoldable pub slots_blanked : ℕ → ℕ → List ℕ → List Row → List Row
+slots_blanked first n order slots =
+    fold (λ rows line. slice_set rows (slot_at order line) blank_row) slots (range_with_len first n)
+
+-- of lines that are deleted the slots come free, and no other is written
+abbrev pub slots_lines_deleted : ℕ → Picture → List ℕ → List Row → List Row
+slots_lines_deleted n p order slots =
+    if is_in_region p then slots_blanked p.line (min n (p.bottom + 1 - p.line)) order slots else slots
+
+-- lines that are inserted push as many lines out at the bottom margin, and take their slots
+abbrev pub slots_lines_inserted : ℕ → Picture → List ℕ → List Row → List Row
+slots_lines_inserted n p order slots =
+    let count = min n (p.bottom + 1 - p.line) in
+    if is_in_region p then slots_blanked (p.bottom + 1 - count) count order slots else slots
+
+-- a pending wrap turns the names as index does
+abbrev pub order_wrap_taken : Picture → List ℕ → List ℕ
+order_wrap_taken p order = if p.wrap then order_indexed p order else order
+
+-- characters that are shown one after another turn them at each wrap that is taken
+abbrev pub order_run_shown : List ℕ → Attributes → Bool → Picture → List ℕ → List ℕ
+order_run_shown [] rendition autowrap p order = order
+order_run_shown (glyph ∷ glyphs) rendition autowrap p order =
+    order_run_shown glyphs rendition autowrap (shown glyph rendition autowrap p) (order_wrap_taken p order)

@@ -1,10 +1,13 @@
 -- Parts of a row that are written at once: what the bodies below the operations leave (ours).
-use Rattle.std.specs.Prelude.{ℕ, ◌+◌, List, [], ◌∷◌, nat_le, nat_lt, ◌&&◌, if◌then◌else◌}
+use Rattle.std.specs.Prelude.{ℕ, ◌+◌, List, [], ◌∷◌, fold, nat_le, nat_lt, slice_set, ◌&&◌, if◌then◌else◌}
+use Rattle.std.specs.List.{range_with_len}
 use Rattle.vt_screen.specs.declared.cell.Cell.{Cell}
 use Rattle.vt_screen.specs.declared.cell.Row.{Row}
 use Rattle.vt_screen.specs.Attributes.{Attributes}
 use Rattle.vt_screen.specs.Cells.{cell_at, row_by, rows_by, row_at}
+use Rattle.vt_screen.specs.Lines.{filled_to}
 use Rattle.vt_screen.specs.Puts.{with_cell}
+use Rattle.vt_screen.specs.Slots.{slot_at, row_in}
 
 -- the cells from one column to another are all this one
 abbrev pub filled : ℕ → ℕ → Cell → Row → Row
@@ -25,3 +28,9 @@ lines_changed change from to rows =
 -- each line becomes another one of these
 abbrev pub lines_taken : (ℕ → ℕ) → List Row → List Row
 lines_taken source rows = rows_by (λ line. row_at rows (source line))
+
+-- the slots of n lines from one on are filled to a column with one cell, single width
+unfoldable pub slots_filled : Cell → ℕ → ℕ → ℕ → List ℕ → List Row → List Row
+slots_filled cell to first n order slots =
+    fold (λ rows line. slice_set rows (slot_at order line) (filled_to cell to (row_in rows (slot_at order line))))
+    slots (range_with_len first n)

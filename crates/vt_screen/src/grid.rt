@@ -1,12 +1,12 @@
 //! The 24 rows behind an index, so that a scroll moves no cells.
 
-ghost use Rattle.std.specs.Prelude.{◌≡◌, ◌+◌, ◌<◌, ◌≤◌, length, slice_set};
+ghost use Rattle.std.specs.Prelude.{◌≡◌, ◌+◌, ◌-◌, ◌<◌, ◌≤◌, length, slice_set};
 ghost use Rattle.vt_screen.specs.Cells.{blank_row, row_at, rows_by};
 ghost use Rattle.vt_screen.specs.Erasures.{part_erased};
 ghost use Rattle.vt_screen.specs.Lines.{filled_to};
 ghost use Rattle.vt_screen.specs.Slots.{OncePerSlot, slot_at, row_in, rows_of, first_order, line_below, line_above, turned_up, turned_down};
 ghost use Rattle.vt_screen.specs.Puts.{with_row, with_cell};
-ghost use Rattle.vt_screen.specs.Written.{written, lines_changed, lines_taken};
+ghost use Rattle.vt_screen.specs.Written.{written, lines_changed, lines_taken, slots_filled};
 
 use crate::cell::{Cell, Row};
 use crate::limits::{LINES, WIDE_COLUMNS};
@@ -87,7 +87,8 @@ impl Grid {
         requires line_high { line ≤ LINES }
         requires column_low { 1 ≤ column }
         requires column_high { column ≤ WIDE_COLUMNS }
-        ensures { rows_of self.new ≡ with_row line (with_cell column cell (row_at (rows_of self.old) line)) (rows_of self.old) }
+        ensures rows { rows_of self.new ≡ with_row line (with_cell column cell (row_at (rows_of self.old) line)) (rows_of self.old) }
+        ensures order { self.new.order ≡ self.old.order }
     {
         let slot = self.order[line as usize - 1] as usize;
         let row = &mut self.slots[slot];
@@ -100,7 +101,8 @@ impl Grid {
         requires line_high { line ≤ LINES }
         requires column_low { 1 ≤ column }
         requires column_high { column + length glyphs.now ≤ WIDE_COLUMNS + 1 }
-        ensures { rows_of self.new ≡ with_row line (written column glyphs.now rendition (row_at (rows_of self.old) line)) (rows_of self.old) }
+        ensures rows { rows_of self.new ≡ with_row line (written column glyphs.now rendition (row_at (rows_of self.old) line)) (rows_of self.old) }
+        ensures order { self.new.order ≡ self.old.order }
     {
         let slot = self.order[line as usize - 1] as usize;
         let row = &mut self.slots[slot];
@@ -112,7 +114,8 @@ impl Grid {
         requires line_low { 1 ≤ line }
         requires line_high { line ≤ LINES }
         requires whole { length row.cells ≡ WIDE_COLUMNS }
-        ensures { rows_of self.new ≡ with_row line row (rows_of self.old) }
+        ensures rows { rows_of self.new ≡ with_row line row (rows_of self.old) }
+        ensures order { self.new.order ≡ self.old.order }
     {
         let slot = self.order[line as usize - 1] as usize;
         self.slots[slot] = row;
@@ -154,6 +157,7 @@ impl Grid {
         requires high { to ≤ WIDE_COLUMNS }
         ensures rows { rows_of self.new ≡ lines_changed (filled_to cell to) first (last + 1) (rows_of self.old) }
         ensures order { self.new.order ≡ self.old.order }
+        ensures slots { self.new.slots ≡ slots_filled cell to first (last + 1 - first) self.old.order self.old.slots }
     {
         let Cell { glyph, rendition } = cell;
         for line in first..last + 1 {

@@ -7,7 +7,7 @@ ghost use Rattle.vt_screen.specs.Erasures.{display_erased, erased_whole, in_othe
 ghost use Rattle.vt_screen.specs.Lines.{size_set, columns_set, aligned, are_margins, margins_set};
 ghost use Rattle.vt_screen.specs.Moves.{stepped_up, stepped_down, stepped_right, stepped_left, moved_to_left, placed, moved_home, wrap_cleared, put_back, on_line};
 ghost use Rattle.vt_screen.specs.Picture.{Sound, SoundRow, with_rows, first_tabs, reset, cell, columns, right_margin};
-ghost use Rattle.vt_screen.specs.Slots.{OncePerSlot, first_order, slot_at, row_in, turned_up, turned_down, order_indexed, slots_indexed, order_reverse_indexed, slots_reverse_indexed, order_lines_deleted, order_lines_inserted};
+ghost use Rattle.vt_screen.specs.Slots.{OncePerSlot, first_order, slot_at, row_in, turned_up, turned_down, order_indexed, slots_indexed, order_reverse_indexed, slots_reverse_indexed, order_lines_deleted, slots_lines_deleted, order_lines_inserted, slots_lines_inserted, order_wrap_taken, order_run_shown};
 ghost use Rattle.vt_screen.specs.Puts.{put, shown, run_shown, wrap_taken};
 ghost use Rattle.vt_screen.specs.Scrolls.{indexed, reverse_indexed, lines_deleted, lines_inserted, scrolled_up, scrolled_down};
 ghost use Rattle.vt_screen.specs.Tabs.{stop_at, stop_after, tabbed, tab_made, tabs_cleared};
@@ -187,6 +187,7 @@ impl Screen {
     pub fn show(&mut self, glyph: u8, rendition: Rendition, autowrap: bool)
         requires { glyph ≤ LAST_GLYPH }
         ensures picture { self.new.picture ≡ shown glyph rendition autowrap self.old.picture }
+        ensures order { self.new.order ≡ order_wrap_taken self.old.picture self.old.order }
     {
         self.take_wrap();
         self.put(Cell { glyph, rendition }, autowrap);
@@ -196,6 +197,8 @@ impl Screen {
     pub fn show_run(&mut self, glyphs: &[u8], rendition: Rendition, autowrap: bool)
         requires { All (λ glyph. glyph ≤ LAST_GLYPH) glyphs.now }
         ensures picture { self.new.picture ≡ run_shown glyphs.now rendition autowrap self.old.picture }
+        ensures order { self.new.order
+            ≡ order_run_shown glyphs.now rendition autowrap self.old.picture self.old.order }
     {
         let room = (self.margin() - self.column) as usize;
         if !self.wrap && glyphs.len() <= room {
@@ -251,6 +254,7 @@ impl Screen {
     /// CR: column 1.
     pub fn to_left(&mut self)
         ensures picture { self.new.picture ≡ moved_to_left self.old.picture }
+        ensures order { self.new.order ≡ self.old.order }
     {
         self.column = 1;
         self.wrap = false;
@@ -316,6 +320,8 @@ impl Screen {
     pub fn insert_lines(&mut self, n: u16)
         ensures picture { self.new.picture ≡ lines_inserted n self.old.picture }
         ensures order { self.new.order ≡ order_lines_inserted n self.old.picture self.old.order }
+        ensures slots { self.new.slots
+            ≡ slots_lines_inserted n self.old.picture self.old.order self.old.slots }
     {
         if self.top <= self.line && self.line <= self.bottom {
             let count = self.lines_left(n);
@@ -333,6 +339,8 @@ impl Screen {
     pub fn delete_lines(&mut self, n: u16)
         ensures picture { self.new.picture ≡ lines_deleted n self.old.picture }
         ensures order { self.new.order ≡ order_lines_deleted n self.old.picture self.old.order }
+        ensures slots { self.new.slots
+            ≡ slots_lines_deleted n self.old.picture self.old.order self.old.slots }
     {
         if self.top <= self.line && self.line <= self.bottom {
             let count = self.lines_left(n);
@@ -362,6 +370,7 @@ impl Screen {
     pub fn show_inserting(&mut self, glyph: u8, rendition: Rendition, autowrap: bool)
         requires { glyph ≤ LAST_GLYPH }
         ensures picture { self.new.picture ≡ shown_inserting glyph rendition autowrap self.old.picture }
+        ensures order { self.new.order ≡ order_wrap_taken self.old.picture self.old.order }
     {
         self.take_wrap();
         self.make_room();
@@ -552,6 +561,7 @@ impl Screen {
     /// Takes a pending wrap: column 1 of the next line.
     fn take_wrap(&mut self)
         ensures picture { self.new.picture ≡ wrap_taken self.old.picture }
+        ensures order { self.new.order ≡ order_wrap_taken self.old.picture self.old.order }
     {
         if self.wrap {
             self.to_left();
@@ -563,6 +573,8 @@ impl Screen {
     fn show_parts(&mut self, glyphs: &[u8], rendition: Rendition, autowrap: bool)
         requires { All (λ glyph. glyph ≤ LAST_GLYPH) glyphs.now }
         ensures picture { self.new.picture ≡ run_shown glyphs.now rendition autowrap self.old.picture }
+        ensures order { self.new.order
+            ≡ order_run_shown glyphs.now rendition autowrap self.old.picture self.old.order }
     {
         let mut rest = glyphs;
         while !rest.is_empty() {
@@ -577,6 +589,7 @@ impl Screen {
     fn put(&mut self, cell: Cell, autowrap: bool)
         requires { cell.glyph ≤ LAST_GLYPH }
         ensures picture { self.new.picture ≡ put cell autowrap self.old.picture }
+        ensures order { self.new.order ≡ self.old.order }
     {
         let margin = self.margin();
         self.grid.write(self.line, self.column, cell);
@@ -590,6 +603,7 @@ impl Screen {
     /// Moves the cells from the cursor on one to the right.
     fn make_room(&mut self)
         ensures picture { self.new.picture ≡ room_made self.old.picture }
+        ensures order { self.new.order ≡ self.old.order }
     {
         let margin = self.margin();
         let mut row = *self.grid.row(self.line);
@@ -612,7 +626,10 @@ impl Screen {
         requires wrap { self.old.picture.wrap ≡ false }
         ensures some { 0 < result }
         ensures within { result ≤ length glyphs.now }
-        ensures picture { self.new.picture ≡ run_shown (take result glyphs.now) rendition autowrap self.old.picture }
+        ensures picture { self.new.picture
+            ≡ run_shown (take result glyphs.now) rendition autowrap self.old.picture }
+        ensures order { self.new.order
+            ≡ order_run_shown (take result glyphs.now) rendition autowrap self.old.picture self.old.order }
     {
         let margin = self.margin();
         let room = (margin - self.column) as usize + 1;

@@ -12,6 +12,6 @@ pub invariant_of-self : goal.invariant_of-self
 invariant_of-self c =
     changed_once _ _ c.self.invariant c.self.view_is c.args.line c.requires.line_low c.requires.line_high c.args.row c.requires.whole
 
-pub returns : goal.returns
-returns c =
+pub returns-clause-rows : goal.returns-clause-rows
+returns-clause-rows c =
     row_changed _ _ c.self.invariant c.self.view_is c.args.line c.requires.line_low c.requires.line_high (λ _. c.args.row) c.args.row c.args.row refl

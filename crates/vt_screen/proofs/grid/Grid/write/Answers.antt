@@ -19,6 +19,6 @@ pub invariant_of-self : goal.invariant_of-self
 invariant_of-self c =
     changed_once _ _ c.self.invariant c.self.view_is c.args.line c.requires.line_low c.requires.line_high _ (ap (λ (r : Row). length r.cells) c.write.ensures ∙ length-table 132 _)
 
-pub returns : goal.returns
-returns c =
+pub returns-clause-rows : goal.returns-clause-rows
+returns-clause-rows c =
     row_changed _ _ c.self.invariant c.self.view_is c.args.line c.requires.line_low c.requires.line_high (with_cell c.args.column c.args.cell) _ _ c.write.ensures

@@ -16,6 +16,6 @@ pub invariant_of-self : goal.invariant_of-self
 invariant_of-self c =
     changed_once _ _ c.self.invariant c.self.view_is c.args.line c.requires.line_low c.requires.line_high _ c.write_run.ensures.whole
 
-pub returns : goal.returns
-returns c =
+pub returns-clause-rows : goal.returns-clause-rows
+returns-clause-rows c =
     row_changed _ _ c.self.invariant c.self.view_is c.args.line c.requires.line_low c.requires.line_high (written c.args.column c.args.glyphs.now c.args.rendition) _ _ c.write_run.ensures.written

@@ -20,7 +20,7 @@ are_deleted c =
     let count = c.min-count.result in
     let margin : c.margin-margin.result ≡ right_margin p p.line = c.margin-margin.ensures.value ∙ ap (λ (s : ScreenState). right_margin s.picture s.picture.line) (sym c.self.view_is) in
     let few : count ≡ min c.args.n (right_margin p p.line + 1 - p.column) = c.min-count.ensures ∙ ap (min c.args.n) (c.from.ensures ∙ ap (λ (m : ℕ). m + 1 - p.column) margin) in
-    ap (λ (rows : List Row). with_rows rows p) (c.set_row.ensures
+    ap (λ (rows : List Row). with_rows rows p) (c.set_row.ensures.rows
     ∙ ap (λ (r : Row). with_row p.line r p.rows) (c.take_out.ensures ∙ ap₂ (λ (m : ℕ) (r : Row). taken_out count p.column m r) margin c.row.ensures.value
     ∙ taken_few (row_at p.rows p.line) c.args.n count p.column (right_margin p p.line) c.self.invariant.column_high few))
 

@@ -16,11 +16,11 @@ has_room : (c : goal.After-set_row) → with_rows (rows_of c.set_row.new.self) (
 has_room c =
     let p = picture_of c.self.inside in
     let margin = c.margin-margin.ensures.value ∙ ap (λ (s : ScreenState). right_margin s.picture s.picture.line) (sym c.self.view_is) in
-    ap (λ (rows : List Row). with_rows rows p) (c.set_row.ensures
+    ap (λ (rows : List Row). with_rows rows p) (c.set_row.ensures.rows
     ∙ ap (λ (r : Row). with_row p.line r p.rows) (c.move_right.ensures ∙ ap₂ (λ (m : ℕ) (r : Row). moved_right p.column m r) margin c.row.ensures.value))
 
 pub invariant_of-self : goal.invariant_of-self
 invariant_of-self c = subst Sound (sym (has_room c)) (sound_room_made (picture_of c.self.inside) c.self.invariant)
 
-pub returns : goal.returns
-returns c = record { picture = has_room c ∙ ap (λ (s : ScreenState). room_made s.picture) c.self.view_is }
+pub returns-clause-picture : goal.returns-clause-picture
+returns-clause-picture c = has_room c ∙ ap (λ (s : ScreenState). room_made s.picture) c.self.view_is

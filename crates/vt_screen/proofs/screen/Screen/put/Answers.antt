@@ -10,12 +10,12 @@ pub invariant_of-self : goal.invariant_of-self
 invariant_of-self c =
     let p = picture_of c.self.inside in
     let margin = c.margin-margin.ensures.value ∙ ap (λ (s : ScreenState). right_margin s.picture s.picture.line) (sym c.self.view_is) in
-    subst Sound (sym (rows_are _ _ c.write.ensures ∙ put_there p c.args.cell c.args.autowrap (c.if-self-margin.true ∙ margin)))
+    subst Sound (sym (rows_are _ _ c.write.ensures.rows ∙ put_there p c.args.cell c.args.autowrap (c.if-self-margin.true ∙ margin)))
     (sound_put p c.self.invariant c.args.cell c.args.autowrap c.requires)
 
 pub invariant_of-self-else-self-margin : goal.invariant_of-self-else-self-margin
 invariant_of-self-else-self-margin c =
     let p = picture_of c.self.inside in
     let margin = c.margin-margin.ensures.value ∙ ap (λ (s : ScreenState). right_margin s.picture s.picture.line) (sym c.self.view_is) in
-    subst Sound (sym (rows_are _ _ c.write.ensures ∙ put_on p c.args.cell c.args.autowrap (λ e. c.if-self-margin.false (e ∙ sym margin))))
+    subst Sound (sym (rows_are _ _ c.write.ensures.rows ∙ put_on p c.args.cell c.args.autowrap (λ e. c.if-self-margin.false (e ∙ sym margin))))
     (sound_put p c.self.invariant c.args.cell c.args.autowrap c.requires)

@@ -3,10 +3,10 @@ use Rattle.std.proofs.lemmas.List.{length-take-le}
 use Rattle.std.proofs.lemmas.List.Elements.{All-take}
 use Rattle.vt_screen.specs.declared.cell.Row.{Row}
 use Rattle.vt_screen.specs.Picture.{Sound, right_margin}
-use Rattle.vt_screen.specs.Slots.{ScreenState, rows_of}
+use Rattle.vt_screen.specs.Slots.{ScreenState, rows_of, order_run_shown}
 use Rattle.vt_screen.specs.Puts.{run_shown}
 use Rattle.vt_screen.specs.View.{picture_of}
-use Rattle.vt_screen.proofs.Runs.{run_within, run_to_margin}
+use Rattle.vt_screen.proofs.Runs.{run_within, run_to_margin, order_within}
 use Rattle.vt_screen.proofs.Soundness.{sound_run_shown}
 use Rattle.vt_screen.proofs.screen.Screen.show_part.Goals as goal
 
@@ -18,7 +18,7 @@ to_margin c =
     let margin : c.margin-margin.result ≡ right_margin p p.line = c.margin-margin.ensures.value ∙ ap (λ (s : ScreenState). right_margin s.picture s.picture.line) (sym c.self.view_is) in
     let unwrapped : p.wrap ≡ false = ap (λ (s : ScreenState). s.picture.wrap) c.self.view_is ∙ c.requires.wrap in
     let len = length-take-le c.min-taken.result c.args.glyphs.now (omega arith) in
-    ap₂ (λ (rows : List Row) (k : ℕ). record p { rows = rows; column = k; wrap = c.args.autowrap }) c.write_run.ensures margin
+    ap₂ (λ (rows : List Row) (k : ℕ). record p { rows = rows; column = k; wrap = c.args.autowrap }) c.write_run.ensures.rows margin
     ∙ sym (run_to_margin c.args.rendition c.args.autowrap glyphs p unwrapped c.self.invariant.line_low c.self.invariant.line_high (omega arith) (omega (arith, c.self.invariant.column_high)))
 
 within : (c : goal.After-self-else-taken-room-1) → record (picture_of c.self.inside) { rows = rows_of c.write_run.new.self; column = c.self.inside.column + c.min-taken.result } ≡ run_shown (take c.min-taken.result c.args.glyphs.now) c.args.rendition c.args.autowrap (picture_of c.self.inside)
@@ -28,7 +28,7 @@ within c =
     let margin : c.margin-margin.result ≡ right_margin p p.line = c.margin-margin.ensures.value ∙ ap (λ (s : ScreenState). right_margin s.picture s.picture.line) (sym c.self.view_is) in
     let unwrapped : p.wrap ≡ false = ap (λ (s : ScreenState). s.picture.wrap) c.self.view_is ∙ c.requires.wrap in
     let len = length-take-le c.min-taken.result c.args.glyphs.now (omega arith) in
-    ap₂ (λ (rows : List Row) (k : ℕ). record p { rows = rows; column = k }) c.write_run.ensures (ap (λ (n : ℕ). c.self.inside.column + n) (sym len))
+    ap₂ (λ (rows : List Row) (k : ℕ). record p { rows = rows; column = k }) c.write_run.ensures.rows (ap (λ (n : ℕ). c.self.inside.column + n) (sym len))
     ∙ sym (run_within c.args.rendition c.args.autowrap glyphs p c.self.invariant.rows unwrapped c.self.invariant.line_low c.self.invariant.line_high (omega (arith, c.self.invariant.column_high)))
 
 pub invariant_of-self : goal.invariant_of-self
@@ -46,3 +46,30 @@ returns-then-taken-room-clause-picture c =
 pub returns-else-taken-room-clause-picture : goal.returns-else-taken-room-clause-picture
 returns-else-taken-room-clause-picture c =
     within c ∙ ap (λ (s : ScreenState). run_shown (take c.min-taken.result c.args.glyphs.now) c.args.rendition c.args.autowrap s.picture) c.self.view_is
+
+-- no wrap is taken among them
+names_stay_then : (c : goal.After-self-then-taken-room-1) → c.write_run.new.self.order ≡ order_run_shown (take c.min-taken.result c.args.glyphs.now) c.args.rendition c.args.autowrap (picture_of c.self.inside) c.self.inside.grid.order
+names_stay_then c =
+    let p = picture_of c.self.inside in
+    let margin : c.margin-margin.result ≡ right_margin p p.line = c.margin-margin.ensures.value ∙ ap (λ (s : ScreenState). right_margin s.picture s.picture.line) (sym c.self.view_is) in
+    let unwrapped : p.wrap ≡ false = ap (λ (s : ScreenState). s.picture.wrap) c.self.view_is ∙ c.requires.wrap in
+    let len = length-take-le c.min-taken.result c.args.glyphs.now (omega arith) in
+    c.write_run.ensures.order
+    ∙ sym (order_within c.args.rendition c.args.autowrap (take c.min-taken.result c.args.glyphs.now) p c.self.inside.grid.order unwrapped c.self.invariant.line_low c.self.invariant.line_high (omega (arith, c.self.invariant.column_high)))
+
+pub returns-then-taken-room-clause-order : goal.returns-then-taken-room-clause-order
+returns-then-taken-room-clause-order c =
+    names_stay_then c ∙ ap (λ (s : ScreenState). order_run_shown (take c.min-taken.result c.args.glyphs.now) c.args.rendition c.args.autowrap s.picture s.order) c.self.view_is
+
+names_stay_else : (c : goal.After-self-else-taken-room-1) → c.write_run.new.self.order ≡ order_run_shown (take c.min-taken.result c.args.glyphs.now) c.args.rendition c.args.autowrap (picture_of c.self.inside) c.self.inside.grid.order
+names_stay_else c =
+    let p = picture_of c.self.inside in
+    let margin : c.margin-margin.result ≡ right_margin p p.line = c.margin-margin.ensures.value ∙ ap (λ (s : ScreenState). right_margin s.picture s.picture.line) (sym c.self.view_is) in
+    let unwrapped : p.wrap ≡ false = ap (λ (s : ScreenState). s.picture.wrap) c.self.view_is ∙ c.requires.wrap in
+    let len = length-take-le c.min-taken.result c.args.glyphs.now (omega arith) in
+    c.write_run.ensures.order
+    ∙ sym (order_within c.args.rendition c.args.autowrap (take c.min-taken.result c.args.glyphs.now) p c.self.inside.grid.order unwrapped c.self.invariant.line_low c.self.invariant.line_high (omega (arith, c.self.invariant.column_high)))
+
+pub returns-else-taken-room-clause-order : goal.returns-else-taken-room-clause-order
+returns-else-taken-room-clause-order c =
+    names_stay_else c ∙ ap (λ (s : ScreenState). order_run_shown (take c.min-taken.result c.args.glyphs.now) c.args.rendition c.args.autowrap s.picture s.order) c.self.view_is
