@@ -154,8 +154,8 @@ def limits_of_edits():
 
 
 def full_body():
-    """Edits of a recording with the most chunks and room for one byte. Of several faults of an edit the first one of E1 to
-    E8 is told; tests of pairs without E5 stand in crates/tape_tests."""
+    """Edits of a recording with the most chunks and room for one byte. Of several faults of an edit the first one of E1
+    to E8 is told; tests of pairs without E5 stand in crates/tape_tests."""
     with open("s", "wb") as script:
         script.write(b"\n")
         script.truncate(1 << 30)

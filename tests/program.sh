@@ -5,6 +5,7 @@
 set -u
 program=$(realpath "$1")
 examples=$(realpath "$(dirname "$0")/../examples")
+texts=$(realpath "$(dirname "$0")/help")
 place=$(mktemp -d)
 trap 'rm -rf "$place"' EXIT
 cd "$place" || exit 2
@@ -28,6 +29,18 @@ verdict() {
         failed=$((failed + 1))
         printf 'FAILED %s: status %s, wanted %s\n' "$1" "$3" "$2"
         head -c 300 out.txt err.txt
+    fi
+}
+
+# same NAME WORD..: status 0, and just the bytes of want.bin.
+same() {
+    local name=$1
+    shift
+    if "$program" "$@" >out.txt 2>err.txt && cmp -s out.txt want.bin && [ ! -s err.txt ]; then
+        passed=$((passed + 1))
+    else
+        failed=$((failed + 1))
+        echo "FAILED $name"
     fi
 }
 
@@ -94,7 +107,7 @@ refused 'script and timing swapped' 1 'timing line 1: multi-stream format' ab.ti
 
 check 'bad seconds' 2 '' 'typetool: bad seconds\n' due --at .5 nowhere nowhere
 
-# status NAME STATUS WORD..: clap's texts are clap's own.
+# status NAME STATUS WORD..: what clap tells of a mistake is its own text, of which only the place and the status count.
 status() {
     local name=$1 status=$2
     shift 2
@@ -108,8 +121,16 @@ status() {
         printf 'FAILED %s: status %s, wanted %s\n' "$name" "$got" "$status"
     fi
 }
-status 'help' 0 --help
-status 'help of a command' 0 due --help
+
+# Each help text whole, as tests/help has it: people read those against docs/COMMANDS.md and docs/FORMATS.md.
+for text in "$texts"/*.txt; do
+    command=$(basename "$text" .txt)
+    if [ "$command" = typetool ]; then words=(); else words=("$command"); fi
+    cp "$text" want.bin
+    same "help: $command" "${words[@]}" --help
+    same "short help: $command" "${words[@]}" -h
+done
+
 status 'no command' 2
 status 'an unknown command' 2 play
 status 'a missing path' 2 due --at 1 ab.script
@@ -249,18 +270,6 @@ verdict 'a screen on a full device' 3 $got '' 'typetool: write fault\n'
 got=$?
 : >out.txt
 verdict 'a closed standard output' 3 $got '' 'typetool: write fault\n'
-
-# same NAME WORD..: status 0, and just the bytes of want.bin.
-same() {
-    local name=$1
-    shift
-    if "$program" "$@" >out.txt 2>err.txt && cmp -s out.txt want.bin && [ ! -s err.txt ]; then
-        passed=$((passed + 1))
-    else
-        failed=$((failed + 1))
-        echo "FAILED $name"
-    fi
-}
 
 # 40 MiB in chunks of the greatest length, each of its own digits.
 printf '%b' "$head" >long.script

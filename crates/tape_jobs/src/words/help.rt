@@ -24,7 +24,8 @@ const SAVE_DETAILS: &str =
     cap SECONDS. AT, FROM and TO count chunks from 0; TO is the first that stays. HEX is the bytes\n\
     as hexadecimal digits, or - for none.\n\n\
     Both new files are created before anything is read, and must not exist. Nothing is written into\n\
-    them where a line is refused (status 1, with the line's number).\n\n\
+    them where a line is refused (status 1; the line's number and its fault are told, and the help of\n\
+    session lists the faults).\n\n\
     Example: echo 'cap 2' | typetool save demo.script demo.timing new.script new.timing";
 
 /// The requests of `session`, and its status.
@@ -33,7 +34,15 @@ const SESSION_DETAILS: &str =
     screen SECONDS (24 lines), reports SECONDS (one line), info (five lines),\n\
     changes SECONDS SECONDS (- as the first: from chunk 0) and log (lines, and then end).\n\
     Questions are answered for the recording as edited so far; no file is changed.\n\n\
-    Status 1 where any line was refused.\n\n\
+    Status 1 where any line was refused. The first of these faults is told:\n\
+    E1 NoSuchChunk    a place past the end\n\
+    E2 DelayTooLarge  a delay above 1000000 seconds\n\
+    E3 ChunkTooLong   more than 1048576 bytes in a chunk\n\
+    E4 TooManyChunks  a chunk more than 1000000\n\
+    E5 TooManyBytes   more than 1073741824 bytes in all chunks\n\
+    E6 BadRange       a range that is empty or goes past the end\n\
+    E7 OutOfMemory    memory was refused: told as 'out of memory', with status 3\n\
+    E8 BadLine        a line of no known form\n\n\
     Example: printf 'cap 2\\nscreen 12.5\\n' | typetool session demo.script demo.timing";
 
 /// What help tells of a subcommand after its arguments: more of what it does, and an example.
