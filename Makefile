@@ -35,6 +35,7 @@ test: lint
 	cp crates/typetool/out/typetool bin/typetool
 	tests/recordings.sh bin/typetool
 	tests/program.sh bin/typetool
+	tests/readme.py bin/typetool
 	tests/limits.py bin/typetool
 	tests/memory.py bin/typetool
 	tests/damage.py bin/typetool 500
