@@ -12,7 +12,8 @@ use Rattle.tape_core.specs.Due.{due_count, due_time}
 use Rattle.tape_core.specs.Tape.{Tape}
 use Rattle.tape_core.specs.Written.{seconds_form}
 use Rattle.tape_core.specs.Law.{DueIsBelowTheCount}
-use Rattle.tape_seek.specs.State.{Leaves, State}
+use Rattle.tape_seek.specs.Edits.{edited_all}
+use Rattle.tape_seek.specs.State.{KeepsHistory, Leaves, State}
 use Rattle.vt_screen.specs.declared.cell.Row.{Row}
 use Rattle.vt_term.specs.declared.profile.Profile.{Profile}
 use Rattle.screen_print.specs.ChangeLines.{change_line, change_lines, changed_lines, chunk_line, is_asked, rows_after, spaced_number}
@@ -54,6 +55,9 @@ leaves_only_seeks (Err e) count old new h = record {
   every = ap (λ (s : State). s.every) h;
   frontier = rw h (omega arith);
 }
+
+pub seeks_keep_history : (old new : State) → OnlySeeks old new → KeepsHistory old new
+seeks_keep_history old new seeks = λ o is. seeks.recording ∙ is ∙ ap (edited_all o) (sym seeks.log)
 
 -- ---- chunk by chunk
 

@@ -51,6 +51,7 @@ impl From<OutOfMemory> for ChangesFault {
 /// Writes, for each chunk that is due after `from` (None: from chunk 0 on) and by `to`, the lines that it changes, and
 /// flushes. It works by seeks. After a fault a beginning of the text has gone out. The recording and the log stay, and the
 /// frontier isn't lowered.
+#[tactic(auto, using(crate::proofs::ChangeLemmas::seeks_keep_history))]
 pub fn changes<W: Write>(
     session: &mut Session,
     from: Option<u64>,
@@ -62,6 +63,8 @@ pub fn changes<W: Write>(
     ensures flushed { OnOk result (is_flushed writer.new ≡ true) }
     ensures fault { IfErr result (StopsChanges W.contents writer.old writer.new (change_lines session.old.profile session.old.recording from to)) }
     ensures stays { OnlySeeks session.old session.new }
+    // Whatever recording the session was opened with: where its own is that one edited by the log, it is so still.
+    ensures history { KeepsHistory session.old session.new }
     ensures room { due_count session.old.recording.chunks to ≤ session.old.marks.frontier → result ≢ Err ChangesFault.Memory }
 {
     writers_join::<W>();
