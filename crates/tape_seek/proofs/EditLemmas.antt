@@ -10,7 +10,7 @@ use Rattle.tape_core.specs.Tape.{Tape, body_len, longest_body, longest_chunk, lo
 use Rattle.tape_core.specs.Law.{FirstIsKept}
 use Rattle.tape_seek.specs.declared.edits.Edit.{Edit}
 use Rattle.tape_seek.specs.declared.edits.Edit.TheVariants.{Insert, Delete, Replace, Retime, Cap}
-use Rattle.tape_seek.specs.Edits.{CanBeLogged, edit_fault, edited, first_touched}
+use Rattle.tape_seek.specs.Edits.{HasShortNumbers, edit_fault, edited, first_touched}
 use Rattle.tape_seek.specs.Kept.{SameFront}
 
 none_some : {A : Type 0} (x : A) → ◌≡◌ {A = Option A} (Some x) None → ⊥
@@ -94,14 +94,14 @@ retimes_well tape at delay sound =
 pub caps_well : (tape : Tape) (max : ℕ) → edit_fault tape (Cap max) ≡ None → max ≤ longest_delay
 caps_well tape max sound = ltb-false longest_delay max (no_first _ _ _ sound).0
 
--- ---- it can be logged
+-- ---- its numbers are those of a request line
 
-pub can_be_logged : (tape : Tape) (edit : Edit) → length tape.chunks ≤ most_chunks → edit_fault tape edit ≡ None → CanBeLogged edit
-can_be_logged tape (Insert at delay bytes) few sound = let well = inserts_well tape at delay bytes sound in (omega (arith, well.place), omega (arith, well.delay_))
-can_be_logged tape (Delete from to) few sound = let well = deletes_well tape from to sound in (omega (arith, well.some, well.within), omega (arith, well.within))
-can_be_logged tape (Replace at bytes) few sound = let well = replaces_well tape at bytes sound in omega (arith, well.place)
-can_be_logged tape (Retime at delay) few sound = let well = retimes_well tape at delay sound in (omega (arith, well.place), omega (arith, well.delay_))
-can_be_logged tape (Cap max) few sound = let low = caps_well tape max sound in omega (arith, low)
+pub has_short_numbers : (tape : Tape) (edit : Edit) → length tape.chunks ≤ most_chunks → edit_fault tape edit ≡ None → HasShortNumbers edit
+has_short_numbers tape (Insert at delay bytes) few sound = let well = inserts_well tape at delay bytes sound in (omega (arith, well.place), omega (arith, well.delay_))
+has_short_numbers tape (Delete from to) few sound = let well = deletes_well tape from to sound in (omega (arith, well.some, well.within), omega (arith, well.within))
+has_short_numbers tape (Replace at bytes) few sound = let well = replaces_well tape at bytes sound in omega (arith, well.place)
+has_short_numbers tape (Retime at delay) few sound = let well = retimes_well tape at delay sound in (omega (arith, well.place), omega (arith, well.delay_))
+has_short_numbers tape (Cap max) few sound = let low = caps_well tape max sound in omega (arith, low)
 
 -- ---- which chunks it leaves
 

@@ -5,3 +5,4 @@ mod HexLemmas
 mod RequestLemmas
 mod LogLemmas
 mod MarkLemmas
+mod CallLemmas

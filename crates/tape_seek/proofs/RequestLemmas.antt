@@ -20,7 +20,7 @@ use Rattle.tape_seek.specs.declared.edits.Edit.TheVariants.{Insert, Delete, Repl
 use Rattle.tape_seek.specs.declared.requests.Request.TheVariants as asks
 use Rattle.tape_seek.specs.Edits.{CanBeLogged}
 use Rattle.tape_seek.specs.Requests.{bytes_of, form_of, one_field, place_of, request, request_of_fields}
-use Rattle.tape_seek.specs.WrittenLog.{bytes_in, edit_fields, edit_line, hex_form, log_text}
+use Rattle.tape_seek.specs.WrittenLog.{edit_fields, edit_line, hex_form, log_text}
 
 -- how words, numbers and lines are read back
 pub record ReadBack : Type 0 where
@@ -58,12 +58,12 @@ place_word laws n small = laws.numbers.word n (omega arith)
 delay_word : ReadBack → (us : ℕ) → us ≤ last_moment → IsWord (seconds_form us)
 delay_word laws us small = laws.seconds.word us (omega arith)
 
-line_words : ReadBack → (edit : Edit) → CanBeLogged edit → IsBytes (bytes_in edit) → AllByRecursion IsWord (edit_fields edit)
-line_words laws (Insert at delay bytes) can are = (literal_word (codes "insert") (omega arith) refl, (place_word laws at can.0, (delay_word laws delay can.1, (hex_word bytes are, tt))))
-line_words laws (Delete from to) can are = (literal_word (codes "delete") (omega arith) refl, (place_word laws from can.0, (place_word laws to can.1, tt)))
-line_words laws (Replace at bytes) can are = (literal_word (codes "replace") (omega arith) refl, (place_word laws at can, (hex_word bytes are, tt)))
-line_words laws (Retime at delay) can are = (literal_word (codes "retime") (omega arith) refl, (place_word laws at can.0, (delay_word laws delay can.1, tt)))
-line_words laws (Cap max) can are = (literal_word (codes "cap") (omega arith) refl, (delay_word laws max can, tt))
+line_words : ReadBack → (edit : Edit) → CanBeLogged edit → AllByRecursion IsWord (edit_fields edit)
+line_words laws (Insert at delay bytes) can = (literal_word (codes "insert") (omega arith) refl, (place_word laws at can.numbers.0, (delay_word laws delay can.numbers.1, (hex_word bytes can.bytes, tt))))
+line_words laws (Delete from to) can = (literal_word (codes "delete") (omega arith) refl, (place_word laws from can.numbers.0, (place_word laws to can.numbers.1, tt)))
+line_words laws (Replace at bytes) can = (literal_word (codes "replace") (omega arith) refl, (place_word laws at can.numbers, (hex_word bytes can.bytes, tt)))
+line_words laws (Retime at delay) can = (literal_word (codes "retime") (omega arith) refl, (place_word laws at can.numbers.0, (delay_word laws delay can.numbers.1, tt)))
+line_words laws (Cap max) can = (literal_word (codes "cap") (omega arith) refl, (delay_word laws max can.numbers, tt))
 
 -- words joined by one space are found again
 joined_fields : ReadBack → (words : List (List ℕ)) → AllByRecursion IsWord words → fields (join_with_byte 32 words) ≡ words
@@ -96,18 +96,18 @@ bytes_read (b ∷ bs) are =
     let ok = decode_of-ok (encode_lower (b ∷ bs)) (b ∷ bs) back in
     pairs_read (encode_lower (b ∷ bs)) (b ∷ bs) (omega (arith, ok.2)) back
 
-words_read : ReadBack → (edit : Edit) → CanBeLogged edit → IsBytes (bytes_in edit) → request_of_fields (edit_fields edit) ≡ Some (asks.Edit edit)
+words_read : ReadBack → (edit : Edit) → CanBeLogged edit → request_of_fields (edit_fields edit) ≡ Some (asks.Edit edit)
 unfolding form_of
-words_read laws (Insert at delay bytes) can are = rw (place_read laws at can.0, laws.seconds.read delay can.1, bytes_read bytes are) refl
-words_read laws (Delete from to) can are = rw (place_read laws from can.0, place_read laws to can.1) refl
-words_read laws (Replace at bytes) can are = rw (place_read laws at can, bytes_read bytes are) refl
-words_read laws (Retime at delay) can are = rw (place_read laws at can.0, laws.seconds.read delay can.1) refl
-words_read laws (Cap max) can are = rw (laws.seconds.read max can) refl
+words_read laws (Insert at delay bytes) can = rw (place_read laws at can.numbers.0, laws.seconds.read delay can.numbers.1, bytes_read bytes can.bytes) refl
+words_read laws (Delete from to) can = rw (place_read laws from can.numbers.0, place_read laws to can.numbers.1) refl
+words_read laws (Replace at bytes) can = rw (place_read laws at can.numbers, bytes_read bytes can.bytes) refl
+words_read laws (Retime at delay) can = rw (place_read laws at can.numbers.0, laws.seconds.read delay can.numbers.1) refl
+words_read laws (Cap max) can = rw (laws.seconds.read max can.numbers) refl
 
 -- the line of an edit that a log can hold
-pub written_edit_read : ReadBack → (edit : Edit) → CanBeLogged edit → IsBytes (bytes_in edit) → request (edit_line edit) ≡ Some (asks.Edit edit)
+pub written_edit_read : ReadBack → (edit : Edit) → CanBeLogged edit → request (edit_line edit) ≡ Some (asks.Edit edit)
 unfolding request edit_line
-written_edit_read laws edit can are = ap request_of_fields (joined_fields laws (edit_fields edit) (line_words laws edit can are)) ∙ words_read laws edit can are
+written_edit_read laws edit can = ap request_of_fields (joined_fields laws (edit_fields edit) (line_words laws edit can)) ∙ words_read laws edit can
 
 -- ---- the lines of a log
 
@@ -127,19 +127,23 @@ joined_has_no_feed (word ∷ next ∷ more) are =
     All-append (λ b. nat_eq b 10 ≡ false) word (32 ∷ join_with_byte 32 (next ∷ more)) (word_has_no_feed word are.0)
     (All-cons (λ b. nat_eq b 10 ≡ false) 32 (join_with_byte 32 (next ∷ more)) refl (joined_has_no_feed (next ∷ more) are.1))
 
-line_has_no_feed : ReadBack → (edit : Edit) → CanBeLogged edit → IsBytes (bytes_in edit) → HasNoFeed (edit_line edit)
+line_has_no_feed : ReadBack → (edit : Edit) → CanBeLogged edit → HasNoFeed (edit_line edit)
 unfolding edit_line
-line_has_no_feed laws edit can are = joined_has_no_feed (edit_fields edit) (line_words laws edit can are)
+line_has_no_feed laws edit can = joined_has_no_feed (edit_fields edit) (line_words laws edit can)
 
--- an edit that a log can hold
-abbrev pub IsWritable : Edit → Type 0
-IsWritable edit = CanBeLogged edit × IsBytes (bytes_in edit)
-
-pub written_log_lines : ReadBack → (edits : List Edit) → All IsWritable edits → lines_of (log_text edits) ≡ map edit_line edits
+pub written_log_lines : ReadBack → (edits : List Edit) → All CanBeLogged edits → lines_of (log_text edits) ≡ map edit_line edits
 unfolding log_text
 written_log_lines laws [] are = refl
 written_log_lines laws (edit ∷ more) are =
-    let is : IsWritable edit = All-head IsWritable edit more are in
     ap lines_of (append_assoc (edit_line edit) (10 ∷ []) (log_text more))
-    ∙ laws.lines (edit_line edit) (log_text more) (line_has_no_feed laws edit is.0 is.1)
-    ∙ ap (λ l. edit_line edit ∷ l) (written_log_lines laws more (All-tail IsWritable edit more are))
+    ∙ laws.lines (edit_line edit) (log_text more) (line_has_no_feed laws edit (All-head CanBeLogged edit more are))
+    ∙ ap (λ l. edit_line edit ∷ l) (written_log_lines laws more (All-tail CanBeLogged edit more are))
+
+written_lines_read : ReadBack → (edits : List Edit) → All CanBeLogged edits → map request (map edit_line edits) ≡ map (λ edit. Some (asks.Edit edit)) edits
+written_lines_read laws [] are = refl
+written_lines_read laws (edit ∷ more) are =
+    ap (λ r. r ∷ map request (map edit_line more)) (written_edit_read laws edit (All-head CanBeLogged edit more are))
+    ∙ ap (λ l. Some (asks.Edit edit) ∷ l) (written_lines_read laws more (All-tail CanBeLogged edit more are))
+
+pub written_log_read : ReadBack → (edits : List Edit) → All CanBeLogged edits → map request (lines_of (log_text edits)) ≡ map (λ edit. Some (asks.Edit edit)) edits
+written_log_read laws edits are = ap (map request) (written_log_lines laws edits are) ∙ written_lines_read laws edits are

@@ -1,5 +1,7 @@
 -- What an edit makes of a recording, and why one is refused.
 use Rattle.std.specs.Prelude.{ℕ, ◌≤◌, Bool, false, ◌||◌, List, [], ◌∷◌, Option, Some, None, find, fold, length, nat_lt, nat_le}
+use Rattle.hex.specs.Hex.{IsBytes}
+use Rattle.tape_core.specs.Seconds.{last_moment}
 use Rattle.tape_core.specs.Tape.{Tape, body_len, most_chunks, longest_chunk, longest_body, longest_delay}
 use Rattle.tape_core.specs.Changes.{inserted, removed, replaced, retimed, capped}
 use Rattle.tape_seek.specs.declared.edits.Edit.{Edit}
@@ -96,13 +98,21 @@ first_touched (Replace at bytes) = Some at
 first_touched (Retime at delay) = None
 first_touched (Cap max) = None
 
--- The places and delays of an edit that a log can hold: a request line has numbers up to 10^18.
-abbrev pub largest_number : ℕ
-largest_number = 1000000000000000000
+-- The bytes that an edit brings.
+abbrev pub bytes_in : Edit → List ℕ
+bytes_in (Insert at delay bytes) = bytes
+bytes_in (Replace at bytes) = bytes
+bytes_in _ = []
 
-abbrev pub CanBeLogged : Edit → Type 0
-CanBeLogged (Insert at delay bytes) = (at ≤ largest_number) × (delay ≤ largest_number)
-CanBeLogged (Delete from to) = (from ≤ largest_number) × (to ≤ largest_number)
-CanBeLogged (Replace at bytes) = at ≤ largest_number
-CanBeLogged (Retime at delay) = (at ≤ largest_number) × (delay ≤ largest_number)
-CanBeLogged (Cap max) = max ≤ largest_number
+-- Its places and delays are at most 10^18, as the numbers of a request line are.
+abbrev pub HasShortNumbers : Edit → Type 0
+HasShortNumbers (Insert at delay bytes) = (at ≤ last_moment) × (delay ≤ last_moment)
+HasShortNumbers (Delete from to) = (from ≤ last_moment) × (to ≤ last_moment)
+HasShortNumbers (Replace at bytes) = at ≤ last_moment
+HasShortNumbers (Retime at delay) = (at ≤ last_moment) × (delay ≤ last_moment)
+HasShortNumbers (Cap max) = max ≤ last_moment
+
+-- A log can hold it: its line is read as the edit. Its bytes are below 256, which a list of numbers doesn't say by itself.
+pub record CanBeLogged (edit : Edit) : Type 0 where
+  pub numbers : HasShortNumbers edit
+  pub bytes : IsBytes (bytes_in edit)

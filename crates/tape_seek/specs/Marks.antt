@@ -1,6 +1,6 @@
 -- How far a session has been replayed, and where its working terminal stands: two numbers that are told from the calls
 -- alone.
-use Rattle.std.specs.Prelude.{ℕ, ◌-◌, ◌*◌, ◌/◌, ◌&&◌, List, Option, Some, None, fold, min, max, nat_lt, nat_le, if◌then◌else◌}
+use Rattle.std.specs.Prelude.{ℕ, ◌-◌, ◌*◌, ◌/◌, ◌&&◌, Option, Some, None, min, max, nat_lt, nat_le, if◌then◌else◌}
 use Rattle.tape_seek.specs.declared.edits.Edit.{Edit}
 use Rattle.tape_seek.specs.Edits.{first_touched}
 
@@ -40,23 +40,6 @@ after_seek count marks = record { frontier = max marks.frontier count; head = co
 -- a refused seek
 abbrev pub after_refused_seek : ℕ → Marks → Marks
 after_refused_seek every marks = record { frontier = marks.frontier; head = multiple_below every marks.frontier }
-
--- What a session was asked, and whether it answered.
-pub data Call : Type 0 where
-  Edited : Edit → Call
-  EditRefused : Call
-  Sought : ℕ → Call
-  SeekRefused : Call
-
-abbrev pub after_call : ℕ → Marks → Call → Marks
-after_call every marks (Edited edit) = after_edit every edit marks
-after_call every marks EditRefused = marks
-after_call every marks (Sought count) = after_seek count marks
-after_call every marks SeekRefused = after_refused_seek every marks
-
--- both numbers, from the calls alone
-abbrev pub marks_after : ℕ → List Call → Marks
-marks_after every calls = fold (after_call every) first_marks calls
 
 -- where a seek to this count starts: the latest of the stored terminals, the head and the reset terminal that isn't past it
 abbrev pub start_of : ℕ → ℕ → Marks → ℕ

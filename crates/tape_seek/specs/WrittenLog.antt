@@ -31,11 +31,3 @@ log_line edit = edit_line edit ++ 10 ∷ []
 -- A line for each edit.
 unfoldable pub log_text : List Edit → List ℕ
 log_text edits = flat_map log_line edits
-
--- The bytes that an edit brings.
-abbrev pub bytes_in : Edit → List ℕ
-bytes_in (Insert at delay bytes) = bytes
-bytes_in (Delete from to) = []
-bytes_in (Replace at bytes) = bytes
-bytes_in (Retime at delay) = []
-bytes_in (Cap max) = []

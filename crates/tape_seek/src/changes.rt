@@ -1,7 +1,8 @@
 //! Judging an edit of a recording, and making it.
 ghost use Rattle.std.specs.Prelude.{◌≡◌, None, OnOk, OnErr};
+ghost use Rattle.hex.specs.Hex.{IsBytes};
 ghost use Rattle.tape_core.specs.Tape.{Tape, fits};
-ghost use Rattle.tape_seek.specs.Edits.{edit_fault, edited, first_touched};
+ghost use Rattle.tape_seek.specs.Edits.{bytes_in, edit_fault, edited, first_touched};
 
 use crate::edits::{Edit, EditFault};
 use std::alloc::{AllocError, Global};
@@ -150,3 +151,17 @@ pub(crate) fn touched_first(edit: &Edit) -> Option<usize>
         Edit::Retime { .. } | Edit::Cap { .. } => None,
     }
 }
+
+/// What an edit brings are bytes, each below 256: their type says so, and nothing is done.
+pub(crate) fn brings_bytes(edit: &Edit)
+    ensures { IsBytes (bytes_in edit.now) }
+{
+    match edit {
+        Edit::Insert { bytes, .. } | Edit::Replace { bytes, .. } => are_bytes(bytes.as_slice()),
+        Edit::Delete { .. } | Edit::Retime { .. } | Edit::Cap { .. } => {}
+    }
+}
+
+fn are_bytes(bytes: &[u8])
+    ensures { IsBytes bytes.now }
+{}

@@ -1,23 +1,25 @@
 //! Laws over the definitions alone, as functions with empty bodies.
 ghost use Rattle.std.specs.Prelude.{◌≡◌, ◌+◌, ◌-◌, ◌<◌, ◌≤◌, ℕ, All, List, Some, map};
-ghost use Rattle.hex.specs.Hex.{IsBytes};
 ghost use Rattle.tape_core.specs.Text.{lines_of};
 ghost use Rattle.tape_seek.specs.declared.edits.Edit.{Edit};
 ghost use Rattle.tape_seek.specs.declared.edits.Edit.TheVariants as edits;
 ghost use Rattle.tape_seek.specs.declared.requests.Request.TheVariants as asks;
+ghost use Rattle.tape_seek.specs.Calls.{Call, HasRun, IsTold};
 ghost use Rattle.tape_seek.specs.Edits.{CanBeLogged};
 ghost use Rattle.tape_seek.specs.Marks.{Marks, after_edit, fed_by};
 ghost use Rattle.tape_seek.specs.Requests.{request};
-ghost use Rattle.tape_seek.specs.WrittenLog.{bytes_in, edit_line, log_text};
+ghost use Rattle.tape_seek.specs.State.{State};
+ghost use Rattle.tape_seek.specs.WrittenLog.{edit_line, log_text};
 
 use tape_core::laws::{a_word_is_a_field, an_lf_ends_a_line, numbers_read_back, seconds_read_back};
 
-/// The line that is written of an edit whose places and delays are at most 10^18 is read as that edit, and the
-/// lines of a log of such edits are theirs.
+/// The line that is written of an edit that a log can hold, as each in a session's log is, is read as that edit; the lines
+/// of a log are those of its edits; and its text, read line by line, is the log.
 pub fn a_written_edit_is_read()
-    ensures read { (edit : Edit) → CanBeLogged edit → IsBytes (bytes_in edit) → request (edit_line edit) ≡ Some (asks.Edit edit) }
-    ensures lines { (edits : List Edit) → All (λ edit. CanBeLogged edit × IsBytes (bytes_in edit)) edits
-        → lines_of (log_text edits) ≡ map edit_line edits }
+    ensures read { (edit : Edit) → CanBeLogged edit → request (edit_line edit) ≡ Some (asks.Edit edit) }
+    ensures lines { (edits : List Edit) → All CanBeLogged edits → lines_of (log_text edits) ≡ map edit_line edits }
+    ensures whole { (edits : List Edit) → All CanBeLogged edits
+        → map request (lines_of (log_text edits)) ≡ map (λ edit. Some (asks.Edit edit)) edits }
 {
     a_word_is_a_field();
     an_lf_ends_a_line();
@@ -34,4 +36,10 @@ pub fn seeks_feed_little()
         → fed_by every count marks ≤ count - marks.head }
     ensures retimed { (every at delay : ℕ) (marks : Marks) → after_edit every (edits.Retime at delay) marks ≡ marks }
     ensures capped { (every max : ℕ) (marks : Marks) → after_edit every (edits.Cap max) marks ≡ marks }
+{}
+
+/// Frontier and head after any calls of a session, and what each of its seeks fed, are told by the calls and by which of
+/// them were refused. A caller gives the steps, each by the clause of its call.
+pub fn calls_tell_the_marks()
+    ensures { (every : ℕ) (calls : List Call) (fed : List ℕ) (s : State) → HasRun every calls fed s → IsTold every calls fed s }
 {}

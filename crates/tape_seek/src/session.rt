@@ -8,7 +8,7 @@ ghost use Rattle.tape_seek.specs.Marks.{after_edit, fed_by};
 ghost use Rattle.vt_term.specs.declared.profile.Profile.TheVariants.{Vt100};
 ghost use Rattle.vt_term.specs.Seen.{Shows};
 
-use crate::changes::{fault_of, make, touched_first};
+use crate::changes::{brings_bytes, fault_of, make, touched_first};
 use crate::edits::{Edit, EditFault};
 use crate::replay::Replay;
 use std::alloc::{AllocError, Global};
@@ -128,6 +128,7 @@ impl Session {
                 fault: EditFault::OutOfMemory,
             });
         }
+        brings_bytes(&edit);
         cut(&mut self.replay, &edit);
         self.log.push_reserved(edit);
         Ok(())
@@ -210,7 +211,7 @@ impl Session {
         &self.recording
     }
 
-    /// The accepted edits in order.
+    /// The accepted edits in order. Each is read back from its line, as `laws::a_written_edit_is_read` says.
     pub fn log(&self) -> &[Edit]
         ensures value { result.now ≡ self.now.log }
         ensures writable { All CanBeLogged result.now }

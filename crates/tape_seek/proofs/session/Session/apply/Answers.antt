@@ -3,7 +3,7 @@ use Rattle.std.specs.Prelude.{Result, Ok, Err, OnOk, None, is_err}
 use Rattle.std.proofs.lemmas.Bool.{true≢false}
 use Rattle.std.proofs.lemmas.List.Elements.{All-append, All-cons}
 use Rattle.tape_seek.specs.Edits.{CanBeLogged, edit_fault}
-use Rattle.tape_seek.proofs.EditLemmas.{can_be_logged}
+use Rattle.tape_seek.proofs.EditLemmas.{has_short_numbers}
 use Rattle.tape_seek.proofs.session.Session.apply.Goals as goal
 
 on_ok : {T E P : Type 0} (r : Result T E) → is_err r ≡ false → OnOk r P → P
@@ -17,7 +17,7 @@ invariant_of-self-2 c =
     let sound : edit_fault tape edit ≡ None = sym c.in_default.ensures in
     let edited_now = on_ok c.grow.result (sym c.is_err.ensures.value ∙ c.if-is_err.false) c.grow.ensures.ok in
     let inv = c.self.invariant in
-    let can = can_be_logged tape edit inv.fitting.few sound in
+    let can : CanBeLogged edit = record { numbers = has_short_numbers tape edit inv.fitting.few sound; bytes = c.brings_bytes.ensures } in
     record {
       fitting = c.grow.ensures.fitting inv.fitting;
       log = rw (c.push_reserved.ensures.items, c.grow.ensures.log) (All-append CanBeLogged c.self.inside.log.items (edit ∷ []) inv.log (All-cons CanBeLogged edit [] can (λ k d lt. absurd (omega arith))));
