@@ -14,4 +14,6 @@ mod run;
 #[cfg(test)]
 mod session;
 #[cfg(test)]
+mod texts;
+#[cfg(test)]
 mod words;

@@ -1,6 +1,5 @@
-use crate::in_memory::{Case, compare, compare_over};
+use crate::in_memory::{AB, Case, compare, compare_over};
 use screen_print::ChangesFault;
-use std::alloc::{AllocError, Global};
 use std::process::Abort;
 use std::test::Fail;
 use tape_core::Fault;
@@ -15,8 +14,8 @@ mod refused;
 type Row<'a> = (&'a str, &'a str, u64, &'a str, Option<Fault>);
 
 const DUE: [Row<'static>; 14] = [
-    ("ab", "0.000000 1\n0.500000 1\n", 499_999, "a", None),
-    ("ab", "0.000000 1\n0.500000 1\n", 500_000, "ab", None),
+    ("ab", AB, 499_999, "a", None),
+    ("ab", AB, 500_000, "ab", None),
     ("ab", "0 1\n0 1\n", 0, "ab", None),
     ("ab", "0.5 3\n", 1_000_000, "", Some(Fault::ScriptShort(0))),
     ("", "0.1 1\nO 0.1 5\n", 0, "", Some(Fault::MultiStream(2))),
@@ -75,19 +74,6 @@ fn due_over_a_script_without_header(rt: HostRuntime) {
     for (timing, fault) in rows {
         compare_over(&rt, b"no line", &due(&("", timing, 0, "", Some(fault))));
     }
-}
-
-fn text_of(alloc: Global, fault: JobFault) -> Result<String, AllocError> {
-    format!(in alloc; "{fault}")
-}
-
-#[test]
-fn a_job_fault_has_the_text_of_its_fault(rt: HostRuntime) -> Result<(), Fail> {
-    let short = text_of(rt.alloc(), JobFault::File(Fault::ScriptShort(0)))?;
-    assert_eq!(rt; short.as_str(), "typescript ends inside chunk 0");
-    let memory = text_of(rt.alloc(), JobFault::Memory)?;
-    assert_eq!(rt; memory.as_str(), "out of memory");
-    Ok(())
 }
 
 #[test]

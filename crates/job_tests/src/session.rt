@@ -1,8 +1,7 @@
 use crate::in_memory::{AB, Case, compare};
-use std::alloc::{AllocError, Global};
 use std::process::Abort;
 use std::test::Fail;
-use tape_jobs::{Job, Outcome, WordsFault, read_words};
+use tape_jobs::{Job, Outcome};
 use vt_term::Profile;
 
 /// Twenty-three lines' ends: a screen of which the first line alone shows something.
@@ -107,57 +106,4 @@ fn compare_row<R: Abort + AllocGlobal>(rt: &R, job: Job, row: &Row<'_>) -> Resul
         outcome,
     };
     compare(rt, &case)
-}
-
-/// The command line with this flag, if there is one.
-fn words(alloc: Global, flag: Option<&str>) -> Result<Vec<String>, AllocError> {
-    let mut all = Vec::new(alloc);
-    for word in ["typetool", "session", "s", "t"] {
-        all.push(String::from_str(alloc, word)?)?;
-    }
-    if let Some(flag) = flag {
-        all.push(String::from_str(alloc, flag)?)?;
-    }
-    Ok(all)
-}
-
-#[test]
-fn every_is_read(rt: HostRuntime) -> Result<(), Fail> {
-    let rows = [
-        (None, 100),
-        (Some("--every=1"), 1),
-        (Some("--every=1000000"), 1_000_000),
-        (Some("--every=000000000000000000000007"), 7),
-    ];
-    for (flag, every) in rows {
-        let words = words(rt.alloc(), flag)?;
-        let read = read_words(rt.alloc(), words.as_slice());
-        let Ok(read) = read else {
-            panic!(rt; "{words:?} is a command line");
-        };
-        assert_eq!(rt; read.job, session(every), "{words:?}");
-    }
-    Ok(())
-}
-
-#[test]
-fn every_is_refused(rt: HostRuntime) -> Result<(), Fail> {
-    for flag in [
-        "0",
-        "1000001",
-        "x",
-        "",
-        "-1",
-        "1.5",
-        "99999999999999999999999",
-    ] {
-        let flag = format!(in rt.alloc(); "--every={flag}")?;
-        let words = words(rt.alloc(), Some(flag.as_str()))?;
-        let read = read_words(rt.alloc(), words.as_slice());
-        assert!(rt; matches!(&read, Err(WordsFault::Clap(_))), "{flag}");
-    }
-    let words = words(rt.alloc(), Some("--every=+5"))?;
-    let read = read_words(rt.alloc(), words.as_slice());
-    assert!(rt; matches!(&read, Err(WordsFault::BadEvery)));
-    Ok(())
 }

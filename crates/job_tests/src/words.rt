@@ -5,6 +5,7 @@ use std::test::Fail;
 use tape_jobs::{Job, Words, WordsFault, read_words};
 use vt_term::Profile;
 
+mod every;
 mod flags;
 
 /// The words of a command line, with one space between.
@@ -19,8 +20,9 @@ pub fn words_of(alloc: Global, line: &str) -> Result<Vec<String>, AllocError> {
 /// Sees that a line is read as a job over the paths `s` and `t`, and others behind them.
 fn compare_job(rt: &(impl Runtime<A = Global> + Abort), line: &str, job: Job) -> Result<(), Fail> {
     let words = words_of(rt.alloc(), line)?;
-    let Ok(read) = read_words(rt.alloc(), words.as_slice()) else {
-        panic!(rt; "{line:?} is a command line");
+    let read = match read_words(rt.alloc(), words.as_slice()) {
+        Ok(read) => read,
+        Err(fault) => panic!(rt; "{line:?} is a command line, and not refused for {fault}"),
     };
     assert_eq!(rt; read.job, job, "{line:?}");
     let paths = [read.paths[0].as_str(), read.paths[1].as_str()];
@@ -103,9 +105,12 @@ fn reads_other_jobs(rt: HostRuntime) -> Result<(), Fail> {
     Ok(())
 }
 
-/// Whether the seconds are all that is wrong with a command line.
-fn is_bad_seconds(alloc: Global, words: &[String]) -> bool {
-    matches!(&read_words(alloc, words), Err(WordsFault::BadSeconds))
+/// What words that clap takes are told: the job, or why they are none.
+pub fn told(alloc: Global, words: &[String]) -> Result<String, AllocError> {
+    match read_words(alloc, words) {
+        Ok(read) => format!(in alloc; "{:?}", read.job),
+        Err(fault) => format!(in alloc; "{fault}"),
+    }
 }
 
 #[test]
@@ -116,7 +121,8 @@ fn refuses_unreadable_seconds(rt: HostRuntime) -> Result<(), Fail> {
         for name in ["due", "screen", "reports"] {
             let line = format!(in rt.alloc(); "typetool {name} --at={seconds} s t")?;
             let words = words_of(rt.alloc(), line.as_str())?;
-            assert!(rt; is_bad_seconds(rt.alloc(), words.as_slice()), "{line:?}");
+            let told = told(rt.alloc(), words.as_slice())?;
+            assert_eq!(rt; told.as_str(), "bad seconds", "{line:?}");
         }
     }
     Ok(())
@@ -131,7 +137,8 @@ fn refuses_unreadable_seconds_of_changes(rt: HostRuntime) -> Result<(), Fail> {
         "typetool changes --to=-1 s t",
     ] {
         let words = words_of(rt.alloc(), line)?;
-        assert!(rt; is_bad_seconds(rt.alloc(), words.as_slice()), "{line:?}");
+        let told = told(rt.alloc(), words.as_slice())?;
+        assert_eq!(rt; told.as_str(), "bad seconds", "{line:?}");
     }
     Ok(())
 }
@@ -142,29 +149,25 @@ fn refuses_seconds_with_blanks(rt: HostRuntime) -> Result<(), Fail> {
     for flag in ["--at= 1", "--at=1 ", "--at=1 2"] {
         let mut words = words_of(rt.alloc(), "typetool due s t")?;
         words.push(String::from_str(rt.alloc(), flag)?)?;
-        assert!(rt; is_bad_seconds(rt.alloc(), words.as_slice()), "{flag:?}");
+        let told = told(rt.alloc(), words.as_slice())?;
+        assert_eq!(rt; told.as_str(), "bad seconds", "{flag:?}");
     }
     Ok(())
 }
 
-/// Sees that a line is left to clap, as a mistake or as a wish for help.
-pub fn compare_left(
-    rt: &(impl Runtime<A = Global> + Abort),
-    line: &str,
-    is_mistake: bool,
-) -> Result<(), Fail> {
+/// Sees that a line is left to clap, as a mistake.
+pub fn compare_left(rt: &(impl Runtime<A = Global> + Abort), line: &str) -> Result<(), Fail> {
     let words = words_of(rt.alloc(), line)?;
     match read_words(rt.alloc(), words.as_slice()) {
-        Err(WordsFault::Clap(error)) => {
-            assert_eq!(rt; error.use_stderr(), is_mistake, "{line:?}");
-        }
-        _ => panic!(rt; "{line:?} is no command line"),
+        Err(WordsFault::Clap(error)) => assert!(rt; error.use_stderr(), "{line:?} asks for help"),
+        Err(fault) => panic!(rt; "{line:?} is no command line, and not for {fault}"),
+        Ok(read) => panic!(rt; "{line:?} is no command line, and not {:?}", read.job),
     }
     Ok(())
 }
 
 /// Lines that are none of the program's.
-const MISTAKES: [&str; 23] = [
+const MISTAKES: [&str; 28] = [
     "typetool",
     "typetool dew",
     "typetool help",
@@ -178,6 +181,7 @@ const MISTAKES: [&str; 23] = [
     "typetool due --at 1 s t u",
     "typetool due --at 1 --at 1 s t",
     "typetool due --from 1 s t",
+    "typetool due --at 1 --fast s t",
     "typetool due --at -1 s t",
     "typetool screen s t",
     "typetool screen --from 1 s t",
@@ -188,28 +192,16 @@ const MISTAKES: [&str; 23] = [
     "typetool changes --at 1 --to 1 s t",
     "typetool changes --from=1 --from=1 --to=1 s t",
     "typetool changes --to=1 s t u",
+    "typetool save s t",
+    "typetool save --at 1 s t u v",
+    "typetool session --at 1 s t",
+    "typetool session --every 1 --every 1 s t",
 ];
 
 #[test]
 fn leaves_mistakes_to_clap(rt: HostRuntime) -> Result<(), Fail> {
     for line in &MISTAKES {
-        compare_left(&rt, line, true)?;
-    }
-    Ok(())
-}
-
-#[test]
-fn leaves_help_to_clap(rt: HostRuntime) -> Result<(), Fail> {
-    for line in [
-        "typetool --help",
-        "typetool due --help",
-        "typetool due -h",
-        "typetool info --help",
-        "typetool changes --help",
-        "typetool screen --help",
-        "typetool reports -h",
-    ] {
-        compare_left(&rt, line, false)?;
+        compare_left(&rt, line)?;
     }
     Ok(())
 }

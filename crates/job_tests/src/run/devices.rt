@@ -258,7 +258,7 @@ fn compare_sound<R: Abort + AllocGlobal>(rt: &R, case: &Case) {
         (ran.outcome, ran.requests_calls > 0),
         (DONE, case.reads_requests)
     );
-    assert!(rt; !ran.out.failed() && !ran.out_timing.failed());
+    assert_eq!(rt; (ran.out.failed(), ran.out_timing.failed()), (false, false));
     let (out, out_timing) = (ran.out.into_inner(), ran.out_timing.into_inner());
     assert_eq!(rt;
         (
@@ -290,7 +290,7 @@ fn is_not_retried(ran: &Ran, failing: Failing) -> bool {
 fn compare_unread<R: Abort + AllocGlobal>(rt: &R, case: &Case, failing: Failing) {
     let ran = run_slowly(rt, case, failing, Failure::None, Failure::None);
     assert_eq!(rt; ran.outcome, stopped(Fault::ReadFault), "{:?}", case.job);
-    assert!(rt; is_not_retried(&ran, failing));
+    assert!(rt; is_not_retried(&ran, failing), "{:?} calls again", case.job);
     let (out, out_timing) = (ran.out.into_inner(), ran.out_timing.into_inner());
     assert_eq!(rt;
         (out.calls, out.flushes, out_timing.calls, out_timing.flushes),
@@ -340,22 +340,79 @@ fn requests_that_fail_stop_the_job(rt: HostRuntime) {
     }
 }
 
-/// Scripts are read before timings, and timings before request lines.
+/// How often timing and request lines are called where a call of the script fails.
+fn calls_behind_a_script<R: Abort + AllocGlobal>(
+    rt: &R,
+    case: &Case,
+    call: usize,
+) -> (usize, usize) {
+    let failing = Failing {
+        script: call,
+        ..NONE_FAILS
+    };
+    let ran = run_slowly(rt, case, failing, Failure::None, Failure::None);
+    (ran.timing_calls, ran.requests_calls)
+}
+
+/// How often script and request lines are called where a call of the timing fails.
+fn calls_round_a_timing<R: Abort + AllocGlobal>(
+    rt: &R,
+    case: &Case,
+    call: usize,
+) -> (usize, usize) {
+    let failing = Failing {
+        timing: call,
+        ..NONE_FAILS
+    };
+    let ran = run_slowly(rt, case, failing, Failure::None, Failure::None);
+    (ran.script_calls, ran.requests_calls)
+}
+
+/// The script is read to its end, then the timing to its end, and then the request lines.
 #[test]
 fn readers_are_read_in_order(rt: HostRuntime) {
     for case in &cases() {
-        let failing = Failing {
-            script: 0,
-            ..NONE_FAILS
+        let behind = [0, SCRIPT.len()].map(|call| calls_behind_a_script(&rt, case, call));
+        assert_eq!(rt; behind, [(0, 0); 2], "{:?}", case.job);
+        let round = [0, TIMING.len()].map(|call| calls_round_a_timing(&rt, case, call));
+        assert_eq!(rt; round, [(SCRIPT.len() + 1, 0); 2], "{:?}", case.job);
+    }
+}
+
+/// A run over a pair with a fault, whose request lines fail at a call: how it ended, and the calls of the request lines.
+fn run_damaged<R: Abort + AllocGlobal>(rt: &R, case: &Case, call: usize) -> (Outcome, usize) {
+    let mut requests = Watched::new(slow_reader(case.requests, call));
+    let outcome = run(
+        rt.alloc(),
+        case.job,
+        &mut Watched::new(SCRIPT),
+        &mut Watched::new(b"0.1".as_slice()),
+        &mut requests,
+        &mut Watched::new(io::sink()),
+        &mut Watched::new(io::sink()),
+    );
+    (outcome, requests.into_inner().calls)
+}
+
+/// The recording is judged once all is read: request lines that fail are a read fault, and sound ones are read to their end.
+#[test]
+fn requests_are_read_before_the_recording_is_judged(rt: HostRuntime) {
+    let damaged = Outcome {
+        status: 1,
+        fault: Some(JobFault::File(Fault::BadCount(1))),
+    };
+    for case in &cases() {
+        if case.reads_requests {
+            let unread = run_damaged(&rt, case, 0);
+            assert_eq!(rt; unread, (stopped(Fault::ReadFault), 1), "{:?}", case.job);
+        }
+        let calls = if case.reads_requests {
+            case.requests.len() + 1
+        } else {
+            0
         };
-        let ran = run_slowly(&rt, case, failing, Failure::None, Failure::None);
-        assert_eq!(rt; (ran.timing_calls, ran.requests_calls), (0, 0));
-        let failing = Failing {
-            timing: 0,
-            ..NONE_FAILS
-        };
-        let ran = run_slowly(&rt, case, failing, Failure::None, Failure::None);
-        assert_eq!(rt; ran.requests_calls, 0);
+        let read = run_damaged(&rt, case, NEVER);
+        assert_eq!(rt; read, (damaged, calls), "{:?}", case.job);
     }
 }
 
@@ -369,7 +426,7 @@ fn compare_first<R: Abort + AllocGlobal>(rt: &R, case: &Case, failure: Failure, 
         "{:?} {failure:?}",
         case.job
     );
-    assert!(rt; ran.out.failed() && !ran.out_timing.failed());
+    assert_eq!(rt; (ran.out.failed(), ran.out_timing.failed()), (true, false));
     let (out, out_timing) = (ran.out.into_inner(), ran.out_timing.into_inner());
     assert_eq!(rt;
         (out.calls, out.flushes, out_timing.calls),

@@ -87,8 +87,9 @@ fn compare_begun(
     fault: JobFault,
 ) {
     let begun = ended.text.as_slice();
-    assert!(rt; case.text.starts_with(begun) && begun.len() < case.text.len());
-    assert!(rt; ended.new_timing.is_empty());
+    let is_beginning = case.text.starts_with(begun) && begun.len() < case.text.len();
+    assert!(rt; is_beginning, "{begun:?} went out of {:?}", case.text);
+    assert_eq!(rt; ended.new_timing.len(), 0);
     if fault != JobFault::Memory {
         assert_eq!(rt;
             (fault, begun),

@@ -1,7 +1,7 @@
 //! The flags `--profile` and `--escaped`, and with which subcommands they go.
-use super::{changes, compare_job, compare_left, reports, screen, words_of};
+use super::{changes, compare_job, compare_left, reports, screen, told, words_of};
 use std::test::Fail;
-use tape_jobs::{Job, WordsFault, read_words};
+use tape_jobs::Job;
 use vt_term::Profile;
 
 #[test]
@@ -48,8 +48,8 @@ fn refuses_other_profiles(rt: HostRuntime) -> Result<(), Fail> {
         "typetool screen --at=1 --profile=vt1024 s t",
     ] {
         let words = words_of(rt.alloc(), line)?;
-        let read = read_words(rt.alloc(), words.as_slice());
-        assert!(rt; matches!(&read, Err(WordsFault::BadProfile)), "{line:?}");
+        let told = told(rt.alloc(), words.as_slice())?;
+        assert_eq!(rt; told.as_str(), "bad profile", "{line:?}");
     }
     Ok(())
 }
@@ -66,7 +66,7 @@ fn leaves_misplaced_flags_to_clap(rt: HostRuntime) -> Result<(), Fail> {
         "typetool screen --at=1 --escaped=true s t",
         "typetool screen --at=1 --profile=vt100 --profile=vt100 s t",
     ] {
-        compare_left(&rt, line, true)?;
+        compare_left(&rt, line)?;
     }
     Ok(())
 }

@@ -1,0 +1,45 @@
+//! The flag `--every` of sessions.
+use super::{compare_job, compare_left, told, words_of};
+use std::test::Fail;
+use tape_jobs::Job;
+use vt_term::Profile;
+
+#[test]
+fn every_is_read(rt: HostRuntime) -> Result<(), Fail> {
+    let rows = [
+        ("typetool session s t", 100),
+        ("typetool session --every=1 s t", 1),
+        ("typetool session s t --every 1000000", 1_000_000),
+        ("typetool session --every=000000000000000000000007 s t", 7),
+    ];
+    let profile = Profile::Vt100;
+    for (line, every) in rows {
+        compare_job(&rt, line, Job::Session { every, profile })?;
+    }
+    Ok(())
+}
+
+#[test]
+fn every_is_refused(rt: HostRuntime) -> Result<(), Fail> {
+    for line in [
+        "typetool session --every=0 s t",
+        "typetool session --every=1000001 s t",
+        "typetool session --every=x s t",
+        "typetool session --every= s t",
+        "typetool session --every=-1 s t",
+        "typetool session --every=1.5 s t",
+        "typetool session --every=99999999999999999999999 s t",
+    ] {
+        compare_left(&rt, line)?;
+    }
+    Ok(())
+}
+
+/// clap takes a sign, which the project doesn't.
+#[test]
+fn every_has_no_sign(rt: HostRuntime) -> Result<(), Fail> {
+    let words = words_of(rt.alloc(), "typetool session s t --every=+5")?;
+    let told = told(rt.alloc(), words.as_slice())?;
+    assert_eq!(rt; told.as_str(), "bad number of chunks");
+    Ok(())
+}
