@@ -22,10 +22,11 @@ bin/typetool: $(SOURCES)
 demo: bin/typetool
 	bin/typetool screen --at 10 examples/tour.script examples/tour.timing
 
-# A look over shell, Python, layout, the list of docs/READING.md and the edits, in seconds and without the program.
+# A look over shell, Python, layout, the pages and the edits, in seconds and without the program.
 lint:
 	tests/edits_apply.py
 	tests/reading.py
+	tests/pages.py
 	tests/lint.sh
 
 # The scripts run the program that the gate has proved and built.
