@@ -18,11 +18,13 @@ use Rattle.vt_screen.proofs.Soundness.{sound_all, sound_scrolled_up, sound_scrol
 pub rows_are : (p : Picture) (rows : List Row) → p.rows ≡ rows → p ≡ with_rows rows p
 rows_are p rows same = ap (λ (rs : List Row). record p { rows = rs }) same
 
-pub rows_and_column_are : (p : Picture) (rows : List Row) (column : ℕ) → p.rows ≡ rows → p.column ≡ column → p ≡ record p { rows = rows; column = column }
+pub rows_and_column_are : (p : Picture) (rows : List Row) (column : ℕ) → p.rows ≡ rows → p.column ≡ column
+    → p ≡ record p { rows = rows; column = column }
 rows_and_column_are p rows column same same' = ap₂ (λ (rs : List Row) (k : ℕ). record p { rows = rs; column = k }) same same'
 
 -- a cell that the code read, by column
-pub cell_read : (row : Row) (column : ℕ) (d : Cell) → length row.cells ≡ 132 → 1 ≤ column → column ≤ 132 → get_or row.cells (column - 1) d ≡ cell_at row column
+pub cell_read : (row : Row) (column : ℕ) (d : Cell) → length row.cells ≡ 132 → 1 ≤ column → column ≤ 132
+    → get_or row.cells (column - 1) d ≡ cell_at row column
 cell_read row column d whole low high = get_or_default row.cells (column - 1) d blank (omega arith) ∙ sym (nth_is blank row.cells column)
 
 column_below : (p : Picture) → Sound p → p.column - 1 < 132
@@ -55,13 +57,15 @@ module _ (p : Picture) (sound : Sound p) where
 chosen_picture : (x y : Picture) (b c : Bool) → b ≡ c → (if c then x else y) ≡ (if b then x else y)
 chosen_picture x y b c same = ap (λ (d : Bool). if d then x else y) (sym same)
 
-pub put_there : (p : Picture) (cell : Cell) (autowrap : Bool) → p.column ≡ right_margin p p.line → record p { rows = with_row p.line (with_cell p.column cell (row_at p.rows p.line)) p.rows; wrap = autowrap } ≡ put cell autowrap p
+pub put_there : (p : Picture) (cell : Cell) (autowrap : Bool) → p.column ≡ right_margin p p.line
+    → record p { rows = with_row p.line (with_cell p.column cell (row_at p.rows p.line)) p.rows; wrap = autowrap } ≡ put cell autowrap p
 put_there p cell autowrap e =
     let rows = with_row p.line (with_cell p.column cell (row_at p.rows p.line)) p.rows in
     let test : (p.column == right_margin p p.line) ≡ true = grind (arith, nat_tests) in
     chosen_picture (record p { rows = rows; wrap = autowrap }) (record p { rows = rows; column = p.column + 1 }) (p.column == right_margin p p.line) true test
 
-pub put_on : (p : Picture) (cell : Cell) (autowrap : Bool) → p.column ≢ right_margin p p.line → record p { rows = with_row p.line (with_cell p.column cell (row_at p.rows p.line)) p.rows; column = p.column + 1 } ≡ put cell autowrap p
+pub put_on : (p : Picture) (cell : Cell) (autowrap : Bool) → p.column ≢ right_margin p p.line
+    → record p { rows = with_row p.line (with_cell p.column cell (row_at p.rows p.line)) p.rows; column = p.column + 1 } ≡ put cell autowrap p
 put_on p cell autowrap e =
     let rows = with_row p.line (with_cell p.column cell (row_at p.rows p.line)) p.rows in
     let test : (p.column == right_margin p p.line) ≡ false = grind (arith, nat_tests) in

@@ -17,7 +17,8 @@ use Rattle.vt_screen.proofs.SoundRows.{all_blank, blank_at, blank_either, cleare
 use Rattle.vt_screen.proofs.Tables.{get_or-set, nth-table}
 
 -- a walk over one line more
-walked : {A : Type 0} (f : A → ℕ → A) (n first : ℕ) (a : A) → fold f a (range_with_len first (suc n)) ≡ f (fold f a (range_with_len first n)) (first + n)
+walked : {A : Type 0} (f : A → ℕ → A) (n first : ℕ) (a : A)
+    → fold f a (range_with_len first (suc n)) ≡ f (fold f a (range_with_len first n)) (first + n)
 walked f zero first a = ap (f a) (omega arith)
 walked f (suc n) first a = walked f n (first + 1) (f a first) ∙ ap (f (fold f (f a first) (range_with_len (first + 1) n))) (omega arith)
 
@@ -47,7 +48,8 @@ module _ (wide : Bool) where
   clears_blank : filled_to blank (columns wide) blank_row ≡ blank_row
   clears_blank = all_blank _ (λ k low high. blank_either (nat_le k (columns wide)) (cell_at blank_row k) (blank_at k))
 
-  clears_either : (b : Bool) (row : Row) → filled_to blank (columns wide) row ≡ blank_row → filled_to blank (columns wide) (if b then blank_row else row) ≡ blank_row
+  clears_either : (b : Bool) (row : Row) → filled_to blank (columns wide) row ≡ blank_row
+      → filled_to blank (columns wide) (if b then blank_row else row) ≡ blank_row
   clears_either true row clears = clears_blank
   clears_either false row clears = clears
 
@@ -64,7 +66,8 @@ module _ (wide : Bool) where
         | inr past ↦ subst (Clear order) (sym (set_past slots slot blank_row past)) clear line low high
       ]
 
-  are_blanked : (n first : ℕ) (order : List ℕ) (slots : List Row) → Clear order slots → 1 ≤ first → first + n ≤ 25 → slots_filled blank (columns wide) first n order slots ≡ slots_blanked first n order slots
+  are_blanked : (n first : ℕ) (order : List ℕ) (slots : List Row) → Clear order slots → 1 ≤ first → first + n ≤ 25
+      → slots_filled blank (columns wide) first n order slots ≡ slots_blanked first n order slots
   unfolding slots_filled slots_blanked
   are_blanked zero first order slots clear low high = refl
   are_blanked (suc n) first order slots clear low high =
@@ -73,7 +76,9 @@ module _ (wide : Bool) where
       ∙ are_blanked n (first + 1) order (set slots slot blank_row) (clear_still order slots slot clear) (omega arith) (omega arith)
 
 -- the same slots by other lines
-blanked_by : (n first from : ℕ) (names order : List ℕ) (slots : List Row) → ((i : ℕ) → i < n → slot_at names (first + i) ≡ slot_at order (from + i)) → slots_blanked first n names slots ≡ slots_blanked from n order slots
+blanked_by : (n first from : ℕ) (names order : List ℕ) (slots : List Row)
+    → ((i : ℕ) → i < n → slot_at names (first + i) ≡ slot_at order (from + i))
+    → slots_blanked first n names slots ≡ slots_blanked from n order slots
 unfolding slots_blanked
 blanked_by zero first from names order slots same = refl
 blanked_by (suc n) first from names order slots same =
@@ -96,7 +101,8 @@ pub record Filled (wide : Bool) (held : Held) (source : ℕ → ℕ) (first from
   pub came : (i : ℕ) → i < n → source (first + i) ≡ from + i
 
 -- blank the slots of the lines that left
-pub slots_freed : (wide : Bool) (held turned : Held) (source : ℕ → ℕ) (first from n to count : ℕ) (cell : Cell) (now : List Row) → Filled wide held source first from n
+pub slots_freed : (wide : Bool) (held turned : Held) (source : ℕ → ℕ) (first from n to count : ℕ) (cell : Cell) (now : List Row)
+    → Filled wide held source first from n
     → turned.order ≡ table 24 (λ k. slot_at held.order (source k)) → turned.slots ≡ held.slots
     → cell ≡ blank → to ≡ columns wide → count ≡ n → now ≡ slots_filled cell to first count turned.order turned.slots
     → now ≡ slots_blanked from n held.order held.slots

@@ -54,13 +54,15 @@ one_cell_more column row some = row_is row.size _ _ (table_ext 132 _ _ (λ k low
     let was = nth-table blank 132 (λ j. if nat_le j (column - 1) then cell_at row j else blank) k low high in
     elim (cases_eq k column) [ inl e ↦ (let same = ap (cell_at row) e in grind (arith, nat_tests)) | inr ne ↦ grind (arith, nat_tests) ]))
 
-pub all_cells : (column : ℕ) (row : Row) → length row.cells ≡ 132 → ((k : ℕ) → column < k → k ≤ 132 → cell_at row k ≡ blank) → cells_to column row ≡ row
+pub all_cells : (column : ℕ) (row : Row) → length row.cells ≡ 132
+    → ((k : ℕ) → column < k → k ≤ 132 → cell_at row k ≡ blank) → cells_to column row ≡ row
 all_cells column row whole right = row_is row.size _ _ (table_ext 132 _ _ (λ k low high.
     elim (cases_lt column k) [ inl past ↦ (let b = right k past high in grind (arith, nat_tests)) | inr within ↦ grind (arith, nat_tests) ])
     ∙ sym (table_is blank 132 row.cells whole))
 
 -- a line of which nothing is drawn: a single one, and one that takes its size
-pub line_begun : (line : ℕ) (rows : List Row) → 1 ≤ line → line ≤ 24 → (row_at rows line).size ≡ Single → rows_to (line - 1) rows ≡ drawn_to line 0 rows
+pub line_begun : (line : ℕ) (rows : List Row) → 1 ≤ line → line ≤ 24 → (row_at rows line).size ≡ Single
+    → rows_to (line - 1) rows ≡ drawn_to line 0 rows
 line_begun line rows low high single =
     let begun : blank_row ≡ cells_to 0 (row_at rows line) =
     ap (λ (size : Size). let r : Row = record { size = size; cells = blank_cells } in r) (sym single) ∙ no_cells (row_at rows line) in
@@ -68,12 +70,15 @@ line_begun line rows low high single =
     ∙ ap (λ (r : Row). with_row line r (rows_to (line - 1) rows)) (row_not_yet line rows low high ∙ begun)
 
 -- a line that is done
-pub line_done : (line column : ℕ) (rows : List Row) → 1 ≤ line → length (row_at rows line).cells ≡ 132 → ((k : ℕ) → column < k → k ≤ 132 → cell_at (row_at rows line) k ≡ blank) → drawn_to line column rows ≡ rows_to line rows
+pub line_done : (line column : ℕ) (rows : List Row) → 1 ≤ line → length (row_at rows line).cells ≡ 132
+    → ((k : ℕ) → column < k → k ≤ 132 → cell_at (row_at rows line) k ≡ blank)
+    → drawn_to line column rows ≡ rows_to line rows
 line_done line column rows some whole right =
     ap (λ (r : Row). with_row line r (rows_to (line - 1) rows)) (all_cells column (row_at rows line) whole right) ∙ one_row_more line rows some
 
--- to a place of the screen
-pub placed_there : (line column : ℕ) (p : Picture) → line ≤ 24 → column ≤ right_margin p line → placed line column false p ≡ record p { line = line; column = column; wrap = false }
+-- to a line and a column of the screen
+pub placed_there : (line column : ℕ) (p : Picture) → line ≤ 24 → column ≤ right_margin p line
+    → placed line column false p ≡ record p { line = line; column = column; wrap = false }
 placed_there line column p high within =
     ap (λ (k : ℕ). let q : Picture = record p { line = k; column = min column (right_margin p k); wrap = false } in q) (omega arith)
     ∙ ap (λ (k : ℕ). let q : Picture = record p { line = line; column = k; wrap = false } in q) (omega arith)
@@ -93,7 +98,8 @@ ap₃' p a b c = cc
 
 module _ (p : Picture) (rows : List Row) where
   -- the cursor's line takes its size
-  pub size_drawn : 1 ≤ p.line → p.line ≤ 24 → p.column ≡ 1 → p.rows ≡ rows_to (p.line - 1) rows → size_set (row_at rows p.line).size p ≡ record p { rows = drawn_to p.line 0 rows; wrap = false }
+  pub size_drawn : 1 ≤ p.line → p.line ≤ 24 → p.column ≡ 1 → p.rows ≡ rows_to (p.line - 1) rows
+      → size_set (row_at rows p.line).size p ≡ record p { rows = drawn_to p.line 0 rows; wrap = false }
   size_drawn low high at_left above =
       let size = (row_at rows p.line).size in
       let there : row_at p.rows p.line ≡ blank_row = ap (λ (rs : List Row). row_at rs p.line) above ∙ row_not_yet p.line rows low high in
@@ -104,7 +110,8 @@ module _ (p : Picture) (rows : List Row) where
       (ap₂ (with_row p.line) row above) column
 
   -- the cell at the cursor is drawn
-  pub cell_drawn : 1 ≤ p.line → p.line ≤ 24 → 1 ≤ p.column → p.column ≤ margin_of p.wide (row_at rows p.line).size → p.wrap ≡ false → p.rows ≡ drawn_to p.line (p.column - 1) rows
+  pub cell_drawn : 1 ≤ p.line → p.line ≤ 24 → 1 ≤ p.column → p.column ≤ margin_of p.wide (row_at rows p.line).size
+      → p.wrap ≡ false → p.rows ≡ drawn_to p.line (p.column - 1) rows
       → shown (cell_at (row_at rows p.line) p.column).glyph (cell_at (row_at rows p.line) p.column).rendition false p
       ≡ record p { rows = drawn_to p.line p.column rows; column = min (p.column + 1) (margin_of p.wide (row_at rows p.line).size) }
   cell_drawn low high column_low column_high unwrapped so_far =

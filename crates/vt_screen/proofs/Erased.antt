@@ -65,7 +65,8 @@ not_other zero k small = grind (arith, nat_tests)
 not_other (suc zero) k small = grind (arith, nat_tests)
 not_other (suc (suc part)) k small = absurd (omega arith)
 
-blank_or_same : (row : Row) (test : ℕ → Bool) (b : Bool) → length row.cells ≡ 132 → ((k : ℕ) → test k ≡ b) → row_by (if b then Single else row.size) (λ k. if test k then blank else cell_at row k) ≡ (if b then blank_row else row)
+blank_or_same : (row : Row) (test : ℕ → Bool) (b : Bool) → length row.cells ≡ 132 → ((k : ℕ) → test k ≡ b)
+    → row_by (if b then Single else row.size) (λ k. if test k then blank else cell_at row k) ≡ (if b then blank_row else row)
 blank_or_same row test true whole each = all_blank (λ k. if test k then blank else cell_at row k) (λ k low high. ap (λ (t : Bool). if t then blank else cell_at row k) (each k))
 blank_or_same row test false whole each =
     row_is row.size (table 132 (λ k. if test k then blank else cell_at row k)) row.cells
@@ -150,7 +151,10 @@ module _ (part : ℕ) (p : Picture) (sound : Sound p) where
           | inr ne ↦ (let same = other_row k ne in grind (arith, nat_tests))
         ])
 
-    pub erased_all : (wrap : Bool) → erased_whole part p p.line ≡ true → now ≡ with_row p.line (filled_to blank (columns p.wide) (row_at was p.line)) was → wrap ≡ p.wrap && is_single (row_at p.rows p.line).size → record p { rows = now; wrap = wrap } ≡ display_erased part p
+    pub erased_all : (wrap : Bool) → erased_whole part p p.line ≡ true
+        → now ≡ with_row p.line (filled_to blank (columns p.wide) (row_at was p.line)) was
+        → wrap ≡ p.wrap && is_single (row_at p.rows p.line).size
+        → record p { rows = now; wrap = wrap } ≡ display_erased part p
     erased_all wrap whole written is_wrap =
         let blanked : filled_to blank (columns p.wide) (row_at was p.line) ≡ blank_row =
         ap (filled_to blank (columns p.wide)) row_was
@@ -159,7 +163,9 @@ module _ (part : ℕ) (p : Picture) (sound : Sound p) where
         (rows_erased blank_row (written ∙ ap (λ (r : Row). with_row p.line r was) blanked) (row_whole whole))
         (is_wrap ∙ wrap_whole p.wrap (is_single (row_at p.rows p.line).size) (erased_whole part p p.line) whole)
 
-    pub erased_in_part : part ≤ 1 → erased_whole part p p.line ≡ false → now ≡ with_row p.line (part_erased part p.column (row_at was p.line)) was → record p { rows = now } ≡ display_erased part p
+    pub erased_in_part : part ≤ 1 → erased_whole part p p.line ≡ false
+        → now ≡ with_row p.line (part_erased part p.column (row_at was p.line)) was
+        → record p { rows = now } ≡ display_erased part p
     erased_in_part small whole written =
         let stays : row_at was p.line ≡ row_at p.rows p.line = row_was ∙ ap (λ (b : Bool). if b then blank_row else row_at p.rows p.line) (not_other part p.line small) in
         ap₂ (λ (rows : List Row) (w : Bool). record p { rows = rows; wrap = w })

@@ -24,7 +24,8 @@ module _ (held : Held) (once : OncePerSlot held) where
   replaced line row = record { order = held.order; slots = set held.slots (slot_at held.order line) row }
 
   -- what lies in the slot of line k then
-  pub one_row_at : (line : ℕ) (row : Row) (k : ℕ) → 1 ≤ line → line ≤ 24 → 1 ≤ k → k ≤ 24 → row_in (replaced line row).slots (slot_at held.order k) ≡ (if k == line then row else row_at (rows_of held) k)
+  pub one_row_at : (line : ℕ) (row : Row) (k : ℕ) → 1 ≤ line → line ≤ 24 → 1 ≤ k → k ≤ 24
+      → row_in (replaced line row).slots (slot_at held.order k) ≡ (if k == line then row else row_at (rows_of held) k)
   one_row_at line row k low high klow khigh =
       let slot = slot_at held.order line in
       let there = row_there held k klow khigh in
@@ -71,18 +72,22 @@ module _ (held old : Held) (once : OncePerSlot held) (seen : held ≡ old) (line
       ∙ get_or_default held.slots (slot_at held.order line) d blank_row (omega (arith, once.named line, once.slots)))
       ∙ once.cells (slot_at held.order line)
 
-  pub row_changed : (op : Row → Row) (d new : Row) → new ≡ op (get_or held.slots (get_or held.order (line - 1) 0) d) → rows_of (record { order = held.order; slots = set held.slots (get_or held.order (line - 1) 0) new }) ≡ with_row line (op (row_at (rows_of old) line)) (rows_of old)
+  pub row_changed : (op : Row → Row) (d new : Row) → new ≡ op (get_or held.slots (get_or held.order (line - 1) 0) d)
+      → rows_of (record { order = held.order; slots = set held.slots (get_or held.order (line - 1) 0) new })
+      ≡ with_row line (op (row_at (rows_of old) line)) (rows_of old)
   row_changed op d new is_new =
       ap (λ (p : ℕ). rows_of (record { order = held.order; slots = set held.slots p new })) (slot_read held.order line)
       ∙ one_row held once line new low high
       ∙ ap (λ (h : Held). with_row line new (rows_of h)) seen
       ∙ ap (λ (r : Row). with_row line r (rows_of old)) (is_new ∙ ap op (row_read d))
 
-  pub changed_once : (new : Row) → length new.cells ≡ 132 → OncePerSlot (record { order = held.order; slots = set held.slots (get_or held.order (line - 1) 0) new })
+  pub changed_once : (new : Row) → length new.cells ≡ 132
+      → OncePerSlot (record { order = held.order; slots = set held.slots (get_or held.order (line - 1) 0) new })
   changed_once new whole =
       subst (λ (p : ℕ). OncePerSlot (record { order = held.order; slots = set held.slots p new })) (sym (slot_read held.order line)) (replaced_once held once line new whole)
 
-  pub slots_changed : (op : Row → Row) (d new : Row) → new ≡ op (get_or held.slots (get_or held.order (line - 1) 0) d) → set held.slots (get_or held.order (line - 1) 0) new ≡ set old.slots (slot_at old.order line) (op (row_at (rows_of old) line))
+  pub slots_changed : (op : Row → Row) (d new : Row) → new ≡ op (get_or held.slots (get_or held.order (line - 1) 0) d)
+      → set held.slots (get_or held.order (line - 1) 0) new ≡ set old.slots (slot_at old.order line) (op (row_at (rows_of old) line))
   slots_changed op d new is_new =
       ap₂ (λ (p : ℕ) (r : Row). set held.slots p r) (slot_read held.order line) (is_new ∙ ap op (row_read d))
       ∙ ap (λ (h : Held). set h.slots (slot_at h.order line) (op (row_at (rows_of old) line))) seen

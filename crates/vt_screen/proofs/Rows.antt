@@ -39,8 +39,10 @@ cell_written_at row column i cell whole low high =
     row_is row.size _ _ (set_is blank 132 row.cells (column - 1 + i) cell whole (omega arith)
     ∙ table_ext 132 _ _ (λ k klow khigh. ap (λ (j : ℕ). if k == j then cell else cell_at row k) (omega arith)))
 
--- what is left to write from place i on is one glyph, and what is left from the next
-pub written_more : (glyphs : List ℕ) (column i : ℕ) (rendition : Attributes) (row : Row) → i < length glyphs → written (column + i) (drop i glyphs) rendition row ≡ written (column + (i + 1)) (drop (i + 1) glyphs) rendition (with_cell (column + i) (record { glyph = get_or glyphs i 0; rendition = rendition }) row)
+-- what is left to write from glyph i on is one glyph, and what is left from the next
+pub written_more : (glyphs : List ℕ) (column i : ℕ) (rendition : Attributes) (row : Row) → i < length glyphs
+    → written (column + i) (drop i glyphs) rendition row
+    ≡ written (column + (i + 1)) (drop (i + 1) glyphs) rendition (with_cell (column + i) (record { glyph = get_or glyphs i 0; rendition = rendition }) row)
 written_more glyphs column i rendition row below =
     at_drop_more (λ gs. written (column + i) gs rendition row) glyphs i 0 below
     ∙ ap (λ (k : ℕ). written k (drop (i + 1) glyphs) rendition (with_cell (column + i) (record { glyph = get_or glyphs i 0; rendition = rendition }) row)) (omega arith)
@@ -71,7 +73,9 @@ all_columns k low high = grind (arith, nat_tests)
 
 -- a part of a row, as what is filled
 module _ (part cursor : ℕ) (row new : Row) (cell : Cell) where
-  part_filled : (from to : ℕ) → cell ≡ blank → new ≡ filled from to cell row → ((k : ℕ) → 1 ≤ k → k ≤ 132 → nat_le from k && nat_le k to ≡ in_line_part part cursor k) → new ≡ part_erased part cursor row
+  part_filled : (from to : ℕ) → cell ≡ blank → new ≡ filled from to cell row
+      → ((k : ℕ) → 1 ≤ k → k ≤ 132 → nat_le from k && nat_le k to ≡ in_line_part part cursor k)
+      → new ≡ part_erased part cursor row
   part_filled from to is_blank is_new same =
       is_new ∙ row_is row.size _ _ (table_ext 132 _ _ (λ k low high.
       ap (λ (b : Bool). if b then cell else cell_at row k) (same k low high)
@@ -114,7 +118,9 @@ resized_cut row wide size cuts =
 pub changed_none : (change : Row → Row) (first : ℕ) (rows : List Row) → length rows ≡ 24 → rows ≡ lines_changed change first first rows
 changed_none change first rows len = table_is blank_row 24 rows len ∙ table_ext 24 _ _ (λ k low high. grind (arith, nat_tests))
 
-pub changed_more : (change : Row → Row) (first line : ℕ) (rows was now : List Row) → first ≤ line → 1 ≤ line → line ≤ 24 → was ≡ lines_changed change first line rows → now ≡ with_row line (change (row_at was line)) was → now ≡ lines_changed change first (line + 1) rows
+pub changed_more : (change : Row → Row) (first line : ℕ) (rows was now : List Row) → first ≤ line → 1 ≤ line
+    → line ≤ 24 → was ≡ lines_changed change first line rows → now ≡ with_row line (change (row_at was line)) was
+    → now ≡ lines_changed change first (line + 1) rows
 changed_more change first line rows was now from low high before written =
     let f : ℕ → Row = λ k. if nat_le first k && nat_lt k line then change (row_at rows k) else row_at rows k in
     let here : row_at (lines_changed change first line rows) line ≡ row_at rows line = nth-table blank_row 24 f line low high ∙ not_yet first line (change (row_at rows line)) (row_at rows line) in
@@ -131,7 +137,8 @@ changed_more change first line rows was now from low high before written =
     not_yet first line x y = grind (arith, nat_tests)
 
 -- a line alone
-pub changed_one : (change : Row → Row) (line : ℕ) (rows : List Row) → with_row line (change (row_at rows line)) rows ≡ lines_changed change line (line + 1) rows
+pub changed_one : (change : Row → Row) (line : ℕ) (rows : List Row)
+    → with_row line (change (row_at rows line)) rows ≡ lines_changed change line (line + 1) rows
 changed_one change line rows = table_ext 24 _ _ (λ k low high.
     elim (cases_eq k line) [
       | inl e ↦ let same = ap (λ (j : ℕ). change (row_at rows j)) e in grind (arith, nat_tests)
@@ -156,7 +163,9 @@ module _ (row : Row) (after : List Cell) (from margin : ℕ) (whole : length aft
       ]))
 
   -- n to the left, and blank cells where they came from
-  pub left_copied : (n : ℕ) (cell : Cell) (new : Row) → from + n ≤ margin + 1 → margin ≤ 132 → cell ≡ blank → CopiedTo row.cells after (from + n - 1) (from - 1) (margin - (from + n - 1)) → SameBelow row.cells after (from - 1) → SameFrom row.cells after (from - 1 + (margin - (from + n - 1)))
+  pub left_copied : (n : ℕ) (cell : Cell) (new : Row) → from + n ≤ margin + 1 → margin ≤ 132 → cell ≡ blank
+      → CopiedTo row.cells after (from + n - 1) (from - 1) (margin - (from + n - 1))
+      → SameBelow row.cells after (from - 1) → SameFrom row.cells after (from - 1 + (margin - (from + n - 1)))
       → (let r : Row = record { size = row.size; cells = after } in new ≡ filled (margin + 1 - n) margin cell r) → new ≡ taken_out n from margin row
   left_copied n cell new room high is_blank copied below above is_new =
       is_new ∙ row_is row.size _ _ (table_ext 132 _ _ (λ column clow chigh.
@@ -177,5 +186,6 @@ module _ (row : Row) (after : List Cell) (from margin : ℕ) (whole : length aft
       ]))
 
 -- a count, or all cells up to the margin
-pub taken_few : (row : Row) (n count from margin : ℕ) → from ≤ margin → count ≡ min n (margin + 1 - from) → taken_out count from margin row ≡ taken_out n from margin row
+pub taken_few : (row : Row) (n count from margin : ℕ) → from ≤ margin → count ≡ min n (margin + 1 - from)
+    → taken_out count from margin row ≡ taken_out n from margin row
 taken_few row n count from margin within few = row_is row.size _ _ (table_ext 132 _ _ (λ k low high. grind (arith, nat_tests)))

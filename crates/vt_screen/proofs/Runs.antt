@@ -55,14 +55,17 @@ module _ (rendition : Attributes) (autowrap : Bool) where
   margin_next glyph p low high = ap (λ (r : Row). margin_of p.wide r.size) (row_put p.line (with_cell p.column (cell_of glyph) (row_at p.rows p.line)) p.rows low high)
 
   -- the rows, once the next glyphs are written too
-  rows_next : (glyph : ℕ) (glyphs : List ℕ) (p : Picture) → 1 ≤ p.line → p.line ≤ 24 → written_there glyphs rendition (next glyph p) ≡ written_there (glyph ∷ glyphs) rendition p
+  rows_next : (glyph : ℕ) (glyphs : List ℕ) (p : Picture) → 1 ≤ p.line → p.line ≤ 24
+      → written_there glyphs rendition (next glyph p) ≡ written_there (glyph ∷ glyphs) rendition p
   rows_next glyph glyphs p low high =
       let row = with_cell p.column (cell_of glyph) (row_at p.rows p.line) in
       ap (λ (r : Row). with_row p.line (written (p.column + 1) glyphs rendition r) (with_row p.line row p.rows)) (row_put p.line row p.rows low high)
       ∙ with_row_twice p.line (written (p.column + 1) glyphs rendition row) row p.rows
 
   -- all of them stand left of the right margin
-  pub run_within : (glyphs : List ℕ) (p : Picture) → length p.rows ≡ 24 → p.wrap ≡ false → 1 ≤ p.line → p.line ≤ 24 → p.column + length glyphs ≤ right_margin p p.line → run_shown glyphs rendition autowrap p ≡ record p { rows = written_there glyphs rendition p; column = p.column + length glyphs }
+  pub run_within : (glyphs : List ℕ) (p : Picture) → length p.rows ≡ 24 → p.wrap ≡ false → 1 ≤ p.line → p.line ≤ 24
+      → p.column + length glyphs ≤ right_margin p p.line
+      → run_shown glyphs rendition autowrap p ≡ record p { rows = written_there glyphs rendition p; column = p.column + length glyphs }
   run_within [] p len unwrapped low high fits = ap₂ (λ (rows : List Row) (k : ℕ). record p { rows = rows; column = k }) (with_row_same p.line p.rows len) (omega arith)
   run_within (glyph ∷ glyphs) p len unwrapped low high fits =
       ap (run_shown glyphs rendition autowrap) (shown_next glyph p unwrapped (omega arith))
@@ -70,7 +73,9 @@ module _ (rendition : Attributes) (autowrap : Bool) where
       ∙ ap₂ (λ (rows : List Row) (k : ℕ). record p { rows = rows; column = k }) (rows_next glyph glyphs p low high) (omega arith)
 
   -- the last of them stands at the right margin
-  pub run_to_margin : (glyphs : List ℕ) (p : Picture) → p.wrap ≡ false → 1 ≤ p.line → p.line ≤ 24 → 0 < length glyphs → p.column + length glyphs ≡ right_margin p p.line + 1 → run_shown glyphs rendition autowrap p ≡ record p { rows = written_there glyphs rendition p; column = right_margin p p.line; wrap = autowrap }
+  pub run_to_margin : (glyphs : List ℕ) (p : Picture) → p.wrap ≡ false → 1 ≤ p.line → p.line ≤ 24 → 0 < length glyphs
+      → p.column + length glyphs ≡ right_margin p p.line + 1
+      → run_shown glyphs rendition autowrap p ≡ record p { rows = written_there glyphs rendition p; column = right_margin p p.line; wrap = autowrap }
   run_to_margin [] p unwrapped low high some fits = absurd (omega arith)
   run_to_margin (glyph ∷ []) p unwrapped low high some fits =
       let there : p.column ≡ right_margin p p.line = omega arith in
@@ -90,21 +95,26 @@ module _ (rendition : Attributes) (autowrap : Bool) where
       by_wrap true e = indexed_unwrapped (moved_to_left p)
       by_wrap false e = e
 
-  pub wrap_taken_first : (glyph : ℕ) (glyphs : List ℕ) (p : Picture) → run_shown (glyph ∷ glyphs) rendition autowrap (wrap_taken p) ≡ run_shown (glyph ∷ glyphs) rendition autowrap p
+  pub wrap_taken_first : (glyph : ℕ) (glyphs : List ℕ) (p : Picture)
+      → run_shown (glyph ∷ glyphs) rendition autowrap (wrap_taken p) ≡ run_shown (glyph ∷ glyphs) rendition autowrap p
   wrap_taken_first glyph glyphs p = ap (run_shown glyphs rendition autowrap) (shown_unwrapped glyph (wrap_taken p) (wrap_gone p))
 
   -- a part of a run, and what is left of it
-  pub run_parts : (n : ℕ) (glyphs : List ℕ) (p : Picture) → run_shown (drop n glyphs) rendition autowrap (run_shown (take n glyphs) rendition autowrap p) ≡ run_shown glyphs rendition autowrap p
+  pub run_parts : (n : ℕ) (glyphs : List ℕ) (p : Picture)
+      → run_shown (drop n glyphs) rendition autowrap (run_shown (take n glyphs) rendition autowrap p) ≡ run_shown glyphs rendition autowrap p
   run_parts n glyphs p =
       sym (fold-append (λ q glyph. shown glyph rendition autowrap q) p (take n glyphs) (drop n glyphs))
       ∙ ap (λ gs. run_shown gs rendition autowrap p) (take-append-drop n glyphs)
 
-  pub run_wrapped : (glyphs : List ℕ) (p : Picture) → 0 < length glyphs → run_shown glyphs rendition autowrap (wrap_taken p) ≡ run_shown glyphs rendition autowrap p
+  pub run_wrapped : (glyphs : List ℕ) (p : Picture) → 0 < length glyphs
+      → run_shown glyphs rendition autowrap (wrap_taken p) ≡ run_shown glyphs rendition autowrap p
   run_wrapped [] p some = absurd (omega arith)
   run_wrapped (glyph ∷ glyphs) p some = wrap_taken_first glyph glyphs p
 
   -- a loop's step: the wrap, a part, and what is left
-  pub run_step : (n : ℕ) (glyphs : List ℕ) (p now : Picture) → 0 < length glyphs → now ≡ run_shown (take n glyphs) rendition autowrap (wrap_taken p) → run_shown (drop n glyphs) rendition autowrap now ≡ run_shown glyphs rendition autowrap p
+  pub run_step : (n : ℕ) (glyphs : List ℕ) (p now : Picture) → 0 < length glyphs
+      → now ≡ run_shown (take n glyphs) rendition autowrap (wrap_taken p)
+      → run_shown (drop n glyphs) rendition autowrap now ≡ run_shown glyphs rendition autowrap p
   run_step n glyphs p now some written =
       ap (run_shown (drop n glyphs) rendition autowrap) written ∙ run_parts n glyphs (wrap_taken p) ∙ run_wrapped glyphs p some
 
@@ -113,25 +123,31 @@ module _ (rendition : Attributes) (autowrap : Bool) where
   order_unwrapped p order unwrapped = ap (λ (b : Bool). if b then order_indexed p order else order) unwrapped
 
   -- none of them wraps before the next
-  pub order_within : (glyphs : List ℕ) (p : Picture) (order : List ℕ) → p.wrap ≡ false → 1 ≤ p.line → p.line ≤ 24 → p.column + length glyphs ≤ right_margin p p.line + 1 → order_run_shown glyphs rendition autowrap p order ≡ order
+  pub order_within : (glyphs : List ℕ) (p : Picture) (order : List ℕ) → p.wrap ≡ false → 1 ≤ p.line → p.line ≤ 24
+      → p.column + length glyphs ≤ right_margin p p.line + 1
+      → order_run_shown glyphs rendition autowrap p order ≡ order
   order_within [] p order unwrapped low high fits = refl
   order_within (glyph ∷ []) p order unwrapped low high fits = order_unwrapped p order unwrapped
   order_within (glyph ∷ other ∷ glyphs) p order unwrapped low high fits =
       ap₂ (λ (q : Picture) (names : List ℕ). order_run_shown (other ∷ glyphs) rendition autowrap q names) (shown_next glyph p unwrapped (omega arith)) (order_unwrapped p order unwrapped)
       ∙ order_within (other ∷ glyphs) (next glyph p) order unwrapped low high (omega (arith, margin_next glyph p low high))
 
-  order_parts : (xs ys : List ℕ) (p : Picture) (order : List ℕ) → order_run_shown (xs ++ ys) rendition autowrap p order ≡ order_run_shown ys rendition autowrap (run_shown xs rendition autowrap p) (order_run_shown xs rendition autowrap p order)
+  order_parts : (xs ys : List ℕ) (p : Picture) (order : List ℕ)
+      → order_run_shown (xs ++ ys) rendition autowrap p order
+      ≡ order_run_shown ys rendition autowrap (run_shown xs rendition autowrap p) (order_run_shown xs rendition autowrap p order)
   order_parts [] ys p order = refl
   order_parts (x ∷ xs) ys p order = order_parts xs ys (shown x rendition autowrap p) (order_wrap_taken p order)
 
-  order_wrapped : (glyphs : List ℕ) (p : Picture) (order : List ℕ) → 0 < length glyphs → order_run_shown glyphs rendition autowrap (wrap_taken p) (order_wrap_taken p order) ≡ order_run_shown glyphs rendition autowrap p order
+  order_wrapped : (glyphs : List ℕ) (p : Picture) (order : List ℕ) → 0 < length glyphs
+      → order_run_shown glyphs rendition autowrap (wrap_taken p) (order_wrap_taken p order) ≡ order_run_shown glyphs rendition autowrap p order
   order_wrapped [] p order some = absurd (omega arith)
   order_wrapped (glyph ∷ glyphs) p order some =
       ap₂ (λ (q : Picture) (names : List ℕ). order_run_shown glyphs rendition autowrap q names) (shown_unwrapped glyph (wrap_taken p) (wrap_gone p))
       (order_unwrapped (wrap_taken p) (order_wrap_taken p order) (wrap_gone p))
 
   -- the names in a loop's step
-  pub order_step : (n : ℕ) (glyphs : List ℕ) (p now : Picture) (order wrapped names : List ℕ) → 0 < length glyphs → now ≡ run_shown (take n glyphs) rendition autowrap (wrap_taken p)
+  pub order_step : (n : ℕ) (glyphs : List ℕ) (p now : Picture) (order wrapped names : List ℕ) → 0 < length glyphs
+      → now ≡ run_shown (take n glyphs) rendition autowrap (wrap_taken p)
       → wrapped ≡ order_wrap_taken p order → names ≡ order_run_shown (take n glyphs) rendition autowrap (wrap_taken p) wrapped
       → order_run_shown (drop n glyphs) rendition autowrap now names ≡ order_run_shown glyphs rendition autowrap p order
   order_step n glyphs p now order wrapped names some written turned shown_there =

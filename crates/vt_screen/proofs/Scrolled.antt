@@ -28,7 +28,8 @@ module _ (p : Picture) (sound : Sound p) (source : ℕ → ℕ) (was : List Row)
       ∙ each k)
 
   -- the slot of the line that leaves
-  pub slot_cleared : (line left : ℕ) (order names : List ℕ) (slots held now : List Row) (new : Row) → 1 ≤ line → line ≤ 24 → source line ≡ left → names ≡ table 24 (λ k. slot_at order (source k)) → held ≡ slots
+  pub slot_cleared : (line left : ℕ) (order names : List ℕ) (slots held now : List Row) (new : Row) → 1 ≤ line
+      → line ≤ 24 → source line ≡ left → names ≡ table 24 (λ k. slot_at order (source k)) → held ≡ slots
       → new ≡ filled_to blank (columns p.wide) (row_at was line) → now ≡ set held (slot_at names line) new → now ≡ set slots (slot_at order left) blank_row
   slot_cleared line left order names slots held now new low high leaves is_names is_held is_new written =
       let row : row_at was line ≡ row_at p.rows (source line) = ap (λ (rs : List Row). row_at rs line) turned ∙ nth-table blank_row 24 (λ j. row_at p.rows (source j)) line low high in
@@ -44,7 +45,9 @@ pub all_cleared : (rows : List Row) → lines_changed (filled_to blank 132) 1 (2
 all_cleared rows = all_filled (filled_to blank 132) rows ∙ table_ext 24 _ _ (λ k low high. all_blank _ (λ j jlow jhigh. grind (arith, nat_tests)))
 
 -- as a body fills them: with a cell and up to a column
-pub filled_with : (now was : List Row) (first last : ℕ) (cell other : Cell) (to column : ℕ) → cell ≡ other → to ≡ column → now ≡ lines_changed (filled_to cell to) first last was → now ≡ lines_changed (filled_to other column) first last was
+pub filled_with : (now was : List Row) (first last : ℕ) (cell other : Cell) (to column : ℕ) → cell ≡ other
+    → to ≡ column → now ≡ lines_changed (filled_to cell to) first last was
+    → now ≡ lines_changed (filled_to other column) first last was
 filled_with now was first last cell other to column same_cell same_column filled =
     filled ∙ ap₂ (λ (e : Cell) (k : ℕ). lines_changed (filled_to e k) first last was) same_cell same_column
 
@@ -56,10 +59,12 @@ in_region p q r below above =
 
 -- up and down by a count: n, or all of the lines
 module _ (rows : List Row) (n count top bottom : ℕ) (apart : top ≤ bottom) (few : count ≡ min n (bottom + 1 - top)) where
-  pub up_by : (first : ℕ) → first + count ≡ bottom + 1 → (k : ℕ) → (if nat_le first k && nat_lt k (bottom + 1) then blank_row else row_at rows (line_below count top bottom k))
+  pub up_by : (first : ℕ) → first + count ≡ bottom + 1 → (k : ℕ)
+      → (if nat_le first k && nat_lt k (bottom + 1) then blank_row else row_at rows (line_below count top bottom k))
       ≡ (if nat_le top k && nat_le k bottom then (if nat_le (k + n) bottom then row_at rows (k + n) else blank_row) else row_at rows k)
   up_by first at k = grind (arith, nat_tests)
 
-  pub down_by : (last : ℕ) → last ≡ top + count → (k : ℕ) → (if nat_le top k && nat_lt k last then blank_row else row_at rows (line_above count top bottom k))
+  pub down_by : (last : ℕ) → last ≡ top + count → (k : ℕ)
+      → (if nat_le top k && nat_lt k last then blank_row else row_at rows (line_above count top bottom k))
       ≡ (if nat_le top k && nat_le k bottom then (if nat_le (top + n) k then row_at rows (k - n) else blank_row) else row_at rows k)
   down_by last at k = grind (arith, nat_tests)

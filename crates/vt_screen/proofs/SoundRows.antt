@@ -65,8 +65,9 @@ pub all_blank : (f : ℕ → Cell) → ((k : ℕ) → 1 ≤ k → k ≤ 132 → 
 all_blank f each =
     row_is Single (table 132 f) blank_cells (table_ext 132 f (nth blank blank_cells) (λ k low high. each k low high ∙ sym (blank_at k)) ∙ sym (table_is blank 132 blank_cells blank_whole))
 
--- a row told by place is sound where its cells are
-pub sound_by : (wide : Bool) (size : Size) (f : ℕ → Cell) → ((k : ℕ) → margin_of wide size < k → f k ≡ blank) → ((k : ℕ) → (f k).glyph ≤ 126) → SoundRow wide (row_by size f)
+-- a row told by column is sound where its cells are
+pub sound_by : (wide : Bool) (size : Size) (f : ℕ → Cell) → ((k : ℕ) → margin_of wide size < k → f k ≡ blank)
+    → ((k : ℕ) → (f k).glyph ≤ 126) → SoundRow wide (row_by size f)
 sound_by wide size f right glyphs = record {
   cells = length-table 132 f;
   blank_right = λ k above. elim (cases_lt 132 k) [
@@ -129,7 +130,9 @@ module _ (wide : Bool) (row : Row) (sound : SoundRow wide row) where
       (λ k above. let same = sound.blank_right k above in grind (arith, nat_tests))
       (λ k. either (λ e. e.glyph ≤ 126) (nat_lt from k && nat_le k (margin_of wide row.size)) (cell_at row (k - 1)) (cell_at row k) (sound.glyphs (k - 1)) (sound.glyphs k))
 
-  resized_right : (size : Size) (k : ℕ) (was is : Bool) → is_single row.size ≡ was → is_single size ≡ is → margin_of wide size < k → (if was && not is && nat_lt (margin_of wide size) k then blank else cell_at row k) ≡ blank
+  resized_right : (size : Size) (k : ℕ) (was is : Bool) → is_single row.size ≡ was → is_single size ≡ is
+      → margin_of wide size < k
+      → (if was && not is && nat_lt (margin_of wide size) k then blank else cell_at row k) ≡ blank
   resized_right size k true true a b above = sound.blank_right k (omega (arith, single_margin wide row.size a, single_margin wide size b))
   resized_right size k true false a b above = grind (arith, nat_tests)
   resized_right size k false true a b above = sound.blank_right k (omega (arith, margin_high wide row.size, single_margin wide size b))
@@ -142,13 +145,16 @@ module _ (wide : Bool) (row : Row) (sound : SoundRow wide row) where
       (λ k. either (λ e. e.glyph ≤ 126) (is_single row.size && not (is_single size) && nat_lt (margin_of wide size) k) blank (cell_at row k) (omega arith) (sound.glyphs k))
 
 -- rows told by line
-pub sound_rows_by : (wide : Bool) (f : ℕ → Row) → ((line : ℕ) → 1 ≤ line → line ≤ 24 → SoundRow wide (f line)) → (line : ℕ) → SoundRow wide (row_at (rows_by f) line)
+pub sound_rows_by : (wide : Bool) (f : ℕ → Row) → ((line : ℕ) → 1 ≤ line → line ≤ 24 → SoundRow wide (f line))
+    → (line : ℕ) → SoundRow wide (row_at (rows_by f) line)
 sound_rows_by wide f each = nth_keeps (SoundRow wide) blank_row 24 f (sound_blank wide) each
 
 pub either_row : (P : Row → Type 0) (b : Bool) (x y : Row) → P x → P y → P (if b then x else y)
 either_row P true x y px py = px
 either_row P false x y px py = py
 
-pub sound_with_row : (wide : Bool) (at : ℕ) (row : Row) (rows : List Row) → SoundRow wide row → ((line : ℕ) → SoundRow wide (row_at rows line)) → (line : ℕ) → SoundRow wide (row_at (with_row at row rows) line)
+pub sound_with_row : (wide : Bool) (at : ℕ) (row : Row) (rows : List Row) → SoundRow wide row
+    → ((line : ℕ) → SoundRow wide (row_at rows line)) → (line : ℕ)
+    → SoundRow wide (row_at (with_row at row rows) line)
 sound_with_row wide at row rows sound each =
     sound_rows_by wide _ (λ line low high. either_row (SoundRow wide) (line == at) row (row_at rows line) sound (each line))

@@ -39,8 +39,11 @@ by_test P true x y px py = px refl
 by_test P false x y px py = py refl
 
 module _ (p : Picture) (sound : Sound p) where
-  -- other rows, and another place of the cursor
-  pub sound_all : (rows : List Row) (line column : ℕ) (wrap : Bool) → length rows ≡ 24 → ((k : ℕ) → SoundRow p.wide (row_at rows k)) → 1 ≤ line → line ≤ 24 → 1 ≤ column → column ≤ margin_of p.wide (row_at rows line).size → Sound (record p { rows = rows; line = line; column = column; wrap = wrap })
+  -- other rows, and the cursor elsewhere
+  pub sound_all : (rows : List Row) (line column : ℕ) (wrap : Bool) → length rows ≡ 24
+      → ((k : ℕ) → SoundRow p.wide (row_at rows k)) → 1 ≤ line → line ≤ 24 → 1 ≤ column
+      → column ≤ margin_of p.wide (row_at rows line).size
+      → Sound (record p { rows = rows; line = line; column = column; wrap = wrap })
   sound_all rows line column wrap len row line_low line_high column_low column_high = record {
     rows = len;
     row = row;
@@ -54,11 +57,14 @@ module _ (p : Picture) (sound : Sound p) where
     tabs = sound.tabs;
   }
 
-  pub sound_cursor : (line column : ℕ) (wrap : Bool) → 1 ≤ line → line ≤ 24 → 1 ≤ column → column ≤ right_margin p line → Sound (record p { line = line; column = column; wrap = wrap })
+  pub sound_cursor : (line column : ℕ) (wrap : Bool) → 1 ≤ line → line ≤ 24 → 1 ≤ column
+      → column ≤ right_margin p line → Sound (record p { line = line; column = column; wrap = wrap })
   sound_cursor line column wrap = sound_all p.rows line column wrap sound.rows sound.row
 
   -- other rows, to a line of which the column is cut
-  pub sound_rows_on_line : (rows : List Row) (line : ℕ) → length rows ≡ 24 → ((k : ℕ) → SoundRow p.wide (row_at rows k)) → 1 ≤ line → line ≤ 24 → Sound (on_line line (record p { rows = rows }))
+  pub sound_rows_on_line : (rows : List Row) (line : ℕ) → length rows ≡ 24
+      → ((k : ℕ) → SoundRow p.wide (row_at rows k)) → 1 ≤ line → line ≤ 24
+      → Sound (on_line line (record p { rows = rows }))
   sound_rows_on_line rows line len row low high =
       let margin = margin_low p.wide (row_at rows line).size in
       sound_all rows line (min p.column (margin_of p.wide (row_at rows line).size)) false len row low high (omega (arith, sound.column_low)) (omega arith)
@@ -104,7 +110,8 @@ module _ (p : Picture) (sound : Sound p) where
   pub sound_wrap_cleared : Sound (wrap_cleared p)
   sound_wrap_cleared = sound_wrap false
 
-  pub sound_put_back : (line column : ℕ) (wrap origin autowrap : Bool) → 1 ≤ line → line ≤ 24 → 1 ≤ column → Sound (put_back line column wrap origin autowrap p)
+  pub sound_put_back : (line column : ℕ) (wrap origin autowrap : Bool) → 1 ≤ line → line ≤ 24 → 1 ≤ column
+      → Sound (put_back line column wrap origin autowrap p)
   sound_put_back line column wrap true autowrap low high column_low =
       let to = max p.top (min line p.bottom) in
       let margin = margin_low p.wide (row_at p.rows to).size in
@@ -142,7 +149,8 @@ module _ (p : Picture) (sound : Sound p) where
       (λ e. sound_on_line (p.line - 1) (grind (arith, nat_tests, sound.line_low)) (omega (arith, sound.line_high))))
 
   -- other rows, and the cursor at column 1
-  sound_rows_at_left : (rows : List Row) → length rows ≡ 24 → ((k : ℕ) → SoundRow p.wide (row_at rows k)) → Sound (moved_to_left (record p { rows = rows }))
+  sound_rows_at_left : (rows : List Row) → length rows ≡ 24 → ((k : ℕ) → SoundRow p.wide (row_at rows k))
+      → Sound (moved_to_left (record p { rows = rows }))
   sound_rows_at_left rows len row =
       sound_all rows p.line 1 false len row sound.line_low sound.line_high (omega arith) (omega (arith, margin_low p.wide (row_at rows p.line).size))
 
@@ -161,7 +169,9 @@ module _ (p : Picture) (sound : Sound p) where
   margin_there row = ap (λ (r : Row). margin_of p.wide r.size) (row_put p.line row p.rows sound.line_low sound.line_high)
 
   -- the cursor's line has another row
-  pub sound_row_there : (row : Row) (column : ℕ) (wrap : Bool) → SoundRow p.wide row → 1 ≤ column → column ≤ margin_of p.wide row.size → Sound (record p { rows = with_row p.line row p.rows; column = column; wrap = wrap })
+  pub sound_row_there : (row : Row) (column : ℕ) (wrap : Bool) → SoundRow p.wide row → 1 ≤ column
+      → column ≤ margin_of p.wide row.size
+      → Sound (record p { rows = with_row p.line row p.rows; column = column; wrap = wrap })
   sound_row_there row column wrap sound_row low high =
       sound_all (with_row p.line row p.rows) p.line column wrap (length-table 24 _) (sound_with_row p.wide p.line row p.rows sound_row sound.row)
       sound.line_low sound.line_high low (omega (arith, margin_there row))
@@ -193,7 +203,8 @@ module _ (p : Picture) (sound : Sound p) where
       sound_row_there (resized p.wide size (row_at p.rows p.line)) (min p.column (margin_of p.wide size)) false (sound_resized p.wide (row_at p.rows p.line) (sound.row p.line) size) (omega (arith, sound.column_low)) (omega arith)
 
   -- a line is single or keeps its size where the display is erased
-  wider : (line : ℕ) (whole : Bool) → margin_of p.wide (row_at p.rows line).size ≤ margin_of p.wide (if whole then Single else (row_at p.rows line).size)
+  wider : (line : ℕ) (whole : Bool)
+      → margin_of p.wide (row_at p.rows line).size ≤ margin_of p.wide (if whole then Single else (row_at p.rows line).size)
   wider line true = margin_high p.wide (row_at p.rows line).size
   wider line false = omega arith
 
@@ -296,18 +307,22 @@ sound_margins_set top bottom origin p sound =
 pub sound_wrap_taken : (p : Picture) → Sound p → Sound (wrap_taken p)
 sound_wrap_taken p sound = either_picture Sound p.wrap (indexed (moved_to_left p)) p (sound_indexed (moved_to_left p) (sound_moved_to_left p sound)) sound
 
-pub sound_shown : (glyph : ℕ) (rendition : Attributes) (autowrap : Bool) (p : Picture) → glyph ≤ 126 → Sound p → Sound (shown glyph rendition autowrap p)
+pub sound_shown : (glyph : ℕ) (rendition : Attributes) (autowrap : Bool) (p : Picture) → glyph ≤ 126 → Sound p
+    → Sound (shown glyph rendition autowrap p)
 sound_shown glyph rendition autowrap p low sound = sound_put (wrap_taken p) (sound_wrap_taken p sound) (record { glyph = glyph; rendition = rendition }) autowrap low
 
-pub sound_shown_inserting : (glyph : ℕ) (rendition : Attributes) (autowrap : Bool) (p : Picture) → glyph ≤ 126 → Sound p → Sound (shown_inserting glyph rendition autowrap p)
+pub sound_shown_inserting : (glyph : ℕ) (rendition : Attributes) (autowrap : Bool) (p : Picture) → glyph ≤ 126
+    → Sound p → Sound (shown_inserting glyph rendition autowrap p)
 sound_shown_inserting glyph rendition autowrap p low sound =
     sound_put (room_made (wrap_taken p)) (sound_room_made (wrap_taken p) (sound_wrap_taken p sound)) (record { glyph = glyph; rendition = rendition }) autowrap low
 
-pub sound_run : (glyphs : List ℕ) (rendition : Attributes) (autowrap : Bool) (p : Picture) → AllByRecursion (λ glyph. glyph ≤ 126) glyphs → Sound p → Sound (run_shown glyphs rendition autowrap p)
+pub sound_run : (glyphs : List ℕ) (rendition : Attributes) (autowrap : Bool) (p : Picture)
+    → AllByRecursion (λ glyph. glyph ≤ 126) glyphs → Sound p → Sound (run_shown glyphs rendition autowrap p)
 sound_run [] rendition autowrap p all sound = sound
 sound_run (glyph ∷ glyphs) rendition autowrap p all sound = sound_run glyphs rendition autowrap (shown glyph rendition autowrap p) all.1 (sound_shown glyph rendition autowrap p all.0 sound)
 
-pub sound_run_shown : (glyphs : List ℕ) (rendition : Attributes) (autowrap : Bool) (p : Picture) → All (λ glyph. glyph ≤ 126) glyphs → Sound p → Sound (run_shown glyphs rendition autowrap p)
+pub sound_run_shown : (glyphs : List ℕ) (rendition : Attributes) (autowrap : Bool) (p : Picture)
+    → All (λ glyph. glyph ≤ 126) glyphs → Sound p → Sound (run_shown glyphs rendition autowrap p)
 sound_run_shown glyphs rendition autowrap p all sound = sound_run glyphs rendition autowrap p (recursion_from_All (λ glyph. glyph ≤ 126) glyphs all) sound
 
 pub sound_reset : Sound reset

@@ -1,4 +1,4 @@
--- Lists told by place.
+-- Lists told by number.
 use Rattle.std.proofs.Common.{◌≡◌, ℕ, ◌+◌, ◌-◌, ◌<◌, ◌≤◌, List, length, get_or, set, refl, sym, ap, inl, inr, ◌∙◌, subst, arith}
 use Rattle.std.specs.Prelude.{if◌then◌else◌, ◌==◌}
 use Rattle.std.proofs.lemmas.Bool.{cases_eq, cases_lt}
@@ -33,7 +33,7 @@ table_ext n f g same =
     let within : k < n = omega (arith, length-table n f) in
     get_or-table n f k d within ∙ same (k + 1) (omega arith) (omega arith) ∙ sym (get_or-table n g k d within))
 
--- a list is the table g where g says what stands at each place
+-- a list is the table g where g says what each element is
 pub is_table : {X : Type 0} (d : X) (n : ℕ) (xs : List X) (g : ℕ → X) → length xs ≡ n → ((k : ℕ) → k < n → get_or xs k d ≡ g (k + 1)) → xs ≡ table n g
 is_table d n xs g len each =
     same_lists xs (table n g) (len ∙ sym (length-table n g)) (λ k e below.
@@ -44,22 +44,25 @@ is_table d n xs g len each =
 pub table_is : {X : Type 0} (d : X) (n : ℕ) (xs : List X) → length xs ≡ n → xs ≡ table n (nth d xs)
 table_is d n xs len = is_table d n xs (nth d xs) len (λ k below. sym (nth_next d xs k))
 
--- a write, by place
-pub get_or-set : {X : Type 0} (d : X) (xs : List X) (i : ℕ) (x : X) (k : ℕ) → i < length xs → get_or (set xs i x) k d ≡ (if k == i then x else get_or xs k d)
+-- a write, by number
+pub get_or-set : {X : Type 0} (d : X) (xs : List X) (i : ℕ) (x : X) (k : ℕ) → i < length xs
+    → get_or (set xs i x) k d ≡ (if k == i then x else get_or xs k d)
 get_or-set d xs i x k below =
     let same = get_or-set_same xs i x d below in
     let other = get_or-set_other xs i k x d in
     elim (cases_eq k i) [ inl e ↦ grind (arith, nat_tests) | inr ne ↦ grind (arith, nat_tests) ]
 
-pub set_is : {X : Type 0} (d : X) (n : ℕ) (xs : List X) (i : ℕ) (x : X) → length xs ≡ n → i < n → set xs i x ≡ table n (λ k. if k == i + 1 then x else nth d xs k)
+pub set_is : {X : Type 0} (d : X) (n : ℕ) (xs : List X) (i : ℕ) (x : X) → length xs ≡ n → i < n
+    → set xs i x ≡ table n (λ k. if k == i + 1 then x else nth d xs k)
 set_is d n xs i x len below =
     is_table d n (set xs i x) (λ k. if k == i + 1 then x else nth d xs k) (length-set xs i x ∙ len) (λ k within.
     let old = nth_next d xs k in
     let new = get_or-set d xs i x k (omega arith) in
     elim (cases_eq k i) [ inl e ↦ grind (arith, nat_tests) | inr ne ↦ grind (arith, nat_tests) ])
 
--- what holds of each element and of the default holds at every place
-pub nth_keeps : {X : Type 0} (P : X → Type 0) (d : X) (n : ℕ) (f : ℕ → X) → P d → ((k : ℕ) → 1 ≤ k → k ≤ n → P (f k)) → (k : ℕ) → P (nth d (table n f) k)
+-- what holds of each element and of the default holds at every number
+pub nth_keeps : {X : Type 0} (P : X → Type 0) (d : X) (n : ℕ) (f : ℕ → X) → P d → ((k : ℕ) → 1 ≤ k → k ≤ n → P (f k))
+    → (k : ℕ) → P (nth d (table n f) k)
 nth_keeps P d n f none each k =
     elim (cases_lt (k - 1) n) [
       | inl within ↦ subst P (sym (nth_is d (table n f) k ∙ get_or-table n f (k - 1) d within)) (each (k - 1 + 1) (omega arith) (omega arith))

@@ -31,9 +31,7 @@ row_at rows line = nth blank_row rows line
 -- double width and both halves of double height are double sizes (EK-VT100-UG chapter 3, line attributes)
 abbrev pub is_single : Size → Bool
 is_single Single = true
-is_single Double = false
-is_single Top = false
-is_single Bottom = false
+is_single _ = false
 
 -- 24 rows, each told by its line
 abbrev pub rows_by : (ℕ → Row) → List Row

@@ -30,7 +30,7 @@ abbrev pub erased_whole : ℕ → Picture → ℕ → Bool
 erased_whole part p line = list_all (in_part part p line) (range_with_len 1 (right_margin p line))
 
 -- ED: the cells of the part are blank, a line that is erased completely becomes single width, and the
--- wrap is cleared where the cursor's line was of a double size and becomes single (the last: profile)
+-- wrap is cleared where the cursor's line was of a double size and becomes single (the last: ours)
 abbrev pub display_erased : ℕ → Picture → Picture
 display_erased part p = record p {
   rows = rows_by (λ line.

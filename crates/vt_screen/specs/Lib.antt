@@ -9,7 +9,6 @@ pub mod Moves
 pub mod Picture
 pub mod Slots
 pub mod Puts
-pub mod RenditionByte
 pub mod Scrolls
 pub mod Table
 pub mod Tabs

@@ -41,7 +41,7 @@ abbrev pub filled_to : Cell → ℕ → Row → Row
 filled_to cell to row = row_by Single (λ column. if nat_le column to then cell else cell_at row column)
 
 -- DECALN: every cell to the number of columns is the letter E, all lines single; cursor and margins
--- stay (EK-VT100-UG chapter 3; what stays: profile)
+-- stay (EK-VT100-UG chapter 3; what stays: ours)
 abbrev pub aligned : Picture → Picture
 aligned p = record p {
   rows = rows_by (λ line. filled_to pattern (columns p.wide) (row_at p.rows line));

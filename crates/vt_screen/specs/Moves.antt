@@ -3,7 +3,7 @@ use Rattle.std.specs.Prelude.{ℕ, ◌+◌, ◌-◌, Bool, false, nat_le, ◌==�
 use Rattle.vt_screen.specs.Picture.{Picture, right_margin}
 use Rattle.vt_screen.specs.Limits.{line_count}
 
--- to a line, with the column cut to that line's right margin (EK-VT100-UG chapter 3; the cut: profile)
+-- to a line, with the column cut to that line's right margin (EK-VT100-UG chapter 3; the cut: ours)
 abbrev pub on_line : ℕ → Picture → Picture
 on_line line p = record p { line = line; column = min p.column (right_margin p line); wrap = false }
 
@@ -29,7 +29,7 @@ stepped_left n p = record p { column = max 1 (p.column - n); wrap = false }
 abbrev pub moved_to_left : Picture → Picture
 moved_to_left p = record p { column = 1; wrap = false }
 
--- to a line and at most to a column of it (the cut: profile)
+-- to a line and at most to a column of it (the cut: ours)
 abbrev pub moved_to : ℕ → ℕ → Picture → Picture
 moved_to line column p = record p { line = line; column = min column (right_margin p line); wrap = false }
 

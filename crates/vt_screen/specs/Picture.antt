@@ -36,7 +36,7 @@ margin_of wide size =
 abbrev pub right_margin : Picture → ℕ → ℕ
 right_margin p line = margin_of p.wide (row_at p.rows line).size
 
--- a picture with these rows
+-- Private: a picture with these rows
 abbrev pub with_rows : List Row → Picture → Picture
 with_rows rows p = record p { rows = rows }
 
@@ -65,7 +65,7 @@ pub record Sound (p : Picture) : Type 0 where
   pub tabs : length p.tabs ≡ wide_columns
 
 -- the cursor's line is inside the margins, as it is while lines are counted from the top margin
-pub record Inside (p : Picture) : Type 0 where
+pub record IsInRegion (p : Picture) : Type 0 where
   pub below_top : p.top ≤ p.line
   pub above_bottom : p.line ≤ p.bottom
 
@@ -73,11 +73,11 @@ pub record Inside (p : Picture) : Type 0 where
 abbrev pub KeepsSound : (Picture → Picture) → Type 0
 KeepsSound op = (p : Picture) → Sound p → Sound (op p)
 
-abbrev pub KeepsInside : (Picture → Picture) → Type 0
-KeepsInside op = (p : Picture) → Sound p → Inside p → Inside (op p)
+abbrev pub KeepsInRegion : (Picture → Picture) → Type 0
+KeepsInRegion op = (p : Picture) → Sound p → IsInRegion p → IsInRegion (op p)
 
-abbrev pub GoesInside : (Picture → Picture) → Type 0
-GoesInside op = (p : Picture) → Sound p → Inside (op p)
+abbrev pub GoesIntoRegion : (Picture → Picture) → Type 0
+GoesIntoRegion op = (p : Picture) → Sound p → IsInRegion (op p)
 
 -- a tab stops at every eighth column from 9 to 129 (ours)
 abbrev pub first_tabs : List Bool

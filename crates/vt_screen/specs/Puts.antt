@@ -16,12 +16,12 @@ with_row at row rows = rows_by (λ line. if line == at then row else row_at rows
 abbrev pub with_cell : ℕ → Cell → Row → Row
 with_cell at cell row = row_by row.size (λ column. if column == at then cell else cell_at row column)
 
--- a pending wrap is taken: column 1 of the next line (EK-VT100-UG chapter 3, DECAWM; that it waits: profile)
+-- a pending wrap is taken: column 1 of the next line (EK-VT100-UG chapter 3, DECAWM; that it waits: ours)
 abbrev pub wrap_taken : Picture → Picture
 wrap_taken p = if p.wrap then indexed (moved_to_left p) else p
 
 -- the cell at the cursor is written; at the right margin the cursor stays and the wrap becomes pending
--- where autowrap is set, else the cursor goes one to the right (EK-VT100-UG chapter 3, DECAWM; pending: profile)
+-- where autowrap is set, else the cursor goes one to the right (EK-VT100-UG chapter 3, DECAWM; pending: ours)
 abbrev pub put : Cell → Bool → Picture → Picture
 put cell autowrap p =
     let rows = with_row p.line (with_cell p.column cell (row_at p.rows p.line)) p.rows in

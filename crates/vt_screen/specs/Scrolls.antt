@@ -42,12 +42,12 @@ abbrev pub is_in_region : Picture → Bool
 is_in_region p = nat_le p.top p.line && nat_le p.line p.bottom
 
 -- DL: from the cursor's line to the bottom margin lines move up by n, and the cursor goes to column 1;
--- outside the margins nothing (VT102 User Guide, DL; the column: profile)
+-- outside the margins nothing (VT102 User Guide, DL; the column: ours)
 abbrev pub lines_deleted : ℕ → Picture → Picture
 lines_deleted n p =
     if is_in_region p then moved_to_left (record p { rows = scrolled_up n p.line p.bottom p.rows }) else p
 
--- IL: the same downwards (VT102 User Guide, IL; the column: profile)
+-- IL: the same downwards (VT102 User Guide, IL; the column: ours)
 abbrev pub lines_inserted : ℕ → Picture → Picture
 lines_inserted n p =
     if is_in_region p then moved_to_left (record p { rows = scrolled_down n p.line p.bottom p.rows }) else p

@@ -30,7 +30,7 @@ slot_at order line = nth 0 order line
 abbrev pub row_in : List Row → ℕ → Row
 row_in slots slot = slice_index_or slots slot blank_row
 
--- the rows by line
+-- Private: the rows by line
 abbrev pub rows_of : Held → List Row
 rows_of held = rows_by (λ line. row_in held.slots (slot_at held.order line))
 

@@ -14,7 +14,7 @@ abbrev pub stop_after : List Bool → ℕ → ℕ → ℕ
 stop_after tabs column margin =
     unwrap_or (find (stop_at tabs) (range_with_len (column + 1) (margin - column))) margin
 
--- HT (EK-VT100-UG chapter 3; at most to the right margin: profile)
+-- HT (EK-VT100-UG chapter 3; at most to the right margin: ours)
 abbrev pub tabbed : Picture → Picture
 tabbed p = record p { column = stop_after p.tabs p.column (right_margin p p.line); wrap = false }
 

@@ -1,9 +1,9 @@
--- What the fields of a screen stand for.
-use Rattle.vt_screen.specs.declared.screen.Screen.TheInside.{Inside}
+-- Private: what the fields of a screen stand for.
+use Rattle.vt_screen.specs.declared.screen.Screen.TheInside.{Inside as Fields}
 use Rattle.vt_screen.specs.Picture.{Picture}
 use Rattle.vt_screen.specs.Slots.{ScreenState, rows_of}
 
-abbrev pub picture_of : Inside → Picture
+abbrev pub picture_of : Fields → Picture
 picture_of s = record {
   wide = s.wide;
   rows = rows_of s.grid;
@@ -15,5 +15,5 @@ picture_of s = record {
   tabs = s.tabs;
 }
 
-abbrev pub state_of : Inside → ScreenState
+abbrev pub state_of : Fields → ScreenState
 state_of s = record { picture = picture_of s; order = s.grid.order; slots = s.grid.slots }

@@ -1,4 +1,4 @@
--- Parts of a row that are written at once: what the bodies below the operations leave (ours).
+-- Private: parts of a row that are written at once, and what else the bodies below the operations leave (ours).
 use Rattle.std.specs.Prelude.{ℕ, ◌+◌, List, [], ◌∷◌, fold, nat_le, nat_lt, slice_set, ◌&&◌, if◌then◌else◌}
 use Rattle.std.specs.List.{range_with_len}
 use Rattle.vt_screen.specs.declared.cell.Cell.{Cell}
@@ -6,8 +6,8 @@ use Rattle.vt_screen.specs.declared.cell.Row.{Row}
 use Rattle.vt_screen.specs.Attributes.{Attributes}
 use Rattle.vt_screen.specs.Cells.{cell_at, row_by, rows_by, row_at}
 use Rattle.vt_screen.specs.Lines.{filled_to}
-use Rattle.vt_screen.specs.Puts.{with_cell}
-use Rattle.vt_screen.specs.Slots.{slot_at, row_in}
+use Rattle.vt_screen.specs.Puts.{with_cell, with_row}
+use Rattle.vt_screen.specs.Slots.{Held, slot_at, row_in, rows_of}
 
 -- the cells from one column to another are all this one
 abbrev pub filled : ℕ → ℕ → Cell → Row → Row
@@ -19,6 +19,10 @@ abbrev pub written : ℕ → List ℕ → Attributes → Row → Row
 written column [] rendition row = row
 written column (glyph ∷ glyphs) rendition row =
     written (column + 1) glyphs rendition (with_cell column (record { glyph = glyph; rendition = rendition }) row)
+
+-- the row of one line is changed, and the others stay
+abbrev pub line_changed : (Row → Row) → ℕ → Held → List Row
+line_changed change line held = with_row line (change (row_at (rows_of held) line)) (rows_of held)
 
 -- the rows from one line to before another are changed, and the others stay
 abbrev pub lines_changed : (Row → Row) → ℕ → ℕ → List Row → List Row

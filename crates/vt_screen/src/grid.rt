@@ -6,7 +6,7 @@ ghost use Rattle.vt_screen.specs.Erasures.{part_erased};
 ghost use Rattle.vt_screen.specs.Lines.{filled_to};
 ghost use Rattle.vt_screen.specs.Slots.{OncePerSlot, slot_at, row_in, rows_of, first_order, line_below, line_above, turned_up, turned_down};
 ghost use Rattle.vt_screen.specs.Puts.{with_row, with_cell};
-ghost use Rattle.vt_screen.specs.Written.{written, lines_changed, lines_taken, slots_filled};
+ghost use Rattle.vt_screen.specs.Written.{written, line_changed, lines_changed, lines_taken, slots_filled};
 
 use crate::cell::{Cell, Row};
 use crate::limits::{LINES, WIDE_COLUMNS};
@@ -87,7 +87,7 @@ impl Grid {
         requires line_high { line ≤ LINES }
         requires column_low { 1 ≤ column }
         requires column_high { column ≤ WIDE_COLUMNS }
-        ensures rows { rows_of self.new ≡ with_row line (with_cell column cell (row_at (rows_of self.old) line)) (rows_of self.old) }
+        ensures rows { rows_of self.new ≡ line_changed (with_cell column cell) line self.old }
         ensures order { self.new.order ≡ self.old.order }
     {
         let slot = self.order[line as usize - 1] as usize;
@@ -101,7 +101,8 @@ impl Grid {
         requires line_high { line ≤ LINES }
         requires column_low { 1 ≤ column }
         requires column_high { column + length glyphs.now ≤ WIDE_COLUMNS + 1 }
-        ensures rows { rows_of self.new ≡ with_row line (written column glyphs.now rendition (row_at (rows_of self.old) line)) (rows_of self.old) }
+        ensures rows { rows_of self.new
+            ≡ line_changed (written column glyphs.now rendition) line self.old }
         ensures order { self.new.order ≡ self.old.order }
     {
         let slot = self.order[line as usize - 1] as usize;
@@ -128,7 +129,7 @@ impl Grid {
         requires line_high { line ≤ LINES }
         requires column_low { 1 ≤ column }
         requires column_high { column ≤ WIDE_COLUMNS }
-        ensures { rows_of self.new ≡ with_row line (part_erased part column (row_at (rows_of self.old) line)) (rows_of self.old) }
+        ensures { rows_of self.new ≡ line_changed (part_erased part column) line self.old }
     {
         let mut row = *self.row(line);
         row.erase_part(part, column);
@@ -140,9 +141,10 @@ impl Grid {
         requires line_low { 1 ≤ line }
         requires line_high { line ≤ LINES }
         requires high { to ≤ WIDE_COLUMNS }
-        ensures rows { rows_of self.new ≡ with_row line (filled_to cell to (row_at (rows_of self.old) line)) (rows_of self.old) }
+        ensures rows { rows_of self.new ≡ line_changed (filled_to cell to) line self.old }
         ensures order { self.new.order ≡ self.old.order }
-        ensures slots { self.new.slots ≡ slice_set self.old.slots (slot_at self.old.order line) (filled_to cell to (row_at (rows_of self.old) line)) }
+        ensures slots { let row = row_at (rows_of self.old) line in self.new.slots
+            ≡ slice_set self.old.slots (slot_at self.old.order line) (filled_to cell to row) }
     {
         let slot = self.order[line as usize - 1] as usize;
         let row = &mut self.slots[slot];
@@ -155,9 +157,11 @@ impl Grid {
         requires last { last ≤ LINES }
         requires apart { first ≤ last + 1 }
         requires high { to ≤ WIDE_COLUMNS }
-        ensures rows { rows_of self.new ≡ lines_changed (filled_to cell to) first (last + 1) (rows_of self.old) }
+        ensures rows { rows_of self.new
+            ≡ lines_changed (filled_to cell to) first (last + 1) (rows_of self.old) }
         ensures order { self.new.order ≡ self.old.order }
-        ensures slots { self.new.slots ≡ slots_filled cell to first (last + 1 - first) self.old.order self.old.slots }
+        ensures slots { self.new.slots
+            ≡ slots_filled cell to first (last + 1 - first) self.old.order self.old.slots }
     {
         let Cell { glyph, rendition } = cell;
         for line in first..last + 1 {

@@ -12,7 +12,7 @@ ghost use Rattle.vt_screen.specs.Drawn.{rows_to, drawn_to};
 ghost use Rattle.vt_screen.specs.Erasures.{display_erased, line_erased};
 ghost use Rattle.vt_screen.specs.Lines.{size_set, columns_set, aligned, margins_set};
 ghost use Rattle.vt_screen.specs.Moves.{stepped_up, stepped_down, stepped_right, stepped_left, moved_to_left, placed, moved_home, wrap_cleared, put_back};
-ghost use Rattle.vt_screen.specs.Picture.{Picture, Sound, Inside, KeepsSound, KeepsInside, GoesInside, reset, margin_of, right_margin};
+ghost use Rattle.vt_screen.specs.Picture.{Picture, Sound, IsInRegion, KeepsSound, KeepsInRegion, GoesIntoRegion, reset, margin_of, right_margin};
 ghost use Rattle.vt_screen.specs.Puts.{shown, run_shown};
 ghost use Rattle.vt_screen.specs.Scrolls.{indexed, reverse_indexed, lines_deleted, lines_inserted};
 ghost use Rattle.vt_screen.specs.Tabs.{tabbed, tab_made, tabs_cleared};
@@ -37,7 +37,7 @@ pub fn right_margins()
 /// The initial picture is sound, with its cursor inside the margins.
 pub fn reset_is_sound()
     ensures sound { Sound reset }
-    ensures inside { Inside reset }
+    ensures inside { IsInRegion reset }
 {}
 
 /// Moves keep a picture sound.
@@ -47,19 +47,21 @@ pub fn moves_keep_sound()
     ensures right { (n : ℕ) → KeepsSound (stepped_right n) }
     ensures left { (n : ℕ) → KeepsSound (stepped_left n) }
     ensures to_left { KeepsSound moved_to_left }
-    ensures place { (line column : ℕ) (origin : Bool) → 1 ≤ line → 1 ≤ column → KeepsSound (placed line column origin) }
+    ensures place { (line column : ℕ) (origin : Bool) → 1 ≤ line → 1 ≤ column
+        → KeepsSound (placed line column origin) }
     ensures home { (origin : Bool) → KeepsSound (moved_home origin) }
     ensures clear_wrap { KeepsSound wrap_cleared }
-    ensures put_back { (line column : ℕ) (wrap origin autowrap : Bool) → 1 ≤ line → line ≤ LINES → 1 ≤ column →
-        KeepsSound (put_back line column wrap origin autowrap) }
+    ensures put_back { (line column : ℕ) (wrap origin autowrap : Bool) → 1 ≤ line → line ≤ LINES
+        → 1 ≤ column → KeepsSound (put_back line column wrap origin autowrap) }
 {}
 
 /// What shows characters and scrolls keeps a picture sound.
 pub fn shows_keep_sound()
     ensures show { (glyph : ℕ) (rendition : Attributes) (autowrap : Bool) → glyph ≤ LAST_GLYPH →
         KeepsSound (shown glyph rendition autowrap) }
-    ensures run { (glyphs : List ℕ) (rendition : Attributes) (autowrap : Bool) → All (λ glyph. glyph ≤ LAST_GLYPH) glyphs →
-        KeepsSound (run_shown glyphs rendition autowrap) }
+    ensures run { (glyphs : List ℕ) (rendition : Attributes) (autowrap : Bool)
+        → All (λ glyph. glyph ≤ LAST_GLYPH) glyphs
+        → KeepsSound (run_shown glyphs rendition autowrap) }
     ensures index { KeepsSound indexed }
     ensures reverse_index { KeepsSound reverse_indexed }
 {}
@@ -69,12 +71,13 @@ pub fn edits_keep_sound()
     ensures insert_lines { (n : ℕ) → KeepsSound (lines_inserted n) }
     ensures delete_lines { (n : ℕ) → KeepsSound (lines_deleted n) }
     ensures delete_cells { (n : ℕ) → KeepsSound (cells_deleted n) }
-    ensures show_inserting { (glyph : ℕ) (rendition : Attributes) (autowrap : Bool) → glyph ≤ LAST_GLYPH →
-        KeepsSound (shown_inserting glyph rendition autowrap) }
-    ensures insert_lines_inside { (n : ℕ) → KeepsInside (lines_inserted n) }
-    ensures delete_lines_inside { (n : ℕ) → KeepsInside (lines_deleted n) }
-    ensures delete_cells_inside { (n : ℕ) → KeepsInside (cells_deleted n) }
-    ensures show_inserting_inside { (glyph : ℕ) (rendition : Attributes) (autowrap : Bool) → KeepsInside (shown_inserting glyph rendition autowrap) }
+    ensures show_inserting { (glyph : ℕ) (rendition : Attributes) (autowrap : Bool)
+        → glyph ≤ LAST_GLYPH → KeepsSound (shown_inserting glyph rendition autowrap) }
+    ensures insert_lines_inside { (n : ℕ) → KeepsInRegion (lines_inserted n) }
+    ensures delete_lines_inside { (n : ℕ) → KeepsInRegion (lines_deleted n) }
+    ensures delete_cells_inside { (n : ℕ) → KeepsInRegion (cells_deleted n) }
+    ensures show_inserting_inside { (glyph : ℕ) (rendition : Attributes) (autowrap : Bool)
+        → KeepsInRegion (shown_inserting glyph rendition autowrap) }
 {}
 
 /// What erases, sizes and sets keeps a picture sound.
@@ -84,7 +87,8 @@ pub fn changes_keep_sound()
     ensures size { (size : Size) → KeepsSound (size_set size) }
     ensures columns { (wide origin : Bool) → KeepsSound (columns_set wide origin) }
     ensures align { KeepsSound aligned }
-    ensures margins { (top bottom : ℕ) (origin : Bool) → KeepsSound (margins_set top bottom origin) }
+    ensures margins { (top bottom : ℕ) (origin : Bool)
+        → KeepsSound (margins_set top bottom origin) }
     ensures tab { KeepsSound tabbed }
     ensures set_tab { (stops : Bool) → KeepsSound (tab_made stops) }
     ensures clear_tabs { KeepsSound tabs_cleared }
@@ -92,56 +96,66 @@ pub fn changes_keep_sound()
 
 /// Where lines are counted from the top margin, the cursor goes inside the margins.
 pub fn origin_goes_inside()
-    ensures place { (line column : ℕ) → GoesInside (placed line column true) }
-    ensures home { GoesInside (moved_home true) }
-    ensures put_back { (line column : ℕ) (wrap autowrap : Bool) → GoesInside (put_back line column wrap true autowrap) }
-    ensures columns { (wide : Bool) → GoesInside (columns_set wide true) }
-    ensures margins { (top bottom : ℕ) → KeepsInside (margins_set top bottom true) }
+    ensures place { (line column : ℕ) → GoesIntoRegion (placed line column true) }
+    ensures home { GoesIntoRegion (moved_home true) }
+    ensures put_back { (line column : ℕ) (wrap autowrap : Bool)
+        → GoesIntoRegion (put_back line column wrap true autowrap) }
+    ensures columns { (wide : Bool) → GoesIntoRegion (columns_set wide true) }
+    ensures margins { (top bottom : ℕ) → KeepsInRegion (margins_set top bottom true) }
 {}
 
 /// Each other operation leaves a cursor that is inside the margins there.
 pub fn cursors_stay_inside()
-    ensures up { (n : ℕ) → KeepsInside (stepped_up n) }
-    ensures down { (n : ℕ) → KeepsInside (stepped_down n) }
-    ensures right { (n : ℕ) → KeepsInside (stepped_right n) }
-    ensures left { (n : ℕ) → KeepsInside (stepped_left n) }
-    ensures to_left { KeepsInside moved_to_left }
-    ensures clear_wrap { KeepsInside wrap_cleared }
-    ensures show { (glyph : ℕ) (rendition : Attributes) (autowrap : Bool) → KeepsInside (shown glyph rendition autowrap) }
-    ensures index { KeepsInside indexed }
-    ensures reverse_index { KeepsInside reverse_indexed }
-    ensures erase_display { (part : ℕ) → KeepsInside (display_erased part) }
-    ensures erase_line { (part : ℕ) → KeepsInside (line_erased part) }
-    ensures size { (size : Size) → KeepsInside (size_set size) }
-    ensures align { KeepsInside aligned }
-    ensures tab { KeepsInside tabbed }
-    ensures set_tab { (stops : Bool) → KeepsInside (tab_made stops) }
-    ensures clear_tabs { KeepsInside tabs_cleared }
+    ensures up { (n : ℕ) → KeepsInRegion (stepped_up n) }
+    ensures down { (n : ℕ) → KeepsInRegion (stepped_down n) }
+    ensures right { (n : ℕ) → KeepsInRegion (stepped_right n) }
+    ensures left { (n : ℕ) → KeepsInRegion (stepped_left n) }
+    ensures to_left { KeepsInRegion moved_to_left }
+    ensures clear_wrap { KeepsInRegion wrap_cleared }
+    ensures show { (glyph : ℕ) (rendition : Attributes) (autowrap : Bool)
+        → KeepsInRegion (shown glyph rendition autowrap) }
+    ensures index { KeepsInRegion indexed }
+    ensures reverse_index { KeepsInRegion reverse_indexed }
+    ensures erase_display { (part : ℕ) → KeepsInRegion (display_erased part) }
+    ensures erase_line { (part : ℕ) → KeepsInRegion (line_erased part) }
+    ensures size { (size : Size) → KeepsInRegion (size_set size) }
+    ensures align { KeepsInRegion aligned }
+    ensures tab { KeepsInRegion tabbed }
+    ensures set_tab { (stops : Bool) → KeepsInRegion (tab_made stops) }
+    ensures clear_tabs { KeepsInRegion tabs_cleared }
 {}
 
 /// A run of one glyph is its show, and a joined run is its parts one after another.
 pub fn runs()
     ensures one { (glyph : ℕ) (rendition : Attributes) (autowrap : Bool) (p : Picture) →
         run_shown (glyph ∷ []) rendition autowrap p ≡ shown glyph rendition autowrap p }
-    ensures joined { (xs ys : List ℕ) (rendition : Attributes) (autowrap : Bool) (p : Picture) →
-        run_shown (xs ++ ys) rendition autowrap p ≡ run_shown ys rendition autowrap (run_shown xs rendition autowrap p) }
+    ensures joined { (xs ys : List ℕ) (rendition : Attributes) (autowrap : Bool) (p : Picture)
+        → run_shown (xs ++ ys) rendition autowrap p
+        ≡ run_shown ys rendition autowrap (run_shown xs rendition autowrap p) }
 {}
 
 /// Rows are told by line, and cells by column.
 pub fn places_are_told()
-    ensures rows { (rows : List Row) (line : ℕ) → row_at rows line ≡ slice_index_or rows (line - 1) blank_row }
-    ensures cells { (row : Row) (column : ℕ) → cell_at row column ≡ slice_index_or row.cells (column - 1) blank }
-    ensures row { (f : ℕ → Row) (line : ℕ) → 1 ≤ line → line ≤ LINES → row_at (rows_by f) line ≡ f line }
-    ensures cell { (size : Size) (f : ℕ → Cell) (column : ℕ) → 1 ≤ column → column ≤ WIDE_COLUMNS → cell_at (row_by size f) column ≡ f column }
+    ensures rows { (rows : List Row) (line : ℕ)
+        → row_at rows line ≡ slice_index_or rows (line - 1) blank_row }
+    ensures cells { (row : Row) (column : ℕ)
+        → cell_at row column ≡ slice_index_or row.cells (column - 1) blank }
+    ensures row { (f : ℕ → Row) (line : ℕ) → 1 ≤ line → line ≤ LINES
+        → row_at (rows_by f) line ≡ f line }
+    ensures cell { (size : Size) (f : ℕ → Cell) (column : ℕ) → 1 ≤ column → column ≤ WIDE_COLUMNS
+        → cell_at (row_by size f) column ≡ f column }
 {}
 
 /// A picture is drawn on a blank screen line by line.
 pub fn pictures_are_drawn_by_line()
     ensures wide { columns_set true false reset ≡ record reset { wide = true } }
     ensures start { (rows : List Row) → rows_by (λ _. blank_row) ≡ rows_to 0 rows }
-    ensures blank { (line : ℕ) (rows : List Row) → 1 ≤ line → row_at rows line ≡ blank_row → rows_to (line - 1) rows ≡ rows_to line rows }
-    ensures line { (line column : ℕ) (rows : List Row) → 1 ≤ line → length (row_at rows line).cells ≡ WIDE_COLUMNS →
-        ((k : ℕ) → column < k → k ≤ WIDE_COLUMNS → cell_at (row_at rows line) k ≡ blank) → drawn_to line column rows ≡ rows_to line rows }
+    ensures blank { (line : ℕ) (rows : List Row) → 1 ≤ line → row_at rows line ≡ blank_row
+        → rows_to (line - 1) rows ≡ rows_to line rows }
+    ensures line { (line column : ℕ) (rows : List Row) → 1 ≤ line
+        → length (row_at rows line).cells ≡ WIDE_COLUMNS
+        → ((k : ℕ) → column < k → k ≤ WIDE_COLUMNS → cell_at (row_at rows line) k ≡ blank)
+        → drawn_to line column rows ≡ rows_to line rows }
     ensures all { (rows : List Row) → length rows ≡ LINES → rows_to LINES rows ≡ rows }
     ensures cursor { (line column : ℕ) (p : Picture) → line ≤ LINES → column ≤ right_margin p line →
         placed line column false p ≡ record p { line = line; column = column; wrap = false } }
@@ -149,12 +163,21 @@ pub fn pictures_are_drawn_by_line()
 
 /// A line is drawn cell by cell: from its left, in its size, and without autowrap up to its right margin.
 pub fn lines_are_drawn_by_cell()
-    ensures left { (line : ℕ) (p : Picture) → line ≤ LINES → placed line 1 false p ≡ record p { line = line; column = 1; wrap = false } }
-    ensures single { (line : ℕ) (rows : List Row) → 1 ≤ line → line ≤ LINES → (row_at rows line).size ≡ Single → rows_to (line - 1) rows ≡ drawn_to line 0 rows }
-    ensures size { (p : Picture) (rows : List Row) → 1 ≤ p.line → p.line ≤ LINES → p.column ≡ 1 → p.rows ≡ rows_to (p.line - 1) rows →
-        size_set (row_at rows p.line).size p ≡ record p { rows = drawn_to p.line 0 rows; wrap = false } }
-    ensures cell { (p : Picture) (rows : List Row) → 1 ≤ p.line → p.line ≤ LINES → 1 ≤ p.column →
-        p.column ≤ margin_of p.wide (row_at rows p.line).size → p.wrap ≡ false → p.rows ≡ drawn_to p.line (p.column - 1) rows →
-        shown (cell_at (row_at rows p.line) p.column).glyph (cell_at (row_at rows p.line) p.column).rendition false p
-        ≡ record p { rows = drawn_to p.line p.column rows; column = min (p.column + 1) (margin_of p.wide (row_at rows p.line).size) } }
+    ensures left { (line : ℕ) (p : Picture) → line ≤ LINES
+        → placed line 1 false p ≡ record p { line = line; column = 1; wrap = false } }
+    ensures single { (line : ℕ) (rows : List Row) → 1 ≤ line → line ≤ LINES
+        → (row_at rows line).size ≡ Single → rows_to (line - 1) rows ≡ drawn_to line 0 rows }
+    ensures size { (p : Picture) (rows : List Row) → 1 ≤ p.line → p.line ≤ LINES → p.column ≡ 1
+        → p.rows ≡ rows_to (p.line - 1) rows
+        → size_set (row_at rows p.line).size p
+        ≡ record p { rows = drawn_to p.line 0 rows; wrap = false } }
+    ensures cell { (p : Picture) (rows : List Row) → 1 ≤ p.line → p.line ≤ LINES → 1 ≤ p.column
+        → p.column ≤ margin_of p.wide (row_at rows p.line).size → p.wrap ≡ false
+        → p.rows ≡ drawn_to p.line (p.column - 1) rows
+        → shown (cell_at (row_at rows p.line) p.column).glyph
+        (cell_at (row_at rows p.line) p.column).rendition false p
+        ≡ record p {
+          rows = drawn_to p.line p.column rows;
+          column = min (p.column + 1) (margin_of p.wide (row_at rows p.line).size);
+        } }
 {}

@@ -12,9 +12,8 @@ pub struct Rendition {
 }
 
 impl Model for Rendition {
-    ghost use Rattle.std.specs.Prelude.{◌<◌};
+    ghost use Rattle.std.specs.Prelude.{◌≡◌, ◌<◌};
     ghost use Rattle.vt_screen.specs.Attributes.{Attributes, attributes_of, byte_of};
-    ghost use Rattle.vt_screen.specs.RenditionByte.{inside_again};
 
     ghost Value = { Attributes };
 
@@ -24,7 +23,13 @@ impl Model for Rendition {
 
     ghost inverse = { λ a. record { bits = byte_of a } };
 
-    ghost inverse_ok = { λ r below. inside_again r below };
+    ghost use Rattle.std.proofs.Common.{arith};
+    ghost use Rattle.std.proofs.lemmas.Bool.Decides.{nat_tests};
+
+    // The byte and its four truth values give each other.
+    ghost inverse_ok = { λ r below i. record {
+      bits = (let again : byte_of (attributes_of r.bits) ≡ r.bits = Prim.grind (arith, nat_tests) in again i);
+    } };
 }
 
 impl Rendition {
@@ -36,7 +41,8 @@ impl Rendition {
     }
 
     pub fn new(bold: bool, underscore: bool, blink: bool, reverse: bool) -> Self
-        ensures { result ≡ record { bold = bold; underscore = underscore; blink = blink; reverse = reverse } }
+        ensures { result
+            ≡ record { bold = bold; underscore = underscore; blink = blink; reverse = reverse } }
     {
         let low = u8::from(bold) + 2 * u8::from(underscore);
         let high = 4 * u8::from(blink) + 8 * u8::from(reverse);

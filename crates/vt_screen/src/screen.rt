@@ -93,7 +93,7 @@ impl Screen {
         requires col_low { 1 ≤ col }
         requires col_high { col ≤ WIDE_COLUMNS }
         ensures value { result ≡ cell self.now.picture row col }
-        ensures place { result ≡ cell_at (row_in self.now.slots (slot_at self.now.order row)) col }
+        ensures slot { result ≡ cell_at (row_in self.now.slots (slot_at self.now.order row)) col }
         ensures glyph { result.glyph ≤ LAST_GLYPH }
     {
         self.grid.row(row).cells[col as usize - 1]
@@ -162,7 +162,7 @@ impl Screen {
         self.tabs[col as usize - 1]
     }
 
-    /// The place where a line lies, from 0.
+    /// The slot in which a line lies, from 0.
     pub fn place_of(&self, row: u8) -> u8
         requires low { 1 ≤ row }
         requires high { row ≤ LINES }
@@ -173,14 +173,14 @@ impl Screen {
         self.grid.slot_of(row)
     }
 
-    /// The cell in a place: `cell(row, col)` is `place_cell(place_of(row), col)`.
-    pub fn place_cell(&self, place: u8, col: u8) -> Cell
-        requires place { place < LINES }
+    /// The cell in a slot: `cell(row, col)` is `place_cell(place_of(row), col)`.
+    pub fn place_cell(&self, slot: u8, col: u8) -> Cell
+        requires slot { slot < LINES }
         requires low { 1 ≤ col }
         requires high { col ≤ WIDE_COLUMNS }
-        ensures { result ≡ cell_at (row_in self.now.slots place) col }
+        ensures { result ≡ cell_at (row_in self.now.slots slot) col }
     {
-        self.grid.row_in(place).cells[col as usize - 1]
+        self.grid.row_in(slot).cells[col as usize - 1]
     }
 
     /// Shows a glyph at the cursor, after a pending wrap was taken.
@@ -196,7 +196,8 @@ impl Screen {
     /// Leaves what `show` of each glyph in turn leaves; it writes a line's part at once.
     pub fn show_run(&mut self, glyphs: &[u8], rendition: Rendition, autowrap: bool)
         requires { All (λ glyph. glyph ≤ LAST_GLYPH) glyphs.now }
-        ensures picture { self.new.picture ≡ run_shown glyphs.now rendition autowrap self.old.picture }
+        ensures picture { self.new.picture
+            ≡ run_shown glyphs.now rendition autowrap self.old.picture }
         ensures order { self.new.order
             ≡ order_run_shown glyphs.now rendition autowrap self.old.picture self.old.order }
     {
@@ -291,7 +292,8 @@ impl Screen {
     pub fn index(&mut self)
         ensures picture { self.new.picture ≡ indexed self.old.picture }
         ensures order { self.new.order ≡ order_indexed self.old.picture self.old.order }
-        ensures slots { self.new.slots ≡ slots_indexed self.old.picture self.old.order self.old.slots }
+        ensures slots { self.new.slots
+            ≡ slots_indexed self.old.picture self.old.order self.old.slots }
     {
         if self.line == self.bottom {
             self.scroll_up();
@@ -305,7 +307,8 @@ impl Screen {
     pub fn reverse_index(&mut self)
         ensures picture { self.new.picture ≡ reverse_indexed self.old.picture }
         ensures order { self.new.order ≡ order_reverse_indexed self.old.picture self.old.order }
-        ensures slots { self.new.slots ≡ slots_reverse_indexed self.old.picture self.old.order self.old.slots }
+        ensures slots { self.new.slots
+            ≡ slots_reverse_indexed self.old.picture self.old.order self.old.slots }
     {
         if self.line == self.top {
             self.scroll_down();
@@ -369,7 +372,8 @@ impl Screen {
     /// one to the right, and the one at the right margin is lost.
     pub fn show_inserting(&mut self, glyph: u8, rendition: Rendition, autowrap: bool)
         requires { glyph ≤ LAST_GLYPH }
-        ensures picture { self.new.picture ≡ shown_inserting glyph rendition autowrap self.old.picture }
+        ensures picture { self.new.picture
+            ≡ shown_inserting glyph rendition autowrap self.old.picture }
         ensures order { self.new.order ≡ order_wrap_taken self.old.picture self.old.order }
     {
         self.take_wrap();
@@ -501,7 +505,8 @@ impl Screen {
         requires row_low { 1 ≤ row }
         requires row_high { row ≤ LINES }
         requires col { 1 ≤ col }
-        ensures picture { self.new.picture ≡ put_back row col wrap origin autowrap self.old.picture }
+        ensures picture { self.new.picture
+            ≡ put_back row col wrap origin autowrap self.old.picture }
     {
         self.line = if origin {
             row.min(self.bottom).max(self.top)
@@ -537,9 +542,12 @@ impl Screen {
     /// Scrolls the region up by one, with the cursor at the bottom margin.
     fn scroll_up(&mut self)
         requires { self.old.picture.line ≡ self.old.picture.bottom }
-        ensures picture { self.new.picture ≡ with_rows (scrolled_up 1 self.old.picture.top self.old.picture.bottom self.old.picture.rows) self.old.picture }
-        ensures order { self.new.order ≡ turned_up 1 self.old.picture.top self.old.picture.bottom self.old.order }
-        ensures slots { self.new.slots ≡ slice_set self.old.slots (slot_at self.old.order self.old.picture.top) blank_row }
+        ensures picture { let p = self.old.picture in
+            self.new.picture ≡ with_rows (scrolled_up 1 p.top p.bottom p.rows) p }
+        ensures order { self.new.order
+            ≡ turned_up 1 self.old.picture.top self.old.picture.bottom self.old.order }
+        ensures slots { self.new.slots
+            ≡ slice_set self.old.slots (slot_at self.old.order self.old.picture.top) blank_row }
     {
         self.grid.turn_up(1, self.top, self.bottom);
         self.grid
@@ -549,9 +557,12 @@ impl Screen {
     /// Scrolls the region down by one, with the cursor at the top margin.
     fn scroll_down(&mut self)
         requires { self.old.picture.line ≡ self.old.picture.top }
-        ensures picture { self.new.picture ≡ with_rows (scrolled_down 1 self.old.picture.top self.old.picture.bottom self.old.picture.rows) self.old.picture }
-        ensures order { self.new.order ≡ turned_down 1 self.old.picture.top self.old.picture.bottom self.old.order }
-        ensures slots { self.new.slots ≡ slice_set self.old.slots (slot_at self.old.order self.old.picture.bottom) blank_row }
+        ensures picture { let p = self.old.picture in
+            self.new.picture ≡ with_rows (scrolled_down 1 p.top p.bottom p.rows) p }
+        ensures order { self.new.order
+            ≡ turned_down 1 self.old.picture.top self.old.picture.bottom self.old.order }
+        ensures slots { self.new.slots
+            ≡ slice_set self.old.slots (slot_at self.old.order self.old.picture.bottom) blank_row }
     {
         self.grid.turn_down(1, self.top, self.bottom);
         self.grid
@@ -572,7 +583,8 @@ impl Screen {
     /// Shows a run part by part, each up to the right margin of its line.
     fn show_parts(&mut self, glyphs: &[u8], rendition: Rendition, autowrap: bool)
         requires { All (λ glyph. glyph ≤ LAST_GLYPH) glyphs.now }
-        ensures picture { self.new.picture ≡ run_shown glyphs.now rendition autowrap self.old.picture }
+        ensures picture { self.new.picture
+            ≡ run_shown glyphs.now rendition autowrap self.old.picture }
         ensures order { self.new.order
             ≡ order_run_shown glyphs.now rendition autowrap self.old.picture self.old.order }
     {
@@ -629,7 +641,8 @@ impl Screen {
         ensures picture { self.new.picture
             ≡ run_shown (take result glyphs.now) rendition autowrap self.old.picture }
         ensures order { self.new.order
-            ≡ order_run_shown (take result glyphs.now) rendition autowrap self.old.picture self.old.order }
+            ≡ order_run_shown (take result glyphs.now) rendition autowrap
+            self.old.picture self.old.order }
     {
         let margin = self.margin();
         let room = (margin - self.column) as usize + 1;
@@ -663,7 +676,8 @@ fn other_lines(part: u8, cursor: u8) -> (u8, u8)
     requires part { part ≤ 2 }
     requires low { 1 ≤ cursor }
     requires high { cursor ≤ LINES }
-    ensures told { (line : ℕ) → 1 ≤ line → line ≤ LINES → nat_le result.0 line && nat_lt line (result.1 + 1) ≡ in_other_lines part cursor line }
+    ensures told { (line : ℕ) → 1 ≤ line → line ≤ LINES
+        → nat_le result.0 line && nat_lt line (result.1 + 1) ≡ in_other_lines part cursor line }
     ensures low { 1 ≤ result.0 }
     ensures apart { result.0 ≤ result.1 + 1 }
     ensures high { result.1 ≤ LINES }

@@ -17,7 +17,7 @@ use Rattle.vt_term.specs.Sequences.{Sequence, Da, Dsr, Decreqtparm, sequence_nam
 use Rattle.vt_term.specs.Vt52.{Vt52Sequence, Identify, vt52_named}
 use Rattle.vt_term.specs.Replies.{escape_reply, sequence_reply, vt52_reply, reply_of, cursor_position, reported_line, device_attributes}
 use Rattle.vt_term.specs.Effect.{reply, reply_if, control_sequence_reply}
-use Rattle.vt_term.specs.Term.{Term, reset_term_as, mode_of, answered, step, sent}
+use Rattle.vt_term.specs.Term.{Term, reset_term_as, mode_of, reply_to, step, sent}
 use Rattle.vt_term.specs.Law.{LawsBelow}
 use Rattle.vt_term.proofs.Steps.{safe_step}
 
@@ -49,7 +49,8 @@ vt52_short _ = omega arith
 -- ---- what stands on the laws of the parser and of the screen
 
 module _ (laws : LawsBelow) where
-  short_position : (s : Console) → IsSafe s → length (cursor_position (reported_line s.modes.origin s.picture.line s.picture.top) s.picture.column) ≤ 20
+  short_position : (s : Console) → IsSafe s
+      → length (cursor_position (reported_line s.modes.origin s.picture.line s.picture.top) s.picture.column) ≤ 20
   short_position s safe =
       let line = line_small s.modes.origin s.picture safe.sound in
       let column = laws.right_margins s.picture s.picture.line in
@@ -58,13 +59,15 @@ module _ (laws : LawsBelow) where
       omega arith
 
   -- and at most twenty a control sequence
-  short_sequence : (sequence : Option Sequence) (params : List ℕ) (s : Console) → IsSafe s → length (reply_of (λ row. sequence_reply row params s) sequence) ≤ 20
+  short_sequence : (sequence : Option Sequence) (params : List ℕ) (s : Console) → IsSafe s
+      → length (reply_of (λ row. sequence_reply row params s) sequence) ≤ 20
   short_sequence (Some Da) params s safe = grind (arith, nat_tests, attributes_short s.profile)
   short_sequence (Some Dsr) params s safe = grind (arith, nat_tests, short_position s safe)
   short_sequence (Some Decreqtparm) params s safe = grind (arith, nat_tests)
   short_sequence _ params s safe = omega arith
 
-  short_control_sequence : (private : Bool) (last : ℕ) (params : List ℕ) (s : Console) → IsSafe s → length (control_sequence_reply private last params s) ≤ 20
+  short_control_sequence : (private : Bool) (last : ℕ) (params : List ℕ) (s : Console) → IsSafe s
+      → length (control_sequence_reply private last params s) ≤ 20
   short_control_sequence true last params s safe = omega arith
   short_control_sequence false last params s safe = short_sequence (sequence_named last) params s safe
 
@@ -85,7 +88,8 @@ module _ (laws : LawsBelow) where
   reply_paid_if (Some command) s safe = reply_paid command s safe
 
   -- what is pending counts as bytes that are still to be paid
-  answer_paid : (x : Term) (byte : ℕ) → IsSafe x.console → 3 * length (answered x byte) + 20 * length (step x byte).pending ≤ 20 * length x.pending + 20
+  answer_paid : (x : Term) (byte : ℕ) → IsSafe x.console
+      → 3 * length (reply_to x byte) + 20 * length (step x byte).pending ≤ 20 * length x.pending + 20
   answer_paid x byte safe =
       let paid = reply_paid_if (command_of (mode_of x) x.pending byte) x.console safe in
       let pays = laws.pending_pays (mode_of x) x.pending byte in
@@ -97,7 +101,7 @@ module _ (laws : LawsBelow) where
   sent_paid x (byte ∷ bytes) safe =
       let first = answer_paid x byte safe in
       let rest = sent_paid (step x byte) bytes (safe_step laws x byte safe) in
-      omega (arith, length-append (answered x byte) (sent (step x byte) bytes))
+      omega (arith, length-append (reply_to x byte) (sent (step x byte) bytes))
 
   pub sends_little : (profile : Profile) (bytes : List ℕ) → 3 * length (sent (reset_term_as profile) bytes) ≤ 20 * length bytes
   sends_little profile bytes = omega (arith, sent_paid (reset_term_as profile) bytes (laws.reset_is_safe profile))

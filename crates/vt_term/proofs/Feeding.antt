@@ -10,7 +10,8 @@ use Rattle.vt_term.proofs.Steps.{plays_in_parts, sends_in_parts}
 pub play_on : (x : Term) (bytes : List ℕ) (at n : ℕ) → play x (take (at + n) bytes) ≡ play (play x (take at bytes)) (take n (drop at bytes))
 play_on x bytes at n = ap (play x) (take-add at n bytes) ∙ plays_in_parts x (take at bytes) (take n (drop at bytes))
 
-sent_on : (x : Term) (bytes : List ℕ) (at n : ℕ) → sent x (take (at + n) bytes) ≡ sent x (take at bytes) ++ sent (play x (take at bytes)) (take n (drop at bytes))
+sent_on : (x : Term) (bytes : List ℕ) (at n : ℕ)
+    → sent x (take (at + n) bytes) ≡ sent x (take at bytes) ++ sent (play x (take at bytes)) (take n (drop at bytes))
 sent_on x bytes at n = ap (sent x) (take-add at n bytes) ∙ sends_in_parts x (take at bytes) (take n (drop at bytes))
 
 -- the sink after a few more bytes
@@ -25,13 +26,14 @@ sink_on x bytes at n first then_ now_ before after =
     ∙ ap (after_sending first) (sym (sent_on x bytes at n))
 
 -- what is sent in two parts is as long as both
-length-sent : (x : Term) (at : ℕ) (bytes : List ℕ) → length (sent x bytes) ≡ length (sent x (take at bytes)) + length (sent (play x (take at bytes)) (drop at bytes))
+length-sent : (x : Term) (at : ℕ) (bytes : List ℕ)
+    → length (sent x bytes) ≡ length (sent x (take at bytes)) + length (sent (play x (take at bytes)) (drop at bytes))
 length-sent x at bytes =
     ap (λ (l : List ℕ). length (sent x l)) (sym (take-append-drop at bytes))
     ∙ ap length (sends_in_parts x (take at bytes) (drop at bytes))
     ∙ length-append (sent x (take at bytes)) (sent (play x (take at bytes)) (drop at bytes))
 
--- room for all is room for what a front of the bytes is answered by ..
+-- room for all is room for what a front of the bytes sends ..
 pub room_for_front : (x : Term) (bytes : List ℕ) (at : ℕ) (sink : Sink) → HasRoom sink (sent x bytes) → HasRoom sink (sent x (take at bytes))
 room_for_front x bytes at sink room = let all = length-sent x at bytes in omega arith
 

@@ -10,7 +10,7 @@ use Rattle.vt_screen.specs.Attributes.{Attributes}
 use Rattle.vt_screen.specs.declared.cell.Size.{Size}
 use Rattle.vt_screen.specs.CellEdits.{cells_deleted, shown_inserting}
 use Rattle.vt_screen.specs.Erasures.{display_erased, line_erased}
-use Rattle.vt_screen.specs.Picture.{Picture, Sound, Inside, KeepsSound, KeepsInside, GoesInside, reset, right_margin}
+use Rattle.vt_screen.specs.Picture.{Picture, Sound, IsInRegion, KeepsSound, KeepsInRegion, GoesIntoRegion, reset, right_margin}
 use Rattle.vt_screen.specs.Lines.{size_set, columns_set, aligned, margins_set}
 use Rattle.vt_screen.specs.Moves.{stepped_up, stepped_down, stepped_right, stepped_left, moved_to_left, placed, moved_home, wrap_cleared, put_back}
 use Rattle.vt_screen.specs.Puts.{shown}
@@ -38,17 +38,17 @@ use Rattle.vt_term.specs.Law.{CommandsKeepSafe}
 -- an operation keeps a picture sound, and a cursor that is inside the margins there
 pub record Keeps (op : Picture → Picture) : Type 0 where
   pub sound : KeepsSound op
-  pub inside : KeepsInside op
+  pub inside : KeepsInRegion op
 
 -- the same of one that goes by DECOM: the cursor is inside the margins where lines are counted from the top margin
 pub record KeepsBy (op : Bool → Picture → Picture) : Type 0 where
   pub sound : (origin : Bool) → KeepsSound (op origin)
-  pub inside : KeepsInside (op true)
+  pub inside : KeepsInRegion (op true)
 
 -- the same of one that brings the cursor there
 pub record GoesBy (op : Bool → Picture → Picture) : Type 0 where
   pub sound : (origin : Bool) → KeepsSound (op origin)
-  pub inside : GoesInside (op true)
+  pub inside : GoesIntoRegion (op true)
 
 pub record ScreenLaws : Type 0 where
   pub reset : Sound reset
@@ -86,7 +86,8 @@ pub record ScreenLaws : Type 0 where
 while_set : (P : Bool → Type 0) (origin : Bool) → P true → origin ≡ true → P origin
 while_set P origin there is = subst P (sym is) there
 
-safe_new : (s t : Console) → Sound t.picture → (t.modes.origin ≡ true → Inside t.picture) → t.saved ≡ s.saved → t.leds ≡ s.leds → IsSafe s → IsSafe t
+safe_new : (s t : Console) → Sound t.picture → (t.modes.origin ≡ true → IsInRegion t.picture) → t.saved ≡ s.saved
+    → t.leds ≡ s.leds → IsSafe s → IsSafe t
 safe_new s t sound inside saved leds safe =
     record { sound = sound; inside = inside; saved = subst IsSavedWell (sym saved) safe.saved; leds = ap length leds ∙ safe.leds }
 
@@ -97,18 +98,19 @@ safe_on s op keeps safe =
 safe_by : (s : Console) (op : Bool → Picture → Picture) → KeepsBy op → IsSafe s → IsSafe (on_picture (op s.modes.origin) s)
 safe_by s op keeps safe =
     safe_new s _ (keeps.sound s.modes.origin s.picture safe.sound)
-    (λ is. while_set (λ (o : Bool). Inside (op o s.picture)) s.modes.origin (keeps.inside s.picture safe.sound (safe.inside is)) is) refl refl safe
+    (λ is. while_set (λ (o : Bool). IsInRegion (op o s.picture)) s.modes.origin (keeps.inside s.picture safe.sound (safe.inside is)) is) refl refl safe
 
 -- a change after which DECOM may be another
-safe_goes : (s t : Console) (op : Bool → Picture → Picture) → GoesBy op → t.picture ≡ op t.modes.origin s.picture → t.saved ≡ s.saved → t.leds ≡ s.leds → IsSafe s → IsSafe t
+safe_goes : (s t : Console) (op : Bool → Picture → Picture) → GoesBy op → t.picture ≡ op t.modes.origin s.picture
+    → t.saved ≡ s.saved → t.leds ≡ s.leds → IsSafe s → IsSafe t
 safe_goes s t op goes picture saved leds safe =
     safe_new s t (subst Sound (sym picture) (goes.sound t.modes.origin s.picture safe.sound))
-    (λ is. subst Inside (sym picture) (while_set (λ (o : Bool). Inside (op o s.picture)) t.modes.origin (goes.inside s.picture safe.sound) is)) saved leds safe
+    (λ is. subst IsInRegion (sym picture) (while_set (λ (o : Bool). IsInRegion (op o s.picture)) t.modes.origin (goes.inside s.picture safe.sound) is)) saved leds safe
 
 -- a change of what the screen doesn't know, which leaves DECOM, the save and the LEDs
 safe_else : (s t : Console) → t.picture ≡ s.picture → t.modes.origin ≡ s.modes.origin → t.saved ≡ s.saved → t.leds ≡ s.leds → IsSafe s → IsSafe t
 safe_else s t picture origin saved leds safe =
-    safe_new s t (subst Sound (sym picture) safe.sound) (λ is. subst Inside (sym picture) (safe.inside (sym origin ∙ is))) saved leds safe
+    safe_new s t (subst Sound (sym picture) safe.sound) (λ is. subst IsInRegion (sym picture) (safe.inside (sym origin ∙ is))) saved leds safe
 
 -- one of two operations, and none
 keeps_if : (b : Bool) (op other : Picture → Picture) → Keeps op → Keeps other → Keeps (λ p. if b then op p else other p)
@@ -133,7 +135,8 @@ leds_kept : (params : List ℕ) (leds : List Bool) → length leds ≡ 4 → len
 leds_kept [] leds four = four
 leds_kept (param ∷ params) leds four = leds_kept params (leds_set leds param) (grind (arith, nat_tests, length-set {A = Bool}))
 
-origin_kept : (profile : Profile) (value : Bool) (params : List ℕ) (modes : Modes) → (fold (ansi_mode_set profile value) modes params).origin ≡ modes.origin
+origin_kept : (profile : Profile) (value : Bool) (params : List ℕ) (modes : Modes)
+    → (fold (ansi_mode_set profile value) modes params).origin ≡ modes.origin
 origin_kept profile value [] modes = refl
 origin_kept profile value (param ∷ params) modes = origin_kept profile value params (ansi_mode_set profile value modes param) ∙ grind (arith, nat_tests)
 
@@ -142,7 +145,9 @@ safe_invoked slot Ansi s safe = safe_else s _ refl refl refl refl safe
 safe_invoked slot Vt52Mode s safe = safe
 
 -- a row of a table, or none
-safe_row : {Row : Type 0} (change : Row → Console → Console) → ((row : Row) (s : Console) → IsSafe s → IsSafe (change row s)) → (row : Option Row) (s : Console) → IsSafe s → IsSafe (effect_of change row s)
+safe_row : {Name : Type 0} (change : Name → Console → Console)
+    → ((row : Name) (s : Console) → IsSafe s → IsSafe (change row s)) → (row : Option Name) (s : Console) → IsSafe s
+    → IsSafe (effect_of change row s)
 safe_row change each None s safe = safe
 safe_row change each (Some row) s safe = each row s safe
 
@@ -245,7 +250,8 @@ module _ (laws : ScreenLaws) where
   safe_private : (last : ℕ) (params : List ℕ) (s : Console) → IsSafe s → IsSafe (private_effect last params s)
   safe_private last params s safe = safe_row (modes_set params) (λ value. safe_modes value params) (named switches last) s safe
 
-  safe_control_sequence : (private : Bool) (last : ℕ) (params : List ℕ) (s : Console) → IsSafe s → IsSafe (control_sequence_effect private last params s)
+  safe_control_sequence : (private : Bool) (last : ℕ) (params : List ℕ) (s : Console) → IsSafe s
+      → IsSafe (control_sequence_effect private last params s)
   safe_control_sequence true last params s safe = safe_private last params s safe
   safe_control_sequence false last params s safe = safe_row (λ row. sequence_effect row params) (λ row. safe_sequence row params) (sequence_named last) s safe
 

@@ -18,7 +18,8 @@ pub sends_nothing : (sink : Sink) (bytes : List ℕ) → bytes ≡ [] → sink �
 sends_nothing sink bytes none = simp none (same_sink _ _ _ _ (simp (drop-nil, append-nil)) (omega arith))
 
 -- two texts, one after the other, are sent as one
-pub after_sending-append : (sink : Sink) (first second : List ℕ) → after_sending (after_sending sink first) second ≡ after_sending sink (first ++ second)
+pub after_sending-append : (sink : Sink) (first second : List ℕ)
+    → after_sending (after_sending sink first) second ≡ after_sending sink (first ++ second)
 after_sending-append sink first second =
     let past = length sink.bytes - sink.place in
     let len = length-append sink.bytes (drop past first) in

@@ -18,7 +18,7 @@ use Rattle.vt_term.specs.declared.sets.Slot.{Slot}
 use Rattle.vt_term.specs.Console.{Console, IsSafe, effect_of}
 use Rattle.vt_term.specs.Controls.{Control, So, Si, control_named, control_effect, invoked}
 use Rattle.vt_term.specs.Effect.{effect, effect_if, reply_if}
-use Rattle.vt_term.specs.Term.{Term, mode_of, answered, step, play, sent}
+use Rattle.vt_term.specs.Term.{Term, mode_of, reply_to, step, play, sent}
 use Rattle.vt_term.specs.Seen.{Seen, Shows}
 use Rattle.vt_term.specs.Law.{PlaysInParts, SendsInParts, SentIsAppended, SeenDecides, StaysSafe, LawsBelow}
 
@@ -63,19 +63,19 @@ pub sends_in_parts : SendsInParts
 unfolding play sent
 sends_in_parts x [] second = refl
 sends_in_parts x (byte ∷ first) second =
-    ap (λ (l : List ℕ). answered x byte ++ l) (sends_in_parts (step x byte) first second)
-    ∙ sym (append_assoc (answered x byte) (sent (step x byte) first) (sent (play (step x byte) first) second))
+    ap (λ (l : List ℕ). reply_to x byte ++ l) (sends_in_parts (step x byte) first second)
+    ∙ sym (append_assoc (reply_to x byte) (sent (step x byte) first) (sent (play (step x byte) first) second))
 
 pub sent_is_appended : SentIsAppended
 unfolding play sent
 sent_is_appended x [] = sym (append-nil x.reports)
-sent_is_appended x (byte ∷ bytes) = sent_is_appended (step x byte) bytes ∙ append_assoc x.reports (answered x byte) (sent (step x byte) bytes)
+sent_is_appended x (byte ∷ bytes) = sent_is_appended (step x byte) bytes ∙ append_assoc x.reports (reply_to x byte) (sent (step x byte) bytes)
 
 -- a term by its parts
 abbrev pub term : Console → List ℕ → List ℕ → Term
 term s pending reports = record { console = s; pending = pending; reports = reports }
 
--- Bytes that give one command with their last, or none, play to its effect and to what is pending after them, and are answered by its reply.
+-- Bytes that give one command with their last, or none, play to its effect and to what is pending after them, and send its reply.
 pub played : (given mode : Mode) (s : Console) (pending reports bytes : List ℕ) (command : Option Command)
     → s.modes.mode ≡ given → mode ≡ given → Gives given mode pending bytes command
     → (play (term s pending reports) bytes ≡ term (effect_if command s) (pending_after_bytes given mode pending bytes) (reports ++ reply_if command s))
@@ -89,7 +89,7 @@ played given mode s pending reports (byte ∷ next ∷ rest) command shown same 
     let now : s.modes.mode ≡ mode = shown ∙ sym same in
     let none = gives.0 in
     let first : step (term s pending reports) byte ≡ term s (pending_after mode pending byte) reports = simp (now, none, append-nil) in
-    let silent : answered (term s pending reports) byte ≡ [] = simp (now, none) in
+    let silent : reply_to (term s pending reports) byte ≡ [] = simp (now, none) in
     let others = played given (mode_after given mode byte) s (pending_after mode pending byte) reports (next ∷ rest) command shown (mode_after_same given mode byte same) gives.1 in
     (ap (λ (x : Term). play x (next ∷ rest)) first ∙ others.0, ap₂ (λ (l : List ℕ) (x : Term). l ++ sent x (next ∷ rest)) silent first ∙ others.1)
 
@@ -149,7 +149,7 @@ module _ (laws : LawsBelow) where
       let after_x = shows_given seen x (byte ∷ []) command next.0 shows_x refl next.1 in
       let after_y = shows_given seen y (byte ∷ []) command next.0 shows_y same.0 (same.1 ∙ next.1) in
       let rest = seen_decides (record { console = effect_if command seen.console; state = next.0 }) (step x byte) (step y byte) bytes after_x.0 after_y.0 in
-      let answers : answered x byte ≡ answered y byte = sym (append-nil (answered x byte)) ∙ after_x.1 ∙ sym after_y.1 ∙ append-nil (answered y byte) in
+      let answers : reply_to x byte ≡ reply_to y byte = sym (append-nil (reply_to x byte)) ∙ after_x.1 ∙ sym after_y.1 ∙ append-nil (reply_to y byte) in
       (rest.0, ap₂ (λ (l m : List ℕ). l ++ m) answers rest.1)
 
   -- ---- every term from the reset term is safe

@@ -81,7 +81,8 @@ module _ (laws : LawsBelow) where
       shows_given laws seen x bytes (Some (command_of_token token)) state shows told (leads (mode_of x) x.pending shows.state)
 
   -- from what the parser says of any pending text
-  pub shows_next : (seen now : Seen) (x : Term) (bytes : List ℕ) (given token : Option Token) (state : ParserState) → seen ≡ now → given ≡ token → Shows now x
+  pub shows_next : (seen now : Seen) (x : Term) (bytes : List ℕ) (given token : Option Token) (state : ParserState)
+      → seen ≡ now → given ≡ token → Shows now x
       → ((mode : Mode) (pending : List ℕ) → parser_view mode pending ≡ Some seen.state → TellsOf seen.console.modes.mode mode pending bytes given)
       → Leads seen.state seen.console.modes.mode bytes state
       → Shows (record { console = token_effect_if token seen.console; state = state }) (play x bytes) × (sent x bytes ≡ token_reply_if token seen.console)

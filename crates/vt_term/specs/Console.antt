@@ -2,7 +2,7 @@
 use Rattle.std.specs.Prelude.{◌≡◌, ◌≤◌, Bool, true, false, List, [], ◌∷◌, length, Option, Some, None}
 use Rattle.vt_parser.specs.declared.commands.Mode.TheVariants.{Ansi}
 use Rattle.vt_screen.specs.Attributes.{Attributes, plain}
-use Rattle.vt_screen.specs.Picture.{Picture, Sound, Inside, reset}
+use Rattle.vt_screen.specs.Picture.{Picture, Sound, IsInRegion, reset}
 use Rattle.vt_screen.specs.Limits.{line_count, wide_columns}
 use Rattle.vt_term.specs.declared.profile.Profile.{Profile}
 use Rattle.vt_term.specs.declared.modes.Modes.{Modes}
@@ -72,11 +72,11 @@ abbrev pub on_sets : (Sets → Sets) → Console → Console
 on_sets change s = record s { sets = change s.sets }
 
 -- What stands in no table has no effect (ours).
-abbrev pub effect_of : {Row : Type 0} → (Row → Console → Console) → Option Row → Console → Console
+abbrev pub effect_of : {Name : Type 0} → (Name → Console → Console) → Option Name → Console → Console
 effect_of effect None s = s
 effect_of effect (Some row) s = effect row s
 
--- what the fields of the code's console stand for
+-- Private: what the fields of the code's console stand for
 abbrev pub console_of : Fields → Console
 console_of fields = record {
   profile = fields.profile;
@@ -91,13 +91,14 @@ console_of fields = record {
 -- a saved cursor stands on the screen (ours)
 abbrev pub IsSavedWell : Option Saved → Type 0
 IsSavedWell None = Unit {0}
-IsSavedWell (Some saved) = (1 ≤ saved.line) × (saved.line ≤ line_count) × (1 ≤ saved.column) × (saved.column ≤ wide_columns)
+IsSavedWell (Some saved) =
+    (1 ≤ saved.line) × (saved.line ≤ line_count) × (1 ≤ saved.column) × (saved.column ≤ wide_columns)
 
 -- What every terminal keeps: the screen is sound (the cursor is at most at its line's right margin, cells right of it are
 -- blank, glyphs are at most 126), and the cursor is inside the margins while DECOM is set (EK-VT100-UG
--- chapter 3, DECOM; the cut at the right margin: profile).
+-- chapter 3, DECOM; the cut at the right margin: ours).
 pub record IsSafe (s : Console) : Type 0 where
   pub sound : Sound s.picture
-  pub inside : s.modes.origin ≡ true → Inside s.picture
+  pub inside : s.modes.origin ≡ true → IsInRegion s.picture
   pub saved : IsSavedWell s.saved
   pub leds : length s.leds ≡ 4

@@ -40,7 +40,7 @@ abbrev pub invoked : Slot → Mode → Console → Console
 invoked slot Ansi s = on_sets (λ sets. record sets { invoked = slot }) s
 invoked slot Vt52 s = s
 
--- the table of their effects (EK-VT100-UG chapter 3; SO and SI in VT52 mode: profile)
+-- the table of their effects (EK-VT100-UG chapter 3; SO and SI in VT52 mode: ours)
 abbrev pub control_effect : Control → Console → Console
 control_effect Bs s = on_picture (stepped_left 1) s
 control_effect Ht s = on_picture tabbed s

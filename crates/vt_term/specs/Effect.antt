@@ -1,4 +1,4 @@
--- What a command does to a terminal, and what the terminal answers.
+-- What a command does to a terminal, and what the terminal replies.
 use Rattle.std.specs.Prelude.{ℕ, ◌≤◌, Bool, true, false, List, [], map, fold, All, Option, Some, None, if◌then◌else◌}
 use Rattle.vt_parser.specs.declared.commands.Command.{Command}
 use Rattle.vt_parser.specs.declared.commands.Command.TheVariants.{Show, Error, Control, Esc, Csi, Vt52, Vt52Address}
@@ -22,7 +22,7 @@ use Rattle.vt_term.specs.Vt52.{vt52_named, vt52_effect, address_effect}
 use Rattle.vt_term.specs.Replies.{escape_reply, sequence_reply, vt52_reply, reply_of}
 
 -- a glyph is put: in insert mode the cells from the cursor on make room for it (VT102 User Guide, IRM; that this holds in
--- VT52 mode too: profile), else it takes the place of the one there
+-- VT52 mode too: ours), else it takes the place of the one there
 abbrev pub put_by : Modes → Attributes → ℕ → Picture → Picture
 put_by modes rendition glyph p =
     if modes.insert then shown_inserting glyph rendition modes.autowrap p else shown glyph rendition modes.autowrap p
@@ -58,22 +58,19 @@ effect (Csi private params last) s = control_sequence_effect private last params
 effect (Vt52 last) s = effect_of vt52_effect (vt52_named last) s
 effect (Vt52Address line column) s = address_effect line column s
 
--- the answer to a control sequence: to none with `?`
+-- the reply to a control sequence: to none with `?`
 abbrev pub control_sequence_reply : Bool → ℕ → List ℕ → Console → List ℕ
 control_sequence_reply true last params s = []
 control_sequence_reply false last params s = reply_of (λ row. sequence_reply row params s) (sequence_named last)
 
--- the answer to a command, which is sent before its effect
+-- the reply to a command, which is sent before its effect; the others have none
 unfoldable pub reply : Command → Console → List ℕ
-reply (Show byte) s = []
-reply Error s = []
-reply (Control byte) s = []
 reply (Esc inter last) s = reply_of (escape_reply s.profile) (escape_named inter last)
 reply (Csi private params last) s = control_sequence_reply private last params.items s
 reply (Vt52 last) s = reply_of vt52_reply (vt52_named last)
-reply (Vt52Address line column) s = []
+reply _ s = []
 
--- where a byte gives no command, nothing changes and nothing is answered
+-- where a byte gives no command, nothing changes and there is no reply
 abbrev pub effect_if : Option Command → Console → Console
 effect_if None s = s
 effect_if (Some command) s = effect command s
@@ -82,26 +79,27 @@ abbrev pub reply_if : Option Command → Console → List ℕ
 reply_if None s = []
 reply_if (Some command) s = reply command s
 
--- the effect of a token: of a run the glyphs of its characters, of any other that of its command
+-- Private: the effect of a token: of a run the glyphs of its characters, of any other that of its command
 abbrev pub token_effect : Token → Console → Console
 token_effect (token.Show run) s = glyphs_shown (map (glyph_for s) run.now) s
 token_effect other s = effect (command_of_token other) s
 
--- the answer to it
+-- Private: the reply to it
 abbrev pub token_reply : Token → Console → List ℕ
 token_reply (token.Show run) s = []
 token_reply other s = reply (command_of_token other) s
 
--- the same where the bytes come to none
+-- Private: the same where the bytes come to none
 abbrev pub token_effect_if : Option Token → Console → Console
 token_effect_if None s = s
 token_effect_if (Some told) s = token_effect told s
 
+-- Private: the reply to it
 abbrev pub token_reply_if : Option Token → Console → List ℕ
 token_reply_if None s = []
 token_reply_if (Some told) s = token_reply told s
 
--- the numbers of a token are in their ranges
+-- Private: the numbers of a token are in their ranges
 abbrev pub IsProperToken : Token → Type 0
 IsProperToken (token.Show run) = All (λ byte. byte ≤ last_glyph) run.now
 IsProperToken other = IsProper (command_of_token other)

@@ -14,9 +14,10 @@ use Rattle.vt_term.specs.Seen.{Seen, Shows}
 abbrev pub PlaysInParts : Type 0
 PlaysInParts = (x : Term) (first second : List ℕ) → play x (first ++ second) ≡ play (play x first) second
 
--- Joined texts are answered as their parts in turn.
+-- What joined texts send is what their parts send in turn.
 abbrev pub SendsInParts : Type 0
-SendsInParts = (x : Term) (first second : List ℕ) → sent x (first ++ second) ≡ sent x first ++ sent (play x first) second
+SendsInParts =
+    (x : Term) (first second : List ℕ) → sent x (first ++ second) ≡ sent x first ++ sent (play x first) second
 
 -- What is sent is what playing appends to the reports.
 abbrev pub SentIsAppended : Type 0
@@ -39,11 +40,11 @@ StaysSafe = (x : Term) (bytes : List ℕ) → IsSafe x.console → IsSafe (play 
 
 -- ---- what these laws stand on
 
--- A command whose numbers are in their ranges keeps a terminal safe.
+-- Private: a command whose numbers are in their ranges keeps a terminal safe.
 abbrev pub CommandsKeepSafe : Type 0
 CommandsKeepSafe = (command : Command) (s : Console) → IsProper command → IsSafe s → IsSafe (effect command s)
 
--- the laws of the parser, and what those of the screen come to
+-- Private: the laws of the parser, and what those of the screen come to
 pub record LawsBelow : Type 0 where
   pub state_decides : StateDecides
   pub stays_shown : StaysShown

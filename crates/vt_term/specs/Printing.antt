@@ -29,28 +29,32 @@ abbrev pub NothingBrings : Type 0
 NothingBrings = (s : Console) → Brings s [] s
 
 abbrev pub PartsBring : Type 0
-PartsBring = (s t u : Console) (first second : List ℕ) → Brings s first t → Brings t second u → Brings s (first ++ second) u
+PartsBring =
+    (s t u : Console) (first second : List ℕ) → Brings s first t → Brings t second u → Brings s (first ++ second) u
 
 -- Graphic characters are put as their glyphs, one after another.
 abbrev pub CharactersBring : Type 0
-CharactersBring = (s : Console) (bytes : List ℕ) → list_all is_graphic bytes ≡ true → Brings s bytes (glyphs_shown (map (glyph_for s) bytes) s)
+CharactersBring =
+    (s : Console) (bytes : List ℕ) → list_all is_graphic bytes ≡ true
+    → Brings s bytes (glyphs_shown (map (glyph_for s) bytes) s)
 
 -- Outside insert mode each takes the place of the one that stands there.
 abbrev pub GlyphsAreWritten : Type 0
-GlyphsAreWritten = (s : Console) (glyphs : List ℕ) → s.modes.insert ≡ false → glyphs_shown glyphs s ≡ glyphs_written glyphs s
+GlyphsAreWritten =
+    (s : Console) (glyphs : List ℕ) → s.modes.insert ≡ false → glyphs_shown glyphs s ≡ glyphs_written glyphs s
 
 -- A control has its effect.
 abbrev pub ControlsBring : Type 0
 ControlsBring = (s : Console) (byte : ℕ) → is_within 8 15 byte ≡ true → Brings s (byte ∷ []) (effect (Control byte) s)
 
--- A whole sequence has the effect of its command once, and is answered by its reply.
+-- A whole sequence has the effect of its command once, and its reply is sent.
 abbrev pub SequencesAct : Type 0
 SequencesAct =
     (s : Console) (reports bytes : List ℕ) (command : Command) → Finishes s.modes.mode bytes (Some command)
     → (play (on_ground s reports) bytes ≡ on_ground (effect command s) (reports ++ reply command s))
     × (sent (on_ground s reports) bytes ≡ reply command s)
 
--- So has one that isn't answered: ESC and a final byte ..
+-- So has one without a reply: ESC and a final byte ..
 abbrev pub EscapesBring : Type 0
 EscapesBring =
     (s : Console) (last : ℕ) → s.modes.mode ≡ Ansi
@@ -72,7 +76,7 @@ ControlSequencesBring =
     → control_sequence_reply false last numbers s ≡ []
     → Brings s (escape ∷ 91 ∷ (params_text numbers ++ last ∷ [])) (control_sequence_effect false last numbers s)  -- [
 
--- .. and the same with `?` before the numbers, which is never answered.
+-- .. and the same with `?` before the numbers, which never has a reply.
 abbrev pub PrivateSequencesBring : Type 0
 PrivateSequencesBring =
     (s : Console) (numbers : List ℕ) (last : ℕ) → s.modes.mode ≡ Ansi → AreParams numbers → is_control_final last ≡ true

@@ -1,4 +1,4 @@
--- What a terminal answers (EK-VT100-UG chapter 3, reports). All else is answered by nothing.
+-- What a terminal replies (EK-VT100-UG chapter 3, reports). Nothing else has a reply.
 use Rattle.std.specs.Prelude.{ℕ, ◌-◌, Bool, List, [], ◌∷◌, ◌++◌, Option, Some, None, ◌==◌, codes, decimal, if◌then◌else◌}
 use Rattle.vt_parser.specs.Control.{escape}
 use Rattle.vt_term.specs.declared.profile.Profile.{Profile}
@@ -26,7 +26,7 @@ abbrev pub cursor_position : ℕ → ℕ → List ℕ
 cursor_position line column =
     escape ∷ codes "[" ++ decimal line ++ codes ";" ++ decimal column ++ codes "R"
 
--- DECREPTPARM: no parity, 8 bits, 9,600 baud both ways (the values: profile)
+-- DECREPTPARM: no parity, 8 bits, 9,600 baud both ways (the values: ours)
 abbrev pub terminal_parameters : List ℕ → List ℕ
 terminal_parameters solicited = escape ∷ codes "[" ++ solicited ++ codes ";1;1;112;112;1;0x"
 
@@ -43,11 +43,15 @@ escape_reply profile _ = []
 abbrev pub attributes_reply : Profile → ℕ → List ℕ
 attributes_reply profile param = if param == 0 then device_attributes profile else []
 
+-- CPR of where the cursor is (EK-VT100-UG chapter 3)
+abbrev pub position_reply : Console → List ℕ
+position_reply s = cursor_position (reported_line s.modes.origin s.picture.line s.picture.top) s.picture.column
+
 -- DSR 5 and 6 (EK-VT100-UG chapter 3)
 abbrev pub status_reply : ℕ → Console → List ℕ
 status_reply param s =
     if param == 5 then ready
-    else (if param == 6 then cursor_position (reported_line s.modes.origin s.picture.line s.picture.top) s.picture.column
+    else (if param == 6 then position_reply s
     else [])
 
 -- DECREQTPARM 0 and 1 (EK-VT100-UG chapter 3)
@@ -57,7 +61,7 @@ parameters_reply param =
     else (if param == 1 then terminal_parameters (codes "3")
     else [])
 
--- the table of the answers to control sequences
+-- the table of the replies to control sequences
 abbrev pub sequence_reply : Sequence → List ℕ → Console → List ℕ
 sequence_reply Da params s = attributes_reply s.profile (first_of params)
 sequence_reply Dsr params s = status_reply (first_of params) s
@@ -69,7 +73,7 @@ abbrev pub vt52_reply : Vt52Sequence → List ℕ
 vt52_reply Identify = vt52_identity
 vt52_reply _ = []
 
--- what stands in no table is answered by nothing
-abbrev pub reply_of : {Row : Type 0} → (Row → List ℕ) → Option Row → List ℕ
+-- what stands in no table has no reply
+abbrev pub reply_of : {Name : Type 0} → (Name → List ℕ) → Option Name → List ℕ
 reply_of reply None = []
 reply_of reply (Some row) = reply row

@@ -21,6 +21,6 @@ pub record IsTerminal (seen : Seen) : Type 0 where
   pub safe : IsSafe seen.console
   pub term : (x : Term) × Shows seen x
 
--- what the fields of the code's terminal stand for
+-- Private: what the fields of the code's terminal stand for
 abbrev pub seen_of : Fields → ParserState → Seen
 seen_of fields state = record { console = console_of fields; state = state }

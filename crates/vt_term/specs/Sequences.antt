@@ -108,13 +108,17 @@ sequence_effect Cuu params s = on_picture (stepped_up (counted (first_of params)
 sequence_effect Cud params s = on_picture (stepped_down (counted (first_of params))) s
 sequence_effect Cuf params s = on_picture (stepped_right (counted (first_of params))) s
 sequence_effect Cub params s = on_picture (stepped_left (counted (first_of params))) s
-sequence_effect Cup params s = on_picture (placed (counted (first_of params)) (counted (second_of params)) s.modes.origin) s
+sequence_effect Cup params s =
+    on_picture (placed (counted (first_of params)) (counted (second_of params)) s.modes.origin) s
 sequence_effect Ed params s = on_picture (erased display_erased (first_of params)) s
 sequence_effect El params s = on_picture (erased line_erased (first_of params)) s
 sequence_effect Il params s = where_it_edits (lines_inserted (counted (first_of params))) s
 sequence_effect Dl params s = where_it_edits (lines_deleted (counted (first_of params))) s
 sequence_effect Dch params s = where_it_edits (cells_deleted (counted (first_of params))) s
-sequence_effect Decstbm params s = on_picture (margins_set (or_default 1 (first_of params)) (or_default line_count (second_of params)) s.modes.origin) s
+sequence_effect Decstbm params s =
+    let top = or_default 1 (first_of params) in
+    let bottom = or_default line_count (second_of params) in
+    on_picture (margins_set top bottom s.modes.origin) s
 sequence_effect Tbc params s = on_picture (tabs_taken (first_of params)) s
 sequence_effect Sgr params s = record s { rendition = fold rendition_set s.rendition params }
 sequence_effect Sm params s = on_modes (λ modes. fold (ansi_mode_set s.profile true) modes params) s

@@ -25,23 +25,23 @@ reset_term = reset_term_as Vt100
 abbrev pub mode_of : Term → Mode
 mode_of x = x.console.modes.mode
 
--- what one byte is answered by
-abbrev pub answered : Term → ℕ → List ℕ
-answered x byte = reply_if (command_of (mode_of x) x.pending byte) x.console
+-- the reply to one byte
+abbrev pub reply_to : Term → ℕ → List ℕ
+reply_to x byte = reply_if (command_of (mode_of x) x.pending byte) x.console
 
 -- the step of a byte
 abbrev pub step : Term → ℕ → Term
 step x byte = record {
   console = effect_if (command_of (mode_of x) x.pending byte) x.console;
   pending = pending_after (mode_of x) x.pending byte;
-  reports = x.reports ++ answered x byte;
+  reports = x.reports ++ reply_to x byte;
 }
 
 -- bytes are played: a fold of the step of one byte
 unfoldable pub play : Term → List ℕ → Term
 play x bytes = fold step x bytes
 
--- what they are answered by: what playing them appends to the reports
+-- what they send: the replies to them, which playing them appends to the reports
 unfoldable pub sent : Term → List ℕ → List ℕ
 sent x [] = []
-sent x (byte ∷ bytes) = answered x byte ++ sent (step x byte) bytes
+sent x (byte ∷ bytes) = reply_to x byte ++ sent (step x byte) bytes

@@ -10,7 +10,8 @@ use Rattle.vt_term.specs.Escapes.{keypad_set}
 
 -- the sequences of VT52 mode that have an effect or a reply (EK-VT100-UG chapter 3)
 pub data Vt52Sequence : Type 0 where
-  Up Down Right Left GraphicsOn GraphicsOff Home ReverseIndex EraseDisplay EraseLine Identify KeypadApplication KeypadNumeric EnterAnsi : Vt52Sequence
+  Up Down Right Left GraphicsOn GraphicsOff Home ReverseIndex EraseDisplay EraseLine : Vt52Sequence
+  Identify KeypadApplication KeypadNumeric EnterAnsi : Vt52Sequence
 
 -- their final bytes
 abbrev pub vt52_sequences : List (ℕ × Vt52Sequence)
@@ -39,7 +40,7 @@ abbrev pub graphics_set : Bool → Console → Console
 graphics_set value s = on_sets (λ sets. record sets { vt52_graphics = value }) s
 
 -- The table of their effects. Identify replies and has none; in ANSI mode again, G0, G1 and the invoked set are as they were
--- (EK-VT100-UG chapter 3; what stays: profile).
+-- (EK-VT100-UG chapter 3; what stays: ours).
 abbrev pub vt52_effect : Vt52Sequence → Console → Console
 vt52_effect Up s = on_picture (stepped_up 1) s
 vt52_effect Down s = on_picture (stepped_down 1) s

@@ -1,4 +1,4 @@
-//! Tokens: what each is answered by, and what it does.
+//! Tokens: the reply to each, and what it does.
 ghost use Rattle.std.specs.Prelude.{◌≡◌, ℕ, OnOk, OnErr, IsOk};
 ghost use Rattle.vt_term.specs.Effect.{token_effect, token_reply, IsProperToken, control_sequence_effect, control_sequence_reply};
 ghost use Rattle.vt_term.specs.Console.{console_of, IsSafe};
@@ -9,39 +9,43 @@ use crate::{OutOfMemory, Reports};
 use vt_parser::Token;
 
 impl Console {
-    /// Answers a token, and does what it asks for. A refused growth changes nothing.
+    /// Obeys a token: sends the reply to it, and does what it asks for. A refused growth changes nothing.
     #[inline]
     #[tactic(auto, unfolding(crate::specs::Effect::effect, crate::specs::Effect::reply))]
-    pub(crate) fn perform(&mut self, token: Token, sink: &mut Reports) -> Result<(), OutOfMemory>
+    pub(crate) fn obey(&mut self, token: Token, sink: &mut Reports) -> Result<(), OutOfMemory>
         requires proper { IsProperToken token }
         requires safe { IsSafe (console_of self.old) }
-        ensures done { OnOk result (console_of self.new ≡ token_effect token.entry (console_of self.old)) }
-        ensures sent { OnOk result (sink.new ≡ after_sending sink.old (token_reply token.entry (console_of self.old))) }
+        ensures done { OnOk result
+            (console_of self.new ≡ token_effect token.entry (console_of self.old)) }
+        ensures sent { OnOk result
+            (sink.new ≡ after_sending sink.old (token_reply token.entry (console_of self.old))) }
         ensures err { OnErr result (console_of self.new ≡ console_of self.old) }
         ensures err_sink { OnErr result (sink.new ≡ sink.old) }
-        ensures room { HasRoom sink.old (token_reply token.entry (console_of self.old)) → IsOk result }
+        ensures room { HasRoom sink.old (token_reply token.entry (console_of self.old))
+            → IsOk result }
     {
         match token {
             Token::Show(run) => self.show_bytes(run),
             Token::Error => self.show_error(),
             Token::Control(byte) => self.control(byte),
-            Token::Esc { inter, last } => return self.perform_escape(inter, last, sink),
+            Token::Esc { inter, last } => return self.obey_escape(inter, last, sink),
             Token::Csi {
                 private,
                 params,
                 last,
             } => {
-                return self.perform_control_sequence(private, params, last, sink);
+                return self.obey_control_sequence(private, params, last, sink);
             }
-            Token::Vt52(last) => return self.perform_vt52(last, sink),
+            Token::Vt52(last) => return self.obey_vt52(last, sink),
             Token::Vt52Address { line, column } => self.go_to_address(line, column),
         }
         Ok(())
     }
 
-    /// Answers a control sequence, and does what it asks for. A refused growth changes nothing.
+    /// Sends the reply to a control sequence, and does what it asks for. A refused growth changes
+    /// nothing.
     #[inline]
-    pub(crate) fn perform_control_sequence(
+    pub(crate) fn obey_control_sequence(
         &mut self,
         private: bool,
         params: &[u16],
@@ -50,19 +54,22 @@ impl Console {
     ) -> Result<(), OutOfMemory>
         requires { IsSafe (console_of self.old) }
         ensures done { OnOk result
-            (console_of self.new ≡ control_sequence_effect private last params.now (console_of self.old)) }
+            (console_of self.new
+            ≡ control_sequence_effect private last params.now (console_of self.old)) }
         ensures sent { OnOk result
-            (sink.new ≡ after_sending sink.old (control_sequence_reply private last params.now (console_of self.old))) }
+            (sink.new ≡ after_sending sink.old
+            (control_sequence_reply private last params.now (console_of self.old))) }
         ensures err { OnErr result (console_of self.new ≡ console_of self.old) }
         ensures err_sink { OnErr result (sink.new ≡ sink.old) }
-        ensures room { HasRoom sink.old (control_sequence_reply private last params.now (console_of self.old))
+        ensures room { HasRoom sink.old
+            (control_sequence_reply private last params.now (console_of self.old))
             → IsOk result }
     {
         if private {
-            self.do_private(last, params);
+            self.obey_private_sequence(last, params);
             Ok(())
         } else {
-            self.perform_sequence(last, params, sink)
+            self.obey_plain_sequence(last, params, sink)
         }
     }
 }

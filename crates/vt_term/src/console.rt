@@ -84,7 +84,8 @@ impl Console {
     #[inline]
     pub(crate) fn show_bytes(&mut self, bytes: &[u8])
         requires { All (λ byte. byte ≤ LAST_GLYPH) bytes.now }
-        ensures { console_of self.new ≡ glyphs_shown (map (glyph_for (console_of self.old)) bytes.now) (console_of self.old) }
+        ensures { console_of self.new
+            ≡ glyphs_shown (map (glyph_for (console_of self.old)) bytes.now) (console_of self.old) }
     {
         if self.modes.insert {
             self.insert_glyphs(self.set_in_use(), bytes);
@@ -96,7 +97,8 @@ impl Console {
     // In insert mode a run's glyphs are shown one by one.
     fn insert_glyphs(&mut self, set: CharacterSet, bytes: &[u8])
         requires { All (λ byte. byte ≤ LAST_GLYPH) bytes.now }
-        ensures { console_of self.new ≡ glyphs_shown (map (glyph_of set) bytes.now) (console_of self.old) }
+        ensures { console_of self.new
+            ≡ glyphs_shown (map (glyph_of set) bytes.now) (console_of self.old) }
     {
         for &byte in bytes {
             self.show_glyph(set.glyph(byte));
@@ -107,7 +109,9 @@ impl Console {
     #[inline]
     fn write_bytes(&mut self, bytes: &[u8])
         requires { All (λ byte. byte ≤ LAST_GLYPH) bytes.now }
-        ensures { console_of self.new ≡ glyphs_written (map (glyph_for (console_of self.old)) bytes.now) (console_of self.old) }
+        ensures { console_of self.new
+            ≡ glyphs_written (map (glyph_for (console_of self.old)) bytes.now)
+            (console_of self.old) }
     {
         match self.set_in_use() {
             CharacterSet::Ascii => self
@@ -120,7 +124,8 @@ impl Console {
     // Writes the glyphs that a run of bytes has in a set, a line's at a time.
     fn write_glyphs(&mut self, set: CharacterSet, bytes: &[u8])
         requires { All (λ byte. byte ≤ LAST_GLYPH) bytes.now }
-        ensures { console_of self.new ≡ glyphs_written (map (glyph_of set) bytes.now) (console_of self.old) }
+        ensures { console_of self.new
+            ≡ glyphs_written (map (glyph_of set) bytes.now) (console_of self.old) }
     {
         let mut rest = bytes;
         while !rest.is_empty() {
@@ -133,7 +138,8 @@ impl Console {
     fn write_piece(&mut self, set: CharacterSet, bytes: &[u8])
         requires short { length bytes.now ≤ PIECE }
         requires graphic { All (λ byte. byte ≤ LAST_GLYPH) bytes.now }
-        ensures { console_of self.new ≡ glyphs_written (map (glyph_of set) bytes.now) (console_of self.old) }
+        ensures { console_of self.new
+            ≡ glyphs_written (map (glyph_of set) bytes.now) (console_of self.old) }
     {
         let mut glyphs = [0; PIECE];
         fill_glyphs(set, bytes, &mut glyphs);

@@ -11,7 +11,8 @@ impl Console {
     /// Does what a control character asks for.
     #[inline]
     pub(crate) fn control(&mut self, byte: u8)
-        ensures { console_of self.new ≡ effect_of control_effect (control_named byte) (console_of self.old) }
+        ensures { console_of self.new
+            ≡ effect_of control_effect (control_named byte) (console_of self.old) }
     {
         match byte {
             8 => self.screen.step_left(1), // BS
@@ -26,7 +27,8 @@ impl Console {
 
     #[inline]
     fn feed_line(&mut self)
-        ensures { console_of self.new ≡ on_picture (line_fed self.old.modes.newline) (console_of self.old) }
+        ensures { console_of self.new
+            ≡ on_picture (line_fed self.old.modes.newline) (console_of self.old) }
     {
         if self.modes.newline {
             self.screen.to_left();

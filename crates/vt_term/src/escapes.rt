@@ -27,8 +27,9 @@ fn set_named(last: u8) -> Option<CharacterSet>
 }
 
 impl Console {
-    /// Answers an escape sequence, and does what it asks for. A refused growth changes nothing.
-    pub(crate) fn perform_escape(
+    /// Sends the reply to an escape sequence, and does what it asks for. A refused growth changes
+    /// nothing.
+    pub(crate) fn obey_escape(
         &mut self,
         inter: Option<u8>,
         last: u8,
@@ -36,14 +37,19 @@ impl Console {
     ) -> Result<(), OutOfMemory>
         requires { IsSavedWell self.old.saved }
         ensures done { OnOk result
-            (console_of self.new ≡ effect_of escape_effect (escape_named inter last) (console_of self.old)) }
-        ensures sent { OnOk result (sink.new ≡ after_sending sink.old (reply_of (escape_reply self.old.profile) (escape_named inter last))) }
+            (console_of self.new
+            ≡ effect_of escape_effect (escape_named inter last) (console_of self.old)) }
+        ensures sent { OnOk result
+            (sink.new ≡ after_sending sink.old
+            (reply_of (escape_reply self.old.profile) (escape_named inter last))) }
         ensures err { OnErr result (console_of self.new ≡ console_of self.old) }
         ensures err_sink { OnErr result (sink.new ≡ sink.old) }
-        ensures room { HasRoom sink.old (reply_of (escape_reply self.old.profile) (escape_named inter last)) → IsOk result }
+        ensures room { HasRoom sink.old
+            (reply_of (escape_reply self.old.profile) (escape_named inter last))
+            → IsOk result }
     {
         match inter {
-            None => return self.perform_plain(last, sink),
+            None => return self.obey_plain_escape(last, sink),
             Some(b'#') => self.change_line(last),
             Some(b'(') => self.designate(Slot::G0, last),
             Some(b')') => self.designate(Slot::G1, last),
@@ -54,14 +60,19 @@ impl Console {
 
     // Those without an intermediate.
     #[inline]
-    fn perform_plain(&mut self, last: u8, sink: &mut Reports) -> Result<(), OutOfMemory>
+    fn obey_plain_escape(&mut self, last: u8, sink: &mut Reports) -> Result<(), OutOfMemory>
         requires { IsSavedWell self.old.saved }
         ensures done { OnOk result
-            (console_of self.new ≡ effect_of escape_effect (named plain_escapes last) (console_of self.old)) }
-        ensures sent { OnOk result (sink.new ≡ after_sending sink.old (reply_of (escape_reply self.old.profile) (named plain_escapes last))) }
+            (console_of self.new
+            ≡ effect_of escape_effect (named plain_escapes last) (console_of self.old)) }
+        ensures sent { OnOk result
+            (sink.new ≡ after_sending sink.old
+            (reply_of (escape_reply self.old.profile) (named plain_escapes last))) }
         ensures err { OnErr result (console_of self.new ≡ console_of self.old) }
         ensures err_sink { OnErr result (sink.new ≡ sink.old) }
-        ensures room { HasRoom sink.old (reply_of (escape_reply self.old.profile) (named plain_escapes last)) → IsOk result }
+        ensures room { HasRoom sink.old
+            (reply_of (escape_reply self.old.profile) (named plain_escapes last))
+            → IsOk result }
     {
         match last {
             b'D' => self.screen.index(), // IND
@@ -81,7 +92,8 @@ impl Console {
 
     // Those with the intermediate #.
     fn change_line(&mut self, last: u8)
-        ensures done { console_of self.new ≡ effect_of escape_effect (named line_escapes last) (console_of self.old) }
+        ensures done { console_of self.new
+            ≡ effect_of escape_effect (named line_escapes last) (console_of self.old) }
         ensures silent { reply_of (escape_reply self.old.profile) (named line_escapes last) ≡ [] }
     {
         match last {
@@ -96,8 +108,10 @@ impl Console {
 
     // SCS.
     fn designate(&mut self, slot: Slot, last: u8)
-        ensures done { console_of self.new ≡ effect_of escape_effect (designation_named slot last) (console_of self.old) }
-        ensures silent { reply_of (escape_reply self.old.profile) (designation_named slot last) ≡ [] }
+        ensures done { console_of self.new
+            ≡ effect_of escape_effect (designation_named slot last) (console_of self.old) }
+        ensures silent { reply_of (escape_reply self.old.profile) (designation_named slot last)
+            ≡ [] }
     {
         if let Some(set) = set_named(last) {
             self.sets.designate(slot, set);

@@ -1,7 +1,7 @@
 //! Laws of the definitions that contracts cite, and of every terminal. Nothing here does anything.
 ghost use Rattle.std.specs.Prelude.{◌≡◌, ℕ, ◌<◌, ◌≤◌, true};
 ghost use Rattle.vt_screen.specs.Cells.{blank};
-ghost use Rattle.vt_screen.specs.Picture.{Inside, cell, right_margin};
+ghost use Rattle.vt_screen.specs.Picture.{IsInRegion, cell, right_margin};
 ghost use Rattle.vt_term.specs.Law.{PlaysInParts, SendsInParts, SentIsAppended, SeenDecides, SendsLittle, StaysSafe};
 ghost use Rattle.vt_term.specs.Printing.{NothingBrings, PartsBring, CharactersBring, GlyphsAreWritten, ControlsBring, SequencesAct, EscapesBring, DesignationsBring, ControlSequencesBring, PrivateSequencesBring};
 ghost use Rattle.vt_term.specs.Console.{IsSafe};
@@ -21,7 +21,7 @@ pub fn plays_in_parts()
     ensures { PlaysInParts }
 {}
 
-/// Joined texts are answered as their parts in turn.
+/// What joined texts send is what their parts send in turn.
 #[tactic(auto, using(crate::proofs::Steps::sends_in_parts))]
 pub fn sends_in_parts()
     ensures { SendsInParts }
@@ -58,13 +58,15 @@ pub fn stays_safe()
 /// What every terminal shows: the cursor is on the screen and within its line's right margin, cells right of that margin
 /// are blank, glyphs are at most 126, and while DECOM is set the cursor is inside the margins.
 pub fn terminals_are_safe(terminal: &Terminal)
-    ensures line { (1 ≤ terminal.now.console.picture.line) × (terminal.now.console.picture.line ≤ LINES) }
-    ensures column { (1 ≤ terminal.now.console.picture.column)
-        × (terminal.now.console.picture.column ≤ right_margin terminal.now.console.picture terminal.now.console.picture.line) }
+    ensures line { let p = terminal.now.console.picture in (1 ≤ p.line) × (p.line ≤ LINES) }
+    ensures column { let p = terminal.now.console.picture in
+        (1 ≤ p.column) × (p.column ≤ right_margin p p.line) }
     ensures blank { (line column : ℕ) → right_margin terminal.now.console.picture line < column
         → cell terminal.now.console.picture line column ≡ blank }
-    ensures glyphs { (line column : ℕ) → (cell terminal.now.console.picture line column).glyph ≤ LAST_GLYPH }
-    ensures inside { terminal.now.console.modes.origin ≡ true → Inside terminal.now.console.picture }
+    ensures glyphs { (line column : ℕ)
+        → (cell terminal.now.console.picture line column).glyph ≤ LAST_GLYPH }
+    ensures inside { terminal.now.console.modes.origin ≡ true
+        → IsInRegion terminal.now.console.picture }
 {
     let _screen = terminal.screen();
 }
@@ -95,12 +97,12 @@ pub fn controls_bring()
     control_is_given();
 }
 
-/// A whole sequence has its effect once, and is answered by its reply.
+/// A whole sequence has its effect once, and its reply is sent.
 pub fn sequences_act()
     ensures { SequencesAct }
 {}
 
-/// Whole sequences of ANSI mode that aren't answered have their effect once, and send nothing.
+/// Whole sequences of ANSI mode that have no reply have their effect once, and send nothing.
 pub fn sequences_bring()
     ensures escape { EscapesBring }
     ensures designation { DesignationsBring }

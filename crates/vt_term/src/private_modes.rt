@@ -8,7 +8,7 @@ use vt_parser::Mode;
 
 impl Console {
     /// Does what a control sequence with `?` asks for.
-    pub(crate) fn do_private(&mut self, last: u8, params: &[u16])
+    pub(crate) fn obey_private_sequence(&mut self, last: u8, params: &[u16])
         ensures { console_of self.new ≡ private_effect last params.now (console_of self.old) }
     {
         match last {

@@ -1,6 +1,6 @@
-//! What a terminal answers.
+//! What a terminal replies.
 ghost use Rattle.std.specs.Prelude.{◌≡◌, ◌≤◌, OnOk, OnErr, IsOk};
-ghost use Rattle.vt_term.specs.Replies.{device_attributes, attributes_reply, status_reply, parameters_reply, cursor_position, reported_line};
+ghost use Rattle.vt_term.specs.Replies.{device_attributes, attributes_reply, status_reply, parameters_reply, cursor_position, reported_line, position_reply};
 ghost use Rattle.vt_term.specs.Console.{console_of, IsSafe};
 ghost use Rattle.vt_term.specs.Sink.{after_sending, HasRoom};
 
@@ -34,7 +34,7 @@ pub(crate) fn device_attributes(profile: Profile) -> &'static [u8]
     }
 }
 
-// The answer to DSR 6, of a line and a column.
+// The reply to DSR 6, of a line and a column.
 fn cursor_position(line: u8, column: u8) -> ArrayVec<u8, LONGEST>
     requires line { line ≤ LINES }
     requires column { column ≤ WIDE_COLUMNS }
@@ -62,7 +62,7 @@ fn reported_line(origin: bool, line: u8, top: u8) -> u8
 }
 
 /// DECREQTPARM.
-pub(crate) fn answer_parameters(param: u16, sink: &mut Reports) -> Result<(), OutOfMemory>
+pub(crate) fn send_parameters(param: u16, sink: &mut Reports) -> Result<(), OutOfMemory>
     ensures ok { OnOk result (sink.new ≡ after_sending sink.old (parameters_reply param)) }
     ensures err { OnErr result (sink.new ≡ sink.old) }
     ensures room { HasRoom sink.old (parameters_reply param) → IsOk result }
@@ -76,12 +76,9 @@ pub(crate) fn answer_parameters(param: u16, sink: &mut Reports) -> Result<(), Ou
 
 impl Console {
     /// DA.
-    pub(crate) fn answer_attributes(
-        &self,
-        param: u16,
-        sink: &mut Reports,
-    ) -> Result<(), OutOfMemory>
-        ensures ok { OnOk result (sink.new ≡ after_sending sink.old (attributes_reply self.now.profile param)) }
+    pub(crate) fn send_attributes(&self, param: u16, sink: &mut Reports) -> Result<(), OutOfMemory>
+        ensures ok { OnOk result
+            (sink.new ≡ after_sending sink.old (attributes_reply self.now.profile param)) }
         ensures err { OnErr result (sink.new ≡ sink.old) }
         ensures room { HasRoom sink.old (attributes_reply self.now.profile param) → IsOk result }
     {
@@ -92,25 +89,25 @@ impl Console {
     }
 
     /// DSR.
-    pub(crate) fn answer_status(&self, param: u16, sink: &mut Reports) -> Result<(), OutOfMemory>
-        ensures ok { OnOk result (sink.new ≡ after_sending sink.old (status_reply param (console_of self.now))) }
+    pub(crate) fn send_status(&self, param: u16, sink: &mut Reports) -> Result<(), OutOfMemory>
+        ensures ok { OnOk result
+            (sink.new ≡ after_sending sink.old (status_reply param (console_of self.now))) }
         ensures err { OnErr result (sink.new ≡ sink.old) }
         ensures room { HasRoom sink.old (status_reply param (console_of self.now)) → IsOk result }
     {
         match param {
             5 => sink.send(READY),
-            6 => self.answer_position(sink),
+            6 => self.send_position(sink),
             _ => Ok(()),
         }
     }
 
     // DSR 6.
-    fn answer_position(&self, sink: &mut Reports) -> Result<(), OutOfMemory>
-        ensures ok { let picture = self.now.screen.picture in OnOk result
-            (sink.new ≡ after_sending sink.old (cursor_position (reported_line self.now.modes.origin picture.line picture.top) picture.column)) }
+    fn send_position(&self, sink: &mut Reports) -> Result<(), OutOfMemory>
+        ensures ok { OnOk result
+            (sink.new ≡ after_sending sink.old (position_reply (console_of self.now))) }
         ensures err { OnErr result (sink.new ≡ sink.old) }
-        ensures room { let picture = self.now.screen.picture in
-            HasRoom sink.old (cursor_position (reported_line self.now.modes.origin picture.line picture.top) picture.column) → IsOk result }
+        ensures room { HasRoom sink.old (position_reply (console_of self.now)) → IsOk result }
     {
         let (line, column) = self.screen.cursor();
         let (top, _) = self.screen.margins();

@@ -72,7 +72,8 @@ impl Reports {
     /// Keeps the first bytes, and lowers the place where it must.
     pub fn cut(&mut self, len: usize)
         requires { len ≤ length self.old.bytes }
-        ensures { self.new ≡ record { bytes = take len self.old.bytes; place = min self.old.place len } }
+        ensures { self.new
+            ≡ record { bytes = take len self.old.bytes; place = min self.old.place len } }
     {
         self.place = self.place.min(len);
         self.list.truncate(len);

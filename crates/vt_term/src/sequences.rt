@@ -11,7 +11,7 @@ ghost use Rattle.vt_term.specs.Console.{console_of, on_picture, on_modes};
 ghost use Rattle.vt_term.specs.Sink.{after_sending, HasRoom};
 
 use crate::console::Console;
-use crate::replies::answer_parameters;
+use crate::replies::send_parameters;
 use crate::{OutOfMemory, Reports};
 use vt_screen::Rendition;
 use vt_screen::limits::LINES;
@@ -60,9 +60,10 @@ fn rendition_set(rendition: Rendition, param: u16) -> Rendition
 }
 
 impl Console {
-    /// Answers a control sequence without `?`, and does what it asks for. A refused growth changes nothing.
+    /// Sends the reply to a control sequence without `?`, and does what it asks for. A refused growth changes
+    /// nothing.
     #[inline]
-    pub(crate) fn perform_sequence(
+    pub(crate) fn obey_plain_sequence(
         &mut self,
         last: u8,
         params: &[u16],
@@ -70,12 +71,15 @@ impl Console {
     ) -> Result<(), OutOfMemory>
         requires { length self.old.leds ≡ 4 }
         ensures done { OnOk result
-            (console_of self.new ≡ control_sequence_effect false last params.now (console_of self.old)) }
+            (console_of self.new
+            ≡ control_sequence_effect false last params.now (console_of self.old)) }
         ensures sent { OnOk result
-            (sink.new ≡ after_sending sink.old (control_sequence_reply false last params.now (console_of self.old))) }
+            (sink.new ≡ after_sending sink.old
+            (control_sequence_reply false last params.now (console_of self.old))) }
         ensures err { OnErr result (console_of self.new ≡ console_of self.old) }
         ensures err_sink { OnErr result (sink.new ≡ sink.old) }
-        ensures room { HasRoom sink.old (control_sequence_reply false last params.now (console_of self.old))
+        ensures room { HasRoom sink.old
+            (control_sequence_reply false last params.now (console_of self.old))
             → IsOk result }
     {
         let first = first_of(params);
@@ -96,9 +100,9 @@ impl Console {
             b'h' => self.set_ansi_modes(true, params), // SM
             b'l' => self.set_ansi_modes(false, params), // RM
             b'q' => self.set_leds(params), // DECLL
-            b'c' => return self.answer_attributes(first, sink), // DA
-            b'n' => return self.answer_status(first, sink), // DSR
-            b'x' => return answer_parameters(first, sink), // DECREQTPARM
+            b'c' => return self.send_attributes(first, sink), // DA
+            b'n' => return self.send_status(first, sink), // DSR
+            b'x' => return send_parameters(first, sink), // DECREQTPARM
             _ => {}
         }
         Ok(())
@@ -106,7 +110,8 @@ impl Console {
 
     fn place(&mut self, line: u16, column: u16)
         ensures { console_of self.new
-            ≡ on_picture (placed (counted line) (counted column) self.old.modes.origin) (console_of self.old) }
+            ≡ on_picture (placed (counted line) (counted column) self.old.modes.origin)
+            (console_of self.old) }
     {
         self.screen.place(
             or_default(1, line),
@@ -116,7 +121,8 @@ impl Console {
     }
 
     fn erase_display(&mut self, part: u16)
-        ensures { console_of self.new ≡ on_picture (erased display_erased part) (console_of self.old) }
+        ensures { console_of self.new
+            ≡ on_picture (erased display_erased part) (console_of self.old) }
     {
         if part <= 2 {
             self.screen.erase_display(part as u8);
@@ -158,7 +164,9 @@ impl Console {
     // Margins that are none are refused, and nothing changes.
     fn set_margins(&mut self, top: u16, bottom: u16)
         ensures { console_of self.new
-            ≡ on_picture (margins_set (or_default 1 top) (or_default LINES bottom) self.old.modes.origin) (console_of self.old) }
+            ≡ on_picture
+            (margins_set (or_default 1 top) (or_default LINES bottom) self.old.modes.origin)
+            (console_of self.old) }
     {
         let _accepted = self.screen.set_margins(
             or_default(1, top),
@@ -189,7 +197,8 @@ impl Console {
 
     fn set_ansi_modes(&mut self, value: bool, params: &[u16])
         ensures { console_of self.new
-            ≡ on_modes (λ modes. fold (ansi_mode_set self.old.profile value) modes params.now) (console_of self.old) }
+            ≡ on_modes (λ modes. fold (ansi_mode_set self.old.profile value) modes params.now)
+            (console_of self.old) }
     {
         for &param in params {
             self.set_ansi_mode(value, param);
@@ -197,7 +206,9 @@ impl Console {
     }
 
     fn set_ansi_mode(&mut self, value: bool, param: u16)
-        ensures { self.new ≡ record self.old { modes = ansi_mode_set self.old.profile value self.old.modes param } }
+        ensures { self.new ≡ record self.old {
+          modes = ansi_mode_set self.old.profile value self.old.modes param;
+        } }
     {
         match param {
             4 => self.set_insert(value), // IRM
@@ -207,7 +218,9 @@ impl Console {
     }
 
     fn set_insert(&mut self, value: bool)
-        ensures { self.new ≡ record self.old { modes = ansi_mode_set self.old.profile value self.old.modes 4 } }
+        ensures { self.new ≡ record self.old {
+          modes = ansi_mode_set self.old.profile value self.old.modes 4;
+        } }
     {
         if self.profile.has_editing() {
             self.modes.insert = value;

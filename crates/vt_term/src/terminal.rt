@@ -60,18 +60,20 @@ impl Terminal {
         self.parser.copy_from(&other.parser);
     }
 
-    /// Takes bytes, and sends what they are answered by. It feeds in place, and keeps a copy of the terminal for the case
-    /// that memory is refused.
+    /// Takes bytes, and sends the replies to them. It feeds in place, and keeps a copy of the terminal for the case that
+    /// memory is refused.
     pub fn feed(&mut self, bytes: &[u8], sink: &mut Reports) -> Result<(), OutOfMemory>
         // For every term that the terminal shows, it shows that term with the bytes played ..
-        ensures shows { (x : Term) → Shows self.old x → OnOk result (Shows self.new (play x bytes.now)) }
-        // .. and what they are answered by was sent.
+        ensures shows { (x : Term) → Shows self.old x
+            → OnOk result (Shows self.new (play x bytes.now)) }
+        // .. and the replies to them were sent.
         ensures sent { (x : Term) → Shows self.old x
             → OnOk result (sink.new ≡ after_sending sink.old (sent x bytes.now)) }
 
         ensures err { OnErr result (self.new ≡ self.old) }
         ensures err_sink { OnErr result (sink.new ≡ sink.old) }
-        ensures room { (x : Term) → Shows self.old x → HasRoom sink.old (sent x bytes.now) → IsOk result }
+        ensures room { (x : Term) → Shows self.old x → HasRoom sink.old (sent x bytes.now)
+            → IsOk result }
     {
         let place = sink.place();
         let mut before = Terminal::reset();
@@ -89,11 +91,13 @@ impl Terminal {
     /// Feeds as `feed` does, and keeps no copy: after a refusal the terminal is some terminal, and the list begins with
     /// what it held.
     pub fn feed_in_place(&mut self, bytes: &[u8], sink: &mut Reports) -> Result<(), OutOfMemory>
-        ensures shows { (x : Term) → Shows self.old x → OnOk result (Shows self.new (play x bytes.now)) }
+        ensures shows { (x : Term) → Shows self.old x
+            → OnOk result (Shows self.new (play x bytes.now)) }
         ensures sent { (x : Term) → Shows self.old x
             → OnOk result (sink.new ≡ after_sending sink.old (sent x bytes.now)) }
         ensures front { KeepsFront sink.old sink.new }
-        ensures room { (x : Term) → Shows self.old x → HasRoom sink.old (sent x bytes.now) → IsOk result }
+        ensures room { (x : Term) → Shows self.old x → HasRoom sink.old (sent x bytes.now)
+            → IsOk result }
     {
         let mut at = 0;
         while at < bytes.len() {
@@ -108,16 +112,18 @@ impl Terminal {
         requires { 0 < length bytes.now }
         ensures some { IfOk result (λ n. 0 < n) }
         ensures within { IfOk result (λ n. n ≤ length bytes.now) }
-        ensures shows { (x : Term) → Shows self.old x → IfOk result (λ n. Shows self.new (play x (take n bytes.now))) }
+        ensures shows { (x : Term) → Shows self.old x
+            → IfOk result (λ n. Shows self.new (play x (take n bytes.now))) }
         ensures sent { (x : Term) → Shows self.old x
             → IfOk result (λ n. sink.new ≡ after_sending sink.old (sent x (take n bytes.now))) }
         ensures front { KeepsFront sink.old sink.new }
-        ensures room { (x : Term) → Shows self.old x → HasRoom sink.old (sent x bytes.now) → IsOk result }
+        ensures room { (x : Term) → Shows self.old x → HasRoom sink.old (sent x bytes.now)
+            → IsOk result }
     {
         laws_below();
         let (taken, token) = self.parser.next(self.console.modes.mode, bytes);
         if let Some(token) = token {
-            self.console.perform(token, sink)?;
+            self.console.obey(token, sink)?;
         }
         Ok(taken)
     }

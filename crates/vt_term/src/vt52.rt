@@ -11,10 +11,13 @@ use crate::{OutOfMemory, Reports};
 use vt_parser::Mode;
 
 impl Console {
-    /// Answers a sequence of VT52 mode, and does what it asks for. A refused growth changes nothing.
-    pub(crate) fn perform_vt52(&mut self, last: u8, sink: &mut Reports) -> Result<(), OutOfMemory>
-        ensures done { OnOk result (console_of self.new ≡ effect_of vt52_effect (vt52_named last) (console_of self.old)) }
-        ensures sent { OnOk result (sink.new ≡ after_sending sink.old (reply_of vt52_reply (vt52_named last))) }
+    /// Sends the reply to a sequence of VT52 mode, and does what it asks for. A refused growth changes
+    /// nothing.
+    pub(crate) fn obey_vt52(&mut self, last: u8, sink: &mut Reports) -> Result<(), OutOfMemory>
+        ensures done { OnOk result
+            (console_of self.new ≡ effect_of vt52_effect (vt52_named last) (console_of self.old)) }
+        ensures sent { OnOk result
+            (sink.new ≡ after_sending sink.old (reply_of vt52_reply (vt52_named last))) }
         ensures err { OnErr result (console_of self.new ≡ console_of self.old) }
         ensures err_sink { OnErr result (sink.new ≡ sink.old) }
         ensures room { HasRoom sink.old (reply_of vt52_reply (vt52_named last)) → IsOk result }

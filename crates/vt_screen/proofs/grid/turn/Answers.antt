@@ -8,7 +8,10 @@ use Rattle.vt_screen.specs.Slots.{slot_at, line_below, turned_up}
 use Rattle.vt_screen.proofs.Tables.{is_table, nth_is}
 use Rattle.vt_screen.proofs.grid.turn.Goals as goal
 
-names_turned : (order part : List ℕ) (n top bottom : ℕ) → length order ≡ 24 → 1 ≤ top → top ≤ bottom → bottom ≤ 24 → top + n ≤ bottom + 1 → length part ≡ length (mid_of (top - 1) (bottom - (top - 1)) order) → RotatedLeft (mid_of (top - 1) (bottom - (top - 1)) order) part (length (mid_of (top - 1) (bottom - (top - 1)) order)) n → put_mid (top - 1) (bottom - (top - 1)) order part ≡ turned_up n top bottom order
+names_turned : (order part : List ℕ) (n top bottom : ℕ) → length order ≡ 24 → 1 ≤ top → top ≤ bottom → bottom ≤ 24
+    → top + n ≤ bottom + 1 → length part ≡ length (mid_of (top - 1) (bottom - (top - 1)) order)
+    → RotatedLeft (mid_of (top - 1) (bottom - (top - 1)) order) part (length (mid_of (top - 1) (bottom - (top - 1)) order)) n
+    → put_mid (top - 1) (bottom - (top - 1)) order part ≡ turned_up n top bottom order
 names_turned order part n top bottom whole low apart high room len rotated =
     let mid = mid_of (top - 1) (bottom - (top - 1)) order in
     let len_mid : length mid ≡ bottom - (top - 1) = search (rules, places) in

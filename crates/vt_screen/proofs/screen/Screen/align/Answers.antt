@@ -10,7 +10,8 @@ use Rattle.vt_screen.proofs.Scrolled.{all_filled, filled_with}
 use Rattle.vt_screen.proofs.Soundness.{sound_aligned}
 use Rattle.vt_screen.proofs.screen.Screen.align.Goals as goal
 
-is_aligned : (c : goal.After-self-1) → record (picture_of c.self.inside) { rows = rows_of c.fill_lines.new.self; wrap = false } ≡ aligned (picture_of c.self.inside)
+is_aligned : (c : goal.After-self-1)
+    → record (picture_of c.self.inside) { rows = rows_of c.fill_lines.new.self; wrap = false } ≡ aligned (picture_of c.self.inside)
 is_aligned c =
     let p = picture_of c.self.inside in
     ap (λ (rows : List Row). let q : Picture = record p { rows = rows; wrap = false } in q)

@@ -21,8 +21,8 @@ returns-clause-glyph c =
     ∙ ap (λ (r : Row). cell_at r c.args.col) c.row.ensures.value))
     ((c.self.invariant.row c.args.row).glyphs c.args.col)
 
-pub returns-clause-place : goal.returns-clause-place
-returns-clause-place c =
+pub returns-clause-slot : goal.returns-clause-slot
+returns-clause-slot c =
     cell_read c.row.result.now c.args.col c.index-row-col.result c.row.ensures.whole c.requires.col_low c.requires.col_high
     ∙ ap (λ (r : Row). cell_at r c.args.col) (c.row.ensures.value ∙ row_there c.self.inside.grid c.args.row c.requires.row_low c.requires.row_high)
     ∙ ap (λ (s : ScreenState). cell_at (row_in s.slots (slot_at s.order c.args.row)) c.args.col) c.self.view_is

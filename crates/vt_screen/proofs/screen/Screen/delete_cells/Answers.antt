@@ -14,7 +14,8 @@ use Rattle.vt_screen.proofs.screen.Screen.delete_cells.Goals as goal
 pub set_row-requires-clause-whole : goal.set_row-requires-clause-whole
 set_row-requires-clause-whole c = ap (λ (r : Row). length r.cells) c.take_out.ensures ∙ length-table 132 _
 
-are_deleted : (c : goal.After-set_row) → with_rows (rows_of c.set_row.new.self) (picture_of c.self.inside) ≡ cells_deleted c.args.n (picture_of c.self.inside)
+are_deleted : (c : goal.After-set_row)
+    → with_rows (rows_of c.set_row.new.self) (picture_of c.self.inside) ≡ cells_deleted c.args.n (picture_of c.self.inside)
 are_deleted c =
     let p = picture_of c.self.inside in
     let count = c.min-count.result in

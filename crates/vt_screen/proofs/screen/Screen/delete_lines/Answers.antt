@@ -12,7 +12,9 @@ use Rattle.vt_screen.proofs.Scrolled.{scrolled, filled_with, in_region, up_by}
 use Rattle.vt_screen.proofs.Soundness.{sound_lines_deleted}
 use Rattle.vt_screen.proofs.screen.Screen.delete_lines.Goals as goal
 
-are_deleted : (c : goal.After-self-then-self-2-1) → record (picture_of c.self.inside) { rows = rows_of c.fill_lines.new.self; column = 1; wrap = false } ≡ lines_deleted c.args.n (picture_of c.self.inside)
+are_deleted : (c : goal.After-self-then-self-2-1)
+    → record (picture_of c.self.inside) { rows = rows_of c.fill_lines.new.self; column = 1; wrap = false }
+    ≡ lines_deleted c.args.n (picture_of c.self.inside)
 are_deleted c =
     let p = picture_of c.self.inside in
     let count = c.lines_left-count.result in
@@ -30,7 +32,8 @@ pub returns-then-self-2-clause-picture : goal.returns-then-self-2-clause-picture
 returns-then-self-2-clause-picture c = are_deleted c ∙ ap (λ (s : ScreenState). lines_deleted c.args.n s.picture) c.self.view_is
 
 -- the slots of the lines that left are blank
-are_freed : (c : goal.After-self-then-self-2-1) → c.fill_lines.new.self.slots ≡ slots_lines_deleted c.args.n (picture_of c.self.inside) c.self.inside.grid.order c.self.inside.grid.slots
+are_freed : (c : goal.After-self-then-self-2-1)
+    → c.fill_lines.new.self.slots ≡ slots_lines_deleted c.args.n (picture_of c.self.inside) c.self.inside.grid.order c.self.inside.grid.slots
 are_freed c =
     let p = picture_of c.self.inside in
     let count = c.lines_left-count.result in

@@ -16,7 +16,9 @@ use Rattle.vt_screen.proofs.screen.Screen.erase_display.Goals as goal
 use Rattle.vt_screen.proofs.screen.Screen.erase_display.Goals.{then-self, else-self}
 
 -- the picture where the cursor's line is erased whole, and where it is not
-with_line : (c : goal.After-self-1) → record (picture_of c.self.inside) { rows = rows_of c.fill_line.new.self; wrap = c.if-self.self } ≡ display_erased c.args.part (picture_of c.self.inside)
+with_line : (c : goal.After-self-1)
+    → record (picture_of c.self.inside) { rows = rows_of c.fill_line.new.self; wrap = c.if-self.self }
+    ≡ display_erased c.args.part (picture_of c.self.inside)
 with_line c =
     let p = picture_of c.self.inside in
     let was = rows_of c.fill_lines.new.self in
@@ -34,7 +36,8 @@ with_line c =
     c.if-self.self whole
     (c.fill_line.ensures.rows ∙ ap₂ (λ (e : Cell) (k : ℕ). with_row p.line (filled_to e k (row_at was p.line)) was) c.blank-then-whole.ensures c.columns_of-columns.ensures) wrap
 
-in_part : (c : goal.After-erase_part) → record (picture_of c.self.inside) { rows = rows_of c.erase_part.new.self } ≡ display_erased c.args.part (picture_of c.self.inside)
+in_part : (c : goal.After-erase_part)
+    → record (picture_of c.self.inside) { rows = rows_of c.erase_part.new.self } ≡ display_erased c.args.part (picture_of c.self.inside)
 in_part c =
     let p = picture_of c.self.inside in
     let part : erased_whole c.args.part p p.line ≡ false =

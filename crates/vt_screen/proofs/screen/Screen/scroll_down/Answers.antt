@@ -13,7 +13,8 @@ use Rattle.vt_screen.proofs.Rows.{changed_one}
 use Rattle.vt_screen.proofs.Scrolled.{scrolled, slot_cleared, filled_with, down_by}
 use Rattle.vt_screen.proofs.screen.Screen.scroll_down.Goals as goal
 
-is_scrolled : (c : goal.After-fill_line) → rows_of c.fill_line.new.self ≡ scrolled_down 1 c.self.inside.top c.self.inside.bottom (rows_of c.self.inside.grid)
+is_scrolled : (c : goal.After-fill_line)
+    → rows_of c.fill_line.new.self ≡ scrolled_down 1 c.self.inside.top c.self.inside.bottom (rows_of c.self.inside.grid)
 is_scrolled c =
     let p = picture_of c.self.inside in
     let apart = c.self.invariant.apart in

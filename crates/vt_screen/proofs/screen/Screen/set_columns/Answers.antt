@@ -9,7 +9,9 @@ use Rattle.vt_screen.proofs.Scrolled.{all_cleared, filled_with}
 use Rattle.vt_screen.proofs.Soundness.{sound_columns_set}
 use Rattle.vt_screen.proofs.screen.Screen.set_columns.Goals as goal
 
-is_wide : (c : goal.After-self-6-1) (origin : Bool) → record (picture_of c.self.inside) { wide = c.args.wide; rows = rows_of c.fill_lines.new.self; line = 1; column = 1; wrap = false; top = 1; bottom = 24 } ≡ columns_set c.args.wide origin (picture_of c.self.inside)
+is_wide : (c : goal.After-self-6-1) (origin : Bool)
+    → record (picture_of c.self.inside) { wide = c.args.wide; rows = rows_of c.fill_lines.new.self; line = 1; column = 1; wrap = false; top = 1; bottom = 24 }
+    ≡ columns_set c.args.wide origin (picture_of c.self.inside)
 is_wide c origin =
     ap (λ (rows : List Row). let q : Picture = record (picture_of c.self.inside) { wide = c.args.wide; rows = rows; line = 1; column = 1; wrap = false; top = 1; bottom = 24 } in q)
     (filled_with _ _ 1 25 c.blank.result blank 132 132 c.blank.ensures refl c.fill_lines.ensures.rows ∙ all_cleared (rows_of c.self.inside.grid))

@@ -12,7 +12,9 @@ use Rattle.vt_screen.proofs.screen.Screen.set_size.Goals as goal
 pub set_row-requires-clause-whole : goal.set_row-requires-clause-whole
 set_row-requires-clause-whole c = ap (λ (r : Row). length r.cells) c.resize.ensures ∙ length-table 132 _
 
-is_sized : (c : goal.After-self-2-1) → record (picture_of c.self.inside) { rows = rows_of c.set_row.new.self; column = c.min-self-inside.result; wrap = false } ≡ size_set c.args.size (picture_of c.self.inside)
+is_sized : (c : goal.After-self-2-1)
+    → record (picture_of c.self.inside) { rows = rows_of c.set_row.new.self; column = c.min-self-inside.result; wrap = false }
+    ≡ size_set c.args.size (picture_of c.self.inside)
 is_sized c =
     let p = picture_of c.self.inside in
     ap₂ (λ (rows : List Row) (k : ℕ). let q : Picture = record p { rows = rows; column = k; wrap = false } in q)

@@ -11,7 +11,9 @@ use Rattle.vt_screen.proofs.Soundness.{sound_run_shown}
 use Rattle.vt_screen.proofs.screen.Screen.show_part.Goals as goal
 
 -- the picture where the glyphs end at the right margin, and where they end left of it
-to_margin : (c : goal.After-self-then-taken-room-1) → record (picture_of c.self.inside) { rows = rows_of c.write_run.new.self; column = c.margin-margin.result; wrap = c.args.autowrap } ≡ run_shown (take c.min-taken.result c.args.glyphs.now) c.args.rendition c.args.autowrap (picture_of c.self.inside)
+to_margin : (c : goal.After-self-then-taken-room-1)
+    → record (picture_of c.self.inside) { rows = rows_of c.write_run.new.self; column = c.margin-margin.result; wrap = c.args.autowrap }
+    ≡ run_shown (take c.min-taken.result c.args.glyphs.now) c.args.rendition c.args.autowrap (picture_of c.self.inside)
 to_margin c =
     let p = picture_of c.self.inside in
     let glyphs = take c.min-taken.result c.args.glyphs.now in
@@ -21,7 +23,9 @@ to_margin c =
     ap₂ (λ (rows : List Row) (k : ℕ). record p { rows = rows; column = k; wrap = c.args.autowrap }) c.write_run.ensures.rows margin
     ∙ sym (run_to_margin c.args.rendition c.args.autowrap glyphs p unwrapped c.self.invariant.line_low c.self.invariant.line_high (omega arith) (omega (arith, c.self.invariant.column_high)))
 
-within : (c : goal.After-self-else-taken-room-1) → record (picture_of c.self.inside) { rows = rows_of c.write_run.new.self; column = c.self.inside.column + c.min-taken.result } ≡ run_shown (take c.min-taken.result c.args.glyphs.now) c.args.rendition c.args.autowrap (picture_of c.self.inside)
+within : (c : goal.After-self-else-taken-room-1)
+    → record (picture_of c.self.inside) { rows = rows_of c.write_run.new.self; column = c.self.inside.column + c.min-taken.result }
+    ≡ run_shown (take c.min-taken.result c.args.glyphs.now) c.args.rendition c.args.autowrap (picture_of c.self.inside)
 within c =
     let p = picture_of c.self.inside in
     let glyphs = take c.min-taken.result c.args.glyphs.now in
@@ -48,7 +52,9 @@ returns-else-taken-room-clause-picture c =
     within c ∙ ap (λ (s : ScreenState). run_shown (take c.min-taken.result c.args.glyphs.now) c.args.rendition c.args.autowrap s.picture) c.self.view_is
 
 -- no wrap is taken among them
-names_stay_then : (c : goal.After-self-then-taken-room-1) → c.write_run.new.self.order ≡ order_run_shown (take c.min-taken.result c.args.glyphs.now) c.args.rendition c.args.autowrap (picture_of c.self.inside) c.self.inside.grid.order
+names_stay_then : (c : goal.After-self-then-taken-room-1)
+    → c.write_run.new.self.order
+    ≡ order_run_shown (take c.min-taken.result c.args.glyphs.now) c.args.rendition c.args.autowrap (picture_of c.self.inside) c.self.inside.grid.order
 names_stay_then c =
     let p = picture_of c.self.inside in
     let margin : c.margin-margin.result ≡ right_margin p p.line = c.margin-margin.ensures.value ∙ ap (λ (s : ScreenState). right_margin s.picture s.picture.line) (sym c.self.view_is) in
@@ -61,7 +67,9 @@ pub returns-then-taken-room-clause-order : goal.returns-then-taken-room-clause-o
 returns-then-taken-room-clause-order c =
     names_stay_then c ∙ ap (λ (s : ScreenState). order_run_shown (take c.min-taken.result c.args.glyphs.now) c.args.rendition c.args.autowrap s.picture s.order) c.self.view_is
 
-names_stay_else : (c : goal.After-self-else-taken-room-1) → c.write_run.new.self.order ≡ order_run_shown (take c.min-taken.result c.args.glyphs.now) c.args.rendition c.args.autowrap (picture_of c.self.inside) c.self.inside.grid.order
+names_stay_else : (c : goal.After-self-else-taken-room-1)
+    → c.write_run.new.self.order
+    ≡ order_run_shown (take c.min-taken.result c.args.glyphs.now) c.args.rendition c.args.autowrap (picture_of c.self.inside) c.self.inside.grid.order
 names_stay_else c =
     let p = picture_of c.self.inside in
     let margin : c.margin-margin.result ≡ right_margin p p.line = c.margin-margin.ensures.value ∙ ap (λ (s : ScreenState). right_margin s.picture s.picture.line) (sym c.self.view_is) in

@@ -9,7 +9,8 @@ abbrev pub invariant-loop-rest : goal.invariant-loop-rest
 invariant-loop-rest l = record {
   glyphs : All (λ glyph. glyph ≤ 126) l.rest;
   shown : run_shown l.rest l.rendition l.autowrap l.self.picture ≡ run_shown l.glyphs l.rendition l.autowrap l.fn.self.picture;
-  order : order_run_shown l.rest l.rendition l.autowrap l.self.picture l.self.order ≡ order_run_shown l.glyphs l.rendition l.autowrap l.fn.self.picture l.fn.self.order;
+  order : order_run_shown l.rest l.rendition l.autowrap l.self.picture l.self.order
+      ≡ order_run_shown l.glyphs l.rendition l.autowrap l.fn.self.picture l.fn.self.order;
 }
 
 abbrev pub decreases-loop-rest : goal.decreases-loop-rest

@@ -9,7 +9,9 @@ use Rattle.vt_screen.proofs.Soundness.{sound_run_shown}
 use Rattle.vt_screen.proofs.screen.Screen.show_run.Goals as goal
 
 -- all of them stand left of the right margin
-fits : (c : goal.After-self-1) → record (picture_of c.self.inside) { rows = rows_of c.write_run.new.self; column = c.self.inside.column + length c.args.glyphs.now } ≡ run_shown c.args.glyphs.now c.args.rendition c.args.autowrap (picture_of c.self.inside)
+fits : (c : goal.After-self-1)
+    → record (picture_of c.self.inside) { rows = rows_of c.write_run.new.self; column = c.self.inside.column + length c.args.glyphs.now }
+    ≡ run_shown c.args.glyphs.now c.args.rendition c.args.autowrap (picture_of c.self.inside)
 fits c =
     let p = picture_of c.self.inside in
     let margin : c.margin.result ≡ right_margin p p.line = c.margin.ensures.value ∙ ap (λ (s : ScreenState). right_margin s.picture s.picture.line) (sym c.self.view_is) in
@@ -21,7 +23,9 @@ invariant_of-self c =
     subst Sound (sym (fits c)) (sound_run_shown c.args.glyphs.now c.args.rendition c.args.autowrap (picture_of c.self.inside) c.requires c.self.invariant)
 
 -- no wrap is taken among them
-names_stay : (c : goal.After-self-1) → c.write_run.new.self.order ≡ order_run_shown c.args.glyphs.now c.args.rendition c.args.autowrap (picture_of c.self.inside) c.self.inside.grid.order
+names_stay : (c : goal.After-self-1)
+    → c.write_run.new.self.order
+    ≡ order_run_shown c.args.glyphs.now c.args.rendition c.args.autowrap (picture_of c.self.inside) c.self.inside.grid.order
 names_stay c =
     let p = picture_of c.self.inside in
     let margin : c.margin.result ≡ right_margin p p.line = c.margin.ensures.value ∙ ap (λ (s : ScreenState). right_margin s.picture s.picture.line) (sym c.self.view_is) in

@@ -9,7 +9,8 @@ use Rattle.vt_term.proofs.console.Console.write_glyphs.Given as goal
 abbrev pub invariant-loop-rest : goal.invariant-loop-rest
 invariant-loop-rest l = record {
   graphic : All (λ byte. byte ≤ 126) l.rest;
-  written : glyphs_written (map (glyph_of l.set) l.rest) (console_of l.self) ≡ glyphs_written (map (glyph_of l.set) l.bytes) (console_of l.initial.self);
+  written : glyphs_written (map (glyph_of l.set) l.rest) (console_of l.self)
+      ≡ glyphs_written (map (glyph_of l.set) l.bytes) (console_of l.initial.self);
 }
 
 abbrev pub decreases-loop-rest : goal.decreases-loop-rest

@@ -4,7 +4,7 @@ use Rattle.vt_term.specs.Seen.{Shows}
 use Rattle.vt_term.specs.Sink.{after_sending, KeepsFront}
 use Rattle.vt_term.proofs.terminal.Terminal.feed_in_place.Given as goal
 
--- the bytes so far were played, and what they are answered by was sent
+-- the bytes so far were played, and the replies to them were sent
 abbrev pub invariant-loop-at : goal.invariant-loop-at
 invariant-loop-at l = record {
   within : l.at ≤ length l.bytes;
