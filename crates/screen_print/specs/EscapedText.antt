@@ -1,7 +1,7 @@
 -- The escaped print: a text that draws on a reset terminal what a terminal shows (ours).
 use Rattle.std.specs.Prelude.{ℕ, ◌+◌, ◌-◌, Bool, true, false, List, [], ◌∷◌, ◌++◌, length, take, codes, decimal, nat_lt, ◌==◌, ◌&&◌, if◌then◌else◌}
 use Rattle.std.specs.List.{suffix_len}
-use Rattle.vt_parser.specs.Control.{escape}
+use Rattle.vt_parser.specs.Syntax.{escape}
 use Rattle.vt_screen.specs.declared.cell.Cell.{Cell}
 use Rattle.vt_screen.specs.declared.cell.Row.{Row}
 use Rattle.vt_screen.specs.declared.cell.Size.{Size}

@@ -4,12 +4,12 @@ use Rattle.std.proofs.lemmas.Bool.{cases_Bool, and_parts}
 use Rattle.std.proofs.lemmas.Bool.Decides.{nat_tests}
 use Rattle.vt_parser.specs.declared.commands.Mode.{Mode}
 use Rattle.vt_parser.specs.declared.commands.Mode.TheVariants.{Ansi, Vt52}
-use Rattle.vt_parser.specs.declared.controls.Action.{Action}
-use Rattle.vt_parser.specs.declared.controls.Action.TheVariants.{Begin, Join, End, Cancel}
+use Rattle.vt_parser.specs.declared.syntax.Action.{Action}
+use Rattle.vt_parser.specs.declared.syntax.Action.TheVariants.{Begin, Join, End, Cancel}
 use Rattle.vt_parser.specs.declared.states.ParserState.{ParserState}
 use Rattle.vt_parser.specs.declared.states.ParserState.TheVariants.{Ground}
-use Rattle.vt_parser.specs.Control.{escape, is_graphic, action_of}
-use Rattle.vt_parser.specs.Sequence.{is_whole}
+use Rattle.vt_parser.specs.Syntax.{escape, is_graphic, action_of}
+use Rattle.vt_parser.specs.Forms.{is_whole}
 use Rattle.vt_parser.specs.View.{parser_view}
 use Rattle.vt_parser.specs.Step.{context_of, command_by, pending_by, command_of, pending_after, mode_after}
 use Rattle.vt_parser.specs.Law.{StateDecides, StaysShown, GroundIsEmpty}

@@ -9,11 +9,11 @@ use Rattle.std.proofs.lemmas.List.Splits.{length-slice_split}
 use Rattle.vt_parser.specs.declared.commands.Mode.{Mode}
 use Rattle.vt_parser.specs.declared.commands.Mode.TheVariants.{Ansi, Vt52}
 use Rattle.vt_parser.specs.declared.commands.Command.{Command}
-use Rattle.vt_parser.specs.declared.controls.Context.{Context}
-use Rattle.vt_parser.specs.declared.controls.Action.{Action}
-use Rattle.vt_parser.specs.declared.controls.Action.TheVariants.{Execute, Print, Mark, Join, Cancel}
-use Rattle.vt_parser.specs.Control.{is_within, is_graphic, action_of}
-use Rattle.vt_parser.specs.Sequence.{is_intermediate, is_escape_final, is_control_final, is_control_begun, is_line_begun, is_whole, is_semicolon, after_mark, is_well_formed, parameter, numbers, params, escape_meaning, control_meaning}
+use Rattle.vt_parser.specs.declared.syntax.Context.{Context}
+use Rattle.vt_parser.specs.declared.syntax.Action.{Action}
+use Rattle.vt_parser.specs.declared.syntax.Action.TheVariants.{Execute, Print, Mark, Join, Cancel}
+use Rattle.vt_parser.specs.Syntax.{is_within, is_graphic, action_of}
+use Rattle.vt_parser.specs.Forms.{is_intermediate, is_escape_final, is_control_sequence_final, is_control_sequence_begun, is_line_begun, is_whole, is_semicolon, after_mark, is_well_formed, parameter, numbers, params, escape_meaning, control_sequence_meaning}
 use Rattle.vt_parser.specs.Step.{context_of, command_by, pending_by, command_of, pending_after}
 use Rattle.vt_parser.specs.Law.{IsFrom, IsProper, is_sequence, fewest_bytes, fewest_of, CommandsAreProper, FinishedLeavesNothing, PendingPays, GraphicIsShown, ControlIsGiven}
 use Rattle.vt_parser.proofs.Joins.{whole_with, meaning_with, is_whole_push, meaning_push}
@@ -53,8 +53,8 @@ due_if : (b : Bool) (bytes : ℕ) (command : Command) → IsProper command → f
 due_if true bytes command proper paid = record { proper = proper; paid = omega arith; finished = λ _. refl }
 due_if false bytes command proper paid = record { proper = tt; paid = omega arith; finished = tt }
 
-control_due : (text : List ℕ) (last bytes : ℕ) → is_control_final last ≡ true → 3 ≤ bytes → IsDue bytes [] (control_meaning text last)
-control_due text last bytes is long =
+control_sequence_due : (text : List ℕ) (last bytes : ℕ) → is_control_sequence_final last ≡ true → 3 ≤ bytes → IsDue bytes [] (control_sequence_meaning text last)
+control_sequence_due text last bytes is long =
     let proper = params_proper (after_mark text) in
     due_if (is_well_formed text) bytes _ (proper.0, proper.1, within 64 126 last is) long
 
@@ -66,8 +66,8 @@ whole_due : (mode : Mode) (pending : List ℕ) (byte : ℕ) → whole_with mode 
 whole_due Ansi [] byte whole = absurd (false≢true whole)
 whole_due Ansi (first ∷ []) byte whole = record { proper = (tt, within 48 126 byte (grind (arith, nat_tests))); paid = omega arith; finished = λ _. refl }
 whole_due Ansi (first ∷ second ∷ text) byte whole =
-    elim (cases_Bool (is_control_begun (first ∷ second ∷ text))) [
-      | inl begun ↦ simp begun (control_due text byte _ (grind (arith, nat_tests)) (omega arith))
+    elim (cases_Bool (is_control_sequence_begun (first ∷ second ∷ text))) [
+      | inl begun ↦ simp begun (control_sequence_due text byte _ (grind (arith, nat_tests)) (omega arith))
       | inr other ↦ simp other (escape_due second text byte _ (grind (arith, nat_tests)) (grind (arith, nat_tests)) (omega arith))
     ]
 whole_due Vt52 (first ∷ []) byte whole =

@@ -1,7 +1,7 @@
 mod Numbers
 mod Table
 mod Shapes
-mod Control
+mod Growing
 mod Joins
 mod Agrees
 mod ManyBytes

@@ -4,7 +4,7 @@ use Rattle.std.specs.List.{slice_split, onto_first}
 use Rattle.std.proofs.lemmas.List.{map-append, length-map}
 use Rattle.std.proofs.lemmas.List.Splits.{length-slice_split}
 use Rattle.std.proofs.lemmas.List.Sums.{fold-append}
-use Rattle.vt_parser.specs.Sequence.{is_semicolon, parameter, numbers}
+use Rattle.vt_parser.specs.Forms.{is_semicolon, parameter, numbers}
 use Rattle.vt_parser.specs.Machine.{with_last_digit}
 
 -- there is always a first piece

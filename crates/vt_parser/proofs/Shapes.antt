@@ -7,14 +7,14 @@ use Rattle.vt_parser.specs.declared.commands.Mode.{Mode}
 use Rattle.vt_parser.specs.declared.commands.Mode.TheVariants.{Ansi, Vt52}
 use Rattle.vt_parser.specs.declared.states.ParserState.{ParserState}
 use Rattle.vt_parser.specs.declared.states.ParserState.TheVariants.{Ground, Escape, Text, Vt52Escape, Vt52Line, Vt52Column}
-use Rattle.vt_parser.specs.Control.{escape, is_graphic}
-use Rattle.vt_parser.specs.Sequence.{is_intermediate, is_control_text, begins_string, is_control_begun, is_string_begun}
-use Rattle.vt_parser.specs.View.{escape_view, control_view, ansi_view, vt52_view, parser_view}
+use Rattle.vt_parser.specs.Syntax.{escape, is_graphic}
+use Rattle.vt_parser.specs.Forms.{is_intermediate, is_control_sequence_text, begins_string, is_control_sequence_begun, is_string_begun}
+use Rattle.vt_parser.specs.View.{escape_view, control_sequence_view, ansi_view, vt52_view, parser_view}
 
 pub data Form : Mode → List ℕ → ParserState → Type 0 where
   nothing : (mode : Mode) → Form mode [] Ground
   escaped : (text : List ℕ) → list_all is_intermediate text ≡ true → Form Ansi (escape ∷ text) (escape_view text)
-  controlled : (text : List ℕ) → list_all is_control_text text ≡ true → Form Ansi (escape ∷ 91 ∷ text) (control_view text)
+  controlled : (text : List ℕ) → list_all is_control_sequence_text text ≡ true → Form Ansi (escape ∷ 91 ∷ text) (control_sequence_view text)
   stringed : (opening : ℕ) → begins_string opening ≡ true → Form Ansi (escape ∷ opening ∷ []) Text
   lone : Form Vt52 (escape ∷ []) Vt52Escape
   addressed : Form Vt52 (escape ∷ 89 ∷ []) Vt52Line
@@ -33,7 +33,7 @@ same_form mode p q state other bytes states has = subst (Form mode q) states (su
 ansi_form : (byte : ℕ) (rest : List ℕ) (state : ParserState) → ansi_view (byte ∷ rest) ≡ Some state → Form Ansi (byte ∷ rest) state
 ansi_form byte [] state is = same_form Ansi (escape ∷ []) (byte ∷ []) Escape state (grind (arith, nat_tests)) (grind (arith, nat_tests)) (escaped [] refl)
 ansi_form byte (next ∷ []) state is =
-    elim (cases_Bool (is_control_begun (byte ∷ next ∷ []))) [
+    elim (cases_Bool (is_control_sequence_begun (byte ∷ next ∷ []))) [
       | inl begun ↦ same_form Ansi (escape ∷ 91 ∷ []) _ _ state (grind (arith, nat_tests)) (grind (arith, nat_tests)) (controlled [] refl)
       | inr other ↦
           elim (cases_Bool (is_string_begun (byte ∷ next ∷ []))) [
@@ -42,7 +42,7 @@ ansi_form byte (next ∷ []) state is =
           ]
     ]
 ansi_form byte (next ∷ third ∷ rest) state is =
-    elim (cases_Bool (is_control_begun (byte ∷ next ∷ third ∷ rest))) [
+    elim (cases_Bool (is_control_sequence_begun (byte ∷ next ∷ third ∷ rest))) [
       | inl begun ↦ same_form Ansi (escape ∷ 91 ∷ third ∷ rest) _ _ state (grind (arith, nat_tests)) (grind (arith, nat_tests)) (controlled (third ∷ rest) (grind (arith, nat_tests)))
       | inr other ↦ same_form Ansi (escape ∷ next ∷ third ∷ rest) _ _ state (grind (arith, nat_tests)) (grind (arith, nat_tests)) (escaped (next ∷ third ∷ rest) (grind (arith, nat_tests)))
     ]

@@ -1,11 +1,11 @@
 -- What the table of the control syntax says of a byte by what is done with it.
 use Rattle.std.proofs.Common.{◌≡◌, ℕ, Bool, true, false, not, ◌==◌, ◌&&◌, arith}
 use Rattle.std.proofs.lemmas.Bool.Decides.{nat_tests}
-use Rattle.vt_parser.specs.declared.controls.Context.{Context}
-use Rattle.vt_parser.specs.declared.controls.Context.TheVariants.{Ground, Sequence, Text}
-use Rattle.vt_parser.specs.declared.controls.Action.{Action}
-use Rattle.vt_parser.specs.declared.controls.Action.TheVariants.{Print, Execute, Ignore, Begin, Join, End, Cancel}
-use Rattle.vt_parser.specs.Control.{escape, is_within, is_graphic, actions_by, actions_of, action_of}
+use Rattle.vt_parser.specs.declared.syntax.Context.{Context}
+use Rattle.vt_parser.specs.declared.syntax.Context.TheVariants.{Ground, Sequence, Text}
+use Rattle.vt_parser.specs.declared.syntax.Action.{Action}
+use Rattle.vt_parser.specs.declared.syntax.Action.TheVariants.{Print, Execute, Ignore, Begin, Join, End, Cancel}
+use Rattle.vt_parser.specs.Syntax.{escape, is_within, is_graphic, actions_by, actions_of, action_of}
 
 abbrev pub is_sequence : Context → Bool
 is_sequence Sequence = true

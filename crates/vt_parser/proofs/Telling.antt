@@ -12,13 +12,13 @@ use Rattle.vt_parser.specs.declared.tokens.Token.{Token}
 use Rattle.vt_parser.specs.declared.tokens.Token.TheVariants as tokens
 use Rattle.vt_parser.specs.declared.states.ParserState.{ParserState}
 use Rattle.vt_parser.specs.declared.states.ParserState.TheVariants.{Ground, Csi}
-use Rattle.vt_parser.specs.Control.{is_graphic}
+use Rattle.vt_parser.specs.Syntax.{is_graphic}
 use Rattle.vt_parser.specs.View.{parser_view, IsShown}
 use Rattle.vt_parser.specs.Step.{command_of, pending_after, mode_after}
 use Rattle.vt_parser.specs.Fold.{mode_after_bytes, pending_after_bytes, Gives}
 use Rattle.vt_parser.specs.Law.{IsProper}
 use Rattle.vt_parser.specs.Token.{token_command, command_of_token, TellsOf, Leads}
-use Rattle.vt_parser.specs.Machine.{Step, joined, Runs}
+use Rattle.vt_parser.specs.Machine.{Outcome, joined, Runs}
 use Rattle.vt_parser.proofs.Whole.{joins}
 use Rattle.vt_parser.specs.Reading.{HasParams, event_command, IsTokenOf}
 use Rattle.vt_parser.proofs.Shapes.{shows_none}
@@ -32,19 +32,19 @@ use Rattle.vt_parser.proofs.ManyBytes.{runs_agree}
 pub has_params : (state : ParserState) → IsShown state → HasParams state
 unfolding joined
 has_params (Csi private params over) shown =
-    let told = same_command shown.0 shown.0 shown.1 64 (Csi private params over) shown.2 ∙ ap (λ (s : Step). s.command) (joins (Csi private params over) shown.0 64 refl refl) in
+    let told = same_command shown.0 shown.0 shown.1 64 (Csi private params over) shown.2 ∙ ap (λ (s : Outcome). s.command) (joins (Csi private params over) shown.0 64 refl refl) in
     let P : Option Command → Type 0 = λ command. IfSome command IsProper in
     (subst P told (commands_are_proper shown.0 shown.1 64)).0
 has_params state shown = tt
 
-pub shown_after : (state : ParserState) (given : Mode) (bytes : List ℕ) (step : Step) → IsShown state → Runs state given bytes step → IsShown step.state
+pub shown_after : (state : ParserState) (given : Mode) (bytes : List ℕ) (step : Outcome) → IsShown state → Runs state given bytes step → IsShown step.state
 shown_after state given bytes step shown runs = (
   mode_after_bytes given shown.0 bytes,
   pending_after_bytes given shown.0 shown.1 bytes,
   (runs_agree given shown.0 shown.1 state bytes step shown.2 runs).1,
 )
 
-pub leads : (state : ParserState) (given : Mode) (bytes : List ℕ) (step : Step) → Runs state given bytes step → Leads state given bytes step.state
+pub leads : (state : ParserState) (given : Mode) (bytes : List ℕ) (step : Outcome) → Runs state given bytes step → Leads state given bytes step.state
 leads state given bytes step runs = λ mode pending view. (runs_agree given mode pending state bytes step view runs).1
 
 -- ---- runs on ground

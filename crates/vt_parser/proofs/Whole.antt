@@ -8,17 +8,17 @@ use Rattle.vt_parser.specs.declared.commands.Mode.{Mode}
 use Rattle.vt_parser.specs.declared.commands.Mode.TheVariants.{Ansi}
 use Rattle.vt_parser.specs.declared.commands.Command.{Command}
 use Rattle.vt_parser.specs.declared.commands.Command.TheVariants.{Esc}
-use Rattle.vt_parser.specs.declared.controls.Context.TheVariants as context
+use Rattle.vt_parser.specs.declared.syntax.Context.TheVariants as context
 use Rattle.vt_parser.specs.declared.states.ParserState.{ParserState}
 use Rattle.vt_parser.specs.declared.states.ParserState.TheVariants.{Ground, Escape, EscapeOne, CsiStart, Text}
-use Rattle.vt_parser.specs.Control.{escape, is_graphic}
-use Rattle.vt_parser.specs.Sequence.{is_escape_final, is_control_text, is_control_final, control_meaning}
-use Rattle.vt_parser.specs.View.{control_view}
+use Rattle.vt_parser.specs.Syntax.{escape, is_graphic}
+use Rattle.vt_parser.specs.Forms.{is_escape_final, is_control_sequence_text, is_control_sequence_final, control_sequence_meaning}
+use Rattle.vt_parser.specs.View.{control_sequence_view}
 use Rattle.vt_parser.specs.Fold.{Finishes}
-use Rattle.vt_parser.specs.Law.{EscapesFinish, DesignationsFinish, ControlsFinish}
+use Rattle.vt_parser.specs.Law.{EscapesFinish, DesignationsFinish, ControlSequencesFinish}
 use Rattle.vt_parser.specs.Machine.{context_in, moves_to, gives, joined, begun, stepped, Runs}
 use Rattle.vt_parser.proofs.Agrees.{ground_is_empty}
-use Rattle.vt_parser.proofs.Control.{control_joins}
+use Rattle.vt_parser.proofs.Growing.{control_sequence_joins}
 use Rattle.vt_parser.proofs.ManyBytes.{runs_more, runs_agree}
 use Rattle.vt_parser.proofs.Shapes.{shows_none}
 use Rattle.vt_parser.proofs.Table.{graphic_actions}
@@ -68,27 +68,27 @@ designation_finishes inter last first is =
     (runs_more Escape (EscapeOne inter) Ansi inter (last ∷ []) _ (joins Escape Ansi inter refl (grind (arith, nat_tests)) ∙ simp first)
     (last_joins (EscapeOne inter) last (Esc (Some inter) last) refl is (grind (arith, nat_tests))))
 
-text_inside : (text : List ℕ) → context_in (control_view text) ≡ context.Sequence
+text_inside : (text : List ℕ) → context_in (control_sequence_view text) ≡ context.Sequence
 text_inside [] = refl
 text_inside (first ∷ rest) = grind (arith, nat_tests)
 
-runs_text : (done text : List ℕ) (last : ℕ) → list_all is_control_text text ≡ true → is_control_final last ≡ true
-    → Runs (control_view done) Ansi (text ++ last ∷ []) (gives (control_meaning (done ++ text) last))
+runs_text : (done text : List ℕ) (last : ℕ) → list_all is_control_sequence_text text ≡ true → is_control_sequence_final last ≡ true
+    → Runs (control_sequence_view done) Ansi (text ++ last ∷ []) (gives (control_sequence_meaning (done ++ text) last))
 runs_text done [] last all is =
-    let ends : joined (control_view done) last ≡ gives (control_meaning done last) = grind (arith, nat_tests, control_joins done last) in
-    joins (control_view done) Ansi last (text_inside done) (grind (arith, nat_tests)) ∙ ends
-    ∙ ap (λ (text : List ℕ). gives (control_meaning text last)) (sym (append-nil done))
+    let ends : joined (control_sequence_view done) last ≡ gives (control_sequence_meaning done last) = grind (arith, nat_tests, control_sequence_joins done last) in
+    joins (control_sequence_view done) Ansi last (text_inside done) (grind (arith, nat_tests)) ∙ ends
+    ∙ ap (λ (text : List ℕ). gives (control_sequence_meaning text last)) (sym (append-nil done))
 runs_text done (byte ∷ text) last all is =
-    let parts = and_parts (is_control_text byte) (list_all is_control_text text) all in
+    let parts = and_parts (is_control_sequence_text byte) (list_all is_control_sequence_text text) all in
     let first = parts.0 in
-    let more : joined (control_view done) byte ≡ moves_to (control_view (done ++ byte ∷ [])) = grind (arith, nat_tests, control_joins done byte) in
-    runs_more (control_view done) (control_view (done ++ byte ∷ [])) Ansi byte (text ++ last ∷ []) _
-    (joins (control_view done) Ansi byte (text_inside done) (grind (arith, nat_tests)) ∙ more)
-    (subst (λ (whole : List ℕ). Runs (control_view (done ++ byte ∷ [])) Ansi (text ++ last ∷ []) (gives (control_meaning whole last)))
+    let more : joined (control_sequence_view done) byte ≡ moves_to (control_sequence_view (done ++ byte ∷ [])) = grind (arith, nat_tests, control_sequence_joins done byte) in
+    runs_more (control_sequence_view done) (control_sequence_view (done ++ byte ∷ [])) Ansi byte (text ++ last ∷ []) _
+    (joins (control_sequence_view done) Ansi byte (text_inside done) (grind (arith, nat_tests)) ∙ more)
+    (subst (λ (whole : List ℕ). Runs (control_sequence_view (done ++ byte ∷ [])) Ansi (text ++ last ∷ []) (gives (control_sequence_meaning whole last)))
     (append_assoc done (byte ∷ []) text) (runs_text (done ++ byte ∷ []) text last parts.1 is))
 
-pub control_finishes : ControlsFinish
+pub control_sequence_finishes : ControlSequencesFinish
 unfolding joined
-control_finishes text last all is =
-    finishes (91 ∷ (text ++ last ∷ [])) (control_meaning text last)
+control_sequence_finishes text last all is =
+    finishes (91 ∷ (text ++ last ∷ [])) (control_sequence_meaning text last)
     (runs_more Escape CsiStart Ansi 91 (text ++ last ∷ []) _ (joins Escape Ansi 91 refl refl) (runs_text [] text last all is))

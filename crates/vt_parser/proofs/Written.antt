@@ -11,12 +11,12 @@ use Rattle.std.proofs.lemmas.List.Splits.{slice_split_none, slice_split_at}
 use Rattle.std.proofs.lemmas.List.Sums.{fold-append, AllPass-from_list_all}
 use Rattle.vt_parser.specs.declared.commands.Mode.TheVariants.{Ansi}
 use Rattle.vt_parser.specs.declared.commands.Command.TheVariants.{Csi}
-use Rattle.vt_parser.specs.Control.{escape}
-use Rattle.vt_parser.specs.Sequence.{most_params, is_digit, is_semicolon, is_plain, is_private, after_mark, is_control_text, decimal_value, parameter, numbers, held, control_meaning}
+use Rattle.vt_parser.specs.Syntax.{escape}
+use Rattle.vt_parser.specs.Forms.{most_params, is_digit, is_semicolon, is_plain, is_private, after_mark, is_control_sequence_text, decimal_value, parameter, numbers, held, control_sequence_meaning}
 use Rattle.vt_parser.specs.Decimals.{params_text}
 use Rattle.vt_parser.specs.Fold.{Finishes}
-use Rattle.vt_parser.specs.Law.{AreParams, DecimalsAreRead, WrittenControlsFinish, WrittenPrivatesFinish}
-use Rattle.vt_parser.proofs.Whole.{control_finishes}
+use Rattle.vt_parser.specs.Law.{AreParams, DecimalsAreRead, WrittenSequencesFinish, WrittenPrivatesFinish}
+use Rattle.vt_parser.proofs.Whole.{control_sequence_finishes}
 
 -- a test that follows from another one, of each item
 list_all_weaker : (test other : ℕ → Bool) (items : List ℕ) → ((item : ℕ) → test item ≡ true → other item ≡ true) → list_all test items ≡ true → list_all other items ≡ true
@@ -97,23 +97,23 @@ decimals_are_read (first ∷ rest) are =
 text_of : (numbers : List ℕ) → AreParams numbers → list_all is_plain (params_text numbers) ≡ true
 text_of numbers are = text_plain numbers (recursion_from_All _ numbers are.small)
 
-text_joins : (text : List ℕ) → list_all is_plain text ≡ true → list_all is_control_text text ≡ true
-text_joins text plain = list_all_weaker is_plain is_control_text text (λ byte is. grind (arith, nat_tests)) plain
+text_joins : (text : List ℕ) → list_all is_plain text ≡ true → list_all is_control_sequence_text text ≡ true
+text_joins text plain = list_all_weaker is_plain is_control_sequence_text text (λ byte is. grind (arith, nat_tests)) plain
 
-pub written_controls_finish : WrittenControlsFinish
-written_controls_finish numbers last are is =
+pub written_sequences_finish : WrittenSequencesFinish
+written_sequences_finish numbers last are is =
     let plain = text_of numbers are in
     let bare = unmarked (params_text numbers) plain in
     let no_mark = bare.0 in
     let whole = bare.1 in
     let read = decimals_are_read numbers are in
-    let means : control_meaning (params_text numbers) last ≡ Some (Csi false (held numbers) last) = simp (no_mark, whole, plain, read) in
-    subst (Finishes Ansi (escape ∷ 91 ∷ (params_text numbers ++ last ∷ []))) means (control_finishes (params_text numbers) last (text_joins (params_text numbers) plain) is)
+    let means : control_sequence_meaning (params_text numbers) last ≡ Some (Csi false (held numbers) last) = simp (no_mark, whole, plain, read) in
+    subst (Finishes Ansi (escape ∷ 91 ∷ (params_text numbers ++ last ∷ []))) means (control_sequence_finishes (params_text numbers) last (text_joins (params_text numbers) plain) is)
 
 pub written_privates_finish : WrittenPrivatesFinish
 written_privates_finish numbers last are is =
     let plain = text_of numbers are in
     let read = decimals_are_read numbers are in
     let joins = text_joins (params_text numbers) plain in
-    let means : control_meaning (63 ∷ params_text numbers) last ≡ Some (Csi true (held numbers) last) = simp (plain, read) in
-    subst (Finishes Ansi (escape ∷ 91 ∷ 63 ∷ (params_text numbers ++ last ∷ []))) means (control_finishes (63 ∷ params_text numbers) last (simp joins) is)
+    let means : control_sequence_meaning (63 ∷ params_text numbers) last ≡ Some (Csi true (held numbers) last) = simp (plain, read) in
+    subst (Finishes Ansi (escape ∷ 91 ∷ 63 ∷ (params_text numbers ++ last ∷ []))) means (control_sequence_finishes (63 ∷ params_text numbers) last (simp joins) is)

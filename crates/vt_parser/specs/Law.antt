@@ -8,8 +8,8 @@ use Rattle.vt_parser.specs.declared.commands.Command.{Command}
 use Rattle.vt_parser.specs.declared.commands.Command.TheVariants.{Show, Error, Control, Esc, Csi, Vt52, Vt52Address}
 use Rattle.vt_parser.specs.declared.states.ParserState.{ParserState}
 use Rattle.vt_parser.specs.declared.states.ParserState.TheVariants.{Ground}
-use Rattle.vt_parser.specs.Control.{escape, is_within, is_graphic}
-use Rattle.vt_parser.specs.Sequence.{is_intermediate, is_escape_final, is_control_text, is_control_final, bracket, begins_control, begins_string, question_mark, greatest_param, params, held, control_meaning, most_params}
+use Rattle.vt_parser.specs.Syntax.{escape, is_within, is_graphic}
+use Rattle.vt_parser.specs.Forms.{is_intermediate, is_escape_final, is_control_sequence_text, is_control_sequence_final, bracket, begins_control_sequence, begins_string, question_mark, greatest_param, params, held, control_sequence_meaning, most_params}
 use Rattle.vt_parser.specs.View.{parser_view}
 use Rattle.vt_parser.specs.Step.{command_of, pending_after, mode_after}
 use Rattle.vt_parser.specs.Fold.{Finishes}
@@ -117,7 +117,7 @@ SameModeStays = (mode : Mode) (byte : ℕ) → mode_after mode mode byte ≡ mod
 -- ESC and a final byte that opens nothing longer
 abbrev pub EscapesFinish : Type 0
 EscapesFinish =
-    (last : ℕ) → is_escape_final last ≡ true → begins_control last ≡ false → begins_string last ≡ false
+    (last : ℕ) → is_escape_final last ≡ true → begins_control_sequence last ≡ false → begins_string last ≡ false
     → Finishes Ansi (escape ∷ last ∷ []) (Some (Esc None last))
 
 -- ESC, an intermediate and a final byte
@@ -127,10 +127,10 @@ DesignationsFinish =
     → Finishes Ansi (escape ∷ inter ∷ last ∷ []) (Some (Esc (Some inter) last))
 
 -- ESC [, a text and a final byte
-abbrev pub ControlsFinish : Type 0
-ControlsFinish =
-    (text : List ℕ) (last : ℕ) → list_all is_control_text text ≡ true → is_control_final last ≡ true
-    → Finishes Ansi (escape ∷ bracket ∷ (text ++ last ∷ [])) (control_meaning text last)
+abbrev pub ControlSequencesFinish : Type 0
+ControlSequencesFinish =
+    (text : List ℕ) (last : ℕ) → list_all is_control_sequence_text text ≡ true → is_control_sequence_final last ≡ true
+    → Finishes Ansi (escape ∷ bracket ∷ (text ++ last ∷ [])) (control_sequence_meaning text last)
 
 -- numbers that a text can hold as its parameters
 pub record AreParams (numbers : List ℕ) : Type 0 where
@@ -143,12 +143,12 @@ abbrev pub DecimalsAreRead : Type 0
 DecimalsAreRead = (numbers : List ℕ) → AreParams numbers → params (params_text numbers) ≡ numbers
 
 -- ESC [, numbers in decimal and a final byte; and the same with `?` before the numbers
-abbrev pub WrittenControlsFinish : Type 0
-WrittenControlsFinish =
-    (numbers : List ℕ) (last : ℕ) → AreParams numbers → is_control_final last ≡ true
+abbrev pub WrittenSequencesFinish : Type 0
+WrittenSequencesFinish =
+    (numbers : List ℕ) (last : ℕ) → AreParams numbers → is_control_sequence_final last ≡ true
     → Finishes Ansi (escape ∷ bracket ∷ (params_text numbers ++ last ∷ [])) (Some (Csi false (held numbers) last))
 
 abbrev pub WrittenPrivatesFinish : Type 0
 WrittenPrivatesFinish =
-    (numbers : List ℕ) (last : ℕ) → AreParams numbers → is_control_final last ≡ true
+    (numbers : List ℕ) (last : ℕ) → AreParams numbers → is_control_sequence_final last ≡ true
     → Finishes Ansi (escape ∷ bracket ∷ question_mark ∷ (params_text numbers ++ last ∷ [])) (Some (Csi true (held numbers) last))

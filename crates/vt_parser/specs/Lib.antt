@@ -1,5 +1,5 @@
-pub mod Control
-pub mod Sequence
+pub mod Syntax
+pub mod Forms
 pub mod View
 pub mod Step
 pub mod Fold

@@ -6,14 +6,14 @@ use Rattle.vt_parser.specs.declared.commands.Mode.{Mode}
 use Rattle.vt_parser.specs.declared.commands.Mode.TheVariants.{Ansi, Vt52 as Vt52Mode}
 use Rattle.vt_parser.specs.declared.commands.Command.{Command}
 use Rattle.vt_parser.specs.declared.commands.Command.TheVariants.{Show, Error, Esc, Csi as CsiCommand, Vt52, Vt52Address}
-use Rattle.vt_parser.specs.declared.controls.Context.{Context}
-use Rattle.vt_parser.specs.declared.controls.Context.TheVariants as context
-use Rattle.vt_parser.specs.declared.controls.Action.{Action}
-use Rattle.vt_parser.specs.declared.controls.Action.TheVariants.{Ignore, Execute, Print, Mark, Begin, Join, End, Cancel}
+use Rattle.vt_parser.specs.declared.syntax.Context.{Context}
+use Rattle.vt_parser.specs.declared.syntax.Context.TheVariants as context
+use Rattle.vt_parser.specs.declared.syntax.Action.{Action}
+use Rattle.vt_parser.specs.declared.syntax.Action.TheVariants.{Ignore, Execute, Print, Mark, Begin, Join, End, Cancel}
 use Rattle.vt_parser.specs.declared.states.ParserState.{ParserState}
 use Rattle.vt_parser.specs.declared.states.ParserState.TheVariants.{Ground, Escape, EscapeOne, EscapeMany, CsiStart, Csi, CsiIgnored, Text, Vt52Escape, Vt52Line, Vt52Column}
-use Rattle.vt_parser.specs.Control.{action_of}
-use Rattle.vt_parser.specs.Sequence.{is_intermediate, is_control_final, begins_control, begins_string, begins_address, is_digit, is_semicolon, question_mark, greatest_param, most_params, held, front, final}
+use Rattle.vt_parser.specs.Syntax.{action_of}
+use Rattle.vt_parser.specs.Forms.{is_intermediate, is_control_sequence_final, begins_control_sequence, begins_string, begins_address, is_digit, is_semicolon, question_mark, greatest_param, most_params, held, front, final}
 use Rattle.vt_parser.specs.Step.{control_of}
 
 -- where a state is
@@ -31,14 +31,14 @@ context_in Vt52Line = context.Sequence
 context_in (Vt52Column line) = context.Sequence
 
 -- the state after a byte, and its command
-pub record Step : Type 0 where
+pub record Outcome : Type 0 where
   pub state : ParserState
   pub command : Option Command
 
-abbrev pub moves_to : ParserState → Step
+abbrev pub moves_to : ParserState → Outcome
 moves_to state = record { state = state; command = None }
 
-abbrev pub gives : Option Command → Step
+abbrev pub gives : Option Command → Outcome
 gives command = record { state = Ground; command = command }
 
 -- a number with one more digit, at most the greatest parameter
@@ -49,10 +49,10 @@ with_digit value digit = min greatest_param (10 * value + (digit - 48))
 abbrev pub with_last_digit : List ℕ → ℕ → List ℕ
 with_last_digit params digit = front params ++ with_digit (final params) digit ∷ []
 
-abbrev pub escape_joined : ℕ → Step
+abbrev pub escape_joined : ℕ → Outcome
 escape_joined byte =
     if is_intermediate byte then moves_to (EscapeOne byte)
-    else (if begins_control byte then moves_to CsiStart
+    else (if begins_control_sequence byte then moves_to CsiStart
     else (if begins_string byte then moves_to Text
     else gives (Some (Esc None byte))))
 
@@ -65,28 +65,28 @@ semicolon_joined private params over =
     if nat_lt (length params.items) most_params then Csi private (held (params.items ++ 0 ∷ [])) over
     else Csi private params true
 
-abbrev pub control_joined : Bool → ArrayVec ℕ → Bool → ℕ → Step
-control_joined private params over byte =
-    if is_control_final byte then gives (Some (CsiCommand private params byte))
+abbrev pub control_sequence_joined : Bool → ArrayVec ℕ → Bool → ℕ → Outcome
+control_sequence_joined private params over byte =
+    if is_control_sequence_final byte then gives (Some (CsiCommand private params byte))
     else (if is_digit byte then moves_to (digit_joined private params over byte)
     else (if is_semicolon byte then moves_to (semicolon_joined private params over)
     else moves_to CsiIgnored))
 
 -- the first byte of a text: `?` marks it, and any other joins as if it followed a parameter 0
-abbrev pub start_joined : ℕ → Step
+abbrev pub start_joined : ℕ → Outcome
 start_joined byte =
-    if byte == question_mark then moves_to (Csi true (held (0 ∷ [])) false) else control_joined false (held (0 ∷ [])) false byte
+    if byte == question_mark then moves_to (Csi true (held (0 ∷ [])) false) else control_sequence_joined false (held (0 ∷ [])) false byte
 
 -- a byte that joins, 32 to 126
-unfoldable pub joined : ParserState → ℕ → Step
+unfoldable pub joined : ParserState → ℕ → Outcome
 joined Ground byte = moves_to Ground
 joined Text byte = moves_to Text
 joined Escape byte = escape_joined byte
 joined (EscapeOne inter) byte = if is_intermediate byte then moves_to EscapeMany else gives (Some (Esc (Some inter) byte))
 joined EscapeMany byte = if is_intermediate byte then moves_to EscapeMany else gives None
 joined CsiStart byte = start_joined byte
-joined (Csi private params over) byte = control_joined private params over byte
-joined CsiIgnored byte = if is_control_final byte then gives None else moves_to CsiIgnored
+joined (Csi private params over) byte = control_sequence_joined private params over byte
+joined CsiIgnored byte = if is_control_sequence_final byte then gives None else moves_to CsiIgnored
 joined Vt52Escape byte = if begins_address byte then moves_to Vt52Line else gives (Some (Vt52 byte))
 joined Vt52Line byte = moves_to (Vt52Column byte)
 joined (Vt52Column line) byte = gives (Some (Vt52Address (line - 31) (byte - 31)))
@@ -96,7 +96,7 @@ abbrev pub begun : Mode → ParserState
 begun Ansi = Escape
 begun Vt52Mode = Vt52Escape
 
-abbrev pub stepped_by : Action → ParserState → Mode → ℕ → Step
+abbrev pub stepped_by : Action → ParserState → Mode → ℕ → Outcome
 stepped_by Ignore state mode byte = moves_to state
 stepped_by Execute state mode byte = record { state = state; command = control_of byte }
 stepped_by Print state mode byte = record { state = state; command = Some (Show byte) }
@@ -107,11 +107,11 @@ stepped_by End state mode byte = moves_to Ground
 stepped_by Cancel state mode byte = gives (Some Error)
 
 -- one step of the machine
-unfoldable pub stepped : ParserState → Mode → ℕ → Step
+unfoldable pub stepped : ParserState → Mode → ℕ → Outcome
 stepped state mode byte = stepped_by (action_of (context_in state) byte) state mode byte
 
 -- the machine over bytes: with the last of them this step is made, and no command comes before it
-abbrev pub Runs : ParserState → Mode → List ℕ → Step → Type 0
+abbrev pub Runs : ParserState → Mode → List ℕ → Outcome → Type 0
 Runs state mode [] step = moves_to state ≡ step
 Runs state mode (byte ∷ []) step = stepped state mode byte ≡ step
 Runs state mode (byte ∷ next ∷ rest) step =

@@ -12,8 +12,8 @@ use Rattle.vt_parser.specs.declared.tokens.Token.{Token}
 use Rattle.vt_parser.specs.declared.tokens.Token.TheVariants as tokens
 use Rattle.vt_parser.specs.declared.states.ParserState.{ParserState}
 use Rattle.vt_parser.specs.declared.states.ParserState.TheVariants.{CsiStart, Csi as CsiState}
-use Rattle.vt_parser.specs.Sequence.{question_mark, most_params, held}
-use Rattle.vt_parser.specs.Machine.{Step, moves_to, Runs}
+use Rattle.vt_parser.specs.Forms.{question_mark, most_params, held}
+use Rattle.vt_parser.specs.Machine.{Outcome, moves_to, Runs}
 
 -- ---- states
 
@@ -60,11 +60,11 @@ reached_command (reached.Event event) params = event_command event
 reached_command (reached.Csi private count last) params = Some (command.Csi private (held (take count params)) last)
 
 -- the machine's step to an event, and to what was reached
-abbrev pub event_step : Option Event → ParserState → Step
-event_step event state = record { state = state; command = event_command event }
+abbrev pub event_outcome : Option Event → ParserState → Outcome
+event_outcome event state = record { state = state; command = event_command event }
 
-abbrev pub reached_step : Reached → List ℕ → ParserState → Step
-reached_step told params state = record { state = state; command = reached_command told params }
+abbrev pub reached_outcome : Reached → List ℕ → ParserState → Outcome
+reached_outcome told params state = record { state = state; command = reached_command told params }
 
 -- the parameters lie in the array
 abbrev pub IsLent : Reached → Type 0
@@ -72,7 +72,7 @@ IsLent (reached.Event event) = Unit {0}
 IsLent (reached.Csi private count last) = count ≤ most_params
 
 -- from wherever bytes led to a state, more of them lead to another one
-abbrev pub GoesOn : List ℕ → ParserState → List ℕ → Step → Type 0
+abbrev pub GoesOn : List ℕ → ParserState → List ℕ → Outcome → Type 0
 GoesOn front state bytes step = (start : ParserState) (mode : Mode) → Runs start mode front (moves_to state) → Runs start mode bytes step
 
 -- ---- tokens

@@ -4,12 +4,12 @@ use Rattle.vt_parser.specs.declared.commands.Mode.{Mode}
 use Rattle.vt_parser.specs.declared.commands.Mode.TheVariants.{Ansi, Vt52}
 use Rattle.vt_parser.specs.declared.commands.Command.{Command}
 use Rattle.vt_parser.specs.declared.commands.Command.TheVariants.{Show, Error, Control}
-use Rattle.vt_parser.specs.declared.controls.Context.{Context}
-use Rattle.vt_parser.specs.declared.controls.Context.TheVariants.{Ground, Sequence, Text}
-use Rattle.vt_parser.specs.declared.controls.Action.{Action}
-use Rattle.vt_parser.specs.declared.controls.Action.TheVariants.{Ignore, Execute, Print, Mark, Begin, Join, End, Cancel}
-use Rattle.vt_parser.specs.Control.{escape, is_within, action_of}
-use Rattle.vt_parser.specs.Sequence.{is_string_begun, is_whole, meaning}
+use Rattle.vt_parser.specs.declared.syntax.Context.{Context}
+use Rattle.vt_parser.specs.declared.syntax.Context.TheVariants.{Ground, Sequence, Text}
+use Rattle.vt_parser.specs.declared.syntax.Action.{Action}
+use Rattle.vt_parser.specs.declared.syntax.Action.TheVariants.{Ignore, Execute, Print, Mark, Begin, Join, End, Cancel}
+use Rattle.vt_parser.specs.Syntax.{escape, is_within, action_of}
+use Rattle.vt_parser.specs.Forms.{is_string_begun, is_whole, meaning}
 
 -- the column of the table for these pending bytes
 unfoldable pub context_of : Mode → List ℕ → Context

@@ -7,8 +7,8 @@ use Rattle.vt_parser.specs.declared.commands.Command.TheVariants as command
 use Rattle.vt_parser.specs.declared.tokens.Token.{Token}
 use Rattle.vt_parser.specs.declared.tokens.Token.TheVariants.{Show, Error, Control, Esc, Csi, Vt52, Vt52Address}
 use Rattle.vt_parser.specs.declared.states.ParserState.{ParserState}
-use Rattle.vt_parser.specs.Control.{is_graphic}
-use Rattle.vt_parser.specs.Sequence.{held}
+use Rattle.vt_parser.specs.Syntax.{is_graphic}
+use Rattle.vt_parser.specs.Forms.{held}
 use Rattle.vt_parser.specs.View.{parser_view}
 use Rattle.vt_parser.specs.Fold.{mode_after_bytes, pending_after_bytes, Gives}
 

@@ -4,7 +4,7 @@ use Rattle.vt_parser.specs.declared.commands.Mode.{Mode}
 use Rattle.vt_parser.specs.declared.commands.Mode.TheVariants.{Ansi, Vt52}
 use Rattle.vt_parser.specs.declared.states.ParserState.{ParserState}
 use Rattle.vt_parser.specs.declared.states.ParserState.TheVariants.{Ground, Escape, EscapeOne, EscapeMany, CsiStart, Csi, CsiIgnored, Text, Vt52Escape, Vt52Line, Vt52Column}
-use Rattle.vt_parser.specs.Sequence.{is_control_begun, is_string_begun, is_escape_begun, is_lone_escape, is_address_begun, is_line_begun, is_well_formed, is_private, after_mark, params, has_more, held}
+use Rattle.vt_parser.specs.Forms.{is_control_sequence_begun, is_string_begun, is_escape_begun, is_lone_escape, is_address_begun, is_line_begun, is_well_formed, is_private, after_mark, params, has_more, held}
 
 -- of ESC and intermediates, by the intermediates
 abbrev pub escape_view : List ℕ → ParserState
@@ -13,16 +13,16 @@ escape_view (inter ∷ []) = EscapeOne inter
 escape_view (inter ∷ next ∷ rest) = EscapeMany
 
 -- of ESC [ and a text, by the text
-abbrev pub control_view : List ℕ → ParserState
-control_view [] = CsiStart
-control_view (byte ∷ rest) =
+abbrev pub control_sequence_view : List ℕ → ParserState
+control_sequence_view [] = CsiStart
+control_sequence_view (byte ∷ rest) =
     if is_well_formed (byte ∷ rest)
     then Csi (is_private (byte ∷ rest)) (held (params (after_mark (byte ∷ rest)))) (has_more (after_mark (byte ∷ rest)))
     else CsiIgnored
 
 abbrev pub ansi_view : List ℕ → Option ParserState
 ansi_view pending =
-    if is_control_begun pending then Some (control_view (drop 2 pending))
+    if is_control_sequence_begun pending then Some (control_sequence_view (drop 2 pending))
     else (if is_string_begun pending then Some Text
     else (if is_escape_begun pending then Some (escape_view (drop 1 pending))
     else None))

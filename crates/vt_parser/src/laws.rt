@@ -1,5 +1,5 @@
 //! What holds of every step, for the layers above. Each function's contract is the law, and its body is empty.
-ghost use Rattle.vt_parser.specs.Law.{StateDecides, StaysShown, GroundIsEmpty, FinishedLeavesNothing, PendingPays, GraphicIsShown, ControlIsGiven, CommandsAreProper, SameModeStays, EscapesFinish, DesignationsFinish, ControlsFinish, DecimalsAreRead, WrittenControlsFinish, WrittenPrivatesFinish};
+ghost use Rattle.vt_parser.specs.Law.{StateDecides, StaysShown, GroundIsEmpty, FinishedLeavesNothing, PendingPays, GraphicIsShown, ControlIsGiven, CommandsAreProper, SameModeStays, EscapesFinish, DesignationsFinish, ControlSequencesFinish, DecimalsAreRead, WrittenSequencesFinish, WrittenPrivatesFinish};
 
 /// Pending bytes that show one state give one command after any byte, and show one state again.
 pub fn state_decides()
@@ -55,12 +55,12 @@ pub fn same_mode_stays()
 pub fn whole_sequences_finish()
     ensures escape { EscapesFinish }
     ensures designation { DesignationsFinish }
-    ensures control { ControlsFinish }
+    ensures control { ControlSequencesFinish }
 {}
 
 /// Numbers that are written in decimal are the parameters that are read.
 pub fn decimals_are_read()
     ensures params { DecimalsAreRead }
-    ensures control { WrittenControlsFinish }
+    ensures control { WrittenSequencesFinish }
     ensures private { WrittenPrivatesFinish }
 {}

@@ -12,12 +12,12 @@ ghost use Rattle.vt_parser.specs.Token.{command_of_token, TellsOf, Leads};
 ghost use Rattle.vt_parser.specs.Reading.{IsTokenOf};
 
 mod commands;
-mod controls;
 pub mod laws;
 pub mod limits;
 mod machine;
 mod runs;
 mod states;
+mod syntax;
 mod tokens;
 
 pub use commands::{Command, Mode};
@@ -42,7 +42,7 @@ impl Model for Parser {
 
     ghost Value = { ParserState };
 
-    ghost use Rattle.vt_parser.specs.Sequence.{most_params};
+    ghost use Rattle.vt_parser.specs.Forms.{most_params};
     ghost use Rattle.vt_parser.specs.View.{IsShown};
 
     ghost view = { λ parser. parser.state };

@@ -1,15 +1,15 @@
 //! Bytes from a state to the next.
 ghost use Rattle.std.specs.Prelude.{◌≡◌, ◌≢◌, ◌==◌, ℕ, ◌+◌, ◌-◌, ◌≤◌, ◌<◌, List, [], ◌∷◌, ◌++◌, length, take, slice_index, true, false, Some, None};
 ghost use Rattle.std.specs.List.{list_all, prefix_len};
-ghost use Rattle.vt_parser.specs.Control.{is_graphic};
-ghost use Rattle.vt_parser.specs.Sequence.{bracket, is_intermediate, is_control_final, begins_string, held, is_plain};
+ghost use Rattle.vt_parser.specs.Syntax.{is_graphic};
+ghost use Rattle.vt_parser.specs.Forms.{bracket, is_intermediate, is_control_sequence_final, begins_string, held, is_plain};
 ghost use Rattle.vt_parser.specs.Step.{control_of};
 ghost use Rattle.vt_parser.specs.Machine.{context_in, with_digit, begun, moves_to, escape_joined, digit_joined, semicolon_joined, joined, stepped, Runs};
-ghost use Rattle.vt_parser.specs.Reading.{HasParams, IsCollecting, IsCounted, IsStarted, collected, event_command, event_step, reached_command, reached_step, IsLent, GoesOn};
+ghost use Rattle.vt_parser.specs.Reading.{HasParams, IsCollecting, IsCounted, IsStarted, collected, event_command, event_outcome, reached_command, reached_outcome, IsLent, GoesOn};
 
-use crate::controls::{Action, Context, ESC, NUL, action_of};
 use crate::limits::{GREATEST_PARAM, MOST_PARAMS};
 use crate::states::copied;
+use crate::syntax::{Action, Context, ESC, NUL, action_of};
 use crate::{Command, Mode, ParserState, printable_run};
 
 // What line and column of a direct cursor address have over their numbers.
@@ -56,8 +56,8 @@ fn is_intermediate(byte: u8) -> bool
 }
 
 #[inline]
-fn is_control_final(byte: u8) -> bool
-    ensures { result ≡ is_control_final byte }
+fn is_control_sequence_final(byte: u8) -> bool
+    ensures { result ≡ is_control_sequence_final byte }
 {
     matches!(byte, 64..=126)
 }
@@ -252,7 +252,7 @@ fn read_text(
     ensures within { result.0 ≤ length bytes.now }
     ensures lent { IsLent result.1 }
     ensures runs { GoesOn (take from bytes.now) (collected text params.old)
-        (take result.0 bytes.now) (reached_step result.1 params.new state.new) }
+        (take result.0 bytes.now) (reached_outcome result.1 params.new state.new) }
 {
     let (at, text) = collect(text, params, bytes, from);
     if at < bytes.len() {
@@ -280,7 +280,7 @@ fn read_first(state: &mut ParserState, params: &mut Params, bytes: &[u8]) -> (us
     ensures within { result.0 ≤ length bytes.now }
     ensures lent { IsLent result.1 }
     ensures runs { (mode : Mode)
-        → Runs ParserState.CsiStart mode (take result.0 bytes.now) (reached_step result.1 params.new state.new) }
+        → Runs ParserState.CsiStart mode (take result.0 bytes.now) (reached_outcome result.1 params.new state.new) }
 {
     let (text, from) = started(bytes[0]);
     read_text(state, params, text, bytes, from)
@@ -296,7 +296,7 @@ fn read_control(state: &mut ParserState, params: &mut Params, bytes: &[u8]) -> (
     ensures within { result.0 ≤ length bytes.now }
     ensures lent { IsLent result.1 }
     ensures runs { (start : ParserState)
-        → Runs start Mode.Ansi (take result.0 bytes.now) (reached_step result.1 params.new state.new) }
+        → Runs start Mode.Ansi (take result.0 bytes.now) (reached_outcome result.1 params.new state.new) }
 {
     let text = &bytes[2..];
     if text.is_empty() || !matches!(text[0], 32..=126) {
@@ -312,7 +312,7 @@ fn read_control(state: &mut ParserState, params: &mut Params, bytes: &[u8]) -> (
 // ESC and this byte.
 #[inline]
 fn join_escape(state: &mut ParserState, byte: u8) -> Option<Event>
-    ensures { event_step result state.new ≡ escape_joined byte }
+    ensures { event_outcome result state.new ≡ escape_joined byte }
 {
     if is_intermediate(byte) {
         *state = ParserState::EscapeOne(byte);
@@ -352,7 +352,7 @@ fn go_to(state: &mut ParserState, next: ParserState) -> Option<Event>
 #[tactic(auto, unfolding(crate::specs::Machine::joined))]
 fn join(state: &mut ParserState, byte: u8) -> Option<Event>
     requires { IsCollecting state.old → ⊥ }
-    ensures { event_step result state.new ≡ joined state.old byte }
+    ensures { event_outcome result state.new ≡ joined state.old byte }
 {
     match state {
         ParserState::Escape => join_escape(state, byte),
@@ -362,7 +362,7 @@ fn join(state: &mut ParserState, byte: u8) -> Option<Event>
             end(state, Some(Event::Esc { inter, last: byte }))
         }
         ParserState::EscapeMany if !is_intermediate(byte) => end(state, None),
-        ParserState::CsiIgnored if is_control_final(byte) => end(state, None),
+        ParserState::CsiIgnored if is_control_sequence_final(byte) => end(state, None),
         ParserState::Vt52Escape if byte == b'Y' => go_to(state, ParserState::Vt52Line),
         ParserState::Vt52Escape => end(state, Some(Event::Vt52(byte))),
         ParserState::Vt52Line => go_to(state, ParserState::Vt52Column(byte)),
@@ -385,7 +385,7 @@ fn read_graphic(state: &mut ParserState, params: &mut Params, bytes: &[u8]) -> (
     ensures some { 0 < result.0 }
     ensures within { result.0 ≤ length bytes.now }
     ensures lent { IsLent result.1 }
-    ensures runs { (mode : Mode) → Runs state.old mode (take result.0 bytes.now) (reached_step result.1 params.new state.new) }
+    ensures runs { (mode : Mode) → Runs state.old mode (take result.0 bytes.now) (reached_outcome result.1 params.new state.new) }
 {
     match state {
         ParserState::CsiStart => read_first(state, params, bytes),
@@ -406,7 +406,7 @@ fn read_graphic(state: &mut ParserState, params: &mut Params, bytes: &[u8]) -> (
 #[tactic(auto, unfolding(crate::specs::Machine::stepped))]
 fn act(state: &mut ParserState, mode: Mode, byte: u8) -> Option<Event>
     requires { is_graphic byte ≡ false }
-    ensures { event_step result state.new ≡ stepped state.old mode byte }
+    ensures { event_outcome result state.new ≡ stepped state.old mode byte }
 {
     match action_of(context_in(state), byte) {
         Action::Ignore => None,
@@ -447,7 +447,7 @@ pub(crate) fn read(
     ensures within { result.0 ≤ length bytes.now }
     ensures long { length params.new ≡ MOST_PARAMS }
     ensures lent { IsLent result.1 }
-    ensures runs { Runs state.old mode (take result.0 bytes.now) (reached_step result.1 params.new state.new) }
+    ensures runs { Runs state.old mode (take result.0 bytes.now) (reached_outcome result.1 params.new state.new) }
 {
     match bytes[0] {
         32..=126 => read_graphic(state, params, bytes),

@@ -2,7 +2,7 @@
 ghost use Rattle.std.specs.Prelude.{◌≡◌, ◌+◌, ◌≤◌, length, drop, map};
 ghost use Rattle.std.specs.List.{prefix_len};
 ghost use Rattle.std.specs.Simd.Lanes.{mask_l};
-ghost use Rattle.vt_parser.specs.Control.{is_graphic, is_other};
+ghost use Rattle.vt_parser.specs.Syntax.{is_graphic, is_other};
 
 use std::simd::prelude::*;
 

@@ -7,11 +7,11 @@ use Rattle.vt_parser.specs.declared.commands.Mode.{Mode}
 use Rattle.vt_parser.specs.declared.commands.Mode.TheVariants.{Ansi}
 use Rattle.vt_parser.specs.declared.commands.Command.{Command}
 use Rattle.vt_parser.specs.declared.commands.Command.TheVariants.{Show, Control, Esc, Csi}
-use Rattle.vt_parser.specs.Control.{escape, is_graphic}
-use Rattle.vt_parser.specs.Sequence.{held}
+use Rattle.vt_parser.specs.Syntax.{escape, is_graphic}
+use Rattle.vt_parser.specs.Forms.{held}
 use Rattle.vt_parser.specs.Decimals.{params_text}
 use Rattle.vt_parser.specs.Fold.{Finishes}
-use Rattle.vt_parser.specs.Law.{GraphicIsShown, ControlIsGiven, EscapesFinish, DesignationsFinish, WrittenControlsFinish, WrittenPrivatesFinish}
+use Rattle.vt_parser.specs.Law.{GraphicIsShown, ControlIsGiven, EscapesFinish, DesignationsFinish, WrittenSequencesFinish, WrittenPrivatesFinish}
 use Rattle.vt_term.specs.Console.{Console}
 use Rattle.vt_term.specs.Effect.{effect, reply, glyph_shown, glyph_for}
 use Rattle.vt_term.specs.Term.{Term, play, sent}
@@ -82,7 +82,7 @@ unfolding effect reply
 designations_bring finish s inter last ansi is_inter is silent =
     brings_in_ansi s (escape ∷ inter ∷ last ∷ []) (Esc (Some inter) last) ansi (finish inter last is_inter is) silent
 
-pub control_sequences_bring : WrittenControlsFinish → ControlSequencesBring
+pub control_sequences_bring : WrittenSequencesFinish → ControlSequencesBring
 unfolding effect reply
 control_sequences_bring finish s numbers last ansi are is silent =
     brings_in_ansi s (escape ∷ 91 ∷ (params_text numbers ++ last ∷ [])) (Csi false (held numbers) last) ansi (finish numbers last are is) silent

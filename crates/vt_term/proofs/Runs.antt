@@ -6,7 +6,7 @@ use Rattle.std.proofs.lemmas.Bool.Decides.{nat_tests}
 use Rattle.std.proofs.lemmas.List.{map-append, take-append-drop}
 use Rattle.std.proofs.lemmas.List.Sums.{fold-append, AllPass-from_list_all}
 use Rattle.std.proofs.lemmas.List.Elements.{All-map, All-weaker}
-use Rattle.vt_parser.specs.Control.{is_graphic}
+use Rattle.vt_parser.specs.Syntax.{is_graphic}
 use Rattle.vt_screen.specs.Picture.{Picture}
 use Rattle.vt_screen.specs.Puts.{shown}
 use Rattle.vt_term.specs.declared.sets.CharacterSet.{CharacterSet}

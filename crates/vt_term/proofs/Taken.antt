@@ -8,7 +8,7 @@ use Rattle.vt_parser.specs.declared.states.ParserState.{ParserState}
 use Rattle.vt_parser.specs.declared.states.ParserState.TheVariants.{Ground}
 use Rattle.vt_parser.specs.declared.tokens.Token.{Token}
 use Rattle.vt_parser.specs.declared.tokens.Token.TheVariants.{Show}
-use Rattle.vt_parser.specs.Control.{is_graphic}
+use Rattle.vt_parser.specs.Syntax.{is_graphic}
 use Rattle.vt_parser.specs.View.{parser_view}
 use Rattle.vt_parser.specs.Step.{mode_after}
 use Rattle.vt_parser.specs.Fold.{mode_after_bytes, pending_after_bytes}

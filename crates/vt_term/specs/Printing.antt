@@ -4,8 +4,8 @@ use Rattle.std.specs.List.{list_all}
 use Rattle.vt_parser.specs.declared.commands.Mode.TheVariants.{Ansi}
 use Rattle.vt_parser.specs.declared.commands.Command.{Command}
 use Rattle.vt_parser.specs.declared.commands.Command.TheVariants.{Control}
-use Rattle.vt_parser.specs.Control.{escape, is_graphic, is_within}
-use Rattle.vt_parser.specs.Sequence.{is_intermediate, is_escape_final, is_control_final, begins_control, begins_string}
+use Rattle.vt_parser.specs.Syntax.{escape, is_graphic, is_within}
+use Rattle.vt_parser.specs.Forms.{is_intermediate, is_escape_final, is_control_sequence_final, begins_control_sequence, begins_string}
 use Rattle.vt_parser.specs.Fold.{Finishes}
 use Rattle.vt_parser.specs.Decimals.{params_text}
 use Rattle.vt_parser.specs.Law.{AreParams}
@@ -58,7 +58,7 @@ SequencesAct =
 abbrev pub EscapesBring : Type 0
 EscapesBring =
     (s : Console) (last : ℕ) → s.modes.mode ≡ Ansi
-    → is_escape_final last ≡ true → begins_control last ≡ false → begins_string last ≡ false
+    → is_escape_final last ≡ true → begins_control_sequence last ≡ false → begins_string last ≡ false
     → reply_of (escape_reply s.profile) (escape_named None last) ≡ []
     → Brings s (escape ∷ last ∷ []) (effect_of escape_effect (escape_named None last) s)
 
@@ -72,12 +72,12 @@ DesignationsBring =
 -- .. ESC [, numbers in decimal and a final byte, ..
 abbrev pub ControlSequencesBring : Type 0
 ControlSequencesBring =
-    (s : Console) (numbers : List ℕ) (last : ℕ) → s.modes.mode ≡ Ansi → AreParams numbers → is_control_final last ≡ true
+    (s : Console) (numbers : List ℕ) (last : ℕ) → s.modes.mode ≡ Ansi → AreParams numbers → is_control_sequence_final last ≡ true
     → control_sequence_reply false last numbers s ≡ []
     → Brings s (escape ∷ 91 ∷ (params_text numbers ++ last ∷ [])) (control_sequence_effect false last numbers s)  -- [
 
 -- .. and the same with `?` before the numbers, which never has a reply.
 abbrev pub PrivateSequencesBring : Type 0
 PrivateSequencesBring =
-    (s : Console) (numbers : List ℕ) (last : ℕ) → s.modes.mode ≡ Ansi → AreParams numbers → is_control_final last ≡ true
+    (s : Console) (numbers : List ℕ) (last : ℕ) → s.modes.mode ≡ Ansi → AreParams numbers → is_control_sequence_final last ≡ true
     → Brings s (escape ∷ 91 ∷ 63 ∷ (params_text numbers ++ last ∷ [])) (control_sequence_effect true last numbers s)  -- [ ?

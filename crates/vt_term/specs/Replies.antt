@@ -1,6 +1,6 @@
 -- What a terminal replies (EK-VT100-UG chapter 3, reports). Nothing else has a reply.
 use Rattle.std.specs.Prelude.{ℕ, ◌-◌, Bool, List, [], ◌∷◌, ◌++◌, Option, Some, None, ◌==◌, codes, decimal, if◌then◌else◌}
-use Rattle.vt_parser.specs.Control.{escape}
+use Rattle.vt_parser.specs.Syntax.{escape}
 use Rattle.vt_term.specs.declared.profile.Profile.{Profile}
 use Rattle.vt_term.specs.declared.profile.Profile.TheVariants.{Vt100, Vt102}
 use Rattle.vt_term.specs.Escapes.{Escape, Decid}

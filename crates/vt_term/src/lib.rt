@@ -5,7 +5,6 @@
 #![tactic(auto)]
 
 mod below;
-mod commands;
 mod console;
 mod controls;
 mod escapes;
@@ -19,6 +18,7 @@ mod saved;
 mod sequences;
 mod sets;
 mod terminal;
+mod tokens;
 mod vt52;
 
 pub use modes::Modes;

@@ -1,5 +1,5 @@
 use Rattle.std.proofs.Common.{◌-◌, ◌∷◌, [], ◌++◌, take, sym, ap, ap₂, ◌∙◌, subst, arith}
-use Rattle.vt_parser.specs.Sequence.{held}
+use Rattle.vt_parser.specs.Forms.{held}
 use Rattle.vt_parser.specs.Reading.{IsCounted, collected}
 use Rattle.vt_parser.specs.Machine.{moves_to}
 use Rattle.vt_parser.proofs.Collecting.{digit_joins, semicolon_joins, further}

@@ -3,7 +3,7 @@ use Rattle.std.proofs.lemmas.List.{take_rest}
 use Rattle.vt_parser.specs.declared.commands.Mode.TheVariants.{Ansi}
 use Rattle.vt_parser.specs.declared.states.ParserState.TheVariants.{CsiStart}
 use Rattle.vt_parser.specs.Machine.{Runs}
-use Rattle.vt_parser.specs.Reading.{reached_step}
+use Rattle.vt_parser.specs.Reading.{reached_outcome}
 use Rattle.vt_parser.proofs.Collecting.{opening_runs}
 use Rattle.vt_parser.proofs.machine.read_control.Goals as goal
 
@@ -14,6 +14,6 @@ pub returns-clause-runs : goal.returns-clause-runs
 returns-clause-runs c = λ start.
     let bytes = c.args.bytes.now in
     let read = c.read_first-taken in
-    let step = reached_step read.result.1 read.new.params read.new.state in
+    let step = reached_outcome read.result.1 read.new.params read.new.state in
     opening_runs start bytes read.result.0 step c.requires.escape c.requires.bracket c.requires.long
     (subst (λ (text : List ℕ). Runs CsiStart Ansi (take read.result.0 text) step) (take_rest bytes 2) (read.ensures.runs Ansi))

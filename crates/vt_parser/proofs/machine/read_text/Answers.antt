@@ -1,5 +1,5 @@
 use Rattle.std.proofs.Common.{◌-◌, ◌∷◌, [], ◌++◌, take, refl, arith}
-use Rattle.vt_parser.specs.Sequence.{held}
+use Rattle.vt_parser.specs.Forms.{held}
 use Rattle.vt_parser.specs.Reading.{collected}
 use Rattle.vt_parser.proofs.Collecting.{other_joins, final_joins, further}
 use Rattle.vt_parser.proofs.machine.read_text.Goals as goal

@@ -1,6 +1,6 @@
 use Rattle.std.proofs.Common.{◌≡◌, ◌+◌, ◌-◌, ◌≤◌, length, drop}
 use Rattle.std.specs.List.{prefix_len}
-use Rattle.vt_parser.specs.Control.{is_graphic}
+use Rattle.vt_parser.specs.Syntax.{is_graphic}
 use Rattle.vt_parser.proofs.runs.printable_run.Given as goal
 
 -- the rest of the run begins at `end`

@@ -1,10 +1,10 @@
 -- The control syntax: what is done with a byte, by the byte and by where it comes.
 use Rattle.std.specs.Prelude.{ℕ, Bool, not, ◌&&◌, nat_le, if◌then◌else◌, List, [], ◌∷◌}
-use Rattle.vt_parser.specs.declared.controls.Context.{Context}
-use Rattle.vt_parser.specs.declared.controls.Context.TheVariants.{Ground, Sequence, Text}
-use Rattle.vt_parser.specs.declared.controls.Action.{Action}
-use Rattle.vt_parser.specs.declared.controls.Action.TheVariants.{Ignore, Execute, Print, Mark, Begin, Join, End, Cancel}
-use Rattle.vt_parser.specs.declared.controls.Actions.{Actions}
+use Rattle.vt_parser.specs.declared.syntax.Context.{Context}
+use Rattle.vt_parser.specs.declared.syntax.Context.TheVariants.{Ground, Sequence, Text}
+use Rattle.vt_parser.specs.declared.syntax.Action.{Action}
+use Rattle.vt_parser.specs.declared.syntax.Action.TheVariants.{Ignore, Execute, Print, Mark, Begin, Join, End, Cancel}
+use Rattle.vt_parser.specs.declared.syntax.Actions.{Actions}
 
 -- the byte ESC (ECMA-48 section 5.2)
 abbrev pub escape : ℕ
@@ -27,16 +27,16 @@ abbrev pub actions_by : Action → Action → Action → Actions
 actions_by on_ground in_sequence in_string = record { on_ground = on_ground; in_sequence = in_sequence; in_string = in_string }
 
 -- a row of the table: the bytes from first to last, and what is done with each of them
-pub record Row : Type 0 where
+pub record SyntaxRow : Type 0 where
   pub first : ℕ
   pub last : ℕ
   pub actions : Actions
 
-abbrev pub row : ℕ → ℕ → Action → Action → Action → Row
+abbrev pub row : ℕ → ℕ → Action → Action → Action → SyntaxRow
 row first last on_ground in_sequence in_string = record { first = first; last = last; actions = actions_by on_ground in_sequence in_string }
 
 -- The table of the control syntax (EK-VT100-UG chapter 3; BEL in a string, CAN and SUB, and the bytes from 128 on: profile).
-abbrev pub table : List Row
+abbrev pub table : List SyntaxRow
 table =
     -- bytes    on ground  in a sequence  in a string
     row 0 6 Execute Execute Ignore ∷  -- NUL to ACK
@@ -53,7 +53,7 @@ table =
     []
 
 -- the row that has a byte
-abbrev pub actions_in : List Row → ℕ → Actions
+abbrev pub actions_in : List SyntaxRow → ℕ → Actions
 actions_in [] byte = actions_by Ignore Ignore Ignore
 actions_in (row ∷ rest) byte = if is_within row.first row.last byte then row.actions else actions_in rest byte
 

@@ -1,6 +1,6 @@
 //! The table of the control syntax: what is done with a byte, by the byte and by where it comes.
 ghost use Rattle.std.specs.Prelude.{◌≡◌};
-ghost use Rattle.vt_parser.specs.Control.{actions_by, actions_of, action_at, action_of};
+ghost use Rattle.vt_parser.specs.Syntax.{actions_by, actions_of, action_at, action_of};
 
 pub(crate) const NUL: u8 = 0;
 

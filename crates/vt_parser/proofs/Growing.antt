@@ -9,8 +9,8 @@ use Rattle.vt_parser.specs.declared.commands.Command.{Command}
 use Rattle.vt_parser.specs.declared.commands.Command.TheVariants as command
 use Rattle.vt_parser.specs.declared.states.ParserState.{ParserState}
 use Rattle.vt_parser.specs.declared.states.ParserState.TheVariants.{Csi, CsiIgnored}
-use Rattle.vt_parser.specs.Sequence.{is_control_final, is_digit, is_semicolon, is_plain, after_mark, numbers, params, has_more, held, control_meaning, front, final}
-use Rattle.vt_parser.specs.View.{control_view}
+use Rattle.vt_parser.specs.Forms.{is_control_sequence_final, is_digit, is_semicolon, is_plain, after_mark, numbers, params, has_more, held, control_sequence_meaning, front, final}
+use Rattle.vt_parser.specs.View.{control_sequence_view}
 use Rattle.vt_parser.specs.Machine.{joined, digit_joined, semicolon_joined, with_last_digit, gives, moves_to}
 use Rattle.vt_parser.proofs.Numbers.{numbers_push, numbers_some}
 
@@ -48,7 +48,7 @@ semicolon_view : (private : Bool) (text : List ℕ) (byte : ℕ) → is_semicolo
 semicolon_view private text byte is = grind (arith, numbers_push text byte, number_added private (numbers text))
 
 text_joins : (private : Bool) (text : List ℕ) (byte : ℕ)
-    → joined (view_by private text) byte ≡ cond (is_control_final byte) (gives (meaning_by private text byte)) (moves_to (view_by private (text ++ byte ∷ [])))
+    → joined (view_by private text) byte ≡ cond (is_control_sequence_final byte) (gives (meaning_by private text byte)) (moves_to (view_by private (text ++ byte ∷ [])))
 unfolding joined
 text_joins private text byte =
     let pushed = list_all-append is_plain text (byte ∷ []) in
@@ -58,8 +58,8 @@ text_joins private text byte =
     ]
 
 -- a byte that joins a text ends it, or the state is that of the text with that byte
-pub control_joins : (text : List ℕ) (byte : ℕ)
-    → joined (control_view text) byte ≡ cond (is_control_final byte) (gives (control_meaning text byte)) (moves_to (control_view (text ++ byte ∷ [])))
+pub control_sequence_joins : (text : List ℕ) (byte : ℕ)
+    → joined (control_sequence_view text) byte ≡ cond (is_control_sequence_final byte) (gives (control_sequence_meaning text byte)) (moves_to (control_sequence_view (text ++ byte ∷ [])))
 unfolding joined numbers
-control_joins [] byte = grind (arith, nat_tests, text_joins false [] byte)
-control_joins (first ∷ rest) byte = grind (arith, nat_tests, text_joins (first == 63) (after_mark (first ∷ rest)) byte)
+control_sequence_joins [] byte = grind (arith, nat_tests, text_joins false [] byte)
+control_sequence_joins (first ∷ rest) byte = grind (arith, nat_tests, text_joins (first == 63) (after_mark (first ∷ rest)) byte)

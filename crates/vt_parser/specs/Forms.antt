@@ -6,7 +6,7 @@ use Rattle.vt_parser.specs.declared.commands.Mode.{Mode}
 use Rattle.vt_parser.specs.declared.commands.Mode.TheVariants.{Ansi, Vt52 as Vt52Mode}
 use Rattle.vt_parser.specs.declared.commands.Command.{Command}
 use Rattle.vt_parser.specs.declared.commands.Command.TheVariants.{Esc, Csi, Vt52, Vt52Address}
-use Rattle.vt_parser.specs.Control.{escape, is_within, is_graphic}
+use Rattle.vt_parser.specs.Syntax.{escape, is_within, is_graphic}
 
 -- ---- bytes and their parts
 
@@ -19,19 +19,19 @@ abbrev pub is_escape_final : ℕ → Bool
 is_escape_final byte = is_within 48 126 byte
 
 -- a parameter or intermediate byte of a control sequence (ECMA-48 section 5.4)
-abbrev pub is_control_text : ℕ → Bool
-is_control_text byte = is_within 32 63 byte
+abbrev pub is_control_sequence_text : ℕ → Bool
+is_control_sequence_text byte = is_within 32 63 byte
 
 -- the final byte of a control sequence (ECMA-48 section 5.4)
-abbrev pub is_control_final : ℕ → Bool
-is_control_final byte = is_within 64 126 byte
+abbrev pub is_control_sequence_final : ℕ → Bool
+is_control_sequence_final byte = is_within 64 126 byte
 
 -- `[`, which makes ESC [ the control sequence introducer (ECMA-48 section 8.3.16)
 abbrev pub bracket : ℕ
 bracket = 91
 
-abbrev pub begins_control : ℕ → Bool
-begins_control byte = byte == bracket
+abbrev pub begins_control_sequence : ℕ → Bool
+begins_control_sequence byte = byte == bracket
 
 -- P, X, ], ^ and _, which open DCS, SOS, OSC, PM and APC (ECMA-48 section 5.6)
 abbrev pub begins_string : ℕ → Bool
@@ -67,10 +67,10 @@ is_escape_begun [] = false
 is_escape_begun (byte ∷ rest) = byte == escape && list_all is_intermediate rest
 
 -- ESC [ and parameter or intermediate bytes
-abbrev pub is_control_begun : List ℕ → Bool
-is_control_begun [] = false
-is_control_begun (byte ∷ []) = false
-is_control_begun (byte ∷ next ∷ rest) = byte == escape && begins_control next && list_all is_control_text rest
+abbrev pub is_control_sequence_begun : List ℕ → Bool
+is_control_sequence_begun [] = false
+is_control_sequence_begun (byte ∷ []) = false
+is_control_sequence_begun (byte ∷ next ∷ rest) = byte == escape && begins_control_sequence next && list_all is_control_sequence_text rest
 
 -- ESC and the opening of a string, whose content isn't kept
 abbrev pub is_string_begun : List ℕ → Bool
@@ -99,10 +99,10 @@ is_line_begun (byte ∷ next ∷ line ∷ fourth ∷ rest) = false
 -- An escape sequence: directly after ESC the bytes [ P X ] ^ _ are no final bytes, since they open something longer.
 abbrev pub ends_escape : List ℕ → ℕ → Bool
 ends_escape begun last =
-    is_escape_begun begun && is_escape_final last && not (is_lone_escape begun && (begins_control last || begins_string last))
+    is_escape_begun begun && is_escape_final last && not (is_lone_escape begun && (begins_control_sequence last || begins_string last))
 
-abbrev pub ends_control : List ℕ → ℕ → Bool
-ends_control begun last = is_control_begun begun && is_control_final last
+abbrev pub ends_control_sequence : List ℕ → ℕ → Bool
+ends_control_sequence begun last = is_control_sequence_begun begun && is_control_sequence_final last
 
 -- a sequence of VT52 mode: ESC and one byte other than Y, or ESC Y, line and column (EK-VT100-UG chapter 3)
 abbrev pub ends_vt52 : List ℕ → ℕ → Bool
@@ -113,7 +113,7 @@ ends_address begun last = is_line_begun begun && is_graphic last
 
 -- the bytes are one whole sequence, and no more
 unfoldable pub is_whole : Mode → List ℕ → Bool
-is_whole Ansi bytes = ends_control (front bytes) (final bytes) || ends_escape (front bytes) (final bytes)
+is_whole Ansi bytes = ends_control_sequence (front bytes) (final bytes) || ends_escape (front bytes) (final bytes)
 is_whole Vt52Mode bytes = ends_address (front bytes) (final bytes) || ends_vt52 (front bytes) (final bytes)
 
 -- ---- parameters
@@ -187,8 +187,8 @@ escape_meaning (inter ∷ []) last = Some (Esc (Some inter) last)
 escape_meaning (inter ∷ next ∷ rest) last = None
 
 -- of a control sequence by its text; one that isn't well formed has no effect (ours)
-abbrev pub control_meaning : List ℕ → ℕ → Option Command
-control_meaning text last =
+abbrev pub control_sequence_meaning : List ℕ → ℕ → Option Command
+control_sequence_meaning text last =
     if is_well_formed text then Some (Csi (is_private text) (held (params (after_mark text))) last) else None
 
 -- of an address: line and column are the bytes less 31 (EK-VT100-UG chapter 3)
@@ -198,7 +198,7 @@ address_meaning line column = Some (Vt52Address (line - 31) (column - 31))
 -- the command of a whole sequence, and none where its form has no effect
 unfoldable pub meaning : Mode → List ℕ → Option Command
 meaning Ansi bytes =
-    if is_control_begun (front bytes) then control_meaning (drop 2 (front bytes)) (final bytes)
+    if is_control_sequence_begun (front bytes) then control_sequence_meaning (drop 2 (front bytes)) (final bytes)
     else escape_meaning (drop 1 (front bytes)) (final bytes)
 meaning Vt52Mode bytes =
     if is_line_begun (front bytes) then address_meaning (slice_index (front bytes) 2) (final bytes)
