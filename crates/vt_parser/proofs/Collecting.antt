@@ -11,7 +11,7 @@ use Rattle.vt_parser.specs.declared.commands.Command.TheVariants as command
 use Rattle.vt_parser.specs.declared.states.ParserState.{ParserState}
 use Rattle.vt_parser.specs.declared.states.ParserState.TheVariants.{Ground, Escape, CsiStart, Csi, CsiIgnored}
 use Rattle.vt_parser.specs.Syntax.{escape, is_graphic}
-use Rattle.vt_parser.specs.Forms.{is_plain, held}
+use Rattle.vt_parser.specs.Forms.{is_control_sequence_text, is_control_sequence_final, is_plain, held}
 use Rattle.vt_parser.specs.Machine.{Outcome, moves_to, gives, digit_joined, semicolon_joined, control_sequence_joined, joined, stepped, Runs}
 use Rattle.vt_parser.specs.Reading.{GoesOn}
 use Rattle.vt_parser.proofs.ManyBytes.{runs_more, runs_push}
@@ -32,13 +32,13 @@ pub semicolon_joins : (private : Bool) (params : ArrayVec ℕ) (over : Bool) (by
     → JoinsText private params over byte (moves_to (semicolon_joined private params over))
 semicolon_joins private params over byte is = record { graphic = grind (arith, nat_tests); does = grind (arith, nat_tests) }
 
-pub final_joins : (private : Bool) (params : ArrayVec ℕ) (over : Bool) (byte : ℕ) → 64 ≤ byte → byte ≤ 126
+pub final_joins : (private : Bool) (params : ArrayVec ℕ) (over : Bool) (byte : ℕ) → is_control_sequence_final byte ≡ true
     → JoinsText private params over byte (gives (Some (command.Csi private params byte)))
-final_joins private params over byte low high = record { graphic = grind (arith, nat_tests); does = grind (arith, nat_tests) }
+final_joins private params over byte is = record { graphic = grind (arith, nat_tests); does = grind (arith, nat_tests) }
 
-pub other_joins : (private : Bool) (params : ArrayVec ℕ) (over : Bool) (byte : ℕ) → 32 ≤ byte → byte ≤ 63 → is_plain byte ≡ false
+pub other_joins : (private : Bool) (params : ArrayVec ℕ) (over : Bool) (byte : ℕ) → is_control_sequence_text byte ≡ true → is_plain byte ≡ false
     → JoinsText private params over byte (moves_to CsiIgnored)
-other_joins private params over byte low high other = record { graphic = grind (arith, nat_tests); does = grind (arith, nat_tests) }
+other_joins private params over byte is other = record { graphic = grind (arith, nat_tests); does = grind (arith, nat_tests) }
 
 -- from where it joins to all that was read
 pub further : (front : List ℕ) (state : ParserState) (private : Bool) (params : ArrayVec ℕ) (over : Bool) (bytes : List ℕ) (at : ℕ) (step other : Outcome) → at < length bytes

@@ -10,7 +10,8 @@ use Rattle.std.proofs.lemmas.List.Folds.{prefix_len-append}
 use Rattle.std.proofs.lemmas.List.Sums.{prefix_len-le-length}
 use lib.Lanes.{zip2, chunk, mask_l, top, Each1}
 use lib.Count.{count_trailing_zeros}
-use Rattle.vt_parser.specs.Syntax.{is_graphic, is_other}
+use Rattle.vt_parser.specs.Syntax.{is_graphic}
+use Rattle.vt_parser.specs.Ahead.{is_other}
 
 -- ---- the mask
 

@@ -1,11 +1,12 @@
 -- What the table of the control syntax says of a byte by what is done with it.
-use Rattle.std.proofs.Common.{◌≡◌, ℕ, Bool, true, false, not, ◌==◌, ◌&&◌, arith}
+use Rattle.std.proofs.Common.{◌≡◌, ℕ, Bool, true, false, not, ◌==◌, ◌&&◌, refl, sym, subst, arith}
 use Rattle.std.proofs.lemmas.Bool.Decides.{nat_tests}
 use Rattle.vt_parser.specs.declared.syntax.Context.{Context}
 use Rattle.vt_parser.specs.declared.syntax.Context.TheVariants.{Ground, Sequence, Text}
 use Rattle.vt_parser.specs.declared.syntax.Action.{Action}
 use Rattle.vt_parser.specs.declared.syntax.Action.TheVariants.{Print, Execute, Ignore, Begin, Join, End, Cancel}
 use Rattle.vt_parser.specs.Syntax.{escape, is_within, is_graphic, actions_by, actions_of, action_of}
+use Rattle.vt_parser.specs.Ahead.{is_print, is_join, is_begin, Idles}
 
 abbrev pub is_sequence : Context → Bool
 is_sequence Sequence = true
@@ -30,3 +31,24 @@ graphic_actions byte is = grind (arith, nat_tests)
 
 pub control_actions : (byte : ℕ) → is_within 8 15 byte ≡ true → actions_of byte ≡ actions_by Execute Execute Ignore
 control_actions byte is = grind (arith, nat_tests)
+
+-- ---- what is decided ahead of the table
+
+pub graphic_is_printed : (byte : ℕ) → is_graphic byte ≡ is_print (actions_of byte).on_ground
+graphic_is_printed byte = grind (arith, nat_tests)
+
+pub graphic_is_joined : (byte : ℕ) → is_graphic byte ≡ is_join (actions_of byte).in_sequence
+graphic_is_joined byte = grind (arith, nat_tests)
+
+pub escape_begins : (context : Context) (byte : ℕ) → (byte == escape) ≡ is_begin (action_of context byte)
+escape_begins Ground byte = grind (arith, nat_tests)
+escape_begins Sequence byte = grind (arith, nat_tests)
+escape_begins Text byte = grind (arith, nat_tests)
+
+nul_skips : Idles 0
+nul_skips Ground = refl
+nul_skips Sequence = refl
+nul_skips Text = tt
+
+pub nul_idles : (byte : ℕ) → (byte == 0) ≡ true → Idles byte
+nul_idles byte is = let same : byte ≡ 0 = grind (arith, nat_tests) in subst Idles (sym same) nul_skips

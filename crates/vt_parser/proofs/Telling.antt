@@ -6,8 +6,8 @@ use Rattle.std.proofs.lemmas.Bool.Decides.{nat_tests}
 use Rattle.vt_parser.specs.declared.commands.Mode.{Mode}
 use Rattle.vt_parser.specs.declared.commands.Command.{Command}
 use Rattle.vt_parser.specs.declared.commands.Command.TheVariants as commands
-use Rattle.vt_parser.specs.declared.machine.Event.{Event}
-use Rattle.vt_parser.specs.declared.machine.Event.TheVariants.{Error}
+use Rattle.vt_parser.specs.declared.tokens.Event.{Event}
+use Rattle.vt_parser.specs.declared.tokens.Event.TheVariants.{Error}
 use Rattle.vt_parser.specs.declared.tokens.Token.{Token}
 use Rattle.vt_parser.specs.declared.tokens.Token.TheVariants as tokens
 use Rattle.vt_parser.specs.declared.states.ParserState.{ParserState}
@@ -17,10 +17,10 @@ use Rattle.vt_parser.specs.View.{parser_view, IsShown}
 use Rattle.vt_parser.specs.Step.{command_of, pending_after, mode_after}
 use Rattle.vt_parser.specs.Fold.{mode_after_bytes, pending_after_bytes, Gives}
 use Rattle.vt_parser.specs.Law.{IsProper}
-use Rattle.vt_parser.specs.Token.{token_command, command_of_token, TellsOf, Leads}
+use Rattle.vt_parser.specs.Token.{command_of_token, TellsOf, Leads}
 use Rattle.vt_parser.specs.Machine.{Outcome, joined, Runs}
 use Rattle.vt_parser.proofs.Whole.{joins}
-use Rattle.vt_parser.specs.Reading.{HasParams, event_command, IsTokenOf}
+use Rattle.vt_parser.specs.Reading.{HasParams, event_command}
 use Rattle.vt_parser.proofs.Shapes.{shows_none}
 use Rattle.vt_parser.proofs.LawLemmas.{commands_are_proper, graphic_is_shown}
 use Rattle.vt_parser.proofs.Agrees.{same_command, ground_is_empty}
@@ -80,12 +80,18 @@ told_proper given mode pending bytes None some tells = tt
 told_proper given mode pending bytes (Some (tokens.Show run)) some tells =
     let P : List ℕ → Type 0 = λ shown. IsProper (commands.Show (get_or shown 0 0)) in
     subst P (sym tells.whole) (run_proper bytes some tells.graphic)
-told_proper given mode pending bytes (Some token) some tells = gives_proper given mode pending bytes (token_command (Some token)) tells
+told_proper given mode pending bytes (Some token) some tells = gives_proper given mode pending bytes (Some (command_of_token token)) tells
 
-pub event_told : (given mode : Mode) (pending bytes : List ℕ) (event : Option Event) (token : Option Token) → IsTokenOf event token
-    → Gives given mode pending bytes (event_command event) → TellsOf given mode pending bytes token
-event_told given mode pending bytes (Some Error) token is gives = subst (TellsOf given mode pending bytes) (sym is) gives
-event_told given mode pending bytes _ token is gives = subst (TellsOf given mode pending bytes) (sym is) gives
+-- no event is a run
+no_run : (event : Event) (params : List ℕ) (byte : ℕ) → event_command (Some event) params ≡ Some (commands.Show byte) → ⊥
+no_run Error params byte is = cc
+no_run _ params byte is = cc
+
+pub event_told : (given mode : Mode) (pending bytes : List ℕ) (event : Event) (params : List ℕ) (token : Token)
+    → event_command (Some event) params ≡ Some (command_of_token token)
+    → Gives given mode pending bytes (event_command (Some event) params) → TellsOf given mode pending bytes (Some token)
+event_told given mode pending bytes event params (tokens.Show run) is gives = absurd (no_run event params _ is)
+event_told given mode pending bytes event params token is gives = subst (Gives given mode pending bytes) is gives
 
 -- ---- one byte
 

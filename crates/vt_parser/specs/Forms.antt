@@ -30,6 +30,7 @@ is_control_sequence_final byte = is_within 64 126 byte
 abbrev pub bracket : ℕ
 bracket = 91
 
+-- ESC and this byte introduce a control sequence
 abbrev pub begins_control_sequence : ℕ → Bool
 begins_control_sequence byte = byte == bracket
 
@@ -101,13 +102,15 @@ abbrev pub ends_escape : List ℕ → ℕ → Bool
 ends_escape begun last =
     is_escape_begun begun && is_escape_final last && not (is_lone_escape begun && (begins_control_sequence last || begins_string last))
 
+-- a control sequence: its introducer, a text and a final byte (ECMA-48 section 5.4)
 abbrev pub ends_control_sequence : List ℕ → ℕ → Bool
 ends_control_sequence begun last = is_control_sequence_begun begun && is_control_sequence_final last
 
--- a sequence of VT52 mode: ESC and one byte other than Y, or ESC Y, line and column (EK-VT100-UG chapter 3)
+-- a sequence of VT52 mode: ESC and one byte other than Y (EK-VT100-UG chapter 3)
 abbrev pub ends_vt52 : List ℕ → ℕ → Bool
 ends_vt52 begun last = is_lone_escape begun && is_graphic last && not (begins_address last)
 
+-- a direct cursor address of VT52 mode: ESC Y, line and column (EK-VT100-UG chapter 3)
 abbrev pub ends_address : List ℕ → ℕ → Bool
 ends_address begun last = is_line_begun begun && is_graphic last
 
@@ -118,6 +121,7 @@ is_whole Vt52Mode bytes = ends_address (front bytes) (final bytes) || ends_vt52 
 
 -- ---- parameters
 
+-- 0 to 9
 abbrev pub is_digit : ℕ → Bool
 is_digit byte = is_within 48 57 byte
 
@@ -129,6 +133,7 @@ is_semicolon byte = byte == 59
 abbrev pub question_mark : ℕ
 question_mark = 63
 
+-- a text with that mark
 abbrev pub is_private : List ℕ → Bool
 is_private [] = false
 is_private (byte ∷ rest) = byte == question_mark

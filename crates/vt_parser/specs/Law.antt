@@ -36,20 +36,15 @@ abbrev pub is_sequence : Command → Bool
 is_sequence (Show byte) = false
 is_sequence Error = false
 is_sequence (Control byte) = false
-is_sequence (Esc inter last) = true
-is_sequence (Csi private params last) = true
-is_sequence (Vt52 last) = true
-is_sequence (Vt52Address line column) = true
+is_sequence _ = true
 
 -- how many bytes give such a command, at least
 abbrev pub fewest_bytes : Command → ℕ
-fewest_bytes (Show byte) = 1
-fewest_bytes Error = 1
-fewest_bytes (Control byte) = 1
 fewest_bytes (Esc inter last) = 2
 fewest_bytes (Csi private params last) = 3
 fewest_bytes (Vt52 last) = 2
 fewest_bytes (Vt52Address line column) = 4
+fewest_bytes _ = 1
 
 -- the same where there may be no command
 abbrev pub fewest_of : Option Command → ℕ

@@ -2,9 +2,11 @@ pub mod Syntax
 pub mod Forms
 pub mod View
 pub mod Step
+pub mod Ahead
 pub mod Fold
 pub mod Decimals
 pub mod Token
+pub mod Lending
 pub mod Machine
 pub mod Reading
 pub mod Law

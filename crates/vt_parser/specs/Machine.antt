@@ -1,5 +1,5 @@
--- The machine on states that the code runs: one byte from a state to a state, with the command that it gives. Only private
--- contracts cite it; that it agrees with the raw bytes of every sequence is a lemma.
+-- Private: the machine on states that the code runs, one byte from a state to a state with the command that it gives.
+-- That it agrees with the raw bytes of every sequence is a lemma.
 use Rattle.std.specs.Prelude.{◌≡◌, ℕ, ◌+◌, ◌-◌, ◌*◌, min, Bool, true, false, ◌==◌, nat_lt, if◌then◌else◌, List, [], ◌∷◌, ◌++◌, length, Option, Some, None}
 use Rattle.arrayvec.specs.ArrayVec.{ArrayVec}
 use Rattle.vt_parser.specs.declared.commands.Mode.{Mode}
@@ -20,15 +20,7 @@ use Rattle.vt_parser.specs.Step.{control_of}
 abbrev pub context_in : ParserState → Context
 context_in Ground = context.Ground
 context_in Text = context.Text
-context_in Escape = context.Sequence
-context_in (EscapeOne inter) = context.Sequence
-context_in EscapeMany = context.Sequence
-context_in CsiStart = context.Sequence
-context_in (Csi private params over) = context.Sequence
-context_in CsiIgnored = context.Sequence
-context_in Vt52Escape = context.Sequence
-context_in Vt52Line = context.Sequence
-context_in (Vt52Column line) = context.Sequence
+context_in _ = context.Sequence
 
 -- the state after a byte, and its command
 pub record Outcome : Type 0 where

@@ -1,18 +1,15 @@
--- What the code reads of many bytes, on states. Only private contracts cite it.
-use Rattle.std.specs.Prelude.{◌≡◌, ◌==◌, ℕ, false, if◌then◌else◌, ◌-◌, ◌≤◌, ◌<◌, List, [], ◌∷◌, ◌++◌, take, length, Option, Some, None}
+-- Private: what the code reads of many bytes, on states.
+use Rattle.std.specs.Prelude.{◌≡◌, ◌==◌, ℕ, false, if◌then◌else◌, ◌-◌, ◌≤◌, ◌<◌, List, [], ◌∷◌, ◌++◌, take, length, slice_index, Option, Some, None}
 use Rattle.vt_parser.specs.declared.commands.Mode.{Mode}
 use Rattle.vt_parser.specs.declared.commands.Command.{Command}
 use Rattle.vt_parser.specs.declared.commands.Command.TheVariants as command
-use Rattle.vt_parser.specs.declared.machine.Event.{Event}
-use Rattle.vt_parser.specs.declared.machine.Event.TheVariants.{Error, Control, Esc, Vt52, Vt52Address}
-use Rattle.vt_parser.specs.declared.machine.Reached.{Reached}
-use Rattle.vt_parser.specs.declared.machine.Reached.TheVariants as reached
-use Rattle.vt_parser.specs.declared.machine.Collected.{Collected}
-use Rattle.vt_parser.specs.declared.tokens.Token.{Token}
-use Rattle.vt_parser.specs.declared.tokens.Token.TheVariants as tokens
+use Rattle.vt_parser.specs.declared.tokens.Event.{Event}
+use Rattle.vt_parser.specs.declared.tokens.Event.TheVariants.{Error, Control, Esc, Csi, Vt52, Vt52Address}
+use Rattle.vt_parser.specs.declared.control_sequence.Collected.{Collected}
 use Rattle.vt_parser.specs.declared.states.ParserState.{ParserState}
 use Rattle.vt_parser.specs.declared.states.ParserState.TheVariants.{CsiStart, Csi as CsiState}
-use Rattle.vt_parser.specs.Forms.{question_mark, most_params, held}
+use Rattle.vt_parser.specs.Syntax.{escape}
+use Rattle.vt_parser.specs.Forms.{bracket, question_mark, most_params, held}
 use Rattle.vt_parser.specs.Machine.{Outcome, moves_to, Runs}
 
 -- ---- states
@@ -30,6 +27,12 @@ IsCollecting _ = ⊥
 
 -- ---- the text of a control sequence
 
+-- ESC `[` and what follows
+pub record IsOpening (bytes : List ℕ) : Type 0 where
+  pub long : 1 < length bytes
+  pub first : slice_index bytes 0 ≡ escape
+  pub second : slice_index bytes 1 ≡ bracket
+
 abbrev pub IsCounted : Collected → Type 0
 IsCounted text = (0 < text.count) × (text.count ≤ most_params)
 
@@ -45,43 +48,29 @@ IsStarted byte start =
 
 -- ---- what the bytes come to
 
--- the command of an event
-abbrev pub event_command : Option Event → Option Command
-event_command None = None
-event_command (Some Error) = Some command.Error
-event_command (Some (Control byte)) = Some (command.Control byte)
-event_command (Some (Esc inter last)) = Some (command.Esc inter last)
-event_command (Some (Vt52 last)) = Some (command.Vt52 last)
-event_command (Some (Vt52Address line column)) = Some (command.Vt52Address line column)
+-- the command of an event, its parameters in an array
+abbrev pub event_command : Option Event → List ℕ → Option Command
+event_command None params = None
+event_command (Some Error) params = Some command.Error
+event_command (Some (Control byte)) params = Some (command.Control byte)
+event_command (Some (Esc inter last)) params = Some (command.Esc inter last)
+event_command (Some (Csi private count last)) params = Some (command.Csi private (held (take count params)) last)
+event_command (Some (Vt52 last)) params = Some (command.Vt52 last)
+event_command (Some (Vt52Address line column)) params = Some (command.Vt52Address line column)
 
--- of what was reached, the parameters in the array
-abbrev pub reached_command : Reached → List ℕ → Option Command
-reached_command (reached.Event event) params = event_command event
-reached_command (reached.Csi private count last) params = Some (command.Csi private (held (take count params)) last)
+-- the machine's outcome that an event tells
+abbrev pub event_outcome : Option Event → List ℕ → ParserState → Outcome
+event_outcome event params state = record { state = state; command = event_command event params }
 
--- the machine's step to an event, and to what was reached
-abbrev pub event_outcome : Option Event → ParserState → Outcome
-event_outcome event state = record { state = state; command = event_command event }
+-- what came has this outcome, whatever lies in the array
+abbrev pub Comes : Option Event → ParserState → Outcome → Type 0
+Comes event state outcome = (params : List ℕ) → event_outcome event params state ≡ outcome
 
-abbrev pub reached_outcome : Reached → List ℕ → ParserState → Outcome
-reached_outcome told params state = record { state = state; command = reached_command told params }
-
--- the parameters lie in the array
-abbrev pub IsLent : Reached → Type 0
-IsLent (reached.Event event) = Unit {0}
-IsLent (reached.Csi private count last) = count ≤ most_params
+-- the parameters of an event lie in the array
+abbrev pub IsLent : Option Event → Type 0
+IsLent (Some (Csi private count last)) = count ≤ most_params
+IsLent _ = Unit {0}
 
 -- from wherever bytes led to a state, more of them lead to another one
 abbrev pub GoesOn : List ℕ → ParserState → List ℕ → Outcome → Type 0
 GoesOn front state bytes step = (start : ParserState) (mode : Mode) → Runs start mode front (moves_to state) → Runs start mode bytes step
-
--- ---- tokens
-
--- the token is that of an event
-abbrev pub IsTokenOf : Option Event → Option Token → Type 0
-IsTokenOf None token = token ≡ None
-IsTokenOf (Some Error) token = token ≡ Some tokens.Error
-IsTokenOf (Some (Control byte)) token = token ≡ Some (tokens.Control byte)
-IsTokenOf (Some (Esc inter last)) token = token ≡ Some (tokens.Esc inter last)
-IsTokenOf (Some (Vt52 last)) token = token ≡ Some (tokens.Vt52 last)
-IsTokenOf (Some (Vt52Address line column)) token = token ≡ Some (tokens.Vt52Address line column)

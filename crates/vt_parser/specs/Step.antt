@@ -18,11 +18,11 @@ context_of Vt52 [] = Ground
 context_of Ansi (byte ∷ rest) = if is_string_begun (byte ∷ rest) then Text else Sequence
 context_of Vt52 (byte ∷ rest) = Sequence
 
--- BS, HT, LF, VT, FF, CR, SO and SI are commands; the other controls have no effect on any state (EK-VT100-UG chapter 3)
+-- BS, HT, LF, VT, FF, CR, SO and SI are commands; the other control characters have no effect on any state (EK-VT100-UG chapter 3)
 abbrev pub control_of : ℕ → Option Command
 control_of byte = if is_within 8 15 byte then Some (Control byte) else None
 
--- the command that a action gives
+-- the command that an action gives
 abbrev pub command_by : Action → Mode → List ℕ → ℕ → Option Command
 command_by Ignore mode pending byte = None
 command_by Execute mode pending byte = control_of byte
@@ -34,7 +34,7 @@ command_by Join mode pending byte =
 command_by End mode pending byte = None
 command_by Cancel mode pending byte = Some Error
 
--- the bytes that are pending after a action
+-- the bytes that are pending after an action
 abbrev pub pending_by : Action → Mode → List ℕ → ℕ → List ℕ
 pending_by Ignore mode pending byte = pending
 pending_by Execute mode pending byte = pending

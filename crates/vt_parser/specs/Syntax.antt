@@ -1,5 +1,5 @@
 -- The control syntax: what is done with a byte, by the byte and by where it comes.
-use Rattle.std.specs.Prelude.{ℕ, Bool, not, ◌&&◌, nat_le, if◌then◌else◌, List, [], ◌∷◌}
+use Rattle.std.specs.Prelude.{ℕ, Bool, ◌&&◌, nat_le, if◌then◌else◌, List, [], ◌∷◌}
 use Rattle.vt_parser.specs.declared.syntax.Context.{Context}
 use Rattle.vt_parser.specs.declared.syntax.Context.TheVariants.{Ground, Sequence, Text}
 use Rattle.vt_parser.specs.declared.syntax.Action.{Action}
@@ -18,10 +18,6 @@ is_within low high byte = nat_le low byte && nat_le byte high
 abbrev pub is_graphic : ℕ → Bool
 is_graphic byte = is_within 32 126 byte
 
--- no graphic character
-abbrev pub is_other : ℕ → Bool
-is_other byte = not (is_graphic byte)
-
 -- what is done with a byte on ground, inside a sequence and inside a string
 abbrev pub actions_by : Action → Action → Action → Actions
 actions_by on_ground in_sequence in_string = record { on_ground = on_ground; in_sequence = in_sequence; in_string = in_string }
@@ -32,10 +28,11 @@ pub record SyntaxRow : Type 0 where
   pub last : ℕ
   pub actions : Actions
 
+-- the same, cell by cell
 abbrev pub row : ℕ → ℕ → Action → Action → Action → SyntaxRow
 row first last on_ground in_sequence in_string = record { first = first; last = last; actions = actions_by on_ground in_sequence in_string }
 
--- The table of the control syntax (EK-VT100-UG chapter 3; BEL in a string, CAN and SUB, and the bytes from 128 on: profile).
+-- The table of the control syntax (EK-VT100-UG chapter 3; BEL in a string, CAN and SUB, and the bytes from 128 on: ours).
 abbrev pub table : List SyntaxRow
 table =
     -- bytes    on ground  in a sequence  in a string
@@ -52,11 +49,12 @@ table =
     row 128 255 Mark Ignore Ignore ∷  -- all others
     []
 
--- the row that has a byte
+-- the row of a list that has a byte
 abbrev pub actions_in : List SyntaxRow → ℕ → Actions
 actions_in [] byte = actions_by Ignore Ignore Ignore
 actions_in (row ∷ rest) byte = if is_within row.first row.last byte then row.actions else actions_in rest byte
 
+-- the row of the table that has a byte
 abbrev pub actions_of : ℕ → Actions
 actions_of byte = actions_in table byte
 

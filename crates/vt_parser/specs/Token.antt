@@ -12,17 +12,6 @@ use Rattle.vt_parser.specs.Forms.{held}
 use Rattle.vt_parser.specs.View.{parser_view}
 use Rattle.vt_parser.specs.Fold.{mode_after_bytes, pending_after_bytes, Gives}
 
--- the command of a token; a run has as many as it has bytes, and is told apart
-abbrev pub token_command : Option Token → Option Command
-token_command None = None
-token_command (Some (Show run)) = None
-token_command (Some Error) = Some command.Error
-token_command (Some (Control byte)) = Some (command.Control byte)
-token_command (Some (Esc inter last)) = Some (command.Esc inter last)
-token_command (Some (Csi private params last)) = Some (command.Csi private (held params.now) last)
-token_command (Some (Vt52 last)) = Some (command.Vt52 last)
-token_command (Some (Vt52Address line column)) = Some (command.Vt52Address line column)
-
 -- the command of a token of one byte or of one sequence
 abbrev pub command_of_token : Token → Command
 command_of_token (Show run) = command.Show (slice_index run.now 0)
@@ -43,12 +32,7 @@ pub record IsRun (pending bytes run : List ℕ) : Type 0 where
 abbrev pub TellsOf : Mode → Mode → List ℕ → List ℕ → Option Token → Type 0
 TellsOf given mode pending bytes None = Gives given mode pending bytes None
 TellsOf given mode pending bytes (Some (Show run)) = IsRun pending bytes run.now
-TellsOf given mode pending bytes (Some Error) = Gives given mode pending bytes (token_command (Some Error))
-TellsOf given mode pending bytes (Some (Control byte)) = Gives given mode pending bytes (token_command (Some (Control byte)))
-TellsOf given mode pending bytes (Some (Esc inter last)) = Gives given mode pending bytes (token_command (Some (Esc inter last)))
-TellsOf given mode pending bytes (Some (Csi private params last)) = Gives given mode pending bytes (token_command (Some (Csi private params last)))
-TellsOf given mode pending bytes (Some (Vt52 last)) = Gives given mode pending bytes (token_command (Some (Vt52 last)))
-TellsOf given mode pending bytes (Some (Vt52Address line column)) = Gives given mode pending bytes (token_command (Some (Vt52Address line column)))
+TellsOf given mode pending bytes (Some token) = Gives given mode pending bytes (Some (command_of_token token))
 
 -- After the bytes the new state shows what is pending, whatever pending bytes the old state shows.
 abbrev pub Leads : ParserState → Mode → List ℕ → ParserState → Type 0

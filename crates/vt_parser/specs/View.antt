@@ -20,6 +20,7 @@ control_sequence_view (byte ∷ rest) =
     then Csi (is_private (byte ∷ rest)) (held (params (after_mark (byte ∷ rest)))) (has_more (after_mark (byte ∷ rest)))
     else CsiIgnored
 
+-- of bytes that are pending in ANSI mode
 abbrev pub ansi_view : List ℕ → Option ParserState
 ansi_view pending =
     if is_control_sequence_begun pending then Some (control_sequence_view (drop 2 pending))
@@ -27,6 +28,7 @@ ansi_view pending =
     else (if is_escape_begun pending then Some (escape_view (drop 1 pending))
     else None))
 
+-- of bytes that are pending in VT52 mode
 abbrev pub vt52_view : List ℕ → Option ParserState
 vt52_view pending =
     if is_lone_escape pending then Some Vt52Escape

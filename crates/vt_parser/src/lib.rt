@@ -4,14 +4,15 @@
 //! refuses a byte.
 #![tactic(auto)]
 
-ghost use Rattle.std.specs.Prelude.{◌≡◌, ◌≤◌, ◌<◌, ℕ, true, false, List, Some, None, IfSome, length, take, ⊤};
+ghost use Rattle.std.specs.Prelude.{◌≡◌, ◌≤◌, ◌<◌, ℕ, true, false, List, Some, None, IfSome, length, take};
 ghost use Rattle.vt_parser.specs.View.{parser_view, IsShown};
 ghost use Rattle.vt_parser.specs.Step.{command_of, pending_after, mode_after};
 ghost use Rattle.vt_parser.specs.Law.{IsProper};
-ghost use Rattle.vt_parser.specs.Token.{command_of_token, TellsOf, Leads};
-ghost use Rattle.vt_parser.specs.Reading.{IsTokenOf};
+ghost use Rattle.vt_parser.specs.Token.{command_of_token, TellsOf};
 
 mod commands;
+mod control_sequence;
+mod forms;
 pub mod laws;
 pub mod limits;
 mod machine;
@@ -22,7 +23,6 @@ mod tokens;
 
 pub use commands::{Command, Mode};
 use limits::MOST_PARAMS;
-use machine::{Event, Reached};
 pub use runs::printable_run;
 pub use states::ParserState;
 use std::marker::Model;
@@ -52,9 +52,7 @@ impl Model for Parser {
 
 impl Parser {
     ghost use Rattle.std.specs.Borrow.{sem};
-    ghost use mathlib.Core.Option.{none};
-    ghost use denote.Follow.{follows_so};
-    ghost use Rattle.vt_parser.specs.contracts.Parser.{the_row};
+    ghost use Rattle.vt_parser.specs.Lending.{LeavesLed};
 
     /// A parser on ground.
     pub fn new() -> Self
@@ -73,8 +71,7 @@ impl Parser {
     pub fn next<'a>(&'a mut self, mode: Mode, bytes: &'a [u8]) -> (usize, Option<Token<'a>>)
         requires { 0 < length bytes.now }
         // Whatever pending bytes the state stands for, the new state shows what is pending after the bytes taken ..
-        ensures* state { sem 𝓛 (follows_so the_row the_row self.entry.ghost_name none (λ _ _. ⊤)
-            (λ new. Leads self.old mode (take result.0 bytes.now) new)) }
+        ensures* state { sem 𝓛 (LeavesLed self.entry mode (take result.0 bytes.now)) }
         ensures some { 0 < result.0 }
         ensures within { result.0 ≤ length bytes.now }
         // .. and the token is theirs.
@@ -86,21 +83,10 @@ impl Parser {
         if run > 0 {
             return (run, Some(Token::Show(&bytes[..run])));
         }
-        let (taken, reached) = machine::read(&mut self.state, &mut self.params, mode, bytes);
-        let token = match reached {
-            Reached::Event(event) => token_of(event),
-            Reached::Csi {
-                private,
-                count,
-                last,
-            } => {
-                let params = &self.params[..count];
-                Some(Token::Csi {
-                    private,
-                    params,
-                    last,
-                })
-            }
+        let (taken, event) = machine::read(&mut self.state, &mut self.params, mode, bytes);
+        let token = match event {
+            Some(event) => Some(event.token(&self.params)),
+            None => None,
         };
         (taken, token)
     }
@@ -139,18 +125,5 @@ impl Parser {
         ensures { self.new ≡ other.now }
     {
         self.state = other.state.copy();
-    }
-}
-
-#[inline]
-fn token_of<'a>(event: Option<Event>) -> Option<Token<'a>>
-    ensures { IsTokenOf event result }
-{
-    match event? {
-        Event::Error => Some(Token::Error),
-        Event::Control(byte) => Some(Token::Control(byte)),
-        Event::Esc { inter, last } => Some(Token::Esc { inter, last }),
-        Event::Vt52(last) => Some(Token::Vt52(last)),
-        Event::Vt52Address { line, column } => Some(Token::Vt52Address { line, column }),
     }
 }

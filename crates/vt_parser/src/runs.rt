@@ -2,20 +2,22 @@
 ghost use Rattle.std.specs.Prelude.{◌≡◌, ◌+◌, ◌≤◌, length, drop, map};
 ghost use Rattle.std.specs.List.{prefix_len};
 ghost use Rattle.std.specs.Simd.Lanes.{mask_l};
-ghost use Rattle.vt_parser.specs.Syntax.{is_graphic, is_other};
+ghost use Rattle.vt_parser.specs.Syntax.{is_graphic};
+ghost use Rattle.vt_parser.specs.Ahead.{is_other};
 
+use crate::syntax::{GRAPHICS, SPACE, is_graphic};
 use std::simd::prelude::*;
 
 const LANES: usize = 32;
 
-// A bit for each lane that is no graphic character. Less 32, those from 0 to 31 wrap round to the top.
+// A bit for each lane that is no graphic character. Less a space, the bytes below it wrap round to the top.
 #[inline]
 #[tactic(auto, using(crate::proofs::Lanes::others_mask))]
 fn others(lanes: u8x32) -> u64
     ensures { result ≡ mask_l (map is_other lanes) }
 {
-    (lanes - u8x32::splat(32))
-        .simd_ge(u8x32::splat(95))
+    (lanes - u8x32::splat(SPACE))
+        .simd_ge(u8x32::splat(GRAPHICS))
         .to_bitmask()
 }
 
@@ -26,13 +28,13 @@ fn run_end_slowly(bytes: &[u8], from: usize) -> usize
     ensures { result ≡ from + prefix_len is_graphic (drop from bytes.now) }
 {
     let mut end = from;
-    while end < bytes.len() && matches!(bytes[end], 32..=126) {
+    while end < bytes.len() && is_graphic(bytes[end]) {
         end += 1;
     }
     end
 }
 
-/// The length of the longest front of bytes 32 to 126.
+/// The length of the longest front of graphic characters, 32 to 126.
 #[tactic(auto, using(crate::proofs::Lanes::run_bound, crate::proofs::Lanes::run_through))]
 pub fn printable_run(bytes: &[u8]) -> usize
     ensures value { result ≡ prefix_len is_graphic bytes.now }

@@ -1,27 +1,17 @@
 //! The table of the control syntax: what is done with a byte, by the byte and by where it comes.
-ghost use Rattle.std.specs.Prelude.{◌≡◌};
-ghost use Rattle.vt_parser.specs.Syntax.{actions_by, actions_of, action_at, action_of};
-
-pub(crate) const NUL: u8 = 0;
-
-const BEL: u8 = 7;
-
-const CAN: u8 = 24;
-
-const EM: u8 = 25;
-
-const SUB: u8 = 26;
-
-pub(crate) const ESC: u8 = 27;
-
-const DEL: u8 = 127;
+//!
+//! `specs/Syntax` has the same table, row by row. What is decided ahead of it, for speed, stands below it: `machine` and
+//! `runs` name no byte of their own.
+ghost use Rattle.std.specs.Prelude.{◌≡◌, ◌==◌, true};
+ghost use Rattle.vt_parser.specs.Syntax.{escape, is_graphic, actions_by, actions_of, action_at, action_of};
+ghost use Rattle.vt_parser.specs.Ahead.{is_print, is_join, is_begin, Idles};
 
 /// Where a byte comes.
 #[derive(Clone, Copy)]
 pub enum Context {
     Ground,
     Sequence,
-    /// Inside a string.
+    /// In a string.
     Text,
 }
 
@@ -29,7 +19,7 @@ pub enum Context {
 #[derive(Clone, Copy)]
 pub enum Action {
     Ignore,
-    /// It is executed as a control, and what is pending stays.
+    /// It is executed as a control character, and what is pending stays.
     Execute,
     /// It is shown.
     Print,
@@ -66,21 +56,51 @@ fn actions_by(on_ground: Action, in_sequence: Action, in_string: Action) -> Acti
     }
 }
 
-// On ground, inside a sequence, inside a string.
+// ---- the table
+
+const NUL: u8 = 0;
+
+const ACK: u8 = 6;
+
+const BEL: u8 = 7;
+
+const BS: u8 = 8;
+
+const ETB: u8 = 23;
+
+const CAN: u8 = 24;
+
+const EM: u8 = 25;
+
+const SUB: u8 = 26;
+
+const ESC: u8 = 27;
+
+const FS: u8 = 28;
+
+const US: u8 = 31;
+
+pub(crate) const SPACE: u8 = 32;
+
+const TILDE: u8 = 126;
+
+const DEL: u8 = 127;
+
+// On ground, inside a sequence, in a string.
 #[inline]
 fn actions_of(byte: u8) -> Actions
     ensures { result ≡ actions_of byte }
 {
     match byte {
-        0..=6 => actions_by(Execute, Execute, Ignore),
+        NUL..=ACK => actions_by(Execute, Execute, Ignore),
         BEL => actions_by(Ignore, Ignore, End),
-        8..=23 => actions_by(Execute, Execute, Ignore),
+        BS..=ETB => actions_by(Execute, Execute, Ignore),
         CAN => actions_by(Ignore, Cancel, Cancel),
         EM => actions_by(Execute, Execute, Ignore),
         SUB => actions_by(Ignore, Cancel, Cancel),
         ESC => actions_by(Begin, Begin, Begin),
-        28..=31 => actions_by(Execute, Execute, Ignore),
-        b' '..=b'~' => actions_by(Print, Join, Ignore),
+        FS..=US => actions_by(Execute, Execute, Ignore),
+        SPACE..=TILDE => actions_by(Print, Join, Ignore),
         DEL => actions_by(Ignore, Ignore, Ignore),
         128..=255 => actions_by(Mark, Ignore, Ignore),
     }
@@ -103,4 +123,40 @@ pub(crate) fn action_of(context: Context, byte: u8) -> Action
     ensures { result ≡ action_of context byte }
 {
     action_at(actions_of(byte), context)
+}
+
+// ---- what is decided ahead of the table, and what the table says of it
+
+/// How many graphic characters there are.
+pub(crate) const GRAPHICS: u8 = TILDE - SPACE + 1;
+
+/// A graphic character: what the table shows on ground, and joins to a sequence.
+#[inline]
+#[tactic(auto, using(crate::proofs::Table::graphic_is_printed, crate::proofs::Table::graphic_is_joined))]
+pub(crate) fn is_graphic(byte: u8) -> bool
+    ensures value { result ≡ is_graphic byte }
+    ensures printed { result ≡ is_print (actions_of byte).on_ground }
+    ensures joined { result ≡ is_join (actions_of byte).in_sequence }
+{
+    matches!(byte, SPACE..=TILDE)
+}
+
+/// NUL, by which lines are padded: the table leaves all as it is.
+#[inline]
+#[tactic(auto, using(crate::proofs::Table::nul_idles))]
+pub(crate) fn is_nul(byte: u8) -> bool
+    ensures value { result ≡ (byte == 0) }
+    ensures idle { result ≡ true → Idles byte }
+{
+    byte == NUL
+}
+
+/// ESC: what the table begins a sequence by, wherever it comes.
+#[inline]
+#[tactic(auto, using(crate::proofs::Table::escape_begins))]
+pub(crate) fn is_escape(byte: u8) -> bool
+    ensures value { result ≡ (byte == escape) }
+    ensures begins { (context : Context) → result ≡ is_begin (action_of context byte) }
+{
+    byte == ESC
 }

@@ -1,7 +1,9 @@
 //! What a parser tells of the bytes that it takes.
-ghost use Rattle.std.specs.Prelude.{◌≡◌};
+ghost use Rattle.std.specs.Prelude.{◌≡◌, Some, length};
+ghost use Rattle.vt_parser.specs.Forms.{most_params};
 ghost use Rattle.vt_parser.specs.Law.{IsProper};
 ghost use Rattle.vt_parser.specs.Token.{command_of_token};
+ghost use Rattle.vt_parser.specs.Reading.{event_command, IsLent};
 
 use crate::Command;
 use crate::states::copied;
@@ -57,6 +59,54 @@ impl Token<'_> {
             },
             Token::Vt52(last) => Command::Vt52(last),
             Token::Vt52Address { line, column } => Command::Vt52Address { line, column },
+        }
+    }
+}
+
+/// A token that is no run, before it borrows its parameters: they are the first `count` of an array.
+#[derive(Clone, Copy)]
+pub(crate) enum Event {
+    Error,
+    Control(u8),
+    Esc {
+        inter: Option<u8>,
+        last: u8,
+    },
+    Csi {
+        private: bool,
+        count: usize,
+        last: u8,
+    },
+    Vt52(u8),
+    Vt52Address {
+        line: u8,
+        column: u8,
+    },
+}
+
+impl Event {
+    /// The token, its parameters lent from the array.
+    #[inline]
+    pub(crate) fn token<'a>(self, params: &'a [u16]) -> Token<'a>
+        requires lent { IsLent (Some self) }
+        requires long { length params.now ≡ most_params }
+        ensures { event_command (Some self) params.now ≡ Some (command_of_token result) }
+    {
+        match self {
+            Event::Error => Token::Error,
+            Event::Control(byte) => Token::Control(byte),
+            Event::Esc { inter, last } => Token::Esc { inter, last },
+            Event::Csi {
+                private,
+                count,
+                last,
+            } => Token::Csi {
+                private,
+                params: &params[..count],
+                last,
+            },
+            Event::Vt52(last) => Token::Vt52(last),
+            Event::Vt52Address { line, column } => Token::Vt52Address { line, column },
         }
     }
 }

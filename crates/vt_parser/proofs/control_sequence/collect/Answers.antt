@@ -3,8 +3,8 @@ use Rattle.vt_parser.specs.Forms.{held}
 use Rattle.vt_parser.specs.Reading.{IsCounted, collected}
 use Rattle.vt_parser.specs.Machine.{moves_to}
 use Rattle.vt_parser.proofs.Collecting.{digit_joins, semicolon_joins, further}
-use Rattle.vt_parser.proofs.machine.collect.Goals as goal
-use Rattle.vt_parser.proofs.machine.collect.Goals.{in-59, in-48-to-57}
+use Rattle.vt_parser.proofs.control_sequence.collect.Goals as goal
+use Rattle.vt_parser.proofs.control_sequence.collect.Goals.{in-59, in-48-to-57}
 
 pub loop-at-preserved : goal.loop-at-preserved
 loop-at-preserved c =

@@ -1,7 +1,7 @@
 use Rattle.std.proofs.Common.{◌-◌, ◌≤◌, length, take}
 use Rattle.vt_parser.specs.Machine.{moves_to}
 use Rattle.vt_parser.specs.Reading.{IsCounted, collected, GoesOn}
-use Rattle.vt_parser.proofs.machine.collect.Given as goal
+use Rattle.vt_parser.proofs.control_sequence.collect.Given as goal
 
 -- the bytes up to `at` led to what was collected
 abbrev pub invariant-loop-at : goal.invariant-loop-at

@@ -1,0 +1,235 @@
+//! Control sequences: from their introducer, or from where their text was left, to the final byte or as far as it goes.
+ghost use Rattle.std.specs.Prelude.{◌≡◌, ℕ, ◌-◌, ◌≤◌, ◌<◌, List, [], ◌∷◌, ◌++◌, length, take, slice_index, true, false, Some};
+ghost use Rattle.vt_parser.specs.Syntax.{is_graphic};
+ghost use Rattle.vt_parser.specs.Forms.{held, is_plain};
+ghost use Rattle.vt_parser.specs.Machine.{with_digit, moves_to, digit_joined, semicolon_joined, Runs};
+ghost use Rattle.vt_parser.specs.Reading.{IsOpening, IsCounted, IsStarted, collected, event_command, event_outcome, IsLent, GoesOn};
+
+use crate::forms::{QUESTION_MARK, SEMICOLON, is_control_sequence_final, is_control_sequence_text};
+use crate::limits::{GREATEST_PARAM, MOST_PARAMS};
+use crate::states::copied;
+use crate::syntax::is_graphic;
+use crate::tokens::Event;
+use crate::{Command, Mode, ParserState};
+
+/// Where the parameters of a control sequence lie.
+pub(crate) type Params = [u16; MOST_PARAMS];
+
+/// What was read of the text of a control sequence. The parameters before the last one lie in an array.
+#[derive(Clone, Copy)]
+pub(crate) struct Collected {
+    pub private: bool,
+    pub count: usize,
+    pub last: u16,
+    pub over: bool,
+}
+
+/// ESC `[` in ANSI mode, and what follows of its text.
+#[inline]
+pub(crate) fn read_control_sequence(
+    state: &mut ParserState,
+    params: &mut Params,
+    bytes: &[u8],
+) -> (usize, Option<Event>)
+    requires { IsOpening bytes.now }
+    ensures some { 0 < result.0 }
+    ensures within { result.0 ≤ length bytes.now }
+    ensures lent { IsLent result.1 }
+    ensures runs { (start : ParserState)
+        → Runs start Mode.Ansi (take result.0 bytes.now) (event_outcome result.1 params.new state.new) }
+{
+    let text = &bytes[2..];
+    if text.is_empty() || !is_graphic(text[0]) {
+        *state = ParserState::CsiStart;
+        return (2, None);
+    }
+    let (taken, event) = read_first(state, params, text);
+    (taken + 2, event)
+}
+
+/// Reads the text of a control sequence from its first byte on.
+#[inline]
+pub(crate) fn read_first(
+    state: &mut ParserState,
+    params: &mut Params,
+    bytes: &[u8],
+) -> (usize, Option<Event>)
+    requires some { 0 < length bytes.now }
+    requires graphic { is_graphic (slice_index bytes.now 0) ≡ true }
+    ensures some { 0 < result.0 }
+    ensures within { result.0 ≤ length bytes.now }
+    ensures lent { IsLent result.1 }
+    ensures runs { (mode : Mode)
+        → Runs ParserState.CsiStart mode (take result.0 bytes.now) (event_outcome result.1 params.new state.new) }
+{
+    let (text, from) = started(bytes[0]);
+    read_text(state, params, text, bytes, from)
+}
+
+// What stands before the first byte of a text, where that is a `?` behind it, and how many bytes that takes.
+#[inline]
+fn started(byte: u8) -> (Collected, usize)
+    ensures { IsStarted byte result }
+{
+    let private = byte == QUESTION_MARK;
+    let from = if private { 1 } else { 0 };
+    let text = Collected {
+        private,
+        count: 1,
+        last: 0,
+        over: false,
+    };
+    (text, from)
+}
+
+/// What a state holds, its parameters put into the array.
+#[inline]
+pub(crate) fn resumed(private: bool, held: &[u16], over: bool, params: &mut Params) -> Collected
+    requires some { 0 < length held.now }
+    requires few { length held.now ≤ MOST_PARAMS }
+    ensures counted { IsCounted result }
+    ensures value { collected result params.new ≡ ParserState.Csi private (record { items = held.now }) over }
+{
+    let count = held.len();
+    params[..count].copy_from_slice(held);
+    let last = held[count - 1];
+    Collected {
+        private,
+        count,
+        last,
+        over,
+    }
+}
+
+/// Reads the text of a control sequence from `from` on, to the final byte or as far as it goes.
+#[inline]
+pub(crate) fn read_text(
+    state: &mut ParserState,
+    params: &mut Params,
+    text: Collected,
+    bytes: &[u8],
+    from: usize,
+) -> (usize, Option<Event>)
+    requires counted { IsCounted text }
+    requires within { from ≤ length bytes.now }
+    requires graphic { is_graphic (slice_index bytes.now 0) ≡ true }
+    requires some { 0 < length bytes.now }
+    ensures some { 0 < result.0 }
+    ensures within { result.0 ≤ length bytes.now }
+    ensures lent { IsLent result.1 }
+    ensures runs { GoesOn (take from bytes.now) (collected text params.old)
+        (take result.0 bytes.now) (event_outcome result.1 params.new state.new) }
+{
+    let (at, text) = collect(text, params, bytes, from);
+    if at < bytes.len() {
+        let byte = bytes[at];
+        if is_control_sequence_final(byte) {
+            return (at + 1, finish(state, params, text, byte));
+        }
+        if is_control_sequence_text(byte) {
+            *state = ParserState::CsiIgnored;
+            return (at + 1, None);
+        }
+    }
+    suspend(state, params, text);
+    (at, None)
+}
+
+// Reads digits and `;` from `from` on, and says where they end.
+#[inline]
+fn collect(text: Collected, params: &mut Params, bytes: &[u8], from: usize) -> (usize, Collected)
+    requires counted { IsCounted text }
+    requires within { from ≤ length bytes.now }
+    ensures counted { IsCounted result.1 }
+    ensures from { from ≤ result.0 }
+    ensures within { result.0 ≤ length bytes.now }
+    ensures moved { GoesOn (take from bytes.now) (collected text params.old)
+        (take result.0 bytes.now) (moves_to (collected result.1 params.new)) }
+    ensures end { result.0 < length bytes.now → is_plain (slice_index bytes.now result.0) ≡ false }
+{
+    let mut text = text;
+    let mut at = from;
+    while at < bytes.len() {
+        match bytes[at] {
+            b'0'..=b'9' => text = with_next_digit(text, bytes[at]),
+            SEMICOLON => text = with_next_param(text, params),
+            _ => return (at, text),
+        }
+        at += 1;
+    }
+    (at, text)
+}
+
+// One more digit of the last parameter.
+#[inline]
+#[tactic(auto, using(crate::proofs::Joins::front_push, crate::proofs::Joins::final_push))]
+fn with_next_digit(text: Collected, digit: u8) -> Collected
+    requires { 48 ≤ digit }
+    ensures counted { IsCounted text → IsCounted result }
+    ensures value { (params : List ℕ) → collected result params
+        ≡ digit_joined text.private (held (take (text.count - 1) params ++ text.last ∷ [])) text.over digit }
+{
+    let mut text = text;
+    if !text.over {
+        text.last = with_digit(text.last, digit);
+    }
+    text
+}
+
+#[inline]
+fn with_digit(value: u16, digit: u8) -> u16
+    requires { 48 ≤ digit }
+    ensures { result ≡ with_digit value digit }
+{
+    (10 * u32::from(value) + u32::from(digit - b'0')).min(GREATEST_PARAM) as u16
+}
+
+// A further parameter, where one more counts.
+#[inline]
+fn with_next_param(text: Collected, params: &mut Params) -> Collected
+    requires { IsCounted text }
+    ensures counted { IsCounted result }
+    ensures value { collected result params.new
+        ≡ semicolon_joined text.private (held (take (text.count - 1) params.old ++ text.last ∷ [])) text.over }
+{
+    let mut text = text;
+    if text.count < MOST_PARAMS {
+        params[text.count - 1] = text.last;
+        text.count += 1;
+        text.last = 0;
+    } else {
+        text.over = true;
+    }
+    text
+}
+
+// The final byte of a control sequence.
+#[inline]
+fn finish(state: &mut ParserState, params: &mut Params, text: Collected, last: u8) -> Option<Event>
+    requires { IsCounted text }
+    ensures state { state.new ≡ ParserState.Ground }
+    ensures lent { IsLent result }
+    ensures command { event_command result params.new
+        ≡ Some (Command.Csi text.private (held (take (text.count - 1) params.old ++ text.last ∷ [])) last) }
+{
+    params[text.count - 1] = text.last;
+    *state = ParserState::Ground;
+    Some(Event::Csi {
+        private: text.private,
+        count: text.count,
+        last,
+    })
+}
+
+// The bytes end inside the text, or a byte comes that doesn't belong to it.
+fn suspend(state: &mut ParserState, params: &mut Params, text: Collected)
+    requires { IsCounted text }
+    ensures { state.new ≡ collected text params.old }
+{
+    params[text.count - 1] = text.last;
+    *state = ParserState::Csi {
+        private: text.private,
+        params: copied(&params[..text.count]),
+        over: text.over,
+    };
+}
