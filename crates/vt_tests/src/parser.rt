@@ -4,7 +4,7 @@ use std::alloc::Global;
 use std::fmt::Write;
 use std::process::Abort;
 use std::test::Fail;
-use vt_parser::{Command, Mode, Parser, ParserState, Token, laws, printable_run};
+use vt_parser::{Command, Mode, Parser, ParserState, Token, printable_run};
 
 // The commands that the bytes give in a mode, and then the state.
 fn told(alloc: Global, mode: Mode, bytes: &[u8]) -> Result<String, Fail> {
@@ -569,19 +569,4 @@ fn measures_runs_of_the_first_and_the_last_graphic_character(rt: HostRuntime) {
     for n in 0..71usize {
         assert_eq!(rt; printable_run(&bytes[..n]), n);
     }
-}
-
-#[test]
-fn laws_can_be_called() {
-    laws::state_decides();
-    laws::stays_shown();
-    laws::ground_is_empty();
-    laws::finished_leaves_nothing();
-    laws::pending_pays();
-    laws::graphic_is_shown();
-    laws::control_is_given();
-    laws::commands_are_proper();
-    laws::same_mode_stays();
-    laws::whole_sequences_finish();
-    laws::decimals_are_read();
 }

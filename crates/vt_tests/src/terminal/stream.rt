@@ -7,7 +7,7 @@ use std::alloc::Global;
 use std::process::Abort;
 use std::test::Fail;
 use vt_screen::Screen;
-use vt_term::{Profile, Reports, Terminal, laws};
+use vt_term::{Profile, Reports, Terminal};
 
 fn feed_pieces(alloc: Global, profile: Profile, bytes: &[u8], len: usize) -> Result<Left, Fail>
     requires { 0 < len }
@@ -275,21 +275,4 @@ fn a_copy_goes_on_alike(rt: HostRuntime) -> Result<(), Fail> {
         are_same(&one, &other) && is_reverse && one.reports.bytes() == b"\x1b[1;4R".as_slice()
     );
     Ok(())
-}
-
-// The laws are there to be cited, and do nothing.
-#[test]
-fn laws_do_nothing() {
-    laws::plays_in_parts();
-    laws::sends_in_parts();
-    laws::sent_is_appended();
-    laws::seen_decides();
-    laws::sends_little();
-    laws::stays_safe();
-    laws::terminals_are_safe(&Terminal::reset());
-    laws::parts_bring();
-    laws::characters_bring();
-    laws::controls_bring();
-    laws::sequences_act();
-    laws::sequences_bring();
 }
