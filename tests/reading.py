@@ -6,8 +6,9 @@
 The list is computed: every name that a clause of `Session::seek` cites, every name that those definitions cite, and so
 on, by the `use` lines of the specs/ folders. A record, a data type and its constructors count as one; so does a type of
 the code that the definitions speak of. With --write the page gets the list's rows anew: its headings and their order
-stay, names that went are dropped, new ones stand behind the definition that stands before them in their file. A row's
-text is the comment of the definition, so a wrong text is mended there.
+stay, names that went are dropped, new ones stand behind the definition that stands before them in their file, and one
+that moved to another file keeps its row. A row's text is the comment of the definition, so a wrong text is mended
+there.
 """
 import glob
 import itertools
@@ -229,6 +230,10 @@ def key_of(match):
     return match[1], f"crates/{match[2]}/{rest}"
 
 
+def crate_of(place):
+    return place.split("/")[1]
+
+
 def place_of_new(key, lines, order):
     """Where a row that the page lacks comes in: behind the nearest one before it in its file, or else at the end."""
     name, place = key
@@ -244,13 +249,17 @@ def place_of_new(key, lines, order):
 
 def written(page, found, book):
     """The page with the rows of these definitions."""
+    listed = {key_of(match) for match in map(ROW.match, page.split("\n")) if match}
+    moved = {(name, crate_of(place)): (name, place) for name, place in found.keys() - listed}
     lines = []
     for line in page.split("\n"):
         match = ROW.match(line)
+        key = match and key_of(match)
+        key = key if key in found else key and moved.get((key[0], crate_of(key[1])))
         if not match:
             lines.append(line)
-        elif key_of(match) in found:
-            lines.append(found[key_of(match)].row())
+        elif key:
+            lines.append(found[key].row())
     there = {key_of(match) for match in map(ROW.match, lines) if match}
     rank = {(name, place): at for place, names in book.order.items() for at, name in enumerate(names)}
     for key in sorted(found.keys() - there, key=lambda key: (key[1], rank.get(key, -1))):
