@@ -9,6 +9,7 @@ use tape_core::{Recording, Watched, read_recording};
 use tape_seek::{Edit, Request, Session, View, read_line, write_log};
 use vt_term::Terminal;
 
+mod faults;
 mod large;
 mod refused;
 mod requests;
@@ -65,7 +66,15 @@ fn opened(alloc: Global, chunks: &[Timed<'_>], every: usize) -> Result<Session, 
     Ok(stored_at(alloc, recorded(alloc, chunks)?, every)?)
 }
 
-/// How far a seek went and what it fed, then what was sent (E for ESC) and what the terminal shows.
+/// A view as a text, in parts with a space between:
+///
+/// | Part | What it tells |
+/// |---|---|
+/// | `count 3 fed 1` | how many chunks the view shows, and how many the seek fed |
+/// | `sent E[?6c` | all that was sent, with E for ESC; nothing where nothing was |
+/// | `2:ab` | the characters of line 2, of its columns 1 to 8; nothing for a line that is blank there |
+/// | `wrap` | a wrap is pending |
+/// | `in Escape` | a sequence is pending: the parser's state, where that isn't ground |
 fn told_of_view(alloc: Global, view: &View<'_>) -> Result<String, Fail> {
     let mut text = String::new(alloc);
     write!(text, "count {} fed {}", view.count(), view.fed())?;

@@ -23,7 +23,12 @@ fn alike(alloc: Global, count: usize, size: usize) -> Result<Recording, Fail> {
 }
 
 /// A session over such chunks.
-fn opened(alloc: Global, count: usize, size: usize, every: usize) -> Result<Session, Fail> {
+pub(super) fn opened(
+    alloc: Global,
+    count: usize,
+    size: usize,
+    every: usize,
+) -> Result<Session, Fail> {
     Ok(stored_at(alloc, alike(alloc, count, size)?, every)?)
 }
 
@@ -82,7 +87,7 @@ fn a_million_chunks_keep_two_terminals(rt: HostRuntime) -> Result<(), Fail> {
 }
 
 /// Makes an edit, or tells why it is refused.
-fn applied(session: &mut Session, edit: Edit) -> Result<(), EditFault> {
+pub(super) fn applied(session: &mut Session, edit: Edit) -> Result<(), EditFault> {
     match session.apply(edit) {
         Ok(()) => Ok(()),
         Err(refused) => Err(refused.fault),
@@ -90,7 +95,7 @@ fn applied(session: &mut Session, edit: Edit) -> Result<(), EditFault> {
 }
 
 /// So many `A`.
-fn letters(alloc: Global, size: usize) -> Result<Bytes, EditFault> {
+pub(super) fn letters(alloc: Global, size: usize) -> Result<Bytes, EditFault> {
     match vec![in alloc; b'A'; size] {
         Ok(bytes) => Ok(Bytes::from_vec(bytes)),
         Err(_) => Err(EditFault::OutOfMemory),
