@@ -1,7 +1,7 @@
 #!/usr/bin/env bash
 # Runs the program on real files: exit status, standard output, standard error, and files left as they were. What the jobs
 # write, and which command lines there are, is tested in crates/job_tests.
-# Usage: tests/program.sh PROGRAM. The last line is 'N passed, M failed'.
+# Usage: tests/program.sh PROGRAM, a file named typetool, as its help says. The last line is 'N passed, M failed'.
 set -u
 program=$(realpath "$1")
 examples=$(realpath "$(dirname "$0")/../examples")
