@@ -93,18 +93,22 @@ pub(crate) fn compare_over<R: Abort + AllocGlobal>(rt: &R, script: &[u8], case: 
     assert_eq!(rt;
         (
             ended.outcome,
-            ended.text.as_slice(),
-            ended.new_timing.as_slice()
+            text_of(ended.text.as_slice()),
+            text_of(ended.new_timing.as_slice())
         ),
-        (
-            case.outcome,
-            case.text.as_bytes(),
-            case.new_timing.as_bytes()
-        ),
+        (case.outcome, case.text, case.new_timing),
         "{:?} {:?} {:?} {:?}",
         case.job,
         case.body,
         case.timing,
         case.requests
     );
+}
+
+/// Bytes as a text, which a failed comparison prints. No wanted text has bytes that are none.
+fn text_of(bytes: &[u8]) -> &str {
+    match str::from_utf8(bytes) {
+        Ok(text) => text,
+        Err(_) => "(bytes that are no UTF-8)",
+    }
 }

@@ -98,15 +98,10 @@ fn changes_of_a_vt102(rt: HostRuntime) -> Result<(), Fail> {
 }
 
 /// What a terminal is fed, and the text that draws its screen again.
-const DRAWN: [(&str, &str); 4] = [
-    ("", "\x1b[?7l\x1b)0\x1b[0m\x0f\x1b[?7h\x1b[1;1H"),
+const DRAWN: [(&str, &str); 2] = [
     (
         "\x1b[1mA",
         "\x1b[?7l\x1b)0\x1b[1;1H\x1b[0;1mA\x1b[0m\x0f\x1b[?7h\x1b[1;2H",
-    ),
-    (
-        "\x1b(0lqk",
-        "\x1b[?7l\x1b)0\x1b[1;1H\x0elqk\x1b[0m\x0f\x1b[?7h\x1b[1;4H",
     ),
     (
         "\x1b[5;10r\x1b[?6h\x1b[?5h\x1b[2;3HB",
