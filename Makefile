@@ -6,7 +6,7 @@ SOURCES := crates.txt $(shell find crates -name out -prune -o -type f -print)
 
 all: bin/typetool
 
-# The program at work before any proof: a minute. `rt try` compiles it, runs it once and keeps nothing.
+# The program at work before any proof, in a minute or two. `rt try` compiles it, runs it once and keeps nothing.
 quick:
 	@echo "UNPROVED: rt try compiles the program and proves nothing; 'make' proves it, and builds bin/typetool."
 	cd crates/typetool && rt try --data tour.script=../../examples/tour.script \
