@@ -28,7 +28,8 @@ context_of_form _ _ _ (controlled (first ∷ rest) all) = grind (arith, nat_test
 context_of_form _ _ _ (stringed opening is) = grind (arith, nat_tests)
 context_of_form _ _ _ _ = refl
 
-pub same_context : (mode : Mode) (pending : List ℕ) (state : ParserState) → parser_view mode pending ≡ Some state → context_of mode pending ≡ context_in state
+pub same_context : (mode : Mode) (pending : List ℕ) (state : ParserState) → parser_view mode pending ≡ Some state
+    → context_of mode pending ≡ context_in state
 same_context mode pending state shown = context_of_form mode pending state (form mode pending state shown)
 
 -- only nothing is on ground
@@ -84,7 +85,8 @@ module _ (given mode : Mode) (pending : List ℕ) (byte : ℕ) (state : ParserSt
   pub same_view : parser_view (mode_after given mode byte) (pending_after mode pending byte) ≡ Some (stepped state given byte).state
   unfolding pending_after stepped
   same_view =
-      ap (λ at. parser_view (mode_after given mode byte) (pending_by (action_of at byte) mode pending byte)) (same_context mode pending state shown) ∙ agree.view
+      ap (λ at. parser_view (mode_after given mode byte) (pending_by (action_of at byte) mode pending byte))
+      (same_context mode pending state shown) ∙ agree.view
 
 -- ---- laws
 

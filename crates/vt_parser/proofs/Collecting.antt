@@ -41,7 +41,8 @@ pub other_joins : (private : Bool) (params : ArrayVec ℕ) (over : Bool) (byte :
 other_joins private params over byte is other = record { graphic = grind (arith, nat_tests); does = grind (arith, nat_tests) }
 
 -- from where it joins to all that was read
-pub further : (front : List ℕ) (state : ParserState) (private : Bool) (params : ArrayVec ℕ) (over : Bool) (bytes : List ℕ) (at : ℕ) (step other : Outcome) → at < length bytes
+pub further : (front : List ℕ) (state : ParserState) (private : Bool) (params : ArrayVec ℕ) (over : Bool)
+    (bytes : List ℕ) (at : ℕ) (step other : Outcome) → at < length bytes
     → JoinsText private params over (get_or bytes at 0) step → other ≡ step
     → GoesOn front state (take at bytes) (moves_to (Csi private params over)) → GoesOn front state (take (at + 1) bytes) other
 unfolding joined
@@ -49,7 +50,8 @@ further front state private params over bytes at step other within joined same l
     let there : ParserState = Csi private params over in
     let byte = get_or bytes at 0 in
     subst (λ (taken : List ℕ). Runs start mode taken other) (sym (take_more bytes at 0 within))
-    (subst (λ (last : Outcome). Runs start mode (take at bytes ++ byte ∷ []) last) (joins there mode byte refl joined.graphic ∙ joined.does ∙ sym same)
+    (subst (λ (last : Outcome). Runs start mode (take at bytes ++ byte ∷ []) last)
+    (joins there mode byte refl joined.graphic ∙ joined.does ∙ sym same)
     (runs_push start mode (take at bytes) there byte (led start mode runs)))
 
 -- ---- where a text begins
@@ -58,7 +60,8 @@ further front state private params over bytes at step other within joined same l
 same_first : (state other : ParserState) (mode : Mode) (byte : ℕ) (rest : List ℕ) (step : Outcome) → stepped state mode byte ≡ stepped other mode byte
     → Runs state mode (byte ∷ rest) step → Runs other mode (byte ∷ rest) step
 same_first state other mode byte [] step same runs = sym same ∙ runs
-same_first state other mode byte (second ∷ rest) step same runs = subst (λ (s : Outcome). (s.command ≡ None) × Runs s.state mode (second ∷ rest) step) same runs
+same_first state other mode byte (second ∷ rest) step same runs =
+    subst (λ (s : Outcome). (s.command ≡ None) × Runs s.state mode (second ∷ rest) step) same runs
 
 -- the text after ESC [ is read from its first byte on, or from behind the `?`
 pub start_runs : (mode : Mode) (bytes : List ℕ) (n from : ℕ) (step : Outcome) → 0 < n → 0 < length bytes → is_graphic (get_or bytes 0 0) ≡ true
@@ -70,16 +73,19 @@ start_runs mode (byte ∷ rest) (suc n) from step some within graphic begins led
     let start : ParserState = Csi (byte == 63) (held (0 ∷ [])) false in
     let ends : (state : ParserState) → ℕ → Type 0 = λ state k. Runs state mode (take k (byte ∷ rest)) (moves_to start) in
     elim (cases_Bool (byte == 63)) [
-      | inl marked ↦ led CsiStart mode (subst (ends CsiStart) (let at : 1 ≡ from = grind arith in at) (joins CsiStart mode byte refl graphic ∙ simp marked))
+      | inl marked ↦ led CsiStart mode (subst (ends CsiStart) (let at : 1 ≡ from = grind arith in at)
+          (joins CsiStart mode byte refl graphic ∙ simp marked))
       | inr unmarked ↦
-          same_first start CsiStart mode byte (take n rest) step (joins start mode byte refl graphic ∙ sym (joins CsiStart mode byte refl graphic ∙ simp unmarked))
+          same_first start CsiStart mode byte (take n rest) step
+          (joins start mode byte refl graphic ∙ sym (joins CsiStart mode byte refl graphic ∙ simp unmarked))
           (led start mode (subst (ends start) (let at : 0 ≡ from = grind arith in at) refl))
     ]
 start_runs mode _ _ from step some within graphic begins led = absurd (omega arith)
 
 -- ---- other bytes
 
-pub runs_one : (state : ParserState) (mode : Mode) (bytes : List ℕ) (step : Outcome) → 0 < length bytes → stepped state mode (get_or bytes 0 0) ≡ step → Runs state mode (take 1 bytes) step
+pub runs_one : (state : ParserState) (mode : Mode) (bytes : List ℕ) (step : Outcome) → 0 < length bytes
+    → stepped state mode (get_or bytes 0 0) ≡ step → Runs state mode (take 1 bytes) step
 runs_one state mode [] step some is = absurd (omega arith)
 runs_one state mode (byte ∷ rest) step some is = is
 
@@ -101,9 +107,11 @@ unfolding stepped
 nul_stays Ground mode = refl
 nul_stays _ mode = refl
 
-pub nuls_run : (state : ParserState) (mode : Mode) (bytes : List ℕ) (n : ℕ) → n ≤ prefix_len (λ byte. byte == 0) bytes → Runs state mode (take n bytes) (moves_to state)
+pub nuls_run : (state : ParserState) (mode : Mode) (bytes : List ℕ) (n : ℕ)
+    → n ≤ prefix_len (λ byte. byte == 0) bytes → Runs state mode (take n bytes) (moves_to state)
 nuls_run state mode bytes zero le = refl
 nuls_run state mode [] (suc n) le = refl
 nuls_run state mode (byte ∷ rest) (suc n) le =
     let is : byte ≡ 0 = grind (arith, nat_tests) in
-    runs_more state state mode byte (take n rest) (moves_to state) (ap (stepped state mode) is ∙ nul_stays state mode) (nuls_run state mode rest n (grind (arith, nat_tests)))
+    runs_more state state mode byte (take n rest) (moves_to state)
+    (ap (stepped state mode) is ∙ nul_stays state mode) (nuls_run state mode rest n (grind (arith, nat_tests)))

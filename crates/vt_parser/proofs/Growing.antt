@@ -22,12 +22,14 @@ front_final (number ∷ []) some = refl
 front_final (number ∷ second ∷ rest) some = ap (λ tail. number ∷ tail) (front_final (second ∷ rest) (omega arith))
 
 digit_added : (private : Bool) (list : List ℕ) (digit : ℕ) → 0 < length list
-    → Csi private (held (take 16 (with_last_digit list digit))) (ltb 16 (length (with_last_digit list digit))) ≡ digit_joined private (held (take 16 list)) (ltb 16 (length list)) digit
+    → Csi private (held (take 16 (with_last_digit list digit))) (ltb 16 (length (with_last_digit list digit)))
+    ≡ digit_joined private (held (take 16 list)) (ltb 16 (length list)) digit
 digit_added private list digit some =
     grind (arith, nat_tests, front_final list some, length-append {A = ℕ}, length-take {A = ℕ}, take_all {A = ℕ}, take-append-le {A = ℕ})
 
 number_added : (private : Bool) (list : List ℕ)
-    → Csi private (held (take 16 (list ++ 0 ∷ []))) (ltb 16 (length (list ++ 0 ∷ []))) ≡ semicolon_joined private (held (take 16 list)) (ltb 16 (length list))
+    → Csi private (held (take 16 (list ++ 0 ∷ []))) (ltb 16 (length (list ++ 0 ∷ [])))
+    ≡ semicolon_joined private (held (take 16 list)) (ltb 16 (length list))
 number_added private list = grind (arith, nat_tests, length-append {A = ℕ}, length-take {A = ℕ}, take_all {A = ℕ}, take-append-le {A = ℕ})
 
 -- ---- a further byte
@@ -48,7 +50,8 @@ semicolon_view : (private : Bool) (text : List ℕ) (byte : ℕ) → is_semicolo
 semicolon_view private text byte is = grind (arith, numbers_push text byte, number_added private (numbers text))
 
 text_joins : (private : Bool) (text : List ℕ) (byte : ℕ)
-    → joined (view_by private text) byte ≡ cond (is_control_sequence_final byte) (gives (meaning_by private text byte)) (moves_to (view_by private (text ++ byte ∷ [])))
+    → joined (view_by private text) byte
+    ≡ cond (is_control_sequence_final byte) (gives (meaning_by private text byte)) (moves_to (view_by private (text ++ byte ∷ [])))
 unfolding joined
 text_joins private text byte =
     let pushed = list_all-append is_plain text (byte ∷ []) in
@@ -59,7 +62,8 @@ text_joins private text byte =
 
 -- a byte that joins a text ends it, or the state is that of the text with that byte
 pub control_sequence_joins : (text : List ℕ) (byte : ℕ)
-    → joined (control_sequence_view text) byte ≡ cond (is_control_sequence_final byte) (gives (control_sequence_meaning text byte)) (moves_to (control_sequence_view (text ++ byte ∷ [])))
+    → joined (control_sequence_view text) byte
+    ≡ cond (is_control_sequence_final byte) (gives (control_sequence_meaning text byte)) (moves_to (control_sequence_view (text ++ byte ∷ [])))
 unfolding joined numbers
 control_sequence_joins [] byte = grind (arith, nat_tests, text_joins false [] byte)
 control_sequence_joins (first ∷ rest) byte = grind (arith, nat_tests, text_joins (first == 63) (after_mark (first ∷ rest)) byte)

@@ -36,7 +36,8 @@ whole_with Ansi pending byte = ends_control_sequence pending byte || ends_escape
 whole_with Vt52Mode pending byte = ends_address pending byte || ends_vt52 pending byte
 
 abbrev pub meaning_with : Mode → List ℕ → ℕ → Option Command
-meaning_with Ansi pending byte = cond (is_control_sequence_begun pending) (control_sequence_meaning (drop 2 pending) byte) (escape_meaning (drop 1 pending) byte)
+meaning_with Ansi pending byte =
+    cond (is_control_sequence_begun pending) (control_sequence_meaning (drop 2 pending) byte) (escape_meaning (drop 1 pending) byte)
 meaning_with Vt52Mode pending byte = cond (is_line_begun pending) (address_meaning (get_or pending 2 0) byte) (Some (Vt52 byte))
 
 pub is_whole_push : (mode : Mode) (pending : List ℕ) (byte : ℕ) → is_whole mode (pending ++ byte ∷ []) ≡ whole_with mode pending byte
@@ -56,7 +57,8 @@ pub record JoinAgrees (mode : Mode) (pending : List ℕ) (byte : ℕ) (state : P
   pub command : cond (whole_with mode pending byte) (meaning_with mode pending byte) None ≡ (joined state byte).command
   pub view : cond (whole_with mode pending byte) (Some Ground) (parser_view mode (pending ++ byte ∷ [])) ≡ Some (joined state byte).state
 
-join_control_sequence : (text : List ℕ) (byte : ℕ) → list_all is_control_sequence_text text ≡ true → is_graphic byte ≡ true → JoinAgrees Ansi (escape ∷ 91 ∷ text) byte (control_sequence_view text)
+join_control_sequence : (text : List ℕ) (byte : ℕ) → list_all is_control_sequence_text text ≡ true
+    → is_graphic byte ≡ true → JoinAgrees Ansi (escape ∷ 91 ∷ text) byte (control_sequence_view text)
 unfolding parser_view
 join_control_sequence text byte all graphic =
     let joins = control_sequence_joins text byte in

@@ -56,7 +56,8 @@ all_graphic [] is = refl
 all_graphic (byte ∷ rest) is = grind (arith, nat_tests, all_graphic rest, prefix_len-le-length (λ other. not (is_other other)) rest)
 
 split : (bytes : List ℕ) (from n : ℕ) → prefix_len is_graphic (drop from bytes)
-    ≡ cond (eqb (prefix_len is_graphic (chunk from n bytes)) (length (chunk from n bytes))) (length (chunk from n bytes) + prefix_len is_graphic (drop (from + n) bytes)) (prefix_len is_graphic (chunk from n bytes))
+    ≡ cond (eqb (prefix_len is_graphic (chunk from n bytes)) (length (chunk from n bytes)))
+    (length (chunk from n bytes) + prefix_len is_graphic (drop (from + n) bytes)) (prefix_len is_graphic (chunk from n bytes))
 split bytes from n = ap (prefix_len is_graphic) (chunk-drop from n bytes) ∙ prefix_len-append is_graphic (chunk from n bytes) (drop (from + n) bytes)
 
 -- the run goes on through a piece whose mask is empty
@@ -65,7 +66,8 @@ pub run_through : (bytes : List ℕ) (from n : ℕ) → from + n ≤ length byte
 run_through bytes from n room none =
     let piece = chunk from n bytes in
     let rest = prefix_len is_graphic (drop (from + n) bytes) in
-    split bytes from n ∙ ap (λ b. cond b (length piece + rest) (prefix_len is_graphic piece)) (eq-eqb _ _ (same_run piece ∙ leading_from_mask_l is_other piece none))
+    split bytes from n ∙ ap (λ b. cond b (length piece + rest) (prefix_len is_graphic piece))
+    (eq-eqb _ _ (same_run piece ∙ leading_from_mask_l is_other piece none))
     ∙ ap (λ k. k + rest) (length-chunk from n bytes room)
 
 -- it stops at the lowest bit of a mask that isn't empty

@@ -53,18 +53,23 @@ due_if : (b : Bool) (bytes : ℕ) (command : Command) → IsProper command → f
 due_if true bytes command proper paid = record { proper = proper; paid = omega arith; finished = λ _. refl }
 due_if false bytes command proper paid = record { proper = tt; paid = omega arith; finished = tt }
 
-control_sequence_due : (text : List ℕ) (last bytes : ℕ) → is_control_sequence_final last ≡ true → 3 ≤ bytes → IsDue bytes [] (control_sequence_meaning text last)
+control_sequence_due : (text : List ℕ) (last bytes : ℕ) → is_control_sequence_final last ≡ true → 3 ≤ bytes
+    → IsDue bytes [] (control_sequence_meaning text last)
 control_sequence_due text last bytes is long =
     let proper = params_proper (after_mark text) in
     due_if (is_well_formed text) bytes _ (proper.0, proper.1, within 64 126 last is) long
 
-escape_due : (inter : ℕ) (text : List ℕ) (last bytes : ℕ) → is_intermediate inter ≡ true → is_escape_final last ≡ true → 3 ≤ bytes → IsDue bytes [] (escape_meaning (inter ∷ text) last)
-escape_due inter [] last bytes first is long = record { proper = (within 32 47 inter first, within 48 126 last is); paid = omega arith; finished = λ _. refl }
+escape_due : (inter : ℕ) (text : List ℕ) (last bytes : ℕ) → is_intermediate inter ≡ true
+    → is_escape_final last ≡ true → 3 ≤ bytes → IsDue bytes [] (escape_meaning (inter ∷ text) last)
+escape_due inter [] last bytes first is long =
+    record { proper = (within 32 47 inter first, within 48 126 last is); paid = omega arith; finished = λ _. refl }
 escape_due inter (second ∷ rest) last bytes first is long = record { proper = tt; paid = omega arith; finished = tt }
 
-whole_due : (mode : Mode) (pending : List ℕ) (byte : ℕ) → whole_with mode pending byte ≡ true → IsDue (length pending + 1) [] (meaning_with mode pending byte)
+whole_due : (mode : Mode) (pending : List ℕ) (byte : ℕ) → whole_with mode pending byte ≡ true
+    → IsDue (length pending + 1) [] (meaning_with mode pending byte)
 whole_due Ansi [] byte whole = absurd (false≢true whole)
-whole_due Ansi (first ∷ []) byte whole = record { proper = (tt, within 48 126 byte (grind (arith, nat_tests))); paid = omega arith; finished = λ _. refl }
+whole_due Ansi (first ∷ []) byte whole =
+    record { proper = (tt, within 48 126 byte (grind (arith, nat_tests))); paid = omega arith; finished = λ _. refl }
 whole_due Ansi (first ∷ second ∷ text) byte whole =
     elim (cases_Bool (is_control_sequence_begun (first ∷ second ∷ text))) [
       | inl begun ↦ simp begun (control_sequence_due text byte _ (grind (arith, nat_tests)) (omega arith))
@@ -90,7 +95,8 @@ due_by mode pending byte at Print fits = record { proper = within 32 126 byte fi
 due_by mode pending byte at Mark fits = record { proper = tt; paid = omega arith; finished = λ no. absurd (false≢true no) }
 due_by mode pending byte at Join fits =
     elim (cases_Bool (is_whole mode (pending ++ byte ∷ []))) [
-      | inl whole ↦ simp whole (subst (IsDue (length pending + 1) []) (sym (meaning_push mode pending byte)) (whole_due mode pending byte (sym (is_whole_push mode pending byte) ∙ whole)))
+      | inl whole ↦ simp whole (subst (IsDue (length pending + 1) []) (sym (meaning_push mode pending byte))
+          (whole_due mode pending byte (sym (is_whole_push mode pending byte) ∙ whole)))
       | inr more ↦ let long = length_push pending byte in simp more (record { proper = tt; paid = omega arith; finished = tt })
     ]
 due_by mode pending byte at Cancel fits = record { proper = tt; paid = omega arith; finished = λ _. refl }
@@ -118,7 +124,8 @@ graphic_is_shown m byte is = let kind = graphic_actions byte is in let at = same
 
 pub control_is_given : ControlIsGiven
 unfolding command_of pending_after
-control_is_given m byte is = let kind = control_actions byte is in let at = same_context m [] _ (shows_none m) in (simp (kind, at, is), simp (kind, at))
+control_is_given m byte is =
+    let kind = control_actions byte is in let at = same_context m [] _ (shows_none m) in (simp (kind, at, is), simp (kind, at))
 
 -- no byte of a run is anything but a graphic character
 pub runs_are_graphic : (bytes : List ℕ) (n : ℕ) → n ≤ prefix_len is_graphic bytes → list_all is_graphic (take n bytes) ≡ true

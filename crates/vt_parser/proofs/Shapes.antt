@@ -31,20 +31,25 @@ same_form : (mode : Mode) (p q : List ℕ) (state other : ParserState) → p ≡
 same_form mode p q state other bytes states has = subst (Form mode q) states (subst (λ (text : List ℕ). Form mode text state) bytes has)
 
 ansi_form : (byte : ℕ) (rest : List ℕ) (state : ParserState) → ansi_view (byte ∷ rest) ≡ Some state → Form Ansi (byte ∷ rest) state
-ansi_form byte [] state is = same_form Ansi (escape ∷ []) (byte ∷ []) Escape state (grind (arith, nat_tests)) (grind (arith, nat_tests)) (escaped [] refl)
+ansi_form byte [] state is =
+    same_form Ansi (escape ∷ []) (byte ∷ []) Escape state (grind (arith, nat_tests)) (grind (arith, nat_tests)) (escaped [] refl)
 ansi_form byte (next ∷ []) state is =
     elim (cases_Bool (is_control_sequence_begun (byte ∷ next ∷ []))) [
       | inl begun ↦ same_form Ansi (escape ∷ 91 ∷ []) _ _ state (grind (arith, nat_tests)) (grind (arith, nat_tests)) (controlled [] refl)
       | inr other ↦
           elim (cases_Bool (is_string_begun (byte ∷ next ∷ []))) [
-            | inl begun ↦ same_form Ansi (escape ∷ next ∷ []) _ _ state (grind (arith, nat_tests)) (grind (arith, nat_tests)) (stringed next (grind (arith, nat_tests)))
-            | inr none ↦ same_form Ansi (escape ∷ next ∷ []) _ _ state (grind (arith, nat_tests)) (grind (arith, nat_tests)) (escaped (next ∷ []) (grind (arith, nat_tests)))
+            | inl begun ↦ same_form Ansi (escape ∷ next ∷ []) _ _ state (grind (arith, nat_tests))
+                (grind (arith, nat_tests)) (stringed next (grind (arith, nat_tests)))
+            | inr none ↦ same_form Ansi (escape ∷ next ∷ []) _ _ state (grind (arith, nat_tests))
+                (grind (arith, nat_tests)) (escaped (next ∷ []) (grind (arith, nat_tests)))
           ]
     ]
 ansi_form byte (next ∷ third ∷ rest) state is =
     elim (cases_Bool (is_control_sequence_begun (byte ∷ next ∷ third ∷ rest))) [
-      | inl begun ↦ same_form Ansi (escape ∷ 91 ∷ third ∷ rest) _ _ state (grind (arith, nat_tests)) (grind (arith, nat_tests)) (controlled (third ∷ rest) (grind (arith, nat_tests)))
-      | inr other ↦ same_form Ansi (escape ∷ next ∷ third ∷ rest) _ _ state (grind (arith, nat_tests)) (grind (arith, nat_tests)) (escaped (next ∷ third ∷ rest) (grind (arith, nat_tests)))
+      | inl begun ↦ same_form Ansi (escape ∷ 91 ∷ third ∷ rest) _ _ state (grind (arith, nat_tests))
+          (grind (arith, nat_tests)) (controlled (third ∷ rest) (grind (arith, nat_tests)))
+      | inr other ↦ same_form Ansi (escape ∷ next ∷ third ∷ rest) _ _ state (grind (arith, nat_tests))
+          (grind (arith, nat_tests)) (escaped (next ∷ third ∷ rest) (grind (arith, nat_tests)))
     ]
 
 vt52_form : (byte : ℕ) (rest : List ℕ) (state : ParserState) → vt52_view (byte ∷ rest) ≡ Some state → Form Vt52 (byte ∷ rest) state

@@ -32,12 +32,14 @@ use Rattle.vt_parser.proofs.ManyBytes.{runs_agree}
 pub has_params : (state : ParserState) → IsShown state → HasParams state
 unfolding joined
 has_params (Csi private params over) shown =
-    let told = same_command shown.0 shown.0 shown.1 64 (Csi private params over) shown.2 ∙ ap (λ (s : Outcome). s.command) (joins (Csi private params over) shown.0 64 refl refl) in
+    let told = same_command shown.0 shown.0 shown.1 64 (Csi private params over) shown.2
+    ∙ ap (λ (s : Outcome). s.command) (joins (Csi private params over) shown.0 64 refl refl) in
     let P : Option Command → Type 0 = λ command. IfSome command IsProper in
     (subst P told (commands_are_proper shown.0 shown.1 64)).0
 has_params state shown = tt
 
-pub shown_after : (state : ParserState) (given : Mode) (bytes : List ℕ) (step : Outcome) → IsShown state → Runs state given bytes step → IsShown step.state
+pub shown_after : (state : ParserState) (given : Mode) (bytes : List ℕ) (step : Outcome) → IsShown state
+    → Runs state given bytes step → IsShown step.state
 shown_after state given bytes step shown runs = (
   mode_after_bytes given shown.0 bytes,
   pending_after_bytes given shown.0 shown.1 bytes,
@@ -64,9 +66,11 @@ run_leads given bytes graphic = λ mode pending view.
 
 -- ---- tokens
 
-gives_proper : (given mode : Mode) (pending bytes : List ℕ) (command : Option Command) → Gives given mode pending bytes command → IfSome command IsProper
+gives_proper : (given mode : Mode) (pending bytes : List ℕ) (command : Option Command)
+    → Gives given mode pending bytes command → IfSome command IsProper
 gives_proper given mode pending [] command gives = let P : Option Command → Type 0 = λ c. IfSome c IsProper in subst P (sym gives) tt
-gives_proper given mode pending (byte ∷ []) command gives = let P : Option Command → Type 0 = λ c. IfSome c IsProper in subst P gives (commands_are_proper mode pending byte)
+gives_proper given mode pending (byte ∷ []) command gives =
+    let P : Option Command → Type 0 = λ c. IfSome c IsProper in subst P gives (commands_are_proper mode pending byte)
 gives_proper given mode pending (byte ∷ second ∷ rest) command gives =
     gives_proper given (mode_after given mode byte) (pending_after mode pending byte) (second ∷ rest) command gives.1
 
@@ -100,7 +104,8 @@ abbrev pub command_told : Option Token → Option Command
 command_told None = None
 command_told (Some token) = Some (command_of_token token)
 
-byte_told : (given mode : Mode) (pending : List ℕ) (byte : ℕ) (token : Option Token) → TellsOf given mode pending (byte ∷ []) token → command_of mode pending byte ≡ command_told token
+byte_told : (given mode : Mode) (pending : List ℕ) (byte : ℕ) (token : Option Token)
+    → TellsOf given mode pending (byte ∷ []) token → command_of mode pending byte ≡ command_told token
 byte_told given mode pending byte (Some (tokens.Show run)) told =
     ap (λ (p : List ℕ). command_of mode p byte) told.ground
     ∙ (graphic_is_shown mode byte (and_parts (is_graphic byte) true told.graphic).0).0

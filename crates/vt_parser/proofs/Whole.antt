@@ -25,12 +25,14 @@ use Rattle.vt_parser.proofs.Table.{graphic_actions}
 
 -- ---- steps of the machine
 
-pub joins : (state : ParserState) (mode : Mode) (byte : ℕ) → context_in state ≡ context.Sequence → is_graphic byte ≡ true → stepped state mode byte ≡ joined state byte
+pub joins : (state : ParserState) (mode : Mode) (byte : ℕ) → context_in state ≡ context.Sequence
+    → is_graphic byte ≡ true → stepped state mode byte ≡ joined state byte
 unfolding stepped
 joins state mode byte inside graphic = let kind = graphic_actions byte graphic in simp (inside, kind)
 
 -- a graphic character where it isn't shown; in a string it is skipped
-pub joins_off : (state : ParserState) (mode : Mode) (byte : ℕ) → (state ≡ Ground → ⊥) → is_graphic byte ≡ true → stepped state mode byte ≡ joined state byte
+pub joins_off : (state : ParserState) (mode : Mode) (byte : ℕ) → (state ≡ Ground → ⊥) → is_graphic byte ≡ true
+    → stepped state mode byte ≡ joined state byte
 unfolding stepped joined
 joins_off Ground mode byte off graphic = absurd (off refl)
 joins_off Text mode byte off graphic = let kind = graphic_actions byte graphic in simp kind
@@ -75,16 +77,19 @@ text_inside (first ∷ rest) = grind (arith, nat_tests)
 runs_text : (done text : List ℕ) (last : ℕ) → list_all is_control_sequence_text text ≡ true → is_control_sequence_final last ≡ true
     → Runs (control_sequence_view done) Ansi (text ++ last ∷ []) (gives (control_sequence_meaning (done ++ text) last))
 runs_text done [] last all is =
-    let ends : joined (control_sequence_view done) last ≡ gives (control_sequence_meaning done last) = grind (arith, nat_tests, control_sequence_joins done last) in
+    let ends : joined (control_sequence_view done) last ≡ gives (control_sequence_meaning done last) =
+    grind (arith, nat_tests, control_sequence_joins done last) in
     joins (control_sequence_view done) Ansi last (text_inside done) (grind (arith, nat_tests)) ∙ ends
     ∙ ap (λ (text : List ℕ). gives (control_sequence_meaning text last)) (sym (append-nil done))
 runs_text done (byte ∷ text) last all is =
     let parts = and_parts (is_control_sequence_text byte) (list_all is_control_sequence_text text) all in
     let first = parts.0 in
-    let more : joined (control_sequence_view done) byte ≡ moves_to (control_sequence_view (done ++ byte ∷ [])) = grind (arith, nat_tests, control_sequence_joins done byte) in
+    let more : joined (control_sequence_view done) byte ≡ moves_to (control_sequence_view (done ++ byte ∷ [])) =
+    grind (arith, nat_tests, control_sequence_joins done byte) in
     runs_more (control_sequence_view done) (control_sequence_view (done ++ byte ∷ [])) Ansi byte (text ++ last ∷ []) _
     (joins (control_sequence_view done) Ansi byte (text_inside done) (grind (arith, nat_tests)) ∙ more)
-    (subst (λ (whole : List ℕ). Runs (control_sequence_view (done ++ byte ∷ [])) Ansi (text ++ last ∷ []) (gives (control_sequence_meaning whole last)))
+    (subst (λ (whole : List ℕ). Runs (control_sequence_view (done ++ byte ∷ [])) Ansi (text ++ last ∷ [])
+    (gives (control_sequence_meaning whole last)))
     (append_assoc done (byte ∷ []) text) (runs_text (done ++ byte ∷ []) text last parts.1 is))
 
 pub control_sequence_finishes : ControlSequencesFinish

@@ -19,7 +19,8 @@ use Rattle.vt_parser.specs.Law.{AreParams, DecimalsAreRead, WrittenSequencesFini
 use Rattle.vt_parser.proofs.Whole.{control_sequence_finishes}
 
 -- a test that follows from another one, of each item
-list_all_weaker : (test other : ℕ → Bool) (items : List ℕ) → ((item : ℕ) → test item ≡ true → other item ≡ true) → list_all test items ≡ true → list_all other items ≡ true
+list_all_weaker : (test other : ℕ → Bool) (items : List ℕ) → ((item : ℕ) → test item ≡ true → other item ≡ true)
+    → list_all test items ≡ true → list_all other items ≡ true
 list_all_weaker test other [] each all = refl
 list_all_weaker test other (item ∷ items) each all = grind (arith, each item, list_all_weaker test other items each)
 
@@ -54,7 +55,8 @@ parameter-decimal number small = let value = (is_decimal number (omega arith)).v
 -- ---- the text
 
 plain_digits : (number : ℕ) → number ≤ 9999 → list_all is_plain (decimal number) ≡ true
-plain_digits number small = list_all_weaker is_digit is_plain (decimal number) (λ byte is. grind (arith, nat_tests)) (is_decimal number (omega arith)).all
+plain_digits number small =
+    list_all_weaker is_digit is_plain (decimal number) (λ byte is. grind (arith, nat_tests)) (is_decimal number (omega arith)).all
 
 unbroken : (number : ℕ) → number ≤ 9999 → All (λ byte. is_semicolon byte ≡ false) (decimal number)
 unbroken number small =
@@ -108,7 +110,8 @@ written_sequences_finish numbers last are is =
     let whole = bare.1 in
     let read = decimals_are_read numbers are in
     let means : control_sequence_meaning (params_text numbers) last ≡ Some (Csi false (held numbers) last) = simp (no_mark, whole, plain, read) in
-    subst (Finishes Ansi (escape ∷ 91 ∷ (params_text numbers ++ last ∷ []))) means (control_sequence_finishes (params_text numbers) last (text_joins (params_text numbers) plain) is)
+    subst (Finishes Ansi (escape ∷ 91 ∷ (params_text numbers ++ last ∷ []))) means
+    (control_sequence_finishes (params_text numbers) last (text_joins (params_text numbers) plain) is)
 
 pub written_privates_finish : WrittenPrivatesFinish
 written_privates_finish numbers last are is =
@@ -116,4 +119,5 @@ written_privates_finish numbers last are is =
     let read = decimals_are_read numbers are in
     let joins = text_joins (params_text numbers) plain in
     let means : control_sequence_meaning (63 ∷ params_text numbers) last ≡ Some (Csi true (held numbers) last) = simp (plain, read) in
-    subst (Finishes Ansi (escape ∷ 91 ∷ 63 ∷ (params_text numbers ++ last ∷ []))) means (control_sequence_finishes (63 ∷ params_text numbers) last (simp joins) is)
+    subst (Finishes Ansi (escape ∷ 91 ∷ 63 ∷ (params_text numbers ++ last ∷ []))) means
+    (control_sequence_finishes (63 ∷ params_text numbers) last (simp joins) is)

@@ -71,7 +71,8 @@ is_escape_begun (byte ∷ rest) = byte == escape && list_all is_intermediate res
 abbrev pub is_control_sequence_begun : List ℕ → Bool
 is_control_sequence_begun [] = false
 is_control_sequence_begun (byte ∷ []) = false
-is_control_sequence_begun (byte ∷ next ∷ rest) = byte == escape && begins_control_sequence next && list_all is_control_sequence_text rest
+is_control_sequence_begun (byte ∷ next ∷ rest) =
+    byte == escape && begins_control_sequence next && list_all is_control_sequence_text rest
 
 -- ESC and the opening of a string, whose content isn't kept
 abbrev pub is_string_begun : List ℕ → Bool
@@ -100,7 +101,8 @@ is_line_begun (byte ∷ next ∷ line ∷ fourth ∷ rest) = false
 -- An escape sequence: directly after ESC the bytes [ P X ] ^ _ are no final bytes, since they open something longer.
 abbrev pub ends_escape : List ℕ → ℕ → Bool
 ends_escape begun last =
-    is_escape_begun begun && is_escape_final last && not (is_lone_escape begun && (begins_control_sequence last || begins_string last))
+    is_escape_begun begun && is_escape_final last
+    && not (is_lone_escape begun && (begins_control_sequence last || begins_string last))
 
 -- a control sequence: its introducer, a text and a final byte (ECMA-48 section 5.4)
 abbrev pub ends_control_sequence : List ℕ → ℕ → Bool

@@ -27,7 +27,8 @@ IsProper (Show byte) = IsFrom 32 126 byte
 IsProper Error = Unit {0}
 IsProper (Control byte) = IsFrom 8 15 byte
 IsProper (Esc inter last) = MatchOption inter (Unit {0}) (IsFrom 32 47) × IsFrom 48 126 last
-IsProper (Csi private params last) = IsFrom 1 most_params (length params.items) × All (λ param. param ≤ greatest_param) params.items × IsFrom 64 126 last
+IsProper (Csi private params last) =
+    IsFrom 1 most_params (length params.items) × All (λ param. param ≤ greatest_param) params.items × IsFrom 64 126 last
 IsProper (Vt52 last) = IsFrom 32 126 last × (last ≢ 89)
 IsProper (Vt52Address line column) = IsFrom 1 95 line × IsFrom 1 95 column
 
@@ -53,13 +54,15 @@ fewest_of (Some command) = fewest_bytes command
 
 -- ---- the laws
 
--- A state shows all of what is pending that matters: pending bytes that show one state give one command after any byte, and show one state again.
+-- A state shows all of what is pending that matters: pending bytes that show one state give one command after any byte,
+-- and show one state again.
 abbrev pub StateDecides : Type 0
 StateDecides =
     (given m n : Mode) (p q : List ℕ) (state : ParserState) (byte : ℕ)
     → parser_view m p ≡ Some state → parser_view n q ≡ Some state
     → (command_of m p byte ≡ command_of n q byte)
-    × (parser_view (mode_after given m byte) (pending_after m p byte) ≡ parser_view (mode_after given n byte) (pending_after n q byte))
+    × (parser_view (mode_after given m byte) (pending_after m p byte)
+    ≡ parser_view (mode_after given n byte) (pending_after n q byte))
 
 -- What is pending after a byte is shown by a state again.
 abbrev pub StaysShown : Type 0
@@ -80,7 +83,8 @@ FinishedLeavesNothing =
     (m : Mode) (p : List ℕ) (byte : ℕ) (command : Command)
     → command_of m p byte ≡ Some command → is_sequence command ≡ true → pending_after m p byte ≡ []
 
--- The bytes of a command are paid by the byte and by what was pending: what is pending may count as bytes that are still to be paid.
+-- The bytes of a command are paid by the byte and by what was pending: what is pending may count as bytes that are
+-- still to be paid.
 abbrev pub PendingPays : Type 0
 PendingPays =
     (m : Mode) (p : List ℕ) (byte : ℕ)
@@ -146,4 +150,5 @@ WrittenSequencesFinish =
 abbrev pub WrittenPrivatesFinish : Type 0
 WrittenPrivatesFinish =
     (numbers : List ℕ) (last : ℕ) → AreParams numbers → is_control_sequence_final last ≡ true
-    → Finishes Ansi (escape ∷ bracket ∷ question_mark ∷ (params_text numbers ++ last ∷ [])) (Some (Csi true (held numbers) last))
+    → Finishes Ansi (escape ∷ bracket ∷ question_mark ∷ (params_text numbers ++ last ∷ []))
+    (Some (Csi true (held numbers) last))

@@ -67,14 +67,16 @@ control_sequence_joined private params over byte =
 -- the first byte of a text: `?` marks it, and any other joins as if it followed a parameter 0
 abbrev pub start_joined : ℕ → Outcome
 start_joined byte =
-    if byte == question_mark then moves_to (Csi true (held (0 ∷ [])) false) else control_sequence_joined false (held (0 ∷ [])) false byte
+    if byte == question_mark then moves_to (Csi true (held (0 ∷ [])) false)
+    else control_sequence_joined false (held (0 ∷ [])) false byte
 
 -- a byte that joins, 32 to 126
 unfoldable pub joined : ParserState → ℕ → Outcome
 joined Ground byte = moves_to Ground
 joined Text byte = moves_to Text
 joined Escape byte = escape_joined byte
-joined (EscapeOne inter) byte = if is_intermediate byte then moves_to EscapeMany else gives (Some (Esc (Some inter) byte))
+joined (EscapeOne inter) byte =
+    if is_intermediate byte then moves_to EscapeMany else gives (Some (Esc (Some inter) byte))
 joined EscapeMany byte = if is_intermediate byte then moves_to EscapeMany else gives None
 joined CsiStart byte = start_joined byte
 joined (Csi private params over) byte = control_sequence_joined private params over byte

@@ -1,5 +1,6 @@
 -- Private: what the code reads of many bytes, on states.
 use Rattle.std.specs.Prelude.{◌≡◌, ◌==◌, ℕ, false, if◌then◌else◌, ◌-◌, ◌≤◌, ◌<◌, List, [], ◌∷◌, ◌++◌, take, length, slice_index, Option, Some, None}
+use Rattle.arrayvec.specs.ArrayVec.{ArrayVec}
 use Rattle.vt_parser.specs.declared.commands.Mode.{Mode}
 use Rattle.vt_parser.specs.declared.commands.Command.{Command}
 use Rattle.vt_parser.specs.declared.commands.Command.TheVariants as command
@@ -36,9 +37,13 @@ pub record IsOpening (bytes : List ℕ) : Type 0 where
 abbrev pub IsCounted : Collected → Type 0
 IsCounted text = (0 < text.count) × (text.count ≤ most_params)
 
--- the state of what was collected, the parameters before the last in the array
+-- the parameters that were collected, those before the last in the array
+abbrev pub gathered : Collected → List ℕ → ArrayVec ℕ
+gathered text params = held (take (text.count - 1) params ++ text.last ∷ [])
+
+-- the state of what was collected
 abbrev pub collected : Collected → List ℕ → ParserState
-collected text params = CsiState text.private (held (take (text.count - 1) params ++ text.last ∷ [])) text.over
+collected text params = CsiState text.private (gathered text params) text.over
 
 -- what stands before the first byte of a text, or behind it where that is `?`, and how many bytes that is
 abbrev pub IsStarted : ℕ → Collected × ℕ → Type 0
@@ -62,6 +67,11 @@ event_command (Some (Vt52Address line column)) params = Some (command.Vt52Addres
 abbrev pub event_outcome : Option Event → List ℕ → ParserState → Outcome
 event_outcome event params state = record { state = state; command = event_command event params }
 
+-- so many of the bytes led from a state to what came
+abbrev pub Reads : ParserState → Mode → List ℕ → ℕ × Option Event → List ℕ → ParserState → Type 0
+Reads start mode bytes read params state =
+    Runs start mode (take read.0 bytes) (event_outcome read.1 params state)
+
 -- what came has this outcome, whatever lies in the array
 abbrev pub Comes : Option Event → ParserState → Outcome → Type 0
 Comes event state outcome = (params : List ℕ) → event_outcome event params state ≡ outcome
@@ -73,4 +83,5 @@ IsLent _ = Unit {0}
 
 -- from wherever bytes led to a state, more of them lead to another one
 abbrev pub GoesOn : List ℕ → ParserState → List ℕ → Outcome → Type 0
-GoesOn front state bytes step = (start : ParserState) (mode : Mode) → Runs start mode front (moves_to state) → Runs start mode bytes step
+GoesOn front state bytes outcome =
+    (start : ParserState) (mode : Mode) → Runs start mode front (moves_to state) → Runs start mode bytes outcome

@@ -18,7 +18,8 @@ context_of Vt52 [] = Ground
 context_of Ansi (byte ∷ rest) = if is_string_begun (byte ∷ rest) then Text else Sequence
 context_of Vt52 (byte ∷ rest) = Sequence
 
--- BS, HT, LF, VT, FF, CR, SO and SI are commands; the other control characters have no effect on any state (EK-VT100-UG chapter 3)
+-- BS, HT, LF, VT, FF, CR, SO and SI are commands; the other control characters have no effect on any state (EK-VT100-UG
+-- chapter 3)
 abbrev pub control_of : ℕ → Option Command
 control_of byte = if is_within 8 15 byte then Some (Control byte) else None
 
@@ -54,6 +55,7 @@ command_of mode pending byte = command_by (action_of (context_of mode pending) b
 unfoldable pub pending_after : Mode → List ℕ → ℕ → List ℕ
 pending_after mode pending byte = pending_by (action_of (context_of mode pending) byte) mode pending byte
 
--- The mode in which the pending bytes after a byte are read: the mode at the ESC decides, and an ESC takes the mode that is given with it.
+-- The mode in which the pending bytes after a byte are read: the mode at the ESC decides, and an ESC takes the mode
+-- that is given with it.
 abbrev pub mode_after : Mode → Mode → ℕ → Mode
 mode_after given mode byte = if byte == escape then given else mode

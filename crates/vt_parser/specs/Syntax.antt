@@ -20,7 +20,8 @@ is_graphic byte = is_within 32 126 byte
 
 -- what is done with a byte on ground, inside a sequence and inside a string
 abbrev pub actions_by : Action → Action → Action → Actions
-actions_by on_ground in_sequence in_string = record { on_ground = on_ground; in_sequence = in_sequence; in_string = in_string }
+actions_by on_ground in_sequence in_string =
+    record { on_ground = on_ground; in_sequence = in_sequence; in_string = in_string }
 
 -- a row of the table: the bytes from first to last, and what is done with each of them
 pub record SyntaxRow : Type 0 where
@@ -30,9 +31,11 @@ pub record SyntaxRow : Type 0 where
 
 -- the same, cell by cell
 abbrev pub row : ℕ → ℕ → Action → Action → Action → SyntaxRow
-row first last on_ground in_sequence in_string = record { first = first; last = last; actions = actions_by on_ground in_sequence in_string }
+row first last on_ground in_sequence in_string =
+    record { first = first; last = last; actions = actions_by on_ground in_sequence in_string }
 
--- The table of the control syntax (EK-VT100-UG chapter 3; BEL in a string, CAN and SUB, and the bytes from 128 on: ours).
+-- The table of the control syntax (EK-VT100-UG chapter 3; BEL in a string, CAN and SUB, and the bytes from 128 on:
+-- ours).
 abbrev pub table : List SyntaxRow
 table =
     -- bytes    on ground  in a sequence  in a string

@@ -28,7 +28,8 @@ pub record IsRun (pending bytes run : List ℕ) : Type 0 where
   pub whole : run ≡ bytes
   pub graphic : list_all is_graphic bytes ≡ true
 
--- The token is what the bytes come to after these pending bytes: they are a run, or its command comes with the last of them.
+-- The token is what the bytes come to after these pending bytes: they are a run, or its command comes with the last of
+-- them.
 abbrev pub TellsOf : Mode → Mode → List ℕ → List ℕ → Option Token → Type 0
 TellsOf given mode pending bytes None = Gives given mode pending bytes None
 TellsOf given mode pending bytes (Some (Show run)) = IsRun pending bytes run.now

@@ -23,7 +23,8 @@ pub enum Command {
         inter: Option<u8>,
         last: u8,
     },
-    /// A control sequence: whether it began with `?`, its parameters (1 to 16 of them, each at most 9,999), and its final byte, 64 to 126.
+    /// A control sequence: whether it began with `?`, its parameters (1 to 16 of them, each at most 9,999), and its
+    /// final byte, 64 to 126.
     Csi {
         private: bool,
         params: ArrayVec<u16, MOST_PARAMS>,

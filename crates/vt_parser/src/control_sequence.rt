@@ -2,8 +2,8 @@
 ghost use Rattle.std.specs.Prelude.{◌≡◌, ℕ, ◌-◌, ◌≤◌, ◌<◌, List, [], ◌∷◌, ◌++◌, length, take, slice_index, true, false, Some};
 ghost use Rattle.vt_parser.specs.Syntax.{is_graphic};
 ghost use Rattle.vt_parser.specs.Forms.{held, is_plain};
-ghost use Rattle.vt_parser.specs.Machine.{with_digit, moves_to, digit_joined, semicolon_joined, Runs};
-ghost use Rattle.vt_parser.specs.Reading.{IsOpening, IsCounted, IsStarted, collected, event_command, event_outcome, IsLent, GoesOn};
+ghost use Rattle.vt_parser.specs.Machine.{with_digit, moves_to, digit_joined, semicolon_joined};
+ghost use Rattle.vt_parser.specs.Reading.{IsOpening, IsCounted, IsStarted, gathered, collected, event_command, event_outcome, Reads, IsLent, GoesOn};
 
 use crate::forms::{QUESTION_MARK, SEMICOLON, is_control_sequence_final, is_control_sequence_text};
 use crate::limits::{GREATEST_PARAM, MOST_PARAMS};
@@ -36,7 +36,7 @@ pub(crate) fn read_control_sequence(
     ensures within { result.0 ≤ length bytes.now }
     ensures lent { IsLent result.1 }
     ensures runs { (start : ParserState)
-        → Runs start Mode.Ansi (take result.0 bytes.now) (event_outcome result.1 params.new state.new) }
+        → Reads start Mode.Ansi bytes.now result params.new state.new }
 {
     let text = &bytes[2..];
     if text.is_empty() || !is_graphic(text[0]) {
@@ -60,7 +60,7 @@ pub(crate) fn read_first(
     ensures within { result.0 ≤ length bytes.now }
     ensures lent { IsLent result.1 }
     ensures runs { (mode : Mode)
-        → Runs ParserState.CsiStart mode (take result.0 bytes.now) (event_outcome result.1 params.new state.new) }
+        → Reads ParserState.CsiStart mode bytes.now result params.new state.new }
 {
     let (text, from) = started(bytes[0]);
     read_text(state, params, text, bytes, from)
@@ -84,15 +84,15 @@ fn started(byte: u8) -> (Collected, usize)
 
 /// What a state holds, its parameters put into the array.
 #[inline]
-pub(crate) fn resumed(private: bool, held: &[u16], over: bool, params: &mut Params) -> Collected
-    requires some { 0 < length held.now }
-    requires few { length held.now ≤ MOST_PARAMS }
+pub(crate) fn resumed(private: bool, before: &[u16], over: bool, params: &mut Params) -> Collected
+    requires some { 0 < length before.now }
+    requires few { length before.now ≤ MOST_PARAMS }
     ensures counted { IsCounted result }
-    ensures value { collected result params.new ≡ ParserState.Csi private (record { items = held.now }) over }
+    ensures value { collected result params.new ≡ ParserState.Csi private (held before.now) over }
 {
-    let count = held.len();
-    params[..count].copy_from_slice(held);
-    let last = held[count - 1];
+    let count = before.len();
+    params[..count].copy_from_slice(before);
+    let last = before[count - 1];
     Collected {
         private,
         count,
@@ -167,7 +167,7 @@ fn with_next_digit(text: Collected, digit: u8) -> Collected
     requires { 48 ≤ digit }
     ensures counted { IsCounted text → IsCounted result }
     ensures value { (params : List ℕ) → collected result params
-        ≡ digit_joined text.private (held (take (text.count - 1) params ++ text.last ∷ [])) text.over digit }
+        ≡ digit_joined text.private (gathered text params) text.over digit }
 {
     let mut text = text;
     if !text.over {
@@ -190,7 +190,7 @@ fn with_next_param(text: Collected, params: &mut Params) -> Collected
     requires { IsCounted text }
     ensures counted { IsCounted result }
     ensures value { collected result params.new
-        ≡ semicolon_joined text.private (held (take (text.count - 1) params.old ++ text.last ∷ [])) text.over }
+        ≡ semicolon_joined text.private (gathered text params.old) text.over }
 {
     let mut text = text;
     if text.count < MOST_PARAMS {
@@ -210,7 +210,7 @@ fn finish(state: &mut ParserState, params: &mut Params, text: Collected, last: u
     ensures state { state.new ≡ ParserState.Ground }
     ensures lent { IsLent result }
     ensures command { event_command result params.new
-        ≡ Some (Command.Csi text.private (held (take (text.count - 1) params.old ++ text.last ∷ [])) last) }
+        ≡ Some (Command.Csi text.private (gathered text params.old) last) }
 {
     params[text.count - 1] = text.last;
     *state = ParserState::Ground;

@@ -50,8 +50,8 @@ pub fn same_mode_stays()
     ensures { SameModeStays }
 {}
 
-/// A whole sequence of ANSI mode, fed where nothing is pending, gives its command with its last byte and none before it, and
-/// leaves nothing pending.
+/// A whole sequence of ANSI mode, fed where nothing is pending, gives its command with its last byte and none before
+/// it, and leaves nothing pending.
 pub fn whole_sequences_finish()
     ensures escape { EscapesFinish }
     ensures designation { DesignationsFinish }

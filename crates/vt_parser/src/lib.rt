@@ -64,9 +64,10 @@ impl Parser {
         }
     }
 
-    /// Takes some of the bytes, at least one, and says how many, and what they come to, if anything. The mode that is given
-    /// matters only at an ESC: the mode at its ESC decides how a sequence is read to its end. It can't change within a call,
-    /// since a sequence ends with its last byte. A finished sequence whose form has no effect comes to nothing.
+    /// Takes some of the bytes, at least one, and says how many, and what they come to, if anything. The mode that is
+    /// given matters only at an ESC: the mode at its ESC decides how a sequence is read to its end. It can't change
+    /// within a call, since a sequence ends with its last byte. A finished sequence whose form has no effect comes to
+    /// nothing.
     #[inline]
     pub fn next<'a>(&'a mut self, mode: Mode, bytes: &'a [u8]) -> (usize, Option<Token<'a>>)
         requires { 0 < length bytes.now }
@@ -91,8 +92,8 @@ impl Parser {
         (taken, token)
     }
 
-    /// Takes one byte. The mode that is given matters only at an ESC: the mode at its ESC decides how a sequence is read
-    /// to its end. A finished sequence whose form has no effect gives no command.
+    /// Takes one byte. The mode that is given matters only at an ESC: the mode at its ESC decides how a sequence is
+    /// read to its end. A finished sequence whose form has no effect gives no command.
     pub fn step(&mut self, mode: Mode, byte: u8) -> Option<Command>
         // Whatever pending bytes the state stands for, the command is theirs ..
         ensures command { (m : Mode) (pending : List ℕ)

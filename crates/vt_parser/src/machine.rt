@@ -1,12 +1,12 @@
-//! Bytes from a state to the next, in place. `read` is the top: bytes go by the table of the control syntax, and the text
-//! of a control sequence, which comes most often, by `control_sequence`.
+//! Bytes from a state to the next, in place. `read` is the top: bytes go by the table of the control syntax, and the
+//! text of a control sequence, which comes most often, by `control_sequence`.
 ghost use Rattle.std.specs.Prelude.{◌≡◌, ◌≢◌, ◌==◌, ℕ, ◌≤◌, ◌<◌, List, length, take, slice_index, true, false, None};
 ghost use Rattle.std.specs.List.{list_all, prefix_len};
 ghost use Rattle.vt_parser.specs.Syntax.{is_graphic};
 ghost use Rattle.vt_parser.specs.Forms.{most_params};
 ghost use Rattle.vt_parser.specs.Step.{control_of};
-ghost use Rattle.vt_parser.specs.Machine.{context_in, begun, escape_joined, joined, stepped, Runs};
-ghost use Rattle.vt_parser.specs.Reading.{HasParams, IsCollecting, IsOpening, event_command, event_outcome, Comes, IsLent};
+ghost use Rattle.vt_parser.specs.Machine.{context_in, begun, escape_joined, joined, stepped};
+ghost use Rattle.vt_parser.specs.Reading.{HasParams, IsCollecting, IsOpening, event_command, Reads, Comes, IsLent};
 
 use crate::control_sequence::{Params, read_control_sequence, read_first, read_text, resumed};
 use crate::forms::{
@@ -24,7 +24,8 @@ pub(crate) fn run_at(state: &ParserState, bytes: &[u8]) -> usize
     ensures within { result ≤ length bytes.now }
     ensures graphic { list_all is_graphic (take result bytes.now) ≡ true }
     ensures ground { 0 < result → state.now ≡ ParserState.Ground }
-    ensures none { result ≡ 0 → is_graphic (slice_index bytes.now 0) ≡ true → state.now ≢ ParserState.Ground }
+    ensures none { result ≡ 0 → is_graphic (slice_index bytes.now 0) ≡ true
+        → state.now ≢ ParserState.Ground }
 {
     match state {
         ParserState::Ground if is_graphic(bytes[0]) => printable_run(bytes),
@@ -47,7 +48,7 @@ pub(crate) fn read(
     ensures within { result.0 ≤ length bytes.now }
     ensures long { length params.new ≡ most_params }
     ensures lent { IsLent result.1 }
-    ensures runs { Runs state.old mode (take result.0 bytes.now) (event_outcome result.1 params.new state.new) }
+    ensures runs { Reads state.old mode bytes.now result params.new state.new }
 {
     let byte = bytes[0];
     if is_graphic(byte) {
@@ -99,8 +100,7 @@ fn read_graphic(
     ensures some { 0 < result.0 }
     ensures within { result.0 ≤ length bytes.now }
     ensures lent { IsLent result.1 }
-    ensures runs { (mode : Mode)
-        → Runs state.old mode (take result.0 bytes.now) (event_outcome result.1 params.new state.new) }
+    ensures runs { (mode : Mode) → Reads state.old mode bytes.now result params.new state.new }
 {
     match state {
         ParserState::CsiStart => read_first(state, params, bytes),

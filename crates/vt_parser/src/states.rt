@@ -17,7 +17,8 @@ pub enum ParserState {
     EscapeMany,
     /// ESC and `[`.
     CsiStart,
-    /// ESC, `[` and a well formed text: whether it begins with `?`, the first 16 parameters, each at most 9,999, and whether there are more than 16.
+    /// ESC, `[` and a well formed text: whether it begins with `?`, the first 16 parameters, each at most 9,999, and
+    /// whether there are more than 16.
     Csi {
         private: bool,
         params: ArrayVec<u16, MOST_PARAMS>,

@@ -1,7 +1,7 @@
 //! The table of the control syntax: what is done with a byte, by the byte and by where it comes.
 //!
-//! `specs/Syntax` has the same table, row by row. What is decided ahead of it, for speed, stands below it: `machine` and
-//! `runs` name no byte of their own.
+//! `specs/Syntax` has the same table, row by row. What is decided ahead of it, for speed, stands below it: `machine`
+//! and `runs` name no byte of their own.
 ghost use Rattle.std.specs.Prelude.{◌≡◌, ◌==◌, true};
 ghost use Rattle.vt_parser.specs.Syntax.{escape, is_graphic, actions_by, actions_of, action_at, action_of};
 ghost use Rattle.vt_parser.specs.Ahead.{is_print, is_join, is_begin, Idles};

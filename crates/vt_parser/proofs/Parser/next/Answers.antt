@@ -19,13 +19,18 @@ returns-then-run-gt0 c =
     let taken = take run.result c.args.bytes.now in
     let ground = run.ensures.ground c.if-run-gt0.true in
     let P : ParserState → Type 0 = λ state. Leads state c.args.mode taken state in
-    let led : Leads c.self.inside.state c.args.mode taken c.self.inside.state = subst P (sym ground) (run_leads c.args.mode taken run.ensures.graphic) in (
+    let led : Leads c.self.inside.state c.args.mode taken c.self.inside.state
+    = subst P (sym ground) (run_leads c.args.mode taken run.ensures.graphic) in (
       (refl, λ _. tt, λ mode pending view. led mode pending (view ∙ ap Some (sym c.self.view_is))),
       record {
         state = tt;
         some = c.if-run-gt0.true;
         within = run.ensures.within;
-        told = λ mode pending view. record { ground = ground_is_empty.1 mode pending (view ∙ ap Some (sym c.self.view_is ∙ ground)); whole = refl; graphic = run.ensures.graphic };
+        told = λ mode pending view. record {
+          ground = ground_is_empty.1 mode pending (view ∙ ap Some (sym c.self.view_is ∙ ground));
+          whole = refl;
+          graphic = run.ensures.graphic;
+        };
         proper = run_proper taken (omega (arith, length-take run.result c.args.bytes.now)) run.ensures.graphic;
       },
     )
@@ -54,7 +59,8 @@ returns c =
     = λ event is mode pending view.
     subst (λ (it : Option Event). Gives given mode pending taken (event_command it read.new.params)) is
     (runs_agree given mode pending state taken _ (inside mode pending view) read.ensures.runs).0 in
-    let told : (mode : Mode) (pending : List ℕ) → parser_view mode pending ≡ Some c.args.self.now → TellsOf given mode pending taken c.match-event.token
+    let told : (mode : Mode) (pending : List ℕ) → parser_view mode pending ≡ Some c.args.self.now
+    → TellsOf given mode pending taken c.match-event.token
     = λ mode pending view. elim c.match-event.branch [
       | in-Some w ↦ subst (TellsOf given mode pending taken) (sym w.token-is)
           (event_told given mode pending taken w.in-Some.event _ w.token.result w.token.ensures (gives _ w.in-Some.is mode pending view))

@@ -14,7 +14,8 @@ pub returns-in-Some-clause-command : goal.returns-in-Some-clause-command
 returns-in-Some-clause-command c = λ mode pending view.
     let next = c.next in
     ap Some c.command.ensures
-    ∙ sym (step_told c.args.mode mode pending c.args.byte next.result.0 next.result.1 next.ensures.some next.ensures.within (next.ensures.told mode pending view)
+    ∙ sym (step_told c.args.mode mode pending c.args.byte next.result.0 next.result.1 next.ensures.some
+    next.ensures.within (next.ensures.told mode pending view)
     ∙ ap command_told c.in-Some.is)
 
 pub returns-in-Some-clause-proper : goal.returns-in-Some-clause-proper
