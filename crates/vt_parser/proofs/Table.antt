@@ -40,10 +40,10 @@ graphic_is_printed byte = grind (arith, nat_tests)
 pub graphic_is_joined : (byte : ℕ) → is_graphic byte ≡ is_join (actions_of byte).in_sequence
 graphic_is_joined byte = grind (arith, nat_tests)
 
-pub escape_begins : (context : Context) (byte : ℕ) → (byte == escape) ≡ is_begin (action_of context byte)
-escape_begins Ground byte = grind (arith, nat_tests)
-escape_begins Sequence byte = grind (arith, nat_tests)
-escape_begins Text byte = grind (arith, nat_tests)
+pub escape_opens : (context : Context) (byte : ℕ) → (byte == escape) ≡ is_begin (action_of context byte)
+escape_opens Ground byte = grind (arith, nat_tests)
+escape_opens Sequence byte = grind (arith, nat_tests)
+escape_opens Text byte = grind (arith, nat_tests)
 
 nul_skips : Idles 0
 nul_skips Ground = refl

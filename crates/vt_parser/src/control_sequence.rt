@@ -1,5 +1,5 @@
 //! Control sequences: from their introducer, or from where their text was left, to the final byte or as far as it goes.
-ghost use Rattle.std.specs.Prelude.{◌≡◌, ℕ, ◌-◌, ◌≤◌, ◌<◌, List, [], ◌∷◌, ◌++◌, length, take, slice_index, true, false, Some};
+ghost use Rattle.std.specs.Prelude.{◌≡◌, ℕ, ◌≤◌, ◌<◌, List, length, take, slice_index, true, false, Some};
 ghost use Rattle.vt_parser.specs.Syntax.{is_graphic};
 ghost use Rattle.vt_parser.specs.Forms.{held, is_plain};
 ghost use Rattle.vt_parser.specs.Machine.{with_digit, moves_to, digit_joined, semicolon_joined};

@@ -4,7 +4,7 @@
 //! refuses a byte.
 #![tactic(auto)]
 
-ghost use Rattle.std.specs.Prelude.{◌≡◌, ◌≤◌, ◌<◌, ℕ, true, false, List, Some, None, IfSome, length, take};
+ghost use Rattle.std.specs.Prelude.{◌≡◌, ◌≤◌, ◌<◌, ℕ, List, Some, None, IfSome, length, take};
 ghost use Rattle.vt_parser.specs.View.{parser_view, IsShown};
 ghost use Rattle.vt_parser.specs.Step.{command_of, pending_after, mode_after};
 ghost use Rattle.vt_parser.specs.Law.{IsProper};

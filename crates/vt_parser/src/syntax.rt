@@ -153,7 +153,7 @@ pub(crate) fn is_nul(byte: u8) -> bool
 
 /// ESC: what the table begins a sequence by, wherever it comes.
 #[inline]
-#[tactic(auto, using(crate::proofs::Table::escape_begins))]
+#[tactic(auto, using(crate::proofs::Table::escape_opens))]
 pub(crate) fn is_escape(byte: u8) -> bool
     ensures value { result ≡ (byte == escape) }
     ensures begins { (context : Context) → result ≡ is_begin (action_of context byte) }
