@@ -22,7 +22,7 @@ changed_lines before after = filter (is_changed before after) (range_with_len 1 
 
 -- the rows of a profile's screen after so many chunks
 abbrev pub rows_after : Profile → Tape → ℕ → List Row
-rows_after profile tape count = (up_to profile tape count).console.picture.rows
+rows_after profile tape count = (up_to profile tape.chunks count).console.picture.rows
 
 -- a number with the space before it
 abbrev pub spaced_number : ℕ → List ℕ

@@ -20,12 +20,14 @@ told_more every marks (one ∷ more) call =
     ∙ sym (append_assoc (told_by every marks one) (told_from every (after_call every marks one) more) _)
 
 -- a call that tells no number
-told_nothing : (every : ℕ) (calls : List Call) (call : Call) (fed : List ℕ) → told_by every (marks_after every calls) call ≡ []
+told_nothing : (every : ℕ) (calls : List Call) (call : Call) (fed : List ℕ)
+    → told_by every (marks_after every calls) call ≡ []
     → fed ≡ fed_after every calls → fed ≡ fed_after every (calls ++ call ∷ [])
 told_nothing every calls call fed none is =
     is ∙ sym (append-nil (fed_after every calls)) ∙ ap (λ l. fed_after every calls ++ l) (sym none) ∙ sym (told_more every first_marks calls call)
 
-pub runs_are_told : (every : ℕ) (calls : List Call) (fed : List ℕ) (s : State) → HasRun every calls fed s → IsTold every calls fed s
+pub runs_are_told : (every : ℕ) (calls : List Call) (fed : List ℕ) (s : State) → HasRun every calls fed s
+    → IsTold every calls fed s
 runs_are_told every calls fed s (Opened profile tape new is) = record {
   spaced = ap (λ (t : State). t.every) is;
   stands = ap (λ (t : State). t.marks) is;

@@ -34,7 +34,8 @@ pub record InsertsWell (tape : Tape) (at delay : ℕ) (bytes : List ℕ) : Type 
   pub few : length tape.chunks < most_chunks
   pub body : body_len (edited tape (Insert at delay bytes)).chunks ≤ longest_body
 
-pub inserts_well : (tape : Tape) (at delay : ℕ) (bytes : List ℕ) → edit_fault tape (Insert at delay bytes) ≡ None → InsertsWell tape at delay bytes
+pub inserts_well : (tape : Tape) (at delay : ℕ) (bytes : List ℕ) → edit_fault tape (Insert at delay bytes) ≡ None
+    → InsertsWell tape at delay bytes
 inserts_well tape at delay bytes sound =
     let one = no_first _ _ _ sound in
     let two = no_first _ _ _ one.1 in
@@ -67,7 +68,8 @@ pub record ReplacesWell (tape : Tape) (at : ℕ) (bytes : List ℕ) : Type 0 whe
   pub len : length bytes ≤ longest_chunk
   pub body : body_len (edited tape (Replace at bytes)).chunks ≤ longest_body
 
-pub replaces_well : (tape : Tape) (at : ℕ) (bytes : List ℕ) → edit_fault tape (Replace at bytes) ≡ None → ReplacesWell tape at bytes
+pub replaces_well : (tape : Tape) (at : ℕ) (bytes : List ℕ) → edit_fault tape (Replace at bytes) ≡ None
+    → ReplacesWell tape at bytes
 replaces_well tape at bytes sound =
     let one = no_first _ _ _ sound in
     let two = no_first _ _ _ one.1 in
@@ -96,7 +98,8 @@ caps_well tape max sound = ltb-false longest_delay max (no_first _ _ _ sound).0
 
 -- ---- its numbers are those of a request line
 
-pub has_short_numbers : (tape : Tape) (edit : Edit) → length tape.chunks ≤ most_chunks → edit_fault tape edit ≡ None → HasShortNumbers edit
+pub has_short_numbers : (tape : Tape) (edit : Edit) → length tape.chunks ≤ most_chunks → edit_fault tape edit ≡ None
+    → HasShortNumbers edit
 has_short_numbers tape (Insert at delay bytes) few sound = let well = inserts_well tape at delay bytes sound in (omega (arith, well.place), omega (arith, well.delay_))
 has_short_numbers tape (Delete from to) few sound = let well = deletes_well tape from to sound in (omega (arith, well.some, well.within), omega (arith, well.within))
 has_short_numbers tape (Replace at bytes) few sound = let well = replaces_well tape at bytes sound in omega (arith, well.place)
@@ -105,7 +108,8 @@ has_short_numbers tape (Cap max) few sound = let low = caps_well tape max sound 
 
 -- ---- which chunks it leaves
 
-length-changed : (change : Chunk → Chunk) (chunks : List Chunk) (at : ℕ) → at < length chunks → length (changed_at change at chunks) ≡ length chunks
+length-changed : (change : Chunk → Chunk) (chunks : List Chunk) (at : ℕ) → at < length chunks
+    → length (changed_at change at chunks) ≡ length chunks
 length-changed change chunks at lt =
     let a = length-append (take at chunks ++ map change (take 1 (drop at chunks))) (drop (at + 1) chunks) in
     let b = length-append (take at chunks) (map change (take 1 (drop at chunks))) in
@@ -115,7 +119,8 @@ same_some : (a b : ℕ) → Some a ≡ Some b → a ≡ b
 same_some a b e = cc
 
 -- the chunks before the first that it touches
-pub front_stays : FirstIsKept → (tape : Tape) (edit : Edit) (place n : ℕ) → edit_fault tape edit ≡ None → first_touched edit ≡ Some place → n ≤ length tape.chunks
+pub front_stays : FirstIsKept → (tape : Tape) (edit : Edit) (place n : ℕ) → edit_fault tape edit ≡ None
+    → first_touched edit ≡ Some place → n ≤ length tape.chunks
     → SameFront tape.chunks (edited tape edit).chunks (min n place)
 front_stays kept tape (Insert at delay bytes) place n sound is low =
     let well = inserts_well tape at delay bytes sound in
@@ -143,7 +148,8 @@ front_stays kept tape (Retime at delay) place n sound is low = absurd (none_some
 front_stays kept tape (Cap max) place n sound is low = absurd (none_some place (sym is))
 
 -- all bytes, where it touches those of none
-pub all_stays : FirstIsKept → (tape : Tape) (edit : Edit) (n : ℕ) → edit_fault tape edit ≡ None → first_touched edit ≡ None → n ≤ length tape.chunks → SameFront tape.chunks (edited tape edit).chunks n
+pub all_stays : FirstIsKept → (tape : Tape) (edit : Edit) (n : ℕ) → edit_fault tape edit ≡ None
+    → first_touched edit ≡ None → n ≤ length tape.chunks → SameFront tape.chunks (edited tape edit).chunks n
 all_stays kept tape (Insert at delay bytes) n sound is low = absurd (none_some at is)
 all_stays kept tape (Delete from to) n sound is low = absurd (none_some from is)
 all_stays kept tape (Replace at bytes) n sound is low = absurd (none_some at is)

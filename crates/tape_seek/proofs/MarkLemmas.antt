@@ -11,19 +11,22 @@ late_start stored head count true true past within = let lt = ltb-true stored he
 late_start stored head count true false past within = (omega arith, λ low. absurd (let e = le-leb head count low in cc))
 late_start stored head count false within past is = let le = ltb-false stored head past in (omega arith, λ low. le)
 
-pub starts_late : (every count : ℕ) (marks : Marks) → (multiple_below every (min count marks.frontier) ≤ start_of every count marks) × (marks.head ≤ count → marks.head ≤ start_of every count marks)
+pub starts_late : (every count : ℕ) (marks : Marks)
+    → (multiple_below every (min count marks.frontier) ≤ start_of every count marks) × (marks.head ≤ count → marks.head ≤ start_of every count marks)
 starts_late every count marks =
     let stored = multiple_below every (min count marks.frontier) in
     late_start stored marks.head count (ltb stored marks.head) (leb marks.head count) refl refl
 
-pub feeds_from_stored : (every count : ℕ) (marks : Marks) → 0 < every → fed_by every count marks < every + (count - marks.frontier)
+pub feeds_from_stored : (every count : ℕ) (marks : Marks) → 0 < every
+    → fed_by every count marks < every + (count - marks.frontier)
 feeds_from_stored every count marks some =
     let near = min count marks.frontier in
     let less : near < near / every * every + every = lt-div-mul-add some in
     let start = (starts_late every count marks).0 in
     omega (arith, less, start)
 
-pub feeds_from_head : (every count : ℕ) (marks : Marks) → marks.head ≤ count → fed_by every count marks ≤ count - marks.head
+pub feeds_from_head : (every count : ℕ) (marks : Marks) → marks.head ≤ count
+    → fed_by every count marks ≤ count - marks.head
 feeds_from_head every count marks low =
     let start = (starts_late every count marks).1 low in
     omega (arith, start)

@@ -18,14 +18,19 @@ use Rattle.vt_term.specs.declared.profile.Profile.{Profile}
 use Rattle.vt_term.specs.Term.{reset_term_as, play, sent}
 use Rattle.vt_term.specs.Law.{PlaysInParts, SendsInParts}
 use Rattle.tape_seek.specs.declared.replay.Replay.{Replay}
-use Rattle.tape_seek.specs.Kept.{HasSent, HoldsUpTo, IsAhead, IsKept, IsPlaying, IsReplay, SameFront, Stores, played, sent_after}
+use Rattle.tape_seek.specs.Kept.{HasSent, HoldsUpTo, IsAhead, IsKept, IsPlaying, IsReplay, PlaysOn, SameFront, Stores, sent_after}
 use Rattle.tape_seek.specs.Marks.{multiple_below}
+use Rattle.tape_seek.specs.Moments.{up_to}
+
+-- what stays, by its parts
+pub plays_on : (old new : Replay) → new.profile ≡ old.profile → new.every ≡ old.every → PlaysOn old new
+plays_on old new profile every = record { profile = profile; every = every }
 
 -- ---- before the first chunk
 
-pub played_none : (profile : Profile) (chunks : List Chunk) → played profile chunks 0 ≡ reset_term_as profile
+pub up_to_none : (profile : Profile) (chunks : List Chunk) → up_to profile chunks 0 ≡ reset_term_as profile
 unfolding play
-played_none profile chunks = refl
+up_to_none profile chunks = refl
 
 pub sent_none : (profile : Profile) (chunks : List Chunk) → sent_after profile chunks 0 ≡ []
 unfolding sent
@@ -33,32 +38,40 @@ sent_none profile chunks = refl
 
 -- ---- one chunk more
 
-pub played_more : FirstGrowsByAChunk → PlaysInParts → (profile : Profile) (chunks : List Chunk) (at : ℕ) (c : Chunk) → at < length chunks → get_or chunks at c ≡ c → played profile chunks (at + 1) ≡ play (played profile chunks at) c.bytes
-played_more grows plays profile chunks at c lt is = ap (play (reset_term_as profile)) (grows.of chunks at c lt is) ∙ plays (reset_term_as profile) (first chunks at) c.bytes
+pub up_to_more : FirstGrowsByAChunk → PlaysInParts → (profile : Profile) (chunks : List Chunk) (at : ℕ) (c : Chunk)
+    → at < length chunks → get_or chunks at c ≡ c
+    → up_to profile chunks (at + 1) ≡ play (up_to profile chunks at) c.bytes
+up_to_more grows plays profile chunks at c lt is = ap (play (reset_term_as profile)) (grows.of chunks at c lt is) ∙ plays (reset_term_as profile) (first chunks at) c.bytes
 
-pub sent_more : FirstGrowsByAChunk → SendsInParts → (profile : Profile) (chunks : List Chunk) (at : ℕ) (c : Chunk) → at < length chunks → get_or chunks at c ≡ c → sent_after profile chunks (at + 1) ≡ sent_after profile chunks at ++ sent (played profile chunks at) c.bytes
+pub sent_more : FirstGrowsByAChunk → SendsInParts → (profile : Profile) (chunks : List Chunk) (at : ℕ) (c : Chunk)
+    → at < length chunks → get_or chunks at c ≡ c
+    → sent_after profile chunks (at + 1) ≡ sent_after profile chunks at ++ sent (up_to profile chunks at) c.bytes
 sent_more grows parts profile chunks at c lt is = ap (sent (reset_term_as profile)) (grows.of chunks at c lt is) ∙ parts (reset_term_as profile) (first chunks at) c.bytes
 
 -- ---- fewer chunks
 
 -- what was sent by a count begins with what was sent by an earlier one
-sent_split : SendsInParts → (profile : Profile) (chunks : List Chunk) (n m : ℕ) → n ≤ m → sent_after profile chunks m ≡ sent_after profile chunks n ++ sent (played profile chunks n) (body (take (m - n) (drop n chunks)))
+sent_split : SendsInParts → (profile : Profile) (chunks : List Chunk) (n m : ℕ) → n ≤ m
+    → sent_after profile chunks m ≡ sent_after profile chunks n ++ sent (up_to profile chunks n) (body (take (m - n) (drop n chunks)))
 sent_split parts profile chunks n m le =
     let whole : n + (m - n) ≡ m = omega arith in
     let cut : first chunks m ≡ first chunks n ++ body (take (m - n) (drop n chunks)) =
     ap (first chunks) (sym whole) ∙ ap body (take-add n (m - n) chunks) ∙ flat_map-append (λ (c : Chunk). c.bytes) (take n chunks) (take (m - n) (drop n chunks)) in
     ap (sent (reset_term_as profile)) cut ∙ parts (reset_term_as profile) (first chunks n) (body (take (m - n) (drop n chunks)))
 
-pub sent_rises : SendsInParts → (profile : Profile) (chunks : List Chunk) (n m : ℕ) → n ≤ m → length (sent_after profile chunks n) ≤ length (sent_after profile chunks m)
+pub sent_rises : SendsInParts → (profile : Profile) (chunks : List Chunk) (n m : ℕ) → n ≤ m
+    → length (sent_after profile chunks n) ≤ length (sent_after profile chunks m)
 sent_rises parts profile chunks n m le =
-    let more = sent (played profile chunks n) (body (take (m - n) (drop n chunks))) in
+    let more = sent (up_to profile chunks n) (body (take (m - n) (drop n chunks))) in
     omega (arith, ap length (sent_split parts profile chunks n m le), length-append (sent_after profile chunks n) more)
 
-pub sent_front : SendsInParts → (profile : Profile) (chunks : List Chunk) (n m : ℕ) → n ≤ m → take (length (sent_after profile chunks n)) (sent_after profile chunks m) ≡ sent_after profile chunks n
+pub sent_front : SendsInParts → (profile : Profile) (chunks : List Chunk) (n m : ℕ) → n ≤ m
+    → take (length (sent_after profile chunks n)) (sent_after profile chunks m) ≡ sent_after profile chunks n
 sent_front parts profile chunks n m le = ap (take (length (sent_after profile chunks n))) (sent_split parts profile chunks n m le) ∙ take-append_seam (sent_after profile chunks n) _
 
 -- a front of a longer front
-front_of_front : (few many : List ℕ) (list : List ℕ) → length few ≤ length many → take (length many) list ≡ many → take (length few) many ≡ few → take (length few) list ≡ few
+front_of_front : (few many : List ℕ) (list : List ℕ) → length few ≤ length many → take (length many) list ≡ many
+    → take (length few) many ≡ few → take (length few) list ≡ few
 front_of_front few many list le front fewer = sym (take-take (length few) (length many) list le) ∙ ap (take (length few)) front ∙ fewer
 
 -- a front is no longer than its list
@@ -68,7 +81,8 @@ front_within few list front = omega (arith, ap length front, length-take (length
 pub div_rises : (n m every : ℕ) → 0 < every → n ≤ m → n / every ≤ m / every
 div_rises n m every some le = le-div (n / every) m every some (omega (arith, div-mul-le_self n every))
 
-pub holds_less : SendsInParts → (chunks : List Chunk) (n m : ℕ) (r : Replay) → n ≤ m → HoldsUpTo chunks m r → HoldsUpTo chunks n r
+pub holds_less : SendsInParts → (chunks : List Chunk) (n m : ℕ) (r : Replay) → n ≤ m → HoldsUpTo chunks m r
+    → HoldsUpTo chunks n r
 holds_less parts chunks n m r le h =
     let fewer = div_rises n m r.every h.every le in
     record {
@@ -82,7 +96,8 @@ holds_less parts chunks n m r le h =
     }
 
 -- what is kept stays right where the list of reports only grew
-pub holds_grown : (chunks : List Chunk) (n : ℕ) (r new : Replay) → new.profile ≡ r.profile → new.every ≡ r.every → new.stored ≡ r.stored → new.sent ≡ r.sent
+pub holds_grown : (chunks : List Chunk) (n : ℕ) (r new : Replay) → new.profile ≡ r.profile → new.every ≡ r.every
+    → new.stored ≡ r.stored → new.sent ≡ r.sent
     → take (length r.reports.bytes) new.reports.bytes ≡ r.reports.bytes → HoldsUpTo chunks n r → HoldsUpTo chunks n new
 holds_grown chunks n r new profile every stored counts front h = record {
   every = rw every h.every;
@@ -99,38 +114,45 @@ holds_grown chunks n r new profile every stored counts front h = record {
 pub multiple_within : (every count : ℕ) → multiple_below every count ≤ count
 multiple_within every count = div-mul-le_self count every
 
-pub head_reset : (profile : Profile) (chunks : List Chunk) (every count : ℕ) (seen : Seen) → count / every ≡ 0 → Shows seen (reset_term_as profile) → Shows seen (played profile chunks (multiple_below every count))
-head_reset profile chunks every count seen none shows =
+pub working_reset : (profile : Profile) (chunks : List Chunk) (every count : ℕ) (seen : Seen) → count / every ≡ 0
+    → Shows seen (reset_term_as profile) → Shows seen (up_to profile chunks (multiple_below every count))
+working_reset profile chunks every count seen none shows =
     let place : multiple_below every count ≡ 0 = ap (λ n. n * every) none ∙ zero-mul every in
-    rw (place, played_none profile chunks) shows
+    rw (place, up_to_none profile chunks) shows
 
-pub head_stored : (chunks : List Chunk) (count : ℕ) (r : Replay) (b : Box Seen Global) → count / r.every ≢ 0 → HoldsUpTo chunks count r
-    → b ≡ get_or r.stored.items (count / r.every - 1) b → Shows b.value (played r.profile chunks (multiple_below r.every count))
-head_stored chunks count r b some h is =
+pub working_stored : (chunks : List Chunk) (count : ℕ) (r : Replay) (b : Box Seen Global) → count / r.every ≢ 0
+    → HoldsUpTo chunks count r
+    → b ≡ get_or r.stored.items (count / r.every - 1) b
+    → Shows b.value (up_to r.profile chunks (multiple_below r.every count))
+working_stored chunks count r b some h is =
     let back : count / r.every - 1 + 1 ≡ count / r.every = omega arith in
     let there = h.stored (count / r.every - 1) b (omega arith) in
-    let shows : Shows b.value (played r.profile chunks ((count / r.every - 1 + 1) * r.every)) = rw is there in
-    subst (λ (n : ℕ). Shows b.value (played r.profile chunks (n * r.every))) back shows
+    let shows : Shows b.value (up_to r.profile chunks ((count / r.every - 1 + 1) * r.every)) = rw is there in
+    subst (λ (n : ℕ). Shows b.value (up_to r.profile chunks (n * r.every))) back shows
 
 -- ---- the next chunk, by its bytes
 
-pub next_shows : FirstGrowsByAChunk → PlaysInParts → (profile : Profile) (chunks : List Chunk) (at : ℕ) (c : Chunk) → at < length chunks → get_or chunks at c ≡ c → (seen : Seen) (bytes : List ℕ) → bytes ≡ c.bytes
-    → Shows seen (play (played profile chunks at) bytes) → Shows seen (played profile chunks (at + 1))
-next_shows grows plays profile chunks at c lt is seen bytes same shows = subst (Shows seen) (ap (play (played profile chunks at)) same ∙ sym (played_more grows plays profile chunks at c lt is)) shows
+pub next_shows : FirstGrowsByAChunk → PlaysInParts → (profile : Profile) (chunks : List Chunk) (at : ℕ) (c : Chunk)
+    → at < length chunks → get_or chunks at c ≡ c → (seen : Seen) (bytes : List ℕ) → bytes ≡ c.bytes
+    → Shows seen (play (up_to profile chunks at) bytes) → Shows seen (up_to profile chunks (at + 1))
+next_shows grows plays profile chunks at c lt is seen bytes same shows = subst (Shows seen) (ap (play (up_to profile chunks at)) same ∙ sym (up_to_more grows plays profile chunks at c lt is)) shows
 
-next_length : FirstGrowsByAChunk → SendsInParts → (profile : Profile) (chunks : List Chunk) (at : ℕ) (c : Chunk) → at < length chunks → get_or chunks at c ≡ c → (bytes : List ℕ) → bytes ≡ c.bytes
-    → length (sent_after profile chunks (at + 1)) ≡ length (sent_after profile chunks at) + length (sent (played profile chunks at) bytes)
+next_length : FirstGrowsByAChunk → SendsInParts → (profile : Profile) (chunks : List Chunk) (at : ℕ) (c : Chunk)
+    → at < length chunks → get_or chunks at c ≡ c → (bytes : List ℕ) → bytes ≡ c.bytes
+    → length (sent_after profile chunks (at + 1)) ≡ length (sent_after profile chunks at) + length (sent (up_to profile chunks at) bytes)
 next_length grows parts profile chunks at c lt is bytes same =
-    ap length (sent_more grows parts profile chunks at c lt is) ∙ length-append (sent_after profile chunks at) (sent (played profile chunks at) c.bytes)
-    ∙ ap (λ (l : List ℕ). length (sent_after profile chunks at) + length (sent (played profile chunks at) l)) (sym same)
+    ap length (sent_more grows parts profile chunks at c lt is) ∙ length-append (sent_after profile chunks at) (sent (up_to profile chunks at) c.bytes)
+    ∙ ap (λ (l : List ℕ). length (sent_after profile chunks at) + length (sent (up_to profile chunks at) l)) (sym same)
 
-pub next_sent : FirstGrowsByAChunk → SendsInParts → (chunks : List Chunk) (r new : Replay) (c : Chunk) → r.at < length chunks → get_or chunks r.at c ≡ c → (bytes : List ℕ) → bytes ≡ c.bytes
-    → r.reports.place ≡ length (sent_after r.profile chunks r.at) → new.reports ≡ after_sending r.reports (sent (played r.profile chunks r.at) bytes) → HasSent chunks r new
+pub next_sent : FirstGrowsByAChunk → SendsInParts → (chunks : List Chunk) (r new : Replay) (c : Chunk)
+    → r.head < length chunks → get_or chunks r.head c ≡ c → (bytes : List ℕ) → bytes ≡ c.bytes
+    → r.reports.place ≡ length (sent_after r.profile chunks r.head)
+    → new.reports ≡ after_sending r.reports (sent (up_to r.profile chunks r.head) bytes) → HasSent chunks r new
 next_sent grows parts chunks r new c lt is bytes same place sends =
-    let more = sent (played r.profile chunks r.at) bytes in
-    let len = next_length grows parts r.profile chunks r.at c lt is bytes same in
-    let whole : sent_after r.profile chunks (r.at + 1) ≡ sent_after r.profile chunks r.at ++ more
-    = sent_more grows parts r.profile chunks r.at c lt is ∙ ap (λ (l : List ℕ). sent_after r.profile chunks r.at ++ sent (played r.profile chunks r.at) l) (sym same) in
+    let more = sent (up_to r.profile chunks r.head) bytes in
+    let len = next_length grows parts r.profile chunks r.head c lt is bytes same in
+    let whole : sent_after r.profile chunks (r.head + 1) ≡ sent_after r.profile chunks r.head ++ more
+    = sent_more grows parts r.profile chunks r.head c lt is ∙ ap (λ (l : List ℕ). sent_after r.profile chunks r.head ++ sent (up_to r.profile chunks r.head) l) (sym same) in
     record {
       place = ap (λ (s : Sink). s.place) sends ∙ ap (λ (n : ℕ). n + length more) place ∙ sym len;
       within = λ le.
@@ -141,21 +163,26 @@ next_sent grows parts chunks r new c lt is bytes same place sends =
           ap (λ (s : Sink). s.bytes) sends ∙ ap (λ (n : ℕ). r.reports.bytes ++ drop n more) none ∙ ap (λ (l : List ℕ). l ++ more) all ∙ sym whole;
     }
 
-pub has_room : FirstGrowsByAChunk → SendsInParts → (chunks : List Chunk) (r : Replay) (c : Chunk) → r.at < length chunks → get_or chunks r.at c ≡ c → (bytes : List ℕ) → bytes ≡ c.bytes
-    → r.reports.place ≡ length (sent_after r.profile chunks r.at) → length (sent_after r.profile chunks (r.at + 1)) ≤ length r.reports.bytes → HasRoom r.reports (sent (played r.profile chunks r.at) bytes)
+pub has_room : FirstGrowsByAChunk → SendsInParts → (chunks : List Chunk) (r : Replay) (c : Chunk)
+    → r.head < length chunks → get_or chunks r.head c ≡ c → (bytes : List ℕ) → bytes ≡ c.bytes
+    → r.reports.place ≡ length (sent_after r.profile chunks r.head)
+    → length (sent_after r.profile chunks (r.head + 1)) ≤ length r.reports.bytes
+    → HasRoom r.reports (sent (up_to r.profile chunks r.head) bytes)
 has_room grows parts chunks r c lt is bytes same place le =
-    let len = next_length grows parts r.profile chunks r.at c lt is bytes same in
+    let len = next_length grows parts r.profile chunks r.head c lt is bytes same in
     omega arith
 
 -- after the chunk was fed within the frontier
-pub fed_within : SendsInParts → (chunks : List Chunk) (r new : Replay) → IsPlaying chunks r → new ≡ record r { head = new.head; reports = new.reports; at = r.at + 1; fed = r.fed + 1 }
-    → Shows new.head (played r.profile chunks (r.at + 1)) → HasSent chunks r new → new.at ≤ new.frontier → IsPlaying chunks new
+pub fed_within : SendsInParts → (chunks : List Chunk) (r new : Replay) → IsPlaying chunks r
+    → new ≡ record r { working = new.working; reports = new.reports; head = r.head + 1; fed = r.fed + 1 }
+    → Shows new.working (up_to r.profile chunks (r.head + 1)) → HasSent chunks r new → new.head ≤ new.frontier
+    → IsPlaying chunks new
 fed_within parts chunks r new playing rest shows sends within =
     let kept = playing.replay.kept in
-    let low : r.at + 1 ≤ r.frontier = omega (arith, within, ap (λ (x : Replay). x.at) rest, ap (λ (x : Replay). x.frontier) rest) in
-    let same : new.reports.bytes ≡ r.reports.bytes = sends.within (omega (arith, sent_rises parts r.profile chunks (r.at + 1) r.frontier low, ap length kept.reports)) in
+    let low : r.head + 1 ≤ r.frontier = omega (arith, within, ap (λ (x : Replay). x.head) rest, ap (λ (x : Replay). x.frontier) rest) in
+    let same : new.reports.bytes ≡ r.reports.bytes = sends.within (omega (arith, sent_rises parts r.profile chunks (r.head + 1) r.frontier low, ap length kept.reports)) in
     let front : take (length r.reports.bytes) new.reports.bytes ≡ r.reports.bytes = ap (take (length r.reports.bytes)) same ∙ take_all (length r.reports.bytes) r.reports.bytes (omega arith) in
-    let moved : Replay = record r { head = new.head; reports = new.reports; at = r.at + 1; fed = r.fed + 1 } in
+    let moved : Replay = record r { working = new.working; reports = new.reports; head = r.head + 1; fed = r.fed + 1 } in
     let here : IsPlaying chunks moved = record {
       replay = record {
         kept = record {
@@ -165,26 +192,28 @@ fed_within parts chunks r new playing rest shows sends within =
           reports = same ∙ kept.reports;
         };
         behind = low;
-        head = shows;
+        working = shows;
       };
       place = sends.place;
     } in
     subst (IsPlaying chunks) (sym rest) here
 
 -- after the chunk at the frontier was fed
-pub fed_ahead : (chunks : List Chunk) (r new : Replay) → IsPlaying chunks r → r.at < length chunks → new ≡ record r { head = new.head; reports = new.reports; at = r.at + 1; fed = r.fed + 1 }
-    → Shows new.head (played r.profile chunks (r.at + 1)) → HasSent chunks r new → take (length r.reports.bytes) new.reports.bytes ≡ r.reports.bytes → new.frontier < new.at → IsAhead chunks new
+pub fed_ahead : (chunks : List Chunk) (r new : Replay) → IsPlaying chunks r → r.head < length chunks
+    → new ≡ record r { working = new.working; reports = new.reports; head = r.head + 1; fed = r.fed + 1 }
+    → Shows new.working (up_to r.profile chunks (r.head + 1)) → HasSent chunks r new
+    → take (length r.reports.bytes) new.reports.bytes ≡ r.reports.bytes → new.frontier < new.head → IsAhead chunks new
 fed_ahead chunks r new playing lt rest shows sends front past =
     let kept = playing.replay.kept in
-    let at : r.at ≡ r.frontier = omega (arith, past, playing.replay.behind, ap (λ (x : Replay). x.at) rest, ap (λ (x : Replay). x.frontier) rest) in
-    let moved : Replay = record r { head = new.head; reports = new.reports; at = r.at + 1; fed = r.fed + 1 } in
+    let at : r.head ≡ r.frontier = omega (arith, past, playing.replay.behind, ap (λ (x : Replay). x.head) rest, ap (λ (x : Replay). x.frontier) rest) in
+    let moved : Replay = record r { working = new.working; reports = new.reports; head = r.head + 1; fed = r.fed + 1 } in
     let here : IsAhead chunks moved = record {
       holds = holds_grown chunks r.frontier r moved refl refl refl refl front kept.holds;
       terminals = kept.terminals;
       counts = kept.counts;
-      at = ap (λ n. n + 1) at;
+      head = ap (λ n. n + 1) at;
       within = omega arith;
-      head = shows;
+      working = shows;
       reports = sends.behind (kept.reports ∙ ap (sent_after r.profile chunks) (sym at));
       place = sends.place;
     } in
@@ -214,35 +243,38 @@ div_same n every some part =
 -- the terminals up to the head are stored
 pub record IsGrown (chunks : List Chunk) (r grown : Replay) : Type 0 where
   pub rest : grown ≡ record r { stored = grown.stored }
-  pub terminals : length grown.stored.items ≡ r.at / r.every
-  pub stored : (k : ℕ) (d : Box Seen Global) → k < r.at / r.every → Shows (get_or grown.stored.items k d).value (played r.profile chunks ((k + 1) * r.every))
+  pub terminals : length grown.stored.items ≡ r.head / r.every
+  pub stored : (k : ℕ) (d : Box Seen Global) → k < r.head / r.every
+      → Shows (get_or grown.stored.items k d).value (up_to r.profile chunks ((k + 1) * r.every))
 
-pub grown_same : (chunks : List Chunk) (r : Replay) → IsAhead chunks r → r.at % r.every ≢ 0 → IsGrown chunks r r
+pub grown_same : (chunks : List Chunk) (r : Replay) → IsAhead chunks r → r.head % r.every ≢ 0 → IsGrown chunks r r
 grown_same chunks r ahead part =
-    let same : r.at / r.every ≡ r.frontier / r.every = ap (λ n. n / r.every) ahead.at ∙ div_same r.frontier r.every ahead.holds.every (λ e. part (ap (λ n. n % r.every) ahead.at ∙ e)) in
+    let same : r.head / r.every ≡ r.frontier / r.every = ap (λ n. n / r.every) ahead.head ∙ div_same r.frontier r.every ahead.holds.every (λ e. part (ap (λ n. n % r.every) ahead.head ∙ e)) in
     record {
       rest = refl;
       terminals = ahead.terminals ∙ sym same;
       stored = λ k d lt. ahead.holds.stored k d (omega arith);
     }
 
-stored_more : (items : List (Box Seen Global)) (copy : Box Seen Global) (k n : ℕ) (d : Box Seen Global) → length items ≡ n → k < n → get_or (items ++ copy ∷ []) k d ≡ get_or items k d
+stored_more : (items : List (Box Seen Global)) (copy : Box Seen Global) (k n : ℕ) (d : Box Seen Global)
+    → length items ≡ n → k < n → get_or (items ++ copy ∷ []) k d ≡ get_or items k d
 stored_more items copy k n d len lt = get_or_append_left items (copy ∷ []) d k (omega arith)
 
-pub grown_more : (chunks : List Chunk) (r new : Replay) → IsAhead chunks r → r.at % r.every ≡ 0 → Stores r new → new ≡ record r { stored = new.stored } → IsGrown chunks r new
+pub grown_more : (chunks : List Chunk) (r new : Replay) → IsAhead chunks r → r.head % r.every ≡ 0 → Stores r new
+    → new ≡ record r { stored = new.stored } → IsGrown chunks r new
 grown_more chunks r new ahead whole stores rest =
-    let next : r.at / r.every ≡ r.frontier / r.every + 1 = ap (λ n. n / r.every) ahead.at ∙ div_next r.frontier r.every ahead.holds.every (ap (λ n. n % r.every) (sym ahead.at) ∙ whole) in
+    let next : r.head / r.every ≡ r.frontier / r.every + 1 = ap (λ n. n / r.every) ahead.head ∙ div_next r.frontier r.every ahead.holds.every (ap (λ n. n % r.every) (sym ahead.head) ∙ whole) in
     let n = r.frontier / r.every in
-    let place : (n + 1) * r.every ≡ r.at = ap (λ k. k * r.every) (sym next) ∙ exact r.at r.every whole in
-    let at_end : (d : Box Seen Global) → Shows (get_or new.stored.items n d).value (played r.profile chunks ((n + 1) * r.every))
-    = λ d. subst (λ (b : Box Seen Global). Shows b.value (played r.profile chunks ((n + 1) * r.every))) (sym (ap (λ (l : List (Box Seen Global)). get_or l n d) stores.stored ∙ get_or_push r.stored.items stores.copy d n ahead.terminals))
-    (rw (stores.value, place) ahead.head) in
+    let place : (n + 1) * r.every ≡ r.head = ap (λ k. k * r.every) (sym next) ∙ exact r.head r.every whole in
+    let at_end : (d : Box Seen Global) → Shows (get_or new.stored.items n d).value (up_to r.profile chunks ((n + 1) * r.every))
+    = λ d. subst (λ (b : Box Seen Global). Shows b.value (up_to r.profile chunks ((n + 1) * r.every))) (sym (ap (λ (l : List (Box Seen Global)). get_or l n d) stores.stored ∙ get_or_push r.stored.items stores.copy d n ahead.terminals))
+    (rw (stores.value, place) ahead.working) in
     record {
       rest = rest;
       terminals = ap length stores.stored ∙ length_push r.stored.items stores.copy ∙ ap (λ k. k + 1) ahead.terminals ∙ sym next;
       stored = λ k d lt. elim (cases_lt k n) [
-        | inl low ↦ subst (λ (b : Box Seen Global). Shows b.value (played r.profile chunks ((k + 1) * r.every))) (sym (ap (λ (l : List (Box Seen Global)). get_or l k d) stores.stored ∙ stored_more r.stored.items stores.copy k n d ahead.terminals low)) (ahead.holds.stored k d low)
-        | inr high ↦ let last : n ≡ k = omega arith in subst (λ (i : ℕ). Shows (get_or new.stored.items i d).value (played r.profile chunks ((i + 1) * r.every))) last (at_end d)
+        | inl low ↦ subst (λ (b : Box Seen Global). Shows b.value (up_to r.profile chunks ((k + 1) * r.every))) (sym (ap (λ (l : List (Box Seen Global)). get_or l k d) stores.stored ∙ stored_more r.stored.items stores.copy k n d ahead.terminals low)) (ahead.holds.stored k d low)
+        | inr high ↦ let last : n ≡ k = omega arith in subst (λ (i : ℕ). Shows (get_or new.stored.items i d).value (up_to r.profile chunks ((i + 1) * r.every))) last (at_end d)
       ];
     }
   where
@@ -250,14 +282,16 @@ grown_more chunks r new ahead whole stores rest =
     exact n every whole = let all = div-add-mod' n every in omega arith
 
 -- and so is what was sent by then
-pub ahead_kept : (chunks : List Chunk) (r grown : Replay) (place : ℕ) (sent' : Vec ℕ Global) → IsAhead chunks r → IsGrown chunks r grown → place ≡ grown.reports.place
-    → sent'.items ≡ grown.sent.items ++ place ∷ [] → IsPlaying chunks (record grown { frontier = grown.at; sent = sent' })
+pub ahead_kept : (chunks : List Chunk) (r grown : Replay) (place : ℕ) (sent' : Vec ℕ Global) → IsAhead chunks r
+    → IsGrown chunks r grown → place ≡ grown.reports.place
+    → sent'.items ≡ grown.sent.items ++ place ∷ []
+    → IsPlaying chunks (record grown { frontier = grown.head; sent = sent' })
 ahead_kept chunks r grown place sent' ahead more is push =
     let n = r.frontier + 1 in
-    let place_is : place ≡ length (sent_after r.profile chunks r.at) = is ∙ ap (λ (x : Replay). x.reports.place) more.rest ∙ ahead.place in
+    let place_is : place ≡ length (sent_after r.profile chunks r.head) = is ∙ ap (λ (x : Replay). x.reports.place) more.rest ∙ ahead.place in
     let items : sent'.items ≡ r.sent.items ++ place ∷ [] = push ∙ ap (λ (x : Replay). x.sent.items ++ place ∷ []) more.rest in
     let len : length sent'.items ≡ n + 1 = ap length items ∙ length_push r.sent.items place ∙ ap (λ k. k + 1) ahead.counts in
-    let new : Replay = record r { stored = grown.stored; frontier = r.at; sent = sent' } in
+    let new : Replay = record r { stored = grown.stored; frontier = r.head; sent = sent' } in
     let here : IsPlaying chunks new = record {
       replay = record {
         kept = record {
@@ -266,30 +300,32 @@ ahead_kept chunks r grown place sent' ahead more is push =
             within = ahead.within;
             terminals = omega (arith, more.terminals);
             stored = more.stored;
-            counts = omega (arith, ahead.at);
+            counts = omega (arith, ahead.head);
             sent = λ k low. elim (cases_lt k n) [
               | inl lt ↦ ap (λ (l : List ℕ). get_or l k 0) items ∙ get_or_append_left r.sent.items (place ∷ []) 0 k (omega (arith, ahead.counts)) ∙ ahead.holds.sent k (omega arith)
-              | inr high ↦ let last : k ≡ n = omega (arith, ahead.at) in
+              | inr high ↦ let last : k ≡ n = omega (arith, ahead.head) in
                   ap (λ (l : List ℕ). get_or l k 0) items ∙ ap (λ i. get_or (r.sent.items ++ place ∷ []) i 0) last
-                  ∙ get_or_push r.sent.items place 0 n ahead.counts ∙ place_is ∙ ap (λ i. length (sent_after r.profile chunks i)) (ahead.at ∙ sym last)
+                  ∙ get_or_push r.sent.items place 0 n ahead.counts ∙ place_is ∙ ap (λ i. length (sent_after r.profile chunks i)) (ahead.head ∙ sym last)
             ];
-            reports = ap (take (length (sent_after r.profile chunks r.at))) ahead.reports ∙ take_all (length (sent_after r.profile chunks r.at)) (sent_after r.profile chunks r.at) (omega arith);
+            reports = ap (take (length (sent_after r.profile chunks r.head))) ahead.reports ∙ take_all (length (sent_after r.profile chunks r.head)) (sent_after r.profile chunks r.head) (omega arith);
           };
           terminals = more.terminals;
-          counts = len ∙ ap (λ k. k + 1) (sym ahead.at);
+          counts = len ∙ ap (λ k. k + 1) (sym ahead.head);
           reports = ahead.reports;
         };
         behind = omega arith;
-        head = ahead.head;
+        working = ahead.working;
       };
       place = ahead.place;
     } in
-    let whole : record grown { frontier = grown.at; sent = sent' } ≡ new = ap (λ (x : Replay). record x { frontier = x.at; sent = sent' }) more.rest in
+    let whole : record grown { frontier = grown.head; sent = sent' } ≡ new = ap (λ (x : Replay). record x { frontier = x.head; sent = sent' }) more.rest in
     subst (IsPlaying chunks) (sym whole) here
 
 -- what is kept stays right where more is stored behind it
-pub holds_longer : (chunks : List Chunk) (n : ℕ) (r new : Replay) (copies : List (Box Seen Global)) (more : List ℕ) → new.profile ≡ r.profile → new.every ≡ r.every → new.reports ≡ r.reports
-    → new.stored.items ≡ r.stored.items ++ copies → new.sent.items ≡ r.sent.items ++ more → HoldsUpTo chunks n r → HoldsUpTo chunks n new
+pub holds_longer : (chunks : List Chunk) (n : ℕ) (r new : Replay) (copies : List (Box Seen Global)) (more : List ℕ)
+    → new.profile ≡ r.profile → new.every ≡ r.every → new.reports ≡ r.reports
+    → new.stored.items ≡ r.stored.items ++ copies → new.sent.items ≡ r.sent.items ++ more → HoldsUpTo chunks n r
+    → HoldsUpTo chunks n new
 holds_longer chunks n r new copies more profile every reports stored counts h =
     let len = ap length stored ∙ length-append r.stored.items copies in
     let len_sent = ap length counts ∙ length-append r.sent.items more in
@@ -297,7 +333,7 @@ holds_longer chunks n r new copies more profile every reports stored counts h =
       every = rw every h.every;
       within = h.within;
       terminals = rw every (omega (arith, h.terminals));
-      stored = rw (profile, every) (λ k d lt. subst (λ (b : Box Seen Global). Shows b.value (played r.profile chunks ((k + 1) * r.every)))
+      stored = rw (profile, every) (λ k d lt. subst (λ (b : Box Seen Global). Shows b.value (up_to r.profile chunks ((k + 1) * r.every)))
           (sym (ap (λ (l : List (Box Seen Global)). get_or l k d) stored ∙ get_or_append_left r.stored.items copies d k (omega (arith, h.terminals)))) (h.stored k d lt));
       counts = omega (arith, h.counts);
       sent = rw profile (λ k low. ap (λ (l : List ℕ). get_or l k 0) counts ∙ get_or_append_left r.sent.items more 0 k (omega (arith, h.counts)) ∙ h.sent k low);
@@ -306,10 +342,11 @@ holds_longer chunks n r new copies more profile every reports stored counts h =
 
 -- ---- the head goes back
 
-pub back_replay : (chunks : List Chunk) (r new : Replay) (count : ℕ) → IsKept chunks r → count ≤ r.frontier → new ≡ record r { head = new.head; at = multiple_below r.every count }
-    → Shows new.head (played r.profile chunks (multiple_below r.every count)) → IsReplay chunks new
+pub back_replay : (chunks : List Chunk) (r new : Replay) (count : ℕ) → IsKept chunks r → count ≤ r.frontier
+    → new ≡ record r { working = new.working; head = multiple_below r.every count }
+    → Shows new.working (up_to r.profile chunks (multiple_below r.every count)) → IsReplay chunks new
 back_replay chunks r new count kept low rest shows =
-    let moved : Replay = record r { head = new.head; at = multiple_below r.every count } in
+    let moved : Replay = record r { working = new.working; head = multiple_below r.every count } in
     let here : IsReplay chunks moved = record {
       kept = record {
         holds = record {
@@ -326,24 +363,28 @@ back_replay chunks r new count kept low rest shows =
         reports = kept.reports;
       };
       behind = omega (arith, multiple_within r.every count);
-      head = shows;
+      working = shows;
     } in
     subst (IsReplay chunks) (sym rest) here
 
 -- what was sent by a count, as the list of counts tells it
-pub sent_read : (chunks : List Chunk) (r : Replay) (k place : ℕ) → IsKept chunks r → k ≤ r.frontier → place ≡ get_or r.sent.items k place → place ≡ length (sent_after r.profile chunks k)
+pub sent_read : (chunks : List Chunk) (r : Replay) (k place : ℕ) → IsKept chunks r → k ≤ r.frontier
+    → place ≡ get_or r.sent.items k place → place ≡ length (sent_after r.profile chunks k)
 sent_read chunks r k place kept low is =
     is ∙ get_or_default r.sent.items k place 0 (omega (arith, kept.counts)) ∙ kept.holds.sent k low
 
-pub sent_within : SendsInParts → (chunks : List Chunk) (r : Replay) (k place : ℕ) → IsKept chunks r → k ≤ r.frontier → place ≡ length (sent_after r.profile chunks k) → place ≤ length r.reports.bytes
+pub sent_within : SendsInParts → (chunks : List Chunk) (r : Replay) (k place : ℕ) → IsKept chunks r → k ≤ r.frontier
+    → place ≡ length (sent_after r.profile chunks k) → place ≤ length r.reports.bytes
 sent_within parts chunks r k place kept low is = omega (arith, sent_rises parts r.profile chunks k r.frontier low, ap length kept.reports)
 
-pub sent_cut : SendsInParts → (chunks : List Chunk) (r : Replay) (k place : ℕ) → IsKept chunks r → k ≤ r.frontier → place ≡ length (sent_after r.profile chunks k) → take place r.reports.bytes ≡ sent_after r.profile chunks k
+pub sent_cut : SendsInParts → (chunks : List Chunk) (r : Replay) (k place : ℕ) → IsKept chunks r → k ≤ r.frontier
+    → place ≡ length (sent_after r.profile chunks k) → take place r.reports.bytes ≡ sent_after r.profile chunks k
 sent_cut parts chunks r k place kept low is =
     ap (λ n. take n r.reports.bytes) is ∙ ap (take (length (sent_after r.profile chunks k))) kept.reports ∙ sent_front parts r.profile chunks k r.frontier low
 
 -- sending goes on where the head stands
-pub placed : (chunks : List Chunk) (r : Replay) (sink : Sink) (place : ℕ) → IsReplay chunks r → place ≡ length (sent_after r.profile chunks r.at) → sink ≡ record { bytes = r.reports.bytes; place = place }
+pub placed : (chunks : List Chunk) (r : Replay) (sink : Sink) (place : ℕ) → IsReplay chunks r
+    → place ≡ length (sent_after r.profile chunks r.head) → sink ≡ record { bytes = r.reports.bytes; place = place }
     → IsPlaying chunks (record r { reports = sink; fed = 0 })
 placed chunks r sink place replay is set =
     let bytes : sink.bytes ≡ r.reports.bytes = ap (λ (s : Sink). s.bytes) set in
@@ -357,14 +398,15 @@ placed chunks r sink place replay is set =
           reports = bytes ∙ kept.reports;
         };
         behind = replay.behind;
-        head = replay.head;
+        working = replay.working;
       };
       place = ap (λ (s : Sink). s.place) set ∙ is;
     }
 
 -- ---- chunks that come to the same bytes
 
-pub same_holds : (old new : List Chunk) (n : ℕ) (r : Replay) → SameFront old new n → HoldsUpTo old n r → HoldsUpTo new n r
+pub same_holds : (old new : List Chunk) (n : ℕ) (r : Replay) → SameFront old new n → HoldsUpTo old n r
+    → HoldsUpTo new n r
 same_holds old new n r same h =
     let by = λ (k : ℕ) (low : k ≤ n). sym (same.bytes k low) in
     record {
@@ -382,8 +424,9 @@ same_holds old new n r same h =
     least : (a b : ℕ) → a < b → a + 1 ≤ b
     least a b lt = omega arith
 
-same_head : (profile : Profile) (old new : List Chunk) (n at : ℕ) (seen : Seen) → SameFront old new n → at ≤ n → Shows seen (played profile old at) → Shows seen (played profile new at)
-same_head profile old new n at seen same low shows = subst (λ (bytes : List ℕ). Shows seen (play (reset_term_as profile) bytes)) (sym (same.bytes at low)) shows
+same_working : (profile : Profile) (old new : List Chunk) (n at : ℕ) (seen : Seen) → SameFront old new n → at ≤ n
+    → Shows seen (up_to profile old at) → Shows seen (up_to profile new at)
+same_working profile old new n at seen same low shows = subst (λ (bytes : List ℕ). Shows seen (play (reset_term_as profile) bytes)) (sym (same.bytes at low)) shows
 
 pub same_replay : (old new : List Chunk) (r : Replay) → SameFront old new r.frontier → IsReplay old r → IsReplay new r
 same_replay old new r same replay = record {
@@ -394,15 +437,17 @@ same_replay old new r same replay = record {
     reports = replay.kept.reports ∙ ap (sent (reset_term_as r.profile)) (sym (same.bytes r.frontier (omega arith)));
   };
   behind = replay.behind;
-  head = same_head r.profile old new r.frontier r.at r.head same replay.behind replay.head;
+  working = same_working r.profile old new r.frontier r.head r.working same replay.behind replay.working;
 }
 
 -- cut at a count behind which the head stands
-pub cut_replay : (old new : List Chunk) (r cut : Replay) (n : ℕ) → SameFront old new n → IsReplay old r → IsKept new cut → cut.frontier ≡ n → cut.profile ≡ r.profile → cut.at ≡ r.at → cut.head ≡ r.head → r.at ≤ n → IsReplay new cut
+pub cut_replay : (old new : List Chunk) (r cut : Replay) (n : ℕ) → SameFront old new n → IsReplay old r
+    → IsKept new cut → cut.frontier ≡ n → cut.profile ≡ r.profile → cut.head ≡ r.head → cut.working ≡ r.working
+    → r.head ≤ n → IsReplay new cut
 cut_replay old new r cut n same replay kept frontier profile at head low = record {
   kept = kept;
   behind = omega arith;
-  head = rw (profile, at, head) (same_head r.profile old new n r.at r.head same low replay.head);
+  working = rw (profile, at, head) (same_working r.profile old new n r.head r.working same low replay.working);
 }
 
 -- ---- nothing was played
@@ -410,8 +455,9 @@ cut_replay old new r cut n same replay kept frontier profile at head low = recor
 zero_div : (every : ℕ) → 0 < every → 0 / every ≡ 0
 zero_div every some = let low = div-mul-le_self 0 every in div-eq_of_lt some
 
-pub replay_new : (chunks : List Chunk) (r : Replay) → 0 < r.every → r.frontier ≡ 0 → r.at ≡ 0 → r.stored.items ≡ [] → r.reports ≡ record { bytes = []; place = 0 } → r.sent.items ≡ 0 ∷ []
-    → Shows r.head (reset_term_as r.profile) → IsReplay chunks r
+pub replay_new : (chunks : List Chunk) (r : Replay) → 0 < r.every → r.frontier ≡ 0 → r.head ≡ 0
+    → r.stored.items ≡ [] → r.reports ≡ record { bytes = []; place = 0 } → r.sent.items ≡ 0 ∷ []
+    → Shows r.working (reset_term_as r.profile) → IsReplay chunks r
 replay_new chunks r some frontier at stored reports counts shows =
     let none : r.frontier / r.every ≡ 0 = ap (λ n. n / r.every) frontier ∙ zero_div r.every some in
     let empty : r.reports.bytes ≡ [] = ap (λ (s : Sink). s.bytes) reports in
@@ -434,5 +480,5 @@ replay_new chunks r some frontier at stored reports counts shows =
         reports = empty ∙ sym sent_now;
       };
       behind = omega arith;
-      head = rw (at, played_none r.profile chunks) shows;
+      working = rw (at, up_to_none r.profile chunks) shows;
     }

@@ -66,7 +66,8 @@ line_words laws (Retime at delay) can = (literal_word (codes "retime") (omega ar
 line_words laws (Cap max) can = (literal_word (codes "cap") (omega arith) refl, (delay_word laws max can.numbers, tt))
 
 -- words joined by one space are found again
-joined_fields : ReadBack → (words : List (List ℕ)) → AllByRecursion IsWord words → fields (join_with_byte 32 words) ≡ words
+joined_fields : ReadBack → (words : List (List ℕ)) → AllByRecursion IsWord words
+    → fields (join_with_byte 32 words) ≡ words
 joined_fields laws [] are = refl
 joined_fields laws (word ∷ []) are = laws.words.alone word are.0
 joined_fields laws (word ∷ next ∷ more) are =
@@ -131,7 +132,8 @@ line_has_no_feed : ReadBack → (edit : Edit) → CanBeLogged edit → HasNoFeed
 unfolding edit_line
 line_has_no_feed laws edit can = joined_has_no_feed (edit_fields edit) (line_words laws edit can)
 
-pub written_log_lines : ReadBack → (edits : List Edit) → All CanBeLogged edits → lines_of (log_text edits) ≡ map edit_line edits
+pub written_log_lines : ReadBack → (edits : List Edit) → All CanBeLogged edits
+    → lines_of (log_text edits) ≡ map edit_line edits
 unfolding log_text
 written_log_lines laws [] are = refl
 written_log_lines laws (edit ∷ more) are =
@@ -139,11 +141,13 @@ written_log_lines laws (edit ∷ more) are =
     ∙ laws.lines (edit_line edit) (log_text more) (line_has_no_feed laws edit (All-head CanBeLogged edit more are))
     ∙ ap (λ l. edit_line edit ∷ l) (written_log_lines laws more (All-tail CanBeLogged edit more are))
 
-written_lines_read : ReadBack → (edits : List Edit) → All CanBeLogged edits → map request (map edit_line edits) ≡ map (λ edit. Some (asks.Edit edit)) edits
+written_lines_read : ReadBack → (edits : List Edit) → All CanBeLogged edits
+    → map request (map edit_line edits) ≡ map (λ edit. Some (asks.Edit edit)) edits
 written_lines_read laws [] are = refl
 written_lines_read laws (edit ∷ more) are =
     ap (λ r. r ∷ map request (map edit_line more)) (written_edit_read laws edit (All-head CanBeLogged edit more are))
     ∙ ap (λ l. Some (asks.Edit edit) ∷ l) (written_lines_read laws more (All-tail CanBeLogged edit more are))
 
-pub written_log_read : ReadBack → (edits : List Edit) → All CanBeLogged edits → map request (lines_of (log_text edits)) ≡ map (λ edit. Some (asks.Edit edit)) edits
+pub written_log_read : ReadBack → (edits : List Edit) → All CanBeLogged edits
+    → map request (lines_of (log_text edits)) ≡ map (λ edit. Some (asks.Edit edit)) edits
 written_log_read laws edits are = ap (map request) (written_log_lines laws edits are) ∙ written_lines_read laws edits are

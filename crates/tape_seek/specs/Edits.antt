@@ -26,50 +26,38 @@ edited_all tape edits = fold edited tape edits
 -- It names a place past the end. An insert may name the end itself.
 abbrev pub names_no_chunk : Tape → Edit → Bool
 names_no_chunk tape (Insert at delay bytes) = nat_lt (length tape.chunks) at
-names_no_chunk tape (Delete from to) = false
 names_no_chunk tape (Replace at bytes) = nat_le (length tape.chunks) at
 names_no_chunk tape (Retime at delay) = nat_le (length tape.chunks) at
-names_no_chunk tape (Cap max) = false
+names_no_chunk tape _ = false
 
 -- Its delay is longer than a delay can be.
 abbrev pub delays_too_long : Edit → Bool
 delays_too_long (Insert at delay bytes) = nat_lt longest_delay delay
-delays_too_long (Delete from to) = false
-delays_too_long (Replace at bytes) = false
 delays_too_long (Retime at delay) = nat_lt longest_delay delay
 delays_too_long (Cap max) = nat_lt longest_delay max
+delays_too_long _ = false
 
 -- It has more bytes than a chunk can have.
 abbrev pub has_too_many_bytes : Edit → Bool
 has_too_many_bytes (Insert at delay bytes) = nat_lt longest_chunk (length bytes)
-has_too_many_bytes (Delete from to) = false
 has_too_many_bytes (Replace at bytes) = nat_lt longest_chunk (length bytes)
-has_too_many_bytes (Retime at delay) = false
-has_too_many_bytes (Cap max) = false
+has_too_many_bytes _ = false
 
 -- It adds a chunk to a recording that can have no more.
 abbrev pub adds_a_chunk_too_many : Tape → Edit → Bool
 adds_a_chunk_too_many tape (Insert at delay bytes) = nat_le most_chunks (length tape.chunks)
-adds_a_chunk_too_many tape (Delete from to) = false
-adds_a_chunk_too_many tape (Replace at bytes) = false
-adds_a_chunk_too_many tape (Retime at delay) = false
-adds_a_chunk_too_many tape (Cap max) = false
+adds_a_chunk_too_many tape _ = false
 
 -- With its bytes the body would be longer than one can be.
 abbrev pub makes_the_body_too_long : Tape → Edit → Bool
 makes_the_body_too_long tape (Insert at delay bytes) = nat_lt longest_body (body_len (edited tape (Insert at delay bytes)).chunks)
-makes_the_body_too_long tape (Delete from to) = false
 makes_the_body_too_long tape (Replace at bytes) = nat_lt longest_body (body_len (edited tape (Replace at bytes)).chunks)
-makes_the_body_too_long tape (Retime at delay) = false
-makes_the_body_too_long tape (Cap max) = false
+makes_the_body_too_long tape _ = false
 
 -- Its range is empty, or goes past the end.
 abbrev pub has_a_bad_range : Tape → Edit → Bool
-has_a_bad_range tape (Insert at delay bytes) = false
 has_a_bad_range tape (Delete from to) = nat_le to from || nat_lt (length tape.chunks) to
-has_a_bad_range tape (Replace at bytes) = false
-has_a_bad_range tape (Retime at delay) = false
-has_a_bad_range tape (Cap max) = false
+has_a_bad_range tape _ = false
 
 -- Whether the edit has the fault. Want of memory and lines of no known form are faults of no edit (ours).
 abbrev pub has_fault : Tape → Edit → EditFault → Bool

@@ -1,4 +1,4 @@
--- The fields that an edit is written with, for the functions that write them.
+-- Private: the fields that an edit is written with, for the functions that write them.
 use Rattle.std.specs.Prelude.{ℕ, List, ◌∷◌}
 use Rattle.std.specs.Fmt.{decimal}
 use Rattle.tape_core.specs.Written.{seconds_form}

@@ -21,4 +21,4 @@ TellsMoment s moment terminal reports = (o : Tape) → s.recording ≡ edited_al
 -- The same of the bytes of its first chunks.
 abbrev pub TellsCount : State → ℕ → Seen → List ℕ → Type 0
 TellsCount s count terminal reports = (o : Tape) → s.recording ≡ edited_all o s.log
-    → Tells terminal reports (up_to s.profile (edited_all o s.log) count)
+    → Tells terminal reports (up_to s.profile (edited_all o s.log).chunks count)

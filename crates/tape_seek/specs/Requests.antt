@@ -36,22 +36,16 @@ from_of text = if bytes_eq text (codes "-") then Some None else option_map Some 
 
 -- The fields behind the first: as many as the form has, no fewer and no more.
 abbrev pub one_field : List (List ℕ) → Option (List ℕ)
-one_field [] = None
 one_field (a ∷ []) = Some a
-one_field (a ∷ b ∷ more) = None
+one_field _ = None
 
 abbrev pub two_fields : List (List ℕ) → Option (List ℕ × List ℕ)
-two_fields [] = None
-two_fields (a ∷ []) = None
 two_fields (a ∷ b ∷ []) = Some (a, b)
-two_fields (a ∷ b ∷ c ∷ more) = None
+two_fields _ = None
 
 abbrev pub three_fields : List (List ℕ) → Option (List ℕ × List ℕ × List ℕ)
-three_fields [] = None
-three_fields (a ∷ []) = None
-three_fields (a ∷ b ∷ []) = None
 three_fields (a ∷ b ∷ c ∷ []) = Some (a, b, c)
-three_fields (a ∷ b ∷ c ∷ d ∷ more) = None
+three_fields _ = None
 
 -- `insert AT S HEX`
 abbrev pub insert_of : List (List ℕ) → Option Request
@@ -168,15 +162,6 @@ request line = request_of_fields (fields line)
 
 -- The request is an edit that brings bytes: the only ones that are kept in memory.
 abbrev pub BringsBytes : Option Request → Type 0
-BringsBytes None = ⊥
-BringsBytes (Some asks.Nothing) = ⊥
 BringsBytes (Some (asks.Edit (edit.Insert at delay bytes))) = bytes ≢ []
-BringsBytes (Some (asks.Edit (edit.Delete from to))) = ⊥
 BringsBytes (Some (asks.Edit (edit.Replace at bytes))) = bytes ≢ []
-BringsBytes (Some (asks.Edit (edit.Retime at delay))) = ⊥
-BringsBytes (Some (asks.Edit (edit.Cap max))) = ⊥
-BringsBytes (Some (asks.Screen at)) = ⊥
-BringsBytes (Some (asks.Reports at)) = ⊥
-BringsBytes (Some (asks.Changes from to)) = ⊥
-BringsBytes (Some asks.Info) = ⊥
-BringsBytes (Some asks.Log) = ⊥
+BringsBytes _ = ⊥

@@ -16,8 +16,10 @@ use tape_core::laws::{a_word_is_a_field, an_lf_ends_a_line, numbers_read_back, s
 /// The line that is written of an edit that a log can hold, as each in a session's log is, is read as that edit; the lines
 /// of a log are those of its edits; and its text, read line by line, is the log.
 pub fn a_written_edit_is_read()
-    ensures read { (edit : Edit) → CanBeLogged edit → request (edit_line edit) ≡ Some (asks.Edit edit) }
-    ensures lines { (edits : List Edit) → All CanBeLogged edits → lines_of (log_text edits) ≡ map edit_line edits }
+    ensures read { (edit : Edit) → CanBeLogged edit
+        → request (edit_line edit) ≡ Some (asks.Edit edit) }
+    ensures lines { (edits : List Edit) → All CanBeLogged edits
+        → lines_of (log_text edits) ≡ map edit_line edits }
     ensures whole { (edits : List Edit) → All CanBeLogged edits
         → map request (lines_of (log_text edits)) ≡ map (λ edit. Some (asks.Edit edit)) edits }
 {
@@ -34,12 +36,15 @@ pub fn seeks_feed_little()
         → fed_by every count marks < every + (count - marks.frontier) }
     ensures from_head { (every count : ℕ) (marks : Marks) → marks.head ≤ count
         → fed_by every count marks ≤ count - marks.head }
-    ensures retimed { (every at delay : ℕ) (marks : Marks) → after_edit every (edits.Retime at delay) marks ≡ marks }
-    ensures capped { (every max : ℕ) (marks : Marks) → after_edit every (edits.Cap max) marks ≡ marks }
+    ensures retimed { (every at delay : ℕ) (marks : Marks)
+        → after_edit every (edits.Retime at delay) marks ≡ marks }
+    ensures capped { (every max : ℕ) (marks : Marks)
+        → after_edit every (edits.Cap max) marks ≡ marks }
 {}
 
 /// Frontier and head after any calls of a session, and what each of its seeks fed, are told by the calls and by which of
 /// them were refused. A caller gives the steps, each by the clause of its call.
 pub fn calls_tell_the_marks()
-    ensures { (every : ℕ) (calls : List Call) (fed : List ℕ) (s : State) → HasRun every calls fed s → IsTold every calls fed s }
+    ensures { (every : ℕ) (calls : List Call) (fed : List ℕ) (s : State)
+        → HasRun every calls fed s → IsTold every calls fed s }
 {}

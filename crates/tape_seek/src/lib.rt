@@ -1,7 +1,7 @@
 //! Sessions over recordings: edits and their log, request lines, and seeks to any moment.
 #![tactic(auto)]
 
-mod changes;
+mod editing;
 mod edits;
 mod hex_text;
 pub mod laws;

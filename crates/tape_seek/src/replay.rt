@@ -1,6 +1,32 @@
-//! What a session keeps of what it played: terminals at every so many chunks, the head, and all reports.
+//! What a session keeps of what it played, and going to a count of chunks.
+//!
+//! Where `every` is 4, the frontier 10 and the head 5, of 12 chunks:
+//!
+//! ```text
+//! count      0   1   2   3   4   5   6   7   8   9   10  11  12
+//! stored                     T               T                    a terminal at each multiple of `every`, 0 excepted
+//! working                        T                                the head: where the working terminal stands
+//! sent       n   n   n   n   n   n   n   n   n   n   n            how many bytes were sent by each count
+//! reports    ========================================             those bytes
+//!                                                    |            the frontier: nothing is kept past it
+//! ```
+//!
+//! A seek starts at the latest of the stored terminals, the working one and the reset terminal that isn't past its count,
+//! and feeds chunks up to it; those past the frontier move the frontier on. A change of chunk 6 leaves what lies up to 6:
+//! the terminal at 8 goes, the frontier is 6, and a head past it goes back to the last stored terminal.
+ghost use Rattle.std.specs.Prelude.{◌≡◌, ℕ, ◌+◌, ◌-◌, ◌*◌, ◌/◌, ◌<◌, ◌≤◌, List, [], ◌∷◌, ◌++◌, length, min, max, take, IfOk, OnOk, OnErr, IsOk, slice_index, slice_index_or};
+ghost use Rattle.tape_core.specs.declared.chunk.Chunk.{Chunk};
+ghost use Rattle.vt_term.specs.Seen.{Shows};
+ghost use Rattle.vt_term.specs.Sink.{HasRoom, KeepsFront, after_sending};
+ghost use Rattle.vt_term.specs.Term.{Term, play, reset_term_as, sent};
+ghost use Rattle.tape_seek.specs.Kept.{HasSent, HoldsUpTo, IsAhead, IsKept, IsPlaying, IsReplay, PlaysOn, SameFront, SendsNext, ShowsHead, Stores, marks_of, sent_after};
+ghost use Rattle.tape_seek.specs.Marks.{Marks, after_cut, fed_by, multiple_below, start_of};
+ghost use Rattle.tape_seek.specs.Moments.{up_to};
+
 use std::alloc::{AllocError, Global};
 use tape_core::Chunk;
+use tape_core::laws::first_grows_by_a_chunk;
+use vt_term::laws::{plays_in_parts, sends_in_parts};
 use vt_term::{OutOfMemory, Profile, Reports, Terminal};
 
 /// A replay of the chunks of a recording, kept up to the frontier.
@@ -13,9 +39,9 @@ pub(crate) struct Replay {
     /// All that is kept is right up to this count of chunks.
     pub frontier: usize,
     /// The count at which the working terminal stands, at most the frontier.
-    pub at: usize,
+    pub head: usize,
     /// The working terminal.
-    pub head: Terminal,
+    pub working: Terminal,
     /// The terminals at `every`, twice `every` and so on.
     pub stored: Vec<Box<Terminal>>,
     /// All that was sent up to the frontier.
@@ -28,4 +54,272 @@ pub(crate) struct Replay {
     pub alloc: Global,
 }
 
-mod feeding;
+/// The terminal before the first chunk.
+fn first_terminal(profile: Profile) -> Terminal
+    ensures { Shows result (reset_term_as profile) }
+{
+    Terminal::reset_as(profile)
+}
+
+impl Replay {
+    /// Nothing was played.
+    pub(crate) fn new(alloc: Global, profile: Profile, every: usize) -> Result<Self, AllocError>
+        requires { 0 < every }
+        ensures replay { (chunks : List Chunk) → IfOk result (λ r. IsReplay chunks r) }
+        ensures profile { IfOk result (λ r. r.profile ≡ profile) }
+        ensures every { IfOk result (λ r. r.every ≡ every) }
+        ensures frontier { IfOk result (λ r. r.frontier ≡ 0) }
+        ensures head { IfOk result (λ r. r.head ≡ 0) }
+    {
+        let mut sent = Vec::new(alloc);
+        sent.push(0)?;
+        Ok(Replay {
+            profile,
+            every,
+            frontier: 0,
+            head: 0,
+            working: first_terminal(profile),
+            stored: Vec::new(alloc),
+            reports: Reports::new(alloc),
+            sent,
+            fed: 0,
+            alloc,
+        })
+    }
+
+    /// Goes to the count: from the latest of the stored terminals, the working one and the reset terminal that isn't past
+    /// it. Where memory is refused, what was added is taken back.
+    #[tactic(auto, using(crate::proofs::ReplayLemmas::plays_on))]
+    pub(crate) fn seek(&mut self, chunks: &[Chunk], count: usize) -> Result<(), OutOfMemory>
+        requires replay { IsReplay chunks.now self.old }
+        requires within { count ≤ length chunks.now }
+        ensures replay { IsReplay chunks.now self.new }
+        ensures rest { PlaysOn self.old self.new }
+        ensures head { OnOk result (self.new.head ≡ count) }
+        ensures frontier { OnOk result (self.new.frontier ≡ max self.old.frontier count) }
+        ensures fed { OnOk result (self.new.fed ≡ fed_by self.old.every count (marks_of self.old)) }
+        ensures err_head { OnErr result
+            (self.new.head ≡ multiple_below self.old.every self.old.frontier) }
+        ensures err_frontier { OnErr result (self.new.frontier ≡ self.old.frontier) }
+        ensures room { count ≤ self.old.frontier → IsOk result }
+    {
+        let frontier = self.frontier;
+        self.start(count);
+        if self.feed_to(chunks, count).is_err() {
+            self.keep_up_to(frontier);
+            self.go_back(frontier);
+            return Err(OutOfMemory);
+        }
+        Ok(())
+    }
+
+    /// The chunks from this one on have changed: nothing that was kept past it is right any more.
+    #[tactic(auto, using(crate::proofs::ReplayLemmas::plays_on))]
+    pub(crate) fn cut(&mut self, first: usize)
+        requires { (chunks : List Chunk) × IsReplay chunks self.old }
+        // Whatever the recording has become, where its first chunks up to this one stayed.
+        ensures replay { (old new : List Chunk) → IsReplay old self.old
+            → SameFront old new (min self.old.frontier first) → IsReplay new self.new }
+        ensures rest { PlaysOn self.old self.new }
+        ensures frontier { self.new.frontier ≡ min self.old.frontier first }
+        ensures head { self.new.head ≡ (after_cut self.old.every first (marks_of self.old)).head }
+    {
+        sends_in_parts();
+        if first < self.frontier {
+            self.keep_up_to(first);
+            if self.head > first {
+                self.go_back(first);
+            }
+        }
+    }
+
+    /// Puts the working terminal where a seek to the count starts.
+    fn start(&mut self, count: usize)
+        requires { (chunks : List Chunk) × IsReplay chunks self.old }
+        ensures playing { (chunks : List Chunk) → IsReplay chunks self.old
+            → IsPlaying chunks self.new }
+        ensures head { self.new.head ≡ start_of self.old.every count (marks_of self.old) }
+        ensures before { self.new.head ≤ count }
+        ensures frontier { self.new.frontier ≡ self.old.frontier }
+        ensures rest { self.new ≡ record self.old {
+          working = self.new.working;
+          head = self.new.head;
+          reports = self.new.reports;
+          fed = 0;
+        } }
+    {
+        sends_in_parts();
+        let near = count.min(self.frontier);
+        if self.head > count || self.head < near / self.every * self.every {
+            self.go_back(near);
+        }
+        self.reports.set_place(self.sent[self.head]);
+        self.fed = 0;
+    }
+
+    /// Puts the working terminal at the last stored terminal up to the count, or back to the reset terminal.
+    fn go_back(&mut self, count: usize)
+        requires every { 0 < self.old.every }
+        requires stored { count / self.old.every ≤ length self.old.stored.items }
+        ensures working { (chunks : List Chunk) → HoldsUpTo chunks count self.old
+            → Shows self.new.working
+            (up_to self.old.profile chunks (multiple_below self.old.every count)) }
+        ensures rest { self.new ≡ record self.old {
+          working = self.new.working;
+          head = multiple_below self.old.every count;
+        } }
+    {
+        let place = count / self.every;
+        if place == 0 {
+            self.working = first_terminal(self.profile);
+        } else {
+            self.working.copy_from(&self.stored[place - 1]);
+        }
+        self.head = place * self.every;
+    }
+
+    /// Keeps what was kept up to the count, and nothing past it.
+    fn keep_up_to(&mut self, count: usize)
+        requires every { 0 < self.old.every }
+        requires counts { count < length self.old.sent.items }
+        requires sent { slice_index self.old.sent.items count ≤ length self.old.reports.bytes }
+        ensures kept { (chunks : List Chunk) → HoldsUpTo chunks count self.old
+            → IsKept chunks self.new }
+        ensures frontier { self.new.frontier ≡ count }
+        ensures rest { self.new ≡ record self.old {
+          frontier = count;
+          stored = self.new.stored;
+          reports = self.new.reports;
+          sent = self.new.sent;
+        } }
+    {
+        self.reports.cut(self.sent[count]);
+        self.sent.truncate(count + 1);
+        self.stored.truncate(count / self.every);
+        self.frontier = count;
+    }
+
+    /// Feeds the chunks between the head and the count.
+    #[tactic(auto, using(crate::proofs::ReplayLemmas::plays_on))]
+    fn feed_to(&mut self, chunks: &[Chunk], count: usize) -> Result<(), OutOfMemory>
+        requires playing { IsPlaying chunks.now self.old }
+        requires within { count ≤ length chunks.now }
+        requires before { self.old.head ≤ count }
+        requires fed { self.old.fed ≡ 0 }
+        ensures ok { OnOk result (IsReplay chunks.now self.new) }
+        ensures head { OnOk result (self.new.head ≡ count) }
+        ensures frontier { OnOk result (self.new.frontier ≡ max self.old.frontier count) }
+        ensures fed { OnOk result (self.new.fed ≡ count - self.old.head) }
+        ensures err { OnErr result (HoldsUpTo chunks.now self.old.frontier self.new) }
+        ensures rest { PlaysOn self.old self.new }
+        ensures room { count ≤ self.old.frontier → IsOk result }
+    {
+        sends_in_parts();
+        while self.head < count {
+            self.step_on(chunks)?;
+        }
+        Ok(())
+    }
+
+    /// Feeds one chunk, and keeps what comes of it where that is new.
+    #[tactic(auto, using(crate::proofs::ReplayLemmas::plays_on))]
+    fn step_on(&mut self, chunks: &[Chunk]) -> Result<(), OutOfMemory>
+        requires playing { IsPlaying chunks.now self.old }
+        requires within { self.old.head < length chunks.now }
+        requires fed { self.old.fed ≤ self.old.head }
+        ensures ok { OnOk result (IsPlaying chunks.now self.new) }
+        ensures head { OnOk result (self.new.head ≡ self.old.head + 1) }
+        ensures frontier { OnOk result
+            (self.new.frontier ≡ max self.old.frontier (self.old.head + 1)) }
+        ensures fed { OnOk result (self.new.fed ≡ self.old.fed + 1) }
+        ensures err { OnErr result (HoldsUpTo chunks.now self.old.frontier self.new) }
+        ensures rest { PlaysOn self.old self.new }
+        ensures room { self.old.head < self.old.frontier → IsOk result }
+    {
+        sends_in_parts();
+        self.feed_next(chunks)?;
+        if self.head > self.frontier {
+            self.keep_working()?;
+        }
+        Ok(())
+    }
+
+    /// Feeds one chunk to the working terminal, and counts it. Nothing else feeds.
+    fn feed_next(&mut self, chunks: &[Chunk]) -> Result<(), OutOfMemory>
+        requires within { self.old.head < length chunks.now }
+        requires fed { self.old.fed ≤ self.old.head }
+        ensures ok { OnOk result (self.new ≡ record self.old {
+          working = self.new.working;
+          reports = self.new.reports;
+          head = self.old.head + 1;
+          fed = self.old.fed + 1;
+        }) }
+        ensures err { OnErr result (self.new ≡ record self.old {
+          working = self.new.working;
+          reports = self.new.reports;
+        }) }
+        ensures shows { ShowsHead chunks.now self.old → OnOk result (Shows self.new.working
+            (up_to self.old.profile chunks.now (self.old.head + 1))) }
+        ensures sent { ShowsHead chunks.now self.old → SendsNext chunks.now self.old
+            → OnOk result (HasSent chunks.now self.old self.new) }
+        ensures front { KeepsFront self.old.reports self.new.reports }
+        ensures room { ShowsHead chunks.now self.old → SendsNext chunks.now self.old
+            → length (sent_after self.old.profile chunks.now (self.old.head + 1))
+            ≤ length self.old.reports.bytes
+            → IsOk result }
+    {
+        first_grows_by_a_chunk();
+        plays_in_parts();
+        sends_in_parts();
+        self.working
+            .feed_in_place(chunks[self.head].bytes.as_slice(), &mut self.reports)?;
+        self.head += 1;
+        self.fed += 1;
+        Ok(())
+    }
+
+    /// Moves the frontier on to the head, which stands one past it.
+    fn keep_working(&mut self) -> Result<(), AllocError>
+        requires every { 0 < self.old.every }
+        ensures ok { (chunks : List Chunk) → IsAhead chunks self.old
+            → OnOk result (IsPlaying chunks self.new) }
+        ensures err { (chunks : List Chunk) (count : ℕ) → HoldsUpTo chunks count self.old
+            → HoldsUpTo chunks count self.new }
+        ensures frontier { OnOk result (self.new.frontier ≡ self.old.head) }
+        ensures rest { self.new ≡ record self.old {
+          frontier = self.new.frontier;
+          stored = self.new.stored;
+          sent = self.new.sent;
+        } }
+    {
+        if self.head % self.every == 0 {
+            self.store_working()?;
+        }
+        self.sent.push(self.reports.place())?;
+        self.frontier = self.head;
+        Ok(())
+    }
+
+    /// Stores a copy of the working terminal behind the others.
+    fn store_working(&mut self) -> Result<(), AllocError>
+        ensures ok { OnOk result (Stores self.old self.new) }
+        ensures err { OnErr result (self.new.stored.items ≡ self.old.stored.items) }
+        ensures rest { self.new ≡ record self.old { stored = self.new.stored } }
+    {
+        let mut copy = first_terminal(self.profile);
+        copy.copy_from(&self.working);
+        self.stored.push(Box::new(self.alloc, copy)?)?;
+        Ok(())
+    }
+
+    /// All that was sent by the count.
+    pub(crate) fn sent_by(&self, count: usize) -> &[u8]
+        requires some { (chunks : List Chunk) × IsReplay chunks self.now }
+        requires within { count ≤ self.now.frontier }
+        ensures { (chunks : List Chunk) → IsReplay chunks self.now
+            → result.now ≡ sent_after self.now.profile chunks count }
+    {
+        sends_in_parts();
+        &self.reports.bytes()[..self.sent[count]]
+    }
+}

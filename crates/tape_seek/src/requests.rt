@@ -213,7 +213,8 @@ fn two_fields(rest: &[u8]) -> Option<(&[u8], &[u8])>
 
 /// The three fields that are left.
 fn three_fields(rest: &[u8]) -> Option<(&[u8], &[u8], &[u8])>
-    ensures { option_map (λ all. (all.0.now, all.1.now, all.2.now)) result ≡ three_fields (fields rest.now) }
+    ensures { option_map (λ all. (all.0.now, all.1.now, all.2.now)) result
+        ≡ three_fields (fields rest.now) }
 {
     let (first, after) = next_field(rest)?;
     let (second, third) = two_fields(after)?;
@@ -242,7 +243,8 @@ fn read_start(field: &[u8]) -> Option<Option<u64>>
 fn read_bytes(alloc: Global, field: &[u8]) -> Result<Bytes, LineFault>
     ensures ok { IfOk result (λ bytes. bytes_of field.now ≡ Some bytes) }
     ensures bad { result ≡ Err LineFault.BadLine → bytes_of field.now ≡ None }
-    ensures want { result ≡ Err LineFault.OutOfMemory → IsSomeAnd (bytes_of field.now) (λ bytes. bytes ≢ []) }
+    ensures want { result ≡ Err LineFault.OutOfMemory
+        → IsSomeAnd (bytes_of field.now) (λ bytes. bytes ≢ []) }
 {
     if field == b"-".as_slice() {
         return Ok(Bytes::from_vec(Vec::new(alloc)));

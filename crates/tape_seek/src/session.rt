@@ -3,12 +3,12 @@ ghost use Rattle.std.specs.Prelude.{◌≡◌, ◌+◌, ◌/◌, ◌<◌, ◌≤
 ghost use Rattle.tape_core.specs.Due.{due_count};
 ghost use Rattle.tape_core.specs.Tape.{Tape, fits};
 ghost use Rattle.tape_seek.specs.Edits.{CanBeLogged, edit_fault, edited, edited_all};
-ghost use Rattle.tape_seek.specs.Kept.{IsReplay, marks_of};
+ghost use Rattle.tape_seek.specs.Kept.{IsReplay, PlaysOn, marks_of};
 ghost use Rattle.tape_seek.specs.Marks.{after_edit, fed_by};
 ghost use Rattle.vt_term.specs.declared.profile.Profile.TheVariants.{Vt100};
 ghost use Rattle.vt_term.specs.Seen.{Shows};
 
-use crate::changes::{brings_bytes, fault_of, make, touched_first};
+use crate::editing::{brings_bytes, edit_fault, first_touched, make};
 use crate::edits::{Edit, EditFault};
 use crate::replay::Replay;
 use std::alloc::{AllocError, Global};
@@ -46,7 +46,7 @@ impl Model for Session {
       recording = s.recording;
       log = s.log.items;
       every = s.replay.every;
-      marks = record { frontier = s.replay.frontier; head = s.replay.at };
+      marks = record { frontier = s.replay.frontier; head = s.replay.head };
     } };
 
     ghost invariant = { λ s. IsSound s.recording s.log.items s.replay };
@@ -119,7 +119,7 @@ impl Session {
             ≡ unwrap_or (edit_fault self.old.recording edit) EditFault.OutOfMemory) }
         ensures history { KeepsHistory self.old self.new }
     {
-        if let Some(fault) = fault_of(&self.recording, &edit) {
+        if let Some(fault) = edit_fault(&self.recording, &edit) {
             return Err(Refused { edit, fault });
         }
         if grow(self.replay.alloc, &mut self.log, &mut self.recording, &edit).is_err() {
@@ -137,15 +137,21 @@ impl Session {
     /// Goes to a moment, in microseconds: to the chunks that are due by then.
     pub fn seek(&mut self, moment: u64) -> Result<View<'_>, OutOfMemory>
         ensures* state { sem 𝓛 (follows_so the_row the_row self.entry.ghost_name none (λ _ _. ⊤)
-            (λ new. Leaves result (due_count self.old.recording.chunks moment) self.old new × KeepsHistory self.old new)) }
+            (λ new. Leaves result (due_count self.old.recording.chunks moment) self.old new
+            × KeepsHistory self.old new)) }
         // The headline: of the recording that the session was opened with, edited by the log.
-        ensures headline { IfOk result (λ view. TellsMoment self.old moment view.terminal.now view.reports.now) }
-        ensures shows { IfOk result (λ view. Shows view.terminal.now (term_at self.old.profile self.old.recording moment)) }
-        ensures reports { IfOk result (λ view. view.reports.now ≡ (term_at self.old.profile self.old.recording moment).reports) }
-        ensures count { IfOk result (λ view. view.count ≡ due_count self.old.recording.chunks moment) }
+        ensures headline { IfOk result (λ view.
+            TellsMoment self.old moment view.terminal.now view.reports.now) }
+        ensures shows { IfOk result (λ view.
+            Shows view.terminal.now (term_at self.old.profile self.old.recording moment)) }
+        ensures reports { IfOk result (λ view.
+            view.reports.now ≡ (term_at self.old.profile self.old.recording moment).reports) }
+        ensures count { IfOk result (λ view.
+            view.count ≡ due_count self.old.recording.chunks moment) }
         ensures fed { IfOk result (λ view. view.fed
             ≡ fed_by self.old.every (due_count self.old.recording.chunks moment) self.old.marks) }
-        ensures room { due_count self.old.recording.chunks moment ≤ self.old.marks.frontier → IsOk result }
+        ensures room { due_count self.old.recording.chunks moment ≤ self.old.marks.frontier
+            → IsOk result }
     {
         due_is_first();
         sent_is_appended();
@@ -153,7 +159,7 @@ impl Session {
         self.replay.seek(self.recording.chunks(), count)?;
         let replay = &self.replay;
         Ok(View {
-            terminal: &replay.head,
+            terminal: &replay.working,
             reports: replay.sent_by(count),
             count,
             fed: replay.fed,
@@ -165,9 +171,12 @@ impl Session {
         requires { count ≤ length self.old.recording.chunks }
         ensures* state { sem 𝓛 (follows_so the_row the_row self.entry.ghost_name none (λ _ _. ⊤)
             (λ new. Leaves result count self.old new × KeepsHistory self.old new)) }
-        ensures headline { IfOk result (λ view. TellsCount self.old count view.terminal.now view.reports.now) }
-        ensures shows { IfOk result (λ view. Shows view.terminal.now (up_to self.old.profile self.old.recording count)) }
-        ensures reports { IfOk result (λ view. view.reports.now ≡ (up_to self.old.profile self.old.recording count).reports) }
+        ensures headline { IfOk result (λ view.
+            TellsCount self.old count view.terminal.now view.reports.now) }
+        ensures shows { IfOk result (λ view.
+            Shows view.terminal.now (up_to self.old.profile self.old.recording.chunks count)) }
+        ensures reports { IfOk result (λ view.
+            view.reports.now ≡ (up_to self.old.profile self.old.recording.chunks count).reports) }
         ensures count { IfOk result (λ view. view.count ≡ count) }
         ensures fed { IfOk result (λ view. view.fed ≡ fed_by self.old.every count self.old.marks) }
         ensures room { count ≤ self.old.marks.frontier → IsOk result }
@@ -176,7 +185,7 @@ impl Session {
         self.replay.seek(self.recording.chunks(), count)?;
         let replay = &self.replay;
         Ok(View {
-            terminal: &replay.head,
+            terminal: &replay.working,
             reports: replay.sent_by(count),
             count,
             fed: replay.fed,
@@ -194,7 +203,7 @@ impl Session {
     pub fn head(&self) -> usize
         ensures { result ≡ self.now.marks.head }
     {
-        self.replay.at
+        self.replay.head
     }
 
     /// How many terminals are kept, the working one included.
@@ -239,16 +248,17 @@ fn grow(
 }
 
 /// Gives up what was kept past the chunk that the edit touches first, if it touches the bytes of any.
+#[tactic(auto, using(crate::proofs::ReplayLemmas::plays_on))]
 fn cut(replay: &mut Replay, edit: &Edit)
     requires { (tape : Tape) × IsReplay tape.chunks replay.old }
-    ensures replay { (tape : Tape) → IsReplay tape.chunks replay.old → edit_fault tape edit.now ≡ None
-        → IsReplay (edited tape edit.now).chunks replay.new }
-    ensures profile { replay.new.profile ≡ replay.old.profile }
-    ensures every { replay.new.every ≡ replay.old.every }
-    ensures marks { marks_of replay.new ≡ after_edit replay.old.every edit.now (marks_of replay.old) }
+    ensures replay { (tape : Tape) → IsReplay tape.chunks replay.old
+        → edit_fault tape edit.now ≡ None → IsReplay (edited tape edit.now).chunks replay.new }
+    ensures rest { PlaysOn replay.old replay.new }
+    ensures marks { marks_of replay.new
+        ≡ after_edit replay.old.every edit.now (marks_of replay.old) }
 {
     first_is_kept();
-    if let Some(first) = touched_first(edit) {
+    if let Some(first) = first_touched(edit) {
         replay.cut(first);
     }
 }

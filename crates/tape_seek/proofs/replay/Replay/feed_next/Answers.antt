@@ -8,7 +8,7 @@ returns-clause-shows c = λ shows.
     let chunk = c.index-chunks-self.result in
     let is = sym c.index-chunks-self.is in
     let same : c.as_slice.result.now ≡ chunk.bytes = c.as_slice.ensures ∙ ap (λ x. x.bytes) is in
-    next_shows c.first_grows_by_a_chunk.ensures c.plays_in_parts.ensures c.args.self.now.profile c.args.chunks.now c.args.self.now.at chunk c.requires.within is _ c.as_slice.result.now same
+    next_shows c.first_grows_by_a_chunk.ensures c.plays_in_parts.ensures c.args.self.now.profile c.args.chunks.now c.args.self.now.head chunk c.requires.within is _ c.as_slice.result.now same
     (c.in_ok-feed_in_place.ensures.shows _ shows)
 
 pub returns-clause-sent : goal.returns-clause-sent

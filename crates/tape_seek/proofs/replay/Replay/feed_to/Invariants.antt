@@ -6,12 +6,12 @@ use Rattle.tape_seek.proofs.replay.Replay.feed_to.Given as goal
 abbrev pub invariant-loop-self : goal.invariant-loop-self
 invariant-loop-self l = record {
   playing : IsPlaying l.chunks l.self;
-  before : l.self.at ≤ l.count;
-  fed : l.self.fed + l.initial.self.at ≡ l.self.at;
-  frontier : l.self.frontier ≡ max l.initial.self.frontier l.self.at;
+  before : l.self.head ≤ l.count;
+  fed : l.self.fed + l.initial.self.head ≡ l.self.head;
+  frontier : l.self.frontier ≡ max l.initial.self.frontier l.self.head;
   profile : l.self.profile ≡ l.initial.self.profile;
   every : l.self.every ≡ l.initial.self.every;
 }
 
 abbrev pub decreases-loop-self : goal.decreases-loop-self
-decreases-loop-self l = l.count - l.self.at
+decreases-loop-self l = l.count - l.self.head

@@ -12,11 +12,11 @@ set_place-requires c =
           let kept = c.requires.1.kept in
           let holds = holds_less c.sends_in_parts.ensures chunks c.min-near.result c.args.self.now.frontier c.args.self.now (omega (arith, c.min-near.ensures)) kept.holds in
           subst (IsReplay chunks) (sym w.self-is)
-          (back_replay chunks c.args.self.now w.go_back.new.self c.min-near.result kept (omega (arith, c.min-near.ensures)) w.go_back.ensures.rest (w.go_back.ensures.head chunks holds))
+          (back_replay chunks c.args.self.now w.go_back.new.self c.min-near.result kept (omega (arith, c.min-near.ensures)) w.go_back.ensures.rest (w.go_back.ensures.working chunks holds))
       | else-self-count+else-self-near w ↦ subst (IsReplay chunks) (sym w.self-is) c.requires.1
     ] in
-    let place = sent_read chunks c.if-self-count.self c.if-self-count.self.at c.index.result.now replay.kept replay.behind c.index.ensures in
-    sent_within c.sends_in_parts.ensures chunks c.if-self-count.self c.if-self-count.self.at c.index.result.now replay.kept replay.behind place
+    let place = sent_read chunks c.if-self-count.self c.if-self-count.self.head c.index.result.now replay.kept replay.behind c.index.ensures in
+    sent_within c.sends_in_parts.ensures chunks c.if-self-count.self c.if-self-count.self.head c.index.result.now replay.kept replay.behind place
 
 pub returns-clause-playing : goal.returns-clause-playing
 returns-clause-playing c = λ chunks before.
@@ -25,8 +25,8 @@ returns-clause-playing c = λ chunks before.
           let kept = before.kept in
           let holds = holds_less c.sends_in_parts.ensures chunks c.min-near.result c.args.self.now.frontier c.args.self.now (omega (arith, c.min-near.ensures)) kept.holds in
           subst (IsReplay chunks) (sym w.self-is)
-          (back_replay chunks c.args.self.now w.go_back.new.self c.min-near.result kept (omega (arith, c.min-near.ensures)) w.go_back.ensures.rest (w.go_back.ensures.head chunks holds))
+          (back_replay chunks c.args.self.now w.go_back.new.self c.min-near.result kept (omega (arith, c.min-near.ensures)) w.go_back.ensures.rest (w.go_back.ensures.working chunks holds))
       | else-self-count+else-self-near w ↦ subst (IsReplay chunks) (sym w.self-is) before
     ] in
-    let place = sent_read chunks c.if-self-count.self c.if-self-count.self.at c.index.result.now replay.kept replay.behind c.index.ensures in
+    let place = sent_read chunks c.if-self-count.self c.if-self-count.self.head c.index.result.now replay.kept replay.behind c.index.ensures in
     placed chunks c.if-self-count.self c.set_place.new.self c.index.result.now replay place c.set_place.ensures

@@ -19,24 +19,24 @@ returns c =
     let chunks = c.chunks.result.now in
     let same = c.chunks.ensures.chunks ∙ ap (λ s. s.recording.chunks) c.self.view_is in
     let went = c.in_ok-seek.ensures in
-    let plays = went.profile ∙ ap (λ s. s.profile) c.self.view_is in
+    let plays = went.rest.profile ∙ ap (λ s. s.profile) c.self.view_is in
     let due : count ≡ due_count old.recording.chunks moment = c.due_count-count.ensures.count ∙ ap (λ s. due_count s.recording.chunks moment) c.self.view_is in
-    let term : term_at old.profile old.recording moment ≡ up_to old.profile old.recording count = ap (play (reset_term_as old.profile)) (c.due_is_first.ensures old.recording.chunks moment) ∙ ap (up_to old.profile old.recording) (sym due) in
-    let tells : Tells c.seek.new.self.head c.sent_by.result.now (term_at old.profile old.recording moment) = record {
-      shows = subst (λ (x : Term). Shows c.seek.new.self.head x) (sym term) (shows_up_to old.profile chunks old.recording c.seek.new.self count plays same went.replay went.at);
+    let term : term_at old.profile old.recording moment ≡ up_to old.profile old.recording.chunks count = ap (play (reset_term_as old.profile)) (c.due_is_first.ensures old.recording.chunks moment) ∙ ap (up_to old.profile old.recording.chunks) (sym due) in
+    let tells : Tells c.seek.new.self.working c.sent_by.result.now (term_at old.profile old.recording moment) = record {
+      shows = subst (λ (x : Term). Shows c.seek.new.self.working x) (sym term) (shows_up_to old.profile chunks old.recording c.seek.new.self count plays same went.replay went.head);
       sent = reports_up_to c.sent_is_appended.ensures old.profile c.seek.new.self.profile chunks old.recording c.sent_by.result.now count plays same (c.sent_by.ensures chunks went.replay) ∙ ap (λ (x : Term). x.reports) (sym term);
     } in (
       (
         refl,
         λ _. tt,
         (
-          same_marks _ _ went.profile refl refl went.every went.frontier went.at ∙ ap (sought count) c.self.view_is ∙ ap (λ n. sought n old) due,
+          same_marks _ _ went.rest.profile refl refl went.rest.every went.frontier went.head ∙ ap (sought count) c.self.view_is ∙ ap (λ n. sought n old) due,
           λ o before. ap (λ s. s.recording) c.self.view_is ∙ before ∙ sym (ap (λ s. edited_all o s.log) c.self.view_is),
         ),
       ),
       record {
         state = tt;
-        headline = λ o is. subst (λ (tape : Tape). Tells c.seek.new.self.head c.sent_by.result.now (term_at old.profile tape moment)) is tells;
+        headline = λ o is. subst (λ (tape : Tape). Tells c.seek.new.self.working c.sent_by.result.now (term_at old.profile tape moment)) is tells;
         shows = tells.shows;
         reports = tells.sent;
         count = due;

@@ -14,22 +14,22 @@ returns c =
     let chunks = c.chunks.result.now in
     let same = c.chunks.ensures.chunks ∙ ap (λ s. s.recording.chunks) c.self.view_is in
     let went = c.in_ok-seek.ensures in
-    let plays = went.profile ∙ ap (λ s. s.profile) c.self.view_is in
-    let tells : Tells c.seek.new.self.head c.sent_by.result.now (up_to c.args.self.now.profile c.args.self.now.recording count) = record {
-      shows = shows_up_to c.args.self.now.profile chunks c.args.self.now.recording c.seek.new.self count plays same went.replay went.at;
+    let plays = went.rest.profile ∙ ap (λ s. s.profile) c.self.view_is in
+    let tells : Tells c.seek.new.self.working c.sent_by.result.now (up_to c.args.self.now.profile c.args.self.now.recording.chunks count) = record {
+      shows = shows_up_to c.args.self.now.profile chunks c.args.self.now.recording c.seek.new.self count plays same went.replay went.head;
       sent = reports_up_to c.sent_is_appended.ensures c.args.self.now.profile c.seek.new.self.profile chunks c.args.self.now.recording c.sent_by.result.now count plays same (c.sent_by.ensures chunks went.replay);
     } in (
       (
         refl,
         λ _. tt,
         (
-          same_marks _ _ went.profile refl refl went.every went.frontier went.at ∙ ap (sought count) c.self.view_is,
+          same_marks _ _ went.rest.profile refl refl went.rest.every went.frontier went.head ∙ ap (sought count) c.self.view_is,
           λ o old. ap (λ s. s.recording) c.self.view_is ∙ old ∙ sym (ap (λ s. edited_all o s.log) c.self.view_is),
         ),
       ),
       record {
         state = tt;
-        headline = λ o is. subst (λ (tape : Tape). Tells c.seek.new.self.head c.sent_by.result.now (up_to c.args.self.now.profile tape count)) is tells;
+        headline = λ o is. subst (λ (tape : Tape). Tells c.seek.new.self.working c.sent_by.result.now (up_to c.args.self.now.profile tape.chunks count)) is tells;
         shows = tells.shows;
         reports = tells.sent;
         count = refl;

@@ -1,5 +1,5 @@
 use Rattle.std.proofs.Common.{arith}
-use Rattle.tape_seek.proofs.changes.are_bytes.Goals as goal
+use Rattle.tape_seek.proofs.editing.are_bytes.Goals as goal
 
 pub returns : goal.returns
 returns c = λ i. let f = c.type_inv.bytes i in omega arith

@@ -1,6 +1,6 @@
 use Rattle.std.proofs.Common.{length, ap, arith, ◌∙◌}
 use Rattle.tape_seek.proofs.EditLemmas.{inserts_well}
-use Rattle.tape_seek.proofs.changes.insert.Goals as goal
+use Rattle.tape_seek.proofs.editing.insert.Goals as goal
 
 pub insert-requires-clause-place : goal.insert-requires-clause-place
 insert-requires-clause-place c = (inserts_well c.args.recording.now c.args.at c.args.delay c.args.bytes.now c.requires).place

@@ -11,7 +11,7 @@ use tape_core::limits::{LONGEST_BODY, LONGEST_CHUNK, LONGEST_DELAY, MOST_CHUNKS}
 use tape_core::{Bytes, Chunk, Recording};
 
 /// Why the edit is refused, memory aside.
-pub(crate) fn fault_of(recording: &Recording, edit: &Edit) -> Option<EditFault>
+pub(crate) fn edit_fault(recording: &Recording, edit: &Edit) -> Option<EditFault>
     ensures { result ≡ edit_fault recording.now edit.now }
 {
     match edit {
@@ -130,7 +130,8 @@ fn insert(
 ) -> Result<(), AllocError>
     requires { edit_fault recording.old (Edit.Insert at delay bytes.now) ≡ None }
     ensures fitting { fits recording.old → fits recording.new }
-    ensures ok { OnOk result (recording.new ≡ edited recording.old (Edit.Insert at delay bytes.now)) }
+    ensures ok { OnOk result
+        (recording.new ≡ edited recording.old (Edit.Insert at delay bytes.now)) }
     ensures err { OnErr result (recording.new ≡ recording.old) }
 {
     bodies_add_up();
@@ -142,7 +143,7 @@ fn insert(
 }
 
 /// The first chunk that an edit touches, if it touches the bytes of any.
-pub(crate) fn touched_first(edit: &Edit) -> Option<usize>
+pub(crate) fn first_touched(edit: &Edit) -> Option<usize>
     ensures { result ≡ first_touched edit.now }
 {
     match edit {

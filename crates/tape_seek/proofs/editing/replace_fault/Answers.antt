@@ -3,7 +3,7 @@ use Rattle.std.proofs.lemmas.Bool.{le-ltb, lt-leb, lt-ltb}
 use Rattle.std.proofs.lemmas.List.Sums.{get_or-le-sum_by}
 use Rattle.tape_core.specs.Tape.{body_len, longest_body, longest_chunk}
 use Rattle.tape_core.specs.Changes.{replaced}
-use Rattle.tape_seek.proofs.changes.replace_fault.Goals as goal
+use Rattle.tape_seek.proofs.editing.replace_fault.Goals as goal
 
 pub returns-then-others-len : goal.returns-then-others-len
 returns-then-others-len c =

@@ -1,4 +1,4 @@
-use Rattle.tape_seek.proofs.changes.make.Goals as goal
+use Rattle.tape_seek.proofs.editing.make.Goals as goal
 
 pub returns-in-Insert-clause-fitting : goal.returns-in-Insert-clause-fitting
 returns-in-Insert-clause-fitting c = c.insert.ensures.fitting

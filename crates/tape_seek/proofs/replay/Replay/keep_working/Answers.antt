@@ -1,14 +1,14 @@
 use Rattle.std.proofs.Common.{[], ◌∷◌, ◌++◌, ap, sym, subst, append-nil, ◌∙◌}
 use Rattle.tape_seek.proofs.ReplayLemmas.{IsGrown, ahead_kept, grown_more, grown_same, holds_longer}
-use Rattle.tape_seek.proofs.replay.Replay.keep_head.Goals as goal
-use Rattle.tape_seek.proofs.replay.Replay.keep_head.Goals.{then-self-eq0+in_ok-store_head, else-self-eq0}
+use Rattle.tape_seek.proofs.replay.Replay.keep_working.Goals as goal
+use Rattle.tape_seek.proofs.replay.Replay.keep_working.Goals.{then-self-eq0+in_ok-store_working, else-self-eq0}
 
 pub returns-clause-ok : goal.returns-clause-ok
 returns-clause-ok c = λ chunks ahead.
     let grown : IsGrown chunks c.args.self.now c.if-self-eq0.self = elim c.if-self-eq0.branch [
-      | then-self-eq0+in_ok-store_head w ↦
+      | then-self-eq0+in_ok-store_working w ↦
           subst (IsGrown chunks c.args.self.now) (sym w.self-is)
-          (grown_more chunks c.args.self.now w.store_head.new.self ahead w.if-self-eq0.true w.in_ok-store_head.ensures.ok w.in_ok-store_head.ensures.rest)
+          (grown_more chunks c.args.self.now w.store_working.new.self ahead w.if-self-eq0.true w.in_ok-store_working.ensures.ok w.in_ok-store_working.ensures.rest)
       | else-self-eq0 w ↦ subst (IsGrown chunks c.args.self.now) (sym w.self-is) (grown_same chunks c.args.self.now ahead w.if-self-eq0.false)
     ] in
     ahead_kept chunks c.args.self.now c.if-self-eq0.self c.place.result c.push.new.self ahead grown c.place.ensures.value c.in_ok-push.ensures.items
@@ -18,9 +18,9 @@ returns-clause-err c = λ chunks count holds.
     let r = c.args.self.now in
     let place = c.place.result in
     elim c.if-self-eq0.branch [
-      | then-self-eq0+in_ok-store_head w ↦
-          let stores = w.in_ok-store_head.ensures.ok in
-          let rest = w.self-is ∙ w.in_ok-store_head.ensures.rest in
+      | then-self-eq0+in_ok-store_working w ↦
+          let stores = w.in_ok-store_working.ensures.ok in
+          let rest = w.self-is ∙ w.in_ok-store_working.ensures.rest in
           holds_longer chunks count r _ (stores.copy ∷ []) (place ∷ []) (ap (λ x. x.profile) rest) (ap (λ x. x.every) rest) (ap (λ x. x.reports) rest)
           (ap (λ x. x.stored.items) w.self-is ∙ stores.stored) (c.in_ok-push.ensures.items ∙ ap (λ x. x.sent.items ++ place ∷ []) rest) holds
       | else-self-eq0 w ↦
