@@ -7,7 +7,7 @@ use Rattle.std.proofs.lemmas.List.Concat.{flat_map-append}
 use Rattle.std.proofs.lemmas.List.Elements.{filter-append}
 use Rattle.tape_core.specs.declared.chunk.Chunk.{Chunk}
 use Rattle.tape_core.specs.declared.devices.Watched.{Watched}
-use Rattle.tape_core.specs.Devices.{Took}
+use Rattle.tape_core.specs.Devices.{Took, TookPart}
 use Rattle.tape_core.specs.Due.{due_count, due_time}
 use Rattle.tape_core.specs.Tape.{Tape}
 use Rattle.tape_core.specs.Written.{seconds_form}
@@ -17,7 +17,7 @@ use Rattle.tape_seek.specs.State.{KeepsHistory, Leaves, State}
 use Rattle.vt_screen.specs.declared.cell.Row.{Row}
 use Rattle.vt_term.specs.declared.profile.Profile.{Profile}
 use Rattle.screen_print.specs.ChangeLines.{change_line, change_lines, changed_lines, chunk_line, is_asked, rows_after, spaced_number}
-use Rattle.screen_print.specs.Stops.{Began, OnlySeeks, first_asked}
+use Rattle.screen_print.specs.Stops.{OnlySeeks, first_asked}
 use Rattle.screen_print.proofs.RowLemmas.{range_more}
 
 -- where a chunk changes some line
@@ -109,7 +109,7 @@ lines_cut profile tape start end index line low high is =
 
 -- memory refused before the line of a chunk
 pub began_before : {T : Type 0} {contents : T → Option (List ℕ)} {a b : Watched T} (profile : Profile) (tape : Tape) (start end index : ℕ) → start ≤ index → index < end
-    → Took contents a b (lines_from profile tape start (index - start)) → Began contents a b (lines_from profile tape start (end - start))
+    → Took contents a b (lines_from profile tape start (index - start)) → TookPart contents a b (lines_from profile tape start (end - start)) false
 began_before profile tape start end index low high before =
     let n = index - start in
     let within : n < end - start = omega arith in
@@ -118,7 +118,8 @@ began_before profile tape start end index low high before =
       front = lines_from profile tape start n;
       rest = chunk_line profile tape (start + n) ++ rest;
       cut = lines_around profile tape start n (end - start) within ∙ append_assoc (lines_from profile tape start n) (chunk_line profile tape (start + n)) rest;
-      took = before;
+      failing = before.sound;
+      grown = before.grown;
     }
 
 -- what is written of a chunk is its line

@@ -1,6 +1,6 @@
 -- How the writing of change lines ends early, and what it leaves of a session.
-use Rattle.std.specs.Prelude.{◌≡◌, ℕ, ◌≤◌, List, ◌++◌, Option, None, Some}
-use Rattle.tape_core.specs.Devices.{Took, StoppedIn}
+use Rattle.std.specs.Prelude.{◌≡◌, ℕ, ◌≤◌, true, false, List, Option, None, Some}
+use Rattle.tape_core.specs.Devices.{TookPart}
 use Rattle.tape_core.specs.Due.{due_count}
 use Rattle.tape_core.specs.declared.chunk.Chunk.{Chunk}
 use Rattle.tape_core.specs.declared.devices.Watched.{Watched}
@@ -9,16 +9,13 @@ use Rattle.screen_print.specs.declared.chunk_changes.ChangesFault.{ChangesFault}
 use Rattle.screen_print.specs.declared.chunk_changes.ChangesFault.TheVariants.{Write, Memory}
 
 -- the writer is sound, and has taken a beginning of this text after what it held (ours)
-pub record Began {T : Type 0} (contents : T → Option (List ℕ)) (old new : Watched T) (text : List ℕ) : Type 0 where
-  pub front : List ℕ
-  pub rest : List ℕ
-  pub cut : text ≡ front ++ rest
-  pub took : Took contents old new front
+abbrev pub Began : {T : Type 0} → (T → Option (List ℕ)) → Watched T → Watched T → List ℕ → Type 0
+Began contents old new text = TookPart contents old new text false
 
--- the writer failed in the text, or it has taken a beginning and memory was refused
+-- a beginning of the text has gone out: the writer failed in it, or memory was refused and the writer is sound (ours)
 abbrev pub StopsChanges : {T : Type 0} → (T → Option (List ℕ)) → Watched T → Watched T → List ℕ → ChangesFault → Type 0
-StopsChanges contents old new text Write = StoppedIn contents old new text
-StopsChanges contents old new text Memory = Began contents old new text
+StopsChanges contents old new text Write = TookPart contents old new text true
+StopsChanges contents old new text Memory = TookPart contents old new text false
 
 -- seeks alone were made: profile, recording and log stay, and the frontier isn't lowered
 pub record OnlySeeks (old new : State) : Type 0 where

@@ -1,9 +1,9 @@
 //! The lines of the screen that each chunk of a recording changes.
 
-ghost use Rattle.std.specs.Prelude.{◌≡◌, ◌≢◌, ◌-◌, ◌<◌, ◌≤◌, ◌++◌, ◌∷◌, true, false, length, Err, OnOk, IfOk, IfErr, OnErr, IsOk};
+ghost use Rattle.std.specs.Prelude.{◌≡◌, ◌≢◌, ◌-◌, ◌<◌, ◌≤◌, ◌++◌, ◌∷◌, true, false, length, Err, OnOk, IfOk, IfErr, IsOk};
 ghost use Rattle.std.specs.Fmt.{decimal};
 ghost use Rattle.std.specs.List.{flat_map, range_with_len};
-ghost use Rattle.tape_core.specs.Devices.{has_failed, is_flushed, Took, StoppedIn};
+ghost use Rattle.tape_core.specs.Devices.{Puts, Took, has_failed, is_flushed};
 ghost use Rattle.tape_core.specs.Due.{due_count};
 ghost use Rattle.tape_core.specs.Written.{seconds_form};
 ghost use Rattle.tape_seek.specs.State.{KeepsHistory, Leaves};
@@ -170,9 +170,7 @@ fn put_change<W: Write>(
     writer: &mut Watched<W>,
 ) -> Result<(), Fault>
     requires { has_failed writer.old ≡ false }
-    ensures ok { OnOk result (Took W.contents writer.old writer.new (change_line index due lines.now)) }
-    ensures fault { IfErr result (λ fault. fault ≡ Fault.WriteFault) }
-    ensures stopped { OnErr result (StoppedIn W.contents writer.old writer.new (change_line index due lines.now)) }
+    ensures { Puts W.contents writer.old writer.new (change_line index due lines.now) result }
 {
     writers_join::<W>();
     if lines.is_empty() {
@@ -187,35 +185,17 @@ fn put_change<W: Write>(
 /// Writes a chunk's place and when it is due.
 fn put_place<W: Write>(index: usize, due: u64, writer: &mut Watched<W>) -> Result<(), Fault>
     requires { has_failed writer.old ≡ false }
-    ensures ok { OnOk result (Took W.contents writer.old writer.new (decimal index ++ 32 ∷ seconds_form due)) }
-    ensures fault { IfErr result (λ fault. fault ≡ Fault.WriteFault) }
-    ensures stopped { OnErr result (StoppedIn W.contents writer.old writer.new (decimal index ++ 32 ∷ seconds_form due)) }
+    ensures { Puts W.contents writer.old writer.new (decimal index ++ 32 ∷ seconds_form due) result }
 {
-    writers_join::<W>();
-    writer.put(Buffer::new().format(index).as_bytes())?;
-    put_due(due, writer)?;
-    Ok(())
-}
-
-/// Writes a space and seconds.
-fn put_due<W: Write>(due: u64, writer: &mut Watched<W>) -> Result<(), Fault>
-    requires { has_failed writer.old ≡ false }
-    ensures ok { OnOk result (Took W.contents writer.old writer.new (32 ∷ seconds_form due)) }
-    ensures fault { IfErr result (λ fault. fault ≡ Fault.WriteFault) }
-    ensures stopped { OnErr result (StoppedIn W.contents writer.old writer.new (32 ∷ seconds_form due)) }
-{
-    writers_join::<W>();
-    writer.put(b" ")?;
-    writer.put(seconds_text(due).as_bytes())?;
-    Ok(())
+    let mut digits = Buffer::new();
+    let index = digits.format(index).as_bytes();
+    writer.put_all(&[index, b" ", seconds_text(due).as_bytes()])
 }
 
 /// Writes numbers, a space before each.
 fn put_numbers<W: Write>(numbers: &[u8], writer: &mut Watched<W>) -> Result<(), Fault>
     requires { has_failed writer.old ≡ false }
-    ensures ok { OnOk result (Took W.contents writer.old writer.new (flat_map spaced_number numbers.now)) }
-    ensures fault { IfErr result (λ fault. fault ≡ Fault.WriteFault) }
-    ensures stopped { OnErr result (StoppedIn W.contents writer.old writer.new (flat_map spaced_number numbers.now)) }
+    ensures { Puts W.contents writer.old writer.new (flat_map spaced_number numbers.now) result }
 {
     pieces_join::<W, u8>();
     for number in numbers {
@@ -227,12 +207,7 @@ fn put_numbers<W: Write>(numbers: &[u8], writer: &mut Watched<W>) -> Result<(), 
 /// Writes a space and a number.
 fn put_number<W: Write>(number: u8, writer: &mut Watched<W>) -> Result<(), Fault>
     requires { has_failed writer.old ≡ false }
-    ensures ok { OnOk result (Took W.contents writer.old writer.new (spaced_number number)) }
-    ensures fault { IfErr result (λ fault. fault ≡ Fault.WriteFault) }
-    ensures stopped { OnErr result (StoppedIn W.contents writer.old writer.new (spaced_number number)) }
+    ensures { Puts W.contents writer.old writer.new (spaced_number number) result }
 {
-    writers_join::<W>();
-    writer.put(b" ")?;
-    writer.put(Buffer::new().format(number).as_bytes())?;
-    Ok(())
+    writer.put_all(&[b" ", Buffer::new().format(number).as_bytes()])
 }

@@ -1,9 +1,9 @@
 //! The escaped print: what stands on the screen, as a text that draws it again on a reset terminal.
 
-ghost use Rattle.std.specs.Prelude.{◌≡◌, ◌≤◌, ◌++◌, ◌+◌, ◌*◌, length, OnOk, OnErr, IfErr, true, false, decimal};
+ghost use Rattle.std.specs.Prelude.{◌≡◌, ◌≤◌, ◌++◌, ◌+◌, ◌*◌, length, OnOk, true, false, decimal};
 ghost use Rattle.std.specs.List.{suffix_len};
 ghost use Rattle.vt_screen.specs.Picture.{SoundRow};
-ghost use Rattle.tape_core.specs.Devices.{has_failed, is_flushed, Took, StoppedIn};
+ghost use Rattle.tape_core.specs.Devices.{Puts, has_failed, is_flushed};
 ghost use Rattle.screen_print.specs.EscapedText.{
   first_pen,
   opening_text,
@@ -65,9 +65,7 @@ impl Pen {
 #[tactic(auto, unfolding(crate::specs::EscapedText::escaped_text))]
 pub fn escaped<W: Write>(terminal: &Terminal, writer: &mut Watched<W>) -> Result<(), Fault>
     requires { has_failed writer.old ≡ false }
-    ensures ok { OnOk result (Took W.contents writer.old writer.new (escaped_text terminal.now.console)) }
-    ensures fault { IfErr result (λ fault. fault ≡ Fault.WriteFault) }
-    ensures stopped { OnErr result (StoppedIn W.contents writer.old writer.new (escaped_text terminal.now.console)) }
+    ensures puts { Puts W.contents writer.old writer.new (escaped_text terminal.now.console) result }
     ensures flushed { OnOk result (is_flushed writer.new ≡ true) }
 {
     writers_join::<W>();
@@ -81,9 +79,7 @@ pub fn escaped<W: Write>(terminal: &Terminal, writer: &mut Watched<W>) -> Result
 /// Writes the lines.
 fn put_lines<W: Write>(screen: &Screen, writer: &mut Watched<W>) -> Result<(), Fault>
     requires { has_failed writer.old ≡ false }
-    ensures ok { OnOk result (Took W.contents writer.old writer.new (lines_text first_pen 1 screen.now.picture.rows)) }
-    ensures fault { IfErr result (λ fault. fault ≡ Fault.WriteFault) }
-    ensures stopped { OnErr result (StoppedIn W.contents writer.old writer.new (lines_text first_pen 1 screen.now.picture.rows)) }
+    ensures { Puts W.contents writer.old writer.new (lines_text first_pen 1 screen.now.picture.rows) result }
 {
     writers_join::<W>();
     screens_are_sound(screen);

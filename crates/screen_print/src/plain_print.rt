@@ -1,9 +1,9 @@
 //! The plain print: what stands on the screen, as text without renditions.
 
-ghost use Rattle.std.specs.Prelude.{◌≡◌, ◌+◌, ◌≤◌, length, OnOk, IfErr, OnErr, true, false};
+ghost use Rattle.std.specs.Prelude.{◌≡◌, ◌+◌, ◌≤◌, length, OnOk, true, false};
 ghost use Rattle.std.specs.List.{suffix_len};
 ghost use Rattle.vt_screen.specs.Cells.{row_at};
-ghost use Rattle.tape_core.specs.Devices.{has_failed, is_flushed, Took, StoppedIn};
+ghost use Rattle.tape_core.specs.Devices.{Puts, has_failed, is_flushed};
 ghost use Rattle.screen_print.specs.PlainText.{is_space, line_text, plain_text};
 
 use crate::glyphs::character;
@@ -22,9 +22,7 @@ const LINE_BYTES: usize = 397;
 /// memory. After a write fault a beginning of the text has gone out.
 pub fn plain<W: Write>(terminal: &Terminal, writer: &mut Watched<W>) -> Result<(), Fault>
     requires { has_failed writer.old ≡ false }
-    ensures ok { OnOk result (Took W.contents writer.old writer.new (plain_text terminal.now.console.picture)) }
-    ensures fault { IfErr result (λ fault. fault ≡ Fault.WriteFault) }
-    ensures stopped { OnErr result (StoppedIn W.contents writer.old writer.new (plain_text terminal.now.console.picture)) }
+    ensures puts { Puts W.contents writer.old writer.new (plain_text terminal.now.console.picture) result }
     ensures flushed { OnOk result (is_flushed writer.new ≡ true) }
 {
     pieces_join::<W, Row>();

@@ -1,9 +1,10 @@
 -- One piece after another, of what a reader tells or a writer takes.
-use Rattle.std.proofs.Common.{◌≡◌, ℕ, false, List, [], ◌++◌, take, drop, sym, ◌∙◌, ap, subst, append_assoc, append-nil, Option, Some, None}
+use Rattle.std.proofs.Common.{◌≡◌, ℕ, Bool, false, true, List, [], ◌∷◌, ◌++◌, map, refl, take, drop, sym, ◌∙◌, ap, subst, append_assoc, append-nil, Option, Some, None}
+use Rattle.std.specs.List.{flat_map}
 use Rattle.std.specs.Io.KnownBytes.{Appends, Consumes}
 use Rattle.std.proofs.lemmas.List.{take-append-drop}
 use Rattle.tape_core.specs.declared.devices.Watched.{Watched}
-use Rattle.tape_core.specs.Devices.{inner_of, has_failed, Took, StoppedIn}
+use Rattle.tape_core.specs.Devices.{inner_of, has_failed, Took, TookPart, joined}
 
 -- known bytes that grow by x and then by y grow by both
 pub appends-append : (a b c : Option (List ℕ)) (x y : List ℕ) → Appends a b x → Appends b c y → Appends a c (x ++ y)
@@ -29,9 +30,9 @@ took-append {contents = contents} {a = a} {b = b} {c = c} {x = x} {y = y} h k = 
 }
 
 -- one text after another, stopped in the second
-pub stopped-append : {T : Type 0} {contents : T → Option (List ℕ)} {a b c : Watched T} {x y : List ℕ} → Took contents a b x → StoppedIn contents b c y → StoppedIn contents a c (x ++ y)
+pub stopped-append : {T : Type 0} {contents : T → Option (List ℕ)} {a b c : Watched T} {x y : List ℕ} {failed : Bool} → Took contents a b x → TookPart contents b c y failed → TookPart contents a c (x ++ y) failed
 stopped-append {contents = contents} {a = a} {b = b} {c = c} {x = x} {y = y} h k = record {
-  failed = k.failed;
+  failing = k.failing;
   front = x ++ k.front;
   rest = k.rest;
   cut = rw k.cut (sym (append_assoc x k.front k.rest));
@@ -39,9 +40,9 @@ stopped-append {contents = contents} {a = a} {b = b} {c = c} {x = x} {y = y} h k
 }
 
 -- stopped in the first of two texts
-pub stopped_before : {T : Type 0} {contents : T → Option (List ℕ)} {a b : Watched T} {x : List ℕ} (y : List ℕ) → StoppedIn contents a b x → StoppedIn contents a b (x ++ y)
+pub stopped_before : {T : Type 0} {contents : T → Option (List ℕ)} {a b : Watched T} {x : List ℕ} {failed : Bool} (y : List ℕ) → TookPart contents a b x failed → TookPart contents a b (x ++ y) failed
 stopped_before {x = x} y h = record {
-  failed = h.failed;
+  failing = h.failing;
   front = h.front;
   rest = h.rest ++ y;
   cut = ap (λ t. t ++ y) h.cut ∙ append_assoc h.front h.rest y;
@@ -54,9 +55,9 @@ took_flushed {contents = contents} {a = a} {c = c} {x = x} h k =
     subst (λ t. Took contents a c t) (append-nil x) (took-append h k)
 
 -- a text, and then a flush that failed
-pub stopped_flushing : {T : Type 0} {contents : T → Option (List ℕ)} {a b c : Watched T} {x : List ℕ} → Took contents a b x → StoppedIn contents b c [] → StoppedIn contents a c x
-stopped_flushing {contents = contents} {a = a} {c = c} {x = x} h k =
-    subst (λ t. StoppedIn contents a c t) (append-nil x) (stopped-append h k)
+pub stopped_flushing : {T : Type 0} {contents : T → Option (List ℕ)} {a b c : Watched T} {x : List ℕ} {failed : Bool} → Took contents a b x → TookPart contents b c [] failed → TookPart contents a c x failed
+stopped_flushing {contents = contents} {a = a} {c = c} {x = x} {failed = failed} h k =
+    subst (λ t. TookPart contents a c t failed) (append-nil x) (stopped-append h k)
 
 -- what `put` has done of a text where this rest of it is left
 pub record PutBefore {T : Type 0} (contents : T → Option (List ℕ)) (old new : Watched T) (text rest : List ℕ) : Type 0 where
@@ -73,11 +74,17 @@ put_more {rest = rest} n h k = record {
 }
 
 -- stopped before a piece or in it
-pub put_stopped : {T : Type 0} {contents : T → Option (List ℕ)} {a b c : Watched T} {text rest : List ℕ} → PutBefore contents a b text rest → StoppedIn contents b c [] → StoppedIn contents a c text
+pub put_stopped : {T : Type 0} {contents : T → Option (List ℕ)} {a b c : Watched T} {text rest : List ℕ} → PutBefore contents a b text rest → TookPart contents b c [] true → TookPart contents a c text true
 put_stopped {contents = contents} {a = a} {c = c} {rest = rest} h k =
-    subst (λ t. StoppedIn contents a c t) (sym h.cut) (stopped_before rest (stopped_flushing h.took k))
+    subst (λ t. TookPart contents a c t true) (sym h.cut) (stopped_before rest (stopped_flushing h.took k))
 
 -- what `slurp` has read so far
 pub record ToldFront {T : Type 0} (remaining : T → Option (List ℕ)) (old new : Watched T) (text : List ℕ) : Type 0 where
   pub sound : has_failed new ≡ false
   pub told : Consumes (remaining (inner_of old)) (remaining (inner_of new)) text
+
+-- pieces joined are the pieces in turn
+pub joined_flat : {X : Type 0} (f : X → List ℕ) (xs : List X) → joined (map f xs) ≡ flat_map f xs
+joined_flat f [] = refl
+joined_flat f (x ∷ []) = sym (append-nil (f x))
+joined_flat f (x ∷ y ∷ more) = ap (λ t. f x ++ t) (joined_flat f (y ∷ more))

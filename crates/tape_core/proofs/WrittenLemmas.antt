@@ -1,5 +1,5 @@
 -- Texts written from their end, one part before another.
-use Rattle.std.proofs.Common.{◌≡◌, ℕ, suc, ◌+◌, ◌-◌, ◌/◌, ◌%◌, ◌^◌, ◌<◌, ◌≤◌, List, [], ◌∷◌, ◌++◌, length, get_or, set, take, drop, replicate, ap, sym, ◌∙◌, arith, append_assoc, length-append, length-take, length-drop, Option, subst}
+use Rattle.std.proofs.Common.{◌≡◌, ℕ, Bool, suc, ◌+◌, ◌-◌, ◌/◌, ◌%◌, ◌^◌, ◌<◌, ◌≤◌, List, [], ◌∷◌, ◌++◌, length, get_or, set, take, drop, replicate, ap, sym, ◌∙◌, arith, append_assoc, length-append, length-take, length-drop, Option, subst}
 use borrow.Rule.Slice.PartMut.{put_mid}
 use Rattle.std.specs.Fmt.{decimal}
 use Rattle.std.specs.List.{flat_map}
@@ -7,7 +7,7 @@ use Rattle.std.proofs.lemmas.Fmt.{length-decimal-le}
 use Rattle.std.proofs.lemmas.List.Concat.{flat_map-append}
 use Rattle.std.proofs.lemmas.List.{drop_more, drop-append-le, drop-drop, drop-take, drop_at, drop_all, drop-set, take-append-drop, take-append-le, take-replicate, length-replicate}
 use Rattle.tape_core.specs.declared.devices.Watched.{Watched}
-use Rattle.tape_core.specs.Devices.{StoppedIn, Took}
+use Rattle.tape_core.specs.Devices.{Took, TookPart}
 use Rattle.tape_core.specs.Written.{seconds_form, six_digits}
 use Rattle.tape_core.proofs.DeviceLemmas.{stopped-append, stopped_before}
 
@@ -90,7 +90,7 @@ flat_map_cut f xs i x lt is =
     ∙ sym (append_assoc (flat_map f (take i xs)) (f x) (flat_map f (drop (i + 1) xs)))
 
 -- a writer that stopped in one of the pieces
-pub stopped_in_piece : {T X : Type 0} {contents : T → Option (List ℕ)} {a b c : Watched T} (f : X → List ℕ) (xs : List X) (i : ℕ) (x : X) → i < length xs → x ≡ get_or xs i x
-    → Took contents a b (flat_map f (take i xs)) → StoppedIn contents b c (f x) → StoppedIn contents a c (flat_map f xs)
-stopped_in_piece {contents = contents} {a = a} {c = c} f xs i x lt is took stopped =
-    subst (λ t. StoppedIn contents a c t) (sym (flat_map_cut f xs i x lt is)) (stopped_before (flat_map f (drop (i + 1) xs)) (stopped-append took stopped))
+pub stopped_in_piece : {T X : Type 0} {contents : T → Option (List ℕ)} {a b c : Watched T} {failed : Bool} (f : X → List ℕ) (xs : List X) (i : ℕ) (x : X) → i < length xs → x ≡ get_or xs i x
+    → Took contents a b (flat_map f (take i xs)) → TookPart contents b c (f x) failed → TookPart contents a c (flat_map f xs) failed
+stopped_in_piece {contents = contents} {a = a} {c = c} {failed = failed} f xs i x lt is took stopped =
+    subst (λ t. TookPart contents a c t failed) (sym (flat_map_cut f xs i x lt is)) (stopped_before (flat_map f (drop (i + 1) xs)) (stopped-append took stopped))

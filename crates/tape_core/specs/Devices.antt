@@ -1,9 +1,18 @@
--- What readers told and writers took, and whether they have failed (ours).
-use Rattle.std.specs.Prelude.{◌≡◌, ℕ, ◌≤◌, Bool, true, false, List, ◌++◌, take, length, Option, IfSome}
+-- What readers told and writers took, and whether they have failed (ours). The words for what became of a device:
+--
+--   Told           a reader told some bytes at one call, and none only at its end
+--   ToldAll        a reader told all that it had
+--   StopsReading   a reader wasn't read to its end, for this reason
+--   Took           a writer has taken a text whole
+--   TookPart       a writer has taken a beginning of a text, and then it has failed or it hasn't
+--   Puts           a writer was given a text: it took it whole, or a write fault is told and it failed in it
+--
+-- Every function that writes says what it puts, by `Puts`.
+use Rattle.std.specs.Prelude.{◌≡◌, ℕ, ◌≤◌, Bool, true, false, List, [], ◌∷◌, ◌++◌, take, length, Option, IfSome, Result, MatchResult}
 use Rattle.std.specs.Io.KnownBytes.{Appends, Consumes, IsAtEnd}
 use Rattle.tape_core.specs.declared.devices.Watched.{Watched}
 use Rattle.tape_core.specs.declared.fault.Fault.{Fault}
-use Rattle.tape_core.specs.declared.fault.Fault.TheVariants.{NoHeader, BadDelay, BadCount, MultiStream, DelayTooLarge, ChunkTooLong, TooManyChunks, TooManyBytes, ScriptShort, OutOfMemory, ReadFault, WriteFault}
+use Rattle.tape_core.specs.declared.fault.Fault.TheVariants.{OutOfMemory, ReadFault, WriteFault}
 
 -- the reader or the writer inside (ours)
 abbrev pub inner_of : {T : Type 0} → Watched T → T
@@ -34,26 +43,33 @@ pub record ToldAll {T : Type 0} (remaining : T → Option (List ℕ)) (old new :
 abbrev pub StopsReading : Fault → Bool → Type 0
 StopsReading ReadFault failed = failed ≡ true
 StopsReading OutOfMemory failed = failed ≡ false
-StopsReading NoHeader failed = ⊥
-StopsReading (BadDelay _) failed = ⊥
-StopsReading (BadCount _) failed = ⊥
-StopsReading (MultiStream _) failed = ⊥
-StopsReading (DelayTooLarge _) failed = ⊥
-StopsReading (ChunkTooLong _) failed = ⊥
-StopsReading (TooManyChunks _) failed = ⊥
-StopsReading (TooManyBytes _) failed = ⊥
-StopsReading (ScriptShort _) failed = ⊥
-StopsReading WriteFault failed = ⊥
+StopsReading _ failed = ⊥
 
 -- the writer is sound, and has taken this text after what it held (ours)
 pub record Took {T : Type 0} (contents : T → Option (List ℕ)) (old new : Watched T) (text : List ℕ) : Type 0 where
   pub sound : has_failed new ≡ false
   pub grown : Appends (contents (inner_of old)) (contents (inner_of new)) text
 
--- the writer has failed, and has taken a beginning of this text after what it held (ours)
-pub record StoppedIn {T : Type 0} (contents : T → Option (List ℕ)) (old new : Watched T) (text : List ℕ) : Type 0 where
-  pub failed : has_failed new ≡ true
+-- the writer has taken a beginning of this text after what it held, and then it has failed or it hasn't (ours)
+pub record TookPart {T : Type 0} (contents : T → Option (List ℕ)) (old new : Watched T) (text : List ℕ) (failed : Bool) : Type 0 where
+  pub failing : has_failed new ≡ failed
   pub front : List ℕ
   pub rest : List ℕ
   pub cut : text ≡ front ++ rest
   pub grown : Appends (contents (inner_of old)) (contents (inner_of new)) front
+
+-- the writer failed in this text (ours)
+abbrev pub StoppedIn : {T : Type 0} → (T → Option (List ℕ)) → Watched T → Watched T → List ℕ → Type 0
+StoppedIn contents old new text = TookPart contents old new text true
+
+-- the writer was given this text: at Ok it has taken it whole, and at Err that is a write fault, and it has failed in it (ours)
+abbrev pub Puts : {T : Type 0} → (T → Option (List ℕ)) → Watched T → Watched T → List ℕ → Result (Unit {0}) Fault → Type 0
+Puts contents old new text result = MatchResult result
+    (λ done. Took contents old new text)
+    (λ fault. (fault ≡ WriteFault) × TookPart contents old new text true)
+
+-- these pieces, one after another (ours)
+abbrev pub joined : List (List ℕ) → List ℕ
+joined [] = []
+joined (piece ∷ []) = piece
+joined (piece ∷ next ∷ more) = piece ++ joined (next ∷ more)

@@ -2,10 +2,11 @@
 //!
 //! No fault is retried. After a fault the device is left alone: each call here asks for one that hasn't failed.
 
-ghost use Rattle.std.specs.Prelude.{◌≡◌, ◌<◌, ◌≤◌, true, false, [], length, take, vec_len, OnOk, IfOk, IfErr, OnErr, is_ok, is_err};
-ghost use Rattle.tape_core.specs.Devices.{inner_of, has_failed, is_flushed, Told, ToldAll, StopsReading, Took, StoppedIn};
+ghost use Rattle.std.specs.Prelude.{◌≡◌, ◌<◌, ◌≤◌, true, false, [], length, map, take, vec_len, OnOk, IfOk, IfErr, OnErr, is_ok, is_err};
+ghost use Rattle.tape_core.specs.Devices.{inner_of, has_failed, is_flushed, Told, ToldAll, StopsReading, Took, TookPart, Puts, joined};
 
 use crate::fault::Fault;
+use crate::laws::pieces_join;
 use std::alloc::{AllocError, Global};
 use std::io;
 use std::io::{Read, Write};
@@ -69,9 +70,7 @@ impl<W: Write> Watched<W> {
     /// Writes all the bytes. After a write fault a beginning of them has gone out.
     pub fn put(&mut self, bytes: &[u8]) -> Result<(), Fault>
         requires { has_failed self.old ≡ false }
-        ensures ok { OnOk result (Took W.contents self.old self.new bytes.now) }
-        ensures fault { IfErr result (λ fault. fault ≡ Fault.WriteFault) }
-        ensures stopped { OnErr result (StoppedIn W.contents self.old self.new bytes.now) }
+        ensures puts { Puts W.contents self.old self.new bytes.now result }
         ensures unflushed { is_flushed self.new ≡ false }
     {
         self.flushed = false;
@@ -83,12 +82,25 @@ impl<W: Write> Watched<W> {
         Ok(())
     }
 
+    /// Writes all the pieces, one after another. After a write fault a beginning of them has gone out.
+    pub fn put_all(&mut self, pieces: &[&[u8]]) -> Result<(), Fault>
+        requires { has_failed self.old ≡ false }
+        ensures puts { Puts W.contents self.old self.new
+            (joined (map (λ piece. piece.now) pieces.now)) result }
+        ensures unflushed { is_flushed self.new ≡ false }
+    {
+        pieces_join::<W, &[u8]>();
+        self.flushed = false;
+        for piece in pieces {
+            self.put(piece)?;
+        }
+        Ok(())
+    }
+
     /// Flushes what the writer may hold back. It writes nothing of its own.
     pub fn finish(&mut self) -> Result<(), Fault>
         requires { has_failed self.old ≡ false }
-        ensures ok { OnOk result (Took W.contents self.old self.new []) }
-        ensures fault { IfErr result (λ fault. fault ≡ Fault.WriteFault) }
-        ensures stopped { OnErr result (StoppedIn W.contents self.old self.new []) }
+        ensures puts { Puts W.contents self.old self.new [] result }
         ensures flushed { OnOk result (is_flushed self.new ≡ true) }
         ensures unflushed { OnErr result (is_flushed self.new ≡ false) }
     {
@@ -106,7 +118,7 @@ impl<W: Write> Watched<W> {
         ensures taken { IfOk result (λ count. (0 < count) × (count ≤ length piece.now)) }
         ensures ok { IfOk result (λ count. Took W.contents self.old self.new (take count piece.now)) }
         ensures fault { IfErr result (λ fault. fault ≡ Fault.WriteFault) }
-        ensures stopped { OnErr result (StoppedIn W.contents self.old self.new []) }
+        ensures stopped { OnErr result (TookPart W.contents self.old self.new [] true) }
     {
         match self.inner.write(piece) {
             Ok(count) if count > 0 => Ok(count),

@@ -1,8 +1,7 @@
 //! A recording written as its two files.
-ghost use Rattle.std.specs.Prelude.{◌≡◌, ◌≤◌, ◌++◌, [], ◌∷◌, true, false, drop, length, IfErr, OnErr, OnOk};
+ghost use Rattle.std.specs.Prelude.{◌≡◌, ◌≤◌, ◌++◌, [], ◌∷◌, true, false, drop, length, OnOk};
 ghost use Rattle.std.specs.Fmt.{decimal};
-ghost use Rattle.std.specs.List.{flat_map};
-ghost use Rattle.tape_core.specs.Devices.{Took, StoppedIn, has_failed, is_flushed};
+ghost use Rattle.tape_core.specs.Devices.{Puts, has_failed, is_flushed};
 ghost use Rattle.tape_core.specs.Tape.{body};
 ghost use Rattle.tape_core.specs.Written.{script_text, seconds_form, timing_line_of, timing_text};
 
@@ -23,9 +22,7 @@ const LONGEST_LINE: usize = 43;
 #[tactic(auto, unfolding(crate::specs::Written::script_text))]
 pub fn write_script<W: Write>(recording: &Recording, writer: &mut Watched<W>) -> Result<(), Fault>
     requires { has_failed writer.old ≡ false }
-    ensures ok { OnOk result (Took W.contents writer.old writer.new (script_text recording.now)) }
-    ensures fault { IfErr result (λ fault. fault ≡ Fault.WriteFault) }
-    ensures stopped { OnErr result (StoppedIn W.contents writer.old writer.new (script_text recording.now)) }
+    ensures puts { Puts W.contents writer.old writer.new (script_text recording.now) result }
     ensures flushed { OnOk result (is_flushed writer.new ≡ true) }
 {
     writers_join::<W>();
@@ -41,13 +38,14 @@ pub fn write_script<W: Write>(recording: &Recording, writer: &mut Watched<W>) ->
 #[tactic(auto, unfolding(crate::specs::Written::timing_text))]
 pub fn write_timing<W: Write>(recording: &Recording, writer: &mut Watched<W>) -> Result<(), Fault>
     requires { has_failed writer.old ≡ false }
-    ensures ok { OnOk result (Took W.contents writer.old writer.new (timing_text recording.now)) }
-    ensures fault { IfErr result (λ fault. fault ≡ Fault.WriteFault) }
-    ensures stopped { OnErr result (StoppedIn W.contents writer.old writer.new (timing_text recording.now)) }
+    ensures puts { Puts W.contents writer.old writer.new (timing_text recording.now) result }
     ensures flushed { OnOk result (is_flushed writer.new ≡ true) }
 {
     writers_join::<W>();
-    put_lines(recording.chunks(), writer)?;
+    pieces_join::<W, Chunk>();
+    for chunk in recording.chunks() {
+        put_line(chunk, writer)?;
+    }
     writer.finish()?;
     Ok(())
 }
@@ -56,9 +54,7 @@ pub fn write_timing<W: Write>(recording: &Recording, writer: &mut Watched<W>) ->
 /// fault a beginning of them has gone out.
 pub fn put_chunks<W: Write>(chunks: &[Chunk], writer: &mut Watched<W>) -> Result<(), Fault>
     requires { has_failed writer.old ≡ false }
-    ensures ok { OnOk result (Took W.contents writer.old writer.new (body chunks.now)) }
-    ensures fault { IfErr result (λ fault. fault ≡ Fault.WriteFault) }
-    ensures stopped { OnErr result (StoppedIn W.contents writer.old writer.new (body chunks.now)) }
+    ensures { Puts W.contents writer.old writer.new (body chunks.now) result }
 {
     pieces_join::<W, Chunk>();
     for chunk in chunks {
@@ -67,31 +63,14 @@ pub fn put_chunks<W: Write>(chunks: &[Chunk], writer: &mut Watched<W>) -> Result
     Ok(())
 }
 
-/// Writes the timing lines of all chunks.
-fn put_lines<W: Write>(chunks: &[Chunk], writer: &mut Watched<W>) -> Result<(), Fault>
-    requires { has_failed writer.old ≡ false }
-    ensures ok { OnOk result (Took W.contents writer.old writer.new (flat_map timing_line_of chunks.now)) }
-    ensures fault { IfErr result (λ fault. fault ≡ Fault.WriteFault) }
-    ensures stopped { OnErr result (StoppedIn W.contents writer.old writer.new (flat_map timing_line_of chunks.now)) }
-{
-    pieces_join::<W, Chunk>();
-    for chunk in chunks {
-        put_line(chunk, writer)?;
-    }
-    Ok(())
-}
-
 /// Writes one timing line.
 fn put_line<W: Write>(chunk: &Chunk, writer: &mut Watched<W>) -> Result<(), Fault>
     requires { has_failed writer.old ≡ false }
-    ensures ok { OnOk result (Took W.contents writer.old writer.new (timing_line_of chunk.now)) }
-    ensures fault { IfErr result (λ fault. fault ≡ Fault.WriteFault) }
-    ensures stopped { OnErr result (StoppedIn W.contents writer.old writer.new (timing_line_of chunk.now)) }
+    ensures { Puts W.contents writer.old writer.new (timing_line_of chunk.now) result }
 {
     let mut line = [0; LONGEST_LINE];
     let start = write_line(chunk.delay, chunk.bytes.len() as u64, &mut line);
-    writer.put(&line[start..])?;
-    Ok(())
+    writer.put(&line[start..])
 }
 
 /// Writes a timing line so that it ends with the buffer, and returns where it starts.

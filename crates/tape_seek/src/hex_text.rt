@@ -1,7 +1,7 @@
 //! Bytes as hexadecimal text.
-ghost use Rattle.std.specs.Prelude.{◌≡◌, ◌≤◌, ◌*◌, false, OnOk, IfErr, OnErr, length};
+ghost use Rattle.std.specs.Prelude.{◌≡◌, ◌≤◌, ◌*◌, false, length};
 ghost use Rattle.hex.specs.Hex.{encode_lower};
-ghost use Rattle.tape_core.specs.Devices.{has_failed, Took, StoppedIn};
+ghost use Rattle.tape_core.specs.Devices.{Puts, has_failed};
 
 use std::io::Write;
 use tape_core::laws::writers_join;
@@ -14,9 +14,7 @@ const PIECE: usize = 512;
 /// the text has gone out.
 pub fn put_hex<W: Write>(bytes: &[u8], writer: &mut Watched<W>) -> Result<(), Fault>
     requires { has_failed writer.old ≡ false }
-    ensures ok { OnOk result (Took W.contents writer.old writer.new (encode_lower bytes.now)) }
-    ensures fault { IfErr result (λ fault. fault ≡ Fault.WriteFault) }
-    ensures stopped { OnErr result (StoppedIn W.contents writer.old writer.new (encode_lower bytes.now)) }
+    ensures { Puts W.contents writer.old writer.new (encode_lower bytes.now) result }
 {
     writers_join::<W>();
     for piece in bytes.chunks(PIECE) {
@@ -29,9 +27,7 @@ pub fn put_hex<W: Write>(bytes: &[u8], writer: &mut Watched<W>) -> Result<(), Fa
 fn put_piece<W: Write>(piece: &[u8], writer: &mut Watched<W>) -> Result<(), Fault>
     requires short { length piece.now ≤ PIECE }
     requires sound { has_failed writer.old ≡ false }
-    ensures ok { OnOk result (Took W.contents writer.old writer.new (encode_lower piece.now)) }
-    ensures fault { IfErr result (λ fault. fault ≡ Fault.WriteFault) }
-    ensures stopped { OnErr result (StoppedIn W.contents writer.old writer.new (encode_lower piece.now)) }
+    ensures { Puts W.contents writer.old writer.new (encode_lower piece.now) result }
 {
     let mut digits = [0u8; 2 * PIECE];
     let digits = &mut digits[..2 * piece.len()];

@@ -1,7 +1,7 @@
 //! Edits written as request lines.
-ghost use Rattle.std.specs.Prelude.{◌≡◌, ◌∷◌, true, false, map, OnOk, IfErr, OnErr};
+ghost use Rattle.std.specs.Prelude.{◌≡◌, ◌∷◌, true, false, map, OnOk};
 ghost use Rattle.std.specs.List.{flat_map, join_with_byte};
-ghost use Rattle.tape_core.specs.Devices.{has_failed, is_flushed, Took, StoppedIn};
+ghost use Rattle.tape_core.specs.Devices.{has_failed, is_flushed, Puts};
 ghost use Rattle.tape_seek.specs.Fields.{field_text, spaced};
 ghost use Rattle.tape_seek.specs.WrittenLog.{edit_line, log_line, log_text};
 
@@ -27,9 +27,7 @@ enum Field<'a> {
 #[tactic(auto, unfolding(crate::specs::WrittenLog::log_text))]
 pub fn write_log<W: Write>(edits: &[Edit], writer: &mut Watched<W>) -> Result<(), Fault>
     requires { has_failed writer.old ≡ false }
-    ensures ok { OnOk result (Took W.contents writer.old writer.new (log_text edits.now)) }
-    ensures fault { IfErr result (λ fault. fault ≡ Fault.WriteFault) }
-    ensures stopped { OnErr result (StoppedIn W.contents writer.old writer.new (log_text edits.now)) }
+    ensures puts { Puts W.contents writer.old writer.new (log_text edits.now) result }
     ensures flushed { OnOk result (is_flushed writer.new ≡ true) }
 {
     writers_join::<W>();
@@ -41,9 +39,7 @@ pub fn write_log<W: Write>(edits: &[Edit], writer: &mut Watched<W>) -> Result<()
 /// Writes the lines of all edits.
 fn put_lines<W: Write>(edits: &[Edit], writer: &mut Watched<W>) -> Result<(), Fault>
     requires { has_failed writer.old ≡ false }
-    ensures ok { OnOk result (Took W.contents writer.old writer.new (flat_map log_line edits.now)) }
-    ensures fault { IfErr result (λ fault. fault ≡ Fault.WriteFault) }
-    ensures stopped { OnErr result (StoppedIn W.contents writer.old writer.new (flat_map log_line edits.now)) }
+    ensures { Puts W.contents writer.old writer.new (flat_map log_line edits.now) result }
 {
     pieces_join::<W, Edit>();
     for edit in edits {
@@ -52,12 +48,10 @@ fn put_lines<W: Write>(edits: &[Edit], writer: &mut Watched<W>) -> Result<(), Fa
     Ok(())
 }
 
-/// Writes one line with its LF.
+/// Writes an edit's line with its LF.
 fn put_line<W: Write>(edit: &Edit, writer: &mut Watched<W>) -> Result<(), Fault>
     requires { has_failed writer.old ≡ false }
-    ensures ok { OnOk result (Took W.contents writer.old writer.new (log_line edit.now)) }
-    ensures fault { IfErr result (λ fault. fault ≡ Fault.WriteFault) }
-    ensures stopped { OnErr result (StoppedIn W.contents writer.old writer.new (log_line edit.now)) }
+    ensures { Puts W.contents writer.old writer.new (log_line edit.now) result }
 {
     writers_join::<W>();
     put_edit(edit, writer)?;
@@ -69,9 +63,7 @@ fn put_line<W: Write>(edit: &Edit, writer: &mut Watched<W>) -> Result<(), Fault>
 #[tactic(auto, unfolding(crate::specs::WrittenLog::edit_line))]
 fn put_edit<W: Write>(edit: &Edit, writer: &mut Watched<W>) -> Result<(), Fault>
     requires { has_failed writer.old ≡ false }
-    ensures ok { OnOk result (Took W.contents writer.old writer.new (edit_line edit.now)) }
-    ensures fault { IfErr result (λ fault. fault ≡ Fault.WriteFault) }
-    ensures stopped { OnErr result (StoppedIn W.contents writer.old writer.new (edit_line edit.now)) }
+    ensures { Puts W.contents writer.old writer.new (edit_line edit.now) result }
 {
     match edit {
         Edit::Insert { at, delay, bytes } => {
@@ -107,10 +99,8 @@ fn put_words<W: Write>(
     writer: &mut Watched<W>,
 ) -> Result<(), Fault>
     requires { has_failed writer.old ≡ false }
-    ensures ok { OnOk result (Took W.contents writer.old writer.new
-        (join_with_byte 32 (word.now ∷ map field_text fields.now))) }
-    ensures fault { IfErr result (λ fault. fault ≡ Fault.WriteFault) }
-    ensures stopped { OnErr result (StoppedIn W.contents writer.old writer.new (join_with_byte 32 (word.now ∷ map field_text fields.now))) }
+    ensures { Puts W.contents writer.old writer.new
+        (join_with_byte 32 (word.now ∷ map field_text fields.now)) result }
 {
     writers_join::<W>();
     writer.put(word)?;
@@ -121,9 +111,7 @@ fn put_words<W: Write>(
 /// Writes the fields, a space before each.
 fn put_fields<W: Write>(fields: &[Field<'_>], writer: &mut Watched<W>) -> Result<(), Fault>
     requires { has_failed writer.old ≡ false }
-    ensures ok { OnOk result (Took W.contents writer.old writer.new (flat_map spaced fields.now)) }
-    ensures fault { IfErr result (λ fault. fault ≡ Fault.WriteFault) }
-    ensures stopped { OnErr result (StoppedIn W.contents writer.old writer.new (flat_map spaced fields.now)) }
+    ensures { Puts W.contents writer.old writer.new (flat_map spaced fields.now) result }
 {
     pieces_join::<W, Field<'_>>();
     for field in fields {
@@ -135,27 +123,17 @@ fn put_fields<W: Write>(fields: &[Field<'_>], writer: &mut Watched<W>) -> Result
 /// Writes a space and a field.
 fn put_field<W: Write>(field: Field<'_>, writer: &mut Watched<W>) -> Result<(), Fault>
     requires { has_failed writer.old ≡ false }
-    ensures ok { OnOk result (Took W.contents writer.old writer.new (spaced field.entry)) }
-    ensures fault { IfErr result (λ fault. fault ≡ Fault.WriteFault) }
-    ensures stopped { OnErr result (StoppedIn W.contents writer.old writer.new (spaced field.entry)) }
+    ensures { Puts W.contents writer.old writer.new (spaced field.entry) result }
 {
     writers_join::<W>();
-    writer.put(b" ")?;
-    put_text(field, writer)?;
-    Ok(())
-}
-
-/// Writes a field.
-fn put_text<W: Write>(field: Field<'_>, writer: &mut Watched<W>) -> Result<(), Fault>
-    requires { has_failed writer.old ≡ false }
-    ensures ok { OnOk result (Took W.contents writer.old writer.new (field_text field.entry)) }
-    ensures fault { IfErr result (λ fault. fault ≡ Fault.WriteFault) }
-    ensures stopped { OnErr result (StoppedIn W.contents writer.old writer.new (field_text field.entry)) }
-{
     match field {
-        Field::Place(place) => writer.put(Buffer::new().format(place).as_bytes()),
-        Field::Seconds(us) => writer.put(seconds_text(us).as_bytes()),
-        Field::Bytes([]) => writer.put(b"-"),
-        Field::Bytes(bytes) => put_hex(bytes, writer),
+        Field::Place(place) => writer.put_all(&[b" ", Buffer::new().format(place).as_bytes()]),
+        Field::Seconds(us) => writer.put_all(&[b" ", seconds_text(us).as_bytes()]),
+        Field::Bytes([]) => writer.put(b" -"),
+        Field::Bytes(bytes) => {
+            writer.put(b" ")?;
+            put_hex(bytes, writer)?;
+            Ok(())
+        }
     }
 }

@@ -1,4 +1,4 @@
-use Rattle.std.proofs.Common.{◌≡◌, ◌+◌, ap, ◌∙◌, subst, arith}
+use Rattle.std.proofs.Common.{◌≡◌, ◌+◌, true, ap, ◌∙◌, subst, arith}
 use Rattle.std.proofs.lemmas.Result.{err_from_is_err_and}
 use Rattle.tape_core.specs.Devices.{Took}
 use Rattle.tape_core.specs.Due.{due_time}
@@ -27,7 +27,7 @@ returns-in_err-put_change-clause-fault g c =
     kept.going.profile kept.going.recording on kept.rows (c.as_slice.ensures.value ∙ c.in_ok-lines.ensures.changed) in
     let line = change_line index c.due_time-due.result c.as_slice.result.now in
     rw (p.1, p.2)
-    (c.writers_join.ensures.within _ _ _ _ _ _ _ (lines_cut profile tape c.args.start c.args.end index line (omega arith) (omega arith) is) c.in_err-put_change.ensures.stopped kept.took)
+    (c.writers_join.ensures.within _ _ _ _ _ _ _ true (lines_cut profile tape c.args.start c.args.end index line (omega arith) (omega arith) is) c.in_err-put_change.ensures.1 kept.took)
 
 pub loop-index-preserved : goal.loop-index-preserved
 loop-index-preserved g c =
@@ -46,5 +46,5 @@ loop-index-preserved g c =
           ∙ ap (λ (t : Tape). rows_after profile t (index + 1)) kept.going.recording;
       going = after;
       took = subst (λ t. Took g.W.Write.contents c.args.writer.now c.put_change.new.writer t) (lines_more profile tape c.args.start index line (omega arith) is)
-          (c.writers_join.ensures.both _ _ _ _ _ c.in_ok-put_change.ensures.ok kept.took);
+          (c.writers_join.ensures.both _ _ _ _ _ c.in_ok-put_change.ensures kept.took);
     }

@@ -1,7 +1,7 @@
-use Rattle.std.proofs.Common.{◌≡◌, ◌+◌, ◌-◌, take, ap, ap₂, sym, ◌∙◌, subst, arith}
+use Rattle.std.proofs.Common.{◌≡◌, ◌+◌, ◌-◌, take, true, ap, ap₂, sym, ◌∙◌, subst, arith}
 use Rattle.std.proofs.lemmas.Result.{err_from_is_err_and}
 use Rattle.vt_screen.specs.Cells.{row_at}
-use Rattle.tape_core.specs.Devices.{Took, StoppedIn}
+use Rattle.tape_core.specs.Devices.{Took, TookPart}
 use Rattle.screen_print.specs.EscapedText.{first_pen, line_text, pen_after_line, lines_text, pen_after_lines}
 use Rattle.screen_print.proofs.EscapedLemmas.{no_lines_text, no_lines_pen, lines_text_more, pen_after_lines_more, lines_text_around, all_lines_text}
 use Rattle.screen_print.proofs.escaped_print.put_lines.Goals as goal
@@ -12,8 +12,8 @@ loop-line-init g c = record {
   pen = c.first-pen.ensures ∙ sym (no_lines_pen first_pen);
 }
 
-pub returns-in_err-put-clause-stopped : goal.returns-in_err-put-clause-stopped
-returns-in_err-put-clause-stopped g c =
+pub returns-in_err-put : goal.returns-in_err-put
+returns-in_err-put g c =
     let rows = c.args.screen.now.picture.rows in
     let line = c.loop-line.line in
     let before = take (line - 1) rows in
@@ -21,12 +21,15 @@ returns-in_err-put-clause-stopped g c =
     let around = lines_text_around first_pen rows line (omega arith) (omega arith) in
     let text : c.as_slice.result.now ≡ line_text (pen_after_lines first_pen before) line (row_at rows line) =
     c.as_slice.ensures.value ∙ c.line_text.ensures.text ∙ ap₂ (λ pen row. line_text pen line row) c.loop-line.invariant.pen c.row.ensures.value in
-    let stopped : StoppedIn g.W.Write.contents c.loop-line.writer c.put.new.self (line_text (pen_after_lines first_pen before) line (row_at rows line)) =
-    subst (λ t. StoppedIn g.W.Write.contents c.loop-line.writer c.put.new.self t) text c.in_err-put.ensures.stopped in
+    let stopped : TookPart g.W.Write.contents c.loop-line.writer c.put.new.self (line_text (pen_after_lines first_pen before) line (row_at rows line)) true =
+    subst (λ t. TookPart g.W.Write.contents c.loop-line.writer c.put.new.self t true) text c.in_err-put.ensures.puts.1 in
     let w = err_from_is_err_and c.from_residual.result c.from_residual.ensures.1 in
-    rw w.1 (c.writers_join.ensures.within c.args.writer.now c.loop-line.writer c.put.new.self (lines_text first_pen 1 rows)
-    (lines_text first_pen 1 before) (line_text (pen_after_lines first_pen before) line (row_at rows line)) around.0
-    around.1 stopped c.loop-line.invariant.took)
+    rw (w.1, w.2) (
+      c.in_err-put.ensures.puts.0,
+      c.writers_join.ensures.within c.args.writer.now c.loop-line.writer c.put.new.self (lines_text first_pen 1 rows)
+          (lines_text first_pen 1 before) (line_text (pen_after_lines first_pen before) line (row_at rows line)) around.0
+          true around.1 stopped c.loop-line.invariant.took,
+    )
 
 pub loop-line-preserved : goal.loop-line-preserved
 loop-line-preserved g c =
@@ -38,7 +41,7 @@ loop-line-preserved g c =
     let text : c.as_slice.result.now ≡ line_text (pen_after_lines first_pen before) line (row_at rows line) =
     c.as_slice.ensures.value ∙ c.line_text.ensures.text ∙ ap₂ (λ pen row. line_text pen line row) c.loop-line.invariant.pen c.row.ensures.value in
     let took : Took g.W.Write.contents c.loop-line.writer c.put.new.self (line_text (pen_after_lines first_pen before) line (row_at rows line)) =
-    subst (λ t. Took g.W.Write.contents c.loop-line.writer c.put.new.self t) text c.in_ok-put.ensures.ok in
+    subst (λ t. Took g.W.Write.contents c.loop-line.writer c.put.new.self t) text c.in_ok-put.ensures.puts in
     record {
       took = subst (λ n. Took g.W.Write.contents c.args.writer.now c.put.new.self (lines_text first_pen 1 (take n rows))) same
           (subst (λ t. Took g.W.Write.contents c.args.writer.now c.put.new.self t) (sym (lines_text_more first_pen rows line (omega arith) (omega arith)))
@@ -48,8 +51,8 @@ loop-line-preserved g c =
           ∙ sym (pen_after_lines_more first_pen rows line (omega arith) (omega arith)) ∙ ap (λ n. pen_after_lines first_pen (take n rows)) same;
     }
 
-pub returns-clause-ok : goal.returns-clause-ok
-returns-clause-ok g c =
+pub returns : goal.returns
+returns g c =
     let rows = c.args.screen.now.picture.rows in
     let last : c.loop-line.line - 1 ≡ 24 = omega arith in
     subst (λ t. Took g.W.Write.contents c.args.writer.now c.loop-line.writer t)

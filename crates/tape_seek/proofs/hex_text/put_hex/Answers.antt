@@ -1,4 +1,4 @@
-use Rattle.std.proofs.Common.{◌∙◌, rules}
+use Rattle.std.proofs.Common.{true, ◌∙◌, rules}
 use Rattle.std.proofs.lemmas.List.{nil_from_length}
 use Rattle.std.proofs.lemmas.Result.{err_from_is_err_and}
 use Rattle.tape_seek.proofs.HexLemmas.{hex_none, hex_more, hex_all, hex_around}
@@ -19,15 +19,15 @@ loop-piece-preserved g c =
       tt,
       steps.0 ∙ c.loop-piece.invariant.2,
       hex_more c.in-Some.piece.now _ steps.1.0 c.loop-piece.invariant.3
-          (c.writers_join.ensures.both _ _ _ _ _ c.in_ok-put_piece.ensures.ok c.loop-piece.invariant.3.took),
+          (c.writers_join.ensures.both _ _ _ _ _ c.in_ok-put_piece.ensures c.loop-piece.invariant.3.took),
     )
 
-pub returns-in_err-put_piece-clause-stopped : goal.returns-in_err-put_piece-clause-stopped
-returns-in_err-put_piece-clause-stopped g c =
+pub returns-in_err-put_piece : goal.returns-in_err-put_piece
+returns-in_err-put_piece g c =
     let p = err_from_is_err_and c.from_residual.result c.from_residual.ensures.1 in
     let before = c.loop-piece.invariant.3 in
-    rw p.1
-    (c.writers_join.ensures.within _ _ _ _ _ _ _ (hex_around c.in-Some.piece.now _ c.in-Some.ensures.steps.1.0 before) c.in_err-put_piece.ensures.stopped before.took)
+    rw (p.1, p.2)
+    (c.in_err-put_piece.ensures.0, c.writers_join.ensures.within _ _ _ _ _ _ _ true (hex_around c.in-Some.piece.now _ c.in-Some.ensures.steps.1.0 before) c.in_err-put_piece.ensures.1 before.took)
 
-pub returns-clause-ok : goal.returns-clause-ok
-returns-clause-ok g c = hex_all (nil_from_length _ c.in-None.ensures.steps.1.0) c.loop-piece.invariant.3
+pub returns : goal.returns
+returns g c = hex_all (nil_from_length _ c.in-None.ensures.steps.1.0) c.loop-piece.invariant.3

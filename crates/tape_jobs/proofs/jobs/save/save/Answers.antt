@@ -3,4 +3,5 @@ use Rattle.tape_jobs.proofs.jobs.save.save.Goals as goal
 
 pub returns-in_default-clause-fault : goal.returns-in_default-clause-fault
 returns-in_default-clause-fault g c =
-    inl (refl, inl (record { front = []; rest = _; cut = refl; took = c.writers_join.ensures.nothing _ c.requires.out }, refl))
+    let none = c.writers_join.ensures.nothing c.args.out.now c.requires.out in
+    inl (refl, inl (record { failing = none.sound; front = []; rest = _; cut = refl; grown = none.grown }, refl))

@@ -1,0 +1,15 @@
+use Rattle.std.proofs.Common.{true, ap, inr, rules}
+use Rattle.std.proofs.lemmas.Result.{err_from_is_err_and}
+use Rattle.tape_core.specs.Devices.{Took}
+use Rattle.tape_core.specs.Text.{lines_of}
+use Rattle.tape_jobs.specs.Requests.{started}
+use Rattle.tape_jobs.specs.Session.{answered}
+use Rattle.tape_jobs.specs.declared.job.JobFault.TheVariants.{File}
+use Rattle.tape_jobs.proofs.jobs.session.write_answers.Goals as goal
+
+pub returns-in_err-finish-clause-fault : goal.returns-in_err-finish-clause-fault
+returns-in_err-finish-clause-fault g c =
+    let p = err_from_is_err_and c.from_residual-in_err-finish.result c.from_residual-in_err-finish.ensures.1 in
+    let lines = lines_of c.args.requests.now in
+    let took : Took g.O.Write.contents c.args.out.now c.answer_all.new.out (answered (started c.args.profile c.args.recording) lines) = search rules in
+    rw (p.1, p.2) (inr (ap File c.in_err-finish.ensures.puts.0, c.writers_join.ensures.at_flush _ _ _ _ true c.in_err-finish.ensures.puts.1 took))
