@@ -23,14 +23,16 @@ pub took_none : {T : Type 0} (contents : T → Option (List ℕ)) (a : Watched T
 took_none contents a sound = record { sound = sound; grown = appends-none (contents (inner_of a)) }
 
 -- one text after another
-pub took-append : {T : Type 0} {contents : T → Option (List ℕ)} {a b c : Watched T} {x y : List ℕ} → Took contents a b x → Took contents b c y → Took contents a c (x ++ y)
+pub took-append : {T : Type 0} {contents : T → Option (List ℕ)} {a b c : Watched T} {x y : List ℕ} → Took contents a b x
+    → Took contents b c y → Took contents a c (x ++ y)
 took-append {contents = contents} {a = a} {b = b} {c = c} {x = x} {y = y} h k = record {
   sound = k.sound;
   grown = appends-append (contents (inner_of a)) (contents (inner_of b)) (contents (inner_of c)) x y h.grown k.grown;
 }
 
 -- one text after another, stopped in the second
-pub stopped-append : {T : Type 0} {contents : T → Option (List ℕ)} {a b c : Watched T} {x y : List ℕ} {failed : Bool} → Took contents a b x → TookPart contents b c y failed → TookPart contents a c (x ++ y) failed
+pub stopped-append : {T : Type 0} {contents : T → Option (List ℕ)} {a b c : Watched T} {x y : List ℕ} {failed : Bool}
+    → Took contents a b x → TookPart contents b c y failed → TookPart contents a c (x ++ y) failed
 stopped-append {contents = contents} {a = a} {b = b} {c = c} {x = x} {y = y} h k = record {
   failing = k.failing;
   front = x ++ k.front;
@@ -40,7 +42,8 @@ stopped-append {contents = contents} {a = a} {b = b} {c = c} {x = x} {y = y} h k
 }
 
 -- stopped in the first of two texts
-pub stopped_before : {T : Type 0} {contents : T → Option (List ℕ)} {a b : Watched T} {x : List ℕ} {failed : Bool} (y : List ℕ) → TookPart contents a b x failed → TookPart contents a b (x ++ y) failed
+pub stopped_before : {T : Type 0} {contents : T → Option (List ℕ)} {a b : Watched T} {x : List ℕ} {failed : Bool} (y : List ℕ)
+    → TookPart contents a b x failed → TookPart contents a b (x ++ y) failed
 stopped_before {x = x} y h = record {
   failing = h.failing;
   front = h.front;
@@ -50,12 +53,14 @@ stopped_before {x = x} y h = record {
 }
 
 -- a text, and then a flush
-pub took_flushed : {T : Type 0} {contents : T → Option (List ℕ)} {a b c : Watched T} {x : List ℕ} → Took contents a b x → Took contents b c [] → Took contents a c x
+pub took_flushed : {T : Type 0} {contents : T → Option (List ℕ)} {a b c : Watched T} {x : List ℕ} → Took contents a b x
+    → Took contents b c [] → Took contents a c x
 took_flushed {contents = contents} {a = a} {c = c} {x = x} h k =
     subst (λ t. Took contents a c t) (append-nil x) (took-append h k)
 
 -- a text, and then a flush that failed
-pub stopped_flushing : {T : Type 0} {contents : T → Option (List ℕ)} {a b c : Watched T} {x : List ℕ} {failed : Bool} → Took contents a b x → TookPart contents b c [] failed → TookPart contents a c x failed
+pub stopped_flushing : {T : Type 0} {contents : T → Option (List ℕ)} {a b c : Watched T} {x : List ℕ} {failed : Bool}
+    → Took contents a b x → TookPart contents b c [] failed → TookPart contents a c x failed
 stopped_flushing {contents = contents} {a = a} {c = c} {x = x} {failed = failed} h k =
     subst (λ t. TookPart contents a c t failed) (append-nil x) (stopped-append h k)
 
@@ -66,7 +71,8 @@ pub record PutBefore {T : Type 0} (contents : T → Option (List ℕ)) (old new 
   pub took : Took contents old new gone
 
 -- one more piece
-pub put_more : {T : Type 0} {contents : T → Option (List ℕ)} {a b c : Watched T} {text rest : List ℕ} (n : ℕ) → PutBefore contents a b text rest → Took contents b c (take n rest) → PutBefore contents a c text (drop n rest)
+pub put_more : {T : Type 0} {contents : T → Option (List ℕ)} {a b c : Watched T} {text rest : List ℕ} (n : ℕ)
+    → PutBefore contents a b text rest → Took contents b c (take n rest) → PutBefore contents a c text (drop n rest)
 put_more {rest = rest} n h k = record {
   gone = h.gone ++ take n rest;
   cut = h.cut ∙ ap (λ t. h.gone ++ t) (sym (take-append-drop n rest)) ∙ sym (append_assoc h.gone (take n rest) (drop n rest));
@@ -74,7 +80,8 @@ put_more {rest = rest} n h k = record {
 }
 
 -- stopped before a piece or in it
-pub put_stopped : {T : Type 0} {contents : T → Option (List ℕ)} {a b c : Watched T} {text rest : List ℕ} → PutBefore contents a b text rest → TookPart contents b c [] true → TookPart contents a c text true
+pub put_stopped : {T : Type 0} {contents : T → Option (List ℕ)} {a b c : Watched T} {text rest : List ℕ}
+    → PutBefore contents a b text rest → TookPart contents b c [] true → TookPart contents a c text true
 put_stopped {contents = contents} {a = a} {c = c} {rest = rest} h k =
     subst (λ t. TookPart contents a c t true) (sym h.cut) (stopped_before rest (stopped_flushing h.took k))
 

@@ -8,7 +8,7 @@ use Rattle.std.proofs.lemmas.List.Sums.{sum_by-take-le, length-filter}
 use Rattle.std.proofs.lemmas.List.Sorted.{IsNonDecreasingBy-from_default}
 use Rattle.tape_core.specs.declared.chunk.Chunk.{Chunk}
 use Rattle.tape_core.specs.Tape.{body}
-use Rattle.tape_core.specs.Due.{due_time, due_count, due, first, places, bytes_at}
+use Rattle.tape_core.specs.Due.{due_time, due_count, due, first, indices, bytes_at}
 use Rattle.tape_core.specs.Kept.{AreDueTimes}
 
 -- a test that passes up to a place and fails from there on keeps the front
@@ -48,7 +48,7 @@ counted chunks dues t n are le point =
     le-leb (due_time chunks k) t (omega (arith, are.one_each, are.times k (omega (arith, are.one_each)), point.0 k 0 l here)))
     (λ k l h. let here : n ≤ k = omega arith in
     lt-leb (due_time chunks k) t (omega (arith, are.one_each, are.times k (omega (arith, are.one_each)), point.1 k 0 here (omega (arith, are.one_each))))) in
-    sym (sym (length-filter (λ i. nat_le (due_time chunks i) t) (places chunks)) ∙ ap length here ∙ length_range 0 n)
+    sym (sym (length-filter (λ i. nat_le (due_time chunks i) t) (indices chunks)) ∙ ap length here ∙ length_range 0 n)
 
 -- the first m chunks, one place after another
 first_more : (d : List Chunk) (m : ℕ) → body (take 1 d) ++ body (take m (drop 1 d)) ≡ body (take (suc m) d)
@@ -69,7 +69,8 @@ module _ (p : ℕ → Bool) (rising : (i j : ℕ) → i ≤ j → p j ≡ true �
   fails_behind : (a n : ℕ) → p a ≡ false → filter p (range_with_len (a + 1) n) ≡ []
   fails_behind a n is = filter_front p (a + 1) n 0 (omega arith) (λ k low high. absurd (omega arith)) (λ k low high. fails_from a k is (omega arith) (p k) refl)
 
-  rising_step : (a n : ℕ) (t : Bool) → p a ≡ t → filter p (range_with_len (a + 1) n) ≡ range_with_len (a + 1) (length (filter p (range_with_len (a + 1) n)))
+  rising_step : (a n : ℕ) (t : Bool) → p a ≡ t
+      → filter p (range_with_len (a + 1) n) ≡ range_with_len (a + 1) (length (filter p (range_with_len (a + 1) n)))
       → cond t (a ∷ filter p (range_with_len (a + 1) n)) (filter p (range_with_len (a + 1) n)) ≡ range_with_len a (length (cond t (a ∷ filter p (range_with_len (a + 1) n)) (filter p (range_with_len (a + 1) n))))
   rising_step a n true is more = ap (λ ks. a ∷ ks) more
   rising_step a n false is more = rw (fails_behind a n is) refl
@@ -107,7 +108,7 @@ pub due_below : (chunks : List Chunk) (t i : ℕ) → i < length chunks → (due
 unfolding due_count
 due_below chunks t i lt =
     let at = below_front (is_due chunks t) (is_due_before chunks t) 0 (length chunks) i (omega arith) (omega arith) in
-    let count = length-filter (is_due chunks t) (places chunks) in
+    let count = length-filter (is_due chunks t) (indices chunks) in
     (λ le. omega (arith, at.0 (le-leb (due_time chunks i) t le), count), λ below. leb-true (due_time chunks i) t (at.1 (omega (arith, count))))
 
 -- the bytes due are those of the first chunks
@@ -115,5 +116,5 @@ pub due_first : (chunks : List Chunk) (t : ℕ) → due chunks t ≡ first chunk
 unfolding due due_count
 due_first chunks t =
     ap (flat_map (bytes_at chunks)) (rising_front (is_due chunks t) (is_due_before chunks t) 0 (length chunks))
-    ∙ front_bytes chunks 0 (length (filter (is_due chunks t) (places chunks)))
-    ∙ ap (λ n. body (take n chunks)) (length-filter (is_due chunks t) (places chunks))
+    ∙ front_bytes chunks 0 (length (filter (is_due chunks t) (indices chunks)))
+    ∙ ap (λ n. body (take n chunks)) (length-filter (is_due chunks t) (indices chunks))

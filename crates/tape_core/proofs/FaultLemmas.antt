@@ -4,8 +4,8 @@ use Rattle.std.specs.List.{AllPass}
 use Rattle.std.proofs.lemmas.Bool.{le-ltb, lt-ltb, ltb-true}
 use Rattle.std.proofs.lemmas.Bool.Decides.{nat_tests}
 use Rattle.tape_core.specs.declared.timing.Entry.{Entry}
-use Rattle.tape_core.specs.declared.timing.LineFault.{LineFault}
-use Rattle.tape_core.specs.declared.timing.LineFault.TheVariants as line
+use Rattle.tape_core.specs.declared.timing.EntryFault.{EntryFault}
+use Rattle.tape_core.specs.declared.timing.EntryFault.TheVariants as line
 use Rattle.tape_core.specs.Tape.{longest_chunk, longest_delay}
 use Rattle.tape_core.specs.Text.{NumberText, fields, is_blank, number_of}
 use Rattle.tape_core.specs.Timing.{DelayText, IsFaulty, IsWithin, TimingLine, begins_with_letter, counted, delay_of, delayed, entry_of, entry_of_fields, only_count}
@@ -24,7 +24,8 @@ not_above : (a b : ℕ) → nat_lt a b ≡ false → b ≤ a
 not_above a b h = grind (arith, nat_tests)
 
 limited : (delay count : ℕ) (e : Entry) (s t : Bool) → nat_lt longest_delay delay ≡ s → nat_lt longest_chunk count ≡ t
-    → cond s (Err line.DelayTooLarge) (cond t (Err line.ChunkTooLong) (Ok (Some (record { delay = delay; count = count })))) ≡ Ok (Some e) → IsWithin e
+    → cond s (Err line.DelayTooLarge) (cond t (Err line.ChunkTooLong) (Ok (Some (record { delay = delay; count = count })))) ≡ Ok (Some e)
+    → IsWithin e
 limited delay count e true t large long h = absurd (cc)
 limited delay count e false true large long h = absurd (cc)
 limited delay count e false false large long h =
@@ -54,9 +55,10 @@ parts first (second ∷ []) e d n = record { first = first; second = second; are
 parts first (second ∷ more ∷ rest) e d n = absurd (cc)
 
 -- a faulty line has the fault told
-module _ (text first : List ℕ) (rest : List (List ℕ)) (fault : LineFault) (are : fields text ≡ first ∷ rest) where
+module _ (text first : List ℕ) (rest : List (List ℕ)) (fault : EntryFault) (are : fields text ≡ first ∷ rest) where
   large_or_long : (delay count : ℕ) (s t : Bool) → nat_lt longest_delay delay ≡ s → nat_lt longest_chunk count ≡ t → TimingLine text delay count
-      → cond {A = Result (Option Entry) LineFault} s (Err line.DelayTooLarge) (cond t (Err line.ChunkTooLong) (Ok (Some (record { delay = delay; count = count })))) ≡ Err fault → IsFaulty text fault
+      → cond {A = Result (Option Entry) EntryFault} s (Err line.DelayTooLarge) (cond t (Err line.ChunkTooLong) (Ok (Some (record { delay = delay; count = count })))) ≡ Err fault
+      → IsFaulty text fault
   large_or_long delay count true t large long l h =
       let same : line.DelayTooLarge ≡ fault = cc in
       subst (IsFaulty text) same (delay, count, l, ltb-true longest_delay delay large)
@@ -88,15 +90,17 @@ module _ (text first : List ℕ) (rest : List (List ℕ)) (fault : LineFault) (a
       subst (IsFaulty text) same (first, rest, are, plain, λ delay spelled. let some = (delay_read first delay spelled).read in cc)
   bad_delay (Some delay) plain is h = bad_count delay (only_count rest) is refl h
 
-  named : (t : Bool) → begins_with_letter first ≡ t → cond {A = Result (Option Entry) LineFault} t (Err line.MultiStream) (delayed (delay_of first) (only_count rest)) ≡ Err fault → IsFaulty text fault
+  named : (t : Bool) → begins_with_letter first ≡ t
+      → cond {A = Result (Option Entry) EntryFault} t (Err line.MultiStream) (delayed (delay_of first) (only_count rest)) ≡ Err fault
+      → IsFaulty text fault
   named true is h = let same : line.MultiStream ≡ fault = cc in subst (IsFaulty text) same (first, rest, are, is)
   named false is h = bad_delay (delay_of first) is refl h
 
-faulty_fields : (text : List ℕ) (fault : LineFault) (fs : List (List ℕ)) → fields text ≡ fs → entry_of_fields fs ≡ Err fault → IsFaulty text fault
+faulty_fields : (text : List ℕ) (fault : EntryFault) (fs : List (List ℕ)) → fields text ≡ fs → entry_of_fields fs ≡ Err fault → IsFaulty text fault
 faulty_fields text fault [] are h = absurd (cc)
 faulty_fields text fault (first ∷ rest) are h = named text first rest fault are (begins_with_letter first) refl h
 
-pub faulty_line : (text : List ℕ) (fault : LineFault) → entry_of text ≡ Err fault → IsFaulty text fault
+pub faulty_line : (text : List ℕ) (fault : EntryFault) → entry_of text ≡ Err fault → IsFaulty text fault
 faulty_line text fault h = faulty_fields text fault (fields text) refl h
 
 -- and no other
@@ -113,7 +117,7 @@ no_count [] none = refl
 no_count (second ∷ []) none = no_number second (number_of second) refl (λ count spelled. none second count refl spelled)
 no_count (second ∷ more ∷ rest) none = refl
 
-pub fault_told : (text : List ℕ) (fault : LineFault) → IsFaulty text fault → entry_of text ≡ Err fault
+pub fault_told : (text : List ℕ) (fault : EntryFault) → IsFaulty text fault → entry_of text ≡ Err fault
 fault_told text line.MultiStream h = ap entry_of_fields h.2 ∙ rw h.3 refl
 fault_told text line.BadDelay h = ap entry_of_fields h.2 ∙ rw (h.3, no_delay h.0 (delay_of h.0) refl h.4) refl
 fault_told text line.BadCount h =

@@ -57,12 +57,15 @@ some_before text some none =
     lt-ltb 0 (length (before_first is_blank text)) (omega (arith, length-take (position_or_len is_blank text) text))
 
 -- from the first blank on
-fields_after : (text : List ℕ) → position_or_len is_blank text < length text → fields (drop (position_or_len is_blank text) text) ≡ fields (after_first is_blank text)
+fields_after : (text : List ℕ) → position_or_len is_blank text < length text
+    → fields (drop (position_or_len is_blank text) text) ≡ fields (after_first is_blank text)
 fields_after text h =
     let cut = drop-cons text (position_or_len is_blank text) 0 h in
     ap fields cut ∙ fields_blank (get_or text (position_or_len is_blank text) 0) (drop (suc (position_or_len is_blank text)) text) (passes_at_first is_blank text 0 h) ∙ ap (λ n. fields (drop n text)) (sym (add-one (position_or_len is_blank text)))
 
-word_split : (text : List ℕ) → (position_or_len is_blank text < length text) ⊎ (length text ≤ position_or_len is_blank text) → nat_lt 0 (length (before_first is_blank text)) ≡ true
+word_split : (text : List ℕ)
+    → (position_or_len is_blank text < length text) ⊎ (length text ≤ position_or_len is_blank text)
+    → nat_lt 0 (length (before_first is_blank text)) ≡ true
     → fields text ≡ before_first is_blank text ∷ fields (drop (position_or_len is_blank text) text)
 word_split text (inl h) some =
     ap (filter (λ piece. nat_lt 0 (length piece))) (slice_split_first is_blank text 0 h) ∙ rw (some, fields_after text h) refl

@@ -8,7 +8,7 @@ use Rattle.std.proofs.lemmas.List.{drop-drop, drop_all, map-append, take_all, ta
 use Rattle.std.proofs.lemmas.List.Folds.{flat_map-map}
 use Rattle.std.proofs.lemmas.Simd.{map-map}
 use Rattle.tape_core.specs.declared.chunk.Chunk.{Chunk}
-use Rattle.tape_core.specs.Changes.{capped_chunk, changed_at}
+use Rattle.tape_core.specs.Edited.{capped_chunk, changed_at}
 use Rattle.tape_core.specs.Due.{bytes_at, first}
 use Rattle.tape_core.specs.Tape.{body}
 
@@ -19,7 +19,8 @@ bytes_of c = c.bytes
 pub first-more : (chunks : List Chunk) (n : ℕ) → first chunks (n + 1) ≡ first chunks n ++ bytes_at chunks n
 first-more chunks n = ap body (take-add n 1 chunks) ∙ flat_map-append bytes_of (take n chunks) (take 1 (drop n chunks))
 
-pub first-more_of : (chunks : List Chunk) (n : ℕ) (c : Chunk) → n < length chunks → get_or chunks n c ≡ c → first chunks (n + 1) ≡ first chunks n ++ c.bytes
+pub first-more_of : (chunks : List Chunk) (n : ℕ) (c : Chunk) → n < length chunks → get_or chunks n c ≡ c
+    → first chunks (n + 1) ≡ first chunks n ++ c.bytes
 first-more_of chunks n c lt is =
     ap body (take_more chunks n c lt) ∙ flat_map-append bytes_of (take n chunks) (get_or chunks n c ∷ [])
     ∙ ap (λ x. first chunks n ++ x) (append-nil (get_or chunks n c).bytes ∙ ap bytes_of is)

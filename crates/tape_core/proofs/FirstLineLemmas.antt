@@ -8,7 +8,7 @@ use Rattle.std.proofs.lemmas.Int.Digits.{digits_value_push}
 use Rattle.std.proofs.lemmas.List.{take_at, take_rest}
 use Rattle.std.proofs.lemmas.List.Elements.{All-append, All-cons, All-nil, All-push, All-replicate}
 use Rattle.tape_core.specs.declared.timing.Entry.{Entry}
-use Rattle.tape_core.specs.Seconds.{SecondsText}
+use Rattle.tape_core.specs.Seconds.{IsSeconds}
 use Rattle.tape_core.specs.Tape.{longest_delay}
 use Rattle.tape_core.specs.Text.{NumberText, is_blank, lines_of}
 use Rattle.tape_core.specs.Timing.{IsWithin, entry_of}
@@ -29,7 +29,8 @@ no_digits_read text = record { digits = []; spelled = refl; all = All-nil (λ b.
 is_digit : (b : ℕ) → 48 ≤ b → b ≤ 57 → is_ascii_digit b ≡ true
 is_digit b low high = grind (arith, nat_tests)
 
-next_digit_read : (text after : List ℕ) (n b d : ℕ) → DigitsRead text (b ∷ after) n → is_ascii_digit b ≡ true → d ≡ b - 48 → n * 10 + d ≤ longest_delay → DigitsRead text after (n * 10 + d)
+next_digit_read : (text after : List ℕ) (n b d : ℕ) → DigitsRead text (b ∷ after) n → is_ascii_digit b ≡ true
+    → d ≡ b - 48 → n * 10 + d ≤ longest_delay → DigitsRead text after (n * 10 + d)
 next_digit_read text after n b d r is of small = record {
   digits = r.digits ++ b ∷ [];
   spelled = r.spelled ∙ sym (append_assoc r.digits (b ∷ []) after);
@@ -38,7 +39,8 @@ next_digit_read text after n b d r is of small = record {
   small = small;
 }
 
-pub digit_read : (text rest : List ℕ) (n d : ℕ) → DigitsRead text rest n → 1 ≤ length rest → 48 ≤ get_or rest 0 0 → get_or rest 0 0 ≤ 57 → d ≡ get_or rest 0 0 - 48 → n * 10 + d ≤ longest_delay
+pub digit_read : (text rest : List ℕ) (n d : ℕ) → DigitsRead text rest n → 1 ≤ length rest → 48 ≤ get_or rest 0 0
+    → get_or rest 0 0 ≤ 57 → d ≡ get_or rest 0 0 - 48 → n * 10 + d ≤ longest_delay
     → DigitsRead text (take (length rest - 1) (drop 1 rest)) (n * 10 + d)
 digit_read text [] n d r some low high of small = absurd (omega arith)
 digit_read text (b ∷ after) n d r some low high of small =
@@ -54,9 +56,10 @@ abbrev pub NumberFirst : List ℕ → List ℕ → ℕ → Type 0
 NumberFirst text rest n = (digits : List ℕ) × (text ≡ digits ++ rest) × NumberText digits n
 
 abbrev pub SecondsFirst : List ℕ → List ℕ → ℕ → Type 0
-SecondsFirst text rest us = (seconds : List ℕ) × (text ≡ seconds ++ rest) × SecondsText seconds us
+SecondsFirst text rest us = (seconds : List ℕ) × (text ≡ seconds ++ rest) × IsSeconds seconds us
 
-pub six_decimals_first : (text behind decimals rest : List ℕ) (whole micros : ℕ) → NumberFirst text behind whole → behind ≡ 46 ∷ decimals → NumberFirst decimals rest micros
+pub six_decimals_first : (text behind decimals rest : List ℕ) (whole micros : ℕ) → NumberFirst text behind whole
+    → behind ≡ 46 ∷ decimals → NumberFirst decimals rest micros
     → length decimals - length rest ≡ 6 → SecondsFirst text rest (whole * 1000000 + micros)
 six_decimals_first text behind decimals rest whole micros w point d six =
     let long : length d.0 ≡ 6 = omega (arith, ap length d.1, length-append d.0 rest) in
@@ -79,7 +82,8 @@ six_decimals_first text behind decimals rest whole micros w point d six =
 abbrev pub EntryFirst : List ℕ → List ℕ → Entry → Type 0
 EntryFirst text after entry = (line : List ℕ) × (lines_of text ≡ line ∷ lines_of after) × (entry_of line ≡ Ok (Some entry))
 
-pub entry_first : (text behind second end after : List ℕ) (entry : Entry) → SecondsFirst text behind entry.delay → behind ≡ 32 ∷ second → NumberFirst second end entry.count → end ≡ 10 ∷ after
+pub entry_first : (text behind second end after : List ℕ) (entry : Entry) → SecondsFirst text behind entry.delay
+    → behind ≡ 32 ∷ second → NumberFirst second end entry.count → end ≡ 10 ∷ after
     → IsWithin entry → EntryFirst text after entry
 entry_first text behind second end after entry s space c feed within =
     let line = s.0 ++ 32 ∷ c.0 in

@@ -5,7 +5,7 @@ mod DueLemmas
 mod FirstLemmas
 mod FieldLemmas
 mod TimingLemmas
-mod ChangeLemmas
+mod EditedLemmas
 mod WrittenLemmas
 mod LineLemmas
 mod ReadingLemmas

@@ -10,13 +10,14 @@ use Rattle.std.proofs.lemmas.Option.{cond_some}
 use Rattle.std.proofs.lemmas.List.Sums.{AllPass-from_list_all, passes_at_first, prefix_len_passes}
 use Rattle.tape_core.specs.declared.chunk.Chunk.{Chunk}
 use Rattle.tape_core.specs.declared.timing.Entry.{Entry}
-use Rattle.tape_core.specs.declared.timing.LineFault.{LineFault}
-use Rattle.tape_core.specs.declared.timing.LineFault.TheVariants as line
+use Rattle.tape_core.specs.declared.timing.EntryFault.{EntryFault}
+use Rattle.tape_core.specs.declared.timing.EntryFault.TheVariants as line
 use Rattle.tape_core.specs.Tape.{longest_delay, longest_chunk}
-use Rattle.tape_core.specs.Seconds.{SecondsText, micros_of}
-use Rattle.tape_core.specs.Timing.{DelayText, TimingLine, begins_with_letter, counted, counted_bytes, delay_of, delayed, entries_of, entry_in, entry_of, entry_of_fields, fault_after, fault_on, first_fault, only_count, within_limits}
+use Rattle.tape_core.specs.Seconds.{IsSeconds, micros_of}
+use Rattle.tape_core.specs.Timing.{DelayText, TimingLine, begins_with_letter, counted, counted_bytes, delay_of, delayed, entries_of, entry_in, entry_of, entry_of_fields, fault_after, fault_of_line, first_fault, only_count, within_limits}
 use Rattle.tape_core.specs.Text.{fields, is_blank, number_of, NumberText}
-use Rattle.tape_core.specs.Reading.{AreTimed, entry_for}
+use Rattle.tape_core.specs.Reading.{AreTimed}
+use Rattle.tape_core.specs.Steps.{entry_for}
 use Rattle.tape_core.proofs.FieldLemmas.{fields_trimmed, fields_word, trimmed_front}
 use Rattle.tape_core.proofs.SecondsLemmas.{spelled_seconds}
 
@@ -34,7 +35,8 @@ front_blanks text k d lt =
     let within : k < prefix_len is_blank text = omega (arith, length-take (prefix_len is_blank text) text) in
     rw (get_or-take (prefix_len is_blank text) text k d within) (prefix_len_passes is_blank text k d within)
 
-after_apart : (text : List ℕ) (d : ℕ) → 0 < length (drop (position_or_len is_blank text) text) → is_blank (get_or (drop (position_or_len is_blank text) text) 0 d) ≡ true
+after_apart : (text : List ℕ) (d : ℕ) → 0 < length (drop (position_or_len is_blank text) text)
+    → is_blank (get_or (drop (position_or_len is_blank text) text) 0 d) ≡ true
 after_apart text d some =
     let within : position_or_len is_blank text < length text = omega (arith, length-drop (position_or_len is_blank text) text) in
     rw (get_or-drop (position_or_len is_blank text) text 0 d, add-zero (position_or_len is_blank text)) (passes_at_first is_blank text d within)
@@ -85,12 +87,15 @@ pub record Parsed (fs : List (List ℕ)) (e : Entry) : Type 0 where
 limited : (delay count : ℕ) (e : Entry) → within_limits delay count ≡ Ok (Some e) → (delay ≡ e.delay) × (count ≡ e.count)
 limited delay count e h = limits (nat_lt longest_delay delay) (nat_lt longest_chunk count) h
   where
-    limits : (s t : Bool) → cond s (Err line.DelayTooLarge) (cond t (Err line.ChunkTooLong) (Ok (Some (record { delay = delay; count = count })))) ≡ Ok (Some e) → (delay ≡ e.delay) × (count ≡ e.count)
+    limits : (s t : Bool)
+        → cond s (Err line.DelayTooLarge) (cond t (Err line.ChunkTooLong) (Ok (Some (record { delay = delay; count = count })))) ≡ Ok (Some e)
+        → (delay ≡ e.delay) × (count ≡ e.count)
     limits true t h = absurd (cc)
     limits false true h = absurd (cc)
     limits false false h = let same : ◌≡◌ {A = Entry} (record { delay = delay; count = count }) e = cc in (ap (λ x. x.delay) same, ap (λ x. x.count) same)
 
-timed : (first : List ℕ) (rest : List (List ℕ)) (e : Entry) (d : Option ℕ) → delay_of first ≡ d → delayed d (only_count rest) ≡ Ok (Some e) → Parsed (first ∷ rest) e
+timed : (first : List ℕ) (rest : List (List ℕ)) (e : Entry) (d : Option ℕ) → delay_of first ≡ d
+    → delayed d (only_count rest) ≡ Ok (Some e) → Parsed (first ∷ rest) e
 timed first rest e None is h = absurd (cc)
 timed first [] e (Some delay) is h = absurd (cc)
 timed first (second ∷ more ∷ rest) e (Some delay) is h = absurd (cc)
@@ -101,7 +106,8 @@ timed first (second ∷ []) e (Some delay) is h = count (number_of second) refl 
     count (Some n) at h = let same = limited delay n e h in
         record { first = first; second = second; are = refl; delay = is ∙ ap Some same.0; count = at ∙ ap Some same.1 }
 
-named : (first : List ℕ) (rest : List (List ℕ)) (e : Entry) (t : Bool) → cond t (Err line.MultiStream) (delayed (delay_of first) (only_count rest)) ≡ Ok (Some e) → Parsed (first ∷ rest) e
+named : (first : List ℕ) (rest : List (List ℕ)) (e : Entry) (t : Bool)
+    → cond t (Err line.MultiStream) (delayed (delay_of first) (only_count rest)) ≡ Ok (Some e) → Parsed (first ∷ rest) e
 named first rest e true h = absurd (cc)
 named first rest e false h = timed first rest e (delay_of first) refl h
 
@@ -116,7 +122,9 @@ unnamed false None n h = cc
 unnamed false (Some delay) None h = cc
 unnamed false (Some delay) (Some count) h = limits (nat_lt longest_delay delay) (nat_lt longest_chunk count) h
   where
-    limits : (s t : Bool) → cond {A = Result (Option Entry) LineFault} s (Err line.DelayTooLarge) (cond t (Err line.ChunkTooLong) (Ok (Some (record { delay = delay; count = count })))) ≡ Ok None → ⊥
+    limits : (s t : Bool)
+        → cond {A = Result (Option Entry) EntryFault} s (Err line.DelayTooLarge) (cond t (Err line.ChunkTooLong) (Ok (Some (record { delay = delay; count = count })))) ≡ Ok None
+        → ⊥
     limits true t h = cc
     limits false true h = cc
     limits false false h = cc
@@ -125,11 +133,13 @@ pub unparsed : (fs : List (List ℕ)) → entry_of_fields fs ≡ Ok None → fs 
 unparsed [] h = refl
 unparsed (first ∷ rest) h = absurd (unnamed (begins_with_letter first) (delay_of first) (only_count rest) h)
 
-negative : (seconds : List ℕ) (delay : ℕ) (o : Option ℕ) → micros_of seconds ≡ o → option_map (λ us. 0) o ≡ Some delay → (us : ℕ) × SecondsText seconds us × (delay ≡ 0)
+negative : (seconds : List ℕ) (delay : ℕ) (o : Option ℕ) → micros_of seconds ≡ o → option_map (λ us. 0) o ≡ Some delay
+    → (us : ℕ) × IsSeconds seconds us × (delay ≡ 0)
 negative seconds delay None is h = absurd (cc)
 negative seconds delay (Some us) is h = let zero : 0 ≡ delay = cc in (us, spelled_seconds seconds us is, sym zero)
 
-signed : (b : ℕ) (bs : List ℕ) (delay : ℕ) (t : Bool) → nat_eq b 45 ≡ t → cond t (option_map (λ us. 0) (micros_of bs)) (micros_of (b ∷ bs)) ≡ Some delay → DelayText (b ∷ bs) delay
+signed : (b : ℕ) (bs : List ℕ) (delay : ℕ) (t : Bool) → nat_eq b 45 ≡ t
+    → cond t (option_map (λ us. 0) (micros_of bs)) (micros_of (b ∷ bs)) ≡ Some delay → DelayText (b ∷ bs) delay
 signed b bs delay true minus h = let zero = negative bs delay (micros_of bs) refl h in inr (bs, zero.0, ap (λ x. x ∷ bs) (eqb-true b 45 minus), zero.1, zero.2)
 signed b bs delay false minus h = inl (spelled_seconds (b ∷ bs) delay h)
 
@@ -183,10 +193,11 @@ pub timing_line : (text : List ℕ) (e : Entry) → entry_of text ≡ Ok (Some e
 timing_line text e h = format_line text e (parsed (fields text) e h)
 
 -- a line without a fault has an entry or is blank
-faultless_line : (before : List (List ℕ)) (text : List ℕ) (r : Result (Option Entry) LineFault) → entry_of text ≡ r → fault_after before text ≡ None → (o : Option Entry) × (r ≡ Ok o)
+faultless_line : (before : List (List ℕ)) (text : List ℕ) (r : Result (Option Entry) EntryFault) → entry_of text ≡ r
+    → fault_after before text ≡ None → (o : Option Entry) × (r ≡ Ok o)
 faultless_line before text (Ok o) is none = (o, refl)
 faultless_line before text (Err f) is none =
-    let some = ap (fault_on (length before + 1) (length (entries_of before)) (counted_bytes (entries_of before))) is in
+    let some = ap (fault_of_line (length before + 1) (length (entries_of before)) (counted_bytes (entries_of before))) is in
     absurd (cc)
 
 neither : {A : Type 0} (o p : Option A) → option_or o p ≡ None → (o ≡ None) × (p ≡ None)

@@ -8,7 +8,8 @@ use Rattle.std.proofs.lemmas.List.Sums.{fails_before_first, passes_at_first, pos
 use Rattle.tape_core.specs.declared.chunk.Chunk.{Chunk}
 use Rattle.tape_core.specs.Tape.{IsHeader, Tape, body, fits}
 use Rattle.tape_core.specs.Timing.{entries_of, first_fault, timing_fault}
-use Rattle.tape_core.specs.Reading.{AreTimed, entry_for, fault_of, has_header, header_len, reads, timed_lines}
+use Rattle.tape_core.specs.Reading.{AreTimed, fault_of, has_header, header_len, reads, timed_lines}
+use Rattle.tape_core.specs.Steps.{entry_for}
 use Rattle.tape_core.specs.Written.{script_text, timing_text}
 use Rattle.tape_core.proofs.ReadingLemmas.{body_length, counted_for, never_short}
 use Rattle.tape_core.proofs.ReadBackLemmas.{IsWithinLimits, timing_line_read, written_entries, written_faultless, written_lines, written_timed}
@@ -32,7 +33,8 @@ pub header_length : (header rest : List ℕ) → IsHeader header → length head
 header_length header rest one = one ∙ ap (λ n. n + 1) (sym (feed_place header rest one))
 
 -- chunks of one timing file have one list of delays and lengths
-timed_same : (lines : List (List ℕ)) (a b : List Chunk) → AreTimed lines a → AreTimed lines b → All IsWithinLimits a → All IsWithinLimits b → map entry_for a ≡ map entry_for b
+timed_same : (lines : List (List ℕ)) (a b : List Chunk) → AreTimed lines a → AreTimed lines b → All IsWithinLimits a
+    → All IsWithinLimits b → map entry_for a ≡ map entry_for b
 timed_same [] [] [] p q within within' = refl
 timed_same [] [] (d ∷ ds) p q within within' = absurd q
 timed_same [] (c ∷ cs) b p q within within' = absurd p

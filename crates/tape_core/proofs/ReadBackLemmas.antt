@@ -16,10 +16,11 @@ use Rattle.std.proofs.lemmas.Str.Parse.{digit_at}
 use Rattle.tape_core.specs.declared.chunk.Chunk.{Chunk}
 use Rattle.tape_core.specs.declared.timing.Entry.{Entry}
 use Rattle.tape_core.specs.Tape.{body_len, longest_body, longest_chunk, longest_delay, most_chunks}
-use Rattle.tape_core.specs.Seconds.{SecondsText, last_moment, micros_of, seconds_of}
-use Rattle.tape_core.specs.Timing.{DelayText, IsWithin, TimingLine, begins_with_letter, counted_bytes, delay_of, entries_of, entry_in, entry_of, entry_of_fields, fault_after, fault_on, first_fault, is_letter}
+use Rattle.tape_core.specs.Seconds.{IsSeconds, last_moment, micros_of, seconds_of}
+use Rattle.tape_core.specs.Timing.{DelayText, IsWithin, TimingLine, begins_with_letter, counted_bytes, delay_of, entries_of, entry_in, entry_of, entry_of_fields, fault_after, fault_of_line, first_fault, is_letter}
 use Rattle.tape_core.specs.Text.{fields, is_blank, lines_of, number_of, NumberText, without_empty_last}
-use Rattle.tape_core.specs.Reading.{AreTimed, entry_for}
+use Rattle.tape_core.specs.Reading.{AreTimed}
+use Rattle.tape_core.specs.Steps.{entry_for}
 use Rattle.tape_core.specs.Written.{seconds_form, six_digits, timing_line_of}
 use Rattle.tape_core.proofs.FieldLemmas.{fields_blank, kept_piece}
 use Rattle.tape_core.proofs.ReadingLemmas.{counted_for}
@@ -55,7 +56,8 @@ pub fields_of_word : (word : List ℕ) → 0 < length word → HasNoBlank word �
 fields_of_word word some plain =
     ap (filter (λ piece. nat_lt 0 (length piece))) (slice_split_none is_blank word plain) ∙ rw (lt-ltb 0 (length word) some) refl
 
-pub fields_before_blank : (word : List ℕ) (b : ℕ) (rest : List ℕ) → 0 < length word → HasNoBlank word → is_blank b ≡ true → fields (word ++ b ∷ rest) ≡ word ∷ fields rest
+pub fields_before_blank : (word : List ℕ) (b : ℕ) (rest : List ℕ) → 0 < length word → HasNoBlank word
+    → is_blank b ≡ true → fields (word ++ b ∷ rest) ≡ word ∷ fields rest
 fields_before_blank word b rest some plain blank =
     ap (filter (λ piece. nat_lt 0 (length piece))) (slice_split_at is_blank word b rest plain blank) ∙ rw (lt-ltb 0 (length word) some) refl
 
@@ -64,13 +66,15 @@ last_field word [] some plain blanks = ap fields (append-nil word) ∙ fields_of
 last_field word (b ∷ bs) some plain blanks =
     fields_before_blank word b bs some plain (All-head (λ x. is_blank x ≡ true) b bs blanks) ∙ ap (λ fs. word ∷ fs) (fields_of_blanks bs (All-tail (λ x. is_blank x ≡ true) b bs blanks))
 
-first_field : (word between rest : List ℕ) → 0 < length word → HasNoBlank word → 0 < length between → AllPass is_blank between → fields (word ++ (between ++ rest)) ≡ word ∷ fields rest
+first_field : (word between rest : List ℕ) → 0 < length word → HasNoBlank word → 0 < length between
+    → AllPass is_blank between → fields (word ++ (between ++ rest)) ≡ word ∷ fields rest
 first_field word [] rest some plain apart blanks = absurd (omega arith)
 first_field word (b ∷ bs) rest some plain apart blanks =
     fields_before_blank word b (bs ++ rest) some plain (All-head (λ x. is_blank x ≡ true) b bs blanks) ∙ ap (λ fs. word ∷ fs) (fields_after_blanks bs rest (All-tail (λ x. is_blank x ≡ true) b bs blanks))
 
 -- a line's fields are its delay and its count
-two_fields : (before first between second after : List ℕ) → AllPass is_blank before → 0 < length first → HasNoBlank first → 0 < length between → AllPass is_blank between
+two_fields : (before first between second after : List ℕ) → AllPass is_blank before → 0 < length first
+    → HasNoBlank first → 0 < length between → AllPass is_blank between
     → 0 < length second → HasNoBlank second → AllPass is_blank after → fields (before ++ first ++ between ++ second ++ after) ≡ first ∷ second ∷ []
 two_fields before first between second after blanks some plain apart blanks' some' plain' blanks'' =
     let grouped : before ++ first ++ between ++ second ++ after ≡ before ++ (first ++ (between ++ (second ++ after))) = simp append_assoc in
@@ -88,13 +92,13 @@ begins_with_digit : (text whole rest : List ℕ) → text ≡ whole ++ rest → 
 begins_with_digit text [] rest is some digits = absurd (omega arith)
 begins_with_digit text (c ∷ cs) rest is some digits = record { first = c; rest = cs ++ rest; are = is; digit = All-head (λ x. is_ascii_digit x ≡ true) c cs digits }
 
-seconds_begin : (text : List ℕ) (us : ℕ) → SecondsText text us → Begins text
+seconds_begin : (text : List ℕ) (us : ℕ) → IsSeconds text us → Begins text
 seconds_begin text us s = elim s.spelled [
   | inl e ↦ begins_with_digit text s.whole [] (e.0 ∙ sym (append-nil s.whole)) s.some s.whole_digits
   | inr e ↦ begins_with_digit text s.whole (46 ∷ s.decimals) e s.some s.whole_digits
 ]
 
-seconds_are_word : (text : List ℕ) (us : ℕ) → SecondsText text us → HasNoBlank text
+seconds_are_word : (text : List ℕ) (us : ℕ) → IsSeconds text us → HasNoBlank text
 seconds_are_word text us s = elim s.spelled [
   | inl e ↦ subst HasNoBlank (sym e.0) (digits_are_word s.whole s.whole_digits)
   | inr e ↦ subst HasNoBlank (sym e) (All-append (λ b. is_blank b ≡ false) s.whole (46 ∷ s.decimals) (digits_are_word s.whole s.whole_digits)
@@ -108,7 +112,7 @@ pub record ReadDelay (text : List ℕ) (delay : ℕ) : Type 0 where
   pub unlettered : begins_with_letter text ≡ false
   pub read : delay_of text ≡ Some delay
 
-unsigned_read : (text : List ℕ) (us : ℕ) → SecondsText text us → Begins text → ReadDelay text us
+unsigned_read : (text : List ℕ) (us : ℕ) → IsSeconds text us → Begins text → ReadDelay text us
 unsigned_read text us s b = record {
   some = rw b.are (omega arith);
   plain = seconds_are_word text us s;
@@ -116,7 +120,7 @@ unsigned_read text us s b = record {
   read = ap delay_of b.are ∙ rw (digit_no_minus b.first b.digit) (ap micros_of (sym b.are) ∙ read_seconds_text text us s);
 }
 
-signed_read : (text seconds : List ℕ) (us delay : ℕ) → text ≡ 45 ∷ seconds → SecondsText seconds us → delay ≡ 0 → ReadDelay text delay
+signed_read : (text seconds : List ℕ) (us delay : ℕ) → text ≡ 45 ∷ seconds → IsSeconds seconds us → delay ≡ 0 → ReadDelay text delay
 signed_read text seconds us delay is s none = record {
   some = rw is (omega arith);
   plain = subst HasNoBlank (sym is) (All-cons (λ b. is_blank b ≡ false) 45 seconds refl (seconds_are_word seconds us s));
@@ -162,7 +166,7 @@ six_digits_are us =
     (All-replicate (λ b. is_ascii_digit b ≡ true) (6 - length (decimal (us % 1000000))) 48 refl) (decimal_digits (us % 1000000) (omega arith))
 
 -- the SECONDS form writes just these microseconds
-pub seconds_form_reads : (us : ℕ) → us < 2 ^ 64 → SecondsText (seconds_form us) us
+pub seconds_form_reads : (us : ℕ) → us < 2 ^ 64 → IsSeconds (seconds_form us) us
 unfolding seconds_form
 seconds_form_reads us small =
     let whole = decimal_is_IsNumeral (us / 1000000) (omega arith) in
@@ -225,7 +229,7 @@ digit_no_feed b h = grind (arith, nat_tests)
 pub digits_unbroken : (digits : List ℕ) → AllPass is_ascii_digit digits → All (λ b. nat_eq b 10 ≡ false) digits
 digits_unbroken digits are = All-weaker (λ b. is_ascii_digit b ≡ true) (λ b. nat_eq b 10 ≡ false) digit_no_feed digits are
 
-pub seconds_unbroken : (text : List ℕ) (us : ℕ) → SecondsText text us → All (λ b. nat_eq b 10 ≡ false) text
+pub seconds_unbroken : (text : List ℕ) (us : ℕ) → IsSeconds text us → All (λ b. nat_eq b 10 ≡ false) text
 seconds_unbroken text us s =
     let P : List ℕ → Type 0 = All (λ b. nat_eq b 10 ≡ false) in
     elim s.spelled [
@@ -260,14 +264,16 @@ written_entries (c ∷ cs) within =
     ap (λ r. cons_option (entry_in r) (entries_of (map line_text_of cs))) (written_entry c (All-head IsWithinLimits c cs within)) ∙ ap (λ es. entry_for c ∷ es) (written_entries cs (All-tail IsWithinLimits c cs within))
 
 -- they time the chunks
-pub written_timed : (chunks : List Chunk) → All IsWithinLimits chunks → AreTimed (filter (λ text. nat_lt 0 (length (fields text))) (map line_text_of chunks)) chunks
+pub written_timed : (chunks : List Chunk) → All IsWithinLimits chunks
+    → AreTimed (filter (λ text. nat_lt 0 (length (fields text))) (map line_text_of chunks)) chunks
 written_timed [] within = tt
 written_timed (c ∷ cs) within =
     let line = written_line c (All-head IsWithinLimits c cs within) in
     rw (line_fields (line_text_of c) c.delay (length c.bytes) line) (line, written_timed cs (All-tail IsWithinLimits c cs within))
 
 -- none of them has a fault
-pub written_faultless : (front cs : List Chunk) (before : List (List ℕ)) → entries_of before ≡ map entry_for front → All IsWithinLimits cs → length front + length cs ≤ most_chunks
+pub written_faultless : (front cs : List Chunk) (before : List (List ℕ)) → entries_of before ≡ map entry_for front
+    → All IsWithinLimits cs → length front + length cs ≤ most_chunks
     → body_len front + body_len cs ≤ longest_body → first_fault before (map line_text_of cs) ≡ None
 written_faultless front [] before are within few small = refl
 written_faultless front (c ∷ cs) before are within few small =
@@ -281,7 +287,7 @@ written_faultless front (c ∷ cs) before are within few small =
     let room : length (entries_of before) < most_chunks = omega (arith, so_far) in
     let light : counted_bytes (entries_of before) + length c.bytes ≤ longest_body = omega (arith, bytes, whole) in
     let sound : fault_after before (line_text_of c) ≡ None =
-    ap (fault_on n (length (entries_of before)) (counted_bytes (entries_of before))) here ∙ rw (lt-leb most_chunks (length (entries_of before)) room, le-ltb longest_body (counted_bytes (entries_of before) + length c.bytes) light) refl in
+    ap (fault_of_line n (length (entries_of before)) (counted_bytes (entries_of before))) here ∙ rw (lt-leb most_chunks (length (entries_of before)) room, le-ltb longest_body (counted_bytes (entries_of before) + length c.bytes) light) refl in
     let entries : entries_of (before ++ line_text_of c ∷ []) ≡ map entry_for (front ++ c ∷ []) =
     filter_map-append (λ t. entry_in (entry_of t)) before (line_text_of c ∷ []) ∙ ap (λ r. entries_of before ++ cons_option (entry_in r) []) here ∙ ap (λ es. es ++ entry_for c ∷ []) are ∙ sym (map_push entry_for front c) in
     ap (λ o. option_or o (first_fault (before ++ line_text_of c ∷ []) (map line_text_of cs))) sound

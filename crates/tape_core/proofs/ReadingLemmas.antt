@@ -11,9 +11,10 @@ use Rattle.std.proofs.lemmas.List.Sums.{position_or_len_is, sum_by-take-le, sum_
 use Rattle.tape_core.specs.declared.chunk.Chunk.{Chunk}
 use Rattle.tape_core.specs.declared.timing.Entry.{Entry}
 use Rattle.tape_core.specs.Tape.{IsHeader, body, body_len}
-use Rattle.tape_core.specs.Timing.{AreWithin, IsWithin, counted_bytes, entries_of, timing_fault}
+use Rattle.tape_core.specs.Timing.{IsWithin, counted_bytes, entries_of, timing_fault}
+use Rattle.tape_core.specs.Steps.{AreWithin, entry_for}
 use Rattle.tape_core.specs.Text.{lines_of}
-use Rattle.tape_core.specs.Reading.{entry_for, fault_of, first_short, has_header, header_len, reads}
+use Rattle.tape_core.specs.Reading.{fault_of, first_short, has_header, header_len, reads}
 use Rattle.tape_core.proofs.DueLemmas.{length_range}
 use Rattle.tape_core.proofs.LineLemmas.{timed_chunks}
 
@@ -34,8 +35,9 @@ module _ (bytes : ℕ) (entries : List Entry) where
       let front : take (k + 1) (take i entries) ≡ take (k + 1) entries = take-take (k + 1) i entries (omega arith) in
       le-ltb bytes (counted_bytes (take (k + 1) entries)) (omega (arith, sum_by-take-le (λ e. e.count) (take i entries) (k + 1), ap counted_bytes front))
 
-  -- the first place at which a test on places passes
-  place_at : (i : ℕ) → i ≤ length entries → ((k : ℕ) → k < i → is_short bytes entries k ≡ false) → (i < length entries → is_short bytes entries i ≡ true)
+  -- the first index at which a test on indices passes
+  place_at : (i : ℕ) → i ≤ length entries → ((k : ℕ) → k < i → is_short bytes entries k ≡ false)
+      → (i < length entries → is_short bytes entries i ≡ true)
       → position_or_len (is_short bytes entries) (range_with_len 0 (length entries)) ≡ i
   place_at i le before here =
       position_or_len_is (is_short bytes entries) (range_with_len 0 (length entries)) i 0 (omega (arith, length_range 0 (length entries)))
@@ -43,7 +45,8 @@ module _ (bytes : ℕ) (entries : List Entry) where
       (λ lt. let in_range : i < length entries = omega (arith, length_range 0 (length entries)) in
       ap (is_short bytes entries) (get_or-range_with_len 0 (length entries) i 0 in_range ∙ zero-add i) ∙ here in_range)
 
-  pub short_at : (i : ℕ) → i < length entries → counted_bytes (take i entries) ≤ bytes → bytes < counted_bytes (take (i + 1) entries) → first_short bytes entries ≡ Some i
+  pub short_at : (i : ℕ) → i < length entries → counted_bytes (take i entries) ≤ bytes
+      → bytes < counted_bytes (take (i + 1) entries) → first_short bytes entries ≡ Some i
   short_at i lt le short =
       let at = place_at i (omega arith) (λ k h. fits_before k i h le) (λ _. lt-ltb bytes (counted_bytes (take (i + 1) entries)) short) in
       rw (at, length_range 0 (length entries), lt-ltb i (length entries) lt) refl
@@ -55,7 +58,8 @@ module _ (bytes : ℕ) (entries : List Entry) where
       rw (at, length_range 0 (length entries), le-ltb (length entries) (length entries) (omega arith)) refl
 
 -- the chunks so far leave too few bytes for the next
-pub short_here : (bytes rest : List ℕ) (chunks : List Chunk) (entries : List Entry) (i : ℕ) (d : Entry) → map entry_for chunks ≡ take i entries → bytes ≡ body chunks ++ rest
+pub short_here : (bytes rest : List ℕ) (chunks : List Chunk) (entries : List Entry) (i : ℕ) (d : Entry)
+    → map entry_for chunks ≡ take i entries → bytes ≡ body chunks ++ rest
     → i < length entries → length rest < (get_or entries i d).count → first_short (length bytes) entries ≡ Some i
 short_here bytes rest chunks entries i d timed joined lt short =
     let held = counted_for chunks in
@@ -78,7 +82,8 @@ module _ (script : List ℕ) (found : has_header script ≡ true) where
       (λ lt. ap (λ b. b == 10) (get_or-take (header_len script) script at 0 (omega arith)) ∙ passes_at_first (λ b. b == 10) script 0 header_within)))
 
 -- chunks of entries within the limits are within them
-each_within : (chunks : List Chunk) (entries : List Entry) → map entry_for chunks ≡ entries → All IsWithin entries → All (λ c. IsWithin (entry_for c)) chunks
+each_within : (chunks : List Chunk) (entries : List Entry) → map entry_for chunks ≡ entries → All IsWithin entries
+    → All (λ c. IsWithin (entry_for c)) chunks
 each_within chunks entries are within k d lt =
     let more : k < length entries = omega (arith, ap length are, length-map chunks entry_for) in
     let at : get_or entries k (entry_for d) ≡ entry_for (get_or chunks k d) = ap (λ es. get_or es k (entry_for d)) (sym are) ∙ get_or-map entry_for chunks k d in
@@ -87,7 +92,8 @@ each_within chunks entries are within k d lt =
 -- what is cut so is what the pair of files says
 pub reads_parts : (script timing : List ℕ) (entries : List Entry) (header rest trailer : List ℕ) (chunks : List Chunk)
     → entries ≡ entries_of (lines_of timing) → timing_fault timing ≡ None → AreWithin entries → has_header script ≡ true
-    → header ≡ take (header_len script) script → rest ≡ drop (header_len script) script → rest ≡ body chunks ++ trailer → map entry_for chunks ≡ entries
+    → header ≡ take (header_len script) script → rest ≡ drop (header_len script) script → rest ≡ body chunks ++ trailer
+    → map entry_for chunks ≡ entries
     → reads script timing (record { header = header; chunks = chunks; trailer = trailer })
 unfolding fault_of
 reads_parts script timing entries header rest trailer chunks read faultless within found head behind joined timed =

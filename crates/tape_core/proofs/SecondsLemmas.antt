@@ -8,13 +8,14 @@ use Rattle.std.proofs.lemmas.Bool.Decides.{nat_tests}
 use Rattle.std.proofs.lemmas.List.{take_at, drop_at, take_all, drop_all, drop-drop, get_or_append_left, get_or-append-add}
 use Rattle.std.proofs.lemmas.Option.{cond_some}
 use Rattle.std.proofs.lemmas.List.Sums.{AllPass-from_list_all, list_all-from_AllPass, position_or_len_is, split_at_first, passes_at_first}
-use Rattle.tape_core.specs.Seconds.{SecondsText, last_moment, micros, micros_of, seconds_of}
+use Rattle.tape_core.specs.Seconds.{IsSeconds, last_moment, micros, micros_of, seconds_of}
 
 abbrev pub is_point : ℕ → Bool
 is_point b = nat_eq b 46
 
 -- a text is what stands round its first point, if it has one
-pub pointed : (text : List ℕ) → ((text ≡ before_first is_point text) × (after_first is_point text ≡ [])) ⊎ (text ≡ before_first is_point text ++ 46 ∷ after_first is_point text)
+pub pointed : (text : List ℕ)
+    → ((text ≡ before_first is_point text) × (after_first is_point text ≡ [])) ⊎ (text ≡ before_first is_point text ++ 46 ∷ after_first is_point text)
 pointed text =
     elim (cases_lt (position_or_len is_point text) (length text)) [
       | inl lt ↦ inr (let at = eqb-true (get_or text (position_or_len is_point text) 0) 46 (passes_at_first is_point text 0 lt) in
@@ -23,7 +24,7 @@ pointed text =
     ]
 
 -- what is read is spelled so
-pub spelled_seconds : (text : List ℕ) (us : ℕ) → micros_of text ≡ Some us → SecondsText text us
+pub spelled_seconds : (text : List ℕ) (us : ℕ) → micros_of text ≡ Some us → IsSeconds text us
 spelled_seconds text us h =
     let got = cond_some _ _ _ h in
     let some = and_parts _ _ got.0 in
@@ -43,20 +44,23 @@ no_point : (c : ℕ) → is_ascii_digit c ≡ true → is_point c ≡ false
 no_point c h = grind (arith, nat_tests)
 
 -- before and after the first point of a spelled text
-whole_place : (whole rest : List ℕ) → AllPass is_ascii_digit whole → ((d : ℕ) → 0 < length rest → is_point (get_or rest 0 d) ≡ true) → position_or_len is_point (whole ++ rest) ≡ length whole
+whole_place : (whole rest : List ℕ) → AllPass is_ascii_digit whole
+    → ((d : ℕ) → 0 < length rest → is_point (get_or rest 0 d) ≡ true)
+    → position_or_len is_point (whole ++ rest) ≡ length whole
 whole_place whole rest digits first =
     position_or_len_is is_point (whole ++ rest) (length whole) 0 (omega (arith, length-append whole rest))
     (λ k lt. rw (get_or_append_left whole rest 0 k lt) (no_point _ (digits k 0 lt)))
     (λ lt. let some : 0 < length rest = omega (arith, length-append whole rest) in
     ap (λ n. is_point (get_or (whole ++ rest) n 0)) (sym (add-zero (length whole))) ∙ ap is_point (get_or-append-add whole rest 0 0) ∙ first 0 some)
 
-read_parts : (text whole decimals : List ℕ) → before_first is_point text ≡ whole → after_first is_point text ≡ decimals → 0 < length whole → AllPass is_ascii_digit whole → AllPass is_ascii_digit decimals
+read_parts : (text whole decimals : List ℕ) → before_first is_point text ≡ whole → after_first is_point text ≡ decimals
+    → 0 < length whole → AllPass is_ascii_digit whole → AllPass is_ascii_digit decimals
     → micros_of text ≡ Some (micros whole decimals)
 read_parts text whole decimals before after some digits more =
     rw (before, after, lt-ltb 0 (length whole) some, list_all-from_AllPass is_ascii_digit whole digits, list_all-from_AllPass is_ascii_digit decimals more) refl
 
 -- what is spelled so is read
-pub read_seconds_text : (text : List ℕ) (us : ℕ) → SecondsText text us → micros_of text ≡ Some us
+pub read_seconds_text : (text : List ℕ) (us : ℕ) → IsSeconds text us → micros_of text ≡ Some us
 read_seconds_text text us s =
     elim s.spelled [
       | inl e ↦ let place = whole_place s.whole [] s.whole_digits (λ d h. absurd (omega arith)) in
@@ -72,10 +76,11 @@ read_seconds_text text us s =
 
 -- a text is read where it is spelled so
 told : (text : List ℕ) (o : Option ℕ) → micros_of text ≡ o
-    → MatchOption (option_map (λ us. min us last_moment) o) ((us : ℕ) → SecondsText text us → ⊥) (λ us. (value : ℕ) × SecondsText text value × (us ≡ min value last_moment))
+    → MatchOption (option_map (λ us. min us last_moment) o) ((us : ℕ) → IsSeconds text us → ⊥) (λ us. (value : ℕ) × IsSeconds text value × (us ≡ min value last_moment))
 told text None is = λ us s. let some = sym is ∙ read_seconds_text text us s in cc
 told text (Some value) is = (value, spelled_seconds text value is, refl)
 
-pub seconds_spelled : (text : List ℕ) → MatchOption (seconds_of text) ((us : ℕ) → SecondsText text us → ⊥) (λ us. (value : ℕ) × SecondsText text value × (us ≡ min value last_moment))
+pub seconds_spelled : (text : List ℕ)
+    → MatchOption (seconds_of text) ((us : ℕ) → IsSeconds text us → ⊥) (λ us. (value : ℕ) × IsSeconds text value × (us ≡ min value last_moment))
 unfolding seconds_of
 seconds_spelled text = told text (micros_of text) refl

@@ -8,7 +8,8 @@ use Rattle.std.proofs.lemmas.Bool.{lt-leb, le-ltb}
 use Rattle.tape_core.specs.declared.timing.Entry.{Entry}
 use Rattle.tape_core.specs.declared.fault.Fault.{Fault}
 use Rattle.tape_core.specs.Tape.{most_chunks, longest_body}
-use Rattle.tape_core.specs.Timing.{AreWithin, IsWithin, counted_bytes, entries_of, entry_in, entry_of, fault_after, fault_on, first_fault, timing_fault}
+use Rattle.tape_core.specs.Timing.{IsWithin, counted_bytes, entries_of, entry_in, entry_of, fault_after, fault_of_line, first_fault, timing_fault}
+use Rattle.tape_core.specs.Steps.{AreWithin}
 use Rattle.tape_core.specs.Text.{lines_of}
 
 -- Some lines are read, and the rest of the text has the others.
@@ -28,10 +29,10 @@ one_entry (Some e) = refl
 
 -- the next line's fault, by the running numbers
 module _ (timing rest after text : List ℕ) (entries : List Entry) (bytes line : ℕ) (r : ReadSoFar timing rest entries bytes line) (cut : lines_of rest ≡ text ∷ lines_of after) where
-  fault_here : fault_after r.before text ≡ fault_on (line + 1) (length entries) bytes (entry_of text)
+  fault_here : fault_after r.before text ≡ fault_of_line (line + 1) (length entries) bytes (entry_of text)
   fault_here = rw (r.counted, r.read, r.number) refl
 
-  fault_next : timing_fault timing ≡ option_or (fault_on (line + 1) (length entries) bytes (entry_of text)) (first_fault (r.before ++ text ∷ []) (lines_of after))
+  fault_next : timing_fault timing ≡ option_or (fault_of_line (line + 1) (length entries) bytes (entry_of text)) (first_fault (r.before ++ text ∷ []) (lines_of after))
   fault_next = r.fault ∙ ap (first_fault r.before) cut ∙ ap (λ o. option_or o (first_fault (r.before ++ text ∷ []) (lines_of after))) fault_here
 
   cut_next : lines_of timing ≡ (r.before ++ text ∷ []) ++ lines_of after
@@ -42,7 +43,7 @@ module _ (timing rest after text : List ℕ) (entries : List Entry) (bytes line 
       ∙ ap (λ es. entries ++ es) (one_entry (entry_in (entry_of text)))
 
   -- the fault on the next line is the timing's
-  pub line_faulty : (f : Fault) → fault_on (line + 1) (length entries) bytes (entry_of text) ≡ Some f → timing_fault timing ≡ Some f
+  pub line_faulty : (f : Fault) → fault_of_line (line + 1) (length entries) bytes (entry_of text) ≡ Some f → timing_fault timing ≡ Some f
   line_faulty f faulty = fault_next ∙ rw faulty refl
 
   pub line_blank : length after < length rest → entry_of text ≡ Ok None → ReadSoFar timing after entries bytes (line + 1)
@@ -57,7 +58,8 @@ module _ (timing rest after text : List ℕ) (entries : List Entry) (bytes line 
     behind = omega (arith, r.behind);
   }
 
-  pub line_timed : (e : Entry) → length after < length rest → entry_of text ≡ Ok (Some e) → IsWithin e → length entries < most_chunks → bytes + e.count ≤ longest_body
+  pub line_timed : (e : Entry) → length after < length rest → entry_of text ≡ Ok (Some e) → IsWithin e
+      → length entries < most_chunks → bytes + e.count ≤ longest_body
       → ReadSoFar timing after (entries ++ e ∷ []) (bytes + e.count) (line + 1)
   line_timed e shorter timed fits few small =
       let sum : counted_bytes (entries ++ e ∷ []) ≡ bytes + e.count = sum_by_push (λ x. x.count) entries e ∙ ap (λ n. n + e.count) (sym r.counted) in

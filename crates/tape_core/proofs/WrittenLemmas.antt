@@ -28,8 +28,10 @@ unfolding seconds_form
 length-seconds_form us = omega (arith, length-append (decimal (us / 1000000)) (46 ∷ six_digits (us % 1000000)), length-six_digits us)
 
 -- digits written over the end of a point and six zeros, which stand before the rest
-pub decimals_written : (front rest digits new : List ℕ) (point start : ℕ) → length front ≡ point → start + length digits ≡ point + 7 → length digits ≤ 6
-    → take start new ≡ take start (front ++ ((46 ∷ replicate 6 48) ++ rest)) → drop start new ≡ digits ++ drop (point + 7) (front ++ ((46 ∷ replicate 6 48) ++ rest))
+pub decimals_written : (front rest digits new : List ℕ) (point start : ℕ) → length front ≡ point
+    → start + length digits ≡ point + 7 → length digits ≤ 6
+    → take start new ≡ take start (front ++ ((46 ∷ replicate 6 48) ++ rest))
+    → drop start new ≡ digits ++ drop (point + 7) (front ++ ((46 ∷ replicate 6 48) ++ rest))
     → drop point new ≡ (46 ∷ (replicate (6 - length digits) 48 ++ digits)) ++ rest
 decimals_written front rest digits new point start long placed short before written =
     let k = 6 - length digits in
@@ -49,7 +51,8 @@ decimals_written front rest digits new point start long placed short before writ
 -- decimals, and then the whole seconds before them
 pub seconds_written : (us : ℕ) (buf mid buf' buf'' : List ℕ) (end first start : ℕ) → 21 ≤ end → end ≤ length buf → mid ≡ 46 ∷ replicate 6 48
     → first + length (decimal (us % 1000000)) ≡ end → take first buf' ≡ take first (put_mid (end - 7) (end - (end - 7)) buf mid)
-    → drop first buf' ≡ decimal (us % 1000000) ++ drop end (put_mid (end - 7) (end - (end - 7)) buf mid) → drop start buf'' ≡ decimal (us / 1000000) ++ drop (end - 7) buf'
+    → drop first buf' ≡ decimal (us % 1000000) ++ drop end (put_mid (end - 7) (end - (end - 7)) buf mid)
+    → drop start buf'' ≡ decimal (us / 1000000) ++ drop (end - 7) buf'
     → drop start buf'' ≡ seconds_form us ++ drop end buf
 unfolding seconds_form
 seconds_written us buf mid buf' buf'' end first start room within is placed before written whole =
@@ -72,7 +75,8 @@ length-put_mid a k xs ys within same =
     omega (arith, length-append (take a xs) (ys ++ drop k (drop a xs)), length-append ys (drop k (drop a xs)), length-take a xs, length-drop k (drop a xs), length-drop a xs)
 
 -- a timing line: LF, the count before it, a space, and what was written before that
-pub line_written : (buf buf' buf'' seconds : List ℕ) (count end first start : ℕ) → end + 1 ≡ length buf → 0 < first → first ≤ end → length buf' ≡ length buf
+pub line_written : (buf buf' buf'' seconds : List ℕ) (count end first start : ℕ) → end + 1 ≡ length buf → 0 < first
+    → first ≤ end → length buf' ≡ length buf
     → drop first buf' ≡ decimal count ++ drop end (set buf end 10) → drop start buf'' ≡ seconds ++ drop (first - 1) (set buf' (first - 1) 32)
     → drop start buf'' ≡ seconds ++ 32 ∷ decimal count ++ 10 ∷ []
 line_written buf buf' buf'' seconds count end first start last some within same counted spaced =
@@ -83,14 +87,16 @@ line_written buf buf' buf'' seconds count end first start last some within same 
     spaced ∙ ap (λ x. seconds ++ x) space ∙ sym (append_assoc seconds (32 ∷ decimal count) (10 ∷ []))
 
 -- pieces joined, cut round one of them
-pub flat_map_cut : {X : Type 0} (f : X → List ℕ) (xs : List X) (i : ℕ) (x : X) → i < length xs → x ≡ get_or xs i x → flat_map f xs ≡ (flat_map f (take i xs) ++ f x) ++ flat_map f (drop (i + 1) xs)
+pub flat_map_cut : {X : Type 0} (f : X → List ℕ) (xs : List X) (i : ℕ) (x : X) → i < length xs → x ≡ get_or xs i x
+    → flat_map f xs ≡ (flat_map f (take i xs) ++ f x) ++ flat_map f (drop (i + 1) xs)
 flat_map_cut f xs i x lt is =
     let cut = sym (flat_map-append f (take i xs) (drop i xs)) ∙ ap (flat_map f) (take-append-drop i xs) in
     sym cut ∙ ap (λ ys. flat_map f (take i xs) ++ flat_map f ys) (drop_more xs i x lt) ∙ ap (λ y. flat_map f (take i xs) ++ (f y ++ flat_map f (drop (i + 1) xs))) (sym is)
     ∙ sym (append_assoc (flat_map f (take i xs)) (f x) (flat_map f (drop (i + 1) xs)))
 
 -- a writer that stopped in one of the pieces
-pub stopped_in_piece : {T X : Type 0} {contents : T → Option (List ℕ)} {a b c : Watched T} {failed : Bool} (f : X → List ℕ) (xs : List X) (i : ℕ) (x : X) → i < length xs → x ≡ get_or xs i x
+pub stopped_in_piece : {T X : Type 0} {contents : T → Option (List ℕ)} {a b c : Watched T} {failed : Bool} (f : X → List ℕ) (xs : List X) (i : ℕ) (x : X)
+    → i < length xs → x ≡ get_or xs i x
     → Took contents a b (flat_map f (take i xs)) → TookPart contents b c (f x) failed → TookPart contents a c (flat_map f xs) failed
 stopped_in_piece {contents = contents} {a = a} {c = c} {failed = failed} f xs i x lt is took stopped =
     subst (λ t. TookPart contents a c t failed) (sym (flat_map_cut f xs i x lt is)) (stopped_before (flat_map f (drop (i + 1) xs)) (stopped-append took stopped))

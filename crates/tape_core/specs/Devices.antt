@@ -1,6 +1,5 @@
 -- What readers told and writers took, and whether they have failed (ours). The words for what became of a device:
 --
---   Told           a reader told some bytes at one call, and none only at its end
 --   ToldAll        a reader told all that it had
 --   StopsReading   a reader wasn't read to its end, for this reason
 --   Took           a writer has taken a text whole
@@ -8,8 +7,8 @@
 --   Puts           a writer was given a text: it took it whole, or a write fault is told and it failed in it
 --
 -- Every function that writes says what it puts, by `Puts`.
-use Rattle.std.specs.Prelude.{◌≡◌, ℕ, ◌≤◌, Bool, true, false, List, [], ◌∷◌, ◌++◌, take, length, Option, IfSome, Result, MatchResult}
-use Rattle.std.specs.Io.KnownBytes.{Appends, Consumes, IsAtEnd}
+use Rattle.std.specs.Prelude.{◌≡◌, ℕ, Bool, true, false, List, [], ◌∷◌, ◌++◌, Option, IfSome, Result, MatchResult}
+use Rattle.std.specs.Io.KnownBytes.{Appends, IsAtEnd}
 use Rattle.tape_core.specs.declared.devices.Watched.{Watched}
 use Rattle.tape_core.specs.declared.fault.Fault.{Fault}
 use Rattle.tape_core.specs.declared.fault.Fault.TheVariants.{OutOfMemory, ReadFault, WriteFault}
@@ -25,13 +24,6 @@ has_failed watched = watched.failed
 -- whether the writer was flushed without a fault, and nothing was put behind that, not even no bytes (ours)
 abbrev pub is_flushed : {T : Type 0} → Watched T → Bool
 is_flushed watched = watched.flushed
-
--- the reader is sound and has told the first `count` bytes of the piece, none only at the end (ours)
-pub record Told {T : Type 0} (remaining : T → Option (List ℕ)) (old new : Watched T) (piece : List ℕ) (count : ℕ) : Type 0 where
-  pub sound : has_failed new ≡ false
-  pub within : count ≤ length piece
-  pub told : Consumes (remaining (inner_of old)) (remaining (inner_of new)) (take count piece)
-  pub end : count ≡ 0 → IsAtEnd (remaining (inner_of new))
 
 -- the reader is sound, and this text is all that it had to tell (ours)
 pub record ToldAll {T : Type 0} (remaining : T → Option (List ℕ)) (old new : Watched T) (text : List ℕ) : Type 0 where
@@ -62,8 +54,10 @@ pub record TookPart {T : Type 0} (contents : T → Option (List ℕ)) (old new :
 abbrev pub StoppedIn : {T : Type 0} → (T → Option (List ℕ)) → Watched T → Watched T → List ℕ → Type 0
 StoppedIn contents old new text = TookPart contents old new text true
 
--- the writer was given this text: at Ok it has taken it whole, and at Err that is a write fault, and it has failed in it (ours)
-abbrev pub Puts : {T : Type 0} → (T → Option (List ℕ)) → Watched T → Watched T → List ℕ → Result (Unit {0}) Fault → Type 0
+-- the writer was given this text: at Ok it has taken it whole, and at Err that is a write fault, and it has failed in
+-- it (ours)
+abbrev pub Puts : {T : Type 0} → (T → Option (List ℕ)) → Watched T → Watched T → List ℕ
+    → Result (Unit {0}) Fault → Type 0
 Puts contents old new text result = MatchResult result
     (λ done. Took contents old new text)
     (λ fault. (fault ≡ WriteFault) × TookPart contents old new text true)

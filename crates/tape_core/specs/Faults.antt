@@ -5,19 +5,19 @@ use Rattle.tape_core.specs.declared.fault.Fault.{Fault}
 use Rattle.tape_core.specs.declared.fault.Fault.TheVariants.{NoHeader, BadDelay, BadCount, MultiStream, DelayTooLarge, ChunkTooLong, TooManyChunks, TooManyBytes, ScriptShort, OutOfMemory, ReadFault, WriteFault}
 
 -- a fault of a line of the timing file, told with its number (ours)
-abbrev pub line_text : ℕ → List ℕ → List ℕ
-line_text line what = codes "timing line " ++ decimal line ++ what
+abbrev pub timing_line_text : ℕ → List ℕ → List ℕ
+timing_line_text line what = codes "timing line " ++ decimal line ++ what
 
 -- the text of each fault (ours)
 abbrev pub fault_text : Fault → List ℕ
 fault_text NoHeader = codes "typescript has no header line"
-fault_text (BadDelay line) = line_text line (codes ": bad delay")
-fault_text (BadCount line) = line_text line (codes ": bad count")
-fault_text (MultiStream line) = line_text line (codes ": multi-stream format")
-fault_text (DelayTooLarge line) = line_text line (codes ": delay too large")
-fault_text (ChunkTooLong line) = line_text line (codes ": chunk too long")
-fault_text (TooManyChunks line) = line_text line (codes ": too many chunks")
-fault_text (TooManyBytes line) = line_text line (codes ": too many bytes")
+fault_text (BadDelay line) = timing_line_text line (codes ": bad delay")
+fault_text (BadCount line) = timing_line_text line (codes ": bad count")
+fault_text (MultiStream line) = timing_line_text line (codes ": multi-stream format")
+fault_text (DelayTooLarge line) = timing_line_text line (codes ": delay too large")
+fault_text (ChunkTooLong line) = timing_line_text line (codes ": chunk too long")
+fault_text (TooManyChunks line) = timing_line_text line (codes ": too many chunks")
+fault_text (TooManyBytes line) = timing_line_text line (codes ": too many bytes")
 fault_text (ScriptShort chunk) = codes "typescript ends inside chunk " ++ decimal chunk
 fault_text OutOfMemory = codes "out of memory"
 fault_text ReadFault = codes "read fault"
@@ -28,12 +28,4 @@ abbrev pub is_stop : Fault → Bool
 is_stop OutOfMemory = true
 is_stop ReadFault = true
 is_stop WriteFault = true
-is_stop NoHeader = false
-is_stop (BadDelay line) = false
-is_stop (BadCount line) = false
-is_stop (MultiStream line) = false
-is_stop (DelayTooLarge line) = false
-is_stop (ChunkTooLong line) = false
-is_stop (TooManyChunks line) = false
-is_stop (TooManyBytes line) = false
-is_stop (ScriptShort chunk) = false
+is_stop _ = false

@@ -1,4 +1,4 @@
--- What a recording keeps beside its lists, so that no reader adds up all delays again.
+-- Private: what a recording keeps beside its lists, so that no reader adds up all delays again.
 use Rattle.std.specs.Prelude.{◌≡◌, ℕ, ◌<◌, List, length, slice_index}
 use Rattle.tape_core.specs.declared.chunk.Chunk.{Chunk}
 use Rattle.tape_core.specs.Tape.{Tape, fits, body_len}
@@ -10,7 +10,7 @@ pub record AreDueTimes (chunks : List Chunk) (dues : List ℕ) : Type 0 where
   pub times : (i : ℕ) → i < length chunks → slice_index dues i ≡ due_time chunks i
 
 -- The recording fits, and its sums are right.
-pub record IsKept (tape : Tape) (dues : List ℕ) (bytes : ℕ) : Type 0 where
+pub record IsSummed (tape : Tape) (dues : List ℕ) (bytes : ℕ) : Type 0 where
   pub fitting : fits tape
   pub due : AreDueTimes tape.chunks dues
   pub sum : bytes ≡ body_len tape.chunks

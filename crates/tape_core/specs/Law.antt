@@ -2,44 +2,53 @@
 use Rattle.std.specs.Prelude.{◌≡◌, ℕ, ◌+◌, ◌<◌, ◌≤◌, ◌^◌, ◌↔◌, ◌==◌, All, List, [], ◌∷◌, ◌++◌, Some, false, true, length, slice_index_or}
 use Rattle.std.specs.Fmt.{decimal}
 use Rattle.tape_core.specs.declared.chunk.Chunk.{Chunk}
-use Rattle.tape_core.specs.Changes.{capped, inserted, removed, replaced, retimed}
+use Rattle.tape_core.specs.Edited.{capped, inserted, removed, replaced, retimed}
 use Rattle.tape_core.specs.Due.{bytes_at, due_count, due_time, first}
-use Rattle.tape_core.specs.Seconds.{SecondsText, last_moment, seconds_of}
+use Rattle.tape_core.specs.Seconds.{IsSeconds, last_moment, seconds_of}
 use Rattle.tape_core.specs.Tape.{Tape, body_len}
 use Rattle.tape_core.specs.Text.{IsWord, fields, is_blank, lines_of, number_of}
 use Rattle.tape_core.specs.Written.{seconds_form}
 
--- a chunk is due by a moment just where its place is below the count of those due
+-- a chunk is due by a moment just where its index is below the count of those due
 abbrev pub DueIsBelowTheCount : Type 0
-DueIsBelowTheCount = (chunks : List Chunk) (t i : ℕ) → i < length chunks → ((due_time chunks i ≤ t) ↔ (i < due_count chunks t))
+DueIsBelowTheCount = (chunks : List Chunk) (t i : ℕ) → i < length chunks
+    → ((due_time chunks i ≤ t) ↔ (i < due_count chunks t))
 
 -- the first chunks and one more are the first chunks' bytes and those of the next
 pub record FirstGrowsByAChunk : Type 0 where
   pub at : (chunks : List Chunk) (n : ℕ) → first chunks (n + 1) ≡ first chunks n ++ bytes_at chunks n
-  pub of : (chunks : List Chunk) (n : ℕ) (chunk : Chunk) → n < length chunks → slice_index_or chunks n chunk ≡ chunk → first chunks (n + 1) ≡ first chunks n ++ chunk.bytes
+  pub of : (chunks : List Chunk) (n : ℕ) (chunk : Chunk) → n < length chunks
+      → slice_index_or chunks n chunk ≡ chunk → first chunks (n + 1) ≡ first chunks n ++ chunk.bytes
 
--- a change of the chunks leaves the bytes of those before its place as they were, and a change of delays all bytes
+-- an edit of the chunks leaves the bytes of those before its index as they were, and an edit of delays all bytes
 pub record FirstIsKept : Type 0 where
-  pub inserted : (tape : Tape) (at n : ℕ) (chunk : Chunk) → n ≤ at → at ≤ length tape.chunks → first (inserted at chunk tape).chunks n ≡ first tape.chunks n
-  pub removed : (tape : Tape) (from to n : ℕ) → n ≤ from → from ≤ length tape.chunks → first (removed from to tape).chunks n ≡ first tape.chunks n
-  pub replaced : (tape : Tape) (at n : ℕ) (bytes : List ℕ) → n ≤ at → first (replaced at bytes tape).chunks n ≡ first tape.chunks n
+  pub inserted : (tape : Tape) (at n : ℕ) (chunk : Chunk) → n ≤ at → at ≤ length tape.chunks
+      → first (inserted at chunk tape).chunks n ≡ first tape.chunks n
+  pub removed : (tape : Tape) (from to n : ℕ) → n ≤ from → from ≤ length tape.chunks
+      → first (removed from to tape).chunks n ≡ first tape.chunks n
+  pub replaced : (tape : Tape) (at n : ℕ) (bytes : List ℕ) → n ≤ at
+      → first (replaced at bytes tape).chunks n ≡ first tape.chunks n
   pub retimed : (tape : Tape) (at delay n : ℕ) → first (retimed at delay tape).chunks n ≡ first tape.chunks n
   pub capped : (tape : Tape) (max n : ℕ) → first (capped max tape).chunks n ≡ first tape.chunks n
 
 -- the bytes of all chunks, after a chunk came in and after one got others
 pub record BodiesAddUp : Type 0 where
-  pub inserted : (tape : Tape) (at : ℕ) (chunk : Chunk) → body_len (inserted at chunk tape).chunks ≡ body_len tape.chunks + length chunk.bytes
-  pub replaced : (tape : Tape) (at : ℕ) (bytes : List ℕ) (chunk : Chunk) → at < length tape.chunks → chunk ≡ slice_index_or tape.chunks at chunk
+  pub inserted : (tape : Tape) (at : ℕ) (chunk : Chunk)
+      → body_len (inserted at chunk tape).chunks ≡ body_len tape.chunks + length chunk.bytes
+  pub replaced : (tape : Tape) (at : ℕ) (bytes : List ℕ) (chunk : Chunk) → at < length tape.chunks
+      → chunk ≡ slice_index_or tape.chunks at chunk
       → body_len (replaced at bytes tape).chunks + length chunk.bytes ≡ body_len tape.chunks + length bytes
 
 -- a word is one field, and the fields of a word, a blank and a text are the word and the text's
 pub record AWordIsAField : Type 0 where
   pub alone : (word : List ℕ) → IsWord word → fields word ≡ word ∷ []
-  pub first : (word rest : List ℕ) (b : ℕ) → IsWord word → is_blank b ≡ true → fields (word ++ b ∷ rest) ≡ word ∷ fields rest
+  pub first : (word rest : List ℕ) (b : ℕ) → IsWord word → is_blank b ≡ true
+      → fields (word ++ b ∷ rest) ≡ word ∷ fields rest
 
 -- the lines of a text without an LF, an LF and another text are the first text and the other's lines
 abbrev pub AnLfEndsALine : Type 0
-AnLfEndsALine = (text rest : List ℕ) → All (λ b. (b == 10) ≡ false) text → lines_of (text ++ 10 ∷ rest) ≡ text ∷ lines_of rest
+AnLfEndsALine = (text rest : List ℕ) → All (λ b. (b == 10) ≡ false) text
+    → lines_of (text ++ 10 ∷ rest) ≡ text ∷ lines_of rest
 
 -- numbers below 2^64 are written as a word of digits, and read back
 pub record NumbersReadBack : Type 0 where
@@ -50,5 +59,5 @@ pub record NumbersReadBack : Type 0 where
 -- moment are read back
 pub record SecondsReadBack : Type 0 where
   pub word : (us : ℕ) → us < 2 ^ 64 → IsWord (seconds_form us)
-  pub spelled : (us : ℕ) → us < 2 ^ 64 → SecondsText (seconds_form us) us
+  pub spelled : (us : ℕ) → us < 2 ^ 64 → IsSeconds (seconds_form us) us
   pub read : (us : ℕ) → us ≤ last_moment → seconds_of (seconds_form us) ≡ Some us

@@ -7,6 +7,7 @@ pub mod Seconds
 pub mod Timing
 pub mod Reading
 pub mod Kept
+pub mod Steps
 pub mod Law
-pub mod Changes
+pub mod Edited
 pub mod Written

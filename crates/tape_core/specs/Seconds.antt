@@ -9,12 +9,13 @@ use Rattle.std.specs.Str.Parse.{digits_value}
 abbrev pub second : ℕ
 second = 1000000
 
--- The microseconds that whole seconds and decimals write: digits past the sixth decimal are dropped, missing ones are zeros. script(1).
+-- The microseconds that whole seconds and decimals write: digits past the sixth decimal are dropped, missing ones are
+-- zeros. script(1).
 abbrev pub micros : List ℕ → List ℕ → ℕ
 micros whole decimals = second * digits_value 10 whole + digits_value 10 (take 6 (decimals ++ replicate 6 48))
 
 -- The text is decimal seconds: one or more digits, optionally a point and zero or more digits. script(1).
-pub record SecondsText (text : List ℕ) (us : ℕ) : Type 0 where
+pub record IsSeconds (text : List ℕ) (us : ℕ) : Type 0 where
   pub whole : List ℕ
   pub decimals : List ℕ
   pub some : 0 < length whole
@@ -28,7 +29,9 @@ abbrev pub micros_of : List ℕ → Option ℕ
 micros_of text =
     let whole = before_first (λ b. b == 46) text in
     let decimals = after_first (λ b. b == 46) text in
-    if nat_lt 0 (length whole) && (list_all is_ascii_digit whole && list_all is_ascii_digit decimals) then Some (micros whole decimals) else None
+    if nat_lt 0 (length whole) && (list_all is_ascii_digit whole && list_all is_ascii_digit decimals)
+    then Some (micros whole decimals)
+    else None
 
 -- The greatest moment, in microseconds (ours).
 abbrev pub last_moment : ℕ

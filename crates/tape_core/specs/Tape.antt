@@ -3,7 +3,8 @@ use Rattle.std.specs.Prelude.{◌≡◌, ℕ, ◌+◌, ◌≤◌, List, length, 
 use Rattle.std.specs.List.{flat_map, position_or_len}
 use Rattle.tape_core.specs.declared.chunk.Chunk.{Chunk}
 
--- A recording as plain lists: the typescript's first line, the chunks that the timing counts, and all bytes after them. script(1).
+-- A recording as plain lists: the typescript's first line, the chunks that the timing counts, and all bytes after
+-- them. script(1).
 pub record Tape : Type 0 where
   pub header : List ℕ
   pub chunks : List Chunk
@@ -35,7 +36,7 @@ longest_delay = 1000000000000
 abbrev pub IsHeader : List ℕ → Type 0
 IsHeader text = length text ≡ position_or_len (λ b. b == 10) text + 1
 
--- The recording's header is one line, and the limits hold. script(1); limits: profile.
+-- The recording's header is one line, and the limits hold. script(1); the limits are ours.
 pub record fits (tape : Tape) : Type 0 where
   pub header : IsHeader tape.header
   pub few : length tape.chunks ≤ most_chunks

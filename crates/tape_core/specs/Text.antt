@@ -37,4 +37,5 @@ pub record NumberText (text : List ℕ) (n : ℕ) : Type 0 where
 
 -- The same as a function.
 abbrev pub number_of : List ℕ → Option ℕ
-number_of text = if nat_lt 0 (length text) && list_all is_ascii_digit text then Some (digits_value 10 text) else None
+number_of text =
+    if nat_lt 0 (length text) && list_all is_ascii_digit text then Some (digits_value 10 text) else None

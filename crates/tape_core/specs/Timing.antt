@@ -3,22 +3,25 @@ use Rattle.std.specs.Prelude.{◌≡◌, ℕ, ◌+◌, ◌<◌, ◌≤◌, ◌�
 use Rattle.std.specs.List.{AllPass, filter_map}
 use Rattle.std.specs.Option.{option_map, option_or}
 use Rattle.tape_core.specs.declared.timing.Entry.{Entry}
-use Rattle.tape_core.specs.declared.timing.LineFault.{LineFault}
-use Rattle.tape_core.specs.declared.timing.LineFault.TheVariants as line
+use Rattle.tape_core.specs.declared.timing.EntryFault.{EntryFault}
+use Rattle.tape_core.specs.declared.timing.EntryFault.TheVariants as line
 use Rattle.tape_core.specs.declared.fault.Fault.{Fault}
 use Rattle.tape_core.specs.declared.fault.Fault.TheVariants as fault
-use Rattle.tape_core.specs.Seconds.{SecondsText, micros_of}
+use Rattle.tape_core.specs.Seconds.{IsSeconds, micros_of}
 use Rattle.tape_core.specs.Text.{NumberText, fields, is_blank, lines_of, number_of}
 use Rattle.tape_core.specs.Tape.{longest_delay, longest_chunk, longest_body, most_chunks}
 
 abbrev pub is_letter : ℕ → Bool
 is_letter b = (nat_le 65 b && nat_le b 90) || (nat_le 97 b && nat_le b 122)
 
--- The text is a delay: decimal seconds, or `-` and decimal seconds, which is zero. script(1); `-`: profile.
+-- The text is a delay: decimal seconds, or `-` and decimal seconds, which is zero. script(1); `-` is ours.
 abbrev pub DelayText : List ℕ → ℕ → Type 0
-DelayText text delay = SecondsText text delay ⊎ ((seconds : List ℕ) × (us : ℕ) × (text ≡ 45 ∷ seconds) × SecondsText seconds us × (delay ≡ 0))
+DelayText text delay =
+    IsSeconds text delay
+    ⊎ ((seconds : List ℕ) × (us : ℕ) × (text ≡ 45 ∷ seconds) × IsSeconds seconds us × (delay ≡ 0))
 
--- A line of the classic timing format: blanks, a delay, at least one blank, a count, blanks. script(1); outer blanks: profile.
+-- A line of the classic timing format: blanks, a delay, at least one blank, a count, blanks. script(1); outer blanks:
+-- ours.
 pub record TimingLine (text : List ℕ) (delay count : ℕ) : Type 0 where
   pub before : List ℕ
   pub first : List ℕ
@@ -48,31 +51,33 @@ abbrev pub begins_with_letter : List ℕ → Bool
 begins_with_letter [] = false
 begins_with_letter (b ∷ bs) = is_letter b
 
--- The faults of a line, in the order in which they are tried: multi-stream, bad delay, bad count, delay too large, chunk too long (ours).
-abbrev pub within_limits : ℕ → ℕ → Result (Option Entry) LineFault
+-- The faults of a line, in the order in which they are tried: multi-stream, bad delay, bad count, delay too large,
+-- chunk too long (ours).
+abbrev pub within_limits : ℕ → ℕ → Result (Option Entry) EntryFault
 within_limits delay count =
     if nat_lt longest_delay delay then Err line.DelayTooLarge
     else if nat_lt longest_chunk count then Err line.ChunkTooLong
     else Ok (Some (record { delay = delay; count = count }))
 
-abbrev pub counted : ℕ → Option ℕ → Result (Option Entry) LineFault
+abbrev pub counted : ℕ → Option ℕ → Result (Option Entry) EntryFault
 counted delay None = Err line.BadCount
 counted delay (Some count) = within_limits delay count
 
-abbrev pub delayed : Option ℕ → Option ℕ → Result (Option Entry) LineFault
+abbrev pub delayed : Option ℕ → Option ℕ → Result (Option Entry) EntryFault
 delayed None count = Err line.BadDelay
 delayed (Some delay) count = counted delay count
 
-abbrev pub entry_of_fields : List (List ℕ) → Result (Option Entry) LineFault
+abbrev pub entry_of_fields : List (List ℕ) → Result (Option Entry) EntryFault
 entry_of_fields [] = Ok None
-entry_of_fields (first ∷ rest) = if begins_with_letter first then Err line.MultiStream else delayed (delay_of first) (only_count rest)
+entry_of_fields (first ∷ rest) =
+    if begins_with_letter first then Err line.MultiStream else delayed (delay_of first) (only_count rest)
 
 -- What a line says: nothing where it is blank, an entry, or its first fault.
-abbrev pub entry_of : List ℕ → Result (Option Entry) LineFault
+abbrev pub entry_of : List ℕ → Result (Option Entry) EntryFault
 entry_of text = entry_of_fields (fields text)
 
 -- The entries of the lines that have one, in order.
-abbrev pub entry_in : Result (Option Entry) LineFault → Option Entry
+abbrev pub entry_in : Result (Option Entry) EntryFault → Option Entry
 entry_in (Ok entry) = entry
 entry_in (Err f) = None
 
@@ -83,25 +88,27 @@ abbrev pub counted_bytes : List Entry → ℕ
 counted_bytes entries = sum_by (λ e. e.count) entries
 
 -- A line's fault with the line's number, counted from 1.
-abbrev pub at_line : LineFault → ℕ → Fault
+abbrev pub at_line : EntryFault → ℕ → Fault
 at_line line.MultiStream n = fault.MultiStream n
 at_line line.BadDelay n = fault.BadDelay n
 at_line line.BadCount n = fault.BadCount n
 at_line line.DelayTooLarge n = fault.DelayTooLarge n
 at_line line.ChunkTooLong n = fault.ChunkTooLong n
 
--- The fault of line n, after so many entries that count so many bytes: its own, or one entry or one byte too many (ours).
-abbrev pub fault_on : ℕ → ℕ → ℕ → Result (Option Entry) LineFault → Option Fault
-fault_on n entries bytes (Err f) = Some (at_line f n)
-fault_on n entries bytes (Ok None) = None
-fault_on n entries bytes (Ok (Some e)) =
+-- The fault of line n, after so many entries that count so many bytes: its own, or one entry or one byte too many
+-- (ours).
+abbrev pub fault_of_line : ℕ → ℕ → ℕ → Result (Option Entry) EntryFault → Option Fault
+fault_of_line n entries bytes (Err f) = Some (at_line f n)
+fault_of_line n entries bytes (Ok None) = None
+fault_of_line n entries bytes (Ok (Some e)) =
     if nat_le most_chunks entries then Some (fault.TooManyChunks n)
     else if nat_lt longest_body (bytes + e.count) then Some (fault.TooManyBytes n)
     else None
 
 -- The fault of a line that stands after the others: blank lines count in its number, and not as entries.
 abbrev pub fault_after : List (List ℕ) → List ℕ → Option Fault
-fault_after before text = fault_on (length before + 1) (length (entries_of before)) (counted_bytes (entries_of before)) (entry_of text)
+fault_after before text =
+    fault_of_line (length before + 1) (length (entries_of before)) (counted_bytes (entries_of before)) (entry_of text)
 
 -- The fault of the first line that has one, where the lines stand after those before.
 abbrev pub first_fault : List (List ℕ) → List (List ℕ) → Option Fault
@@ -111,20 +118,24 @@ first_fault before (text ∷ rest) = option_or (fault_after before text) (first_
 abbrev pub timing_fault : List ℕ → Option Fault
 timing_fault timing = first_fault [] (lines_of timing)
 
--- The limits of one entry, and of all together (ours).
+-- The limits of one entry (ours).
 pub record IsWithin (entry : Entry) : Type 0 where
   pub delay : entry.delay ≤ longest_delay
   pub count : entry.count ≤ longest_chunk
 
-pub record AreWithin (entries : List Entry) : Type 0 where
-  pub few : length entries ≤ most_chunks
-  pub each : All IsWithin entries
-  pub bytes : counted_bytes entries ≤ longest_body
-
--- What each fault of a line means: its first field begins with a letter; that field is no delay; it is one, and what stands behind it is not just a count; the line is one of the format, and its delay or, where that is within the limit, its count is too large. script(1); limits: profile.
-abbrev pub IsFaulty : List ℕ → LineFault → Type 0
-IsFaulty text line.MultiStream = (first : List ℕ) × (rest : List (List ℕ)) × (fields text ≡ first ∷ rest) × (begins_with_letter first ≡ true)
-IsFaulty text line.BadDelay = (first : List ℕ) × (rest : List (List ℕ)) × (fields text ≡ first ∷ rest) × (begins_with_letter first ≡ false) × ((delay : ℕ) → DelayText first delay → ⊥)
-IsFaulty text line.BadCount = (first : List ℕ) × (rest : List (List ℕ)) × (delay : ℕ) × (fields text ≡ first ∷ rest) × DelayText first delay × ((second : List ℕ) (count : ℕ) → rest ≡ second ∷ [] → NumberText second count → ⊥)
-IsFaulty text line.DelayTooLarge = (delay : ℕ) × (count : ℕ) × TimingLine text delay count × (longest_delay < delay)
-IsFaulty text line.ChunkTooLong = (delay : ℕ) × (count : ℕ) × TimingLine text delay count × (delay ≤ longest_delay) × (longest_chunk < count)
+-- What each fault of a line means: its first field begins with a letter; that field is no delay; it is one, and what
+-- stands behind it is not just a count; the line is one of the format, and its delay or, where that is within the
+-- limit, its count is too large. script(1); the limits are ours.
+abbrev pub IsFaulty : List ℕ → EntryFault → Type 0
+IsFaulty text line.MultiStream =
+    (first : List ℕ) × (rest : List (List ℕ)) × (fields text ≡ first ∷ rest) × (begins_with_letter first ≡ true)
+IsFaulty text line.BadDelay =
+    (first : List ℕ) × (rest : List (List ℕ)) × (fields text ≡ first ∷ rest) × (begins_with_letter first ≡ false)
+    × ((delay : ℕ) → DelayText first delay → ⊥)
+IsFaulty text line.BadCount =
+    (first : List ℕ) × (rest : List (List ℕ)) × (delay : ℕ) × (fields text ≡ first ∷ rest) × DelayText first delay
+    × ((second : List ℕ) (count : ℕ) → rest ≡ second ∷ [] → NumberText second count → ⊥)
+IsFaulty text line.DelayTooLarge =
+    (delay : ℕ) × (count : ℕ) × TimingLine text delay count × (longest_delay < delay)
+IsFaulty text line.ChunkTooLong =
+    (delay : ℕ) × (count : ℕ) × TimingLine text delay count × (delay ≤ longest_delay) × (longest_chunk < count)

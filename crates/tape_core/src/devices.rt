@@ -3,7 +3,8 @@
 //! No fault is retried. After a fault the device is left alone: each call here asks for one that hasn't failed.
 
 ghost use Rattle.std.specs.Prelude.{◌≡◌, ◌<◌, ◌≤◌, true, false, [], length, map, take, vec_len, OnOk, IfOk, IfErr, OnErr, is_ok, is_err};
-ghost use Rattle.tape_core.specs.Devices.{inner_of, has_failed, is_flushed, Told, ToldAll, StopsReading, Took, TookPart, Puts, joined};
+ghost use Rattle.tape_core.specs.Devices.{inner_of, has_failed, is_flushed, ToldAll, StopsReading, Took, TookPart, Puts, joined};
+ghost use Rattle.tape_core.specs.Steps.{Told};
 
 use crate::fault::Fault;
 use crate::laws::pieces_join;
@@ -116,7 +117,8 @@ impl<W: Write> Watched<W> {
         requires nonempty { 0 < length piece.now }
         ensures unflushed { is_flushed self.new ≡ is_flushed self.old }
         ensures taken { IfOk result (λ count. (0 < count) × (count ≤ length piece.now)) }
-        ensures ok { IfOk result (λ count. Took W.contents self.old self.new (take count piece.now)) }
+        ensures ok { IfOk result
+            (λ count. Took W.contents self.old self.new (take count piece.now)) }
         ensures fault { IfErr result (λ fault. fault ≡ Fault.WriteFault) }
         ensures stopped { OnErr result (TookPart W.contents self.old self.new [] true) }
     {

@@ -4,11 +4,11 @@ ghost use Rattle.std.specs.List.{AllPass, flat_map};
 ghost use Rattle.tape_core.specs.declared.chunk.Chunk.{Chunk};
 ghost use Rattle.tape_core.specs.declared.devices.Watched.{Watched};
 ghost use Rattle.tape_core.specs.declared.timing.Entry.{Entry};
-ghost use Rattle.tape_core.specs.declared.timing.LineFault.{LineFault};
+ghost use Rattle.tape_core.specs.declared.timing.EntryFault.{EntryFault};
 ghost use Rattle.tape_core.specs.Devices.{Took, TookPart, has_failed};
 ghost use Rattle.tape_core.specs.Due.{due, due_count, first};
 ghost use Rattle.tape_core.specs.Law.{AWordIsAField, AnLfEndsALine, BodiesAddUp, DueIsBelowTheCount, FirstGrowsByAChunk, FirstIsKept, NumbersReadBack, SecondsReadBack};
-ghost use Rattle.tape_core.specs.Seconds.{SecondsText, last_moment, seconds_of};
+ghost use Rattle.tape_core.specs.Seconds.{IsSeconds, last_moment, seconds_of};
 ghost use Rattle.tape_core.specs.Tape.{Tape, fits};
 ghost use Rattle.tape_core.specs.Reading.{reads};
 ghost use Rattle.tape_core.specs.Text.{NumberText, is_blank, number_of};
@@ -22,7 +22,7 @@ pub fn due_is_first()
     ensures { (chunks : List Chunk) (t : ℕ) → due chunks t ≡ first chunks (due_count chunks t) }
 {}
 
-/// A chunk is due by a moment just where its place is below the count of the chunks due.
+/// A chunk is due by a moment just where its index is below the count of the chunks due.
 pub fn due_is_below_the_count()
     ensures { DueIsBelowTheCount }
 {}
@@ -32,7 +32,7 @@ pub fn first_grows_by_a_chunk()
     ensures { FirstGrowsByAChunk }
 {}
 
-/// A change of the chunks leaves the bytes of those before its place as they were, and a change of
+/// An edit of the chunks leaves the bytes of those before its index as they were, and an edit of
 /// delays all bytes.
 pub fn first_is_kept()
     ensures { FirstIsKept }
@@ -55,7 +55,9 @@ pub fn an_lf_ends_a_line()
 
 /// A text is read as a number where it is spelled as one, with that value, and nowhere else.
 pub fn numbers_are_spelled()
-    ensures { (text : List ℕ) → MatchOption (number_of text) ((n : ℕ) → NumberText text n → ⊥) (λ n. NumberText text n) }
+    ensures { (text : List ℕ) → MatchOption (number_of text)
+        ((n : ℕ) → NumberText text n → ⊥)
+        (λ n. NumberText text n) }
 {}
 
 /// Numbers below 2^64 are written as a word of digits, and read back.
@@ -65,35 +67,43 @@ pub fn numbers_read_back()
 
 /// A text is read as seconds where it is spelled as seconds, with that value, and nowhere else.
 pub fn seconds_are_spelled()
-    ensures { (text : List ℕ) → MatchOption (seconds_of text) ((us : ℕ) → SecondsText text us → ⊥) (λ us. (value : ℕ) × SecondsText text value × (us ≡ min value last_moment)) }
+    ensures { (text : List ℕ) → MatchOption (seconds_of text)
+        ((us : ℕ) → IsSeconds text us → ⊥)
+        (λ us. (value : ℕ) × IsSeconds text value × (us ≡ min value last_moment)) }
 {}
 
 /// What is read as an entry is a line of the timing format that says it.
 pub fn an_entry_is_a_timing_line()
-    ensures { (text : List ℕ) (entry : Entry) → entry_of text ≡ Ok (Some entry) → TimingLine text entry.delay entry.count }
+    ensures { (text : List ℕ) (entry : Entry)
+        → entry_of text ≡ Ok (Some entry) → TimingLine text entry.delay entry.count }
 {}
 
 /// A line is blank, or an entry within the limits, or has just the fault that is told.
 pub fn a_line_is_blank_timed_or_faulty()
     ensures blank { (text : List ℕ) → entry_of text ≡ Ok None → AllPass is_blank text }
-    ensures timed { (text : List ℕ) (entry : Entry) → entry_of text ≡ Ok (Some entry) → TimingLine text entry.delay entry.count × IsWithin entry }
-    ensures faulty { (text : List ℕ) (fault : LineFault) → entry_of text ≡ Err fault → IsFaulty text fault }
+    ensures timed { (text : List ℕ) (entry : Entry) → entry_of text ≡ Ok (Some entry)
+        → TimingLine text entry.delay entry.count × IsWithin entry }
+    ensures faulty { (text : List ℕ) (fault : EntryFault)
+        → entry_of text ≡ Err fault → IsFaulty text fault }
 {}
 
 /// A blank line is told as one, and a fault that a line has is the one that is told.
 pub fn a_fault_is_told()
     ensures blank { (text : List ℕ) → AllPass is_blank text → entry_of text ≡ Ok None }
-    ensures faulty { (text : List ℕ) (fault : LineFault) → IsFaulty text fault → entry_of text ≡ Err fault }
+    ensures faulty { (text : List ℕ) (fault : EntryFault)
+        → IsFaulty text fault → entry_of text ≡ Err fault }
 {}
 
 /// A line of the timing format within the limits is read as the entry that it says.
 pub fn a_timing_line_is_read()
-    ensures { (text : List ℕ) (entry : Entry) → TimingLine text entry.delay entry.count → IsWithin entry → entry_of text ≡ Ok (Some entry) }
+    ensures { (text : List ℕ) (entry : Entry) → TimingLine text entry.delay entry.count
+        → IsWithin entry → entry_of text ≡ Ok (Some entry) }
 {}
 
 /// A pair of files is read as one recording and no other.
 pub fn a_pair_is_read_once()
-    ensures { (script timing : List ℕ) (one other : Tape) → reads script timing one → reads script timing other → other ≡ one }
+    ensures { (script timing : List ℕ) (one other : Tape)
+        → reads script timing one → reads script timing other → other ≡ one }
 {}
 
 /// Microseconds below 2^64, written as seconds, are a word and spelled seconds with that value; those
@@ -105,7 +115,8 @@ pub fn seconds_read_back()
 /// What is written of a recording that fits is read as that recording and no other.
 pub fn what_is_written_reads_back()
     ensures reads { (tape : Tape) → fits tape → reads (script_text tape) (timing_text tape) tape }
-    ensures alone { (tape other : Tape) → fits tape → reads (script_text tape) (timing_text tape) other → other ≡ tape }
+    ensures alone { (tape other : Tape) → fits tape
+        → reads (script_text tape) (timing_text tape) other → other ≡ tape }
 {}
 
 /// What a writer took of texts one after another. Where it stopped in one of them, or at the flush
@@ -138,7 +149,8 @@ pub fn writers_join<W: Write>()
 
 /// What a writer took of the pieces of a list, one after another, where it stopped in piece i.
 pub fn pieces_join<W: Write, X>()
-    ensures { (a b c : Watched W) (f : X → List ℕ) (pieces : List X) (i : ℕ) (piece : X) (failed : Bool)
+    ensures { (a b c : Watched W) (f : X → List ℕ)
+        (pieces : List X) (i : ℕ) (piece : X) (failed : Bool)
         → i < length pieces → piece ≡ slice_index_or pieces i piece
         → Took W.contents a b (flat_map f (take i pieces))
         → TookPart W.contents b c (f piece) failed

@@ -2,7 +2,8 @@
 ghost use Rattle.std.specs.Prelude.{◌≡◌, ◌≢◌, ◌++◌, ℕ, true, false, Some, IfErr, IfNone, IfOk, IfSome, drop, length, map, take};
 ghost use Rattle.tape_core.specs.Tape.{body};
 ghost use Rattle.tape_core.specs.Faults.{is_stop};
-ghost use Rattle.tape_core.specs.Reading.{entry_for, fault_of, first_short, has_header, header_len, reads};
+ghost use Rattle.tape_core.specs.Reading.{fault_of, first_short, has_header, header_len, reads};
+ghost use Rattle.tape_core.specs.Steps.{entry_for};
 ghost use Rattle.tape_core.specs.declared.fault.Fault.TheVariants as fault;
 
 use crate::bytes::Bytes;
@@ -36,7 +37,9 @@ fn cut_chunks<'a>(
 ) -> Result<(Vec<Chunk>, &'a [u8]), Fault>
     ensures joined { IfOk result (λ cut. bytes.now ≡ body cut.0.items ++ cut.1.now) }
     ensures timed { IfOk result (λ cut. map entry_for cut.0.items ≡ entries.now) }
-    ensures fault { IfErr result (λ f. f ≢ fault.OutOfMemory → (i : ℕ) × (f ≡ fault.ScriptShort i) × (first_short (length bytes.now) entries.now ≡ Some i)) }
+    ensures fault { IfErr result (λ f. f ≢ fault.OutOfMemory
+        → (i : ℕ) × (f ≡ fault.ScriptShort i)
+        × (first_short (length bytes.now) entries.now ≡ Some i)) }
 {
     let mut chunks = Vec::with_capacity(alloc, entries.len())?;
     let mut rest = bytes;
@@ -63,7 +66,8 @@ fn cut_chunks<'a>(
 #[tactic(auto, unfolding(crate::specs::Reading::fault_of))]
 pub fn read_recording(alloc: Global, script: &[u8], timing: &[u8]) -> Result<Recording, Fault>
     ensures ok { IfOk result (λ recording. reads script.now timing.now recording) }
-    ensures fault { IfErr result (λ f. f ≢ fault.OutOfMemory → fault_of script.now timing.now ≡ Some f) }
+    ensures fault { IfErr result
+        (λ f. f ≢ fault.OutOfMemory → fault_of script.now timing.now ≡ Some f) }
     ensures kinds { IfErr result (λ f. f ≢ fault.OutOfMemory → is_stop f ≡ false) }
 {
     let entries = read_timing(alloc, timing)?;

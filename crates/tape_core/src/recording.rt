@@ -10,7 +10,7 @@ use crate::chunk::Chunk;
 use std::alloc::{AllocError, Global};
 use std::marker::Model;
 
-mod changes;
+mod editing;
 
 /// A recording: the header (the typescript's first line with its LF), the chunks that the timing
 /// counts, and the trailer (all bytes after them). script(1).
@@ -28,11 +28,11 @@ impl Model for Recording {
 
     ghost Value = { Tape };
 
-    ghost use Rattle.tape_core.specs.Kept.{IsKept};
+    ghost use Rattle.tape_core.specs.Kept.{IsSummed};
 
     ghost view = { λ r. record { header = r.header; chunks = r.chunks.items; trailer = r.trailer } };
 
-    ghost invariant = { λ r. IsKept (record { header = r.header; chunks = r.chunks.items; trailer = r.trailer }) r.dues.items r.bytes };
+    ghost invariant = { λ r. IsSummed (record { header = r.header; chunks = r.chunks.items; trailer = r.trailer }) r.dues.items r.bytes };
 }
 
 impl Recording {
@@ -44,7 +44,8 @@ impl Recording {
         trailer: Bytes,
     ) -> Result<Self, AllocError>
         requires { fits (record { header = header; chunks = chunks.items; trailer = trailer }) }
-        ensures { IfOk result (λ r. r ≡ record { header = header; chunks = chunks.items; trailer = trailer }) }
+        ensures { IfOk result
+            (λ r. r ≡ record { header = header; chunks = chunks.items; trailer = trailer }) }
     {
         let dues = due_times(alloc, chunks.as_slice())?;
         let bytes = chunk_bytes(chunks.as_slice());

@@ -22,9 +22,9 @@ pub fn next_line(text: &[u8]) -> (&[u8], &[u8])
     }
 }
 
-/// The first place of a byte, or the length where it doesn't occur.
+/// The first position of a byte, or the length where it doesn't occur.
 pub fn position_of(text: &[u8], wanted: u8) -> usize
-    ensures place { result ≡ position_or_len (λ b. b == wanted) text.now }
+    ensures first { result ≡ position_or_len (λ b. b == wanted) text.now }
     ensures within { result ≤ length text.now }
 {
     text.iter().take_while(|b| **b != wanted).count()
@@ -55,7 +55,8 @@ fn field_len(text: &[u8]) -> usize
 
 /// The first field of a text and what stands behind it, or None where only blanks are left.
 pub fn next_field(text: &[u8]) -> Option<(&[u8], &[u8])>
-    ensures { MatchOption result (fields text.now ≡ []) (λ cut. fields text.now ≡ cut.0.now ∷ fields cut.1.now) }
+    ensures { MatchOption result (fields text.now ≡ [])
+        (λ cut. fields text.now ≡ cut.0.now ∷ fields cut.1.now) }
 {
     let (_, rest) = text.split_at(blank_len(text));
     if rest.is_empty() {

@@ -3,7 +3,8 @@ ghost use Rattle.std.specs.Prelude.{◌≡◌, ◌<◌, ◌≤◌, ◌≢◌, �
 ghost use Rattle.std.specs.Option.{option_map};
 ghost use Rattle.tape_core.specs.Faults.{is_stop};
 ghost use Rattle.tape_core.specs.Seconds.{last_moment};
-ghost use Rattle.tape_core.specs.Timing.{AreWithin, IsWithin, at_line, begins_with_letter, delay_of, entries_of, entry_of, only_count, timing_fault};
+ghost use Rattle.tape_core.specs.Timing.{IsWithin, at_line, begins_with_letter, delay_of, entries_of, entry_of, only_count, timing_fault};
+ghost use Rattle.tape_core.specs.Steps.{AreWithin};
 ghost use Rattle.tape_core.specs.Text.{fields, lines_of, number_of};
 ghost use Rattle.tape_core.specs.declared.fault.Fault.TheVariants as fault;
 
@@ -26,7 +27,7 @@ pub struct Entry {
 
 /// What is wrong with one line by itself.
 #[derive(Clone, Copy, Debug)]
-pub enum LineFault {
+pub enum EntryFault {
     MultiStream,
     BadDelay,
     BadCount,
@@ -34,18 +35,18 @@ pub enum LineFault {
     ChunkTooLong,
 }
 
-impl LineFault {
+impl EntryFault {
     /// The fault with the number of its line, counted from 1.
     fn at(self, line: u64) -> Fault
         ensures fault { result ≡ at_line self line }
         ensures kinds { is_stop result ≡ false }
     {
         match self {
-            LineFault::MultiStream => Fault::MultiStream(line),
-            LineFault::BadDelay => Fault::BadDelay(line),
-            LineFault::BadCount => Fault::BadCount(line),
-            LineFault::DelayTooLarge => Fault::DelayTooLarge(line),
-            LineFault::ChunkTooLong => Fault::ChunkTooLong(line),
+            EntryFault::MultiStream => Fault::MultiStream(line),
+            EntryFault::BadDelay => Fault::BadDelay(line),
+            EntryFault::BadCount => Fault::BadCount(line),
+            EntryFault::DelayTooLarge => Fault::DelayTooLarge(line),
+            EntryFault::ChunkTooLong => Fault::ChunkTooLong(line),
         }
     }
 }
@@ -79,7 +80,7 @@ fn has_letter_first(field: &[u8]) -> bool
 }
 
 /// What a line says: None where it is blank, its entry, or its first fault.
-fn read_entry(text: &[u8]) -> Result<Option<Entry>, LineFault>
+fn read_entry(text: &[u8]) -> Result<Option<Entry>, EntryFault>
     ensures said { result ≡ entry_of text.now }
     ensures within { IfOk result (λ entry. IfSome entry IsWithin) }
 {
@@ -87,23 +88,24 @@ fn read_entry(text: &[u8]) -> Result<Option<Entry>, LineFault>
         return Ok(None);
     };
     if has_letter_first(first) {
-        return Err(LineFault::MultiStream);
+        return Err(EntryFault::MultiStream);
     }
-    let delay = read_delay(first).ok_or(LineFault::BadDelay)?;
-    let count = read_only_count(rest).ok_or(LineFault::BadCount)?;
+    let delay = read_delay(first).ok_or(EntryFault::BadDelay)?;
+    let count = read_only_count(rest).ok_or(EntryFault::BadCount)?;
     if delay > LONGEST_DELAY {
-        return Err(LineFault::DelayTooLarge);
+        return Err(EntryFault::DelayTooLarge);
     }
     if count > LONGEST_CHUNK as u64 {
-        return Err(LineFault::ChunkTooLong);
+        return Err(EntryFault::ChunkTooLong);
     }
     Ok(Some(Entry { delay, count }))
 }
 
 /// What the first line of a text that isn't empty says, and what stands behind it.
-fn first_entry(text: &[u8]) -> (Result<Option<Entry>, LineFault>, &[u8])
+fn first_entry(text: &[u8]) -> (Result<Option<Entry>, EntryFault>, &[u8])
     requires { 0 < length text.now }
-    ensures said { (line : List ℕ) × (lines_of text.now ≡ line ∷ lines_of result.1.now) × (result.0 ≡ entry_of line) }
+    ensures said { (line : List ℕ)
+        × (lines_of text.now ≡ line ∷ lines_of result.1.now) × (result.0 ≡ entry_of line) }
     ensures within { IfOk result.0 (λ entry. IfSome entry IsWithin) }
     ensures shorter { length result.1.now < length text.now }
 {

@@ -5,7 +5,7 @@ use Rattle.std.proofs.lemmas.Bool.{leb-false, ltb-false}
 use Rattle.std.proofs.lemmas.List.{length-map}
 use Rattle.std.proofs.lemmas.List.Edits.{length-insert}
 use Rattle.tape_core.specs.declared.chunk.Chunk.{Chunk}
-use Rattle.tape_core.specs.Changes.{capped_chunk, changed_at}
+use Rattle.tape_core.specs.Edited.{capped_chunk, changed_at}
 use Rattle.tape_core.specs.Tape.{Tape, body_len, longest_body, longest_chunk, longest_delay, most_chunks}
 use Rattle.tape_core.specs.Law.{FirstIsKept}
 use Rattle.tape_seek.specs.declared.edits.Edit.{Edit}

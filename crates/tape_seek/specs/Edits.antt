@@ -3,7 +3,7 @@ use Rattle.std.specs.Prelude.{ℕ, ◌≤◌, Bool, false, ◌||◌, List, [], �
 use Rattle.hex.specs.Hex.{IsBytes}
 use Rattle.tape_core.specs.Seconds.{last_moment}
 use Rattle.tape_core.specs.Tape.{Tape, body_len, most_chunks, longest_chunk, longest_body, longest_delay}
-use Rattle.tape_core.specs.Changes.{inserted, removed, replaced, retimed, capped}
+use Rattle.tape_core.specs.Edited.{inserted, removed, replaced, retimed, capped}
 use Rattle.tape_seek.specs.declared.edits.Edit.{Edit}
 use Rattle.tape_seek.specs.declared.edits.Edit.TheVariants.{Insert, Delete, Replace, Retime, Cap}
 use Rattle.tape_seek.specs.declared.edits.EditFault.{EditFault}

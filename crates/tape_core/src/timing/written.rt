@@ -1,7 +1,7 @@
 //! Lines of the form that script(1) writes, read at once: digits, `.`, six digits, a space, digits, LF.
 //! Each other line is left to the fields of the general form.
 ghost use Rattle.std.specs.Prelude.{◌≡◌, ◌≤◌, ◌<◌, ◌∷◌, ◌++◌, List, ℕ, Some, Ok, IfSome, length};
-ghost use Rattle.tape_core.specs.Seconds.{SecondsText};
+ghost use Rattle.tape_core.specs.Seconds.{IsSeconds};
 ghost use Rattle.tape_core.specs.Text.{NumberText, lines_of};
 ghost use Rattle.tape_core.specs.Timing.{IsWithin, entry_of};
 
@@ -15,7 +15,8 @@ const DECIMALS: usize = 6;
 /// The number that a text begins with, and what stands behind its digits. None where it begins with no
 /// digit, or with a number above every limit of a line.
 fn first_number(text: &[u8]) -> Option<(u64, &[u8])>
-    ensures number { IfSome result (λ cut. (digits : List ℕ) × (text.now ≡ digits ++ cut.1.now) × NumberText digits cut.0) }
+    ensures number { IfSome result (λ cut. (digits : List ℕ)
+        × (text.now ≡ digits ++ cut.1.now) × NumberText digits cut.0) }
     ensures small { IfSome result (λ cut. cut.0 ≤ LONGEST_DELAY) }
 {
     let mut n: u64 = 0;
@@ -36,7 +37,8 @@ fn first_number(text: &[u8]) -> Option<(u64, &[u8])>
 
 /// The seconds with six decimals that a text begins with, in microseconds, and what stands behind them.
 fn first_delay(text: &[u8]) -> Option<(u64, &[u8])>
-    ensures { IfSome result (λ cut. (seconds : List ℕ) × (text.now ≡ seconds ++ cut.1.now) × SecondsText seconds cut.0) }
+    ensures { IfSome result (λ cut. (seconds : List ℕ)
+        × (text.now ≡ seconds ++ cut.1.now) × IsSeconds seconds cut.0) }
 {
     let (whole, behind) = first_number(text)?;
     let [b'.', decimals @ ..] = behind else {
@@ -52,7 +54,8 @@ fn first_delay(text: &[u8]) -> Option<(u64, &[u8])>
 
 /// The entry of a first line as script(1) writes it, within the limits, and what stands behind its LF.
 pub(super) fn written_entry(text: &[u8]) -> Option<(Entry, &[u8])>
-    ensures line { IfSome result (λ cut. (line : List ℕ) × (lines_of text.now ≡ line ∷ lines_of cut.1.now) × (entry_of line ≡ Ok (Some cut.0))) }
+    ensures line { IfSome result (λ cut. (line : List ℕ)
+        × (lines_of text.now ≡ line ∷ lines_of cut.1.now) × (entry_of line ≡ Ok (Some cut.0))) }
     ensures within { IfSome result (λ cut. IsWithin cut.0) }
     ensures shorter { IfSome result (λ cut. length cut.1.now < length text.now) }
 {

@@ -1,4 +1,4 @@
-use Rattle.tape_core.proofs.ChangeLemmas.{body_len-inserted, body_len-replaced}
+use Rattle.tape_core.proofs.EditedLemmas.{body_len-inserted, body_len-replaced}
 use Rattle.tape_core.proofs.laws.bodies_add_up.Goals as goal
 
 pub returns : goal.returns

@@ -1,6 +1,6 @@
 use Rattle.std.proofs.Common.{◌≡◌, ◌++◌, map, take}
 use Rattle.tape_core.specs.Tape.{body}
-use Rattle.tape_core.specs.Reading.{entry_for}
+use Rattle.tape_core.specs.Steps.{entry_for}
 use Rattle.tape_core.proofs.reading.cut_chunks.Given as goal
 
 -- the chunks so far have their entries, and the rest stands behind their bytes

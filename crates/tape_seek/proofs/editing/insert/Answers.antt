@@ -2,8 +2,8 @@ use Rattle.std.proofs.Common.{length, ap, arith, ◌∙◌}
 use Rattle.tape_seek.proofs.EditLemmas.{inserts_well}
 use Rattle.tape_seek.proofs.editing.insert.Goals as goal
 
-pub insert-requires-clause-place : goal.insert-requires-clause-place
-insert-requires-clause-place c = (inserts_well c.args.recording.now c.args.at c.args.delay c.args.bytes.now c.requires).place
+pub insert-requires-clause-index : goal.insert-requires-clause-index
+insert-requires-clause-index c = (inserts_well c.args.recording.now c.args.at c.args.delay c.args.bytes.now c.requires).place
 
 pub insert-requires-clause-few : goal.insert-requires-clause-few
 insert-requires-clause-few c = (inserts_well c.args.recording.now c.args.at c.args.delay c.args.bytes.now c.requires).few

@@ -2,7 +2,7 @@ use Rattle.std.proofs.Common.{◌≡◌, ◌<◌, ◌≤◌, get_or, length, ap,
 use Rattle.std.proofs.lemmas.Bool.{le-ltb, lt-leb, lt-ltb}
 use Rattle.std.proofs.lemmas.List.Sums.{get_or-le-sum_by}
 use Rattle.tape_core.specs.Tape.{body_len, longest_body, longest_chunk}
-use Rattle.tape_core.specs.Changes.{replaced}
+use Rattle.tape_core.specs.Edited.{replaced}
 use Rattle.tape_seek.proofs.editing.replace_fault.Goals as goal
 
 pub returns-then-others-len : goal.returns-then-others-len

@@ -1,8 +1,8 @@
 use Rattle.std.proofs.Common.{map, ap, sym, ◌∙◌}
 use Rattle.std.proofs.lemmas.List.{with_items_is}
 use Rattle.tape_core.specs.Tape.{Tape}
-use Rattle.tape_core.specs.Changes.{capped_chunk}
-use Rattle.tape_core.proofs.ChangeLemmas.{body_len-capped, due_written, fits-capped}
+use Rattle.tape_core.specs.Edited.{capped_chunk}
+use Rattle.tape_core.proofs.EditedLemmas.{body_len-capped, due_written, fits-capped}
 use Rattle.tape_core.proofs.recording.Recording.cap.Goals as goal
 
 pub add_up-requires-clause-delays : goal.add_up-requires-clause-delays

@@ -1,13 +1,13 @@
 use Rattle.std.proofs.Common.{◌+◌, ◌≤◌, ◌<◌, length, ap, ◌∙◌, arith}
 use Rattle.tape_core.specs.Tape.{Tape, body_len, longest_body, most_chunks}
-use Rattle.tape_core.proofs.ChangeLemmas.{body_len-inserted, due_written, fits-inserted}
+use Rattle.tape_core.proofs.EditedLemmas.{body_len-inserted, due_written, fits-inserted}
 use Rattle.tape_core.proofs.recording.Recording.insert.Goals as goal
 
 pub invariant_of-self-2 : goal.invariant_of-self-2
 invariant_of-self-2 c =
     let tape : Tape = record { header = c.self.inside.header; chunks = c.self.inside.chunks.items; trailer = c.self.inside.trailer } in
     let same = ap (λ t. t.chunks) c.self.view_is in
-    let place : c.args.at ≤ length tape.chunks = rw same c.requires.place in
+    let place : c.args.at ≤ length tape.chunks = rw same c.requires.index in
     let few : length tape.chunks < most_chunks = rw same c.requires.few in
     let bytes : body_len tape.chunks + length c.args.chunk.bytes ≤ longest_body = rw same c.requires.bytes in
     let fitted = fits-inserted tape c.args.at c.args.chunk c.self.invariant.fitting place few c.requires.delay c.requires.len bytes in

@@ -1,6 +1,6 @@
 use Rattle.std.proofs.Common.{◌-◌, ◌≤◌, length, take, drop, ap, ◌∙◌, arith}
 use Rattle.tape_core.specs.Tape.{Tape, body_len}
-use Rattle.tape_core.proofs.ChangeLemmas.{body_len-removed, due_written, fits-removed}
+use Rattle.tape_core.proofs.EditedLemmas.{body_len-removed, due_written, fits-removed}
 use Rattle.tape_core.proofs.recording.Recording.remove.Goals as goal
 
 pub chunk_bytes-requires : goal.chunk_bytes-requires

@@ -2,14 +2,14 @@ use Rattle.std.proofs.Common.{◌≤◌, ◌<◌, length, set, ap, ◌∙◌, re
 use Rattle.std.proofs.lemmas.List.Sums.{get_or-le-sum_by}
 use Rattle.tape_core.specs.declared.chunk.Chunk.{Chunk}
 use Rattle.tape_core.specs.Tape.{Tape, body_len, longest_body}
-use Rattle.tape_core.specs.Changes.{replaced}
-use Rattle.tape_core.proofs.ChangeLemmas.{body_len-set, fits-set, same_delays, same_dues, set_is_changed}
+use Rattle.tape_core.specs.Edited.{replaced}
+use Rattle.tape_core.proofs.EditedLemmas.{body_len-set, fits-set, same_delays, same_dues, set_is_changed}
 use Rattle.tape_core.proofs.recording.Recording.replace.Goals as goal
 
 pub invariant_of-self : goal.invariant_of-self
 invariant_of-self c =
     let tape : Tape = record { header = c.self.inside.header; chunks = c.self.inside.chunks.items; trailer = c.self.inside.trailer } in
-    let place : c.args.at < length tape.chunks = rw (ap (λ t. t.chunks) c.self.view_is) c.requires.place in
+    let place : c.args.at < length tape.chunks = rw (ap (λ t. t.chunks) c.self.view_is) c.requires.index in
     let old = c.index_mut-chunk.result.now in
     let new : Chunk = record { delay = old.delay; bytes = c.args.bytes } in
     let is = c.index_mut-chunk.ensures.value in
@@ -26,7 +26,7 @@ invariant_of-self c =
 
 pub returns-clause-replaced : goal.returns-clause-replaced
 returns-clause-replaced c =
-    let place : c.args.at < length c.self.inside.chunks.items = rw (ap (λ t. t.chunks) c.self.view_is) c.requires.place in
+    let place : c.args.at < length c.self.inside.chunks.items = rw (ap (λ t. t.chunks) c.self.view_is) c.requires.index in
     ap (λ chunks. record { header = c.self.inside.header; chunks = chunks; trailer = c.self.inside.trailer }) (set_is_changed (λ x. record x { bytes = c.args.bytes }) c.self.inside.chunks.items c.args.at c.index_mut-chunk.result.now place c.index_mut-chunk.ensures.value)
     ∙ ap (replaced c.args.at c.args.bytes) c.self.view_is
 

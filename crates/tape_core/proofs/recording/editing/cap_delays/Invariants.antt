@@ -1,6 +1,6 @@
 use Rattle.std.proofs.Common.{◌≡◌, ◌++◌, drop, map, take}
-use Rattle.tape_core.specs.Changes.{capped_chunk}
-use Rattle.tape_core.proofs.recording.changes.cap_delays.Given as goal
+use Rattle.tape_core.specs.Edited.{capped_chunk}
+use Rattle.tape_core.proofs.recording.editing.cap_delays.Given as goal
 
 -- the chunks so far are capped
 abbrev pub invariant-loop-chunk : goal.invariant-loop-chunk

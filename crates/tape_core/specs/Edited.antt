@@ -1,4 +1,4 @@
--- What each change makes of a recording, told by its list of chunks. Header and trailer stay (ours).
+-- What each edit makes of a recording, by its list of chunks. Header and trailer stay (ours).
 use Rattle.std.specs.Prelude.{ℕ, ◌+◌, List, ◌∷◌, ◌++◌, map, min, take, drop}
 use Rattle.tape_core.specs.declared.chunk.Chunk.{Chunk}
 use Rattle.tape_core.specs.Tape.{Tape}
@@ -7,7 +7,7 @@ use Rattle.tape_core.specs.Tape.{Tape}
 abbrev pub with_chunks : List Chunk → Tape → Tape
 with_chunks chunks tape = record tape { chunks = chunks }
 
--- The chunks, with the one at this place changed.
+-- The chunks, with the one at this index changed.
 abbrev pub changed_at : (Chunk → Chunk) → ℕ → List Chunk → List Chunk
 changed_at change at chunks = take at chunks ++ map change (take 1 (drop at chunks)) ++ drop (at + 1) chunks
 

@@ -1,7 +1,7 @@
-//! Changes of a recording. The due times behind the place of a change are added up again, which takes
+//! Edits of a recording. The due times behind the index of an edit are added up again, which takes
 //! time linear in the chunks there.
 ghost use Rattle.std.specs.Prelude.{◌≡◌, ◌+◌, ◌<◌, ◌≤◌, ◌++◌, ℕ, All, IfErr, OnErr, OnOk, drop, length, map, slice_index, take};
-ghost use Rattle.tape_core.specs.Changes.{capped, capped_chunk, inserted, removed, replaced, retimed};
+ghost use Rattle.tape_core.specs.Edited.{capped, capped_chunk, inserted, removed, replaced, retimed};
 ghost use Rattle.tape_core.specs.Due.{due_time};
 ghost use Rattle.tape_core.specs.Kept.{AreDueTimes};
 ghost use Rattle.tape_core.specs.Tape.{body_len, fits, longest_body, longest_chunk, longest_delay, most_chunks};
@@ -14,7 +14,7 @@ impl Recording {
     /// Puts the chunk before chunk `at`, or at the end where `at` is the number of chunks. For want of
     /// memory the chunk comes back, and nothing has changed (ours).
     pub fn insert(&mut self, at: usize, chunk: Chunk) -> Result<(), Chunk>
-        requires place { at ≤ length self.old.chunks }
+        requires index { at ≤ length self.old.chunks }
         requires few { length self.old.chunks < most_chunks }
         requires delay { chunk.delay ≤ longest_delay }
         requires len { length chunk.bytes ≤ longest_chunk }
@@ -52,7 +52,7 @@ impl Recording {
 
     /// Gives chunk `at` other bytes. Takes no memory (ours).
     pub fn replace(&mut self, at: usize, bytes: Bytes)
-        requires place { at < length self.old.chunks }
+        requires index { at < length self.old.chunks }
         requires len { length bytes ≤ longest_chunk }
         requires bytes { body_len (replaced at bytes self.old).chunks ≤ longest_body }
         ensures replaced { self.new ≡ replaced at bytes self.old }
@@ -66,7 +66,7 @@ impl Recording {
 
     /// Gives chunk `at` another delay, in microseconds. Takes no memory (ours).
     pub fn retime(&mut self, at: usize, delay: u64)
-        requires place { at < length self.old.chunks }
+        requires index { at < length self.old.chunks }
         requires delay { delay ≤ longest_delay }
         ensures retimed { self.new ≡ retimed at delay self.old }
         ensures fitting { fits self.new }
@@ -87,10 +87,10 @@ impl Recording {
     }
 }
 
-/// Adds up the due times of the chunks from a place on. Those before it are right already.
+/// Adds up the due times of the chunks from an index on. Those before it are right already.
 fn add_up(dues: &mut [u64], chunks: &[Chunk], from: usize)
     requires one_each { length dues.old ≡ length chunks.now }
-    requires place { from ≤ length chunks.now }
+    requires index { from ≤ length chunks.now }
     requires few { length chunks.now ≤ most_chunks }
     requires delays { All (λ c. c.delay ≤ longest_delay) chunks.now }
     requires before { (i : ℕ) → i < from → slice_index dues.old i ≡ due_time chunks.now i }

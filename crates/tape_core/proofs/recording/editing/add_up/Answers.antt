@@ -3,8 +3,8 @@ use Rattle.std.specs.List.{sum_by}
 use Rattle.std.proofs.lemmas.List.Sums.{sum_by-le}
 use Rattle.std.proofs.lemmas.List.{length-take}
 use Rattle.std.proofs.lemmas.List.Elements.{All-take}
-use Rattle.tape_core.proofs.recording.changes.add_up.Goals as goal
-use Rattle.tape_core.proofs.recording.changes.add_up.Goals.{then-from-eq0, else-from-eq0}
+use Rattle.tape_core.proofs.recording.editing.add_up.Goals as goal
+use Rattle.tape_core.proofs.recording.editing.add_up.Goals.{then-from-eq0, else-from-eq0}
 
 pub loop-i-init : goal.loop-i-init
 loop-i-init c =

@@ -1,8 +1,8 @@
 use Rattle.std.proofs.Common.{◌<◌, length, get_or, arith}
 use Rattle.std.proofs.lemmas.List.{get_or_default}
 use Rattle.std.proofs.lemmas.List.Edits.{map_over_more}
-use Rattle.tape_core.specs.Changes.{capped_chunk}
-use Rattle.tape_core.proofs.recording.changes.cap_delays.Goals as goal
+use Rattle.tape_core.specs.Edited.{capped_chunk}
+use Rattle.tape_core.proofs.recording.editing.cap_delays.Goals as goal
 
 pub loop-chunk-preserved : goal.loop-chunk-preserved
 loop-chunk-preserved c =

@@ -1,7 +1,7 @@
 use Rattle.std.proofs.Common.{◌≡◌, ◌≤◌, ◌<◌, ◌*◌, ℕ, get_or, take}
 use Rattle.std.specs.List.{sum_by}
 use Rattle.tape_core.specs.Due.{due_time}
-use Rattle.tape_core.proofs.recording.changes.add_up.Given as goal
+use Rattle.tape_core.proofs.recording.editing.add_up.Given as goal
 
 -- the sum of the delays so far, and the due times before this place
 abbrev pub invariant-loop-i : goal.invariant-loop-i
