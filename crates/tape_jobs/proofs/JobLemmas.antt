@@ -1,25 +1,224 @@
--- What a job comes to, and how it ends.
-use Rattle.std.proofs.Common.{◌≡◌, refl, sym, subst, Some, MatchOption, Result, Ok, Err}
-use Rattle.tape_core.specs.declared.fault.Fault.{Fault}
+-- What a job comes to, and how a run of it ends.
+use Rattle.std.proofs.Common.{◌≡◌, ◌≢◌, ◌⊎◌, ℕ, Bool, true, false, List, [], refl, sym, ap, ◌∙◌, subst, inl, inr, not, Option, Some, None, MatchOption, Result, Ok, Err, IfOk, IfErr, true≢false, if◌then◌else◌}
+use Rattle.tape_core.specs.Devices.{Took, has_failed, inner_of}
+use Rattle.tape_core.specs.Faults.{is_stop}
 use Rattle.tape_core.specs.Reading.{fault_of, reads}
 use Rattle.tape_core.specs.Tape.{Tape}
-use Rattle.tape_jobs.specs.Output.{Comes, Files, done_on, outcome_by, refused_with}
+use Rattle.tape_core.specs.declared.devices.Watched.{Watched}
+use Rattle.tape_core.specs.declared.fault.Fault.{Fault}
+use Rattle.tape_core.specs.declared.fault.Fault.TheVariants.{OutOfMemory, ReadFault, WriteFault}
+use Rattle.tape_jobs.specs.Endings.{AreRead, AreSound, Begun, EndsAt, HasFailed, IsBroken, IsDone, IsForDevice, IsForMemory, IsSound, IsUnwritten, IsWhole, OnFiles, Readers, RunEnds, RunsOut, Stays, Tells, WantsMemory, Writers, Wrote, Stopped, is_refused}
+use Rattle.tape_jobs.specs.Output.{Comes, Done, Files, IsDoneStatus, done_on, is_stopped, outcome_by, refused_with, status_of, takes_requests, writes_timing}
 use Rattle.tape_jobs.specs.declared.job.Ending.{Ending}
 use Rattle.tape_jobs.specs.declared.job.Job.{Job}
+use Rattle.tape_jobs.specs.declared.job.Job.TheVariants as jobs
 use Rattle.tape_jobs.specs.declared.job.JobFault.{JobFault}
-use Rattle.tape_jobs.specs.declared.job.JobFault.TheVariants.{File, Memory}
+use Rattle.tape_jobs.specs.declared.job.JobFault.TheVariants.{File, Line, Memory}
 
 -- a pair with a fault
-pub comes_refused : (job : Job) (files : Files) (f : Fault) → fault_of files.script files.timing ≡ Some f → Comes job files (refused_with (File f))
+comes_refused : (job : Job) (files : Files) (f : Fault) → fault_of files.script files.timing ≡ Some f → Comes job files (refused_with (File f))
 comes_refused job files f e =
     subst (λ o. MatchOption o ((tape : Tape) × reads files.script files.timing tape × (refused_with (File f) ≡ done_on job tape files.requests)) (λ g. refused_with (File f) ≡ refused_with (File g))) (sym e) refl
 
 -- a pair that is read
-pub comes_done : (job : Job) (files : Files) (tape : Tape) → reads files.script files.timing tape → Comes job files (done_on job tape files.requests)
+comes_done : (job : Job) (files : Files) (tape : Tape) → reads files.script files.timing tape → Comes job files (done_on job tape files.requests)
 comes_done job files tape h =
     subst (λ o. MatchOption o ((other : Tape) × reads files.script files.timing other × (done_on job tape files.requests ≡ done_on job other files.requests)) (λ g. done_on job tape files.requests ≡ refused_with (File g))) (sym h.faultless) (tape, h, refl)
 
--- a job that ends for want of memory to a terminal's reports
-pub stopped_by_memory : (done : Result Ending JobFault) → (outcome_by done).fault ≡ Some Memory → done ≡ Err Memory
-stopped_by_memory (Ok done) e = absurd (cc)
-stopped_by_memory (Err f) e = cc
+-- where a job takes no request lines, it comes to the same whatever they are
+same_done : (job : Job) (tape : Tape) (one other : List ℕ) → (takes_requests job ≡ true → one ≡ other) → done_on job tape one ≡ done_on job tape other
+same_done (jobs.Due at) tape one other same = refl
+same_done jobs.Info tape one other same = refl
+same_done (jobs.Screen at profile escaped) tape one other same = refl
+same_done (jobs.Changes from to profile) tape one other same = refl
+same_done (jobs.Reports at profile) tape one other same = refl
+same_done jobs.Save tape one other same = ap (done_on jobs.Save tape) (same refl)
+same_done (jobs.Session every profile) tape one other same = ap (done_on (jobs.Session every profile) tape) (same refl)
+
+is_not : (b : Bool) → not b ≡ true → b ≡ false
+is_not true e = absurd (cc)
+is_not false e = refl
+
+-- a fault that stops a job refuses nothing
+stops : (f g : JobFault) → is_stopped (Some g) ≡ true → f ≡ g → is_stopped (Some f) ≡ false → ⊥
+stops f g stop same unstopped = true≢false (sym stop ∙ ap (λ x. is_stopped (Some x)) (sym same) ∙ unstopped)
+
+-- the status of a fault that doesn't
+refused_outcome : (f : JobFault) → is_stopped (Some f) ≡ false → outcome_by (Err f) ≡ (refused_with f).outcome
+refused_outcome (File f) e = ap (λ b. record { status = if b then 3 else 1; fault = Some (File f) }) e
+refused_outcome (Line line f) e = refl
+refused_outcome Memory e = absurd (cc)
+
+-- the writers of a job, before it writes
+pub record IsBefore {O P : Type 0} (writers : Writers O P) : Type 0 where
+  pub nothing : Took writers.out.bytes writers.out.old writers.out.old []
+  pub nothing_timing : Took writers.out_timing.bytes writers.out_timing.old writers.out_timing.old []
+
+module _ {O P : Type 0} {writers : Writers O P} (before : IsBefore writers) where
+  -- where nothing was written
+  took_none : IsUnwritten writers → (f : JobFault) → Wrote writers (refused_with f)
+  took_none unwritten f = record {
+    text = subst (λ x. Took writers.out.bytes writers.out.old x []) (sym unwritten.0) before.nothing;
+    timing = subst (λ x. Took writers.out_timing.bytes writers.out_timing.old x []) (sym unwritten.1) before.nothing_timing;
+  }
+
+  both_sound : IsUnwritten writers → AreSound writers
+  both_sound unwritten = ((took_none unwritten Memory).text.sound, (took_none unwritten Memory).timing.sound)
+
+module _ {S T R O P : Type 0} {readers : Readers S T R} {writers : Writers O P} {job : Job} (before : IsBefore writers) where
+  -- a job whose files aren't read
+  pub ends_unread : (f : Fault) → (is_stop f ≡ false → (files : Files) → Tells readers job files → fault_of files.script files.timing ≡ Some f)
+      → (f ≢ ReadFault → AreRead readers) → (f ≡ ReadFault → HasFailed readers.script ⊎ (HasFailed readers.timing ⊎ HasFailed readers.requests)) → f ≢ WriteFault
+      → (takes_requests job ≡ false → Stays readers.requests) → IsUnwritten writers → RunEnds readers writers job (outcome_by (Err (File f)))
+  ends_unread f fault read failed other alone unwritten = record {
+    done = λ e. absurd (cc);
+    refused = λ e.
+        let unstopped = is_not _ e in (
+          record {
+            read = read (λ r. stops (File f) (File ReadFault) refl (ap (λ x. File x) r) unstopped);
+            written = both_sound before unwritten;
+            comes = λ files told. (refused_with (File f), comes_refused job files f (fault unstopped files told), (refused_outcome (File f) unstopped, took_none before unwritten (File f)));
+          },
+          unwritten,
+        );
+    memory = λ m. record {
+      read = read (λ r. elim m [
+        | inl e ↦ cc
+        | inr e ↦ cc
+      ]);
+      written = both_sound before unwritten;
+      reading = λ _. unwritten;
+      takes = λ e. absurd (cc);
+      begun = λ e. absurd (cc);
+      unwritten = λ e. absurd (cc);
+    };
+    device = λ d. record {
+      reader = λ e. failed (cc);
+      unwritten = λ _. unwritten;
+      writer = λ e. absurd (other (cc));
+      stopped = λ e. absurd (other (cc));
+    };
+    status = refl;
+    requests = alone;
+    out_timing = λ _. unwritten.1;
+  }
+
+  -- a job on the recording that was read
+  module _ (tape : Tape) (lines : List ℕ) (is_read : (files : Files) → Tells readers job files → reads files.script files.timing tape × (takes_requests job ≡ true → lines ≡ files.requests))
+      (read : AreRead readers) (alone : takes_requests job ≡ false → Stays readers.requests) (alone_timing : writes_timing job ≡ false → Stays writers.out_timing) where
+    on_files : {Is : Done → Type 0} → Is (done_on job tape lines) → OnFiles readers job Is
+    on_files {Is} is = λ files told.
+        let known = is_read files told in (
+          done_on job tape lines,
+          subst (Comes job files) (sym (same_done job tape lines files.requests known.1)) (comes_done job files tape known.0),
+          is,
+        )
+
+    ends_done : (ending : Ending) → IsDone writers job (done_on job tape lines) ending → RunEnds readers writers job (outcome_by (Ok ending))
+    ends_done ending is = record {
+      done = λ _. (
+        record { read = read; written = (is.wrote.text.sound, is.wrote.timing.sound); comes = on_files (sym is.outcome, is.wrote) },
+        (is.flushed, is.flushed_timing),
+      );
+      refused = λ e. absurd (cc);
+      memory = λ m. elim m [
+        | inl e ↦ absurd (cc)
+        | inr e ↦ absurd (cc)
+      ];
+      device = λ d. elim d [
+        | inl e ↦ absurd (cc)
+        | inr e ↦ absurd (cc)
+      ];
+      status = is.status;
+      requests = alone;
+      out_timing = alone_timing;
+    }
+
+    begun_sound : (done : Done) → Begun writers done → AreSound writers
+    begun_sound done begun = elim begun [
+      | inl (first, stays) ↦ (first.took.sound, subst (λ x. has_failed x ≡ false) (sym stays) before.nothing_timing.sound)
+      | inr (whole, second) ↦ (whole.sound, second.took.sound)
+    ]
+
+    ends_for_memory : WantsMemory writers job (done_on job tape lines) → RunEnds readers writers job (outcome_by (Err Memory))
+    ends_for_memory wants = record {
+      done = λ e. absurd (cc);
+      refused = λ e. absurd (cc);
+      memory = λ m. record {
+        read = read;
+        written = begun_sound (done_on job tape lines) wants.begun;
+        reading = λ e. absurd (cc);
+        takes = λ _. wants.takes;
+        begun = λ _. on_files wants.begun;
+        unwritten = λ _. wants.unwritten;
+      };
+      device = λ d. elim d [
+        | inl e ↦ absurd (cc)
+        | inr e ↦ absurd (cc)
+      ];
+      status = refl;
+      requests = alone;
+      out_timing = alone_timing;
+    }
+
+    stopped_failed : (done : Done) → Stopped writers done → HasFailed writers.out ⊎ HasFailed writers.out_timing
+    stopped_failed done stopped = elim stopped [
+      | inl (first, stays) ↦ inl (first.failed)
+      | inr (whole, second) ↦ inr (second.failed)
+    ]
+
+    ends_at_a_writer : Stopped writers (done_on job tape lines) → RunEnds readers writers job (outcome_by (Err (File WriteFault)))
+    ends_at_a_writer stopped = record {
+      done = λ e. absurd (cc);
+      refused = λ e. absurd (cc);
+      memory = λ m. elim m [
+        | inl e ↦ absurd (cc)
+        | inr e ↦ absurd (cc)
+      ];
+      device = λ d. record {
+        reader = λ e. absurd (cc);
+        unwritten = λ e. absurd (cc);
+        writer = λ _. stopped_failed (done_on job tape lines) stopped;
+        stopped = λ _. on_files stopped;
+      };
+      status = refl;
+      requests = alone;
+      out_timing = alone_timing;
+    }
+
+    ends_refused : (f : JobFault) → is_stopped (Some f) ≡ false → done_on job tape lines ≡ refused_with f → IsUnwritten writers → RunEnds readers writers job (outcome_by (Err f))
+    ends_refused f unstopped same unwritten = record {
+      done = λ e. absurd (cc);
+      refused = λ _. (
+        record {
+          read = read;
+          written = both_sound before unwritten;
+          comes = on_files (refused_outcome f unstopped ∙ ap (λ (d : Done). d.outcome) (sym same), subst (Wrote writers) (sym same) (took_none before unwritten f));
+        },
+        unwritten,
+      );
+      memory = λ m. elim m [
+        | inl e ↦ absurd (stops f Memory refl (cc) unstopped)
+        | inr e ↦ absurd (stops f (File OutOfMemory) refl (cc) unstopped)
+      ];
+      device = λ d. elim d [
+        | inl e ↦ absurd (stops f (File ReadFault) refl (cc) unstopped)
+        | inr e ↦ absurd (stops f (File WriteFault) refl (cc) unstopped)
+      ];
+      status = refl;
+      requests = alone;
+      out_timing = λ _. unwritten.1;
+    }
+
+    ends_at : (f : JobFault) → EndsAt writers job (done_on job tape lines) f → RunEnds readers writers job (outcome_by (Err f))
+    ends_at f ends = elim ends [
+      | inl (e, wants) ↦ subst (λ g. RunEnds readers writers job (outcome_by (Err g))) (sym e) (ends_for_memory wants)
+      | inr later ↦ elim later [
+        | inl (e, stopped) ↦ subst (λ g. RunEnds readers writers job (outcome_by (Err g))) (sym e) (ends_at_a_writer stopped)
+        | inr (unstopped, same, unwritten) ↦ ends_refused f unstopped same unwritten
+      ]
+    ]
+
+    pub ends_performed : (r : Result Ending JobFault) → IfOk r (IsDone writers job (done_on job tape lines)) → IfErr r (EndsAt writers job (done_on job tape lines)) → RunEnds readers writers job (outcome_by r)
+    ends_performed (Ok ending) done fault = ends_done ending done
+    ends_performed (Err f) done fault = ends_at f fault

@@ -7,6 +7,7 @@ use Rattle.clap.specs.declared.builder.ArgAction.TheVariants.{Set, SetTrue}
 use Rattle.clap.specs.declared.builder.value_parser.ValueParser.TheVariants as parses
 use Rattle.tape_core.specs.Seconds.{seconds_of}
 use Rattle.tape_seek.specs.Requests.{place_of}
+use Rattle.tape_jobs.specs.Stored.{least_every, most_every, usual_every}
 use Rattle.tape_jobs.specs.declared.job.Job.{Job}
 use Rattle.tape_jobs.specs.declared.job.Job.TheVariants as job
 use Rattle.tape_jobs.specs.declared.words.Words.{Words}
@@ -80,7 +81,7 @@ optional_rule id = record (new_rule id) { long = Some id; action = Some Set; val
 
 -- such a flag that takes a number of chunks: clap refuses what isn't from 1 to 1,000,000 (ours)
 abbrev pub every_rule : Text → Rule
-every_rule id = record (optional_rule id) { parser = Some (parses.Unsigned 1 1000000) }
+every_rule id = record (optional_rule id) { parser = Some (parses.Unsigned least_every most_every) }
 
 -- a flag without a value (ours)
 abbrev pub switch_rule : Text → Rule
@@ -134,7 +135,7 @@ moment_given_in id rows = moment_if (first_of id rows)
 
 -- the number, if so many chunks may lie between stored terminals: from 1 to 1,000,000 (ours)
 abbrev pub every_allowed : ℕ → Option ℕ
-every_allowed n = if nat_lt n 1 || nat_lt 1000000 n then None else Some n
+every_allowed n = if nat_lt n least_every || nat_lt most_every n then None else Some n
 
 -- such a number in digits alone (ours)
 unfoldable pub every_of : Text → Option ℕ
@@ -142,7 +143,7 @@ every_of text = option_and_then every_allowed (place_of text)
 
 -- the number in a text, and 100 if there is no text (ours)
 abbrev pub every_if : Option Text → Result ℕ Unreadable
-every_if None = Ok 100
+every_if None = Ok usual_every
 every_if (Some text) = readable unread.Every (every_of text)
 
 -- how many chunks are to lie between stored terminals (ours)
@@ -213,7 +214,7 @@ clap_takes words = takes typetool_app words
 unfoldable pub subcommand_in : List Text → Option (Text × List Row)
 subcommand_in words = subcommand_of typetool_app words
 
--- the name is that of one of these subcommands (ours)
+-- Private: the name is that of one of these subcommands (ours)
 abbrev pub IsNamed : Option Text → List Shape → Type 0
 IsNamed name [] = ⊥
 IsNamed name (s ∷ rest) = (name ≡ Some s.name) ⊎ IsNamed name rest
@@ -251,13 +252,14 @@ path_count (job.Reports at profile) = 2
 path_count job.Save = 4
 path_count (job.Session every profile) = 2
 
--- the fault of words that clap takes and that aren't readable (ours)
+-- Private: the fault of words that clap takes and that aren't readable (ours)
 abbrev pub fault_of_unread : Unreadable → WordsFault
 fault_of_unread unread.Seconds = BadSeconds
 fault_of_unread unread.Every = BadEvery
 fault_of_unread unread.Profile = BadProfile
 
--- why words aren't a job: clap finds a fault of that kind in them and doesn't promise to take them, or it reads them and some seconds aren't readable, or the number of chunks, or the profile; memory may always be refused (ours)
+-- why words aren't a job: clap finds a fault of that kind in them and doesn't promise to take them, or it reads them
+-- and some seconds aren't readable, or the number of chunks, or the profile; memory may always be refused (ours)
 abbrev pub FailsFor : List Text → WordsFault → Type 0
 FailsFor words (Clap e) = IsAmong (kind_of e) (clap_faults words) × (clap_takes words ≡ false)
 FailsFor words Memory = Unit {0}

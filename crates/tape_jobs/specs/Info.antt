@@ -9,7 +9,8 @@ use Rattle.tape_core.specs.Written.{seconds_form}
 unfoldable pub info_line : List ℕ → List ℕ → List ℕ
 info_line name value = (name ++ value) ++ 10 ∷ []
 
--- the five lines: how many chunks and how many bytes in them, the sum of the delays, the bytes of header and trailer (ours)
+-- the five lines: how many chunks and how many bytes in them, the sum of the delays, the bytes of header and trailer
+-- (ours)
 abbrev pub info_lines : ℕ → ℕ → ℕ → ℕ → ℕ → List ℕ
 info_lines chunks bytes time header trailer =
     info_line (codes "chunks ") (decimal chunks) ++ info_line (codes "bytes ") (decimal bytes) ++ info_line (codes "length ") (seconds_form time)

@@ -13,7 +13,8 @@ use Rattle.vt_term.specs.declared.profile.Profile.{Profile}
 use Rattle.tape_jobs.specs.declared.job.JobFault.{JobFault}
 use Rattle.tape_jobs.specs.declared.job.JobFault.TheVariants.{File, Line, Memory}
 
--- where request lines have led: which terminal plays, the recording as edited, and the accepted edits in order (ours)
+-- where request lines have led: which terminal plays, the recording as edited, and the accepted edits in order. It is a
+-- session's state without what no answer depends on: the marks, and where terminals are stored (ours)
 pub record Course : Type 0 where
   pub profile : Profile
   pub tape : Tape
@@ -23,7 +24,7 @@ pub record Course : Type 0 where
 abbrev pub started : Profile → Tape → Course
 started profile tape = record { profile = profile; tape = tape; log = [] }
 
--- where a session stands (ours)
+-- Private: where a session stands (ours)
 abbrev pub course_of : State → Course
 course_of session = record { profile = session.profile; tape = session.recording; log = session.log }
 
@@ -34,25 +35,14 @@ after_judging course edit (Some f) = course
 
 -- after what a line asks for; none is a line of no known form (ours)
 abbrev pub course_after : Course → Option Request → Course
-course_after course None = course
-course_after course (Some asks.Nothing) = course
 course_after course (Some (asks.Edit edit)) = after_judging course edit (edit_fault course.tape edit)
-course_after course (Some (asks.Screen at)) = course
-course_after course (Some (asks.Reports at)) = course
-course_after course (Some (asks.Changes from to)) = course
-course_after course (Some asks.Info) = course
-course_after course (Some asks.Log) = course
+course_after course _ = course
 
 -- the edit that `save` is asked for, if any: a line that asks for something else counts as one of no known form (ours)
 abbrev pub edit_asked : Option Request → Result (Option Edit) EditFault
-edit_asked None = Err fault.BadLine
 edit_asked (Some asks.Nothing) = Ok None
 edit_asked (Some (asks.Edit edit)) = Ok (Some edit)
-edit_asked (Some (asks.Screen at)) = Err fault.BadLine
-edit_asked (Some (asks.Reports at)) = Err fault.BadLine
-edit_asked (Some (asks.Changes from to)) = Err fault.BadLine
-edit_asked (Some asks.Info) = Err fault.BadLine
-edit_asked (Some asks.Log) = Err fault.BadLine
+edit_asked _ = Err fault.BadLine
 
 -- why it is refused, if it is (ours)
 abbrev pub refusal_of : Tape → Result (Option Edit) EditFault → Option EditFault
@@ -60,7 +50,8 @@ refusal_of tape (Err f) = Some f
 refusal_of tape (Ok None) = None
 refusal_of tape (Ok (Some edit)) = edit_fault tape edit
 
--- what is left to do after a line, or that it is refused: its number, counted from 1 with the blank ones, and why (ours)
+-- what is left to do after a line, or that it is refused: its number, counted from 1 with the blank ones, and why
+-- (ours)
 abbrev pub unless_refused : ℕ → Option EditFault → Result Tape (ℕ × EditFault) → Result Tape (ℕ × EditFault)
 unless_refused line None rest = rest
 unless_refused line (Some f) rest = Err (line, f)
@@ -71,18 +62,12 @@ saved line course [] = Ok course.tape
 saved line course (text ∷ rest) =
     unless_refused line (refusal_of course.tape (edit_asked (request text))) (saved (line + 1) (course_after course (request text)) rest)
 
--- a refused line as a fault of the job; want of memory has no line (ours)
+-- Private: a refused line as a fault of the job; want of memory has no line (ours)
 abbrev pub fault_on : ℕ → EditFault → JobFault
-fault_on line fault.NoSuchChunk = Line line fault.NoSuchChunk
-fault_on line fault.DelayTooLarge = Line line fault.DelayTooLarge
-fault_on line fault.ChunkTooLong = Line line fault.ChunkTooLong
-fault_on line fault.TooManyChunks = Line line fault.TooManyChunks
-fault_on line fault.TooManyBytes = Line line fault.TooManyBytes
-fault_on line fault.BadRange = Line line fault.BadRange
 fault_on line fault.OutOfMemory = Memory
-fault_on line fault.BadLine = Line line fault.BadLine
+fault_on line f = Line line f
 
--- the fault of a job whose request lines aren't all done: the first that is refused, or want of memory (ours)
+-- Private: the fault of a job whose request lines aren't all done: the first that is refused, or want of memory (ours)
 abbrev pub StopsEditing : Result Tape (ℕ × EditFault) → JobFault → Type 0
 StopsEditing saving (File f) = ⊥
 StopsEditing saving (Line line f) = saving ≡ Err (line, f)

@@ -40,13 +40,8 @@ answer course (Some asks.Log) = ended (log_text course.log)
 -- whether a line is refused: it is of no known form, or an edit with a fault (ours)
 abbrev pub is_refused : Course → Option Request → Bool
 is_refused course None = true
-is_refused course (Some asks.Nothing) = false
 is_refused course (Some (asks.Edit edit)) = is_some (edit_fault course.tape edit)
-is_refused course (Some (asks.Screen at)) = false
-is_refused course (Some (asks.Reports at)) = false
-is_refused course (Some (asks.Changes from to)) = false
-is_refused course (Some asks.Info) = false
-is_refused course (Some asks.Log) = false
+is_refused course _ = false
 
 -- the answers to lines, one after another (ours)
 unfoldable pub answered : Course → List (List ℕ) → List ℕ

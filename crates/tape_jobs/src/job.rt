@@ -1,21 +1,24 @@
 //! The jobs: each reads its files whole and then writes its text.
 
-ghost use Rattle.std.specs.Prelude.{◌≡◌, ◌⊎◌, ◌≢◌, ℕ, List, true, false, Some, None, OnOk, IfOk, IfErr, IfSome};
-ghost use Rattle.tape_core.specs.Devices.{inner_of, has_failed, is_flushed, StopsReading};
+ghost use Rattle.std.specs.Prelude.{◌≡◌, ◌⊎◌, ◌≢◌, ℕ, List, true, false, Some, IfOk, IfErr};
+ghost use Rattle.tape_core.specs.Devices.{inner_of, has_failed, StopsReading};
 ghost use Rattle.tape_core.specs.Faults.{is_stop};
 ghost use Rattle.tape_core.specs.Reading.{fault_of, reads};
-ghost use Rattle.tape_core.specs.Tape.{Tape};
-ghost use Rattle.tape_jobs.specs.Output.{Files, Done, Comes, Tells, Wrote, Begun, Stopped, takes_requests, writes_timing, EndsAt, done_on, is_stopped, is_unwritten, status_after, status_of, outcome_by, IsDoneStatus, TakesMemory};
+ghost use Rattle.tape_jobs.specs.Endings.{EndsAt, IsDone, RunEnds, readers_of, used, writers_of};
+ghost use Rattle.tape_jobs.specs.Output.{takes_requests, writes_timing, done_on, status_after, status_of, outcome_by};
 
 use crate::jobs::changes::write_changes;
 use crate::jobs::due::write_due;
 use crate::jobs::info::write_info;
-use crate::jobs::save::{name_of, save};
+use crate::jobs::reports::write_reports;
+use crate::jobs::save::save;
+use crate::jobs::screen::write_screen;
 use crate::jobs::session::write_answers;
-use crate::moment::{write_reports, write_screen};
+use crate::shared::editing::name_of;
 use screen_print::ChangesFault;
 use std::alloc::Global;
 use std::io::{Read, Write};
+use std::mem::ManuallyDrop;
 use tape_core::laws::writers_join;
 use tape_core::{Fault, Recording, Watched, read_recording, slurp};
 use tape_seek::EditFault;
@@ -151,8 +154,9 @@ pub struct Outcome {
 
 /// Does a job: reads the script and the timing whole, and then writes.
 ///
-/// Nothing is written where the pair of files has a fault, or a reader fails or memory is refused while they are read.
-/// After a write fault, or where memory is refused later, a beginning of the text has gone out. No fault is retried.
+/// It is done, or refused, for a fault of the pair of files or of a request line: then no device has failed, and what was
+/// written is what the job comes to on the files. It ends for want of memory, or as a device fails: then a beginning of
+/// that has gone out, and nothing where it ended while the files were read. No fault is retried.
 pub fn run<S: Read, T: Read, R: Read, O: Write, P: Write>(
     alloc: Global,
     job: Job,
@@ -167,61 +171,17 @@ pub fn run<S: Read, T: Read, R: Read, O: Write, P: Write>(
     requires requests { has_failed requests.old ≡ false }
     requires out { has_failed out.old ≡ false }
     requires out_timing { has_failed out_timing.old ≡ false }
-
-    // Where no device and no want of memory stopped the job: no device failed, and both texts went out whole.
-    ensures sound { is_stopped result.fault ≡ false → (has_failed script.new ≡ false)
-        × (has_failed timing.new ≡ false) × (has_failed requests.new ≡ false)
-        × (has_failed out.new ≡ false) × (has_failed out_timing.new ≡ false) }
-    ensures answer { is_stopped result.fault ≡ false → (files : Files)
-        → Tells S.remaining T.remaining R.remaining job script.old timing.old requests.old files
-        → (done : Done) × Comes job files done × (result ≡ done.outcome)
-        × Wrote O.contents P.contents out.old out.new out_timing.old out_timing.new done }
-    ensures flushed { result.fault ≡ None → is_flushed out.new ≡ true }
-    ensures flushed_timing { result.fault ≡ None → writes_timing job ≡ true → is_flushed out_timing.new ≡ true }
-
-    // The status: 3 where the job was stopped, and 1 where the pair of files has a fault.
-    ensures done { result.fault ≡ None → IsDoneStatus job result.status }
-    ensures status { IfSome result.fault (λ fault. result.status ≡ status_of fault) }
-
-    // Nothing is written where the pair of files has a fault, or a reader failed or memory was refused while they were
-    // read. Where memory was refused later or a writer failed, a beginning of the text went out, and nothing of the
-    // second text unless the first is whole.
-    ensures unwritten { is_unwritten result.fault ≡ true → (out.new ≡ out.old)
-        × (out_timing.new ≡ out_timing.old) }
-    ensures memory { result.fault ≡ Some (JobFault.File Fault.OutOfMemory) → (has_failed script.new ≡ false)
-        × (has_failed timing.new ≡ false) × (has_failed requests.new ≡ false) }
-    ensures begun { result.fault ≡ Some JobFault.Memory → (files : Files)
-        → Tells S.remaining T.remaining R.remaining job script.old timing.old requests.old files
-        → (done : Done) × Comes job files done
-        × Begun O.contents P.contents out.old out.new out_timing.old out_timing.new done }
-    ensures stopped { result.fault ≡ Some (JobFault.File Fault.WriteFault) → (files : Files)
-        → Tells S.remaining T.remaining R.remaining job script.old timing.old requests.old files
-        → (done : Done) × Comes job files done
-        × Stopped O.contents P.contents out.old out.new out_timing.old out_timing.new done }
-
-    // Once the recording is read, memory is wanted only by a job that opens a session.
-    ensures growth { result.fault ≡ Some JobFault.Memory → (has_failed script.new ≡ false)
-        × (has_failed timing.new ≡ false) × (has_failed requests.new ≡ false)
-        × (has_failed out.new ≡ false) × (has_failed out_timing.new ≡ false) }
-    ensures want { result.fault ≡ Some JobFault.Memory → TakesMemory job }
-
-    // A device fault comes only where that device failed.
-    ensures read_fault { result.fault ≡ Some (JobFault.File Fault.ReadFault) → (has_failed script.new ≡ true)
-        ⊎ ((has_failed timing.new ≡ true) ⊎ (has_failed requests.new ≡ true)) }
-    ensures write_fault { result.fault ≡ Some (JobFault.File Fault.WriteFault) → (has_failed out.new ≡ true)
-        ⊎ (has_failed out_timing.new ≡ true) }
-
-    // What a job leaves alone.
-    ensures requests { takes_requests job ≡ false → requests.new ≡ requests.old }
-    ensures out_timing { writes_timing job ≡ false → out_timing.new ≡ out_timing.old }
+    ensures { let readers = readers_of (used S.remaining script.old script.new) (used T.remaining timing.old timing.new)
+        (used R.remaining requests.old requests.new) in
+        let writers = writers_of (used O.contents out.old out.new) (used P.contents out_timing.old out_timing.new) in
+        RunEnds readers writers job result }
 {
     writers_join::<O>();
     writers_join::<P>();
-    let given = match read_files(alloc, job, script, timing, requests) {
-        Ok(given) => given,
-        Err(fault) => return outcome_of(Err(JobFault::File(fault))),
-    };
-    outcome_of(perform(alloc, job, given, out, out_timing))
+    match read_files(alloc, job, script, timing, requests) {
+        Ok(given) => outcome_of(perform(alloc, job, given, out, out_timing)),
+        Err(fault) => outcome_of(Err(JobFault::File(fault))),
+    }
 }
 
 /// Does a job on what it is given, and flushes what it writes. The program ends with its job: to free a million chunks one
@@ -235,15 +195,10 @@ fn perform<O: Write, P: Write>(
 ) -> Result<Ending, JobFault>
     requires out { has_failed out.old ≡ false }
     requires out_timing { has_failed out_timing.old ≡ false }
-    ensures ok { OnOk result ((done_on job given.recording given.requests.items).outcome ≡ outcome_by result) }
-    ensures status { IfOk result (λ ending. IsDoneStatus job (status_after ending)) }
-    ensures wrote { OnOk result (Wrote O.contents P.contents out.old out.new out_timing.old out_timing.new
-        (done_on job given.recording given.requests.items)) }
-    ensures flushed { OnOk result (is_flushed out.new ≡ true) }
-    ensures flushed_timing { writes_timing job ≡ true → OnOk result (is_flushed out_timing.new ≡ true) }
-    ensures fault { IfErr result (EndsAt O.contents P.contents out.old out.new out_timing.old out_timing.new
-        (done_on job given.recording given.requests.items)) }
-    ensures want { result ≡ Err JobFault.Memory → TakesMemory job }
+    ensures done { IfOk result (IsDone (writers_of (used O.contents out.old out.new)
+        (used P.contents out_timing.old out_timing.new)) job (done_on job given.recording given.requests.items)) }
+    ensures fault { IfErr result (EndsAt (writers_of (used O.contents out.old out.new)
+        (used P.contents out_timing.old out_timing.new)) job (done_on job given.recording given.requests.items)) }
     ensures alone { writes_timing job ≡ false → out_timing.new ≡ out_timing.old }
 {
     let Given {
@@ -252,11 +207,11 @@ fn perform<O: Write, P: Write>(
     } = given;
     match job {
         Job::Due { at } => {
-            write_due(recording, at, out)?;
+            write_due(&ManuallyDrop::new(recording), at, out)?;
             Ok(Ending::Clean)
         }
         Job::Info => {
-            write_info(recording, out)?;
+            write_info(&ManuallyDrop::new(recording), out)?;
             Ok(Ending::Clean)
         }
         Job::Screen {

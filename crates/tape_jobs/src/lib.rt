@@ -4,7 +4,7 @@
 mod job;
 mod jobs;
 pub mod laws;
-mod moment;
+mod shared;
 mod words;
 
 pub use job::{Ending, Job, JobFault, Outcome, run};

@@ -4,7 +4,8 @@ ghost use Rattle.std.specs.Prelude.{◌≡◌, ◌⊎◌, ◌≢◌, ◌≤◌, 
 ghost use Rattle.clap.specs.Words.{kind_of};
 ghost use Rattle.tape_core.specs.Devices.{has_failed};
 ghost use Rattle.tape_jobs.specs.CommandLine.{path_count};
-ghost use Rattle.tape_jobs.specs.Output.{Files as Given, Tells, is_stopped};
+ghost use Rattle.tape_jobs.specs.Endings.{Tells, readers_of, used};
+ghost use Rattle.tape_jobs.specs.Output.{Files as Given, is_stopped};
 ghost use Rattle.typetool.specs.Program.{IsAnswer, IsNotCreated, IsNotOpen, IsOutcome, stop_status};
 
 use clap::error::ErrorKind;
@@ -158,7 +159,8 @@ fn print<R: Files + Print + AllocGlobal, Q: io::Read>(
     ensures outcome { IfOk result (IsOutcome job) }
     // Where nothing stopped the job, it is what the job comes to on these files.
     ensures answer { IfOk result (λ outcome. is_stopped outcome.fault ≡ false → (files : Given)
-        → Tells R.File.remaining R.File.remaining Q.remaining job script.old timing.old requests.old files
+        → Tells (readers_of (used R.File.remaining script.old script.new) (used R.File.remaining timing.old timing.new)
+            (used Q.remaining requests.old requests.new)) job files
         → IsAnswer job files outcome) }
     ensures stop { IfErr result (λ stop. stop ≡ Stop.Memory) }
 {

@@ -6,13 +6,13 @@ ghost use Rattle.tape_core.specs.Devices.{has_failed, is_flushed, Took};
 ghost use Rattle.tape_jobs.specs.Moment.{StopsAt};
 
 use crate::job::JobFault;
-use crate::jobs::EVERY;
+use crate::laws::stops_join;
+use crate::shared::opening::{EVERY, open_session};
 use screen_print::changes;
 use std::alloc::Global;
 use std::io::Write;
 use std::mem::ManuallyDrop;
 use tape_core::{Recording, Watched};
-use tape_seek::Session;
 use vt_term::Profile;
 
 /// Writes the change lines, and flushes. Where memory is refused, a beginning of them has gone out.
@@ -29,9 +29,8 @@ pub fn write_changes<O: Write>(
     ensures flushed { OnOk result (is_flushed out.new ≡ true) }
     ensures fault { IfErr result (StopsAt O.contents out.old out.new (change_lines profile recording from to)) }
 {
-    let Ok(session) = Session::open_as(alloc, recording, EVERY, profile) else {
-        return Err(JobFault::Memory);
-    };
+    stops_join::<O>();
+    let session = open_session(alloc, recording, EVERY, profile)?;
     let mut session = ManuallyDrop::new(session);
     changes(&mut session, from, to, out)?;
     Ok(())

@@ -4,29 +4,16 @@ ghost use Rattle.std.specs.Prelude.{◌≡◌, false, true, OnOk, IfErr, OnErr};
 ghost use Rattle.tape_core.specs.Devices.{has_failed, is_flushed, Took, StoppedIn};
 ghost use Rattle.tape_core.specs.Due.{due};
 
-use crate::job::JobFault;
 use std::io::Write;
-use std::mem::ManuallyDrop;
 use tape_core::laws::{due_is_first, writers_join};
 use tape_core::{Fault, Recording, Watched, put_chunks};
 
 /// Writes the bytes of the chunks that are due by the moment, and flushes.
 pub fn write_due<O: Write>(
-    recording: Recording,
+    recording: &Recording,
     at: u64,
     out: &mut Watched<O>,
-) -> Result<(), JobFault>
-    requires { has_failed out.old ≡ false }
-    ensures ok { OnOk result (Took O.contents out.old out.new (due recording.chunks at)) }
-    ensures flushed { OnOk result (is_flushed out.new ≡ true) }
-    ensures fault { IfErr result (λ fault. fault ≡ JobFault.File Fault.WriteFault) }
-    ensures stopped { OnErr result (StoppedIn O.contents out.old out.new (due recording.chunks at)) }
-{
-    put_due(&ManuallyDrop::new(recording), at, out).map_err(JobFault::File)
-}
-
-/// Writes the bytes that are due, and flushes.
-fn put_due<O: Write>(recording: &Recording, at: u64, out: &mut Watched<O>) -> Result<(), Fault>
+) -> Result<(), Fault>
     requires { has_failed out.old ≡ false }
     ensures ok { OnOk result (Took O.contents out.old out.new (due recording.now.chunks at)) }
     ensures flushed { OnOk result (is_flushed out.new ≡ true) }

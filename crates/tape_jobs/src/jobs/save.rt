@@ -1,25 +1,25 @@
 //! The job `save`: the edits of request lines, and then both files written anew.
 
-ghost use Rattle.std.specs.Prelude.{◌≡◌, ◌≢◌, Err, IfErr, IfOk, IfSome, None, Ok, OnErr, OnOk, Some, false, true, unwrap_or};
-ghost use Rattle.tape_core.specs.Devices.{has_failed, is_flushed};
+ghost use Rattle.std.specs.Prelude.{◌≡◌, ◌≢◌, Err, IfErr, IfOk, IfSome, None, Ok, OnErr, OnOk, Some, false, true};
+ghost use Rattle.tape_core.specs.Devices.{Took, has_failed, is_flushed};
 ghost use Rattle.tape_core.specs.Text.{lines_of};
-ghost use Rattle.tape_seek.specs.Edits.{edit_fault};
 ghost use Rattle.tape_seek.specs.Requests.{request};
-ghost use Rattle.tape_seek.specs.State.{accepted};
-ghost use Rattle.tape_jobs.specs.Output.{EndsAt, Wrote, done_saving, done_with};
-ghost use Rattle.tape_jobs.specs.Requests.{StopsEditing, course_after, course_of, edit_asked, fault_on, fault_text, refusal_of, saved, started};
+ghost use Rattle.tape_jobs.specs.Endings.{EndsAt, IsDone, Stopped, used, writers_of};
+ghost use Rattle.tape_jobs.specs.Output.{done_with, saved_by};
+ghost use Rattle.tape_jobs.specs.Requests.{StopsEditing, course_after, course_of, edit_asked, fault_on, refusal_of, saved};
 ghost use Rattle.tape_core.specs.Written.{script_text, timing_text};
-ghost use Rattle.vt_term.specs.declared.profile.Profile.TheVariants.{Vt100};
 
-use crate::job::JobFault;
-use crate::jobs::EVERY;
+use crate::job::{Ending, Job, JobFault};
+use crate::shared::editing::make_edit;
+use crate::shared::opening::{EVERY, open_session};
 use std::alloc::Global;
 use std::io::Write;
 use std::mem::ManuallyDrop;
 use tape_core::laws::writers_join;
 use tape_core::text::next_line;
-use tape_core::{Recording, Watched, write_script, write_timing};
+use tape_core::{Fault, Recording, Watched, write_script, write_timing};
 use tape_seek::{Edit, EditFault, LineFault, Request, Session, read_line};
+use vt_term::Profile;
 
 /// Makes every edit, and then writes the whole script, and after it the timing. Nothing is written where a line is
 /// refused.
@@ -32,21 +32,17 @@ pub fn save<O: Write, P: Write>(
 ) -> Result<(), JobFault>
     requires out { has_failed out.old ≡ false }
     requires out_timing { has_failed out_timing.old ≡ false }
-    ensures ok { OnOk result ((done_saving (saved 1 (started Vt100 recording) (lines_of requests.now))).outcome ≡ record { status = 0; fault = None }) }
-    ensures wrote { OnOk result (Wrote O.contents P.contents out.old out.new out_timing.old out_timing.new
-        (done_saving (saved 1 (started Vt100 recording) (lines_of requests.now)))) }
-    ensures flushed { OnOk result (is_flushed out.new ≡ true) }
-    ensures flushed_timing { OnOk result (is_flushed out_timing.new ≡ true) }
-    ensures fault { IfErr result (EndsAt O.contents P.contents out.old out.new out_timing.old out_timing.new
-        (done_saving (saved 1 (started Vt100 recording) (lines_of requests.now)))) }
+    ensures done { OnOk result (IsDone (writers_of (used O.contents out.old out.new)
+        (used P.contents out_timing.old out_timing.new)) Job.Save (saved_by recording requests.now) Ending.Clean) }
+    ensures fault { IfErr result (EndsAt (writers_of (used O.contents out.old out.new)
+        (used P.contents out_timing.old out_timing.new)) Job.Save (saved_by recording requests.now)) }
 {
     writers_join::<O>();
-    let Ok(session) = Session::open(alloc, recording, EVERY) else {
-        return Err(JobFault::Memory);
-    };
+    let session = open_session(alloc, recording, EVERY, Profile::Vt100)?;
     let mut session = ManuallyDrop::new(session);
     edit_all(alloc, &mut session, requests)?;
-    write_both(session.recording(), out, out_timing)
+    write_both(session.recording(), out, out_timing)?;
+    Ok(())
 }
 
 /// Writes the whole script, and then the timing.
@@ -54,18 +50,20 @@ fn write_both<O: Write, P: Write>(
     recording: &Recording,
     out: &mut Watched<O>,
     out_timing: &mut Watched<P>,
-) -> Result<(), JobFault>
+) -> Result<(), Fault>
     requires out { has_failed out.old ≡ false }
     requires out_timing { has_failed out_timing.old ≡ false }
-    ensures ok { OnOk result (Wrote O.contents P.contents out.old out.new out_timing.old out_timing.new
-        (done_with (script_text recording.now) (timing_text recording.now))) }
+    ensures script { OnOk result (Took O.contents out.old out.new (script_text recording.now)) }
+    ensures timing { OnOk result (Took P.contents out_timing.old out_timing.new (timing_text recording.now)) }
     ensures flushed { OnOk result (is_flushed out.new ≡ true) }
     ensures flushed_timing { OnOk result (is_flushed out_timing.new ≡ true) }
-    ensures fault { IfErr result (EndsAt O.contents P.contents out.old out.new out_timing.old out_timing.new
+    ensures fault { IfErr result (λ fault. fault ≡ Fault.WriteFault) }
+    ensures stopped { OnErr result (Stopped (writers_of (used O.contents out.old out.new)
+        (used P.contents out_timing.old out_timing.new))
         (done_with (script_text recording.now) (timing_text recording.now))) }
 {
-    write_script(recording, out).map_err(JobFault::File)?;
-    write_timing(recording, out_timing).map_err(JobFault::File)
+    write_script(recording, out)?;
+    write_timing(recording, out_timing)
 }
 
 /// Makes the edits of request lines in order, up to the first line that is refused.
@@ -129,36 +127,5 @@ fn read_edit(alloc: Global, text: &[u8]) -> Result<Option<Edit>, EditFault>
         ) => Err(EditFault::BadLine),
         Err(LineFault::BadLine) => Err(EditFault::BadLine),
         Err(LineFault::OutOfMemory) => Err(EditFault::OutOfMemory),
-    }
-}
-
-/// Makes an edit, or tells why it is refused, with nothing changed.
-pub fn make_edit(session: &mut Session, edit: Edit) -> Result<(), EditFault>
-    ensures ok { OnOk result (session.new ≡ accepted edit session.old) }
-    ensures sound { OnOk result (edit_fault session.old.recording edit ≡ None) }
-    ensures err { OnErr result (session.new ≡ session.old) }
-    ensures fault { IfErr result (λ fault. fault
-        ≡ unwrap_or (edit_fault session.old.recording edit) EditFault.OutOfMemory) }
-{
-    match session.apply(edit) {
-        Ok(()) => Ok(()),
-        Err(refused) => Err(refused.fault),
-    }
-}
-
-/// The code and the name of a fault.
-#[tactic(auto, unfolding(crate::specs::Requests::fault_text))]
-pub fn name_of(fault: EditFault) -> &'static str
-    ensures { result.now ≡ fault_text fault }
-{
-    match fault {
-        EditFault::NoSuchChunk => "E1 NoSuchChunk",
-        EditFault::DelayTooLarge => "E2 DelayTooLarge",
-        EditFault::ChunkTooLong => "E3 ChunkTooLong",
-        EditFault::TooManyChunks => "E4 TooManyChunks",
-        EditFault::TooManyBytes => "E5 TooManyBytes",
-        EditFault::BadRange => "E6 BadRange",
-        EditFault::OutOfMemory => "E7 OutOfMemory",
-        EditFault::BadLine => "E8 BadLine",
     }
 }

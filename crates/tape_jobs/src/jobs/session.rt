@@ -10,15 +10,15 @@ ghost use Rattle.tape_seek.specs.WrittenLog.{log_text};
 ghost use Rattle.tape_seek.specs.declared.requests.Request.TheVariants as asks;
 ghost use Rattle.tape_jobs.specs.Moment.{StopsAt};
 ghost use Rattle.tape_jobs.specs.Output.{ending_by};
+ghost use Rattle.tape_jobs.specs.Stored.{least_every, most_every};
 ghost use Rattle.tape_jobs.specs.Requests.{course_after, course_of, started};
 ghost use Rattle.tape_jobs.specs.Session.{answer, answered, any_refused, edit_answer, ended, is_refused, refusal};
 
 use crate::job::{Ending, JobFault};
-use crate::jobs::MOST_EVERY;
-use crate::jobs::info::{put_info, put_line};
-use crate::jobs::save::{make_edit, name_of};
 use crate::laws::stops_join;
-use crate::moment::{put_reports, put_screen};
+use crate::shared::answers::{put_info, put_line, put_reports, put_screen};
+use crate::shared::editing::{make_edit, name_of};
+use crate::shared::opening::{LEAST_EVERY, MOST_EVERY, open_session};
 use screen_print::changes;
 use std::alloc::Global;
 use std::io::Write;
@@ -40,7 +40,8 @@ pub fn write_answers<O: Write>(
     out: &mut Watched<O>,
 ) -> Result<Ending, JobFault>
     requires { has_failed out.old ≡ false }
-    ensures ok { OnOk result (Took O.contents out.old out.new (answered (started profile recording) (lines_of requests.now))) }
+    ensures ok { OnOk result (Took O.contents out.old out.new
+        (answered (started profile recording) (lines_of requests.now))) }
     ensures ending { IfOk result (λ ending. ending
         ≡ ending_by (any_refused (started profile recording) (lines_of requests.now))) }
     ensures flushed { OnOk result (is_flushed out.new ≡ true) }
@@ -49,9 +50,7 @@ pub fn write_answers<O: Write>(
 {
     stops_join::<O>();
     writers_join::<O>();
-    let Ok(session) = Session::open_as(alloc, recording, in_range(every), profile) else {
-        return Err(JobFault::Memory);
-    };
+    let session = open_session(alloc, recording, in_range(every), profile)?;
     let mut session = ManuallyDrop::new(session);
     let refused = answer_all(alloc, &mut session, requests, out)?;
     out.finish()?;
@@ -60,11 +59,11 @@ pub fn write_answers<O: Write>(
 
 /// The nearest number of chunks that may lie between stored terminals.
 fn in_range(every: usize) -> usize
-    ensures low { 1 ≤ result }
-    ensures high { result ≤ 1000000 }
-    ensures nearest { result ≡ min (max every 1) 1000000 }
+    ensures low { least_every ≤ result }
+    ensures high { result ≤ most_every }
+    ensures nearest { result ≡ min (max every least_every) most_every }
 {
-    every.max(1).min(MOST_EVERY)
+    every.max(LEAST_EVERY).min(MOST_EVERY)
 }
 
 /// How a session ends.

@@ -7,6 +7,7 @@ ghost use Rattle.tape_jobs.specs.CommandLine.{app_in, path_rule, optional_rule, 
 
 use super::help::{about_of, details_of, help_of, value_name_of};
 use super::table::{Argument, Subcommand, flags_of, id_of, name_of, paths_of, subcommands};
+use crate::shared::opening::{LEAST_EVERY, MOST_EVERY};
 use clap::{Arg, ArgAction, Command, value_parser};
 use std::alloc::{AllocError, Global};
 
@@ -139,7 +140,9 @@ fn every_flag<'a>(alloc: Global, id: &'a str, name: &'a str, help: &'a str) -> A
     ensures help { result.help ≡ Some help.entry }
     ensures local { result.global ≡ false }
 {
-    optional_flag(alloc, id, name, help).value_parser(value_parser!(u64).range(1..=1_000_000))
+    optional_flag(alloc, id, name, help).value_parser(value_parser!(u64).range(
+        LEAST_EVERY as i64..=MOST_EVERY as i64,
+    ))
 }
 
 /// A flag without a value.

@@ -7,7 +7,7 @@ ghost use Rattle.tape_jobs.specs.CommandLine.{every_allowed, every_in, every_of,
 
 use super::table::{Argument, Subcommand, id_of, paths_of};
 use crate::job::Job;
-use crate::jobs::EVERY;
+use crate::shared::opening::{EVERY, LEAST_EVERY, MOST_EVERY};
 use clap::ArgMatches;
 use std::alloc::{AllocError, Global};
 use tape_core::read_seconds;
@@ -101,7 +101,7 @@ fn every_of(text: &[u8]) -> Option<usize>
 fn every_allowed(number: u64) -> Option<usize>
     ensures { result ≡ every_allowed number }
 {
-    if number < 1 || number > 1_000_000 {
+    if number < LEAST_EVERY as u64 || number > MOST_EVERY as u64 {
         None
     } else {
         Some(number as usize)

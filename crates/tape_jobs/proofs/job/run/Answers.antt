@@ -1,13 +1,24 @@
-use Rattle.std.proofs.Common.{arith, rules}
-use Rattle.tape_jobs.proofs.JobLemmas.{comes_refused}
-use Rattle.tape_jobs.specs.Output.{refused_with}
-use Rattle.tape_jobs.specs.declared.job.JobFault.TheVariants.{File}
+use Rattle.std.proofs.Common.{refl}
+use Rattle.tape_jobs.specs.Endings.{used, writers_of}
+use Rattle.tape_jobs.proofs.JobLemmas.{IsBefore, ends_performed, ends_unread}
 use Rattle.tape_jobs.proofs.job.run.Goals as goal
 
-pub returns-in-Err-clause-answer : goal.returns-in-Err-clause-answer
-returns-in-Err-clause-answer g c = λ kind files told. (
-  refused_with (File c.in-Err.fault),
-  comes_refused c.args.job files c.in-Err.fault (search rules),
-  grind arith,
-  record { text = c.writers_join.ensures.nothing _ c.requires.out; timing = c.writers_join-2.ensures.nothing _ c.requires.out_timing },
-)
+pub returns-in-Ok : goal.returns-in-Ok
+returns-in-Ok g c =
+    let before : IsBefore (writers_of (used g.O.Write.contents c.args.out.now c.perform.new.out) (used g.P.Write.contents c.args.out_timing.now c.perform.new.out_timing)) = record { nothing = c.writers_join.ensures.nothing _ c.requires.out; nothing_timing = c.writers_join-2.ensures.nothing _ c.requires.out_timing } in
+    rw c.outcome_of.ensures
+    (ends_performed before c.in-Ok.given.recording c.in-Ok.given.requests.items
+    (λ files told. (
+      c.in-Ok.ensures.ok files.script files.timing told.script_told told.timing_told,
+      λ takes. c.in-Ok.ensures.requests takes files.requests (told.requests_told takes),
+    ))
+    (c.in-Ok.ensures.sound (λ e. absurd (cc))) c.in-Ok.ensures.alone c.perform.ensures.alone
+    c.perform.result c.perform.ensures.done c.perform.ensures.fault)
+
+pub returns-in-Err : goal.returns-in-Err
+returns-in-Err g c =
+    let before : IsBefore (writers_of (used g.O.Write.contents c.args.out.now c.args.out.now) (used g.P.Write.contents c.args.out_timing.now c.args.out_timing.now)) = record { nothing = c.writers_join.ensures.nothing _ c.requires.out; nothing_timing = c.writers_join-2.ensures.nothing _ c.requires.out_timing } in
+    rw c.outcome_of-in-Err.ensures
+    (ends_unread before c.in-Err.fault
+    (λ unstopped files told. c.in-Err.ensures.fault unstopped files.script files.timing told.script_told told.timing_told)
+    (λ other. c.in-Err.ensures.sound (λ e. other (cc))) c.in-Err.ensures.read_fault c.in-Err.ensures.no_write_fault c.in-Err.ensures.alone (refl, refl))
