@@ -1,6 +1,7 @@
 pub mod CommandLine
 pub mod Endings
 pub mod Info
+pub mod Lines
 pub mod Moment
 pub mod Output
 pub mod Requests

@@ -1,0 +1,423 @@
+-- What clap makes of a plain command line.
+use Rattle.std.proofs.Common.{◌≡◌, ℕ, ◌&&◌, ◌||◌, Bool, true, false, not, List, [], ◌∷◌, ◌++◌, map, Option, Some, None, Ok, codes, ◌==◌, length, min, nat_lt, ◌+◌, arith, suc, take, refl, sym, ◌∙◌, ap, ap₂, subst, is_some, append_assoc, append-nil, if◌then◌else◌}
+use Rattle.std.proofs.lemmas.Bool.{eqb-true}
+use Rattle.std.specs.Char.{is_ascii_digit}
+use Rattle.std.specs.List.{after_first, before_first, fold, list_all, position_or_len}
+use Rattle.std.specs.Option.{option_and_then, option_map, option_map_or}
+use Rattle.std.specs.Str.{bytes_eq}
+use Rattle.clap.specs.Lexer.{strip_byte, long_of, long_of_rest, short_of_rest}
+use Rattle.clap.specs.Words.{App, Shape, Text, Row, takes}
+use Rattle.clap.specs.Simple.{built, built_leaf, entered, inherited, names_of, marked_built, with_leaf_noted}
+use Rattle.clap.specs.Takes.{bundle_passes, built_takes, default_passes, entered_passes, flag_word_passes, is_valid, level_passes, other_passes, settle_passes, step_passes, turn_passes, walk_passes, word_passes}
+use Rattle.clap.specs.Walk.{Held, Names, Rule, Walk, Waiting, after_step, finished, idle, option, positional, long_or_other, nothing_held, plain_word, rows_after, short_or_plain, subcommand_met, subcommand_or_other, trailing, walk, walk_from, walked, walked_from, word_met}
+use Rattle.clap.proofs.OnLiterals.{clap_on_literals}
+use Rattle.tape_jobs.proofs.CommandLemmas.{is_simple_app, means, means_job}
+use Rattle.tape_core.specs.Seconds.{last_moment, micros, seconds_of}
+use Rattle.tape_jobs.specs.CommandLine.{typetool_app, clap_takes, after, readable, job_in, profile_named, value_in, meaning_in, meaning_of_words, subcommand_in, app_in, name_in, id_in, rule_in, flags_in, paths_in}
+use Rattle.tape_jobs.specs.Lines.{Asks, IsPlain, profile_or_first, with_escaped, with_profile}
+use Rattle.tape_jobs.specs.Stored.{usual_every}
+use Rattle.vt_term.specs.declared.profile.Profile.{Profile}
+use Rattle.vt_term.specs.declared.profile.Profile.TheVariants.{Vt100, Vt102}
+use Rattle.tape_jobs.specs.declared.job.Job.{Job}
+use Rattle.tape_jobs.specs.declared.job.Job.TheVariants as job
+use Rattle.tape_jobs.specs.declared.words.values.Unreadable.TheVariants as unread
+use Rattle.tape_jobs.specs.declared.words.table.Subcommand.{Subcommand}
+use Rattle.tape_jobs.specs.declared.words.table.Subcommand.TheVariants.{Due, Info, Screen, Changes, Reports, Save, Session}
+
+both_true : (a b : Bool) → a ≡ true → b ≡ true → (a && b) ≡ true
+both_true a b e f = ap₂ (λ x y. x && y) e f
+
+first_true : (a b : Bool) → (a && b) ≡ true → a ≡ true
+first_true true b e = refl
+first_true false b e = e
+
+second_true : (a b : Bool) → (a && b) ≡ true → b ≡ true
+second_true true b e = e
+second_true false b e = absurd (cc)
+
+is_not : (a : Bool) → not a ≡ true → a ≡ false
+is_not true e = absurd (cc)
+is_not false e = refl
+
+-- ---- a plain word is no flag
+
+no_hyphen : (word : Text) → IsPlain word → strip_byte 45 word ≡ None
+no_hyphen [] plain = refl
+no_hyphen (c ∷ rest) plain = ap (λ b. if b then Some rest else None) plain
+
+no_hyphens : (word : Text) → IsPlain word → bytes_eq word (45 ∷ 45 ∷ []) ≡ false
+no_hyphens [] plain = refl
+no_hyphens (c ∷ rest) plain = ap (λ b. b && bytes_eq rest (45 ∷ [])) plain
+
+no_name : (waiting : Waiting) (word : Text) → subcommand_met [] waiting word ≡ None
+no_name idle word = refl
+no_name (option id) word = refl
+no_name positional word = refl
+
+module _ (word : Text) (plain : IsPlain word) where
+  -- so it is a value
+  is_value : (c : List Rule) (waiting : Waiting) (position : ℕ) (h : Held) → word_met c [] false waiting position word h ≡ plain_word c waiting word h
+  is_value c waiting position h =
+      ap (λ o. subcommand_or_other c o waiting position word h) (no_name waiting word)
+      ∙ ap (λ b. if b then (h, trailing position) else long_or_other c waiting word (long_of word) h) (no_hyphens word plain)
+      ∙ ap (λ o. long_or_other c waiting word (option_and_then long_of_rest (option_and_then (strip_byte 45) o)) h) (no_hyphen word plain)
+      ∙ ap (λ o. short_or_plain c waiting word (option_and_then short_of_rest o) h) (no_hyphen word plain)
+
+  -- and no call for help
+  value_passes_by : (s : Shape) (waiting : Waiting) (h : Held) → word_passes s [] false waiting word h ≡ true
+  value_passes_by s waiting h =
+      ap (λ o. other_passes s o word h) (no_name waiting word)
+      ∙ ap (λ b. b || (flag_word_passes s.rules s.args_override_self (long_of word) word h)) (no_hyphens word plain)
+      ∙ ap (λ o. flag_word_passes s.rules s.args_override_self (option_and_then long_of_rest (option_and_then (strip_byte 45) o)) word h) (no_hyphen word plain)
+      ∙ ap (λ o. option_map_or (λ flags. bundle_passes s.rules s.args_override_self flags h) (option_and_then short_of_rest o) true) (no_hyphen word plain)
+
+-- ---- a walk over words of which some are plain
+
+-- a word that is written out, or a plain one
+data Word : Type 0 where
+  literal : Text → Word
+  value_word : Text → Word
+
+abbrev text_of : Word → Text
+text_of (literal text) = text
+text_of (value_word text) = text
+
+abbrev ArePlain : List Word → Type 0
+ArePlain [] = Unit {0}
+ArePlain (literal text ∷ rest) = ArePlain rest
+ArePlain (value_word text ∷ rest) = IsPlain text × ArePlain rest
+
+-- the walk, which computes whatever the plain words are
+abbrev stepped : List Rule → Walk → Word → Walk
+stepped c w (literal text) = walked c [] w text
+stepped c w (value_word text) = after_step c text w (plain_word c w.waiting text w.held).0 (plain_word c w.waiting text w.held).1
+
+abbrev step_is_taken : Shape → Walk → Word → Bool
+step_is_taken s w (literal text) = turn_passes s [] w text
+step_is_taken s w (value_word text) =
+    not w.is_trailing && (not (is_some w.stopped)
+    && step_passes s w.position (plain_word s.rules w.waiting text w.held).0 (plain_word s.rules w.waiting text w.held).1)
+
+abbrev are_taken : Shape → Walk → List Word → Bool
+are_taken s w [] = true
+are_taken s w (word ∷ rest) = step_is_taken s w word && are_taken s (stepped s.rules w word) rest
+
+is_none : {X : Type 0} (o : Option X) → not (is_some o) ≡ true → o ≡ None
+is_none None e = refl
+is_none (Some x) e = absurd (cc)
+
+-- the walk over a plain word that nothing stops
+module _ (s : Shape) (w : Walk) (text : Text) (plain : IsPlain text) (untrailing : w.is_trailing ≡ false) (unstopped : w.stopped ≡ None) where
+  plain_step : walked s.rules [] w text ≡ stepped s.rules w (value_word text)
+  unfolding walked
+  plain_step =
+      ap (λ o. walked_from s.rules [] o w text) unstopped
+      ∙ ap (λ b. after_step s.rules text w (word_met s.rules [] b w.waiting w.position text w.held).0 (word_met s.rules [] b w.waiting w.position text w.held).1) untrailing
+      ∙ ap (λ met. after_step s.rules text w met.0 met.1) (is_value text plain s.rules w.waiting w.position w.held)
+
+  abbrev turn_where : Option (Text × List Text) → Bool → Bool
+  turn_where stopped is_trailing =
+      is_some stopped || (word_passes s [] is_trailing w.waiting text w.held
+      && step_passes s w.position (word_met s.rules [] is_trailing w.waiting w.position text w.held).0 (word_met s.rules [] is_trailing w.waiting w.position text w.held).1)
+
+  plain_turn : step_passes s w.position (plain_word s.rules w.waiting text w.held).0 (plain_word s.rules w.waiting text w.held).1 ≡ true → turn_passes s [] w text ≡ true
+  plain_turn passes =
+      ap (λ o. turn_where o w.is_trailing) unstopped
+      ∙ ap (turn_where None) untrailing
+      ∙ both_true _ _ (value_passes_by text plain s w.waiting w.held)
+      (ap (λ met. step_passes s w.position met.0 met.1) (is_value text plain s.rules w.waiting w.position w.held) ∙ passes)
+
+-- what is walked, where it passes
+record Goes (s : Shape) (w : Walk) (words : List Word) : Type 0 where
+  pub to : fold (walked s.rules []) w (map text_of words) ≡ fold (stepped s.rules) w words
+  pub passes : walk_passes s [] w (map text_of words) ≡ true
+
+goes_on : (s : Shape) (w : Walk) (word : Word) (rest : List Word) → walked s.rules [] w (text_of word) ≡ stepped s.rules w word → turn_passes s [] w (text_of word) ≡ true → Goes s (stepped s.rules w word) rest → Goes s w (word ∷ rest)
+unfolding walk_passes
+goes_on s w word rest step turn g = record {
+  to = ap (λ x. fold (walked s.rules []) x (map text_of rest)) step ∙ g.to;
+  passes = both_true _ _ turn (ap (λ x. walk_passes s [] x (map text_of rest)) step ∙ g.passes);
+}
+
+goes : (s : Shape) (words : List Word) (w : Walk) → ArePlain words → are_taken s w words ≡ true → Goes s w words
+unfolding walk_passes
+goes s [] w plain taken = record { to = refl; passes = refl }
+goes s (literal text ∷ rest) w plain taken =
+    goes_on s w (literal text) rest refl (first_true _ _ taken) (goes s rest (stepped s.rules w (literal text)) plain (second_true _ _ taken))
+goes s (value_word text ∷ rest) w plain taken =
+    let here = first_true _ _ taken in
+    let untrailing = is_not _ (first_true _ _ here) in
+    let unstopped = is_none _ (first_true _ _ (second_true _ _ here)) in
+    goes_on s w (value_word text) rest (plain_step s w text plain.0 untrailing unstopped)
+    (plain_turn s w text plain.0 untrailing unstopped (second_true _ _ (second_true _ _ here)))
+    (goes s rest (stepped s.rules w (value_word text)) plain.1 (second_true _ _ taken))
+
+-- ---- a subcommand, with the words behind its name
+
+-- where the walk stands when the words are over
+abbrev end_of : Shape → List Word → Walk
+end_of s words = fold (stepped s.rules) (walk_from nothing_held) words
+
+-- whether a level takes the words, whatever the plain ones are
+abbrev level_takes : Shape → List Word → Bool
+level_takes s words =
+    are_taken s (walk_from nothing_held) words
+    && (settle_passes s.rules s.args_override_self (end_of s words).held
+    && (list_all default_passes s.rules && is_valid s (finished s.rules (end_of s words).held) false))
+
+level_by : (s : Shape) (words : List Word) → ArePlain words → level_takes s words ≡ true → level_passes s [] nothing_held (map text_of words) false ≡ true
+level_by s words plain taken =
+    let g = goes s words (walk_from nothing_held) plain (first_true _ _ taken) in
+    both_true _ _ g.passes
+    (ap (λ (x : Walk). settle_passes s.rules s.args_override_self x.held && (list_all default_passes s.rules && is_valid s (finished s.rules x.held) false)) g.to
+    ∙ second_true _ _ taken)
+
+rows_by : (s : Shape) (words : List Word) → ArePlain words → level_takes s words ≡ true → rows_after s.rules [] (map text_of words) ≡ finished s.rules (end_of s words).held
+rows_by s words plain taken =
+    ap (λ (x : Walk). finished s.rules x.held) (goes s words (walk_from nothing_held) plain (first_true _ _ taken)).to
+
+-- where the walk of the command above stands once the subcommand was met
+abbrev halted : Text → List Text → Walk
+halted name words = record (walk_from nothing_held) { stopped = Some (name, words) }
+
+halted_walk : (c : List Rule) (names : Names) (name : Text) (before words : List Text) → fold (walked c names) (halted name before) words ≡ halted name (before ++ words)
+unfolding walked
+halted_walk c names name before [] = ap (halted name) (sym (append-nil before))
+halted_walk c names name before (word ∷ rest) =
+    halted_walk c names name (before ++ word ∷ []) rest ∙ ap (halted name) (append_assoc before (word ∷ []) rest)
+
+halted_passes : (s : Shape) (names : Names) (name : Text) (before words : List Text) → walk_passes s names (halted name before) words ≡ true
+unfolding walk_passes walked
+halted_passes s names name before [] = refl
+halted_passes s names name before (word ∷ rest) = halted_passes s names name (before ++ word ∷ []) rest
+
+-- a command takes words whose walk passes and ends here
+takes_by : (a : App) (words : List Text) (end : Walk) → walk a.top.rules (names_of a) nothing_held words ≡ end → walk_passes a.top (names_of a) (walk_from nothing_held) words ≡ true → entered_passes a end.stopped ≡ true
+    → (settle_passes a.top.rules a.top.args_override_self end.held && (list_all default_passes a.top.rules && is_valid a.top (finished a.top.rules end.held) (is_some (entered a end.stopped)))) ≡ true
+    → built_takes a nothing_held words ≡ true
+takes_by a words end ends passes below here =
+    let left = walk a.top.rules (names_of a) nothing_held words in
+    both_true _ _ (ap (λ (x : Walk). entered_passes a x.stopped) ends ∙ below)
+    (both_true _ _ passes
+    (ap (λ (x : Walk). settle_passes a.top.rules a.top.args_override_self x.held && (list_all default_passes a.top.rules && is_valid a.top (finished a.top.rules x.held) (is_some (entered a x.stopped)))) ends
+    ∙ here))
+
+-- the subcommand as clap builds it
+abbrev leaf : Subcommand → Shape
+leaf s = built_leaf (inherited (with_leaf_noted (marked_built typetool_app.top)) (app_in s).top)
+
+-- the walk of the whole command over the subcommand's name and the words behind it
+enters : (s : Subcommand) (words : List Text) → walk (built typetool_app).top.rules (names_of (built typetool_app)) nothing_held (name_in s ∷ words) ≡ halted (name_in s) words
+unfolding clap_on_literals typetool_app app_in name_in flags_in paths_in id_in rule_in
+enters Due words = halted_walk (built typetool_app).top.rules (names_of (built typetool_app)) (name_in Due) [] words
+enters Info words = halted_walk (built typetool_app).top.rules (names_of (built typetool_app)) (name_in Info) [] words
+enters Screen words = halted_walk (built typetool_app).top.rules (names_of (built typetool_app)) (name_in Screen) [] words
+enters Changes words = halted_walk (built typetool_app).top.rules (names_of (built typetool_app)) (name_in Changes) [] words
+enters Reports words = halted_walk (built typetool_app).top.rules (names_of (built typetool_app)) (name_in Reports) [] words
+enters Save words = halted_walk (built typetool_app).top.rules (names_of (built typetool_app)) (name_in Save) [] words
+enters Session words = halted_walk (built typetool_app).top.rules (names_of (built typetool_app)) (name_in Session) [] words
+
+enter_passes : (s : Subcommand) (words : List Text) → walk_passes (built typetool_app).top (names_of (built typetool_app)) (walk_from nothing_held) (name_in s ∷ words) ≡ true
+unfolding clap_on_literals typetool_app app_in name_in flags_in paths_in id_in rule_in
+enter_passes Due words = halted_passes (built typetool_app).top (names_of (built typetool_app)) (name_in Due) [] words
+enter_passes Info words = halted_passes (built typetool_app).top (names_of (built typetool_app)) (name_in Info) [] words
+enter_passes Screen words = halted_passes (built typetool_app).top (names_of (built typetool_app)) (name_in Screen) [] words
+enter_passes Changes words = halted_passes (built typetool_app).top (names_of (built typetool_app)) (name_in Changes) [] words
+enter_passes Reports words = halted_passes (built typetool_app).top (names_of (built typetool_app)) (name_in Reports) [] words
+enter_passes Save words = halted_passes (built typetool_app).top (names_of (built typetool_app)) (name_in Save) [] words
+enter_passes Session words = halted_passes (built typetool_app).top (names_of (built typetool_app)) (name_in Session) [] words
+
+-- what is entered is the subcommand
+entered_leaf : (s : Subcommand) (words : List Text) → entered (built typetool_app) (Some (name_in s, words)) ≡ Some (name_in s, rows_after (leaf s).rules [] words)
+unfolding typetool_app app_in name_in flags_in paths_in id_in rule_in
+entered_leaf Due words = refl
+entered_leaf Info words = refl
+entered_leaf Screen words = refl
+entered_leaf Changes words = refl
+entered_leaf Reports words = refl
+entered_leaf Save words = refl
+entered_leaf Session words = refl
+
+leaf_passes : (s : Subcommand) (words : List Text) → level_passes (leaf s) [] nothing_held words false ≡ true → entered_passes (built typetool_app) (Some (name_in s, words)) ≡ true
+unfolding typetool_app app_in name_in flags_in paths_in id_in rule_in
+leaf_passes Due words e = e
+leaf_passes Info words e = e
+leaf_passes Screen words e = e
+leaf_passes Changes words e = e
+leaf_passes Reports words e = e
+leaf_passes Save words e = e
+leaf_passes Session words e = e
+
+above_passes : (settle_passes (built typetool_app).top.rules (built typetool_app).top.args_override_self nothing_held && (list_all default_passes (built typetool_app).top.rules && is_valid (built typetool_app).top (finished (built typetool_app).top.rules nothing_held) true)) ≡ true
+unfolding typetool_app app_in name_in flags_in paths_in id_in rule_in
+above_passes = refl
+
+module _ (program : Text) (s : Subcommand) (words : List Word) (plain : ArePlain words) (taken : level_takes (leaf s) words ≡ true) where
+  takes_line : clap_takes (program ∷ name_in s ∷ map text_of words) ≡ true
+  unfolding clap_takes typetool_app
+  takes_line =
+      let a = built typetool_app in
+      let behind = map text_of words in
+      both_true _ _ is_simple_app
+      (takes_by a (name_in s ∷ behind) (halted (name_in s) behind) (enters s behind) (enter_passes s behind)
+      (leaf_passes s behind (level_by (leaf s) words plain taken))
+      (ap (λ o. settle_passes a.top.rules a.top.args_override_self nothing_held && (list_all default_passes a.top.rules && is_valid a.top (finished a.top.rules nothing_held) (is_some o))) (entered_leaf s behind)
+      ∙ above_passes))
+
+  line_met : subcommand_in (program ∷ name_in s ∷ map text_of words) ≡ Some (name_in s, finished (leaf s).rules (end_of (leaf s) words).held)
+  unfolding subcommand_in typetool_app
+  line_met =
+      let behind = map text_of words in
+      ap (λ (x : Walk). entered (built typetool_app) x.stopped) (enters s behind)
+      ∙ entered_leaf s behind
+      ∙ ap (λ r. Some (name_in s, r)) (rows_by (leaf s) words plain taken)
+
+  -- such a line asks for the job that its values mean
+  asks_by : (job : Job) (paths : List Text) → job_in s (finished (leaf s).rules (end_of (leaf s) words).held) ≡ Ok job → paths ≡ map (λ a. value_in (id_in a) (finished (leaf s).rules (end_of (leaf s) words).held)) (paths_in s) → Asks (program ∷ name_in s ∷ map text_of words) job paths
+  asks_by job paths is are = record {
+    taken = takes_line;
+    meaning = means _ s _ line_met ∙ ap (λ m. Some m) (means_job s _ job paths is are);
+  }
+
+-- ---- the values of flags
+
+is_false : (b : Bool) → (b ≡ true → ⊥) → b ≡ false
+is_false true h = absurd (h refl)
+is_false false h = refl
+
+no_value : {X Y : Type 0} (f : X → Y) (x : X) (b : Bool) → option_map f (if b && false then Some x else None) ≡ None
+no_value f x true = refl
+no_value f x false = refl
+
+no_digit : (n : ℕ) (rest : Text) → list_all is_ascii_digit (take (1 + n) (45 ∷ rest)) ≡ false
+no_digit n rest =
+    let more : 1 + n ≡ suc n = omega arith in
+    ap (λ k. list_all is_ascii_digit (take k (45 ∷ rest))) more
+
+no_seconds : (rest : Text) → seconds_of (45 ∷ rest) ≡ None
+unfolding seconds_of
+no_seconds rest =
+    let whole = before_first (λ b. b == 46) (45 ∷ rest) in
+    let decimals = after_first (λ b. b == 46) (45 ∷ rest) in
+    ap (λ c. option_map (λ us. min us last_moment) (if nat_lt 0 (length whole) && (c && list_all is_ascii_digit decimals) then Some (micros whole decimals) else None))
+    (no_digit (position_or_len (λ b. b == 46) rest) rest)
+    ∙ no_value (λ us. min us last_moment) (micros whole decimals) (nat_lt 0 (length whole))
+
+some_seconds : (rest : Text) (moment : ℕ) → seconds_of (45 ∷ rest) ≡ Some moment → ⊥
+some_seconds rest moment e =
+    let bad : None ≡ Some moment = sym (no_seconds rest) ∙ e in
+    absurd (cc)
+
+-- a text that is read as seconds begins with a digit
+seconds_are_plain : (text : Text) (moment : ℕ) → seconds_of text ≡ Some moment → IsPlain text
+unfolding seconds_of
+seconds_are_plain [] moment e = refl
+seconds_are_plain (c ∷ rest) moment e =
+    is_false (c == 45) (λ same. some_seconds rest moment (subst (λ x. seconds_of (x ∷ rest) ≡ Some moment) (eqb-true c 45 same) e))
+
+-- ---- each line
+
+module _ (program script timing : Text) (p : IsPlain script) (q : IsPlain timing) where
+  abbrev files : List Word
+  files = value_word script ∷ value_word timing ∷ []
+
+  pub info_line : Asks (program ∷ codes "info" ∷ script ∷ timing ∷ []) job.Info (script ∷ timing ∷ [])
+  unfolding clap_on_literals typetool_app app_in name_in flags_in paths_in id_in rule_in job_in
+  info_line = asks_by program Info files (p, (q, tt)) refl job.Info (script ∷ timing ∷ []) refl refl
+
+  pub save_line : (new_script new_timing : Text) → IsPlain new_script → IsPlain new_timing
+      → Asks (program ∷ codes "save" ∷ script ∷ timing ∷ new_script ∷ new_timing ∷ []) job.Save (script ∷ timing ∷ new_script ∷ new_timing ∷ [])
+  unfolding clap_on_literals typetool_app app_in name_in flags_in paths_in id_in rule_in job_in
+  save_line new_script new_timing r t =
+      asks_by program Save (value_word script ∷ value_word timing ∷ value_word new_script ∷ value_word new_timing ∷ [])
+      (p, (q, (r, (t, tt)))) refl job.Save (script ∷ timing ∷ new_script ∷ new_timing ∷ []) refl refl
+
+  pub session_line : (profile : Option Profile) → Asks (program ∷ codes "session" ∷ with_profile profile (script ∷ timing ∷ [])) (job.Session usual_every (profile_or_first profile)) (script ∷ timing ∷ [])
+  unfolding clap_on_literals typetool_app app_in name_in flags_in paths_in id_in rule_in job_in profile_named
+  session_line None = asks_by program Session files (p, (q, tt)) refl (job.Session usual_every Vt100) (script ∷ timing ∷ []) refl refl
+  session_line (Some Vt100) =
+      asks_by program Session (literal (codes "--profile") ∷ literal (codes "vt100") ∷ files) (p, (q, tt)) refl (job.Session usual_every Vt100) (script ∷ timing ∷ []) refl refl
+  session_line (Some Vt102) =
+      asks_by program Session (literal (codes "--profile") ∷ literal (codes "vt102") ∷ files) (p, (q, tt)) refl (job.Session usual_every Vt102) (script ∷ timing ∷ []) refl refl
+
+  -- the lines with a moment
+  module _ (at : Text) (moment : ℕ) (e : seconds_of at ≡ Some moment) where
+    are_plain : ArePlain (value_word at ∷ files)
+    are_plain = (seconds_are_plain at moment e, (p, (q, tt)))
+
+    -- the moment, and what is read of the other flags
+    moment_read : (of : ℕ → Job) → after (readable unread.Seconds (seconds_of at)) (λ m. Ok (of m)) ≡ Ok (of moment)
+    moment_read of = ap (λ o. after (readable unread.Seconds o) (λ m. Ok (of m))) e
+
+    pub due_line : Asks (program ∷ codes "due" ∷ codes "--at" ∷ at ∷ script ∷ timing ∷ []) (job.Due moment) (script ∷ timing ∷ [])
+    unfolding clap_on_literals typetool_app app_in name_in flags_in paths_in id_in rule_in job_in
+    due_line =
+        asks_by program Due (literal (codes "--at") ∷ value_word at ∷ files) are_plain refl (job.Due moment) (script ∷ timing ∷ [])
+        (moment_read (λ m. job.Due m)) refl
+
+    pub reports_line : (profile : Option Profile) → Asks (program ∷ codes "reports" ∷ codes "--at" ∷ at ∷ with_profile profile (script ∷ timing ∷ [])) (job.Reports moment (profile_or_first profile)) (script ∷ timing ∷ [])
+    unfolding clap_on_literals typetool_app app_in name_in flags_in paths_in id_in rule_in job_in profile_named
+    reports_line None =
+        asks_by program Reports (literal (codes "--at") ∷ value_word at ∷ files) are_plain refl (job.Reports moment Vt100) (script ∷ timing ∷ [])
+        (moment_read (λ m. job.Reports m Vt100)) refl
+    reports_line (Some Vt100) =
+        asks_by program Reports (literal (codes "--at") ∷ value_word at ∷ literal (codes "--profile") ∷ literal (codes "vt100") ∷ files) are_plain refl
+        (job.Reports moment Vt100) (script ∷ timing ∷ []) (moment_read (λ m. job.Reports m Vt100)) refl
+    reports_line (Some Vt102) =
+        asks_by program Reports (literal (codes "--at") ∷ value_word at ∷ literal (codes "--profile") ∷ literal (codes "vt102") ∷ files) are_plain refl
+        (job.Reports moment Vt102) (script ∷ timing ∷ []) (moment_read (λ m. job.Reports m Vt102)) refl
+
+    pub screen_line : (escaped : Bool) (profile : Option Profile) → Asks (program ∷ codes "screen" ∷ codes "--at" ∷ at ∷ with_escaped escaped (with_profile profile (script ∷ timing ∷ []))) (job.Screen moment (profile_or_first profile) escaped) (script ∷ timing ∷ [])
+    unfolding clap_on_literals typetool_app app_in name_in flags_in paths_in id_in rule_in job_in profile_named
+    screen_line false None =
+        asks_by program Screen (literal (codes "--at") ∷ value_word at ∷ files) are_plain refl (job.Screen moment Vt100 false) (script ∷ timing ∷ [])
+        (moment_read (λ m. job.Screen m Vt100 false)) refl
+    screen_line false (Some Vt100) =
+        asks_by program Screen (literal (codes "--at") ∷ value_word at ∷ literal (codes "--profile") ∷ literal (codes "vt100") ∷ files) are_plain refl
+        (job.Screen moment Vt100 false) (script ∷ timing ∷ []) (moment_read (λ m. job.Screen m Vt100 false)) refl
+    screen_line false (Some Vt102) =
+        asks_by program Screen (literal (codes "--at") ∷ value_word at ∷ literal (codes "--profile") ∷ literal (codes "vt102") ∷ files) are_plain refl
+        (job.Screen moment Vt102 false) (script ∷ timing ∷ []) (moment_read (λ m. job.Screen m Vt102 false)) refl
+    screen_line true None =
+        asks_by program Screen (literal (codes "--at") ∷ value_word at ∷ literal (codes "--escaped") ∷ files) are_plain refl (job.Screen moment Vt100 true) (script ∷ timing ∷ [])
+        (moment_read (λ m. job.Screen m Vt100 true)) refl
+    screen_line true (Some Vt100) =
+        asks_by program Screen (literal (codes "--at") ∷ value_word at ∷ literal (codes "--escaped") ∷ literal (codes "--profile") ∷ literal (codes "vt100") ∷ files) are_plain refl
+        (job.Screen moment Vt100 true) (script ∷ timing ∷ []) (moment_read (λ m. job.Screen m Vt100 true)) refl
+    screen_line true (Some Vt102) =
+        asks_by program Screen (literal (codes "--at") ∷ value_word at ∷ literal (codes "--escaped") ∷ literal (codes "--profile") ∷ literal (codes "vt102") ∷ files) are_plain refl
+        (job.Screen moment Vt102 true) (script ∷ timing ∷ []) (moment_read (λ m. job.Screen m Vt102 true)) refl
+
+    pub changes_line : (profile : Option Profile) → Asks (program ∷ codes "changes" ∷ codes "--to" ∷ at ∷ with_profile profile (script ∷ timing ∷ [])) (job.Changes None moment (profile_or_first profile)) (script ∷ timing ∷ [])
+    unfolding clap_on_literals typetool_app app_in name_in flags_in paths_in id_in rule_in job_in profile_named
+    changes_line None =
+        asks_by program Changes (literal (codes "--to") ∷ value_word at ∷ files) are_plain refl (job.Changes None moment Vt100) (script ∷ timing ∷ [])
+        (moment_read (λ m. job.Changes None m Vt100)) refl
+    changes_line (Some Vt100) =
+        asks_by program Changes (literal (codes "--to") ∷ value_word at ∷ literal (codes "--profile") ∷ literal (codes "vt100") ∷ files) are_plain refl
+        (job.Changes None moment Vt100) (script ∷ timing ∷ []) (moment_read (λ m. job.Changes None m Vt100)) refl
+    changes_line (Some Vt102) =
+        asks_by program Changes (literal (codes "--to") ∷ value_word at ∷ literal (codes "--profile") ∷ literal (codes "vt102") ∷ files) are_plain refl
+        (job.Changes None moment Vt102) (script ∷ timing ∷ []) (moment_read (λ m. job.Changes None m Vt102)) refl
+
+    -- and with two
+    module _ (from : Text) (start : ℕ) (d : seconds_of from ≡ Some start) where
+      both_plain : ArePlain (value_word from ∷ value_word at ∷ files)
+      both_plain = (seconds_are_plain from start d, are_plain)
+
+      both_read : (played : Profile) → after (after (readable unread.Seconds (seconds_of from)) (λ m. Ok (Some m))) (λ first. after (readable unread.Seconds (seconds_of at)) (λ m. Ok (job.Changes first m played))) ≡ Ok (job.Changes (Some start) moment played)
+      both_read played =
+          ap (λ o. after (after (readable unread.Seconds o) (λ m. Ok (Some m))) (λ first. after (readable unread.Seconds (seconds_of at)) (λ m. Ok (job.Changes first m played)))) d
+          ∙ moment_read (λ m. job.Changes (Some start) m played)
+
+      pub changes_from_line : (profile : Option Profile) → Asks (program ∷ codes "changes" ∷ codes "--from" ∷ from ∷ codes "--to" ∷ at ∷ with_profile profile (script ∷ timing ∷ [])) (job.Changes (Some start) moment (profile_or_first profile)) (script ∷ timing ∷ [])
+      unfolding clap_on_literals typetool_app app_in name_in flags_in paths_in id_in rule_in job_in profile_named
+      changes_from_line None =
+          asks_by program Changes (literal (codes "--from") ∷ value_word from ∷ literal (codes "--to") ∷ value_word at ∷ files) both_plain refl (job.Changes (Some start) moment Vt100) (script ∷ timing ∷ [])
+          (both_read Vt100) refl
+      changes_from_line (Some Vt100) =
+          asks_by program Changes (literal (codes "--from") ∷ value_word from ∷ literal (codes "--to") ∷ value_word at ∷ literal (codes "--profile") ∷ literal (codes "vt100") ∷ files) both_plain refl
+          (job.Changes (Some start) moment Vt100) (script ∷ timing ∷ []) (both_read Vt100) refl
+      changes_from_line (Some Vt102) =
+          asks_by program Changes (literal (codes "--from") ∷ value_word from ∷ literal (codes "--to") ∷ value_word at ∷ literal (codes "--profile") ∷ literal (codes "vt102") ∷ files) both_plain refl
+          (job.Changes (Some start) moment Vt102) (script ∷ timing ∷ []) (both_read Vt102) refl

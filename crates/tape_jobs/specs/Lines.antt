@@ -1,0 +1,40 @@
+-- What a plain command line means: each line of the synopsis, its flags in the order of help (ours).
+use Rattle.std.specs.Prelude.{◌≡◌, ℕ, ◌==◌, Bool, true, false, List, [], ◌∷◌, Option, Some, None, Ok, codes}
+use Rattle.clap.specs.Words.{Text}
+use Rattle.tape_jobs.specs.CommandLine.{clap_takes, meaning_of_words}
+use Rattle.tape_jobs.specs.declared.job.Job.{Job}
+use Rattle.vt_term.specs.declared.profile.Profile.{Profile}
+use Rattle.vt_term.specs.declared.profile.Profile.TheVariants.{Vt100, Vt102}
+
+-- a word that no parser can take for a flag: it doesn't begin with a hyphen (ours)
+abbrev pub begins_with_hyphen : Text → Bool
+begins_with_hyphen [] = false
+begins_with_hyphen (c ∷ rest) = c == 45
+
+abbrev pub IsPlain : Text → Type 0
+IsPlain word = begins_with_hyphen word ≡ false
+
+-- `--escaped`, where it is asked for, before the words behind it (ours)
+abbrev pub with_escaped : Bool → List Text → List Text
+with_escaped true words = codes "--escaped" ∷ words
+with_escaped false words = words
+
+-- the name of a profile (ours)
+abbrev pub profile_name : Profile → Text
+profile_name Vt100 = codes "vt100"
+profile_name Vt102 = codes "vt102"
+
+-- `--profile` and a name, where one is given (ours)
+abbrev pub with_profile : Option Profile → List Text → List Text
+with_profile None words = words
+with_profile (Some profile) words = codes "--profile" ∷ profile_name profile ∷ words
+
+-- the profile that is given, and a VT100 where none is (ours)
+abbrev pub profile_or_first : Option Profile → Profile
+profile_or_first None = Vt100
+profile_or_first (Some profile) = profile
+
+-- clap takes these words, and they mean this job over these paths: so they are read as that, or memory is refused (ours)
+pub record Asks (words : List Text) (job : Job) (paths : List Text) : Type 0 where
+  pub taken : clap_takes words ≡ true
+  pub meaning : meaning_of_words words ≡ Some (Ok (record { job = job; paths = paths }))
