@@ -1,4 +1,24 @@
-//! What bytes leave of a terminal from its reset, told as a text.
+//! What bytes leave of a terminal from its reset, told as a text: in this order each part that isn't as in the initial state,
+//! and the cursor always.
+//!
+//! | Told | Means |
+//! |---|---|
+//! | `7:ghi` | line 7 isn't blank and single: its cells from column 1 to the last that isn't blank |
+//! | `7(Top):ghi` | the same of a line that isn't single width: `Double`, `Top` or `Bottom` |
+//! | `<25>` | a glyph below 32, by its number |
+//! | `A{80}` | 80 of a glyph, where there are more than eight |
+//! | `[BUKR]` | from here on bold (B), underscore (U), blink (K), reverse (R); `[]` none of them |
+//! | `wide` | 132 columns |
+//! | `at 7 40 wrap` | the cursor's line and column, and that a wrap is pending |
+//! | `margins 5 9` | the top and the bottom margin |
+//! | `tabs 3 50` | the columns of all tab stops |
+//! | `DECCKM no DECAWM` | modes by their names: those that are set, and DECAWM where it is reset |
+//! | `G0 Uk G1 SpecialGraphics SO graphics` | the sets that are designated, that G1 is invoked, and that VT52 graphics is on |
+//! | `L1 L3` | the LEDs that are on |
+//! | `[BR]` | the current rendition |
+//! | `saved(6 8 wrap DECOM [BR] G0 Uk SO)` | what DECSC has saved, in the same words |
+//! | `pending` | a sequence that isn't finished |
+//! | `sent E[0n from 2` | the list of reports with E for ESC, and the place in it where that isn't its end |
 ghost use Rattle.std.specs.Prelude.{◌≤◌, ◌+◌};
 
 use std::alloc::Global;
@@ -9,10 +29,13 @@ use vt_parser::{Mode, ParserState};
 use vt_screen::{Cell, Rendition, Row, Screen, Size};
 use vt_term::{CharacterSet, Modes, OutOfMemory, Profile, Reports, Saved, Sets, Slot, Terminal};
 
+mod changes;
 mod editing;
+mod nothing;
 mod recordings;
 mod refused;
 mod rows;
+mod starts;
 mod stream;
 mod tables;
 mod whole;
@@ -404,24 +427,39 @@ fn told_after(alloc: Global, profile: Profile, bytes: &[u8]) -> Result<String, F
     told(alloc, &left)
 }
 
-fn assert_told(rt: &impl Abort, text: &str, want: &str, bytes: &[u8]) {
-    assert_eq!(rt; text, want, "at {bytes:?}");
-}
-
-// Each piece of bytes leaves what is told of it.
-fn all_leave(rt: &impl Abort, alloc: Global, rows: &[(&[u8], &str)]) -> Result<(), Fail> {
-    all_leave_as(rt, alloc, Profile::Vt100, rows)
-}
-
-fn all_leave_as(
-    rt: &impl Abort,
-    alloc: Global,
+fn assert_leaves(
+    rt: &(impl Abort + AllocGlobal),
     profile: Profile,
-    rows: &[(&[u8], &str)],
+    bytes: &[u8],
+    want: &str,
 ) -> Result<(), Fail> {
+    let text = told_after(rt.alloc(), profile, bytes)?;
+    assert_eq!(rt;
+        text.as_str(),
+        want,
+        "at {} of a {profile:?}",
+        bytes.escape_ascii()
+    );
+    Ok(())
+}
+
+// The bytes of each row, and what they leave from the reset, in both profiles.
+fn all_leave(rt: &(impl Abort + AllocGlobal), rows: &[(&[u8], &str)]) -> Result<(), Fail> {
     for (bytes, want) in rows {
-        let text = told_after(alloc, profile, bytes)?;
-        assert_told(rt, text.as_str(), want, bytes);
+        assert_leaves(rt, Profile::Vt100, bytes, want)?;
+        assert_leaves(rt, Profile::Vt102, bytes, want)?;
+    }
+    Ok(())
+}
+
+// Rows that differ: what the bytes leave of a VT100, and what of a VT102.
+fn all_leave_by_profile(
+    rt: &(impl Abort + AllocGlobal),
+    rows: &[(&[u8], &str, &str)],
+) -> Result<(), Fail> {
+    for (bytes, of_vt100, of_vt102) in rows {
+        assert_leaves(rt, Profile::Vt100, bytes, of_vt100)?;
+        assert_leaves(rt, Profile::Vt102, bytes, of_vt102)?;
     }
     Ok(())
 }

@@ -1,6 +1,7 @@
-//! What a VT102 has more than a VT100: lines and cells that are inserted and deleted, and its answer to device attributes.
-use super::whole::{SET, WRAPPING, all_change_as};
-use super::{all_leave, all_leave_as};
+//! What a VT102 has more than a VT100: lines and cells that are inserted and deleted.
+use super::all_leave_by_profile;
+use super::changes::{all_change_as, all_change_by_profile};
+use super::starts::{SET, WRAPPING};
 use std::test::Fail;
 use vt_term::Profile;
 
@@ -13,69 +14,74 @@ const FULL_LINE: &[u8] =
 
 #[test]
 fn inserts_and_deletes_lines(rt: HostRuntime) -> Result<(), Fail> {
-    const OF_VT102: &[(&[u8], &str)] = &[
-        (b"\x1b[2;1H\x1b[L", "2: 3:b at 2 1"),
-        (b"\x1b[2;1H\x1b[5M", "2-3: at 2 1"),
-        (b"\x1b[1;2H\x1b[L", "at 1 2"),
+    const ROWS: &[(&[u8], &str, &str)] = &[
+        (b"\x1b[2;1H\x1b[L", "at 2 1", "2: 3:b at 2 1"),
+        (b"\x1b[2;1H\x1b[5M", "at 2 1", "2-3: at 2 1"),
+        (b"\x1b[1;2H\x1b[L", "at 1 2", "at 1 2"),
     ];
-    all_change_as(&rt, rt.alloc(), Profile::Vt102, &[FOUR_LINES], OF_VT102)?;
-    const OF_VT100: &[(&[u8], &str)] = &[
-        (b"\x1b[2;1H\x1b[L", "at 2 1"),
-        (b"\x1b[2;1H\x1b[5M", "at 2 1"),
-        (b"\x1b[1;2H\x1b[L", "at 1 2"),
-    ];
-    all_change_as(&rt, rt.alloc(), Profile::Vt100, &[FOUR_LINES], OF_VT100)
+    all_change_by_profile(&rt, &[FOUR_LINES], ROWS)
 }
 
 #[test]
 fn inserts_and_deletes_cells(rt: HostRuntime) -> Result<(), Fail> {
-    const OF_VT102: &[(&[u8], &str)] = &[
-        (b"abcdef\x1b[1;2H\x1b[2P", "1:adef at 1 2"),
-        (b"abc\x1b[1;2H\x1b[4hXY\x1b[4lZ", "1:aXYZc at 1 5"),
-        (b"abc\x1b[1;2H\x1b[4hVWXYZ", "1:aVWXYZbc at 1 7 IRM"),
-        (b"ab\x1b#6\x1b[L", "2(Double):ab at 1 1"),
+    const ROWS: &[(&[u8], &str, &str)] = &[
         (
-            b"\x1b[1ma\x1b[7mb\x1b[mc\x1b[H\x1b[4hX",
-            "1:X[B]a[BR]b[]c at 1 2 IRM",
+            b"abcdef\x1b[1;2H\x1b[2P",
+            "1:abcdef at 1 2",
+            "1:adef at 1 2",
         ),
-        (b"\x1b[1ma\x1b[7mb\x1b[mc\x1b[H\x1b[P", "1:[BR]b[]c at 1 1"),
-        (b"ab\x1b[7m\x1b[H\x1b[P", "1:b at 1 1 [R]"),
-        (b"a\x1b[7m\x1b[L", "2:a at 1 1 [R]"),
-    ];
-    all_leave_as(&rt, rt.alloc(), Profile::Vt102, OF_VT102)?;
-    const OF_VT100: &[(&[u8], &str)] = &[
-        (b"abcdef\x1b[1;2H\x1b[2P", "1:abcdef at 1 2"),
-        (b"abc\x1b[1;2H\x1b[4hXY\x1b[4lZ", "1:aXYZ at 1 5"),
-        (b"abc\x1b[1;2H\x1b[4hVWXYZ", "1:aVWXYZ at 1 7"),
-        (b"ab\x1b#6\x1b[L", "1(Double):ab at 1 3"),
+        (
+            b"abc\x1b[1;2H\x1b[4hXY\x1b[4lZ",
+            "1:aXYZ at 1 5",
+            "1:aXYZc at 1 5",
+        ),
+        (
+            b"abc\x1b[1;2H\x1b[4hVWXYZ",
+            "1:aVWXYZ at 1 7",
+            "1:aVWXYZbc at 1 7 IRM",
+        ),
+        (
+            b"ab\x1b#6\x1b[L",
+            "1(Double):ab at 1 3",
+            "2(Double):ab at 1 1",
+        ),
         (
             b"\x1b[1ma\x1b[7mb\x1b[mc\x1b[H\x1b[4hX",
             "1:X[BR]b[]c at 1 2",
+            "1:X[B]a[BR]b[]c at 1 2 IRM",
         ),
         (
             b"\x1b[1ma\x1b[7mb\x1b[mc\x1b[H\x1b[P",
             "1:[B]a[BR]b[]c at 1 1",
+            "1:[BR]b[]c at 1 1",
         ),
-        (b"ab\x1b[7m\x1b[H\x1b[P", "1:ab at 1 1 [R]"),
-        (b"a\x1b[7m\x1b[L", "1:a at 1 2 [R]"),
+        (
+            b"ab\x1b[7m\x1b[H\x1b[P",
+            "1:ab at 1 1 [R]",
+            "1:b at 1 1 [R]",
+        ),
+        (b"a\x1b[7m\x1b[L", "1:a at 1 2 [R]", "2:a at 1 1 [R]"),
     ];
-    all_leave(&rt, rt.alloc(), OF_VT100)
+    all_leave_by_profile(&rt, ROWS)
 }
 
 #[test]
 fn inserts_into_a_full_line(rt: HostRuntime) -> Result<(), Fail> {
-    const OF_VT102: &[(&[u8], &str)] = &[
-        (b"\x1b[4hC", "1:CA{79} at 1 2 +IRM"),
-        (b"\x1b[4hCDE", "1:CDEA{77} at 1 4 +IRM"),
-        (b"\x1b[1;80H\x1b[4hCDE", "1:A{79}C 2:DE at 2 3 +IRM"),
-        (b"\x1b[1;79H\x1b[P", "1:A{78}B at 1 79"),
+    const ROWS: &[(&[u8], &str, &str)] = &[
+        (b"\x1b[4hC", "1:CA{78}B at 1 2", "1:CA{79} at 1 2 +IRM"),
+        (
+            b"\x1b[4hCDE",
+            "1:CDEA{76}B at 1 4",
+            "1:CDEA{77} at 1 4 +IRM",
+        ),
+        (
+            b"\x1b[1;80H\x1b[4hCDE",
+            "1:A{79}C 2:DE at 2 3",
+            "1:A{79}C 2:DE at 2 3 +IRM",
+        ),
+        (b"\x1b[1;79H\x1b[P", "at 1 79", "1:A{78}B at 1 79"),
     ];
-    all_change_as(&rt, rt.alloc(), Profile::Vt102, &[FULL_LINE], OF_VT102)?;
-    const OF_VT100: &[(&[u8], &str)] = &[
-        (b"\x1b[4hC", "1:CA{78}B at 1 2"),
-        (b"\x1b[1;79H\x1b[P", "at 1 79"),
-    ];
-    all_change_as(&rt, rt.alloc(), Profile::Vt100, &[FULL_LINE], OF_VT100)
+    all_change_by_profile(&rt, &[FULL_LINE], ROWS)
 }
 
 // The cursor is in line 7, from the margins 5 to 9, and column 3 of 132.
@@ -150,9 +156,9 @@ const INSERT_MODE_OF_SET: &[(&[u8], &str)] = &[
 
 #[test]
 fn from_a_wide_screen(rt: HostRuntime) -> Result<(), Fail> {
-    all_change_as(&rt, rt.alloc(), Profile::Vt102, &[SET], LINES_OF_SET)?;
-    all_change_as(&rt, rt.alloc(), Profile::Vt102, &[SET], CELLS_OF_SET)?;
-    all_change_as(&rt, rt.alloc(), Profile::Vt102, &[SET], INSERT_MODE_OF_SET)
+    all_change_as(&rt, Profile::Vt102, &[SET], LINES_OF_SET)?;
+    all_change_as(&rt, Profile::Vt102, &[SET], CELLS_OF_SET)?;
+    all_change_as(&rt, Profile::Vt102, &[SET], INSERT_MODE_OF_SET)
 }
 
 // The wrap is pending at column 40 of the double line 7, the bottom margin.
@@ -187,25 +193,7 @@ const EDITS_OF_WRAPPING: &[(&[u8], &str)] = &[
 
 #[test]
 fn from_a_pending_wrap(rt: HostRuntime) -> Result<(), Fail> {
-    all_change_as(
-        &rt,
-        rt.alloc(),
-        Profile::Vt102,
-        &[WRAPPING],
-        EDITS_OF_WRAPPING,
-    )
-}
-
-#[test]
-fn answers(rt: HostRuntime) -> Result<(), Fail> {
-    const ROWS: &[(&[u8], &str)] = &[
-        (b"\x1b[c", "sent E[?6c"),
-        (b"\x1b[0;1c", "sent E[?6c"),
-        (b"\x1bZ", "sent E[?6c"),
-        (b"\x1b[1c\x1b[6c\x1b[?c", ""),
-        (b"\x1b[?2l\x1bZ", "+VT52 sent E/Z"),
-    ];
-    all_change_as(&rt, rt.alloc(), Profile::Vt102, &[WRAPPING], ROWS)
+    all_change_as(&rt, Profile::Vt102, &[WRAPPING], EDITS_OF_WRAPPING)
 }
 
 // Of these a VT100 has none.
@@ -219,8 +207,8 @@ fn changes_nothing_of_a_vt100(rt: HostRuntime) -> Result<(), Fail> {
         (b"\x1b[4l", ""),
         (b"\x1b[0;4;5h", ""),
     ];
-    all_change_as(&rt, rt.alloc(), Profile::Vt100, &[SET], ROWS)?;
-    all_change_as(&rt, rt.alloc(), Profile::Vt100, &[WRAPPING], ROWS)
+    all_change_as(&rt, Profile::Vt100, &[SET], ROWS)?;
+    all_change_as(&rt, Profile::Vt100, &[WRAPPING], ROWS)
 }
 
 // In VT52 mode neither profile has them, but insert mode acts.
@@ -234,5 +222,5 @@ fn in_vt52_mode(rt: HostRuntime) -> Result<(), Fail> {
         (b"\x1b<a", "7:gh[BR]<2>[]i {63}j at 7 4 -VT52"),
         (b"\x1bZ", "sent E[0nE/Z"),
     ];
-    all_change_as(&rt, rt.alloc(), Profile::Vt102, START, ROWS)
+    all_change_as(&rt, Profile::Vt102, START, ROWS)
 }

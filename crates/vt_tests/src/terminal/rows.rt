@@ -1,5 +1,5 @@
 //! Worked rows.
-use super::{Left, all_leave, feed_reset, feed_reset_as, reset_as, told};
+use super::{Left, all_leave, all_leave_by_profile, feed_reset, feed_reset_as, reset_as, told};
 use std::alloc::Global;
 use std::process::Abort;
 use std::test::Fail;
@@ -31,7 +31,7 @@ fn shows_moves_and_erases(rt: HostRuntime) -> Result<(), Fail> {
         (b"abc\x08\x08\x1b[1K", "1:  c at 1 2"),
         (b"abc\x1b[2K", "at 1 4"),
     ];
-    all_leave(&rt, rt.alloc(), ROWS)
+    all_leave(&rt, ROWS)
 }
 
 #[test]
@@ -61,7 +61,7 @@ fn keeps_margins_tabs_saves_sets_and_sizes(rt: HostRuntime) -> Result<(), Fail> 
         (b"\x1b[?2l\x1bY%*X\x1bZ", "6: {10}X at 6 12 VT52 sent E/Z"),
         (b"\x1b[?2;7l", "at 1 1 VT52 no DECAWM"),
     ];
-    all_leave(&rt, rt.alloc(), ROWS)
+    all_leave(&rt, ROWS)
 }
 
 #[test]
@@ -69,14 +69,16 @@ fn answers(rt: HostRuntime) -> Result<(), Fail> {
     const ROWS: &[(&[u8], &str)] = &[
         (b"\x1b[x", "at 1 1 sent E[2;1;1;112;112;1;0x"),
         (b"\x1b[1x", "at 1 1 sent E[3;1;1;112;112;1;0x"),
-        (
-            b"\x1b[c\x1b[0c\x1b[00c\x1b[1c",
-            "at 1 1 sent E[?1;2cE[?1;2cE[?1;2c",
-        ),
         (b"\x1b[1;3q", "at 1 1 L1 L3"),
         (b"\x1b[1;3q\x1b[0;2q", "at 1 1 L2"),
     ];
-    all_leave(&rt, rt.alloc(), ROWS)
+    all_leave(&rt, ROWS)?;
+    const DIFFERING: &[(&[u8], &str, &str)] = &[(
+        b"\x1b[c\x1b[0c\x1b[00c\x1b[1c",
+        "at 1 1 sent E[?1;2cE[?1;2cE[?1;2c",
+        "at 1 1 sent E[?6cE[?6cE[?6c",
+    )];
+    all_leave_by_profile(&rt, DIFFERING)
 }
 
 #[test]

@@ -1,5 +1,5 @@
-//! Each row of the tables once, in both modes where it has one.
-use super::all_leave;
+//! Each row of the tables once from the reset, in both modes where it has one, and in both profiles.
+use super::{all_leave, all_leave_by_profile};
 use std::test::Fail;
 
 #[test]
@@ -17,7 +17,7 @@ fn controls(rt: HostRuntime) -> Result<(), Fail> {
         (b"a\x05", "1:a at 1 2"),
         (b"a\x00\x07\x11\x13\x18\x1a\x7f", "1:a at 1 2"),
     ];
-    all_leave(&rt, rt.alloc(), ROWS)
+    all_leave(&rt, ROWS)
 }
 
 #[test]
@@ -38,7 +38,7 @@ fn controls_in_vt52_mode(rt: HostRuntime) -> Result<(), Fail> {
         (b"\x1b[?2la\x05", "1:a at 1 2 VT52"),
         (b"\x1b[?2la\x00\x07\x11\x13\x18\x1a\x7f", "1:a at 1 2 VT52"),
     ];
-    all_leave(&rt, rt.alloc(), ROWS)
+    all_leave(&rt, ROWS)
 }
 
 #[test]
@@ -51,7 +51,6 @@ fn escape_sequences(rt: HostRuntime) -> Result<(), Fail> {
             b"abc\x1bH\r\t",
             "1:abc at 1 4 tabs 4 9 17 25 33 41 49 57 65 73 81 89 97 105 113 121 129",
         ),
-        (b"\x1bZ", "at 1 1 sent E[?1;2c"),
         (b"ab\x1b[7m\x1b[?5h\x1b[5n\x1bc", "at 1 1 sent E[0n"),
         (b"ab\x1b7", "1:ab at 1 3 saved(1 3)"),
         (
@@ -67,7 +66,7 @@ fn escape_sequences(rt: HostRuntime) -> Result<(), Fail> {
         (b"\x1b#6", "1(Double): at 1 1"),
         (b"\x1b#7\x1bN", "at 1 1"),
     ];
-    all_leave(&rt, rt.alloc(), ROWS)
+    all_leave(&rt, ROWS)
 }
 
 #[test]
@@ -89,7 +88,7 @@ fn designations(rt: HostRuntime) -> Result<(), Fail> {
             "1:<0><1><2><11><25><31>^! at 1 9 G0 SpecialGraphics",
         ),
     ];
-    all_leave(&rt, rt.alloc(), ROWS)
+    all_leave(&rt, ROWS)
 }
 
 #[test]
@@ -111,7 +110,7 @@ fn control_sequences_that_move(rt: HostRuntime) -> Result<(), Fail> {
         (b"\x1b[2;5r\x1b[r", "at 1 1"),
         (b"\x1b[2;5r\x1b[?6h\x1b[2;2H", "at 3 2 margins 2 5 DECOM"),
     ];
-    all_leave(&rt, rt.alloc(), ROWS)
+    all_leave(&rt, ROWS)
 }
 
 #[test]
@@ -133,18 +132,17 @@ fn control_sequences_that_set(rt: HostRuntime) -> Result<(), Fail> {
         (b"\x1b[1;4;5;7;2;38m", "at 1 1 [BUKR]"),
         (b"\x1b[1;4;0;7m", "at 1 1 [R]"),
         (b"\x1b[1m\x1b[m", "at 1 1"),
-        (b"\x1b[4;20h", "at 1 1 LNM"),
+        (b"\x1b[20h", "at 1 1 LNM"),
         (b"\x1b[20h\x1b[4;20l", "at 1 1"),
         (b"\x1b[1;2;3;4;5q", "at 1 1 L1 L2 L3 L4"),
         (b"\x1b[4q\x1b[q", "at 1 1"),
     ];
-    all_leave(&rt, rt.alloc(), ROWS)
+    all_leave(&rt, ROWS)
 }
 
 #[test]
 fn reports(rt: HostRuntime) -> Result<(), Fail> {
     const ROWS: &[(&[u8], &str)] = &[
-        (b"\x1b[c", "at 1 1 sent E[?1;2c"),
         (b"\x1b[1c", "at 1 1"),
         (b"\x1b[5n", "at 1 1 sent E[0n"),
         (b"\x1b[3;4H\x1b[6n", "at 3 4 sent E[3;4R"),
@@ -158,7 +156,17 @@ fn reports(rt: HostRuntime) -> Result<(), Fail> {
         (b"\x1b[2x", "at 1 1"),
         (b"\x1b[?5n\x1b[?c", "at 1 1"),
     ];
-    all_leave(&rt, rt.alloc(), ROWS)
+    all_leave(&rt, ROWS)
+}
+
+#[test]
+fn rows_that_differ(rt: HostRuntime) -> Result<(), Fail> {
+    const ROWS: &[(&[u8], &str, &str)] = &[
+        (b"\x1bZ", "at 1 1 sent E[?1;2c", "at 1 1 sent E[?6c"),
+        (b"\x1b[c", "at 1 1 sent E[?1;2c", "at 1 1 sent E[?6c"),
+        (b"\x1b[4;20h", "at 1 1 LNM", "at 1 1 LNM IRM"),
+    ];
+    all_leave_by_profile(&rt, ROWS)
 }
 
 #[test]
@@ -185,7 +193,7 @@ fn private_modes(rt: HostRuntime) -> Result<(), Fail> {
         (b"\x1b[?25h\x1b[?1049h", "at 1 1"),
         (b"\x1b[?7m\x1b[?1q", "at 1 1"),
     ];
-    all_leave(&rt, rt.alloc(), ROWS)
+    all_leave(&rt, ROWS)
 }
 
 #[test]
@@ -211,5 +219,5 @@ fn vt52_sequences(rt: HostRuntime) -> Result<(), Fail> {
         ),
         (b"\x1b[?2l\x1bM\x1bc\x1b7", "at 1 1 VT52"),
     ];
-    all_leave(&rt, rt.alloc(), ROWS)
+    all_leave(&rt, ROWS)
 }

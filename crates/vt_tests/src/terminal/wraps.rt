@@ -1,58 +1,74 @@
 //! What clears the pending wrap and what leaves it, also where nothing moves.
-use super::{assert_told, feed_reset, feed_reset_as, write_cursor};
+use super::{feed_reset_as, write_cursor};
 use std::alloc::Global;
 use std::process::Abort;
 use std::test::Fail;
 use vt_term::Profile;
 
-fn is_pending(alloc: Global, start: &[u8]) -> Result<bool, Fail> {
-    Ok(feed_reset(alloc, start)?.terminal.screen().wrap())
-}
-
 // The cursor and the wrap, as they are told.
-fn cursor_after(alloc: Global, start: &[u8], bytes: &[u8]) -> Result<String, Fail> {
-    let left = feed_reset_as(alloc, Profile::Vt100, &[start, bytes])?;
+fn cursor_after(alloc: Global, profile: Profile, pieces: &[&[u8]]) -> Result<String, Fail> {
+    let left = feed_reset_as(alloc, profile, pieces)?;
     let mut text = String::new(alloc);
     write_cursor(&mut text, left.terminal.screen())?;
     Ok(text)
 }
 
-// Each begins with the wrap pending, and leaves the cursor and the wrap as told.
-fn all_leave_cursor(
-    rt: &impl Abort,
-    alloc: Global,
+fn assert_leaves_cursor(
+    rt: &(impl Abort + AllocGlobal),
+    profile: Profile,
     start: &[u8],
+    bytes: &[u8],
+    want: &str,
+) -> Result<(), Fail> {
+    let text = cursor_after(rt.alloc(), profile, &[start, bytes])?;
+    assert_eq!(rt;
+        text.as_str(),
+        want,
+        "at {} of a {profile:?}",
+        bytes.escape_ascii()
+    );
+    Ok(())
+}
+
+// Each begins with the wrap pending, as is told first, and leaves the cursor and the wrap as told, in both profiles.
+fn all_leave_cursor(
+    rt: &(impl Abort + AllocGlobal),
+    start: (&[u8], &str),
     rows: &[(&[u8], &str)],
 ) -> Result<(), Fail> {
-    let is_pending = is_pending(alloc, start)?;
-    assert!(rt; is_pending, "{start:?}");
+    assert_leaves_cursor(rt, Profile::Vt100, start.0, b"", start.1)?;
     for (bytes, want) in rows {
-        let text = cursor_after(alloc, start, bytes)?;
-        assert_told(rt, text.as_str(), want, bytes);
+        assert_leaves_cursor(rt, Profile::Vt100, start.0, bytes, want)?;
+        assert_leaves_cursor(rt, Profile::Vt102, start.0, bytes, want)?;
     }
     Ok(())
 }
 
 // Pending at line 5.
-const PENDING: &[u8] = b"\x1b[5;80HA";
+const PENDING: (&[u8], &str) = (b"\x1b[5;80HA", "at 5 80 wrap");
 
 // Pending at line 5 with a double width.
-const DOUBLE: &[u8] = b"\x1b[5;1H\x1b#6\x1b[5;40HA";
+const DOUBLE: (&[u8], &str) = (b"\x1b[5;1H\x1b#6\x1b[5;40HA", "at 5 40 wrap");
+
+// Pending at line 5 with the halves of a double height.
+const TOP: (&[u8], &str) = (b"\x1b[5;1H\x1b#3\x1b[5;40HA", "at 5 40 wrap");
+
+const BOTTOM: (&[u8], &str) = (b"\x1b[5;1H\x1b#4\x1b[5;40HA", "at 5 40 wrap");
 
 // Pending at the top margin, with DECOM set.
-const AT_TOP: &[u8] = b"\x1b[5;9r\x1b[?6h\x1b[1;80HA";
+const AT_TOP: (&[u8], &str) = (b"\x1b[5;9r\x1b[?6h\x1b[1;80HA", "at 5 80 wrap");
 
 // Pending at the bottom margin.
-const AT_BOTTOM: &[u8] = b"\x1b[5;9r\x1b[9;80HA";
+const AT_BOTTOM: (&[u8], &str) = (b"\x1b[5;9r\x1b[9;80HA", "at 9 80 wrap");
 
 // Pending at line 1, above the margins.
-const ABOVE: &[u8] = b"\x1b[5;9r\x1b[1;80HA";
+const ABOVE: (&[u8], &str) = (b"\x1b[5;9r\x1b[1;80HA", "at 1 80 wrap");
 
 // Pending at line 24, below the margins.
-const BELOW: &[u8] = b"\x1b[5;9r\x1b[24;80HA";
+const BELOW: (&[u8], &str) = (b"\x1b[5;9r\x1b[24;80HA", "at 24 80 wrap");
 
 // Pending in VT52 mode, with its graphics on.
-const VT52: &[u8] = b"\x1b[5;80HA\x1b[?2l\x1bF";
+const VT52: (&[u8], &str) = (b"\x1b[5;80HA\x1b[?2l\x1bF", "at 5 80 wrap");
 
 #[test]
 fn controls_clear_it(rt: HostRuntime) -> Result<(), Fail> {
@@ -67,8 +83,8 @@ fn controls_clear_it(rt: HostRuntime) -> Result<(), Fail> {
         (b"\x1b(\x09", "at 5 80"),
         (b"\x1b[20h\x0a", "at 6 1"),
     ];
-    all_leave_cursor(&rt, rt.alloc(), PENDING, ROWS)?;
-    all_leave_cursor(&rt, rt.alloc(), VT52, &ROWS[..6])
+    all_leave_cursor(&rt, PENDING, ROWS)?;
+    all_leave_cursor(&rt, VT52, &ROWS[..6])
 }
 
 #[test]
@@ -88,13 +104,13 @@ fn moves_clear_it(rt: HostRuntime) -> Result<(), Fail> {
         (b"\x1b[H", "at 1 1"),
         (b"\x1b[f", "at 1 1"),
     ];
-    all_leave_cursor(&rt, rt.alloc(), PENDING, ROWS)
+    all_leave_cursor(&rt, PENDING, ROWS)
 }
 
 #[test]
 fn moves_that_move_nothing_clear_it(rt: HostRuntime) -> Result<(), Fail> {
     const UP: &[(&[u8], &str)] = &[(b"\x1b[A", "at 5 80"), (b"\x1bM", "at 5 80")];
-    all_leave_cursor(&rt, rt.alloc(), AT_TOP, UP)?;
+    all_leave_cursor(&rt, AT_TOP, UP)?;
     const DOWN: &[(&[u8], &str)] = &[
         (b"\x1b[B", "at 9 80"),
         (b"\x1bD", "at 9 80"),
@@ -102,9 +118,9 @@ fn moves_that_move_nothing_clear_it(rt: HostRuntime) -> Result<(), Fail> {
         (b"\x0b", "at 9 80"),
         (b"\x0c", "at 9 80"),
     ];
-    all_leave_cursor(&rt, rt.alloc(), AT_BOTTOM, DOWN)?;
+    all_leave_cursor(&rt, AT_BOTTOM, DOWN)?;
     const UP_ABOVE: &[(&[u8], &str)] = &[(b"\x1b[A", "at 1 80"), (b"\x1bM", "at 1 80")];
-    all_leave_cursor(&rt, rt.alloc(), ABOVE, UP_ABOVE)?;
+    all_leave_cursor(&rt, ABOVE, UP_ABOVE)?;
     const DOWN_BELOW: &[(&[u8], &str)] = &[
         (b"\x1b[B", "at 24 80"),
         (b"\x1bD", "at 24 80"),
@@ -112,7 +128,7 @@ fn moves_that_move_nothing_clear_it(rt: HostRuntime) -> Result<(), Fail> {
         (b"\x0b", "at 24 80"),
         (b"\x0c", "at 24 80"),
     ];
-    all_leave_cursor(&rt, rt.alloc(), BELOW, DOWN_BELOW)
+    all_leave_cursor(&rt, BELOW, DOWN_BELOW)
 }
 
 #[test]
@@ -127,7 +143,7 @@ fn vt52_moves_clear_it(rt: HostRuntime) -> Result<(), Fail> {
         (b"\x1bY$o", "at 5 80"),
         (b"\x1bY  ", "at 1 1"),
     ];
-    all_leave_cursor(&rt, rt.alloc(), VT52, ROWS)
+    all_leave_cursor(&rt, VT52, ROWS)
 }
 
 #[test]
@@ -149,7 +165,7 @@ fn settings_clear_it(rt: HostRuntime) -> Result<(), Fail> {
         (b"\x1b8", "at 1 1"),
         (b"\x1b[?2l\x1b<\x1b[?7l", "at 5 80"),
     ];
-    all_leave_cursor(&rt, rt.alloc(), PENDING, ROWS)
+    all_leave_cursor(&rt, PENDING, ROWS)
 }
 
 #[test]
@@ -175,7 +191,7 @@ fn on_a_double_line(rt: HostRuntime) -> Result<(), Fail> {
         (b"\x1b[?2l\x1bK", "at 5 40 wrap"),
         (b"\x1b[m", "at 5 40 wrap"),
     ];
-    all_leave_cursor(&rt, rt.alloc(), DOUBLE, ROWS)
+    all_leave_cursor(&rt, DOUBLE, ROWS)
 }
 
 // The two halves of a double height are double sizes too.
@@ -186,8 +202,8 @@ fn erasing_a_double_height_clears_it(rt: HostRuntime) -> Result<(), Fail> {
         (b"\x1b[2J", "at 5 40"),
         (b"\x1b[J", "at 5 40 wrap"),
     ];
-    all_leave_cursor(&rt, rt.alloc(), b"\x1b[5;1H\x1b#3\x1b[5;40HA", ROWS)?;
-    all_leave_cursor(&rt, rt.alloc(), b"\x1b[5;1H\x1b#4\x1b[5;40HA", ROWS)
+    all_leave_cursor(&rt, TOP, ROWS)?;
+    all_leave_cursor(&rt, BOTTOM, ROWS)
 }
 
 #[test]
@@ -202,7 +218,7 @@ fn restoring_sets_it(rt: HostRuntime) -> Result<(), Fail> {
         (b"\x1b7\x1b[?3h\x1b8", "at 5 80"),
         (b"\x1b7\x1b#6\x1b8", "at 5 40 wrap"),
     ];
-    all_leave_cursor(&rt, rt.alloc(), PENDING, ROWS)
+    all_leave_cursor(&rt, PENDING, ROWS)
 }
 
 #[test]
@@ -217,7 +233,7 @@ fn erasing_a_single_line_leaves_it(rt: HostRuntime) -> Result<(), Fail> {
         (b"\x1b[2K", "at 5 80 wrap"),
         (b"\x1b[3K", "at 5 80 wrap"),
     ];
-    all_leave_cursor(&rt, rt.alloc(), PENDING, ROWS)
+    all_leave_cursor(&rt, PENDING, ROWS)
 }
 
 #[test]
@@ -244,7 +260,7 @@ fn settings_that_leave_it(rt: HostRuntime) -> Result<(), Fail> {
         (b"\x0e\x0f", "at 5 80 wrap"),
         (b"\x1b7", "at 5 80 wrap"),
     ];
-    all_leave_cursor(&rt, rt.alloc(), PENDING, ROWS)
+    all_leave_cursor(&rt, PENDING, ROWS)
 }
 
 #[test]
@@ -264,7 +280,7 @@ fn questions_and_what_has_no_effect_leave_it(rt: HostRuntime) -> Result<(), Fail
         (b"\x1b[4:3m\x1b[>c\x1b[1 q", "at 5 80 wrap"),
         (b"\x1bN\x1b#7\x1b(C\x1b<", "at 5 80 wrap"),
     ];
-    all_leave_cursor(&rt, rt.alloc(), PENDING, ROWS)
+    all_leave_cursor(&rt, PENDING, ROWS)
 }
 
 #[test]
@@ -282,7 +298,7 @@ fn what_leaves_it_in_vt52_mode(rt: HostRuntime) -> Result<(), Fail> {
         (b"\x1bY", "at 5 80 wrap"),
         (b"\x1bY$", "at 5 80 wrap"),
     ];
-    all_leave_cursor(&rt, rt.alloc(), VT52, ROWS)
+    all_leave_cursor(&rt, VT52, ROWS)
 }
 
 // A character takes it, and at the right margin it is pending again where DECAWM is set.
@@ -295,7 +311,7 @@ fn characters_take_it(rt: HostRuntime) -> Result<(), Fail> {
         (b"B\x1b[79CB", "at 6 80 wrap"),
         (b"\x1b[?7lBB", "at 5 80"),
     ];
-    all_leave_cursor(&rt, rt.alloc(), PENDING, ROWS)?;
+    all_leave_cursor(&rt, PENDING, ROWS)?;
     const ROWS_BELOW: &[(&[u8], &str)] = &[(b"B", "at 24 2")];
-    all_leave_cursor(&rt, rt.alloc(), BELOW, ROWS_BELOW)
+    all_leave_cursor(&rt, BELOW, ROWS_BELOW)
 }
