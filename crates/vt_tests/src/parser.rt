@@ -309,38 +309,50 @@ fn escaped(mode: Mode) -> &'static str {
     }
 }
 
-// Whether a byte after the beginning of a sequence is told as the table says.
-fn agrees_in_sequence(alloc: Global, begun: &(Mode, &[u8], &str), byte: u8) -> Result<bool, Fail> {
+// A byte after the beginning of a sequence is told as the table says.
+fn see_in_sequence(
+    rt: &(impl Abort + AllocGlobal),
+    begun: &(Mode, &[u8], &str),
+    byte: u8,
+) -> Result<(), Fail> {
     let (mode, start, state) = *begun;
-    let text = told_with(alloc, mode, start, byte)?;
-    let want = in_sequence(alloc, byte, escaped(mode), state)?;
-    Ok(text.as_str() == want.as_str())
+    let text = told_with(rt.alloc(), mode, start, byte)?;
+    let want = in_sequence(rt.alloc(), byte, escaped(mode), state)?;
+    assert_eq!(rt; text.as_str(), want.as_str(), "{byte} in {begun:?}");
+    Ok(())
+}
+
+fn see_in_sequences(rt: &(impl Abort + AllocGlobal), byte: u8) -> Result<(), Fail> {
+    for begun in &BEGUN {
+        see_in_sequence(rt, begun, byte)?;
+    }
+    Ok(())
 }
 
 #[test]
 fn takes_every_other_byte_in_a_sequence_as_the_table_says(rt: HostRuntime) -> Result<(), Fail> {
     for byte in 0..=255u8 {
-        for begun in &BEGUN {
-            let agrees = !is_other(byte) || agrees_in_sequence(rt.alloc(), begun, byte)?;
-            assert!(rt; agrees, "{byte} in {begun:?}");
+        if is_other(byte) {
+            see_in_sequences(&rt, byte)?;
         }
     }
     Ok(())
 }
 
-// Whether a byte on ground is told as the table says.
-fn agrees_on_ground(alloc: Global, mode: Mode, byte: u8) -> Result<bool, Fail> {
-    let text = told_with(alloc, mode, b"", byte)?;
-    let want = on_ground(alloc, byte, escaped(mode))?;
-    Ok(text.as_str() == want.as_str())
+// A byte on ground is told as the table says.
+fn see_on_ground(rt: &(impl Abort + AllocGlobal), mode: Mode, byte: u8) -> Result<(), Fail> {
+    let text = told_with(rt.alloc(), mode, b"", byte)?;
+    let want = on_ground(rt.alloc(), byte, escaped(mode))?;
+    assert_eq!(rt; text.as_str(), want.as_str(), "{byte} on ground");
+    Ok(())
 }
 
 #[test]
 fn takes_every_other_byte_on_ground_as_the_table_says(rt: HostRuntime) -> Result<(), Fail> {
     for byte in 0..=255u8 {
-        for mode in [Mode::Ansi, Mode::Vt52] {
-            let agrees = !is_other(byte) || agrees_on_ground(rt.alloc(), mode, byte)?;
-            assert!(rt; agrees, "{byte} on ground");
+        if is_other(byte) {
+            see_on_ground(&rt, Mode::Ansi, byte)?;
+            see_on_ground(&rt, Mode::Vt52, byte)?;
         }
     }
     Ok(())
@@ -348,18 +360,25 @@ fn takes_every_other_byte_on_ground_as_the_table_says(rt: HostRuntime) -> Result
 
 const STRINGS: &[&[u8]] = &[b"\x1bP", b"\x1bX", b"\x1b]", b"\x1b^", b"\x1b_"];
 
-// Whether a byte in a string is told as the table says.
-fn agrees_in_string(alloc: Global, start: &[u8], byte: u8) -> Result<bool, Fail> {
-    let text = told_with(alloc, Mode::Ansi, start, byte)?;
-    Ok(text.as_str() == in_string(byte))
+// A byte in a string is told as the table says.
+fn see_in_string(rt: &(impl Abort + AllocGlobal), start: &[u8], byte: u8) -> Result<(), Fail> {
+    let text = told_with(rt.alloc(), Mode::Ansi, start, byte)?;
+    assert_eq!(rt; text.as_str(), in_string(byte), "{byte} after {start:?}");
+    Ok(())
+}
+
+fn see_in_strings(rt: &(impl Abort + AllocGlobal), byte: u8) -> Result<(), Fail> {
+    for start in STRINGS {
+        see_in_string(rt, start, byte)?;
+    }
+    Ok(())
 }
 
 #[test]
 fn takes_every_other_byte_in_a_string_as_the_table_says(rt: HostRuntime) -> Result<(), Fail> {
     for byte in 0..=255u8 {
-        for start in STRINGS {
-            let agrees = !is_other(byte) || agrees_in_string(rt.alloc(), start, byte)?;
-            assert!(rt; agrees, "{byte} after {start:?}");
+        if is_other(byte) {
+            see_in_strings(&rt, byte)?;
         }
     }
     Ok(())
@@ -473,16 +492,22 @@ const RUNS_AND_SEQUENCES: &[(Mode, &[u8], &str)] = &[
     ),
 ];
 
-// Whether bytes that are taken as they come, at most all of them at once, come to this.
-fn is_taken(alloc: Global, mode: Mode, bytes: &[u8], want: &str) -> Result<bool, Fail> {
-    let text = taken(alloc, mode, bytes, bytes.len().max(1))?;
-    Ok(text.as_str() == want)
+// Bytes that are taken as they come, at most all of them at once, come to this.
+fn see_taken(
+    rt: &(impl Abort + AllocGlobal),
+    mode: Mode,
+    bytes: &[u8],
+    want: &str,
+) -> Result<(), Fail> {
+    let text = taken(rt.alloc(), mode, bytes, bytes.len().max(1))?;
+    assert_eq!(rt; text.as_str(), want, "at {bytes:?}");
+    Ok(())
 }
 
 #[test]
 fn takes_runs_and_whole_sequences_at_once(rt: HostRuntime) -> Result<(), Fail> {
     for (mode, bytes, want) in RUNS_AND_SEQUENCES {
-        assert!(rt; is_taken(rt.alloc(), *mode, bytes, want)?, "at {bytes:?}");
+        see_taken(&rt, *mode, bytes, want)?;
     }
     Ok(())
 }
@@ -490,10 +515,10 @@ fn takes_runs_and_whole_sequences_at_once(rt: HostRuntime) -> Result<(), Fail> {
 #[test]
 fn reads_on_in_the_mode_of_its_esc(rt: HostRuntime) {
     let mut parser = Parser::new();
-    assert!(rt; parser.step(Mode::Ansi, 27).is_none());
-    assert!(rt; parser.step(Mode::Vt52, b'[').is_none());
+    assert_eq!(rt; parser.step(Mode::Ansi, 27), None);
+    assert_eq!(rt; parser.step(Mode::Vt52, b'['), None);
     assert_eq!(rt; parser.state(), &ParserState::CsiStart);
-    assert!(rt; parser.step(Mode::Vt52, 27).is_none());
+    assert_eq!(rt; parser.step(Mode::Vt52, 27), None);
     assert_eq!(rt; parser.step(Mode::Ansi, b'['), Some(Command::Vt52(b'[')));
 }
 
@@ -511,8 +536,8 @@ const STARTS: &[&[u8]] = &[
     b"\x1bY%",
 ];
 
-// Whether a copy of a parser that took these bytes has its state, and takes the next byte as it does.
-fn copy_goes_on(mode: Mode, start: &[u8]) -> bool {
+// A copy of a parser that took these bytes has its state, and takes the next byte as it does.
+fn see_copy(rt: &impl Abort, mode: Mode, start: &[u8]) {
     let mut parser = Parser::new();
     for byte in start {
         let _ = parser.step(mode, *byte);
@@ -520,14 +545,16 @@ fn copy_goes_on(mode: Mode, start: &[u8]) -> bool {
     let mut copy = Parser::new();
     let _ = copy.step(Mode::Ansi, 27);
     copy.copy_from(&parser);
-    copy.state() == parser.state() && copy.step(mode, b'h') == parser.step(mode, b'h')
+    assert_eq!(rt; copy.state(), parser.state(), "after {start:?}");
+    let next = parser.step(mode, b'h');
+    assert_eq!(rt; copy.step(mode, b'h'), next, "after {start:?}");
 }
 
 #[test]
 fn goes_on_from_a_copy(rt: HostRuntime) {
     for start in STARTS {
-        let both = copy_goes_on(Mode::Ansi, start) && copy_goes_on(Mode::Vt52, start);
-        assert!(rt; both, "after {start:?}");
+        see_copy(&rt, Mode::Ansi, start);
+        see_copy(&rt, Mode::Vt52, start);
     }
 }
 

@@ -29,7 +29,7 @@ use vt_parser::{Mode, ParserState};
 use vt_screen::{Cell, Rendition, Row, Screen, Size};
 use vt_term::{CharacterSet, Modes, OutOfMemory, Profile, Reports, Saved, Sets, Slot, Terminal};
 
-mod changes;
+pub(crate) mod changes;
 mod editing;
 mod nothing;
 mod recordings;

@@ -1,77 +1,106 @@
 //! Lines and cells that are inserted and deleted.
 ghost use Rattle.std.specs.Prelude.{◌≤◌};
 
-use super::{ends_with, has_letters, has_text, have_text, is_at, lettered, marked, type_text};
+use super::{lettered, marked, see, type_text};
+use std::test::Fail;
 use vt_screen::{Cell, Rendition, Screen, Size};
 
-/// Whether lines that are inserted at a line leave these letters, and the cursor at its left.
-fn inserts(line: u8, count: u16, letters: &[u8]) -> bool
+fn with_lines_inserted(line: u8, count: u16) -> Screen
     requires { 1 ≤ line }
 {
     let mut screen = lettered(u16::from(line), 7);
     screen.insert_lines(count);
-    has_letters(&screen, letters) && screen.cursor() == (line, 1)
+    screen
 }
 
-/// Whether lines that are deleted at a line leave these letters, and the cursor at its left.
-fn deletes(line: u8, count: u16, letters: &[u8]) -> bool
+fn with_lines_deleted(line: u8, count: u16) -> Screen
     requires { 1 ≤ line }
 {
     let mut screen = lettered(u16::from(line), 7);
     screen.delete_lines(count);
-    has_letters(&screen, letters) && screen.cursor() == (line, 1)
+    screen
 }
 
-/// A line, how many lines, and the letters that are left where so many are inserted there, and deleted.
-const EDITED_LINES: &[(u8, u16, &[u8], &[u8])] = &[
-    (2, 1, b"a bd", b"ac d"),
-    (2, 2, b"a  d", b"a  d"),
-    (2, 5, b"a  d", b"a  d"),
-    (3, 1, b"ab d", b"ab d"),
-    (3, 9999, b"ab d", b"ab d"),
+/// A line, how many lines, and what is shown where so many are inserted there, and deleted.
+const EDITED_LINES: &[(u8, u16, &str, &str)] = &[
+    (
+        2,
+        1,
+        "1:a 3:b 4:d at 2 1 margins 2 3",
+        "1:a 2:c 4:d at 2 1 margins 2 3",
+    ),
+    (
+        2,
+        2,
+        "1:a 4:d at 2 1 margins 2 3",
+        "1:a 4:d at 2 1 margins 2 3",
+    ),
+    (
+        2,
+        5,
+        "1:a 4:d at 2 1 margins 2 3",
+        "1:a 4:d at 2 1 margins 2 3",
+    ),
+    (
+        3,
+        1,
+        "1:a 2:b 4:d at 3 1 margins 2 3",
+        "1:a 2:b 4:d at 3 1 margins 2 3",
+    ),
+    (
+        3,
+        9999,
+        "1:a 2:b 4:d at 3 1 margins 2 3",
+        "1:a 2:b 4:d at 3 1 margins 2 3",
+    ),
 ];
 
 #[test]
-fn inserts_and_deletes_lines(rt: HostRuntime) {
+fn inserts_and_deletes_lines(rt: HostRuntime) -> Result<(), Fail> {
     for (line, count, inserted, deleted) in EDITED_LINES {
-        let is_inserted = inserts((*line).max(1), *count, inserted);
-        assert!(rt; is_inserted, "{count} in at {line}");
-        let is_deleted = deletes((*line).max(1), *count, deleted);
-        assert!(rt; is_deleted, "{count} out at {line}");
+        let line = (*line).max(1);
+        see(&rt, &with_lines_inserted(line, *count), inserted)?;
+        see(&rt, &with_lines_deleted(line, *count), deleted)?;
     }
+    Ok(())
 }
 
-/// Whether lines that are inserted and deleted outside the margins leave the cursor, a pending wrap, and the letters.
-fn leaves_line(line: u8) -> bool
+/// Lines inserted and deleted at a line with the wrap pending.
+fn edited_outside(line: u8) -> Screen
     requires { 1 ≤ line }
 {
     let mut screen = lettered(u16::from(line), 80);
     type_text(&mut screen, b"x");
     screen.insert_lines(1);
     screen.delete_lines(1);
-    let stays = is_at(&screen, line, 80, true);
-    screen.place(u16::from(line), 80, false);
-    screen.show(b' ', Rendition::plain(), false);
-    stays && has_letters(&screen, b"abcd")
+    screen
 }
 
+/// A line outside the margins, and what is shown: the letters, the cursor and the wrap stay.
+const OUTSIDE: &[(u8, &str)] = &[
+    (1, "1:a {78}x 2:b 3:c 4:d at 1 80 wrap margins 2 3"),
+    (4, "1:a 2:b 3:c 4:d {78}x at 4 80 wrap margins 2 3"),
+    (24, "1:a 2:b 3:c 4:d 24: {79}x at 24 80 wrap margins 2 3"),
+];
+
 #[test]
-fn leaves_lines_outside_the_margins(rt: HostRuntime) {
-    for line in [1u8, 4, 24] {
-        assert!(rt; leaves_line(line.max(1)), "line {line}");
+fn leaves_lines_outside_the_margins(rt: HostRuntime) -> Result<(), Fail> {
+    for (line, want) in OUTSIDE {
+        see(&rt, &edited_outside((*line).max(1)), want)?;
     }
+    Ok(())
 }
 
 #[test]
-fn clears_the_wrap_inside_the_margins(rt: HostRuntime) {
+fn clears_the_wrap_inside_the_margins(rt: HostRuntime) -> Result<(), Fail> {
     let mut screen = lettered(2, 80);
     type_text(&mut screen, b"x");
     screen.insert_lines(1);
-    assert!(rt; !screen.wrap());
+    see(&rt, &screen, "1:a 3:b {78}x 4:d at 2 1 margins 2 3")?;
     screen.place(3, 80, false);
     type_text(&mut screen, b"x");
     screen.delete_lines(1);
-    assert!(rt; is_at(&screen, 3, 1, false));
+    see(&rt, &screen, "1:a 4:d at 3 1 margins 2 3")
 }
 
 /// The places of lines 2 to 6.
@@ -88,7 +117,7 @@ fn places(screen: &Screen) -> [u8; 5] {
 #[test]
 fn turns_the_names_of_lines(rt: HostRuntime) {
     let mut screen = Screen::reset();
-    assert!(rt; screen.set_margins(2, 5, false));
+    let _ = screen.set_margins(2, 5, false);
     screen.place(3, 1, false);
     screen.insert_lines(2);
     assert_eq!(rt; places(&screen), [1, 3, 4, 2, 5]);
@@ -96,40 +125,28 @@ fn turns_the_names_of_lines(rt: HostRuntime) {
     assert_eq!(rt; places(&screen), [1, 4, 2, 3, 5]);
 }
 
-/// Whether a line has this text and this size.
-fn has_sized(screen: &Screen, line: u8, text: &[u8], size: Size) -> bool
-    requires low { 1 ≤ line }
-    requires high { line ≤ 24 }
-{
-    has_text(screen, line, text) && screen.size(line) == size
-}
-
 #[test]
-fn sizes_travel_with_inserted_lines(rt: HostRuntime) {
+fn sizes_travel_with_inserted_lines(rt: HostRuntime) -> Result<(), Fail> {
     let mut screen = Screen::reset();
     type_text(&mut screen, b"ab");
     screen.set_size(Size::Double);
     screen.insert_lines(1);
-    assert!(rt;
-        has_sized(&screen, 1, b"", Size::Single) && has_sized(&screen, 2, b"ab", Size::Double)
-    );
-    assert!(rt; screen.cursor() == (1, 1));
+    see(&rt, &screen, "2(Double):ab at 1 1")?;
     screen.delete_lines(1);
-    assert!(rt; has_sized(&screen, 1, b"ab", Size::Double));
+    see(&rt, &screen, "1(Double):ab at 1 1")?;
     screen.delete_lines(1);
-    assert!(rt; have_text(&screen, 1, 24, b"") && has_sized(&screen, 1, b"", Size::Single));
+    see(&rt, &screen, "at 1 1")
 }
 
 #[test]
-fn deletes_cells(rt: HostRuntime) {
+fn deletes_cells(rt: HostRuntime) -> Result<(), Fail> {
     let mut screen = Screen::reset();
     type_text(&mut screen, b"abcdef");
     screen.place(1, 2, false);
     screen.delete_cells(2);
-    assert!(rt; has_text(&screen, 1, b"adef"));
-    assert!(rt; screen.cursor() == (1, 2));
+    see(&rt, &screen, "1:adef at 1 2")?;
     screen.delete_cells(9999);
-    assert!(rt; has_text(&screen, 1, b"a"));
+    see(&rt, &screen, "1:a at 1 2")
 }
 
 /// A bold cell.
@@ -153,119 +170,78 @@ fn deletes_cells_with_their_renditions(rt: HostRuntime) {
 }
 
 #[test]
-fn deletes_a_cell_and_keeps_the_wrap(rt: HostRuntime) {
+fn deletes_a_cell_and_keeps_the_wrap(rt: HostRuntime) -> Result<(), Fail> {
     let mut screen = Screen::reset();
     type_text(&mut screen, &[b'A'; 80]);
     screen.delete_cells(1);
-    assert!(rt; has_text(&screen, 1, &[b'A'; 79]));
-    assert!(rt; is_at(&screen, 1, 80, true));
+    see(&rt, &screen, "1:A{79} at 1 80 wrap")
 }
 
 #[test]
-fn shows_inserting(rt: HostRuntime) {
+fn shows_inserting(rt: HostRuntime) -> Result<(), Fail> {
     let mut screen = Screen::reset();
     type_text(&mut screen, b"abc");
     screen.place(1, 2, false);
     screen.show_inserting(b'X', Rendition::plain(), true);
     screen.show_inserting(b'Y', Rendition::plain(), true);
     screen.show(b'Z', Rendition::plain(), true);
-    assert!(rt; has_text(&screen, 1, b"aXYZc"));
-    assert!(rt; screen.cursor() == (1, 5));
+    see(&rt, &screen, "1:aXYZc at 1 5")
 }
 
 /// The cell at the margin is lost.
 #[test]
-fn shows_inserting_in_a_full_line(rt: HostRuntime) {
+fn shows_inserting_in_a_full_line(rt: HostRuntime) -> Result<(), Fail> {
     let mut screen = Screen::reset();
     type_text(&mut screen, &[b'A'; 79]);
     type_text(&mut screen, b"B");
     screen.place(1, 1, false);
     screen.show_inserting(b'C', bold(b'C').rendition, true);
-    assert!(rt; screen.cell(1, 1) == bold(b'C') && screen.cell(2, 1) == Cell::blank());
-    assert!(rt; screen.cell(1, 80).glyph == b'A' && screen.cursor() == (1, 2));
+    see(&rt, &screen, "1:[B]C[]A{79} at 1 2")?;
     screen.place(1, 1, false);
     screen.show_inserting(b'D', Rendition::plain(), true);
-    assert!(rt; screen.cell(1, 2) == bold(b'C'));
+    see(&rt, &screen, "1:D[B]C[]A{78} at 1 2")
 }
 
 #[test]
-fn inserts_at_the_margin_and_after_the_wrap(rt: HostRuntime) {
+fn inserts_at_the_margin_and_after_the_wrap(rt: HostRuntime) -> Result<(), Fail> {
     let mut screen = Screen::reset();
     screen.place(2, 1, false);
     type_text(&mut screen, b"xy");
     screen.place(1, 1, false);
     type_text(&mut screen, &[b'A'; 79]);
     screen.show_inserting(b'B', Rendition::plain(), false);
-    assert!(rt; !screen.wrap());
+    see(&rt, &screen, "1:A{79}B 2:xy at 1 80")?;
     screen.show_inserting(b'C', Rendition::plain(), true);
-    assert!(rt; is_at(&screen, 1, 80, true) && ends_with(&screen, b'A', b'C'));
+    see(&rt, &screen, "1:A{79}C 2:xy at 1 80 wrap")?;
     screen.show_inserting(b'D', Rendition::plain(), true);
-    assert!(rt; has_text(&screen, 2, b"Dxy") && screen.cursor() == (2, 2));
-    assert!(rt; screen.cell(1, 80).glyph == b'C');
-}
-
-/// The first of some columns of line 2 that has not its glyph.
-fn first_other(screen: &Screen, glyphs: &[(u8, u8)]) -> Option<u8> {
-    for (col, glyph) in glyphs {
-        let is_there = 1 <= *col && *col <= 132 && screen.cell(2, *col).glyph == *glyph;
-        if !is_there {
-            return Some(*col);
-        }
-    }
-    None
+    see(&rt, &screen, "1:A{79}C 2:Dxy at 2 2")
 }
 
 #[test]
-fn deletes_in_a_wide_line(rt: HostRuntime) {
+fn deletes_in_a_wide_line(rt: HostRuntime) -> Result<(), Fail> {
     let mut screen = marked(2, 41);
     screen.delete_cells(1);
-    let glyphs = [
-        (41, b' '),
-        (65, b'x'),
-        (66, b'x'),
-        (67, b' '),
-        (131, b'x'),
-        (132, b' '),
-    ];
-    assert_eq!(rt; first_other(&screen, &glyphs), None);
+    see(&rt, &screen, "2: {64}xx {64}x wide at 2 41")
 }
 
 #[test]
-fn inserts_in_a_wide_line(rt: HostRuntime) {
+fn inserts_in_a_wide_line(rt: HostRuntime) -> Result<(), Fail> {
     let mut screen = marked(2, 41);
     screen.show_inserting(b'y', Rendition::plain(), true);
-    let glyphs = [
-        (41, b'y'),
-        (42, b'x'),
-        (66, b' '),
-        (67, b'x'),
-        (68, b'x'),
-        (132, b' '),
-    ];
-    assert_eq!(rt; first_other(&screen, &glyphs), None);
+    see(&rt, &screen, "2: {40}yx {24}xx wide at 2 42")
 }
 
-/// A marked double line with a glyph that was inserted. Its margin is 66.
-fn marked_double() -> Screen {
+/// The margin of the double line is 66.
+#[test]
+fn edits_a_wide_double_line(rt: HostRuntime) -> Result<(), Fail> {
     let mut screen = marked(2, 41);
     screen.set_size(Size::Top);
     screen.show_inserting(b'y', Rendition::plain(), true);
-    screen
-}
-
-#[test]
-fn inserts_in_a_wide_double_line(rt: HostRuntime) {
-    let glyphs = [(41, b'y'), (42, b'x'), (66, b' '), (67, b' ')];
-    assert_eq!(rt; first_other(&marked_double(), &glyphs), None);
-}
-
-#[test]
-fn edits_a_wide_double_line(rt: HostRuntime) {
-    let mut screen = marked_double();
+    see(&rt, &screen, "2(Top): {40}yx wide at 2 42")?;
     screen.place(2, 1, false);
     screen.delete_cells(41);
-    assert!(rt; has_sized(&screen, 2, b"x", Size::Top));
+    see(&rt, &screen, "2(Top):x wide at 2 1")?;
     screen.insert_lines(1);
-    assert!(rt; have_text(&screen, 1, 2, b""));
-    assert!(rt; screen.size(3) == Size::Top && screen.right_margin(2) == 132);
+    assert_eq!(rt; screen.right_margin(2), 132);
+    see(&rt, &screen, "3(Top):x wide at 2 1")
 }

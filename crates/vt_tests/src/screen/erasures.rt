@@ -1,11 +1,12 @@
 //! Erased parts of lines and of the display.
 ghost use Rattle.std.specs.Prelude.{◌≤◌};
 
-use super::{has_text, have_text, is_at, next_line, type_text};
+use super::{next_line, see, type_text};
+use std::test::Fail;
 use vt_screen::{Screen, Size};
 
 #[test]
-fn erases_to_the_cursor_with_sizes(rt: HostRuntime) {
+fn erases_to_the_cursor_with_sizes(rt: HostRuntime) -> Result<(), Fail> {
     let mut screen = Screen::reset();
     type_text(&mut screen, b"ab");
     screen.set_size(Size::Top);
@@ -13,8 +14,7 @@ fn erases_to_the_cursor_with_sizes(rt: HostRuntime) {
     type_text(&mut screen, b"ab");
     screen.set_size(Size::Bottom);
     screen.erase_display(1);
-    assert!(rt; have_text(&screen, 1, 2, b""));
-    assert!(rt; screen.size(1) == Size::Single && screen.size(2) == Size::Bottom);
+    see(&rt, &screen, "2(Bottom): at 2 3")
 }
 
 /// A screen of letters E with five other letters in line 3, of which a part is erased from the third.
@@ -31,51 +31,46 @@ fn erased_line(part: u8) -> Screen
     screen
 }
 
-/// Whether the lines of a range are erased, and those outside it have letters E, without a look at line 3.
-fn has_erased(screen: &Screen, from: u8, to: u8) -> bool {
-    for line in 1..25 {
-        let want: &[u8] = if from <= line && line <= to {
-            b""
-        } else {
-            &[b'E'; 80]
-        };
-        if line != 3 && !has_text(screen, line, want) {
-            return false;
-        }
+/// The part, what is shown where it is erased of the line, and then of the display.
+const PARTS: &[(u8, &str, &str)] = &[
+    (
+        0,
+        "1-2:E{80} 3:ab 4-24:E{80} at 3 3",
+        "1-2:E{80} 3:ab at 3 3",
+    ),
+    (
+        1,
+        "1-2:E{80} 3:   de 4-24:E{80} at 3 3",
+        "3:   de 4-24:E{80} at 3 3",
+    ),
+    (2, "1-2:E{80} 4-24:E{80} at 3 3", "at 3 3"),
+];
+
+#[test]
+fn erases_parts(rt: HostRuntime) -> Result<(), Fail> {
+    for (part, line, display) in PARTS {
+        let part = (*part).min(2);
+        let mut screen = erased_line(part);
+        see(&rt, &screen, line)?;
+        screen.erase_display(part);
+        see(&rt, &screen, display)?;
     }
-    true
+    Ok(())
 }
 
 #[test]
-fn erases_parts(rt: HostRuntime) {
-    // the part, what is left of a line of five letters from its third, and the lines that are erased too
-    for (part, left, from, to) in [
-        (0u8, b"ab   ", 4, 24),
-        (1, b"   de", 1, 2),
-        (2, b"     ", 1, 24),
-    ] {
-        let mut screen = erased_line(part.min(2));
-        let line = has_text(&screen, 3, left) && have_text(&screen, 1, 2, &[b'E'; 80]);
-        screen.erase_display(part.min(2));
-        let display = has_text(&screen, 3, left) && has_erased(&screen, from, to);
-        assert!(rt; line && display && screen.cursor() == (3, 3), "part {part}");
-    }
-}
-
-#[test]
-fn erasing_keeps_or_clears_the_wrap(rt: HostRuntime) {
+fn erasing_keeps_or_clears_the_wrap(rt: HostRuntime) -> Result<(), Fail> {
     let mut screen = Screen::reset();
     type_text(&mut screen, &[b'A'; 80]);
     screen.erase_line(2);
-    let line = screen.wrap();
+    see(&rt, &screen, "at 1 80 wrap")?;
     screen.erase_display(2);
-    assert!(rt; line && screen.wrap());
+    see(&rt, &screen, "at 1 80 wrap")?;
     screen.set_size(Size::Double);
-    let size = screen.wrap();
+    see(&rt, &screen, "1(Double): at 1 40")?;
     type_text(&mut screen, b"A");
-    assert!(rt; !size && screen.wrap());
     screen.erase_display(0);
-    assert!(rt; screen.wrap());
+    see(&rt, &screen, "1(Double): at 1 40 wrap")?;
     screen.erase_display(1);
-    assert!(rt; is_at(&screen, 1, 40, false) && screen.size(1) == Size::Single);
+    see(&rt, &screen, "at 1 40")
 }

@@ -1,20 +1,17 @@
 //! Characters, the pending wrap and renditions.
 ghost use Rattle.std.specs.Prelude.{◌<◌};
 
-use super::{ends_with, has_text, have_text, is_at, look_alike, type_text};
+use super::{see, type_text};
+use crate::terminal::changes::told_screen;
+use std::process::Abort;
+use std::test::Fail;
 use vt_screen::{Cell, Rendition, Screen, Size};
 
 #[test]
-fn starts_blank(rt: HostRuntime) {
+fn starts_blank(rt: HostRuntime) -> Result<(), Fail> {
     let screen = Screen::reset();
-    assert!(rt; have_text(&screen, 1, 24, b""));
-    let told = (
-        screen.columns(),
-        screen.margins(),
-        screen.cursor(),
-        screen.wrap(),
-    );
-    assert_eq!(rt; told, (80, (1, 24), (1, 1), false));
+    assert_eq!(rt; (screen.columns(), screen.margins()), (80, (1, 24)));
+    see(&rt, &screen, "at 1 1")
 }
 
 #[test]
@@ -42,23 +39,26 @@ fn starts_with_a_stop_at_every_eighth_column(rt: HostRuntime) {
     }
 }
 
-/// Whether a rendition has the attributes it is made of: bold, underscore, blink and reverse, where bits 0 to 3 are set.
-fn keeps_attributes(bits: u8) -> bool {
-    let bold = bits % 2 == 1;
-    let underscore = bits / 2 % 2 == 1;
-    let blink = bits / 4 % 2 == 1;
-    let reverse = bits / 8 % 2 == 1;
+/// The attributes that a rendition of these has: bold, underscore, blink and reverse.
+fn kept(bold: bool, underscore: bool, blink: bool, reverse: bool) -> (bool, bool, bool, bool) {
     let rendition = Rendition::new(bold, underscore, blink, reverse);
-    rendition.bold() == bold
-        && rendition.underscore() == underscore
-        && rendition.blink() == blink
-        && rendition.reverse() == reverse
+    (
+        rendition.bold(),
+        rendition.underscore(),
+        rendition.blink(),
+        rendition.reverse(),
+    )
 }
 
 #[test]
 fn keeps_four_attributes(rt: HostRuntime) {
     for bits in 0..16u8 {
-        assert!(rt; keeps_attributes(bits), "bits {bits}");
+        let bold = bits % 2 == 1;
+        let underscore = bits / 2 % 2 == 1;
+        let blink = bits / 4 % 2 == 1;
+        let reverse = bits / 8 % 2 == 1;
+        let told = kept(bold, underscore, blink, reverse);
+        assert_eq!(rt; told, (bold, underscore, blink, reverse));
     }
     assert_eq!(rt;
         Rendition::plain(),
@@ -67,32 +67,29 @@ fn keeps_four_attributes(rt: HostRuntime) {
 }
 
 #[test]
-fn wraps_with_the_next_character(rt: HostRuntime) {
+fn wraps_with_the_next_character(rt: HostRuntime) -> Result<(), Fail> {
     let mut screen = Screen::reset();
     type_text(&mut screen, &[b'A'; 80]);
-    assert!(rt; is_at(&screen, 1, 80, true));
+    see(&rt, &screen, "1:A{80} at 1 80 wrap")?;
     type_text(&mut screen, b"B");
-    assert!(rt; is_at(&screen, 2, 2, false));
-    assert!(rt; has_text(&screen, 1, &[b'A'; 80]) && has_text(&screen, 2, b"B"));
+    see(&rt, &screen, "1:A{80} 2:B at 2 2")
 }
 
 #[test]
-fn steps_back_from_a_pending_wrap(rt: HostRuntime) {
+fn steps_back_from_a_pending_wrap(rt: HostRuntime) -> Result<(), Fail> {
     let mut screen = Screen::reset();
     type_text(&mut screen, &[b'A'; 80]);
     screen.step_left(1);
     type_text(&mut screen, b"B");
-    assert!(rt; ends_with(&screen, b'B', b'A'));
-    assert!(rt; is_at(&screen, 1, 80, false));
+    see(&rt, &screen, "1:A{78}BA at 1 80")
 }
 
 #[test]
-fn replaces_at_the_margin_without_autowrap(rt: HostRuntime) {
+fn replaces_at_the_margin_without_autowrap(rt: HostRuntime) -> Result<(), Fail> {
     let mut screen = Screen::reset();
     screen.show_run(&[b'A'; 200], Rendition::plain(), false);
     screen.show(b'B', Rendition::plain(), false);
-    assert!(rt; have_text(&screen, 2, 24, b""));
-    assert!(rt; is_at(&screen, 1, 80, false) && ends_with(&screen, b'A', b'B'));
+    see(&rt, &screen, "1:A{79}B at 1 80")
 }
 
 #[test]
@@ -105,11 +102,11 @@ fn writes_the_rendition(rt: HostRuntime) {
 }
 
 #[test]
-fn clears_the_wrap_alone(rt: HostRuntime) {
+fn clears_the_wrap_alone(rt: HostRuntime) -> Result<(), Fail> {
     let mut screen = Screen::reset();
     type_text(&mut screen, &[b'A'; 80]);
     screen.clear_wrap();
-    assert!(rt; is_at(&screen, 1, 80, false));
+    see(&rt, &screen, "1:A{80} at 1 80")
 }
 
 /// A screen that was shown the letter A 2000 times, by itself.
@@ -136,32 +133,40 @@ fn shown_in_pieces(piece: usize) -> Screen
     screen
 }
 
-#[test]
-fn runs_are_shows(rt: HostRuntime) {
-    let shown = shown_one_by_one();
-    assert!(rt; have_text(&shown, 1, 24, &[b'A'; 80]));
-    assert!(rt; is_at(&shown, 24, 80, true));
-    for piece in [2000, 1, 31, 32, 33] {
-        assert!(rt;
-            0 < piece && look_alike(&shown_in_pieces(piece), &shown),
-            "in runs of {piece}"
-        );
-    }
+// Runs of the length leave what letters by themselves leave.
+fn see_pieces(rt: &(impl Abort + AllocGlobal), piece: usize) -> Result<(), Fail>
+    requires { 0 < piece }
+{
+    let text = told_screen(rt.alloc(), &shown_in_pieces(piece))?;
+    assert_eq!(rt;
+        text.as_str(),
+        "1-24:A{80} at 24 80 wrap",
+        "in runs of {piece}"
+    );
+    Ok(())
 }
 
 #[test]
-fn copies(rt: HostRuntime) {
+fn runs_are_shows(rt: HostRuntime) -> Result<(), Fail> {
+    see(&rt, &shown_one_by_one(), "1-24:A{80} at 24 80 wrap")?;
+    for piece in [2000usize, 1, 31, 32, 33] {
+        see_pieces(&rt, piece.max(1))?;
+    }
+    Ok(())
+}
+
+#[test]
+fn copies(rt: HostRuntime) -> Result<(), Fail> {
     let mut screen = Screen::reset();
     screen.set_columns(true, false);
     type_text(&mut screen, b"abc");
     screen.set_size(Size::Double);
-    assert!(rt; screen.set_margins(2, 9, false));
+    let _ = screen.set_margins(2, 9, false);
     screen.place(9, 4, false);
     screen.index();
     screen.clear_tabs();
     let mut copy = Screen::reset();
     copy.copy_from(&screen);
-    assert!(rt; look_alike(&copy, &screen));
-    assert!(rt; copy.columns() == 132 && copy.margins() == (2, 9) && !copy.tab(9));
-    assert!(rt; copy.place_of(9) == screen.place_of(9));
+    assert_eq!(rt; copy.place_of(9), screen.place_of(9));
+    see(&rt, &copy, "1(Double):abc wide at 9 4 margins 2 9 tabs")
 }

@@ -3,7 +3,7 @@
 //! those that are changed, `8-10:` where several are now alike.
 ghost use Rattle.std.specs.Prelude.{◌≤◌, ◌+◌};
 
-use super::{Left, PARTS, Part, feed_reset_as, write_line, write_part};
+use super::{Left, PARTS, Part, feed_reset_as, write_line, write_part, write_picture_part};
 use std::alloc::Global;
 use std::fmt::Write;
 use std::process::Abort;
@@ -128,6 +128,16 @@ fn write_changed_part(
         Part::Modes => write_changed_modes(text, before.terminal.modes(), after.terminal.modes()),
         _ => write_told_change(text, alloc, before, after, part),
     }
+}
+
+/// What a screen shows, in the same words: lines alike that follow one another together, columns, cursor, margins and tabs.
+pub(crate) fn told_screen(alloc: Global, screen: &Screen) -> Result<String, Fail> {
+    let mut text = String::new(alloc);
+    write_changed_lines(&mut text, &Screen::reset(), screen)?;
+    for part in [Part::Columns, Part::Cursor, Part::Margins, Part::Tabs] {
+        write_picture_part(&mut text, screen, part)?;
+    }
+    Ok(text)
 }
 
 // A word, after a space where words come before it.

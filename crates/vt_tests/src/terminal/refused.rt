@@ -38,17 +38,15 @@ fn fed(rt: &(impl Runtime<A = Global> + Abort), pieces: &[&[u8]]) -> Result<Left
     Ok(left)
 }
 
-// Whether the glyph is shown first, the list holds the bytes, and its place is their end.
-fn shows_and_sent(left: &Left, glyph: u8, bytes: &[u8]) -> bool {
-    left.terminal.screen().cell(1, 1).glyph == glyph
-        && left.reports.bytes() == bytes
-        && left.reports.place() == bytes.len()
-}
-
 #[test]
 fn a_first_report(rt: HostRuntime) -> Result<(), Fail> {
     let left = fed(&rt, &[b"x\x1b[5n"])?;
-    assert!(rt; shows_and_sent(&left, b'x', b"\x1b[0n"));
+    let held = (left.reports.bytes().len(), left.reports.place());
+    assert_eq!(rt;
+        (left.terminal.screen().cell(1, 1).glyph, held),
+        (b'x', (4, 4))
+    );
+    assert_eq!(rt; left.reports.bytes(), b"\x1b[0n".as_slice());
     Ok(())
 }
 
@@ -74,11 +72,12 @@ fn many_reports(rt: HostRuntime) -> Result<(), Fail> {
     Ok(())
 }
 
-// Whether a terminal from its reset sends what the list holds, with no memory.
-fn sends_the_same(reports: &mut Reports) -> bool {
+// A terminal from its reset sends what the list holds, with no memory.
+fn send_the_same(rt: &impl Abort, reports: &mut Reports) {
     reports.set_place(0);
     let is_sent = Terminal::reset().feed(b"\x1b[5n\x1b[c", reports).is_ok();
-    is_sent && reports.bytes() == b"\x1b[0n\x1b[?1;2c".as_slice()
+    assert_eq!(rt; is_sent, true, "with a list that holds it");
+    assert_eq!(rt; reports.bytes(), b"\x1b[0n\x1b[?1;2c".as_slice());
 }
 
 /// Fed again from the list's start, a terminal sends nothing new and takes no memory.
@@ -86,7 +85,7 @@ fn sends_the_same(reports: &mut Reports) -> bool {
 fn no_growth_within_the_list(rt: HostRuntime) -> Result<(), Fail> {
     let mut left = fed(&rt, &[b"\x1b[5n\x1b[c"])?;
     for _ in 0..3 {
-        assert!(rt; sends_the_same(&mut left.reports));
+        send_the_same(&rt, &mut left.reports);
     }
     Ok(())
 }

@@ -68,7 +68,6 @@ fn keeps_margins_tabs_saves_sets_and_sizes(rt: HostRuntime) -> Result<(), Fail> 
 fn answers(rt: HostRuntime) -> Result<(), Fail> {
     const ROWS: &[(&[u8], &str)] = &[
         (b"\x1b[x", "at 1 1 sent E[2;1;1;112;112;1;0x"),
-        (b"\x1b[1x", "at 1 1 sent E[3;1;1;112;112;1;0x"),
         (b"\x1b[1;3q", "at 1 1 L1 L3"),
         (b"\x1b[1;3q\x1b[0;2q", "at 1 1 L2"),
     ];
@@ -206,7 +205,10 @@ fn moves_the_place(rt: HostRuntime) -> Result<(), Fail> {
 #[test]
 fn cuts_the_list(rt: HostRuntime) -> Result<(), Fail> {
     let mut left = answered(rt.alloc(), 2)?;
-    assert!(rt; left.reports.bytes().len() >= 6);
+    assert!(rt;
+        left.reports.bytes().len() >= 6,
+        "two answers are eight bytes"
+    );
     left.reports.cut(6);
     let text = told(rt.alloc(), &left)?;
     assert_eq!(rt; text.as_str(), "at 1 1 sent E[0nE[");

@@ -1,12 +1,12 @@
 //! The same bytes in pieces of several lengths.
 ghost use Rattle.std.specs.Prelude.{◌<◌};
 
+use super::changes::told_screen;
 use super::recordings::{MC, NANO, TOUR};
-use super::{Left, are_same, feed_reset, feed_reset_as};
+use super::{Left, are_same, feed_reset, feed_reset_as, told};
 use std::alloc::Global;
 use std::process::Abort;
 use std::test::Fail;
-use vt_screen::Screen;
 use vt_term::{Profile, Reports, Terminal};
 
 fn feed_pieces(alloc: Global, profile: Profile, bytes: &[u8], len: usize) -> Result<Left, Fail>
@@ -141,59 +141,40 @@ fn sequences(alloc: Global, seed: u64, count: usize) -> Result<Vec<u8>, Fail> {
     Ok(bytes)
 }
 
-// Whether pieces of the length leave the same terminal and reports as all at once. No piece is empty.
-fn is_same_in_pieces(
-    alloc: Global,
-    profile: Profile,
-    bytes: &[u8],
-    len: usize,
-    whole: &Left,
-) -> Result<bool, Fail> {
-    if len == 0 {
-        return Ok(false);
-    }
-    let parts = feed_pieces(alloc, profile, bytes, len)?;
-    Ok(are_same(whole, &parts))
-}
-
-fn is_same_in_random_pieces(
-    alloc: Global,
-    profile: Profile,
-    bytes: &[u8],
-    seed: u64,
-    whole: &Left,
-) -> Result<bool, Fail> {
-    let parts = feed_random_pieces(alloc, profile, bytes, seed)?;
-    Ok(are_same(whole, &parts))
+// Both are told the same, and are the same also in what isn't told.
+fn see_same(rt: &(impl Abort + AllocGlobal), left: &Left, want: &Left) -> Result<(), Fail> {
+    let text = told(rt.alloc(), left)?;
+    let want_text = told(rt.alloc(), want)?;
+    assert_eq!(rt; text.as_str(), want_text.as_str());
+    assert!(rt; are_same(left, want), "told the same: {text}");
+    Ok(())
 }
 
 fn all_are_same(
-    rt: &impl Abort,
-    alloc: Global,
+    rt: &(impl Abort + AllocGlobal),
     profile: Profile,
     bytes: &[u8],
     lengths: &[usize],
     whole: &Left,
 ) -> Result<(), Fail> {
     for len in lengths {
-        let is_same = is_same_in_pieces(alloc, profile, bytes, *len, whole)?;
-        assert!(rt; is_same, "pieces of {len}");
+        let parts = feed_pieces(rt.alloc(), profile, bytes, (*len).max(1))?;
+        see_same(rt, &parts, whole)?;
     }
     Ok(())
 }
 
 // In pieces of any length the bytes leave the same terminal and reports as at once.
 fn assert_equal_in_pieces(
-    rt: &impl Abort,
-    alloc: Global,
+    rt: &(impl Abort + AllocGlobal),
     profile: Profile,
     bytes: &[u8],
 ) -> Result<(), Fail> {
-    let whole = feed_reset_as(alloc, profile, &[bytes])?;
-    all_are_same(rt, alloc, profile, bytes, &[1, 7, 64, 1_000], &whole)?;
+    let whole = feed_reset_as(rt.alloc(), profile, &[bytes])?;
+    all_are_same(rt, profile, bytes, &[1, 7, 64, 1_000], &whole)?;
     for seed in 0..3 {
-        let is_same = is_same_in_random_pieces(alloc, profile, bytes, seed, &whole)?;
-        assert!(rt; is_same, "pieces of seed {seed}");
+        let parts = feed_random_pieces(rt.alloc(), profile, bytes, seed)?;
+        see_same(rt, &parts, &whole)?;
     }
     Ok(())
 }
@@ -201,7 +182,7 @@ fn assert_equal_in_pieces(
 #[test]
 fn noise_in_pieces(rt: HostRuntime) -> Result<(), Fail> {
     let bytes = noise(rt.alloc(), 100_000)?;
-    assert_equal_in_pieces(&rt, rt.alloc(), Profile::Vt100, bytes.as_slice())
+    assert_equal_in_pieces(&rt, Profile::Vt100, bytes.as_slice())
 }
 
 #[test]
@@ -209,7 +190,7 @@ fn sequences_in_pieces(rt: HostRuntime) -> Result<(), Fail> {
     for profile in [Profile::Vt100, Profile::Vt102] {
         for seed in 0..4 {
             let bytes = sequences(rt.alloc(), seed, 20_000)?;
-            assert_equal_in_pieces(&rt, rt.alloc(), profile, bytes.as_slice())?;
+            assert_equal_in_pieces(&rt, profile, bytes.as_slice())?;
         }
     }
     Ok(())
@@ -218,35 +199,22 @@ fn sequences_in_pieces(rt: HostRuntime) -> Result<(), Fail> {
 #[test]
 fn recordings_in_pieces(rt: HostRuntime) -> Result<(), Fail> {
     for body in [NANO, MC, TOUR] {
-        assert_equal_in_pieces(&rt, rt.alloc(), Profile::Vt100, body)?;
+        assert_equal_in_pieces(&rt, Profile::Vt100, body)?;
     }
     Ok(())
 }
 
-// A in all cells up to column 80.
-fn is_full(screen: &Screen) -> bool {
-    for line in 1..25 {
-        for column in 1..81 {
-            if screen.cell(line, column).glyph != b'A' {
-                return false;
-            }
-        }
-    }
-    true
-}
-
-fn run_is_same(rt: &impl Abort, alloc: Global, run: &[u8]) -> Result<(), Fail> {
-    let whole = feed_reset(alloc, run)?;
-    let screen = whole.terminal.screen();
-    let shown = (screen.cursor(), screen.wrap(), is_full(screen));
-    assert_eq!(rt; shown, ((24, 80), true, true));
-    all_are_same(rt, alloc, Profile::Vt100, run, &[1, 31, 32, 33], &whole)
+fn run_is_same(rt: &(impl Abort + AllocGlobal), run: &[u8]) -> Result<(), Fail> {
+    let whole = feed_reset(rt.alloc(), run)?;
+    let text = told_screen(rt.alloc(), whole.terminal.screen())?;
+    assert_eq!(rt; text.as_str(), "1-24:A{80} at 24 80 wrap");
+    all_are_same(rt, Profile::Vt100, run, &[1, 31, 32, 33], &whole)
 }
 
 #[test]
 fn runs_in_pieces(rt: HostRuntime) -> Result<(), Fail> {
     let run = vec![in rt.alloc(); b'A'; 2_000]?;
-    run_is_same(&rt, rt.alloc(), run.as_slice())
+    run_is_same(&rt, run.as_slice())
 }
 
 // A copy over a terminal that was elsewhere, with an empty list.
@@ -270,9 +238,10 @@ fn a_copy_goes_on_alike(rt: HostRuntime) -> Result<(), Fail> {
     let mut other = copied(rt.alloc(), &one.terminal)?;
     go_on(&mut one)?;
     go_on(&mut other)?;
-    let is_reverse = one.terminal.screen().cell(2, 3).rendition.reverse();
-    assert!(rt;
-        are_same(&one, &other) && is_reverse && one.reports.bytes() == b"\x1b[1;4R".as_slice()
+    let text = told(rt.alloc(), &one)?;
+    assert_eq!(rt;
+        text.as_str(),
+        "2:ab[BR]c at 2 4 margins 2 5 DECOM [BR] sent E[1;4R"
     );
-    Ok(())
+    see_same(&rt, &other, &one)
 }
