@@ -136,8 +136,8 @@ module _ {S T R O P : Type 0} {readers : Readers S T R} {writers : Writers O P} 
 
     begun_sound : (done : Done) → Begun writers done → AreSound writers
     begun_sound done begun = elim begun [
-      | inl (first, stays) ↦ (first.took.sound, subst (λ x. has_failed x ≡ false) (sym stays) before.nothing_timing.sound)
-      | inr (whole, second) ↦ (whole.sound, second.took.sound)
+      | inl (first, stays) ↦ (first.failing, subst (λ x. has_failed x ≡ false) (sym stays) before.nothing_timing.sound)
+      | inr (whole, second) ↦ (whole.sound, second.failing)
     ]
 
     ends_for_memory : WantsMemory writers job (done_on job tape lines) → RunEnds readers writers job (outcome_by (Err Memory))
@@ -163,8 +163,8 @@ module _ {S T R O P : Type 0} {readers : Readers S T R} {writers : Writers O P} 
 
     stopped_failed : (done : Done) → Stopped writers done → HasFailed writers.out ⊎ HasFailed writers.out_timing
     stopped_failed done stopped = elim stopped [
-      | inl (first, stays) ↦ inl (first.failed)
-      | inr (whole, second) ↦ inr (second.failed)
+      | inl (first, stays) ↦ inl (first.failing)
+      | inr (whole, second) ↦ inr (second.failing)
     ]
 
     ends_at_a_writer : Stopped writers (done_on job tape lines) → RunEnds readers writers job (outcome_by (Err (File WriteFault)))

@@ -1,6 +1,6 @@
 use Rattle.std.proofs.Common.{true}
 use Rattle.std.proofs.lemmas.Result.{err_from_is_err_and}
-use Rattle.tape_jobs.proofs.jobs.info.put_lines.Goals as goal
+use Rattle.tape_jobs.proofs.shared.answers.put_lines.Goals as goal
 
 pub returns-in_err-put_number-clause-stopped : goal.returns-in_err-put_number-clause-stopped
 returns-in_err-put_number-clause-stopped g c =
