@@ -7,15 +7,10 @@ use tape_core::Watched;
 use vt_parser::ParserState;
 use vt_term::{Profile, Reports, Terminal};
 
-/// What is fed to a reset terminal, and the text that it is printed as.
+/// What is fed to a reset terminal, and the text that it is printed as. A worked row stands in crates/job_tests.
 const TEXTS: &[(&[u8], &[u8])] = &[
     // Nothing on the screen.
     (b"", b"\x1b[?7l\x1b)0\x1b[0m\x0f\x1b[?7h\x1b[1;1H"),
-    // A bold letter.
-    (
-        b"\x1b[1mA",
-        b"\x1b[?7l\x1b)0\x1b[1;1H\x1b[0;1mA\x1b[0m\x0f\x1b[?7h\x1b[1;2H",
-    ),
     // Line drawing, by whatever set it came.
     (
         b"\x1b(0lqk",

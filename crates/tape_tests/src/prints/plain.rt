@@ -5,24 +5,11 @@ use std::alloc::Global;
 use std::test::Fail;
 use tape_core::Watched;
 
-/// What is fed, and what is printed before empty lines fill the 24 up.
-const TEXTS: [(&[u8], &str); 15] = [
+/// What is fed, and what is printed before empty lines fill the 24 up. Worked rows stand in crates/job_tests.
+const TEXTS: [(&[u8], &str); 8] = [
     (b"", ""),
-    // The sequence that CAN ends shows the error character.
-    (b"\x1b[3\x18m", "\u{2592}m\n"),
-    // A string is skipped.
-    (b"\x1b]0;title\x07ok", "ok\n"),
-    // Each byte from 128 shows one error character.
-    (b"\xc3\xa9", "\u{2592}\u{2592}\n"),
-    // Line drawing, by designation and by SO.
-    (b"\x1b(0lqk", "\u{250c}\u{2500}\u{2510}\n"),
+    // Line drawing by SO.
     (b"\x1b)0x\x0ex\x0fx", "x\u{2502}x\n"),
-    // Scrolling inside margins.
-    (b"a\r\nb\r\nc\r\nd\x1b[2;3r\x1b[3;1H\n", "a\nc\n\nd\n"),
-    // The pound sign of the UK set.
-    (b"\x1b(A#", "\u{a3}\n"),
-    // Graphics of VT52 mode, and ASCII after it.
-    (b"\x1b[?2l\x1bFa\x1b<a", "\u{2592}a\n"),
     // Spaces and blanks at the end go, whatever their rendition; inside they stay.
     (b" a\x1b[7m  \x1b[m ", " a\n"),
     (b"\x1b(0_a_b__", " \u{2592} \u{2409}\n"),

@@ -54,7 +54,8 @@ fn check_first_changes(
         Err(fault) => {
             println!(rt; "refused: changes")?;
             assert_eq!(rt; (fault, writer.failed()), (ChangesFault::Memory, false));
-            assert!(rt; is_beginning(writer.into_inner().as_slice()));
+            let begun = writer.into_inner();
+            assert!(rt; is_beginning(begun.as_slice()), "{begun:?} went out");
             let kept = (session.log().len(), session.recording().chunks().len());
             assert_eq!(rt; kept, (0, 3));
         }

@@ -24,35 +24,40 @@ pub const EMPTY: Told<'static> = (0, b"");
 
 pub const NEW: Told<'static> = (500_000, b"xyz");
 
-/// Whether a chunk is as told, due at the moment and not before.
-fn has_chunk(recording: &Recording, i: usize, chunk: Told, due: u64) -> bool {
+/// A chunk, its due time, and how many chunks are due then and a microsecond before, as far as these are past it or not.
+fn told_of(recording: &Recording, i: usize) -> Option<(Told<'_>, u64, bool, bool)> {
     if i >= recording.chunks().len() {
-        return false;
+        return None;
     }
-    let found = &recording.chunks()[i];
-    (found.delay, found.bytes.as_slice()) == chunk
-        && recording.due_time(i) == due
-        && recording.due_count(due) > i
-        && (due == 0 || recording.due_count(due - 1) <= i)
+    let chunk = &recording.chunks()[i];
+    let due = recording.due_time(i);
+    let is_due_before = due > 0 && recording.due_count(due - 1) > i;
+    Some((
+        (chunk.delay, chunk.bytes.as_slice()),
+        due,
+        recording.due_count(due) > i,
+        is_due_before,
+    ))
 }
 
-/// Whether the recording has these chunks, and tells due times, lengths and counts that fit them.
-pub fn has_chunks(recording: &Recording, chunks: &[Told]) -> bool {
+/// Compares a recording with these chunks, and the due times, lengths and counts that fit them.
+pub fn compare_chunks(rt: &impl Abort, recording: &Recording, chunks: &[Told]) {
     let mut due: u64 = 0;
     let mut bytes: u64 = 0;
     for (i, (delay, text)) in chunks.iter().enumerate() {
         due = due.saturating_add(*delay);
         bytes = bytes.saturating_add(text.len() as u64);
-        if !has_chunk(recording, i, (*delay, *text), due) {
-            return false;
-        }
+        let wanted = Some(((*delay, *text), due, true, false));
+        assert_eq!(rt; told_of(recording, i), wanted, "chunk {i}");
     }
-    (
+    let sums = (
         recording.chunks().len(),
         recording.length(),
         recording.body_len(),
-    ) == (chunks.len(), due, bytes)
-        && (recording.header(), recording.trailer()) == (b"head\n".as_slice(), b"tail".as_slice())
+    );
+    assert_eq!(rt; sums, (chunks.len(), due, bytes), "of {chunks:?}");
+    let ends = (recording.header(), recording.trailer());
+    assert_eq!(rt; ends, (b"head\n".as_slice(), b"tail".as_slice()));
 }
 
 /// The recording of three chunks with a fourth put in.
@@ -79,7 +84,7 @@ fn inserted_chunks(rt: HostRuntime) -> Result<(), Fail> {
     ];
     for (at, chunks) in rows.iter().enumerate() {
         let recording = with_new(rt.alloc(), at)?;
-        assert!(rt; has_chunks(&recording, chunks), "in front of chunk {at}");
+        compare_chunks(&rt, &recording, chunks);
     }
     Ok(())
 }
@@ -96,18 +101,21 @@ fn removed_chunks(rt: HostRuntime) -> Result<(), Fail> {
     ];
     for (from, to, left) in rows {
         let mut recording = three(rt.alloc())?;
-        assert!(rt; from < to && to <= recording.chunks().len());
+        assert!(rt;
+            from < to && to <= recording.chunks().len(),
+            "{from} to {to}"
+        );
         recording.remove(from, to);
-        assert!(rt; has_chunks(&recording, left), "without {from} to {to}");
+        compare_chunks(&rt, &recording, left);
     }
     Ok(())
 }
 
 /// Replaces where the bytes are few.
 fn replace(rt: &impl Abort, recording: &mut Recording, at: usize, bytes: Bytes) {
-    assert!(rt; at < recording.chunks().len());
-    assert!(rt; bytes.len() <= 1_000);
-    assert!(rt; recording.body_len() <= 1_000);
+    assert!(rt; at < recording.chunks().len(), "chunk {at}");
+    assert!(rt; bytes.len() <= 1_000, "few bytes");
+    assert!(rt; recording.body_len() <= 1_000, "a short body");
     bodies_add_up();
     recording.replace(at, bytes);
 }
@@ -117,10 +125,10 @@ fn replaced_and_retimed_chunks(rt: HostRuntime) -> Result<(), Fail> {
     let mut recording = three(rt.alloc())?;
     let bytes = Bytes::copy_of(rt.alloc(), b"")?;
     replace(&rt, &mut recording, 1, bytes);
-    assert!(rt; has_chunks(&recording, &[A, (2_000_000, b""), EMPTY]));
+    compare_chunks(&rt, &recording, &[A, (2_000_000, b""), EMPTY]);
     assert_eq!(rt; recording.chunks().len(), 3);
     recording.retime(0, 0);
-    assert!(rt; has_chunks(&recording, &[(0, b"a"), (2_000_000, b""), EMPTY]));
+    compare_chunks(&rt, &recording, &[(0, b"a"), (2_000_000, b""), EMPTY]);
     Ok(())
 }
 
@@ -129,10 +137,10 @@ fn capped_chunks(rt: HostRuntime) -> Result<(), Fail> {
     let mut recording = three(rt.alloc())?;
     assert_eq!(rt; recording.chunks().len(), 3);
     recording.retime(2, 1_000_000_000_000);
-    assert!(rt; has_chunks(&recording, &[A, BB, (1_000_000_000_000, b"")]));
+    compare_chunks(&rt, &recording, &[A, BB, (1_000_000_000_000, b"")]);
     recording.cap(1_500_000);
-    assert!(rt; has_chunks(&recording, &[A, (1_500_000, b"bb"), (1_500_000, b"")]));
+    compare_chunks(&rt, &recording, &[A, (1_500_000, b"bb"), (1_500_000, b"")]);
     recording.cap(0);
-    assert!(rt; has_chunks(&recording, &[(0, b"a"), (0, b"bb"), EMPTY]));
+    compare_chunks(&rt, &recording, &[(0, b"a"), (0, b"bb"), EMPTY]);
     Ok(())
 }

@@ -95,7 +95,7 @@ fn slurp_reads_to_the_end(rt: HostRuntime) -> Result<(), Fail> {
             failing: usize::MAX,
             kind: ErrorKind::Other,
         });
-        assert!(rt; !reader.failed());
+        assert!(rt; !reader.failed(), "a reader that was not called");
         let told = slurp(rt.alloc(), &mut reader)?;
         assert_eq!(rt; told.as_slice(), text);
         assert!(rt; !reader.failed(), "a reader that did not fail");
@@ -120,8 +120,11 @@ fn slurp_tells_a_read_fault(rt: HostRuntime) {
                 kind,
             });
             let told = slurp(rt.alloc(), &mut reader);
-            assert!(rt; matches!(&told, Err(Fault::ReadFault)), "at call {failing}");
-            assert!(rt; reader.failed());
+            assert_eq!(rt;
+                (told.err(), reader.failed()),
+                (Some(Fault::ReadFault), true),
+                "at call {failing}"
+            );
             let calls = reader.into_inner().calls;
             assert_eq!(rt; calls, failing.saturating_add(1), "no fault is retried");
         }
@@ -136,7 +139,7 @@ fn put_writes_all_the_bytes(rt: HostRuntime) -> Result<(), Fail> {
     writer.put(b"c")?;
     assert!(rt; !writer.failed(), "a writer that did not fail");
     writer.finish()?;
-    assert!(rt; !writer.failed());
+    assert!(rt; !writer.failed(), "a writer that did not fail at its flush");
     assert_eq!(rt; writer.into_inner().taken.as_slice(), b"abc".as_slice());
     Ok(())
 }
@@ -147,8 +150,11 @@ fn put_tells_a_write_fault(rt: HostRuntime) {
         for failing in [Failing::Errs, Failing::TakesNothing] {
             let mut writer = Watched::new(slow_writer(rt.alloc(), at, failing));
             let answer = writer.put(b"abc");
-            assert!(rt; matches!(answer, Err(Fault::WriteFault)), "at call {at}");
-            assert!(rt; writer.failed());
+            assert_eq!(rt;
+                (answer, writer.failed()),
+                (Err(Fault::WriteFault), true),
+                "at call {at}"
+            );
             let inner = writer.into_inner();
             assert_eq!(rt; inner.calls, at.saturating_add(1), "no fault is retried");
             assert_eq!(rt; inner.taken.len(), at, "what went out is a beginning");
@@ -162,8 +168,8 @@ fn finish_tells_a_failed_flush(rt: HostRuntime) -> Result<(), Fail> {
     inner.flush_fails = true;
     let mut writer = Watched::new(inner);
     writer.put(b"ab")?;
-    assert!(rt; matches!(writer.finish(), Err(Fault::WriteFault)));
-    assert!(rt; writer.failed());
+    let answer = writer.finish();
+    assert_eq!(rt; (answer, writer.failed()), (Err(Fault::WriteFault), true));
     assert_eq!(rt; writer.into_inner().taken.as_slice(), b"ab".as_slice());
     Ok(())
 }

@@ -87,19 +87,17 @@ fn parts_of_a_pair(rt: HostRuntime) -> Result<(), Fail> {
     Ok(())
 }
 
-/// Whether a chunk has these bytes.
-fn has_bytes(recording: &Recording, i: usize, bytes: &[u8]) -> bool {
-    match recording.chunks().get(i) {
-        Some(chunk) => chunk.bytes.as_slice() == bytes,
-        None => false,
-    }
+/// The bytes of a chunk.
+fn bytes_of(recording: &Recording, i: usize) -> Option<&[u8]> {
+    Some(recording.chunks().get(i)?.bytes.as_slice())
 }
 
 #[test]
 fn chunks_of_a_pair(rt: HostRuntime) -> Result<(), Fail> {
     let recording = a_then_b(rt.alloc())?;
-    assert_eq!(rt; recording.chunks().len(), 2);
-    assert!(rt; has_bytes(&recording, 0, b"a") && has_bytes(&recording, 1, b"b"));
+    for (i, bytes) in [Some(b"a".as_slice()), Some(b"b"), None].iter().enumerate() {
+        assert_eq!(rt; bytes_of(&recording, i), *bytes, "chunk {i}");
+    }
     Ok(())
 }
 

@@ -30,8 +30,7 @@ fn written_with_an_insert(rt: HostRuntime) -> Result<(), Fail> {
     assert_eq!(rt; recording.chunks().len(), 2);
     assert_eq!(rt; recording.body_len(), 2);
     let delay = 250_000;
-    let answer = recording.insert(1, Chunk { delay, bytes });
-    assert!(rt; answer.is_ok());
+    recording.insert(1, Chunk { delay, bytes })?;
     let (script, timing) = written(alloc, &recording)?;
     assert_eq!(rt; script.as_slice(), SCRIPT);
     assert_eq!(rt; timing.as_slice(), TIMING);
