@@ -1,7 +1,7 @@
 //! Refused growths. `tests/refused.py` runs these with the first, second, .. growth of memory refused, until none is, and
 //! counts the lines `refused: WHAT`. After a refusal all is as before, and the same call then answers.
 use crate::once_more::{bytes, read};
-use std::alloc::Global;
+use std::alloc::{AllocError, Global};
 use std::process::Abort;
 use std::rt::Runtime;
 use std::test::Fail;
@@ -94,7 +94,10 @@ fn sought(
     head: usize,
 ) -> Result<(), Fail> {
     let before = told_by(session);
-    assert!(rt; count <= session.recording().chunks().len());
+    assert!(rt;
+        count <= session.recording().chunks().len(),
+        "a seek to {count}"
+    );
     if session.seek_count(count).is_err() {
         println!(rt; "refused: a seek to {count}")?;
         let (frontier, _, held) = before.marks;
@@ -119,19 +122,89 @@ fn all_sought(
     Ok(())
 }
 
+/// Grows so many times for nothing, refused or not.
+fn grow_before(rt: &impl Runtime<A = Global>, growths: usize) {
+    for _ in 0..growths {
+        let _: Result<Vec<u8>, AllocError> = Vec::with_capacity(rt.alloc(), 1);
+    }
+}
+
+/// Opens a session and seeks to the counts, behind so many growths: where one is refused, it is one as much earlier of
+/// these seeks. So a single run of these tests meets each of their growths.
+fn check_seeks(
+    rt: &(impl Runtime<A = Global> + Abort),
+    growths: usize,
+    counts: &[(usize, usize)],
+) -> Result<(), Fail> {
+    grow_before(rt, growths);
+    let mut session = four(rt)?;
+    all_sought(rt, &mut session, counts)
+}
+
+/// Below the frontier, which the second reaches, no growth is left to be refused.
+const TO_AND_FRO: &[(usize, usize)] = &[(1, 0), (4, 0), (3, 0), (0, 0), (2, 0), (1, 0), (4, 0)];
+
+/// At the last the head stands at 1, and a refusal puts it at the last stored terminal.
+const PAST_A_STORED_TERMINAL: &[(usize, usize)] = &[(3, 0), (1, 0), (4, 2)];
+
 #[test]
 fn refused_seeks(rt: HostRuntime) -> Result<(), Fail> {
-    let mut session = four(&rt)?;
-    // Below the frontier, which the second reaches, no growth is left to be refused.
-    let counts = [(1, 0), (4, 0), (3, 0), (0, 0), (2, 0), (1, 0), (4, 0)];
-    all_sought(&rt, &mut session, &counts)
+    check_seeks(&rt, 0, TO_AND_FRO)
+}
+
+#[test]
+fn refused_seeks_behind_a_growth(rt: HostRuntime) -> Result<(), Fail> {
+    check_seeks(&rt, 1, TO_AND_FRO)
+}
+
+#[test]
+fn refused_seeks_behind_two_growths(rt: HostRuntime) -> Result<(), Fail> {
+    check_seeks(&rt, 2, TO_AND_FRO)
+}
+
+#[test]
+fn refused_seeks_behind_three_growths(rt: HostRuntime) -> Result<(), Fail> {
+    check_seeks(&rt, 3, TO_AND_FRO)
+}
+
+#[test]
+fn refused_seeks_behind_four_growths(rt: HostRuntime) -> Result<(), Fail> {
+    check_seeks(&rt, 4, TO_AND_FRO)
+}
+
+#[test]
+fn refused_seeks_behind_five_growths(rt: HostRuntime) -> Result<(), Fail> {
+    check_seeks(&rt, 5, TO_AND_FRO)
 }
 
 #[test]
 fn refused_seeks_past_a_stored_terminal(rt: HostRuntime) -> Result<(), Fail> {
-    let mut session = four(&rt)?;
-    // At the last the head stands at 1, and a refusal puts it at the last stored terminal.
-    all_sought(&rt, &mut session, &[(3, 0), (1, 0), (4, 2)])
+    check_seeks(&rt, 0, PAST_A_STORED_TERMINAL)
+}
+
+#[test]
+fn refused_seeks_past_a_stored_terminal_behind_a_growth(rt: HostRuntime) -> Result<(), Fail> {
+    check_seeks(&rt, 1, PAST_A_STORED_TERMINAL)
+}
+
+#[test]
+fn refused_seeks_past_a_stored_terminal_behind_two_growths(rt: HostRuntime) -> Result<(), Fail> {
+    check_seeks(&rt, 2, PAST_A_STORED_TERMINAL)
+}
+
+#[test]
+fn refused_seeks_past_a_stored_terminal_behind_three_growths(rt: HostRuntime) -> Result<(), Fail> {
+    check_seeks(&rt, 3, PAST_A_STORED_TERMINAL)
+}
+
+#[test]
+fn refused_seeks_past_a_stored_terminal_behind_four_growths(rt: HostRuntime) -> Result<(), Fail> {
+    check_seeks(&rt, 4, PAST_A_STORED_TERMINAL)
+}
+
+#[test]
+fn refused_seeks_past_a_stored_terminal_behind_five_growths(rt: HostRuntime) -> Result<(), Fail> {
+    check_seeks(&rt, 5, PAST_A_STORED_TERMINAL)
 }
 
 /// Makes an edit; where memory is refused, once more with the edit that came back.
