@@ -160,7 +160,7 @@ fn print<R: Files + Print + AllocGlobal, Q: io::Read>(
     // Where nothing stopped the job, it is what the job comes to on these files.
     ensures answer { IfOk result (λ outcome. is_stopped outcome.fault ≡ false → (files : Given)
         → Tells (readers_of (used R.File.remaining script.old script.new) (used R.File.remaining timing.old timing.new)
-            (used Q.remaining requests.old requests.new)) job files
+        (used Q.remaining requests.old requests.new)) job files
         → IsAnswer job files outcome) }
     ensures stop { IfErr result (λ stop. stop ≡ Stop.Memory) }
 {
