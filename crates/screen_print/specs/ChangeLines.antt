@@ -2,7 +2,7 @@
 use Rattle.std.specs.Prelude.{ℕ, ◌+◌, Bool, not, ◌&&◌, List, [], ◌∷◌, ◌++◌, filter, Option, None, Some, nat_lt, nat_le}
 use Rattle.std.specs.Fmt.{decimal}
 use Rattle.std.specs.List.{flat_map, range_with_len}
-use Rattle.tape_core.specs.Due.{due_time, places}
+use Rattle.tape_core.specs.Due.{due_time, indices}
 use Rattle.tape_core.specs.Tape.{Tape}
 use Rattle.tape_core.specs.Written.{seconds_form}
 use Rattle.tape_seek.specs.Moments.{up_to}
@@ -45,7 +45,7 @@ is_asked (Some from) to due = nat_lt from due && nat_le due to
 
 -- the chunks that are asked for, in order
 abbrev pub asked_places : Tape → Option ℕ → ℕ → List ℕ
-asked_places tape from to = filter (λ index. is_asked from to (due_time tape.chunks index)) (places tape.chunks)
+asked_places tape from to = filter (λ index. is_asked from to (due_time tape.chunks index)) (indices tape.chunks)
 
 -- the change lines
 unfoldable pub change_lines : Profile → Tape → Option ℕ → ℕ → List ℕ
