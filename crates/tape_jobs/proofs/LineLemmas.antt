@@ -1,11 +1,18 @@
 -- What clap makes of a plain command line.
-use Rattle.std.proofs.Common.{◌≡◌, ℕ, ◌&&◌, ◌||◌, Bool, true, false, not, List, [], ◌∷◌, ◌++◌, map, Option, Some, None, Ok, codes, ◌==◌, length, min, nat_lt, ◌+◌, arith, suc, take, refl, sym, ◌∙◌, ap, ap₂, subst, is_some, append_assoc, append-nil, if◌then◌else◌}
+use Rattle.std.proofs.Common.{◌≡◌, ℕ, ◌&&◌, ◌||◌, Bool, true, false, not, List, [], ◌∷◌, ◌++◌, map, Option, Some, None, Ok, codes, ◌==◌, length, min, nat_le, nat_lt, get_or, ◌+◌, ◌^◌, ◌<◌, ◌≤◌, ◌≢◌, arith, suc, take, refl, sym, ◌∙◌, ap, ap₂, subst, is_some, append_assoc, append-nil, if◌then◌else◌}
 use Rattle.std.proofs.lemmas.Bool.{eqb-true}
-use Rattle.std.specs.Char.{is_ascii_digit}
+use Rattle.std.proofs.lemmas.Bool.Decides.{nat_tests}
+use Rattle.std.proofs.lemmas.Str.{digit_value_digit}
+use Rattle.std.proofs.lemmas.Str.Parse.{without_leading_plus_none}
+use Rattle.std.specs.Char.{digit_value, is_ascii_digit}
+use Rattle.std.specs.Int.{IsInRange}
+use Rattle.std.specs.Str.Parse.{digits_value}
 use Rattle.std.specs.List.{after_first, before_first, fold, list_all, position_or_len}
 use Rattle.std.specs.Option.{option_and_then, option_map, option_map_or}
 use Rattle.std.specs.Str.{bytes_eq}
 use Rattle.clap.specs.Lexer.{strip_byte, long_of, long_of_rest, short_of_rest}
+use Rattle.clap.specs.ValueTests.{accepts, is_numeral}
+use Rattle.clap.specs.declared.builder.value_parser.ValueParser.TheVariants as parses
 use Rattle.clap.specs.Words.{App, Shape, Text, Row, takes}
 use Rattle.clap.specs.Simple.{built, built_leaf, entered, inherited, names_of, marked_built, with_leaf_noted}
 use Rattle.clap.specs.Takes.{bundle_passes, built_takes, default_passes, entered_passes, flag_word_passes, is_valid, level_passes, other_passes, settle_passes, step_passes, turn_passes, walk_passes, word_passes}
@@ -13,9 +20,9 @@ use Rattle.clap.specs.Walk.{Held, Names, Rule, Walk, Waiting, after_step, finish
 use Rattle.clap.proofs.OnLiterals.{clap_on_literals}
 use Rattle.tape_jobs.proofs.CommandLemmas.{is_simple_app, means, means_job}
 use Rattle.tape_core.specs.Seconds.{last_moment, micros, seconds_of}
-use Rattle.tape_jobs.specs.CommandLine.{typetool_app, clap_takes, after, readable, job_in, profile_named, value_in, meaning_in, meaning_of_words, subcommand_in, app_in, name_in, id_in, rule_in, flags_in, paths_in}
+use Rattle.tape_jobs.specs.CommandLine.{typetool_app, clap_takes, every_allowed, every_of, after, readable, job_in, profile_named, value_in, meaning_in, meaning_of_words, subcommand_in, app_in, name_in, id_in, rule_in, flags_in, paths_in}
 use Rattle.tape_jobs.specs.Lines.{Asks, IsPlain, profile_or_first, with_escaped, with_profile}
-use Rattle.tape_jobs.specs.Stored.{usual_every}
+use Rattle.tape_jobs.specs.Stored.{least_every, most_every, usual_every}
 use Rattle.vt_term.specs.declared.profile.Profile.{Profile}
 use Rattle.vt_term.specs.declared.profile.Profile.TheVariants.{Vt100, Vt102}
 use Rattle.tape_jobs.specs.declared.job.Job.{Job}
@@ -315,6 +322,67 @@ seconds_are_plain [] moment e = refl
 seconds_are_plain (c ∷ rest) moment e =
     is_false (c == 45) (λ same. some_seconds rest moment (subst (λ x. seconds_of (x ∷ rest) ≡ Some moment) (eqb-true c 45 same) e))
 
+-- ---- the number of chunks that a flag gives
+
+allowed_only : (n count : ℕ) (out : Bool) → (if out then None else Some n) ≡ Some count → out ≡ false
+allowed_only n count true e = absurd (cc)
+allowed_only n count false e = refl
+
+-- a number that is allowed is written in digits, and lies in the range
+pub record IsAllowed (text : Text) : Type 0 where
+  pub some : nat_lt 0 (length text) ≡ true
+  pub digits : list_all is_ascii_digit text ≡ true
+  pub low : 1 ≤ digits_value 10 text
+  pub high : digits_value 10 text ≤ 1000000
+
+in_the_range : (v : ℕ) → (nat_lt (min v last_moment) least_every || nat_lt most_every (min v last_moment)) ≡ false → (1 ≤ v) × (v ≤ 1000000)
+in_the_range v e = (grind (arith, nat_tests), grind (arith, nat_tests))
+
+allowed_by : (text : Text) (count : ℕ) (is : Bool) → is ≡ (nat_lt 0 (length text) && list_all is_ascii_digit text)
+    → option_and_then every_allowed (option_map (λ n. min n last_moment) (if is then Some (digits_value 10 text) else None)) ≡ Some count → IsAllowed text
+allowed_by text count false is e = absurd (cc)
+allowed_by text count true is e =
+    let range = in_the_range (digits_value 10 text) (allowed_only (min (digits_value 10 text) last_moment) count (nat_lt (min (digits_value 10 text) last_moment) least_every || nat_lt most_every (min (digits_value 10 text) last_moment)) e) in
+    record { some = first_true _ _ (sym is); digits = second_true _ _ (sym is); low = range.0; high = range.1 }
+
+allowed : (text : Text) (count : ℕ) → every_of text ≡ Some count → IsAllowed text
+unfolding every_of
+allowed text count e = allowed_by text count (nat_lt 0 (length text) && list_all is_ascii_digit text) refl e
+
+digit_range : (c : ℕ) → is_ascii_digit c ≡ true → IsInRange 48 57 c
+digit_range c e = (grind (arith, nat_tests), grind (arith, nat_tests))
+
+digit_is_small : (c : ℕ) → is_ascii_digit c ≡ true → nat_lt (digit_value c) 10 ≡ true
+digit_is_small c e =
+    let range = digit_range c e in
+    let same : digit_value c + 48 ≡ c = digit_value_digit c range in
+    let small : digit_value c < 10 = omega (arith, same, range.1) in
+    grind (arith, nat_tests)
+
+digits_are_small : (text : Text) → list_all is_ascii_digit text ≡ true → list_all (λ d. nat_lt (digit_value d) 10) text ≡ true
+digits_are_small [] e = refl
+digits_are_small (c ∷ rest) e = both_true _ _ (digit_is_small c (first_true _ _ e)) (digits_are_small rest (second_true _ _ e))
+
+no_plus : (text : Text) → list_all is_ascii_digit text ≡ true → get_or text 0 0 ≢ 43
+no_plus [] e = λ z. absurd (omega (arith, z))
+no_plus (c ∷ rest) e = λ plus. absurd (omega (arith, plus, (digit_range c (first_true _ _ e)).0))
+
+number_is_plain : (text : Text) → list_all is_ascii_digit text ≡ true → IsPlain text
+number_is_plain [] e = refl
+number_is_plain (c ∷ rest) e =
+    is_false (c == 45) (λ same. absurd (omega (arith, eqb-true c 45 same, (digit_range c (first_true _ _ e)).0)))
+
+-- clap takes it
+number_is_accepted : (text : Text) → IsAllowed text → accepts false (parses.Unsigned least_every most_every) text ≡ true
+number_is_accepted text known =
+    let v = digits_value 10 text in
+    let small : nat_lt v (2 ^ 64) ≡ true = let below : v < 2 ^ 64 = omega (arith, known.high) in grind (arith, nat_tests) in
+    let low : nat_le 1 v ≡ true = let here = known.low in grind (arith, nat_tests) in
+    let high : nat_le v 1000000 ≡ true = let here = known.high in grind (arith, nat_tests) in
+    ap (λ t. is_numeral t && (nat_lt (digits_value 10 t) (2 ^ 64) && (nat_le least_every (digits_value 10 t) && nat_le (digits_value 10 t) most_every)))
+    (without_leading_plus_none text (no_plus text known.digits))
+    ∙ both_true _ _ (both_true _ _ known.some (digits_are_small text known.digits)) (both_true _ _ small (both_true _ _ low high))
+
 -- ---- each line
 
 module _ (program script timing : Text) (p : IsPlain script) (q : IsPlain timing) where
@@ -421,3 +489,20 @@ module _ (program script timing : Text) (p : IsPlain script) (q : IsPlain timing
       changes_from_line (Some Vt102) =
           asks_by program Changes (literal (codes "--from") ∷ value_word from ∷ literal (codes "--to") ∷ value_word at ∷ literal (codes "--profile") ∷ literal (codes "vt102") ∷ files) both_plain refl
           (job.Changes (Some start) moment Vt102) (script ∷ timing ∷ []) (both_read Vt102) refl
+
+  -- the line with a number of chunks
+  module _ (every : Text) (count : ℕ) (e : every_of every ≡ Some count) where
+    number_plain : ArePlain (value_word every ∷ files)
+    number_plain = (number_is_plain every (allowed every count e).digits, (p, (q, tt)))
+
+    number_read : (played : Profile) → after (readable unread.Every (every_of every)) (λ n. Ok (job.Session n played)) ≡ Ok (job.Session count played)
+    number_read played = ap (λ o. after (readable unread.Every o) (λ n. Ok (job.Session n played))) e
+
+    number_taken : (((accepts false (parses.Unsigned least_every most_every) every && true) && true) && true) ≡ true
+    number_taken = ap (λ b. ((b && true) && true) && true) (number_is_accepted every (allowed every count e))
+
+    pub session_every_line : Asks (program ∷ codes "session" ∷ codes "--every" ∷ every ∷ script ∷ timing ∷ []) (job.Session count Vt100) (script ∷ timing ∷ [])
+    unfolding clap_on_literals typetool_app app_in name_in flags_in paths_in id_in rule_in job_in profile_named
+    session_every_line =
+        asks_by program Session (literal (codes "--every") ∷ value_word every ∷ files) number_plain number_taken
+        (job.Session count Vt100) (script ∷ timing ∷ []) (number_read Vt100) refl

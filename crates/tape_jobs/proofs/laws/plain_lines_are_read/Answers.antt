@@ -1,4 +1,4 @@
-use Rattle.tape_jobs.proofs.LineLemmas.{changes_from_line, changes_line, due_line, info_line, reports_line, save_line, screen_line, session_line}
+use Rattle.tape_jobs.proofs.LineLemmas.{changes_from_line, changes_line, due_line, info_line, reports_line, save_line, screen_line, session_every_line, session_line}
 use Rattle.tape_jobs.proofs.laws.plain_lines_are_read.Goals as goal
 
 pub returns-clause-due : goal.returns-clause-due
@@ -24,3 +24,6 @@ returns-clause-save c = save_line
 
 pub returns-clause-session : goal.returns-clause-session
 returns-clause-session c = session_line
+
+pub returns-clause-session_every : goal.returns-clause-session_every
+returns-clause-session_every c = session_every_line
