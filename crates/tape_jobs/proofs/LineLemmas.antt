@@ -498,11 +498,23 @@ module _ (program script timing : Text) (p : IsPlain script) (q : IsPlain timing
     number_read : (played : Profile) → after (readable unread.Every (every_of every)) (λ n. Ok (job.Session n played)) ≡ Ok (job.Session count played)
     number_read played = ap (λ o. after (readable unread.Every o) (λ n. Ok (job.Session n played))) e
 
-    number_taken : (((accepts false (parses.Unsigned least_every most_every) every && true) && true) && true) ≡ true
-    number_taken = ap (λ b. ((b && true) && true) && true) (number_is_accepted every (allowed every count e))
+    taken : accepts false (parses.Unsigned least_every most_every) every ≡ true
+    taken = number_is_accepted every (allowed every count e)
 
-    pub session_every_line : Asks (program ∷ codes "session" ∷ codes "--every" ∷ every ∷ script ∷ timing ∷ []) (job.Session count Vt100) (script ∷ timing ∷ [])
+    alone_taken : (((accepts false (parses.Unsigned least_every most_every) every && true) && true) && true) ≡ true
+    alone_taken = ap (λ b. ((b && true) && true) && true) taken
+
+    beside_taken : ((((accepts false (parses.Unsigned least_every most_every) every && true) && true) && true) && true) ≡ true
+    beside_taken = ap (λ b. (((b && true) && true) && true) && true) taken
+
+    pub session_every_line : (profile : Option Profile) → Asks (program ∷ codes "session" ∷ codes "--every" ∷ every ∷ with_profile profile (script ∷ timing ∷ [])) (job.Session count (profile_or_first profile)) (script ∷ timing ∷ [])
     unfolding clap_on_literals typetool_app app_in name_in flags_in paths_in id_in rule_in job_in profile_named
-    session_every_line =
-        asks_by program Session (literal (codes "--every") ∷ value_word every ∷ files) number_plain number_taken
+    session_every_line None =
+        asks_by program Session (literal (codes "--every") ∷ value_word every ∷ files) number_plain alone_taken
         (job.Session count Vt100) (script ∷ timing ∷ []) (number_read Vt100) refl
+    session_every_line (Some Vt100) =
+        asks_by program Session (literal (codes "--every") ∷ value_word every ∷ literal (codes "--profile") ∷ literal (codes "vt100") ∷ files) number_plain beside_taken
+        (job.Session count Vt100) (script ∷ timing ∷ []) (number_read Vt100) refl
+    session_every_line (Some Vt102) =
+        asks_by program Session (literal (codes "--every") ∷ value_word every ∷ literal (codes "--profile") ∷ literal (codes "vt102") ∷ files) number_plain beside_taken
+        (job.Session count Vt102) (script ∷ timing ∷ []) (number_read Vt102) refl

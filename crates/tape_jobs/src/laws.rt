@@ -7,7 +7,6 @@ ghost use Rattle.tape_jobs.specs.CommandLine.{every_of};
 ghost use Rattle.tape_jobs.specs.Lines.{Asks, IsPlain, profile_or_first, with_escaped, with_profile};
 ghost use Rattle.tape_jobs.specs.Stored.{usual_every};
 ghost use Rattle.vt_term.specs.declared.profile.Profile.{Profile};
-ghost use Rattle.vt_term.specs.declared.profile.Profile.TheVariants.{Vt100};
 ghost use Rattle.tape_jobs.specs.declared.job.Job.TheVariants as job;
 ghost use Rattle.tape_core.specs.Devices.{Took, has_failed};
 ghost use Rattle.tape_core.specs.declared.devices.Watched.{Watched};
@@ -65,7 +64,7 @@ pub fn plain_lines_are_read()
         → Asks (program ∷ codes "session" ∷ with_profile profile (script ∷ timing ∷ []))
         (job.Session usual_every (profile_or_first profile)) (script ∷ timing ∷ []) }
     ensures session_every { (program script timing : Text) → IsPlain script → IsPlain timing
-        → (every : Text) (count : ℕ) → every_of every ≡ Some count
-        → Asks (program ∷ codes "session" ∷ codes "--every" ∷ every ∷ script ∷ timing ∷ [])
-        (job.Session count Vt100) (script ∷ timing ∷ []) }
+        → (every : Text) (count : ℕ) → every_of every ≡ Some count → (profile : Option Profile)
+        → Asks (program ∷ codes "session" ∷ codes "--every" ∷ every ∷ with_profile profile (script ∷ timing ∷ []))
+        (job.Session count (profile_or_first profile)) (script ∷ timing ∷ []) }
 {}
