@@ -6,7 +6,8 @@
 --   TookPart       a writer has taken a beginning of a text, and then it has failed or it hasn't
 --   Puts           a writer was given a text: it took it whole, or a write fault is told and it failed in it
 --
--- Every function that writes says what it puts, by `Puts`.
+-- A function that writes and has no fault but a write fault says what it puts by `Puts`: those of this crate, of the log
+-- and of the prints. The jobs still say it in parts, by `Took` and `StoppedIn`.
 use Rattle.std.specs.Prelude.{◌≡◌, ℕ, Bool, true, false, List, [], ◌∷◌, ◌++◌, Option, IfSome, Result, MatchResult}
 use Rattle.std.specs.Io.KnownBytes.{Appends, IsAtEnd}
 use Rattle.tape_core.specs.declared.devices.Watched.{Watched}
