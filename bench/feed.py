@@ -1,4 +1,4 @@
-"""Makes the inputs of feed.sh, the same in each run, and times both sides on them."""
+"""Makes the inputs of feed.sh and instructions.sh, the same in each run, and times both sides on them."""
 import os
 import sys
 
@@ -31,13 +31,15 @@ def printable(size):
     return repeated(bytes(range(32, 127)), size)
 
 
+# Of each input the name, the function that makes its bytes, and the length of its chunks.
+APP = ("recordings", shipped, 80)
+PLAIN = ("program text", program_text, 4096)
+FLOOD = ("printable bytes", printable, 4096)
+
+
 def main(typetool, libvterm_feed, work, mib):
     print(f"{mib} MiB of          ours  libvterm  ratio   goal")
-    for name, text, chunk, goal in (
-        ("recordings", shipped, 80, 0.21),
-        ("program text", program_text, 4096, 0.13),
-        ("printable bytes", printable, 4096, 0.08),
-    ):
+    for (name, text, chunk), goal in ((APP, 0.21), (PLAIN, 0.13), (FLOOD, 0.08)):
         script, timing = write_recording(work, name.split()[0], text(int(mib) << 20), chunk)
         ours = theirs = float("inf")
         for _ in range(RUNS):
@@ -48,4 +50,5 @@ def main(typetool, libvterm_feed, work, mib):
         os.remove(timing)
 
 
-main(*sys.argv[1:])
+if __name__ == "__main__":
+    main(*sys.argv[1:])
