@@ -31,20 +31,11 @@ pub fn write_log<W: Write>(edits: &[Edit], writer: &mut Watched<W>) -> Result<()
     ensures flushed { OnOk result (is_flushed writer.new ≡ true) }
 {
     writers_join::<W>();
-    put_lines(edits, writer)?;
-    writer.finish()?;
-    Ok(())
-}
-
-/// Writes the lines of all edits.
-fn put_lines<W: Write>(edits: &[Edit], writer: &mut Watched<W>) -> Result<(), Fault>
-    requires { has_failed writer.old ≡ false }
-    ensures { Puts W.contents writer.old writer.new (flat_map log_line edits.now) result }
-{
     pieces_join::<W, Edit>();
     for edit in edits {
         put_line(edit, writer)?;
     }
+    writer.finish()?;
     Ok(())
 }
 

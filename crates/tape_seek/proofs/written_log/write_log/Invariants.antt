@@ -2,7 +2,7 @@ use Rattle.std.proofs.Common.{take}
 use Rattle.std.specs.List.{flat_map}
 use Rattle.tape_core.specs.Devices.{Took}
 use Rattle.tape_seek.specs.WrittenLog.{log_line}
-use Rattle.tape_seek.proofs.written_log.put_lines.Given as goal
+use Rattle.tape_seek.proofs.written_log.write_log.Given as goal
 
 -- the writer has taken the text of the edits so far
 abbrev pub invariant-loop-edit : goal.invariant-loop-edit
