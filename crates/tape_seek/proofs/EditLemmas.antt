@@ -1,15 +1,17 @@
 -- Edits without a fault: what they meet, and which chunks they leave.
-use Rattle.std.proofs.Common.{◌≡◌, ℕ, ◌+◌, ◌<◌, ◌≤◌, Bool, true, false, ◌||◌, cond, ltb, leb, List, ◌++◌, length, map, min, take, drop, refl, sym, arith, length-append, length-take, length-drop}
+use Rattle.std.proofs.Common.{◌≡◌, ℕ, ◌+◌, ◌-◌, ◌<◌, ◌≤◌, Bool, true, false, ◌||◌, cond, ltb, leb, List, ◌++◌, length, map, min, take, drop, get_or, ap, refl, sym, arith, length-append, length-take, length-drop}
 use Rattle.std.specs.Prelude.{Option, Some, None}
-use Rattle.std.proofs.lemmas.Bool.{leb-false, ltb-false}
+use Rattle.std.proofs.lemmas.Bool.{le-ltb, leb-false, lt-leb, ltb-false}
 use Rattle.std.proofs.lemmas.List.{length-map}
 use Rattle.std.proofs.lemmas.List.Edits.{length-insert}
+use Rattle.std.proofs.lemmas.List.Sums.{get_or-le-sum_by}
 use Rattle.tape_core.specs.declared.chunk.Chunk.{Chunk}
-use Rattle.tape_core.specs.Edited.{capped_chunk, changed_at}
+use Rattle.tape_core.specs.Edited.{capped_chunk, changed_at, replaced}
 use Rattle.tape_core.specs.Tape.{Tape, body_len, longest_body, longest_chunk, longest_delay, most_chunks}
-use Rattle.tape_core.specs.Law.{FirstIsKept}
+use Rattle.tape_core.specs.Law.{BodiesAddUp, FirstIsKept}
 use Rattle.tape_seek.specs.declared.edits.Edit.{Edit}
 use Rattle.tape_seek.specs.declared.edits.Edit.TheVariants.{Insert, Delete, Replace, Retime, Cap}
+use Rattle.tape_seek.specs.declared.edits.EditFault.TheVariants.{TooManyBytes}
 use Rattle.tape_seek.specs.Edits.{HasShortNumbers, edit_fault, edited, first_touched}
 use Rattle.tape_seek.specs.Kept.{SameFront}
 
@@ -95,6 +97,21 @@ retimes_well tape at delay sound =
 
 pub caps_well : (tape : Tape) (max : ℕ) → edit_fault tape (Cap max) ≡ None → max ≤ longest_delay
 caps_well tape max sound = ltb-false longest_delay max (no_first _ _ _ sound).0
+
+-- ---- why a replace is refused
+
+-- In its place, and with bytes that a chunk can hold, it is judged by the body alone: by what the other chunks have.
+pub replace_judged : BodiesAddUp → (tape : Tape) (at : ℕ) (bytes : List ℕ) (chunk : Chunk) (over : Bool)
+    → at < length tape.chunks → chunk ≡ get_or tape.chunks at chunk → length bytes ≤ longest_chunk
+    → ltb longest_body (body_len tape.chunks - length chunk.bytes + length bytes) ≡ over
+    → cond over (Some TooManyBytes) None ≡ edit_fault tape (Replace at bytes)
+replace_judged adds tape at bytes chunk over place is short judged =
+    let part = get_or-le-sum_by (λ x. length x.bytes) tape.chunks at chunk place in
+    let here = ap (λ x. length x.bytes) is in
+    let more = adds.replaced tape at bytes chunk place is in
+    let whole : body_len (replaced at bytes tape).chunks ≡ body_len tape.chunks - length chunk.bytes + length bytes
+    = omega arith in
+    rw (lt-leb (length tape.chunks) at place, le-ltb longest_chunk (length bytes) short, whole, judged) refl
 
 -- ---- its numbers are those of a request line
 
