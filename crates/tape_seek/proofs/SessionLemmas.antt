@@ -9,18 +9,16 @@ use Rattle.vt_term.specs.Term.{reset_term_as, play, sent}
 use Rattle.vt_term.specs.Law.{SentIsAppended}
 use Rattle.tape_seek.specs.declared.edits.Edit.{Edit}
 use Rattle.tape_seek.specs.declared.replay.Replay.{Replay}
-use Rattle.tape_seek.specs.Kept.{IsReplay, sent_after}
+use Rattle.tape_seek.specs.Kept.{IsReplay, PlaysOn, marks_of, sent_after, state_of}
+use Rattle.tape_seek.specs.Marks.{Marks}
 use Rattle.tape_seek.specs.Moments.{up_to}
-use Rattle.tape_seek.specs.State.{State}
 
-same_fields : (profile profile' : Profile) (tape tape' : Tape) (log log' : List Edit) (every every' frontier frontier' head head' : ℕ) → profile ≡ profile' → tape ≡ tape' → log ≡ log' → every ≡ every' → frontier ≡ frontier' → head ≡ head'
-    → ◌≡◌ {A = State} (record { profile = profile; recording = tape; log = log; every = every; marks = record { frontier = frontier; head = head } }) (record { profile = profile'; recording = tape'; log = log'; every = every'; marks = record { frontier = frontier'; head = head' } })
-same_fields profile profile' tape tape' log log' every every' frontier frontier' head head' e0 e1 e2 e3 e4 e5 = cc
-
-pub same_marks : (s t : State) → s.profile ≡ t.profile → s.recording ≡ t.recording → s.log ≡ t.log
-    → s.every ≡ t.every → s.marks.frontier ≡ t.marks.frontier → s.marks.head ≡ t.marks.head → s ≡ t
-same_marks s t profile recording log every frontier head =
-    same_fields s.profile t.profile s.recording t.recording s.log t.log s.every t.every s.marks.frontier t.marks.frontier s.marks.head t.marks.head profile recording log every frontier head
+-- a session whose replay plays on, and has other marks
+pub marked : (tape : Tape) (log : List Edit) (old new : Replay) (marks : Marks) → PlaysOn old new
+    → marks_of new ≡ marks → state_of tape log new ≡ record (state_of tape log old) { marks = marks }
+marked tape log old new marks rest is =
+    let at = λ (m : Marks). record (state_of tape log old) { marks = m } in
+    rw (rest.profile, rest.every) (ap at is)
 
 pub shows_up_to : (profile : Profile) (chunks : List Chunk) (tape : Tape) (r : Replay) (count : ℕ)
     → r.profile ≡ profile → chunks ≡ tape.chunks → IsReplay chunks r → r.head ≡ count

@@ -39,10 +39,11 @@ told_from every marks (call ∷ more) = told_by every marks call ++ told_from ev
 abbrev pub fed_after : ℕ → List Call → List ℕ
 fed_after every calls = told_from every first_marks calls
 
--- A session that stores a terminal at every so many chunks has come to a state by these calls, and its answered seeks
--- have told that they fed so many chunks each. A step is what the contract of the call says.
+-- A session that stores a terminal at every so many chunks has come to a state by these calls, and its answered
+-- seeks have told that they fed so many chunks each. A step is what the contract of the call says.
 pub data HasRun (every : ℕ) : List Call → List ℕ → State → Type 0 where
-  Opened : (profile : Profile) (tape : Tape) (new : State) → new ≡ opened profile tape every → HasRun every [] [] new
+  Opened : (profile : Profile) (tape : Tape) (new : State)
+      → new ≡ opened profile tape every → HasRun every [] [] new
   Accepted : (calls : List Call) (fed : List ℕ) (old new : State) (edit : Edit) → HasRun every calls fed old
       → new ≡ accepted edit old → HasRun every (calls ++ Edited edit ∷ []) fed new
   RefusedEdit : (calls : List Call) (fed : List ℕ) (old new : State) → HasRun every calls fed old

@@ -50,8 +50,10 @@ adds_a_chunk_too_many tape _ = false
 
 -- With its bytes the body would be longer than one can be.
 abbrev pub makes_the_body_too_long : Tape → Edit → Bool
-makes_the_body_too_long tape (Insert at delay bytes) = nat_lt longest_body (body_len (edited tape (Insert at delay bytes)).chunks)
-makes_the_body_too_long tape (Replace at bytes) = nat_lt longest_body (body_len (edited tape (Replace at bytes)).chunks)
+makes_the_body_too_long tape (Insert at delay bytes) =
+    nat_lt longest_body (body_len (edited tape (Insert at delay bytes)).chunks)
+makes_the_body_too_long tape (Replace at bytes) =
+    nat_lt longest_body (body_len (edited tape (Replace at bytes)).chunks)
 makes_the_body_too_long tape _ = false
 
 -- Its range is empty, or goes past the end.
@@ -100,7 +102,8 @@ HasShortNumbers (Replace at bytes) = at ≤ last_moment
 HasShortNumbers (Retime at delay) = (at ≤ last_moment) × (delay ≤ last_moment)
 HasShortNumbers (Cap max) = max ≤ last_moment
 
--- A log can hold it: its line is read as the edit. Its bytes are below 256, which a list of numbers doesn't say by itself.
+-- A log can hold it: its line is read as the edit. Its bytes are below 256, which a list of numbers doesn't say by
+-- itself.
 pub record CanBeLogged (edit : Edit) : Type 0 where
   pub numbers : HasShortNumbers edit
   pub bytes : IsBytes (bytes_in edit)

@@ -12,8 +12,8 @@ pub record Tells (terminal : Seen) (reports : List ℕ) (term : Term) : Type 0 w
   pub shows : Shows terminal term
   pub sent : reports ≡ term.reports
 
--- Whatever recording becomes the session's by the edits of its log, the terminal and the reports are those that the reset
--- terminal comes to by all bytes of that recording, edited so, that are due by the moment.
+-- Whatever recording becomes the session's by the edits of its log, the terminal and the reports are those that the
+-- reset terminal comes to by all bytes of that recording, edited so, that are due by the moment.
 abbrev pub TellsMoment : State → ℕ → Seen → List ℕ → Type 0
 TellsMoment s moment terminal reports = (o : Tape) → s.recording ≡ edited_all o s.log
     → Tells terminal reports (term_at s.profile (edited_all o s.log) moment)

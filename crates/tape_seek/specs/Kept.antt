@@ -12,6 +12,7 @@ use Rattle.tape_seek.specs.declared.replay.Replay.{Replay}
 use Rattle.tape_seek.specs.Edits.{CanBeLogged}
 use Rattle.tape_seek.specs.Marks.{Marks}
 use Rattle.tape_seek.specs.Moments.{up_to}
+use Rattle.tape_seek.specs.State.{State}
 
 -- all that was sent by the first chunks
 abbrev pub sent_after : Profile → List Chunk → ℕ → List ℕ
@@ -20,6 +21,16 @@ sent_after profile chunks count = sent (reset_term_as profile) (first chunks cou
 -- where the replay stands, as its session tells it
 abbrev pub marks_of : Replay → Marks
 marks_of r = record { frontier = r.frontier; head = r.head }
+
+-- a session as a plain value, by its recording, its log and its replay
+abbrev pub state_of : Tape → List Edit → Replay → State
+state_of tape log r = record {
+  profile = r.profile;
+  recording = tape;
+  log = log;
+  every = r.every;
+  marks = marks_of r;
+}
 
 -- Which terminal plays, and how many chunks lie between stored terminals, stays.
 pub record PlaysOn (old new : Replay) : Type 0 where

@@ -22,7 +22,8 @@ first_marks = record { frontier = 0; head = 0 }
 abbrev pub after_cut : ℕ → ℕ → Marks → Marks
 after_cut every first marks =
     let frontier = min marks.frontier first in
-    record { frontier = frontier; head = if nat_le marks.head frontier then marks.head else multiple_below every frontier }
+    let head = if nat_le marks.head frontier then marks.head else multiple_below every frontier in
+    record { frontier = frontier; head = head }
 
 -- the edit touches this chunk first, if any
 abbrev pub after_touching : ℕ → Option ℕ → Marks → Marks
@@ -41,7 +42,8 @@ after_seek count marks = record { frontier = max marks.frontier count; head = co
 abbrev pub after_refused_seek : ℕ → Marks → Marks
 after_refused_seek every marks = record { frontier = marks.frontier; head = multiple_below every marks.frontier }
 
--- where a seek to this count starts: the latest of the stored terminals, the head and the reset terminal that isn't past it
+-- where a seek to this count starts: the latest of the stored terminals, the head and the reset terminal that isn't
+-- past it
 abbrev pub start_of : ℕ → ℕ → Marks → ℕ
 start_of every count marks =
     let stored = multiple_below every (min count marks.frontier) in

@@ -20,7 +20,7 @@ ghost use Rattle.vt_term.specs.Seen.{Shows};
 ghost use Rattle.vt_term.specs.Sink.{HasRoom, KeepsFront, after_sending};
 ghost use Rattle.vt_term.specs.Term.{Term, play, reset_term_as, sent};
 ghost use Rattle.tape_seek.specs.Kept.{HasSent, HoldsUpTo, IsAhead, IsKept, IsPlaying, IsReplay, PlaysOn, SameFront, SendsNext, ShowsHead, Stores, marks_of, sent_after};
-ghost use Rattle.tape_seek.specs.Marks.{Marks, after_cut, fed_by, multiple_below, start_of};
+ghost use Rattle.tape_seek.specs.Marks.{Marks, after_cut, after_refused_seek, after_seek, fed_by, first_marks, multiple_below, start_of};
 ghost use Rattle.tape_seek.specs.Moments.{up_to};
 
 use std::alloc::{AllocError, Global};
@@ -68,8 +68,7 @@ impl Replay {
         ensures replay { (chunks : List Chunk) → IfOk result (λ r. IsReplay chunks r) }
         ensures profile { IfOk result (λ r. r.profile ≡ profile) }
         ensures every { IfOk result (λ r. r.every ≡ every) }
-        ensures frontier { IfOk result (λ r. r.frontier ≡ 0) }
-        ensures head { IfOk result (λ r. r.head ≡ 0) }
+        ensures marks { IfOk result (λ r. marks_of r ≡ first_marks) }
     {
         let mut sent = Vec::new(alloc);
         sent.push(0)?;
@@ -95,12 +94,10 @@ impl Replay {
         requires within { count ≤ length chunks.now }
         ensures replay { IsReplay chunks.now self.new }
         ensures rest { PlaysOn self.old self.new }
-        ensures head { OnOk result (self.new.head ≡ count) }
-        ensures frontier { OnOk result (self.new.frontier ≡ max self.old.frontier count) }
+        ensures ok { OnOk result (marks_of self.new ≡ after_seek count (marks_of self.old)) }
+        ensures err { OnErr result
+            (marks_of self.new ≡ after_refused_seek self.old.every (marks_of self.old)) }
         ensures fed { OnOk result (self.new.fed ≡ fed_by self.old.every count (marks_of self.old)) }
-        ensures err_head { OnErr result
-            (self.new.head ≡ multiple_below self.old.every self.old.frontier) }
-        ensures err_frontier { OnErr result (self.new.frontier ≡ self.old.frontier) }
         ensures room { count ≤ self.old.frontier → IsOk result }
     {
         let frontier = self.frontier;
@@ -121,8 +118,7 @@ impl Replay {
         ensures replay { (old new : List Chunk) → IsReplay old self.old
             → SameFront old new (min self.old.frontier first) → IsReplay new self.new }
         ensures rest { PlaysOn self.old self.new }
-        ensures frontier { self.new.frontier ≡ min self.old.frontier first }
-        ensures head { self.new.head ≡ (after_cut self.old.every first (marks_of self.old)).head }
+        ensures marks { marks_of self.new ≡ after_cut self.old.every first (marks_of self.old) }
     {
         sends_in_parts();
         if first < self.frontier {
@@ -138,12 +134,10 @@ impl Replay {
         requires { (chunks : List Chunk) × IsReplay chunks self.old }
         ensures playing { (chunks : List Chunk) → IsReplay chunks self.old
             → IsPlaying chunks self.new }
-        ensures head { self.new.head ≡ start_of self.old.every count (marks_of self.old) }
         ensures before { self.new.head ≤ count }
-        ensures frontier { self.new.frontier ≡ self.old.frontier }
         ensures rest { self.new ≡ record self.old {
           working = self.new.working;
-          head = self.new.head;
+          head = start_of self.old.every count (marks_of self.old);
           reports = self.new.reports;
           fed = 0;
         } }
@@ -169,13 +163,13 @@ impl Replay {
           head = multiple_below self.old.every count;
         } }
     {
-        let place = count / self.every;
-        if place == 0 {
+        let terminals = count / self.every;
+        if terminals == 0 {
             self.working = first_terminal(self.profile);
         } else {
-            self.working.copy_from(&self.stored[place - 1]);
+            self.working.copy_from(&self.stored[terminals - 1]);
         }
-        self.head = place * self.every;
+        self.head = terminals * self.every;
     }
 
     /// Keeps what was kept up to the count, and nothing past it.
@@ -185,7 +179,6 @@ impl Replay {
         requires sent { slice_index self.old.sent.items count ≤ length self.old.reports.bytes }
         ensures kept { (chunks : List Chunk) → HoldsUpTo chunks count self.old
             → IsKept chunks self.new }
-        ensures frontier { self.new.frontier ≡ count }
         ensures rest { self.new ≡ record self.old {
           frontier = count;
           stored = self.new.stored;
@@ -207,8 +200,7 @@ impl Replay {
         requires before { self.old.head ≤ count }
         requires fed { self.old.fed ≡ 0 }
         ensures ok { OnOk result (IsReplay chunks.now self.new) }
-        ensures head { OnOk result (self.new.head ≡ count) }
-        ensures frontier { OnOk result (self.new.frontier ≡ max self.old.frontier count) }
+        ensures marks { OnOk result (marks_of self.new ≡ after_seek count (marks_of self.old)) }
         ensures fed { OnOk result (self.new.fed ≡ count - self.old.head) }
         ensures err { OnErr result (HoldsUpTo chunks.now self.old.frontier self.new) }
         ensures rest { PlaysOn self.old self.new }
@@ -228,9 +220,8 @@ impl Replay {
         requires within { self.old.head < length chunks.now }
         requires fed { self.old.fed ≤ self.old.head }
         ensures ok { OnOk result (IsPlaying chunks.now self.new) }
-        ensures head { OnOk result (self.new.head ≡ self.old.head + 1) }
-        ensures frontier { OnOk result
-            (self.new.frontier ≡ max self.old.frontier (self.old.head + 1)) }
+        ensures marks { OnOk result
+            (marks_of self.new ≡ after_seek (self.old.head + 1) (marks_of self.old)) }
         ensures fed { OnOk result (self.new.fed ≡ self.old.fed + 1) }
         ensures err { OnErr result (HoldsUpTo chunks.now self.old.frontier self.new) }
         ensures rest { PlaysOn self.old self.new }

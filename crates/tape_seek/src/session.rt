@@ -1,5 +1,5 @@
 //! Sessions over a recording.
-ghost use Rattle.std.specs.Prelude.{◌≡◌, ◌+◌, ◌/◌, ◌<◌, ◌≤◌, ℕ, None, All, length, unwrap_or, vec_capacity, vec_len, IfOk, IfErr, OnOk, OnErr, IsOk, ⊤};
+ghost use Rattle.std.specs.Prelude.{◌≡◌, ◌+◌, ◌/◌, ◌<◌, ◌≤◌, ℕ, None, All, length, unwrap_or, vec_capacity, vec_len, IfOk, IfErr, OnOk, OnErr, IsOk};
 ghost use Rattle.tape_core.specs.Due.{due_count};
 ghost use Rattle.tape_core.specs.Tape.{Tape, fits};
 ghost use Rattle.tape_seek.specs.Edits.{CanBeLogged, edit_fault, edited, edited_all};
@@ -39,15 +39,9 @@ impl Model for Session {
 
     ghost Value = { State };
 
-    ghost use Rattle.tape_seek.specs.Kept.{IsSound};
+    ghost use Rattle.tape_seek.specs.Kept.{IsSound, state_of};
 
-    ghost view = { λ s. record {
-      profile = s.replay.profile;
-      recording = s.recording;
-      log = s.log.items;
-      every = s.replay.every;
-      marks = record { frontier = s.replay.frontier; head = s.replay.head };
-    } };
+    ghost view = { λ s. state_of s.recording s.log.items s.replay };
 
     ghost invariant = { λ s. IsSound s.recording s.log.items s.replay };
 }
@@ -63,12 +57,10 @@ pub struct View<'a> {
 
 impl Session {
     ghost use Rattle.std.specs.Borrow.{sem};
-    ghost use denote.Follow.{follows_so};
-    ghost use mathlib.Core.Option.{none};
-    ghost use Rattle.tape_seek.specs.contracts.session.Session.{the_row};
     ghost use Rattle.tape_seek.specs.Headline.{TellsCount, TellsMoment};
+    ghost use Rattle.tape_seek.specs.Lending.{LeavesSought};
     ghost use Rattle.tape_seek.specs.Moments.{term_at, up_to};
-    ghost use Rattle.tape_seek.specs.State.{KeepsHistory, Leaves, accepted, opened};
+    ghost use Rattle.tape_seek.specs.State.{KeepsHistory, accepted, opened};
 
     /// Opens a session of a VT100, with a terminal stored at every so many chunks. For want of memory the recording comes
     /// back.
@@ -136,9 +128,8 @@ impl Session {
 
     /// Goes to a moment, in microseconds: to the chunks that are due by then.
     pub fn seek(&mut self, moment: u64) -> Result<View<'_>, OutOfMemory>
-        ensures* state { sem 𝓛 (follows_so the_row the_row self.entry.ghost_name none (λ _ _. ⊤)
-            (λ new. Leaves result (due_count self.old.recording.chunks moment) self.old new
-            × KeepsHistory self.old new)) }
+        ensures* state { sem 𝓛
+            (LeavesSought self.entry result (due_count self.old.recording.chunks moment)) }
         // The headline: of the recording that the session was opened with, edited by the log.
         ensures headline { IfOk result (λ view.
             TellsMoment self.old moment view.terminal.now view.reports.now) }
@@ -169,8 +160,7 @@ impl Session {
     /// Goes to a count of chunks.
     pub fn seek_count(&mut self, count: usize) -> Result<View<'_>, OutOfMemory>
         requires { count ≤ length self.old.recording.chunks }
-        ensures* state { sem 𝓛 (follows_so the_row the_row self.entry.ghost_name none (λ _ _. ⊤)
-            (λ new. Leaves result count self.old new × KeepsHistory self.old new)) }
+        ensures* state { sem 𝓛 (LeavesSought self.entry result count) }
         ensures headline { IfOk result (λ view.
             TellsCount self.old count view.terminal.now view.reports.now) }
         ensures shows { IfOk result (λ view.

@@ -12,7 +12,7 @@ pub go_back-requires-clause-stored : goal.go_back-requires-clause-stored
 go_back-requires-clause-stored c =
     let chunks = c.requires.0 in
     let kept = c.keep_up_to.ensures.kept chunks (holds_less c.sends_in_parts.ensures chunks c.args.first c.args.self.now.frontier c.args.self.now (omega arith) c.requires.1.kept.holds) in
-    omega (arith, kept.terminals, ap (λ n. n / c.keep_up_to.new.self.every) c.keep_up_to.ensures.frontier)
+    omega (arith, kept.terminals, ap (λ n. n / c.keep_up_to.new.self.every) (ap (λ x. x.frontier) c.keep_up_to.ensures.rest))
 
 pub returns-then-self-first-clause-replay : goal.returns-then-self-first-clause-replay
 returns-then-self-first-clause-replay c = λ old new replay same.
@@ -20,8 +20,8 @@ returns-then-self-first-clause-replay c = λ old new replay same.
     let front : SameFront old new c.args.first = subst (SameFront old new) least same in
     let holds = same_holds old new c.args.first c.args.self.now front (holds_less c.sends_in_parts.ensures old c.args.first c.args.self.now.frontier c.args.self.now (omega arith) replay.kept.holds) in
     let kept = c.keep_up_to.ensures.kept new holds in
-    let here : HoldsUpTo new c.args.first c.keep_up_to.new.self = subst (λ n. HoldsUpTo new n c.keep_up_to.new.self) c.keep_up_to.ensures.frontier kept.holds in
-    back_replay new c.keep_up_to.new.self c.go_back.new.self c.args.first kept (omega (arith, c.keep_up_to.ensures.frontier)) c.go_back.ensures.rest (c.go_back.ensures.working new here)
+    let here : HoldsUpTo new c.args.first c.keep_up_to.new.self = subst (λ n. HoldsUpTo new n c.keep_up_to.new.self) (ap (λ x. x.frontier) c.keep_up_to.ensures.rest) kept.holds in
+    back_replay new c.keep_up_to.new.self c.go_back.new.self c.args.first kept (omega (arith, (ap (λ x. x.frontier) c.keep_up_to.ensures.rest))) c.go_back.ensures.rest (c.go_back.ensures.working new here)
 
 pub returns-else-self-first-clause-replay : goal.returns-else-self-first-clause-replay
 returns-else-self-first-clause-replay c = λ old new replay same.
@@ -29,7 +29,7 @@ returns-else-self-first-clause-replay c = λ old new replay same.
     let front : SameFront old new c.args.first = subst (SameFront old new) least same in
     let holds = same_holds old new c.args.first c.args.self.now front (holds_less c.sends_in_parts.ensures old c.args.first c.args.self.now.frontier c.args.self.now (omega arith) replay.kept.holds) in
     let kept = c.keep_up_to.ensures.kept new holds in
-    cut_replay old new c.args.self.now c.keep_up_to.new.self c.args.first front replay kept c.keep_up_to.ensures.frontier (ap (λ x. x.profile) c.keep_up_to.ensures.rest) (ap (λ x. x.head) c.keep_up_to.ensures.rest) (ap (λ x. x.working) c.keep_up_to.ensures.rest) (omega (arith, (ap (λ x. x.head) c.keep_up_to.ensures.rest)))
+    cut_replay old new c.args.self.now c.keep_up_to.new.self c.args.first front replay kept (ap (λ x. x.frontier) c.keep_up_to.ensures.rest) (ap (λ x. x.profile) c.keep_up_to.ensures.rest) (ap (λ x. x.head) c.keep_up_to.ensures.rest) (ap (λ x. x.working) c.keep_up_to.ensures.rest) (omega (arith, (ap (λ x. x.head) c.keep_up_to.ensures.rest)))
 
 pub returns-else-first-self-clause-replay : goal.returns-else-first-self-clause-replay
 returns-else-first-self-clause-replay c = λ old new replay same.

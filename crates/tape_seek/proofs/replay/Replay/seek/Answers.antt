@@ -1,4 +1,4 @@
-use Rattle.std.proofs.Common.{◌≡◌, sym, subst, arith, ◌∙◌}
+use Rattle.std.proofs.Common.{◌≡◌, ap, sym, subst, arith, ◌∙◌}
 use Rattle.std.specs.Prelude.{Result, Ok, Err, OnErr, is_err, true}
 use Rattle.std.proofs.lemmas.Bool.{false≢true}
 use Rattle.tape_seek.specs.Kept.{HoldsUpTo}
@@ -14,6 +14,6 @@ returns-then-is_err-clause-replay c =
     let chunks = c.args.chunks.now in
     let frontier = c.args.self.now.frontier in
     let refused : HoldsUpTo chunks c.start.new.self.frontier c.feed_to.new.self = on_err c.feed_to.result (sym c.is_err.ensures.value ∙ c.if-is_err.true) c.feed_to.ensures.err in
-    let kept = c.keep_up_to.ensures.kept chunks (subst (λ n. HoldsUpTo chunks n c.feed_to.new.self) c.start.ensures.frontier refused) in
-    let here : HoldsUpTo chunks frontier c.keep_up_to.new.self = subst (λ n. HoldsUpTo chunks n c.keep_up_to.new.self) c.keep_up_to.ensures.frontier kept.holds in
-    back_replay chunks c.keep_up_to.new.self c.go_back.new.self frontier kept (omega (arith, c.keep_up_to.ensures.frontier)) c.go_back.ensures.rest (c.go_back.ensures.working chunks here)
+    let kept = c.keep_up_to.ensures.kept chunks (subst (λ n. HoldsUpTo chunks n c.feed_to.new.self) (ap (λ x. x.frontier) c.start.ensures.rest) refused) in
+    let here : HoldsUpTo chunks frontier c.keep_up_to.new.self = subst (λ n. HoldsUpTo chunks n c.keep_up_to.new.self) (ap (λ x. x.frontier) c.keep_up_to.ensures.rest) kept.holds in
+    back_replay chunks c.keep_up_to.new.self c.go_back.new.self frontier kept (omega (arith, (ap (λ x. x.frontier) c.keep_up_to.ensures.rest))) c.go_back.ensures.rest (c.go_back.ensures.working chunks here)

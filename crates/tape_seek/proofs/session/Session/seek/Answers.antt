@@ -8,7 +8,7 @@ use Rattle.tape_seek.specs.Headline.{Tells}
 use Rattle.tape_seek.specs.Marks.{fed_by}
 use Rattle.tape_seek.specs.Moments.{term_at, up_to}
 use Rattle.tape_seek.specs.State.{sought}
-use Rattle.tape_seek.proofs.SessionLemmas.{reports_up_to, same_marks, shows_up_to}
+use Rattle.tape_seek.proofs.SessionLemmas.{reports_up_to, marked, shows_up_to}
 use Rattle.tape_seek.proofs.session.Session.seek.Goals as goal
 
 pub returns : goal.returns
@@ -23,14 +23,14 @@ returns c =
     let due : count ≡ due_count old.recording.chunks moment = c.due_count-count.ensures.count ∙ ap (λ s. due_count s.recording.chunks moment) c.self.view_is in
     let term : term_at old.profile old.recording moment ≡ up_to old.profile old.recording.chunks count = ap (play (reset_term_as old.profile)) (c.due_is_first.ensures old.recording.chunks moment) ∙ ap (up_to old.profile old.recording.chunks) (sym due) in
     let tells : Tells c.seek.new.self.working c.sent_by.result.now (term_at old.profile old.recording moment) = record {
-      shows = subst (λ (x : Term). Shows c.seek.new.self.working x) (sym term) (shows_up_to old.profile chunks old.recording c.seek.new.self count plays same went.replay went.head);
+      shows = subst (λ (x : Term). Shows c.seek.new.self.working x) (sym term) (shows_up_to old.profile chunks old.recording c.seek.new.self count plays same went.replay (ap (λ m. m.head) went.ok));
       sent = reports_up_to c.sent_is_appended.ensures old.profile c.seek.new.self.profile chunks old.recording c.sent_by.result.now count plays same (c.sent_by.ensures chunks went.replay) ∙ ap (λ (x : Term). x.reports) (sym term);
     } in (
       (
         refl,
         λ _. tt,
         (
-          same_marks _ _ went.rest.profile refl refl went.rest.every went.frontier went.head ∙ ap (sought count) c.self.view_is ∙ ap (λ n. sought n old) due,
+          marked _ _ _ _ _ went.rest went.ok ∙ ap (sought count) c.self.view_is ∙ ap (λ n. sought n old) due,
           λ o before. ap (λ s. s.recording) c.self.view_is ∙ before ∙ sym (ap (λ s. edited_all o s.log) c.self.view_is),
         ),
       ),

@@ -5,7 +5,7 @@ use Rattle.tape_seek.specs.Headline.{Tells}
 use Rattle.tape_seek.specs.Marks.{fed_by}
 use Rattle.tape_seek.specs.Moments.{up_to}
 use Rattle.tape_seek.specs.State.{sought}
-use Rattle.tape_seek.proofs.SessionLemmas.{reports_up_to, same_marks, shows_up_to}
+use Rattle.tape_seek.proofs.SessionLemmas.{reports_up_to, marked, shows_up_to}
 use Rattle.tape_seek.proofs.session.Session.seek_count.Goals as goal
 
 pub returns : goal.returns
@@ -16,14 +16,14 @@ returns c =
     let went = c.in_ok-seek.ensures in
     let plays = went.rest.profile ∙ ap (λ s. s.profile) c.self.view_is in
     let tells : Tells c.seek.new.self.working c.sent_by.result.now (up_to c.args.self.now.profile c.args.self.now.recording.chunks count) = record {
-      shows = shows_up_to c.args.self.now.profile chunks c.args.self.now.recording c.seek.new.self count plays same went.replay went.head;
+      shows = shows_up_to c.args.self.now.profile chunks c.args.self.now.recording c.seek.new.self count plays same went.replay (ap (λ m. m.head) went.ok);
       sent = reports_up_to c.sent_is_appended.ensures c.args.self.now.profile c.seek.new.self.profile chunks c.args.self.now.recording c.sent_by.result.now count plays same (c.sent_by.ensures chunks went.replay);
     } in (
       (
         refl,
         λ _. tt,
         (
-          same_marks _ _ went.rest.profile refl refl went.rest.every went.frontier went.head ∙ ap (sought count) c.self.view_is,
+          marked _ _ _ _ _ went.rest went.ok ∙ ap (sought count) c.self.view_is,
           λ o old. ap (λ s. s.recording) c.self.view_is ∙ old ∙ sym (ap (λ s. edited_all o s.log) c.self.view_is),
         ),
       ),
