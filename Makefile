@@ -2,7 +2,7 @@
 PREFIX ?= /usr/local
 SOURCES := crates.txt $(shell find crates -name out -prune -o -type f -print)
 
-.PHONY: all quick demo lint test soak install clean
+.PHONY: all quick demo lint test soak install uninstall clean
 
 all: bin/typetool
 
@@ -27,6 +27,7 @@ lint:
 	tests/edits_apply.py
 	tests/reading.py
 	tests/pages.py
+	tests/manual.py
 	tests/lint.sh
 
 # The scripts run the program that the gate has proved and built. The 1st and the 16th growth of each test of refused growths
@@ -38,6 +39,7 @@ test: lint
 	tests/recordings.sh bin/typetool
 	tests/program.sh bin/typetool
 	tests/readme.py bin/typetool
+	tests/installed.sh
 	tests/limits.py bin/typetool
 	tests/memory.py bin/typetool
 	tests/damage.py bin/typetool 500
@@ -50,9 +52,22 @@ soak: bin/typetool
 	tests/refused.py
 	tests/edits.sh
 
+# The program, its manual page, and what shells complete of its command line.
+man1 := $(DESTDIR)$(PREFIX)/share/man/man1
+bash := $(DESTDIR)$(PREFIX)/share/bash-completion/completions
+zsh := $(DESTDIR)$(PREFIX)/share/zsh/site-functions
+fish := $(DESTDIR)$(PREFIX)/share/fish/vendor_completions.d
+
 install: bin/typetool
-	install -d $(DESTDIR)$(PREFIX)/bin
+	install -d $(DESTDIR)$(PREFIX)/bin $(man1) $(bash) $(zsh) $(fish)
 	install -m 755 bin/typetool $(DESTDIR)$(PREFIX)/bin/typetool
+	install -m 644 man/typetool.1 $(man1)/typetool.1
+	install -m 644 completions/typetool.bash $(bash)/typetool
+	install -m 644 completions/_typetool $(zsh)/_typetool
+	install -m 644 completions/typetool.fish $(fish)/typetool.fish
+
+uninstall:
+	rm -f $(DESTDIR)$(PREFIX)/bin/typetool $(man1)/typetool.1 $(bash)/typetool $(zsh)/_typetool $(fish)/typetool.fish
 
 clean:
 	rm -rf bin crates/*/out

@@ -7,7 +7,7 @@
 # there is passed over with a sentence that says so. The last line is 'N passed, M failed'.
 set -u
 cd "$(dirname "$0")/.." || exit 2
-shell=(tests/*.sh bench/*.sh .ci/run)
+shell=(tests/*.sh bench/*.sh completions/typetool.bash .ci/run)
 python=(tests/*.py bench/*.py examples/*.py)
 passed=0 failed=0
 

@@ -1,0 +1,26 @@
+# shellcheck shell=bash
+# Completion of typetool's command line for bash.
+_typetool() {
+    local word=${COMP_WORDS[COMP_CWORD]} last=${COMP_WORDS[COMP_CWORD - 1]} flags
+    local -A taken=(
+        [due]='--at --help' [info]='--help' [screen]='--at --escaped --profile --help' [save]='--help'
+        [changes]='--from --to --profile --help' [reports]='--at --profile --help' [session]='--every --profile --help'
+    )
+    if [ "$COMP_CWORD" = 1 ]; then
+        mapfile -t COMPREPLY < <(compgen -W "${!taken[*]} --help" -- "$word")
+        return
+    fi
+    case $last in
+    --profile) mapfile -t COMPREPLY < <(compgen -W 'vt100 vt102' -- "$word") ;;
+    --at | --from | --to | --every) COMPREPLY=() ;;
+    *)
+        flags=${taken[${COMP_WORDS[1]}]-}
+        if [[ $word == -* ]]; then
+            mapfile -t COMPREPLY < <(compgen -W "$flags" -- "$word")
+        else
+            mapfile -t COMPREPLY < <(compgen -f -- "$word")
+        fi
+        ;;
+    esac
+}
+complete -o filenames -F _typetool typetool

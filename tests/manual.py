@@ -1,0 +1,138 @@
+#!/usr/bin/env python3
+"""Whether the manual page and the completions say what the help texts of tests/help say.
+
+    tests/manual.py
+
+The page has each command with its sentence, each flag and each argument with its text, each request and fault, and
+no command or flag besides; man finds nothing wrong with it. Each shell that is there offers just the commands, and for
+each command just its flags. The last line is 'N passed, M failed'.
+"""
+import glob
+import os
+import re
+import shutil
+import subprocess
+import sys
+
+TOP = os.path.join(os.path.dirname(os.path.abspath(__file__)), "..")
+PAGE = os.path.join(TOP, "man", "typetool.1")
+passed, failed = 0, 0
+
+
+def check(name, got, wanted):
+    global passed, failed
+    if got == wanted:
+        passed += 1
+    else:
+        failed += 1
+        print(f"FAILED {name}: {got}, wanted {wanted}")
+
+
+def read(path):
+    with open(path, encoding="utf-8") as file:
+        return file.read()
+
+
+def helps():
+    """The help text of each command."""
+    paths = sorted(glob.glob(os.path.join(TOP, "tests", "help", "*.txt")))
+    texts = {os.path.basename(path)[:-4]: read(path) for path in paths}
+    texts.pop("typetool")
+    return texts
+
+
+def spoken(text):
+    """Words as a page has them once it is laid out, without roff's requests and escapes."""
+    text = re.sub(r"\\f.|\\&", "", text.replace(r"\-", "-").replace(r"\~", " ").replace(r"\(aq", "'"))
+    text = re.sub(r"^\.(TP|PP|SH|YS|SY|BR|BI|IR|B|I|OP) ?", "", text, flags=re.MULTILINE)
+    return " ".join(text.split())
+
+
+def flags_of(text):
+    return set(re.findall(r"^ +(?:-h, )?(--[a-z]+)", text, flags=re.MULTILINE))
+
+
+def sentences(text):
+    """What a help text says of its command, and of each argument and flag."""
+    yield text.split("\n", 1)[0]
+    for line in re.findall(r"^ +(?:<|-).*$", text, flags=re.MULTILINE):
+        yield re.split(r"  +", line.strip(), maxsplit=1)[1]
+
+
+def requests(text):
+    """The request words and faults of a help text."""
+    forms = r"\b(?:insert AT|delete FROM|replace AT|retime AT|cap SECONDS)|^E[1-8] .*$"
+    return set(re.findall(forms, text, flags=re.MULTILINE))
+
+
+def in_page():
+    page = spoken(read(PAGE))
+    texts = helps()
+    for command, text in texts.items():
+        missing = [sentence for sentence in sentences(text) if sentence.rstrip(".)") not in page]
+        missing += [words for words in requests(text) if " ".join(words.split()) not in page]
+        check(f"the page on {command}", missing, [])
+    flags = set().union(*map(flags_of, texts.values()))
+    check("the page's flags", set(re.findall(r"--[a-z]+", page)) - {"--log", "--logging"}, flags)
+    listed = re.search(r"^\.SH COMMANDS\n(.*?)^\.SH", read(PAGE), flags=re.MULTILINE | re.DOTALL)[1]
+    check("the page's commands", set(re.findall(r"^\.TP\n\.B ([a-z]+)$", listed, flags=re.MULTILINE)), set(texts))
+
+
+def warnings():
+    if not shutil.which("man"):
+        print("manual: man's warnings are passed over, since it isn't installed (apt-get install man-db)")
+        return
+    words = ["man", "--warnings", "-E", "UTF-8", "-l", "-Tutf8", "-Z", PAGE]
+    told = subprocess.run(words, capture_output=True, text=True, env={**os.environ, "LC_ALL": "C.UTF-8"})
+    check("man's warnings", (told.returncode, told.stderr), (0, ""))
+
+
+# How a shell is asked for what it offers behind some words; each prints a word a line.
+BASH = """
+source completions/typetool.bash
+COMP_WORDS=("$@"); COMP_CWORD=$(($# - 1)); _typetool
+printf '%s\\n' "${COMPREPLY[@]}"
+"""
+FISH = "source completions/typetool.fish; complete --do-complete (string join ' ' -- $argv)"
+
+
+def offered(shell, *words):
+    script = {"bash": ["bash", "-c", BASH, "bash"], "fish": ["fish", "--no-config", "-c", FISH]}[shell]
+    told = subprocess.run([*script, *words], cwd=TOP, capture_output=True, text=True)
+    return {line.split("\t")[0] for line in told.stdout.splitlines() if line}
+
+
+def in_shells():
+    texts = helps()
+    for shell in ("bash", "fish"):
+        if not shutil.which(shell):
+            print(f"manual: {shell} is passed over, since it isn't installed (apt-get install {shell})")
+            continue
+        check(f"{shell}: commands", {word for word in offered(shell, "typetool", "") if word[0] != "-"}, set(texts))
+        for command, text in texts.items():
+            check(f"{shell}: {command}", offered(shell, "typetool", command, "--"), flags_of(text))
+        check(f"{shell}: profiles", offered(shell, "typetool", "screen", "--profile", "vt"), {"vt100", "vt102"})
+    check("bash: files", "README.md" in offered("bash", "typetool", "info", "READ"), True)
+    check("bash: no moments", offered("bash", "typetool", "due", "--at", ""), set())
+
+
+def in_zsh():
+    """zsh's completion needs a terminal to be tried; its text has the commands and the flags."""
+    text = read(os.path.join(TOP, "completions", "_typetool"))
+    for command, words in helps().items():
+        arm = re.search(rf"^    {command}\)(.*?);;", text, flags=re.MULTILINE | re.DOTALL)
+        said = arm[1] if arm else ""
+        flags = set(re.findall(r"--[a-z]+", said)) | {"--help"} | ({"--profile"} if "$profile" in said else set())
+        check(f"zsh: {command}", flags, flags_of(words))
+        check(f"zsh: {command} is described", f"'{command}:" in text, True)
+    if shutil.which("zsh"):
+        told = subprocess.run(["zsh", "-n", "completions/_typetool"], cwd=TOP, capture_output=True, text=True)
+        check("zsh: reads", (told.returncode, told.stderr), (0, ""))
+
+
+in_page()
+warnings()
+in_shells()
+in_zsh()
+print(f"{passed} passed, {failed} failed")
+sys.exit(failed != 0)
