@@ -6,3 +6,4 @@ mod Taken
 mod Sinks
 mod Feeding
 mod Printed
+mod Rowless

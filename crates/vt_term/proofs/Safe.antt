@@ -1,5 +1,5 @@
 -- Every command keeps a terminal safe.
-use Rattle.std.proofs.Common.{◌≡◌, ℕ, ◌-◌, ◌≤◌, Bool, true, false, List, [], ◌∷◌, length, refl, sym, ap, subst, ◌∙◌, arith}
+use Rattle.std.proofs.Common.{◌≡◌, ℕ, ◌≤◌, Bool, true, false, List, [], ◌∷◌, length, refl, sym, ap, subst, ◌∙◌, arith}
 use Rattle.std.specs.Prelude.{if◌then◌else◌, fold, Option, Some, None}
 use Rattle.std.proofs.lemmas.Bool.Decides.{nat_tests}
 use Rattle.std.proofs.lemmas.List.{length-set}
@@ -21,13 +21,14 @@ use Rattle.vt_term.specs.declared.sets.CharacterSet.TheVariants.{Ascii}
 use Rattle.vt_term.specs.declared.sets.Slot.{Slot}
 use Rattle.vt_term.specs.declared.modes.Modes.{Modes}
 use Rattle.vt_term.specs.declared.profile.Profile.{Profile}
+use Rattle.vt_term.specs.declared.profile.Profile.TheVariants.{Vt100, Vt102}
 use Rattle.vt_term.specs.declared.saved.Saved.{Saved}
 use Rattle.vt_term.specs.Sets.{glyph_of, checkerboard, set_in_use}
 use Rattle.vt_term.specs.Console.{Console, IsSafe, IsSavedWell, reset_console, on_picture, effect_of}
 use Rattle.vt_term.specs.Rows.{named}
 use Rattle.vt_term.specs.Controls.{Control, Bs, Ht, Lf, Cr, So, Si, control_named, control_effect, line_fed, invoked}
 use Rattle.vt_term.specs.Escapes.{Escape, Ind, Nel, Ri, Hts, Decid, Ris, Decsc, Decrc, Deckpam, Deckpnm, DecdhlTop, DecdhlBottom, Decswl, Decdwl, Decaln, Scs, escape_named, escape_effect, restored}
-use Rattle.vt_term.specs.Sequences.{Sequence, Cuu, Cud, Cuf, Cub, Cup, Ed, El, Il, Dl, Dch, Decstbm, Tbc, Sgr, Sm, Rm, Decll, sequence_named, sequence_effect, first_of, second_of, counted, or_default, leds_set, ansi_mode_set}
+use Rattle.vt_term.specs.Sequences.{Sequence, Cuu, Cud, Cuf, Cub, Cup, Ed, El, Il, Dl, Dch, Decstbm, Tbc, Sgr, Sm, Rm, Decll, sequence_named, sequence_effect, first_of, second_of, counted, or_default, leds_set, AnsiMode, Irm, Lnm, ansi_modes, ansi_mode_done, ansi_mode_set}
 use Rattle.vt_term.specs.PrivateModes.{PrivateMode, Decanm, Deccolm, Decom, Decawm, private_modes, switches, mode_effect, mode_set, modes_set, private_effect}
 use Rattle.vt_term.specs.Vt52.{Vt52Sequence, Up, Down, Right, Left, Home, ReverseIndex, EraseDisplay, EraseLine, vt52_named, vt52_effect}
 use Rattle.vt_term.specs.Effect.{effect, glyph_shown, glyph_for, control_sequence_effect}
@@ -135,10 +136,18 @@ leds_kept : (params : List ℕ) (leds : List Bool) → length leds ≡ 4 → len
 leds_kept [] leds four = four
 leds_kept (param ∷ params) leds four = leds_kept params (leds_set leds param) (grind (arith, nat_tests, length-set {A = Bool}))
 
+ansi_mode_origin : (profile : Profile) (value : Bool) (mode : Option AnsiMode) (modes : Modes)
+    → (ansi_mode_done profile value mode modes).origin ≡ modes.origin
+ansi_mode_origin profile value None modes = refl
+ansi_mode_origin profile value (Some Lnm) modes = refl
+ansi_mode_origin Vt100 value (Some Irm) modes = refl
+ansi_mode_origin Vt102 value (Some Irm) modes = refl
+
 origin_kept : (profile : Profile) (value : Bool) (params : List ℕ) (modes : Modes)
     → (fold (ansi_mode_set profile value) modes params).origin ≡ modes.origin
 origin_kept profile value [] modes = refl
-origin_kept profile value (param ∷ params) modes = origin_kept profile value params (ansi_mode_set profile value modes param) ∙ grind (arith, nat_tests)
+origin_kept profile value (param ∷ params) modes =
+    origin_kept profile value params (ansi_mode_set profile value modes param) ∙ ansi_mode_origin profile value (named ansi_modes param) modes
 
 safe_invoked : (slot : Slot) (mode : Mode) (s : Console) → IsSafe s → IsSafe (invoked slot mode s)
 safe_invoked slot Ansi s safe = safe_else s _ refl refl refl refl safe

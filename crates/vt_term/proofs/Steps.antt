@@ -34,7 +34,7 @@ control_mode (Some So) s = invoked_mode _ s.modes.mode s
 control_mode (Some Si) s = invoked_mode _ s.modes.mode s
 control_mode _ s = refl
 
-effect_mode : (command : Command) (s : Console) → is_sequence command ≡ false → (effect command s).modes.mode ≡ s.modes.mode
+pub effect_mode : (command : Command) (s : Console) → is_sequence command ≡ false → (effect command s).modes.mode ≡ s.modes.mode
 unfolding effect
 effect_mode (Show byte) s is = refl
 effect_mode Error s is = refl

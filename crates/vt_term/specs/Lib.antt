@@ -9,6 +9,7 @@ pub mod PrivateModes
 pub mod Vt52
 pub mod Replies
 pub mod Effect
+pub mod Played
 pub mod Term
 pub mod Seen
 pub mod Sink

@@ -1,5 +1,5 @@
 -- Control sequences of ANSI mode without `?` (EK-VT100-UG chapter 3).
-use Rattle.std.specs.Prelude.{ℕ, ◌-◌, Bool, true, false, List, [], ◌∷◌, Option, ◌==◌, ◌&&◌, nat_le, fold, slice_index, slice_set, if◌then◌else◌}
+use Rattle.std.specs.Prelude.{ℕ, ◌-◌, Bool, true, false, List, [], ◌∷◌, Option, Some, None, ◌==◌, nat_le, fold, slice_index, slice_set, if◌then◌else◌}
 use Rattle.vt_screen.specs.Attributes.{Attributes, plain}
 use Rattle.vt_screen.specs.Picture.{Picture}
 use Rattle.vt_screen.specs.Moves.{stepped_up, stepped_down, stepped_right, stepped_left, placed}
@@ -47,6 +47,13 @@ sequences =
 abbrev pub sequence_named : ℕ → Option Sequence
 sequence_named = named sequences
 
+-- IL, DL and DCH are rows of a VT102 alone (VT102 User Guide)
+abbrev pub is_row_of : Profile → Sequence → Bool
+is_row_of profile Il = has_editing profile
+is_row_of profile Dl = has_editing profile
+is_row_of profile Dch = has_editing profile
+is_row_of profile _ = true
+
 -- the first and the second parameter; a missing one is 0 (ECMA-48 section 5.4.2)
 abbrev pub first_of : List ℕ → ℕ
 first_of params = slice_index params 0
@@ -83,12 +90,35 @@ rendition_set a param =
     else (if param == 7 then record a { reverse = true }
     else a))))
 
--- SM and RM: 20 is LNM (EK-VT100-UG chapter 3), and with VT102 editing 4 is IRM (VT102 User Guide); others do nothing
+-- the modes of SM and RM
+pub data AnsiMode : Type 0 where
+  Irm Lnm : AnsiMode
+
+-- their parameters (VT102 User Guide; EK-VT100-UG chapter 3)
+abbrev pub ansi_modes : List (ℕ × AnsiMode)
+ansi_modes =
+    (4, Irm) ∷
+    (20, Lnm) ∷
+    []
+
+-- IRM is a row of a VT102 alone (VT102 User Guide)
+abbrev pub is_mode_of : Profile → AnsiMode → Bool
+is_mode_of profile Irm = has_editing profile
+is_mode_of profile Lnm = true
+
+-- what setting or resetting one does
+abbrev pub ansi_mode_effect : Profile → Bool → AnsiMode → Modes → Modes
+ansi_mode_effect profile value Irm modes = if has_editing profile then record modes { insert = value } else modes
+ansi_mode_effect profile value Lnm modes = record modes { newline = value }
+
+-- the same where a parameter may name none; then nothing is done
+abbrev pub ansi_mode_done : Profile → Bool → Option AnsiMode → Modes → Modes
+ansi_mode_done profile value None modes = modes
+ansi_mode_done profile value (Some mode) modes = ansi_mode_effect profile value mode modes
+
+-- SM and RM of one parameter
 abbrev pub ansi_mode_set : Profile → Bool → Modes → ℕ → Modes
-ansi_mode_set profile value modes param =
-    if param == 20 then record modes { newline = value }
-    else (if param == 4 && has_editing profile then record modes { insert = value }
-    else modes)
+ansi_mode_set profile value modes param = ansi_mode_done profile value (named ansi_modes param) modes
 
 -- IL, DL and DCH do nothing where the profile hasn't them (ours)
 abbrev pub where_it_edits : (Picture → Picture) → Console → Console

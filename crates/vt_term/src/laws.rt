@@ -4,6 +4,7 @@ ghost use Rattle.vt_screen.specs.Cells.{blank};
 ghost use Rattle.vt_screen.specs.Picture.{IsInRegion, cell, right_margin};
 ghost use Rattle.vt_term.specs.Law.{PlaysInParts, SendsInParts, SentIsAppended, SeenDecides, SendsLittle, StaysSafe};
 ghost use Rattle.vt_term.specs.Printing.{NothingBrings, PartsBring, CharactersBring, GlyphsAreWritten, ControlsBring, SequencesAct, EscapesBring, DesignationsBring, ControlSequencesBring, PrivateSequencesBring};
+ghost use Rattle.vt_term.specs.Played.{RowlessDoNothing, RowlessModesStay, RowlessAnsiModesStay, ModeGoesAlone};
 ghost use Rattle.vt_term.specs.Console.{IsSafe};
 ghost use Rattle.vt_term.specs.declared.profile.Profile.{Profile};
 ghost use Rattle.vt_term.specs.Term.{reset_term_as};
@@ -112,3 +113,16 @@ pub fn sequences_bring()
     whole_sequences_finish();
     decimals_are_read();
 }
+
+/// A finished sequence that has no row does nothing and isn't replied to; a parameter of `h` and `l` without a row sets
+/// nothing.
+pub fn rowless_do_nothing()
+    ensures commands { RowlessDoNothing }
+    ensures modes { RowlessModesStay }
+    ensures ansi_modes { RowlessAnsiModesStay }
+{}
+
+/// The mode that a command leaves goes by the mode before it, and by nothing else of a terminal.
+pub fn mode_goes_alone()
+    ensures { ModeGoesAlone }
+{}

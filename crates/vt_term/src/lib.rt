@@ -10,6 +10,7 @@ mod controls;
 mod escapes;
 pub mod laws;
 mod modes;
+pub mod played;
 mod private_modes;
 mod profile;
 mod replies;
