@@ -16,6 +16,5 @@ for at in 0 5 10.26 14; do
     base=$(count reports --at $at)
     plain=$(($(count screen --at $at) - base))
     escaped=$(($(count screen --escaped --at $at) - base))
-    awk -v at=$at -v plain=$plain -v escaped=$escaped \
-        'BEGIN { printf "at %s: escaped %d over plain %d: %.2f (wanted: at most 3)\n", at, escaped, plain, escaped / plain }'
+    python3 "$here/shared.py" figure "escaped over plain at $at" $escaped $plain 3
 done

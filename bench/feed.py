@@ -2,7 +2,7 @@
 import os
 import sys
 
-from shared import repeated, shipped, spent, write_recording
+from shared import figure, repeated, shipped, spent, write_recording
 
 RUNS = 3
 
@@ -38,14 +38,13 @@ FLOOD = ("printable bytes", printable, 4096)
 
 
 def main(typetool, libvterm_feed, work, mib):
-    print(f"{mib} MiB of          ours  libvterm  ratio   goal")
-    for (name, text, chunk), goal in ((APP, 0.21), (PLAIN, 0.13), (FLOOD, 0.08)):
+    for (name, text, chunk), goal in ((APP, 0.145), (PLAIN, 0.034), (FLOOD, 0.026)):
         script, timing = write_recording(work, name.split()[0], text(int(mib) << 20), chunk)
         ours = theirs = float("inf")
         for _ in range(RUNS):
             ours = min(ours, spent([typetool, "screen", "--at", "1000000000000", script, timing])[0])
             theirs = min(theirs, spent([libvterm_feed, script, timing])[0])
-        print(f"{name:<16}{ours:8.2f}{theirs:10.2f}{ours / theirs:7.3f}  {goal:.2f}", flush=True)
+        figure(f"{name} over libvterm", ours / theirs, goal, f"({ours:.2f} over {theirs:.2f} s, {mib} MiB)")
         os.remove(script)
         os.remove(timing)
 

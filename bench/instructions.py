@@ -5,7 +5,7 @@ import subprocess
 import sys
 
 from feed import APP, FLOOD, PLAIN
-from shared import write_recording
+from shared import figure, write_recording
 
 CALLGRIND = ["valgrind", "--tool=callgrind", "--callgrind-out-file=/dev/null"]
 
@@ -25,8 +25,7 @@ def main(typetool, libvterm_feed, work, mib):
         script, timing = write_recording(work, name, text(int(mib) << 20), chunk)
         ours = counted([typetool, "screen", "--at", "1000000000000", script, timing])
         theirs = counted([libvterm_feed, script, timing])
-        met = "met" if ours <= goal * theirs else "missed"
-        print(f"{name:<8}{ours / theirs:.4f}  goal {goal}  {met}  ({ours:,} over {theirs:,})", flush=True)
+        figure(f"{name} over libvterm", ours / theirs, goal, f"({ours:,} over {theirs:,} instructions)")
         os.remove(script)
         os.remove(timing)
 

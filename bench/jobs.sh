@@ -37,10 +37,9 @@ least() {
 
 # ratio ONE OTHER GOAL: the least time of one over that of the other.
 ratio() {
-    awk -v a="$(least "$1")" -v b="$(least "$2")" -v one="$1" -v other="$2" -v goal="$3" \
-        'BEGIN { printf "%s %.2f s over %s %.2f s: %.3f (wanted: at most %s)\n", one, a, other, b, a / b, goal }'
+    python3 "$here/shared.py" figure "$1 over $2" "$(least "$1")" "$(least "$2")" "$3"
 }
-ratio changes screen 2
+ratio changes screen 1.25
 ratio info read 1.1
 ratio save due 1.5
 ratio screen feed 1.1

@@ -5,7 +5,7 @@ import subprocess
 import sys
 import time
 
-from shared import shipped, spent, write_recording
+from shared import figure, shipped, spent, write_recording
 
 typetool, work, mib, libtty = sys.argv[1:]
 size = int(mib) << 20
@@ -73,10 +73,10 @@ sought = run(session(100), [end])
 all_over = run(session(100), [end] + spread)
 printed = run(session(100), [end] + [end] * places)
 beside = resident(session(100), [end] * places) - resident(session(100), ["info"] * places)
-print(f"{mib} MiB in {chunks} chunks       ours   goal")
-print(f"first seek over feeding    {(sought - opened) / (fed - opened):7.3f}   1.15")
-print(f"a seek, in ms              {1000 * (all_over - printed) / places:7.3f}   0.06")
-print(f"beside the recording, MB   {beside:7.1f}   64")
+print(f"{mib} MiB in {chunks} chunks")
+figure("first seek over feeding", (sought - opened) / (fed - opened), 1.15)
+figure("a seek, in ms", 1000 * (all_over - printed) / places, 0.06)
+figure("beside the recording, in MB", beside, 25)
 if libtty:
     words = [libtty, script, timing]
     stdin = [str(moment) for moment in moments(chunks)]

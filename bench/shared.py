@@ -3,6 +3,7 @@
 
     shared.py repeat SCRIPT TIMING BYTES OUT_SCRIPT OUT_TIMING    repeats a recording until its body has so many bytes
     shared.py measure IN OUT COMMAND..                            seconds of user and system, and the peak in KiB
+    shared.py figure NAME ONE OTHER GOAL                          one over the other, and whether that meets the goal
 
 A measured command reads the file IN and writes the file OUT.
 """
@@ -61,6 +62,12 @@ def spent(words, stdin=os.devnull, out=os.devnull):
     return usage.ru_utime + usage.ru_stime, usage.ru_maxrss
 
 
+def figure(name, value, goal, note=""):
+    """Every bench ends with a line for each figure: its name, its value, its goal, and whether it is met."""
+    met = "met" if value <= goal else "missed"
+    print(f"{name:<34}{value:9.4g}  goal {goal:<6g}  {met:<6}  {note}".rstrip(), flush=True)
+
+
 def repeat(script, timing, least, out_script, out_timing):
     header, rest = read(script).split(b"\n", 1)
     lines = read(timing)
@@ -76,6 +83,9 @@ def repeat(script, timing, least, out_script, out_timing):
 def main(job, *words):
     if job == "repeat":
         repeat(*words)
+    elif job == "figure":
+        name, one, other, goal = words
+        figure(name, float(one) / float(other), float(goal), f"({one} over {other})")
     else:
         print(*spent(words[2:], words[0], words[1]))
 
