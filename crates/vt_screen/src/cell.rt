@@ -122,6 +122,21 @@ impl Row {
         }
     }
 
+    // Makes the cells from the first one on all the same. Of a narrow line the compiler knows the length, so that its
+    // fill has no loop.
+    #[inline]
+    fn fill_front(&mut self, to: u8, cell: Cell)
+        requires whole { length self.old.cells ≡ WIDE_COLUMNS }
+        requires high { to ≤ WIDE_COLUMNS }
+        ensures { self.new ≡ filled 1 to cell self.old }
+    {
+        if to == NARROW_COLUMNS {
+            self.fill(1, NARROW_COLUMNS, cell);
+        } else {
+            self.fill(1, to, cell);
+        }
+    }
+
     /// Gives the row another size. From single to double the cells right of the middle become blank.
     pub(crate) fn resize(&mut self, size: Size, wide: bool)
         requires whole { length self.old.cells ≡ WIDE_COLUMNS }
@@ -154,7 +169,7 @@ impl Row {
         requires high { to ≤ WIDE_COLUMNS }
         ensures { self.new ≡ filled_to cell to self.old }
     {
-        self.fill(1, to, cell);
+        self.fill_front(to, cell);
         self.size = Size::Single;
     }
 

@@ -179,7 +179,7 @@ impl Grid {
         ensures order { self.new.order ≡ turned_up n top bottom self.old.order }
         ensures slots { self.new.slots ≡ self.old.slots }
     {
-        turn(&mut self.order, n as usize, top as usize, bottom as usize);
+        turn_lines(&mut self.order, n as usize, top as usize, bottom as usize);
     }
 
     /// Turns the names down by `n`.
@@ -196,7 +196,24 @@ impl Grid {
     }
 }
 
+// `turn`, for the scroll that comes most often with numbers that the compiler knows: it is a few moves then.
+#[inline]
+fn turn_lines(order: &mut [u8; LINES as usize], n: usize, top: usize, bottom: usize)
+    requires low { 1 ≤ top }
+    requires room { top + n ≤ bottom + 1 }
+    requires apart { top ≤ bottom }
+    requires high { bottom ≤ LINES }
+    ensures { order.new ≡ turned_up n top bottom order.old }
+{
+    if n == 1 && top == 1 && bottom == LINES as usize {
+        turn(order, 1, 1, LINES as usize);
+    } else {
+        turn(order, n, top, bottom);
+    }
+}
+
 /// Each line from top to bottom takes the name of the one `n` below it, the last `n` those of the first.
+#[inline]
 fn turn(order: &mut [u8; LINES as usize], n: usize, top: usize, bottom: usize)
     requires low { 1 ≤ top }
     requires room { top + n ≤ bottom + 1 }

@@ -297,7 +297,7 @@ impl Screen {
     {
         if self.line == self.bottom {
             self.scroll_up();
-            self.go_to_line(self.line);
+            self.wrap = false;
         } else {
             self.go_to_line((self.line + 1).min(LINES));
         }
@@ -312,7 +312,7 @@ impl Screen {
     {
         if self.line == self.top {
             self.scroll_down();
-            self.go_to_line(self.line);
+            self.wrap = false;
         } else {
             self.go_to_line((self.line - 1).max(1));
         }

@@ -6,5 +6,5 @@ use Rattle.vt_screen.proofs.cell.Row.fill_to.Goals as goal
 
 pub returns : goal.returns
 returns c =
-    ap (λ (r : Row). let x : Row = record { size = Single; cells = r.cells } in x) c.fill.ensures
+    ap (λ (r : Row). let x : Row = record { size = Single; cells = r.cells } in x) c.fill_front.ensures
     ∙ filled_single c.args.self.now c.args.cell c.args.to
