@@ -7,32 +7,32 @@ use Rattle.vt_screen.specs.declared.cell.Row.{Row}
 use Rattle.vt_screen.specs.Cells.{blank_row, row_at}
 use Rattle.vt_screen.specs.Picture.{Picture, margin_of}
 use Rattle.vt_screen.specs.Table.{nth}
-use Rattle.screen_print.specs.PlainText.{printed, is_space, line_text, plain_text}
+use Rattle.screen_print.specs.PlainText.{printed, is_space, printed_line, plain_text}
 
 -- what is printed of a line: all the cells that are left without the spaces at its end
-pub line_text_is : (wide : Bool) (row : Row) (margin len n : ℕ) (bytes : List ℕ) → margin ≡ margin_of wide row.size → len + suffix_len is_space (take margin row.cells) ≡ length (take margin row.cells) → length (take len (take margin row.cells)) ≤ n → bytes ≡ flat_map printed (take n (take len (take margin row.cells))) → bytes ++ 10 ∷ [] ≡ line_text wide row
-unfolding line_text
-line_text_is wide row margin len n bytes at_margin left whole same =
+pub printed_line_is : (wide : Bool) (row : Row) (margin len n : ℕ) (bytes : List ℕ) → margin ≡ margin_of wide row.size → len + suffix_len is_space (take margin row.cells) ≡ length (take margin row.cells) → length (take len (take margin row.cells)) ≤ n → bytes ≡ flat_map printed (take n (take len (take margin row.cells))) → bytes ++ 10 ∷ [] ≡ printed_line wide row
+unfolding printed_line
+printed_line_is wide row margin len n bytes at_margin left whole same =
     let shorter : len ≡ length (take margin row.cells) - suffix_len is_space (take margin row.cells) = omega arith in
     let all : take n (take len (take margin row.cells)) ≡ take len (take margin row.cells) = take_all n _ whole in
     rw (same, all, shorter, at_margin) refl
 
 -- the text of the first lines
 abbrev pub first_lines : Picture → ℕ → List ℕ
-first_lines p n = flat_map (line_text p.wide) (take n p.rows)
+first_lines p n = flat_map (printed_line p.wide) (take n p.rows)
 
 -- one line more
-pub first_lines_more : (p : Picture) (line : ℕ) → length p.rows ≡ 24 → 1 ≤ line → line ≤ 24 → first_lines p line ≡ first_lines p (line - 1) ++ line_text p.wide (row_at p.rows line)
+pub first_lines_more : (p : Picture) (line : ℕ) → length p.rows ≡ 24 → 1 ≤ line → line ≤ 24 → first_lines p line ≡ first_lines p (line - 1) ++ printed_line p.wide (row_at p.rows line)
 unfolding nth
 first_lines_more p line whole low high =
     let before : line - 1 < length p.rows = omega arith in
     let next : line - 1 + 1 ≡ line = omega arith in
     let more : take line p.rows ≡ take (line - 1) p.rows ++ get_or p.rows (line - 1) blank_row ∷ [] = ap (λ n. take n p.rows) (sym next) ∙ take_more p.rows (line - 1) blank_row before in
-    ap (flat_map (line_text p.wide)) more
-    ∙ flat_map-append (line_text p.wide) (take (line - 1) p.rows) (get_or p.rows (line - 1) blank_row ∷ [])
-    ∙ ap (λ t. first_lines p (line - 1) ++ t) (append-nil (line_text p.wide (get_or p.rows (line - 1) blank_row)))
+    ap (flat_map (printed_line p.wide)) more
+    ∙ flat_map-append (printed_line p.wide) (take (line - 1) p.rows) (get_or p.rows (line - 1) blank_row ∷ [])
+    ∙ ap (λ t. first_lines p (line - 1) ++ t) (append-nil (printed_line p.wide (get_or p.rows (line - 1) blank_row)))
 
 -- all lines
 pub all_lines : (p : Picture) → length p.rows ≡ 24 → first_lines p 24 ≡ plain_text p
 unfolding plain_text
-all_lines p whole = ap (flat_map (line_text p.wide)) (ap (λ n. take n p.rows) (sym whole) ∙ take_all (length p.rows) p.rows (omega arith))
+all_lines p whole = ap (flat_map (printed_line p.wide)) (ap (λ n. take n p.rows) (sym whole) ∙ take_all (length p.rows) p.rows (omega arith))

@@ -28,15 +28,18 @@ rows_after profile tape count = (up_to profile tape.chunks count).console.pictur
 abbrev pub spaced_number : ℕ → List ℕ
 spaced_number n = 32 ∷ decimal n
 
--- the line of a chunk: its place, when it is due, and the lines that it changes; nothing where it changes none
+-- the line of a chunk: its place, when it is due, and the lines that it changes; nothing where it
+-- changes none
 abbrev pub change_line : ℕ → ℕ → List ℕ → List ℕ
 change_line index due [] = []
-change_line index due (line ∷ more) = (decimal index ++ 32 ∷ seconds_form due) ++ flat_map spaced_number (line ∷ more) ++ 10 ∷ []
+change_line index due (line ∷ more) =
+    (decimal index ++ 32 ∷ seconds_form due) ++ flat_map spaced_number (line ∷ more) ++ 10 ∷ []
 
 -- what is written of one chunk, compared before and after it alone
 abbrev pub chunk_line : Profile → Tape → ℕ → List ℕ
 chunk_line profile tape index =
-    change_line index (due_time tape.chunks index) (changed_lines (rows_after profile tape index) (rows_after profile tape (index + 1)))
+    change_line index (due_time tape.chunks index)
+    (changed_lines (rows_after profile tape index) (rows_after profile tape (index + 1)))
 
 -- due by a moment, and after another one if it is given
 abbrev pub is_asked : Option ℕ → ℕ → ℕ → Bool
@@ -45,7 +48,8 @@ is_asked (Some from) to due = nat_lt from due && nat_le due to
 
 -- the chunks that are asked for, in order
 abbrev pub asked_places : Tape → Option ℕ → ℕ → List ℕ
-asked_places tape from to = filter (λ index. is_asked from to (due_time tape.chunks index)) (indices tape.chunks)
+asked_places tape from to =
+    filter (λ index. is_asked from to (due_time tape.chunks index)) (indices tape.chunks)
 
 -- the change lines
 unfoldable pub change_lines : Profile → Tape → Option ℕ → ℕ → List ℕ

@@ -60,7 +60,9 @@ byte_for glyph = if nat_lt glyph 32 then 95 + glyph else glyph
 -- a cell: its rendition, its slot, its byte
 abbrev pub cell_text : Pen → Cell → List ℕ
 cell_text pen cell =
-    rendition_text pen.rendition cell.rendition ++ slot_text pen.invoked (slot_for cell.glyph) ++ byte_for cell.glyph ∷ []
+    rendition_text pen.rendition cell.rendition
+    ++ slot_text pen.invoked (slot_for cell.glyph)
+    ++ byte_for cell.glyph ∷ []
 
 -- what is in force after a cell
 abbrev pub pen_of : Cell → Pen
@@ -80,7 +82,8 @@ pen_after pen (cell ∷ cells) = pen_after (pen_of cell) cells
 
 -- CUP
 abbrev pub placed_text : ℕ → ℕ → List ℕ
-placed_text line column = escape ∷ codes "[" ++ decimal line ++ codes ";" ++ decimal column ++ codes "H"
+placed_text line column =
+    escape ∷ codes "[" ++ decimal line ++ codes ";" ++ decimal column ++ codes "H"
 
 -- DECDHL for a half of double height, DECDWL for double width
 abbrev pub size_text : Size → List ℕ
@@ -97,14 +100,16 @@ is_blank cell = (cell.glyph == 32) && same_rendition cell.rendition plain
 abbrev pub inked : List Cell → List Cell
 inked cells = take (length cells - suffix_len is_blank cells) cells
 
--- whether nothing is written of a line with such cells: it has single width, and none that isn't blank
+-- whether nothing is written of a line with such cells: it has single width, and none that isn't
+-- blank
 abbrev pub is_left_out : Size → List Cell → Bool
 is_left_out size cells = is_single size && (length cells == 0)
 
 -- the line of this number: its place, its size, its cells
 unfoldable pub line_text : Pen → ℕ → Row → List ℕ
 line_text pen line row =
-    if is_left_out row.size (inked row.cells) then [] else (placed_text line 1 ++ size_text row.size ++ cells_text pen (inked row.cells))
+    if is_left_out row.size (inked row.cells) then []
+    else (placed_text line 1 ++ size_text row.size ++ cells_text pen (inked row.cells))
 
 -- what is in force after it
 unfoldable pub pen_after_line : Pen → Row → Pen
@@ -113,7 +118,8 @@ pen_after_line pen row = pen_after pen (inked row.cells)
 -- lines in turn, of which the first has this number ..
 unfoldable pub lines_text : Pen → ℕ → List Row → List ℕ
 lines_text pen line [] = []
-lines_text pen line (row ∷ rows) = line_text pen line row ++ lines_text (pen_after_line pen row) (line + 1) rows
+lines_text pen line (row ∷ rows) =
+    line_text pen line row ++ lines_text (pen_after_line pen row) (line + 1) rows
 
 -- .. and what is in force after them
 unfoldable pub pen_after_lines : Pen → List Row → Pen
@@ -122,7 +128,8 @@ pen_after_lines pen (row ∷ rows) = pen_after_lines (pen_after_line pen row) ro
 
 -- ---- the whole text
 
--- 132 columns where the screen has them, a reversed screen where it is reversed; no wrapping, special graphics in G1
+-- 132 columns where the screen has them, a reversed screen where it is reversed; no wrapping, special
+-- graphics in G1
 abbrev pub opening_text : Console → List ℕ
 opening_text s =
     text_where s.picture.wide (escape ∷ codes "[?3h")
@@ -132,7 +139,11 @@ opening_text s =
 
 -- no rendition, G0, wrapping, and the cursor, its line counted from line 1 whatever DECOM is
 abbrev pub closing_text : ℕ → ℕ → List ℕ
-closing_text line column = escape ∷ codes "[0m" ++ 15 ∷ escape ∷ codes "[?7h" ++ placed_text line column
+closing_text line column =
+    escape ∷ codes "[0m" ++ 15 ∷ escape ∷ codes "[?7h" ++ placed_text line column
 
 unfoldable pub escaped_text : Console → List ℕ
-escaped_text s = opening_text s ++ lines_text first_pen 1 s.picture.rows ++ closing_text s.picture.line s.picture.column
+escaped_text s =
+    opening_text s
+    ++ lines_text first_pen 1 s.picture.rows
+    ++ closing_text s.picture.line s.picture.column

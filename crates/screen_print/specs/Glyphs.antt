@@ -1,7 +1,7 @@
 -- The characters that glyphs are printed as, by their numbers in Unicode.
 use Rattle.std.specs.Prelude.{ℕ, List, [], ◌∷◌, nat_lt, slice_index, if◌then◌else◌}
 
--- glyphs 0 to 31: the special graphics (EK-VT100-UG chapter 3; the characters are the profile's choice)
+-- glyphs 0 to 31: the special graphics (EK-VT100-UG chapter 3; the characters are ours)
 abbrev pub special_graphics : List ℕ
 special_graphics =
     0x20  -- 0 blank

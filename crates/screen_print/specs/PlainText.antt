@@ -19,9 +19,10 @@ abbrev pub trimmed : List Cell → List Cell
 trimmed cells = take (length cells - suffix_len is_space cells) cells
 
 -- a line to its right margin, and LF; on a double size each glyph stands once
-unfoldable pub line_text : Bool → Row → List ℕ
-line_text wide row = flat_map printed (trimmed (take (margin_of wide row.size) row.cells)) ++ 10 ∷ []
+unfoldable pub printed_line : Bool → Row → List ℕ
+printed_line wide row =
+    flat_map printed (trimmed (take (margin_of wide row.size) row.cells)) ++ 10 ∷ []
 
 -- the lines in turn, of which a screen has 24
 unfoldable pub plain_text : Picture → List ℕ
-plain_text p = flat_map (line_text p.wide) p.rows
+plain_text p = flat_map (printed_line p.wide) p.rows

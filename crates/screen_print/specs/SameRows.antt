@@ -15,7 +15,9 @@ size_number Top = 2
 size_number Bottom = 3
 
 abbrev pub same_cell : Cell → Cell → Bool
-same_cell one other = (one.glyph == other.glyph) && (byte_of one.rendition == byte_of other.rendition)
+same_cell one other =
+    (one.glyph == other.glyph) && (byte_of one.rendition == byte_of other.rendition)
 
 abbrev pub same_row : Row → Row → Bool
-same_row one other = (size_number one.size == size_number other.size) && pointwise same_cell one.cells other.cells
+same_row one other =
+    (size_number one.size == size_number other.size) && pointwise same_cell one.cells other.cells

@@ -66,8 +66,8 @@ fn same_row(one: &Row, other: &Row) -> bool
     one.size == other.size && same_cells(&one.cells, &other.cells)
 }
 
-/// Whether two rows have the same cells. Each is compared, whatever those before it came to, so that many are compared at
-/// once.
+/// Whether two rows have the same cells. Each is compared, whatever those before it came to, so that
+/// many are compared at once.
 fn same_cells(one: &[Cell; WIDE_COLUMNS as usize], other: &[Cell; WIDE_COLUMNS as usize]) -> bool
     ensures { result ≡ pointwise same_cell one.now other.now }
 {

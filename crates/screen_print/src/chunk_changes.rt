@@ -48,9 +48,9 @@ impl From<OutOfMemory> for ChangesFault {
     }
 }
 
-/// Writes, for each chunk that is due after `from` (None: from chunk 0 on) and by `to`, the lines that it changes, and
-/// flushes. It works by seeks. After a fault a beginning of the text has gone out. The recording and the log stay, and the
-/// frontier isn't lowered.
+/// Writes, for each chunk that is due after `from` (None: from chunk 0 on) and by `to`, the lines that
+/// it changes, and flushes. It works by seeks. After a fault a beginning of the text has gone out. The
+/// recording and the log stay, and the frontier isn't lowered.
 #[tactic(auto, using(crate::proofs::ChangeLemmas::seeks_keep_history))]
 pub fn changes<W: Write>(
     session: &mut Session,
@@ -59,13 +59,17 @@ pub fn changes<W: Write>(
     writer: &mut Watched<W>,
 ) -> Result<(), ChangesFault>
     requires { has_failed writer.old ≡ false }
-    ensures ok { OnOk result (Took W.contents writer.old writer.new (change_lines session.old.profile session.old.recording from to)) }
+    ensures ok { OnOk result (Took W.contents writer.old writer.new
+        (change_lines session.old.profile session.old.recording from to)) }
     ensures flushed { OnOk result (is_flushed writer.new ≡ true) }
-    ensures fault { IfErr result (StopsChanges W.contents writer.old writer.new (change_lines session.old.profile session.old.recording from to)) }
+    ensures fault { IfErr result (StopsChanges W.contents writer.old writer.new
+        (change_lines session.old.profile session.old.recording from to)) }
     ensures stays { OnlySeeks session.old session.new }
-    // Whatever recording the session was opened with: where its own is that one edited by the log, it is so still.
+    // Whatever recording the session was opened with: where its own is that one edited by the log,
+    // it is so still.
     ensures history { KeepsHistory session.old session.new }
-    ensures room { due_count session.old.recording.chunks to ≤ session.old.marks.frontier → result ≢ Err ChangesFault.Memory }
+    ensures room { due_count session.old.recording.chunks to ≤ session.old.marks.frontier
+        → result ≢ Err ChangesFault.Memory }
 {
     writers_join::<W>();
     put_asked(session, from, to, writer)?;
@@ -81,10 +85,13 @@ fn put_asked<W: Write>(
     writer: &mut Watched<W>,
 ) -> Result<(), ChangesFault>
     requires { has_failed writer.old ≡ false }
-    ensures ok { OnOk result (Took W.contents writer.old writer.new (change_lines session.old.profile session.old.recording from to)) }
-    ensures fault { IfErr result (StopsChanges W.contents writer.old writer.new (change_lines session.old.profile session.old.recording from to)) }
+    ensures ok { OnOk result (Took W.contents writer.old writer.new
+        (change_lines session.old.profile session.old.recording from to)) }
+    ensures fault { IfErr result (StopsChanges W.contents writer.old writer.new
+        (change_lines session.old.profile session.old.recording from to)) }
     ensures stays { OnlySeeks session.old session.new }
-    ensures room { due_count session.old.recording.chunks to ≤ session.old.marks.frontier → result ≢ Err ChangesFault.Memory }
+    ensures room { due_count session.old.recording.chunks to ≤ session.old.marks.frontier
+        → result ≢ Err ChangesFault.Memory }
 {
     due_is_below_the_count();
     writers_join::<W>();
@@ -138,7 +145,8 @@ fn rows_at(session: &mut Session, count: usize) -> Result<[Row; ROWS], OutOfMemo
     requires { count ≤ length session.old.recording.chunks }
     ensures state { Leaves result count session.old session.new }
     ensures history { KeepsHistory session.old session.new }
-    ensures rows { IfOk result (λ rows. rows ≡ rows_after session.old.profile session.old.recording count) }
+    ensures rows { IfOk result (λ rows.
+        rows ≡ rows_after session.old.profile session.old.recording count) }
     ensures room { count ≤ session.old.marks.frontier → IsOk result }
 {
     let view = session.seek_count(count)?;
@@ -154,8 +162,10 @@ fn changes_at(
     requires { count ≤ length session.old.recording.chunks }
     ensures state { Leaves result count session.old session.new }
     ensures history { KeepsHistory session.old session.new }
-    ensures rows { OnOk result (rows.new ≡ rows_after session.old.profile session.old.recording count) }
-    ensures changed { IfOk result (λ lines. lines.items ≡ changed_lines rows.old (rows_after session.old.profile session.old.recording count)) }
+    ensures rows { OnOk result
+        (rows.new ≡ rows_after session.old.profile session.old.recording count) }
+    ensures changed { IfOk result (λ lines. lines.items ≡ changed_lines rows.old
+        (rows_after session.old.profile session.old.recording count)) }
     ensures room { count ≤ session.old.marks.frontier → IsOk result }
 {
     let view = session.seek_count(count)?;
@@ -185,7 +195,8 @@ fn put_change<W: Write>(
 /// Writes a chunk's place and when it is due.
 fn put_place<W: Write>(index: usize, due: u64, writer: &mut Watched<W>) -> Result<(), Fault>
     requires { has_failed writer.old ≡ false }
-    ensures { Puts W.contents writer.old writer.new (decimal index ++ 32 ∷ seconds_form due) result }
+    ensures { Puts W.contents writer.old writer.new
+        (decimal index ++ 32 ∷ seconds_form due) result }
 {
     let mut digits = Buffer::new();
     let index = digits.format(index).as_bytes();

@@ -60,12 +60,14 @@ impl Pen {
     }
 }
 
-/// Writes a text that draws on a reset terminal the columns, sizes, cells, reversed flag and cursor that this one shows. It
-/// takes no memory, and ends without an LF. After a write fault a beginning of the text has gone out.
+/// Writes a text that draws on a reset terminal the columns, sizes, cells, reversed flag and cursor
+/// that this one shows. It takes no memory, and ends without an LF. After a write fault a beginning of
+/// the text has gone out.
 #[tactic(auto, unfolding(crate::specs::EscapedText::escaped_text))]
 pub fn escaped<W: Write>(terminal: &Terminal, writer: &mut Watched<W>) -> Result<(), Fault>
     requires { has_failed writer.old ≡ false }
-    ensures puts { Puts W.contents writer.old writer.new (escaped_text terminal.now.console) result }
+    ensures puts { Puts W.contents writer.old writer.new
+        (escaped_text terminal.now.console) result }
     ensures flushed { OnOk result (is_flushed writer.new ≡ true) }
 {
     writers_join::<W>();
@@ -79,7 +81,8 @@ pub fn escaped<W: Write>(terminal: &Terminal, writer: &mut Watched<W>) -> Result
 /// Writes the lines.
 fn put_lines<W: Write>(screen: &Screen, writer: &mut Watched<W>) -> Result<(), Fault>
     requires { has_failed writer.old ≡ false }
-    ensures { Puts W.contents writer.old writer.new (lines_text first_pen 1 screen.now.picture.rows) result }
+    ensures { Puts W.contents writer.old writer.new
+        (lines_text first_pen 1 screen.now.picture.rows) result }
 {
     writers_join::<W>();
     screens_are_sound(screen);

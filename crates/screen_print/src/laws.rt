@@ -16,8 +16,8 @@ pub fn same_rows_are_equal()
     ensures { (one other : Row) → ((same_row one other ≡ true) ↔ (one ≡ other)) }
 {}
 
-/// The escaped print of a terminal, played from the reset term, gives its columns, sizes, cells, reversed flag and cursor
-/// again, with nothing pending and nothing sent.
+/// The escaped print of a terminal, played from the reset term, gives its columns, sizes, cells,
+/// reversed flag and cursor again, with nothing pending and nothing sent.
 pub fn escaped_print_draws_again(terminal: &Terminal)
     ensures { (x : Term) → Shows terminal.now x → DrawsAgain x }
 {

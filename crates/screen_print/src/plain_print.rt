@@ -4,13 +4,14 @@ ghost use Rattle.std.specs.Prelude.{◌≡◌, ◌+◌, ◌≤◌, length, OnOk,
 ghost use Rattle.std.specs.List.{suffix_len};
 ghost use Rattle.vt_screen.specs.Cells.{row_at};
 ghost use Rattle.tape_core.specs.Devices.{Puts, has_failed, is_flushed};
-ghost use Rattle.screen_print.specs.PlainText.{is_space, line_text, plain_text};
+ghost use Rattle.screen_print.specs.PlainText.{is_space, plain_text, printed_line};
 
 use crate::glyphs::character;
 use arrayvec::ArrayString;
 use std::io::Write;
 use tape_core::laws::{pieces_join, writers_join};
 use tape_core::{Fault, Watched};
+use vt_screen::laws::screens_are_sound;
 use vt_screen::limits::LINES;
 use vt_screen::{Cell, Row, Screen};
 use vt_term::Terminal;
@@ -18,29 +19,41 @@ use vt_term::Terminal;
 /// How many bytes a printed line has at most: three for each of 132 glyphs, and LF.
 const LINE_BYTES: usize = 397;
 
-/// Prints the 24 lines of the screen as UTF-8, each to its right margin without the spaces at its end, and LF. It takes no
-/// memory. After a write fault a beginning of the text has gone out.
+/// Prints the 24 lines of the screen as UTF-8, each to its right margin without the spaces at its
+/// end, and LF. It takes no memory. After a write fault a beginning of the text has gone out.
 pub fn plain<W: Write>(terminal: &Terminal, writer: &mut Watched<W>) -> Result<(), Fault>
     requires { has_failed writer.old ≡ false }
-    ensures puts { Puts W.contents writer.old writer.new (plain_text terminal.now.console.picture) result }
+    ensures puts { Puts W.contents writer.old writer.new
+        (plain_text terminal.now.console.picture) result }
     ensures flushed { OnOk result (is_flushed writer.new ≡ true) }
 {
-    pieces_join::<W, Row>();
     writers_join::<W>();
-    let screen = terminal.screen();
-    for line in 1..LINES + 1 {
-        let text = line_text(screen, line);
-        writer.put(text.as_str().as_bytes())?;
-    }
+    put_lines(terminal.screen(), writer)?;
     writer.finish()?;
     Ok(())
 }
 
+/// Prints the lines, and doesn't flush.
+fn put_lines<W: Write>(screen: &Screen, writer: &mut Watched<W>) -> Result<(), Fault>
+    requires { has_failed writer.old ≡ false }
+    ensures { Puts W.contents writer.old writer.new (plain_text screen.now.picture) result }
+{
+    pieces_join::<W, Row>();
+    writers_join::<W>();
+    screens_are_sound(screen);
+    for line in 1..LINES + 1 {
+        let text = printed_line(screen, line);
+        writer.put(text.as_str().as_bytes())?;
+    }
+    Ok(())
+}
+
 /// A line of the screen as it is printed.
-fn line_text(screen: &Screen, line: u8) -> ArrayString<LINE_BYTES>
+fn printed_line(screen: &Screen, line: u8) -> ArrayString<LINE_BYTES>
     requires low { 1 ≤ line }
     requires high { line ≤ LINES }
-    ensures { result.bytes ≡ line_text screen.now.picture.wide (row_at screen.now.picture.rows line) }
+    ensures { result.bytes
+        ≡ printed_line screen.now.picture.wide (row_at screen.now.picture.rows line) }
 {
     let margin = screen.right_margin(line) as usize;
     let cells = &screen.row(line).cells[..margin];
