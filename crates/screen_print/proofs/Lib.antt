@@ -1,6 +1,8 @@
 mod GlyphLemmas
 mod PlainLemmas
 mod RowLemmas
+mod StillLemmas
+mod WalkLemmas
 mod ChangeLemmas
 mod EscapedLemmas
 mod InkLemmas

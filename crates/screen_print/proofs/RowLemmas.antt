@@ -14,7 +14,7 @@ use Rattle.vt_screen.specs.declared.cell.Size.TheVariants.{Single, Double, Top, 
 use Rattle.vt_screen.specs.Attributes.{Attributes, attributes_of, byte_of}
 use Rattle.vt_screen.specs.Cells.{blank_row, row_at}
 use Rattle.vt_screen.specs.Table.{nth}
-use Rattle.screen_print.specs.ChangeLines.{changed_lines, is_changed}
+use Rattle.screen_print.specs.SameRows.{changed_lines, is_changed}
 use Rattle.screen_print.specs.SameRows.{same_cell, same_row, size_number}
 
 -- a size by its number
@@ -76,7 +76,7 @@ same_cell_decides one other = (
 
 -- ---- cells by number
 
-same_truth : (s t : Bool) → (s ≡ true → t ≡ true) → (t ≡ true → s ≡ true) → s ≡ t
+pub same_truth : (s t : Bool) → (s ≡ true → t ≡ true) → (t ≡ true → s ≡ true) → s ≡ t
 same_truth true true there back = refl
 same_truth true false there back = sym (there refl)
 same_truth false true there back = back refl

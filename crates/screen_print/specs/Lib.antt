@@ -3,5 +3,8 @@ pub mod PlainText
 pub mod EscapedText
 pub mod Redrawn
 pub mod SameRows
+pub mod Stills
+pub mod View
+pub mod Walk
 pub mod ChangeLines
 pub mod Stops

@@ -1,25 +1,36 @@
-//! The lines of the screen that each chunk of a recording changes.
+//! A walk over the chunks of a recording: what a printer writes of each, as it is told what stands on
+//! the screen before and after it.
 
-ghost use Rattle.std.specs.Prelude.{◌≡◌, ◌≢◌, ◌-◌, ◌<◌, ◌≤◌, ◌++◌, ◌∷◌, true, false, length, Err, OnOk, IfOk, IfErr, IsOk};
-ghost use Rattle.std.specs.Fmt.{decimal};
+ghost use Rattle.std.specs.Prelude.{
+  ◌≡◌,
+  ◌≢◌,
+  ◌-◌,
+  ◌<◌,
+  ◌≤◌,
+  false,
+  length,
+  Err,
+  OnOk,
+  IfOk,
+  IfErr,
+  IsOk,
+};
 ghost use Rattle.std.specs.List.{flat_map, range_with_len};
-ghost use Rattle.tape_core.specs.Devices.{Puts, Took, has_failed, is_flushed};
+ghost use Rattle.tape_core.specs.Devices.{Puts, Took, has_failed};
 ghost use Rattle.tape_core.specs.Due.{due_count};
-ghost use Rattle.tape_core.specs.Written.{seconds_form};
 ghost use Rattle.tape_seek.specs.State.{KeepsHistory, Leaves};
-ghost use Rattle.screen_print.specs.ChangeLines.{change_line, change_lines, changed_lines, chunk_line, rows_after, spaced_number};
+ghost use Rattle.screen_print.specs.SameRows.{changed_lines};
 ghost use Rattle.screen_print.specs.Stops.{OnlySeeks, StopsChanges, first_asked};
+ghost use Rattle.screen_print.specs.Walk.{still_after, text_at, walk_text};
 
-use crate::changed_lines::{ROWS, rows_of, take_changes};
+use crate::still::{ROWS, Still};
 use arrayvec::ArrayVec;
-use itoa::Buffer;
 use std::io::Write;
-use tape_core::laws::{due_is_below_the_count, pieces_join, writers_join};
-use tape_core::{Fault, Watched, seconds_text};
+use tape_core::laws::{due_is_below_the_count, writers_join};
+use tape_core::{Fault, Watched};
 use tape_seek::{OutOfMemory, Session};
-use vt_screen::Row;
 
-/// Why change lines end before the last of them.
+/// Why a walk over chunks ends before the last of them.
 #[derive(Debug, Clone, Copy, PartialEq, Eq)]
 pub enum ChangesFault {
     /// The writer failed.
@@ -48,47 +59,45 @@ impl From<OutOfMemory> for ChangesFault {
     }
 }
 
-/// Writes, for each chunk that is due after `from` (None: from chunk 0 on) and by `to`, the lines that
-/// it changes, and flushes. It works by seeks. After a fault a beginning of the text has gone out. The
-/// recording and the log stay, and the frontier isn't lowered.
-#[tactic(auto, using(crate::proofs::ChangeLemmas::seeks_keep_history))]
-pub fn changes<W: Write>(
-    session: &mut Session,
-    from: Option<u64>,
-    to: u64,
-    writer: &mut Watched<W>,
-) -> Result<(), ChangesFault>
-    requires { has_failed writer.old ≡ false }
-    ensures ok { OnOk result (Took W.contents writer.old writer.new
-        (change_lines session.old.profile session.old.recording from to)) }
-    ensures flushed { OnOk result (is_flushed writer.new ≡ true) }
-    ensures fault { IfErr result (StopsChanges W.contents writer.old writer.new
-        (change_lines session.old.profile session.old.recording from to)) }
-    ensures stays { OnlySeeks session.old session.new }
-    // Whatever recording the session was opened with: where its own is that one edited by the log,
-    // it is so still.
-    ensures history { KeepsHistory session.old session.new }
-    ensures room { due_count session.old.recording.chunks to ≤ session.old.marks.frontier
-        → result ≢ Err ChangesFault.Memory }
-{
-    writers_join::<W>();
-    put_asked(session, from, to, writer)?;
-    writer.finish()?;
-    Ok(())
+/// What writes a text of each chunk.
+pub trait ChunkPrinter {
+    ghost use Rattle.screen_print.specs.Walk.{ChunkText};
+
+    /// The text of a chunk.
+    ghost text: { Self → ChunkText };
+
+    /// Writes the text of the chunk at a place, when it is due, by what stands before and after it, which
+    /// differ in these lines.
+    fn put<W: Write>(
+        &self,
+        index: usize,
+        due: u64,
+        before: &Still,
+        after: &Still,
+        lines: &[u8],
+        writer: &mut Watched<W>,
+    ) -> Result<(), Fault>
+        requires sound { has_failed writer.old ≡ false }
+        requires changed { lines.now ≡ changed_lines before.now.rows after.now.rows }
+        ensures { Puts W.contents writer.old writer.new
+            (text self.now index due before.now after.now) result };
 }
 
-/// Writes the change lines, and doesn't flush.
-fn put_asked<W: Write>(
+/// Writes what the printer writes of each chunk that is due after `from` (None: from chunk 0 on) and by
+/// `to`, and doesn't flush. It works by seeks. After a fault a beginning of the text has gone out. The
+/// recording and the log stay, and the frontier isn't lowered.
+pub fn put_chunks<P: ChunkPrinter, W: Write>(
     session: &mut Session,
     from: Option<u64>,
     to: u64,
+    printer: &P,
     writer: &mut Watched<W>,
 ) -> Result<(), ChangesFault>
     requires { has_failed writer.old ≡ false }
     ensures ok { OnOk result (Took W.contents writer.old writer.new
-        (change_lines session.old.profile session.old.recording from to)) }
+        (walk_text (P.text printer.now) session.old.profile session.old.recording from to)) }
     ensures fault { IfErr result (StopsChanges W.contents writer.old writer.new
-        (change_lines session.old.profile session.old.recording from to)) }
+        (walk_text (P.text printer.now) session.old.profile session.old.recording from to)) }
     ensures stays { OnlySeeks session.old session.new }
     ensures room { due_count session.old.recording.chunks to ≤ session.old.marks.frontier
         → result ≢ Err ChangesFault.Memory }
@@ -98,7 +107,7 @@ fn put_asked<W: Write>(
     let start = first_asked(session, from);
     let end = session.recording().due_count(to);
     if start < end {
-        return put_changes(session, start, end, writer);
+        return put_between(session, start, end, printer, writer);
     }
     Ok(())
 }
@@ -113,112 +122,68 @@ fn first_asked(session: &Session, from: Option<u64>) -> usize
     }
 }
 
-/// Writes the lines of the chunks from one place up to and without another.
-fn put_changes<W: Write>(
+/// Writes the texts of the chunks from one place up to and without another.
+fn put_between<P: ChunkPrinter, W: Write>(
     session: &mut Session,
     start: usize,
     end: usize,
+    printer: &P,
     writer: &mut Watched<W>,
 ) -> Result<(), ChangesFault>
     requires some { start < end }
     requires within { end ≤ length session.old.recording.chunks }
     requires sound { has_failed writer.old ≡ false }
     ensures ok { OnOk result (Took W.contents writer.old writer.new
-        (flat_map (chunk_line session.old.profile session.old.recording) (range_with_len start (end - start)))) }
+        (flat_map (text_at (P.text printer.now) session.old.profile session.old.recording)
+        (range_with_len start (end - start)))) }
     ensures fault { IfErr result (StopsChanges W.contents writer.old writer.new
-        (flat_map (chunk_line session.old.profile session.old.recording) (range_with_len start (end - start)))) }
+        (flat_map (text_at (P.text printer.now) session.old.profile session.old.recording)
+        (range_with_len start (end - start)))) }
     ensures stays { OnlySeeks session.old session.new }
     ensures room { end ≤ session.old.marks.frontier → result ≢ Err ChangesFault.Memory }
 {
     writers_join::<W>();
-    let mut rows = rows_at(session, start)?;
+    let mut before = still_at(session, start)?;
+    let mut after = still_at(session, start)?;
     for index in start..end {
-        let lines = changes_at(session, index + 1, &mut rows)?;
+        let changed = changes_at(session, index + 1, &mut after)?;
+        let lines = changed.as_slice();
         let due = session.recording().due_time(index);
-        put_change(index, due, lines.as_slice(), writer)?;
+        printer.put(index, due, &before, &after, lines, writer)?;
+        before.catch_up(&after, lines);
     }
     Ok(())
 }
 
-/// The rows of the screen after so many chunks.
-fn rows_at(session: &mut Session, count: usize) -> Result<[Row; ROWS], OutOfMemory>
+/// What stands on the screen after so many chunks.
+fn still_at(session: &mut Session, count: usize) -> Result<Still, OutOfMemory>
     requires { count ≤ length session.old.recording.chunks }
     ensures state { Leaves result count session.old session.new }
     ensures history { KeepsHistory session.old session.new }
-    ensures rows { IfOk result (λ rows.
-        rows ≡ rows_after session.old.profile session.old.recording count) }
+    ensures still { IfOk result (λ still.
+        still ≡ still_after session.old.profile session.old.recording count) }
     ensures room { count ≤ session.old.marks.frontier → IsOk result }
 {
     let view = session.seek_count(count)?;
-    Ok(rows_of(view.terminal().screen()))
+    Ok(Still::of(view.terminal()))
 }
 
-/// The lines that differ from the rows after so many chunks. The rows become those of the screen there.
+/// The lines in which a still differs from what stands on the screen after so many chunks, which it
+/// becomes.
 fn changes_at(
     session: &mut Session,
     count: usize,
-    rows: &mut [Row; ROWS],
+    still: &mut Still,
 ) -> Result<ArrayVec<u8, ROWS>, OutOfMemory>
     requires { count ≤ length session.old.recording.chunks }
     ensures state { Leaves result count session.old session.new }
     ensures history { KeepsHistory session.old session.new }
-    ensures rows { OnOk result
-        (rows.new ≡ rows_after session.old.profile session.old.recording count) }
-    ensures changed { IfOk result (λ lines. lines.items ≡ changed_lines rows.old
-        (rows_after session.old.profile session.old.recording count)) }
+    ensures still { OnOk result
+        (still.new ≡ still_after session.old.profile session.old.recording count) }
+    ensures changed { IfOk result (λ lines.
+        lines.items ≡ changed_lines still.old.rows still.new.rows) }
     ensures room { count ≤ session.old.marks.frontier → IsOk result }
 {
     let view = session.seek_count(count)?;
-    Ok(take_changes(rows, view.terminal().screen()))
-}
-
-/// Writes the line of a chunk, or nothing where it changes no line.
-fn put_change<W: Write>(
-    index: usize,
-    due: u64,
-    lines: &[u8],
-    writer: &mut Watched<W>,
-) -> Result<(), Fault>
-    requires { has_failed writer.old ≡ false }
-    ensures { Puts W.contents writer.old writer.new (change_line index due lines.now) result }
-{
-    writers_join::<W>();
-    if lines.is_empty() {
-        return Ok(());
-    }
-    put_place(index, due, writer)?;
-    put_numbers(lines, writer)?;
-    writer.put(b"\n")?;
-    Ok(())
-}
-
-/// Writes a chunk's place and when it is due.
-fn put_place<W: Write>(index: usize, due: u64, writer: &mut Watched<W>) -> Result<(), Fault>
-    requires { has_failed writer.old ≡ false }
-    ensures { Puts W.contents writer.old writer.new
-        (decimal index ++ 32 ∷ seconds_form due) result }
-{
-    let mut digits = Buffer::new();
-    let index = digits.format(index).as_bytes();
-    writer.put_all(&[index, b" ", seconds_text(due).as_bytes()])
-}
-
-/// Writes numbers, a space before each.
-fn put_numbers<W: Write>(numbers: &[u8], writer: &mut Watched<W>) -> Result<(), Fault>
-    requires { has_failed writer.old ≡ false }
-    ensures { Puts W.contents writer.old writer.new (flat_map spaced_number numbers.now) result }
-{
-    pieces_join::<W, u8>();
-    for number in numbers {
-        put_number(*number, writer)?;
-    }
-    Ok(())
-}
-
-/// Writes a space and a number.
-fn put_number<W: Write>(number: u8, writer: &mut Watched<W>) -> Result<(), Fault>
-    requires { has_failed writer.old ≡ false }
-    ensures { Puts W.contents writer.old writer.new (spaced_number number) result }
-{
-    writer.put_all(&[b" ", Buffer::new().format(number).as_bytes()])
+    Ok(still.take_changes(view.terminal()))
 }

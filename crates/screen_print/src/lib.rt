@@ -1,13 +1,16 @@
 //! Prints what a terminal shows as text.
 #![tactic(auto)]
 
-mod changed_lines;
+mod change_lines;
 mod chunk_changes;
 mod escaped_print;
 mod glyphs;
 pub mod laws;
 mod plain_print;
+mod still;
 
-pub use chunk_changes::{ChangesFault, changes};
+pub use change_lines::changes;
+pub use chunk_changes::{ChangesFault, ChunkPrinter, put_chunks};
 pub use escaped_print::escaped;
 pub use plain_print::plain;
+pub use still::Still;

@@ -2,7 +2,7 @@ use Rattle.std.proofs.Common.{take}
 use Rattle.std.specs.List.{flat_map}
 use Rattle.tape_core.specs.Devices.{Took}
 use Rattle.screen_print.specs.ChangeLines.{spaced_number}
-use Rattle.screen_print.proofs.chunk_changes.put_numbers.Given as goal
+use Rattle.screen_print.proofs.change_lines.put_numbers.Given as goal
 
 -- the writer has taken the numbers so far
 abbrev pub invariant-loop-number : goal.invariant-loop-number

@@ -1,8 +1,9 @@
-use Rattle.std.proofs.Common.{◌-◌, not, get_or, ap, sym, ◌∙◌, arith}
+use Rattle.std.proofs.Common.{◌-◌, false, not, get_or, ap, sym, ◌∙◌, arith, subst}
+use Rattle.vt_screen.specs.Picture.{SoundRow}
 use Rattle.vt_screen.specs.Cells.{row_at}
 use Rattle.screen_print.specs.SameRows.{same_row}
 use Rattle.screen_print.proofs.RowLemmas.{row_read, row_set_same, row_set_other, same_row_decides}
-use Rattle.screen_print.proofs.changed_lines.take_change.Goals as goal
+use Rattle.screen_print.proofs.still.take_change.Goals as goal
 
 pub returns-then-same_row-clause-changed : goal.returns-then-same_row-clause-changed
 returns-then-same_row-clause-changed c =
@@ -34,3 +35,9 @@ returns-clause-taken c =
 
 pub returns-clause-others : goal.returns-clause-others
 returns-clause-others c = λ k here other. row_set_other c.args.rows.now c.args.line k c.row-row.result.now c.requires.low here other
+
+pub same_row-requires : goal.same_row-requires
+same_row-requires c = λ narrow. (
+  subst (SoundRow false) (row_read c.args.rows.now c.args.line c.index-rows-at.result c.requires.low (omega arith)) (c.requires.there narrow),
+  subst (λ wide. SoundRow wide c.row-row.result.now) (c.requires.here narrow) c.row-row.ensures.sound,
+)

@@ -1,8 +1,8 @@
 use Rattle.std.proofs.Common.{◌≡◌, ℕ, ◌+◌, ◌-◌, ◌<◌, ◌≤◌, length, filter}
 use Rattle.std.specs.List.{range_with_len}
 use Rattle.vt_screen.specs.Cells.{row_at}
-use Rattle.screen_print.specs.ChangeLines.{is_changed}
-use Rattle.screen_print.proofs.changed_lines.take_changes.Given as goal
+use Rattle.screen_print.specs.SameRows.{is_changed}
+use Rattle.screen_print.proofs.still.take_changes.Given as goal
 
 -- the lines so far are those of the screen, and the others as they were
 abbrev pub invariant-loop-line : goal.invariant-loop-line

@@ -2,7 +2,7 @@ use Rattle.std.proofs.Common.{◌-◌, arith, ◌∙◌, inl, inr}
 use Rattle.std.proofs.lemmas.Bool.{cases_eq}
 use Rattle.std.proofs.lemmas.List.{length-set}
 use Rattle.screen_print.proofs.RowLemmas.{row_set_same, row_set_other, rows_by_line}
-use Rattle.screen_print.proofs.changed_lines.rows_of.Goals as goal
+use Rattle.screen_print.proofs.still.rows_of.Goals as goal
 
 pub loop-line-preserved : goal.loop-line-preserved
 loop-line-preserved c =

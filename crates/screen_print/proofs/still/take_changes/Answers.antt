@@ -1,11 +1,11 @@
 use Rattle.std.proofs.Common.{◌≡◌, ◌-◌, ◌≢◌, not, ap, sym, ◌∙◌, arith, inl, inr, append-nil}
 use Rattle.std.proofs.lemmas.Bool.{cases_eq}
-use Rattle.screen_print.specs.ChangeLines.{is_changed}
+use Rattle.screen_print.specs.SameRows.{is_changed}
 use Rattle.screen_print.specs.SameRows.{same_row}
 use Rattle.vt_screen.specs.Cells.{row_at}
 use Rattle.screen_print.proofs.RowLemmas.{all_changed, changed_step, rows_by_line}
-use Rattle.screen_print.proofs.changed_lines.take_changes.Goals as goal
-use Rattle.screen_print.proofs.changed_lines.take_changes.Goals.{then-take_change, else-take_change}
+use Rattle.screen_print.proofs.still.take_changes.Goals as goal
+use Rattle.screen_print.proofs.still.take_changes.Goals.{then-take_change, else-take_change}
 
 pub loop-line-preserved : goal.loop-line-preserved
 loop-line-preserved c =

@@ -1,6 +1,6 @@
 use Rattle.std.proofs.Common.{◌≡◌, ℕ, ◌<◌, ◌≤◌, length}
 use Rattle.vt_screen.specs.Cells.{row_at}
-use Rattle.screen_print.proofs.changed_lines.rows_of.Given as goal
+use Rattle.screen_print.proofs.still.rows_of.Given as goal
 
 -- the lines so far were copied
 abbrev pub invariant-loop-line : goal.invariant-loop-line

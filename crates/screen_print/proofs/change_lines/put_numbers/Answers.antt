@@ -2,7 +2,7 @@ use Rattle.std.proofs.Common.{get_or, true}
 use Rattle.std.proofs.lemmas.List.{get_or_default}
 use Rattle.std.proofs.lemmas.Result.{err_from_is_err_and}
 use Rattle.screen_print.specs.ChangeLines.{spaced_number}
-use Rattle.screen_print.proofs.chunk_changes.put_numbers.Goals as goal
+use Rattle.screen_print.proofs.change_lines.put_numbers.Goals as goal
 
 pub returns-in_err-put_number : goal.returns-in_err-put_number
 returns-in_err-put_number g c =

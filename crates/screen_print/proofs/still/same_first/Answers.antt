@@ -1,12 +1,12 @@
-use Rattle.std.proofs.Common.{◌≡◌, ◌∙◌, ◌&&◌, ◌+◌, ◌*◌, ap, arith, get_or, nat_eq, sym, take, take_all}
+use Rattle.std.proofs.Common.{◌≡◌, ◌∙◌, ◌&&◌, ◌+◌, ◌*◌, ap, arith, get_or, nat_eq, sym, take}
 use Rattle.vt_screen.specs.Attributes.{byte_of}
 use Rattle.std.specs.Cmp.Lexicographic.{pointwise}
 use Rattle.screen_print.specs.SameRows.{same_cell}
 use Rattle.screen_print.proofs.RowLemmas.{cell_numbers, pointwise_more}
-use Rattle.screen_print.proofs.changed_lines.same_cells.Goals as goal
+use Rattle.screen_print.proofs.still.same_first.Goals as goal
 
 pub loop-at-preserved : goal.loop-at-preserved
-loop-at-preserved c =
+loop-at-preserved g c =
     let one = c.args.one.now in
     let other = c.args.other.now in
     let at = c.loop-at.at in
@@ -22,9 +22,3 @@ loop-at-preserved c =
           ∙ ap (λ b. pointwise same_cell (take at one) (take at other) && b) here
           ∙ sym (pointwise_more same_cell one other at c.index-one-at.result c.index-other-at.result (omega arith) (omega arith));
     }
-
-pub returns : goal.returns
-returns c =
-    c.loop-at.invariant.compared
-    ∙ ap (λ l. pointwise same_cell l (take c.loop-at.at c.args.other.now)) (take_all c.loop-at.at c.args.one.now (omega arith))
-    ∙ ap (pointwise same_cell c.args.one.now) (take_all c.loop-at.at c.args.other.now (omega arith))

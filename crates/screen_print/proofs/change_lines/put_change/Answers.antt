@@ -4,7 +4,7 @@ use Rattle.std.proofs.lemmas.Bool.Decides.{nat_tests}
 use Rattle.std.proofs.lemmas.Result.{err_from_is_err_and}
 use Rattle.screen_print.specs.ChangeLines.{spaced_number}
 use Rattle.screen_print.proofs.ChangeLemmas.{change_line_some}
-use Rattle.screen_print.proofs.chunk_changes.put_change.Goals as goal
+use Rattle.screen_print.proofs.change_lines.put_change.Goals as goal
 
 pub returns-in_err-put_place : goal.returns-in_err-put_place
 returns-in_err-put_place g c =

@@ -1,0 +1,216 @@
+-- The texts of chunks, one after another.
+use Rattle.std.proofs.Common.{◌≡◌, ℕ, zero, suc, ◌+◌, ◌-◌, ◌<◌, ◌≤◌, Bool, true, false, ◌&&◌, List, [], ◌∷◌, ◌++◌, length, filter, nat_le, nat_lt, Option, None, Some, Result, Ok, Err, refl, ap, sym, ◌∙◌, arith, inl, inr, add-zero, append_assoc, append-nil}
+use Rattle.std.specs.List.{flat_map, range_with_len}
+use Rattle.std.proofs.lemmas.Bool.{cases_lt, lt-ltb, le-ltb, le-leb, lt-leb}
+use Rattle.std.proofs.lemmas.List.Concat.{flat_map-append}
+use Rattle.std.proofs.lemmas.List.Elements.{filter-append}
+use Rattle.tape_core.specs.declared.chunk.Chunk.{Chunk}
+use Rattle.tape_core.specs.declared.devices.Watched.{Watched}
+use Rattle.tape_core.specs.Devices.{Took, TookPart}
+use Rattle.tape_core.specs.Due.{due_count, due_time}
+use Rattle.tape_core.specs.Tape.{Tape}
+use Rattle.tape_core.specs.Law.{DueIsBelowTheCount}
+use Rattle.tape_seek.specs.Edits.{edited_all}
+use Rattle.tape_seek.specs.State.{KeepsHistory, Leaves, State}
+use Rattle.vt_term.specs.declared.profile.Profile.{Profile}
+use Rattle.screen_print.specs.Walk.{ChunkText, is_asked, still_after, text_at, walk_text}
+use Rattle.screen_print.specs.Stills.{Still}
+use Rattle.screen_print.specs.Stops.{OnlySeeks, first_asked}
+use Rattle.screen_print.proofs.RowLemmas.{range_more}
+
+-- ---- seeks
+
+pub only_seeks_none : (s : State) → OnlySeeks s s
+only_seeks_none s = record { profile = refl; recording = refl; log = refl; every = refl; frontier = omega arith }
+
+pub only_seeks_more : {a b c : State} → OnlySeeks a b → OnlySeeks b c → OnlySeeks a c
+only_seeks_more h k = record {
+  profile = k.profile ∙ h.profile;
+  recording = k.recording ∙ h.recording;
+  log = k.log ∙ h.log;
+  every = k.every ∙ h.every;
+  frontier = omega (arith, h.frontier, k.frontier);
+}
+
+pub leaves_only_seeks : {T E : Type 0} (result : Result T E) (count : ℕ) (old new : State) → Leaves result count old new → OnlySeeks old new
+leaves_only_seeks (Ok x) count old new h = record {
+  profile = ap (λ (s : State). s.profile) h;
+  recording = ap (λ (s : State). s.recording) h;
+  log = ap (λ (s : State). s.log) h;
+  every = ap (λ (s : State). s.every) h;
+  frontier = rw h (omega arith);
+}
+leaves_only_seeks (Err e) count old new h = record {
+  profile = ap (λ (s : State). s.profile) h;
+  recording = ap (λ (s : State). s.recording) h;
+  log = ap (λ (s : State). s.log) h;
+  every = ap (λ (s : State). s.every) h;
+  frontier = rw h (omega arith);
+}
+
+pub seeks_keep_history : (old new : State) → OnlySeeks old new → KeepsHistory old new
+seeks_keep_history old new seeks = λ o is. seeks.recording ∙ is ∙ ap (edited_all o) (sym seeks.log)
+
+-- ---- chunk by chunk
+
+-- the texts of so many chunks from one place on
+abbrev pub texts_from : (ℕ → List ℕ) → ℕ → ℕ → List ℕ
+texts_from f start n = flat_map f (range_with_len start n)
+
+one_more : (f : ℕ → List ℕ) (start n : ℕ) → texts_from f start (n + 1) ≡ texts_from f start n ++ f (start + n)
+one_more f start n =
+    ap (flat_map f) (range_more start n) ∙ flat_map-append f (range_with_len start n) ((start + n) ∷ [])
+    ∙ ap (λ l. texts_from f start n ++ l) (append-nil (f (start + n)))
+
+-- numbers in two parts
+range_split : (a m n : ℕ) → range_with_len a (m + n) ≡ range_with_len a m ++ range_with_len (a + m) n
+range_split a zero n =
+    let same : 0 + n ≡ n = omega arith in
+    ap (range_with_len a) same ∙ ap (λ b. range_with_len b n) (sym (add-zero a))
+range_split a (suc m) n =
+    let longer : suc m + n ≡ suc (m + n) = omega arith in
+    let there : a + 1 + m ≡ a + suc m = omega arith in
+    ap (range_with_len a) longer ∙ ap (λ l. a ∷ l) (range_split (a + 1) m n ∙ ap (λ b. range_with_len (a + 1) m ++ range_with_len b n) there)
+
+pub texts_around : (f : ℕ → List ℕ) (start n all : ℕ) → n < all → texts_from f start all ≡ (texts_from f start n ++ f (start + n)) ++ texts_from f (start + (n + 1)) (all - (n + 1))
+texts_around f start n all within =
+    let parts : n + 1 + (all - (n + 1)) ≡ all = omega arith in
+    ap (texts_from f start) (sym parts)
+    ∙ ap (flat_map f) (range_split start (n + 1) (all - (n + 1)))
+    ∙ flat_map-append f (range_with_len start (n + 1)) (range_with_len (start + (n + 1)) (all - (n + 1)))
+    ∙ ap (λ l. l ++ texts_from f (start + (n + 1)) (all - (n + 1))) (one_more f start n)
+
+-- the text of one chunk more
+pub texts_more : (f : ℕ → List ℕ) (start index : ℕ) (here : List ℕ) → start ≤ index → here ≡ f index
+    → texts_from f start (index - start) ++ here ≡ texts_from f start (index + 1 - start)
+texts_more f start index here low is =
+    let n = index - start in
+    let at : start + n ≡ index = omega arith in
+    let next : n + 1 ≡ index + 1 - start = omega arith in
+    ap (λ l. texts_from f start n ++ l) (is ∙ ap f (sym at)) ∙ sym (one_more f start n) ∙ ap (texts_from f start) next
+
+-- the texts before a chunk, its own, and those behind it
+pub texts_cut : (f : ℕ → List ℕ) (start end index : ℕ) (here : List ℕ) → start ≤ index → index < end → here ≡ f index
+    → texts_from f start (end - start) ≡ (texts_from f start (index - start) ++ here) ++ texts_from f (start + (index - start + 1)) (end - start - (index - start + 1))
+texts_cut f start end index here low high is =
+    let n = index - start in
+    let at : start + n ≡ index = omega arith in
+    let within : n < end - start = omega arith in
+    texts_around f start n (end - start) within
+    ∙ ap (λ l. (texts_from f start n ++ l) ++ texts_from f (start + (n + 1)) (end - start - (n + 1))) (sym (is ∙ ap f (sym at)))
+
+-- memory refused before the text of a chunk
+pub began_before : {T : Type 0} {contents : T → Option (List ℕ)} {a b : Watched T} (f : ℕ → List ℕ) (start end index : ℕ) → start ≤ index → index < end
+    → Took contents a b (texts_from f start (index - start)) → TookPart contents a b (texts_from f start (end - start)) false
+began_before f start end index low high before =
+    let n = index - start in
+    let within : n < end - start = omega arith in
+    let rest = texts_from f (start + (n + 1)) (end - start - (n + 1)) in
+    record {
+      front = texts_from f start n;
+      rest = f (start + n) ++ rest;
+      cut = texts_around f start n (end - start) within ∙ append_assoc (texts_from f start n) (f (start + n)) rest;
+      failing = before.sound;
+      grown = before.grown;
+    }
+
+-- what is written of a chunk is its text
+pub text_is : (text : ChunkText) (profile plays : Profile) (tape once : Tape) (index due : ℕ) (before after : Still) → plays ≡ profile → once ≡ tape → due ≡ due_time tape.chunks index → before ≡ still_after profile tape index
+    → after ≡ still_after plays once (index + 1) → text index due before after ≡ text_at text profile tape index
+text_is text profile plays tape once index due before after same_profile same on is next =
+    ap (λ d. text index d before after) on
+    ∙ ap (λ b. text index (due_time tape.chunks index) b after) is
+    ∙ ap (text index (due_time tape.chunks index) (still_after profile tape index)) (next
+    ∙ ap (λ t. still_after plays t (index + 1)) same
+    ∙ ap (λ p. still_after p tape (index + 1)) same_profile)
+
+-- ---- which chunks are asked for
+
+none_in : (p : ℕ → Bool) (a n : ℕ) → ((i : ℕ) → a ≤ i → i < a + n → p i ≡ false) → filter p (range_with_len a n) ≡ []
+none_in p a zero h = refl
+none_in p a (suc n) h = rw (h a (omega arith) (omega arith)) (none_in p (a + 1) n (λ i low high. h i (omega arith) (omega arith)))
+
+all_in : (p : ℕ → Bool) (a n : ℕ) → ((i : ℕ) → a ≤ i → i < a + n → p i ≡ true) → filter p (range_with_len a n) ≡ range_with_len a n
+all_in p a zero h = refl
+all_in p a (suc n) h = rw (h a (omega arith) (omega arith)) (ap (λ l. a ∷ l) (all_in p (a + 1) n (λ i low high. h i (omega arith) (omega arith))))
+
+-- those that pass lie between two places
+passing_between : (p : ℕ → Bool) (start end n : ℕ) → start ≤ end → end ≤ n → ((i : ℕ) → i < start → p i ≡ false) → ((i : ℕ) → start ≤ i → i < end → p i ≡ true) → ((i : ℕ) → end ≤ i → i < n → p i ≡ false)
+    → filter p (range_with_len 0 n) ≡ range_with_len start (end - start)
+passing_between p start end n low high before inside past =
+    let parts : start + ((end - start) + (n - end)) ≡ n = omega arith in
+    let here : 0 + start ≡ start = omega arith in
+    let there : start + (end - start) ≡ end = omega arith in
+    let behind : filter p (range_with_len start ((end - start) + (n - end))) ≡ range_with_len start (end - start) =
+    ap (filter p) (range_split start (end - start) (n - end)) ∙ filter-append p (range_with_len start (end - start)) (range_with_len (start + (end - start)) (n - end))
+    ∙ ap (λ l. l ++ filter p (range_with_len (start + (end - start)) (n - end))) (all_in p start (end - start) (λ i a b. inside i a (omega arith)))
+    ∙ ap (λ l. range_with_len start (end - start) ++ l) (none_in p (start + (end - start)) (n - end) (λ i a b. past i (omega arith) (omega arith)))
+    ∙ append-nil (range_with_len start (end - start)) in
+    ap (λ m. filter p (range_with_len 0 m)) (sym parts)
+    ∙ ap (filter p) (range_split 0 start ((end - start) + (n - end)))
+    ∙ filter-append p (range_with_len 0 start) (range_with_len (0 + start) ((end - start) + (n - end)))
+    ∙ ap (λ l. l ++ filter p (range_with_len (0 + start) ((end - start) + (n - end)))) (none_in p 0 start (λ i a b. before i (omega arith)))
+    ∙ ap (λ m. filter p (range_with_len m ((end - start) + (n - end)))) here
+    ∙ behind
+
+both_false : (s t : Bool) → t ≡ false → (s && t) ≡ false
+both_false true t h = h
+both_false false t h = refl
+
+both_true : (s t : Bool) → s ≡ true → t ≡ true → (s && t) ≡ true
+both_true s t h k = rw (h, k) refl
+
+-- a chunk that isn't due by the moment, one that isn't due after the other, and one that is asked for
+late : (from : Option ℕ) (to due : ℕ) → to < due → is_asked from to due ≡ false
+late None to due h = lt-leb due to h
+late (Some from) to due h = both_false (nat_lt from due) (nat_le due to) (lt-leb due to h)
+
+early : DueIsBelowTheCount → (chunks : List Chunk) (from : Option ℕ) (to i : ℕ) → i < length chunks → i < first_asked chunks from → is_asked from to (due_time chunks i) ≡ false
+early law chunks None to i within h = absurd (omega arith)
+early law chunks (Some from) to i within h =
+    let due : due_time chunks i ≤ from = (law chunks from i within).1 h in
+    rw (le-ltb from (due_time chunks i) due) refl
+
+asked : DueIsBelowTheCount → (chunks : List Chunk) (from : Option ℕ) (to i : ℕ) → i < length chunks → first_asked chunks from ≤ i → i < due_count chunks to → is_asked from to (due_time chunks i) ≡ true
+asked law chunks None to i within low h = le-leb (due_time chunks i) to ((law chunks to i within).1 h)
+asked law chunks (Some from) to i within low h =
+    both_true (nat_lt from (due_time chunks i)) (nat_le (due_time chunks i) to)
+    (elim (cases_lt from (due_time chunks i)) [
+      | inl lt ↦ lt-ltb from (due_time chunks i) lt
+      | inr ge ↦ let below = (law chunks from i within).0 ge in absurd (omega (arith, below))
+    ])
+    (le-leb (due_time chunks i) to ((law chunks to i within).1 h))
+
+past_due : DueIsBelowTheCount → (chunks : List Chunk) (from : Option ℕ) (to i : ℕ) → i < length chunks → due_count chunks to ≤ i → is_asked from to (due_time chunks i) ≡ false
+past_due law chunks from to i within h =
+    late from to (due_time chunks i)
+    (elim (cases_lt to (due_time chunks i)) [
+      | inl lt ↦ lt
+      | inr ge ↦ let below = (law chunks to i within).0 ge in absurd (omega (arith, below))
+    ])
+
+-- the chunks that are asked for, where there are some
+pub asked_some : DueIsBelowTheCount → (text : ChunkText) (profile : Profile) (tape : Tape) (from : Option ℕ) (to : ℕ) → first_asked tape.chunks from ≤ due_count tape.chunks to → due_count tape.chunks to ≤ length tape.chunks
+    → walk_text text profile tape from to ≡ texts_from (text_at text profile tape) (first_asked tape.chunks from) (due_count tape.chunks to - first_asked tape.chunks from)
+unfolding walk_text
+asked_some law text profile tape from to some within =
+    ap (flat_map (text_at text profile tape)) (passing_between (λ i. is_asked from to (due_time tape.chunks i)) (first_asked tape.chunks from) (due_count tape.chunks to) (length tape.chunks) some within
+    (λ i h. early law tape.chunks from to i (omega arith) h)
+    (λ i low high. asked law tape.chunks from to i (omega arith) low high)
+    (λ i low high. past_due law tape.chunks from to i high low))
+
+pub asked_from : DueIsBelowTheCount → (text : ChunkText) (profile : Profile) (tape : Tape) (from : Option ℕ) (to start end : ℕ) → start ≡ first_asked tape.chunks from → end ≡ due_count tape.chunks to → start ≤ end → end ≤ length tape.chunks
+    → texts_from (text_at text profile tape) start (end - start) ≡ walk_text text profile tape from to
+asked_from law text profile tape from to start end low high some within =
+    ap (λ s. texts_from (text_at text profile tape) s (end - s)) low ∙ ap (λ e. texts_from (text_at text profile tape) (first_asked tape.chunks from) (e - first_asked tape.chunks from)) high
+    ∙ sym (asked_some law text profile tape from to (omega (arith, low, high)) (omega (arith, high)))
+
+-- and where there is none
+pub asked_none : DueIsBelowTheCount → (text : ChunkText) (profile : Profile) (tape : Tape) (from : Option ℕ) (to : ℕ) → due_count tape.chunks to ≤ first_asked tape.chunks from → walk_text text profile tape from to ≡ []
+unfolding walk_text
+asked_none law text profile tape from to none =
+    ap (flat_map (text_at text profile tape)) (none_in (λ i. is_asked from to (due_time tape.chunks i)) 0 (length tape.chunks)
+    (λ i low high. elim (cases_lt i (first_asked tape.chunks from)) [
+      | inl lt ↦ early law tape.chunks from to i (omega arith) lt
+      | inr ge ↦ past_due law tape.chunks from to i (omega arith) (omega arith)
+    ]))

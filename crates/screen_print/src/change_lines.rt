@@ -1,0 +1,131 @@
+//! The lines of the screen that each chunk of a recording changes.
+
+ghost use Rattle.std.specs.Prelude.{
+  ◌≡◌,
+  ◌≢◌,
+  ◌≤◌,
+  ◌++◌,
+  ◌∷◌,
+  true,
+  false,
+  Err,
+  OnOk,
+  IfErr,
+};
+ghost use Rattle.std.specs.Fmt.{decimal};
+ghost use Rattle.std.specs.List.{flat_map};
+ghost use Rattle.tape_core.specs.Devices.{Puts, Took, has_failed, is_flushed};
+ghost use Rattle.tape_core.specs.Due.{due_count};
+ghost use Rattle.tape_core.specs.Written.{seconds_form};
+ghost use Rattle.tape_seek.specs.State.{KeepsHistory};
+ghost use Rattle.screen_print.specs.ChangeLines.{change_line, change_lines, spaced_number};
+ghost use Rattle.screen_print.specs.Stops.{OnlySeeks, StopsChanges};
+
+use crate::chunk_changes::{ChangesFault, ChunkPrinter, put_chunks};
+use crate::still::Still;
+use itoa::Buffer;
+use std::io::Write;
+use tape_core::laws::{pieces_join, writers_join};
+use tape_core::{Fault, Watched, seconds_text};
+use tape_seek::Session;
+
+/// Writes, for each chunk that is due after `from` (None: from chunk 0 on) and by `to`, the lines that
+/// it changes, and flushes. It works by seeks. After a fault a beginning of the text has gone out. The
+/// recording and the log stay, and the frontier isn't lowered.
+#[tactic(auto, using(crate::proofs::WalkLemmas::seeks_keep_history), unfolding(crate::specs::ChangeLines::change_lines))]
+pub fn changes<W: Write>(
+    session: &mut Session,
+    from: Option<u64>,
+    to: u64,
+    writer: &mut Watched<W>,
+) -> Result<(), ChangesFault>
+    requires { has_failed writer.old ≡ false }
+    ensures ok { OnOk result (Took W.contents writer.old writer.new
+        (change_lines session.old.profile session.old.recording from to)) }
+    ensures flushed { OnOk result (is_flushed writer.new ≡ true) }
+    ensures fault { IfErr result (StopsChanges W.contents writer.old writer.new
+        (change_lines session.old.profile session.old.recording from to)) }
+    ensures stays { OnlySeeks session.old session.new }
+    // Whatever recording the session was opened with: where its own is that one edited by the log,
+    // it is so still.
+    ensures history { KeepsHistory session.old session.new }
+    ensures room { due_count session.old.recording.chunks to ≤ session.old.marks.frontier
+        → result ≢ Err ChangesFault.Memory }
+{
+    writers_join::<W>();
+    put_chunks(session, from, to, &ChangedLines, writer)?;
+    writer.finish()?;
+    Ok(())
+}
+
+/// Writes a chunk's place, when it is due, and the lines that it changes.
+struct ChangedLines;
+
+impl ChunkPrinter for ChangedLines {
+    ghost use Rattle.screen_print.specs.ChangeLines.{change_text};
+
+    ghost text = { λ _. change_text };
+
+    fn put<W: Write>(
+        &self,
+        index: usize,
+        due: u64,
+        _before: &Still,
+        _after: &Still,
+        lines: &[u8],
+        writer: &mut Watched<W>,
+    ) -> Result<(), Fault> {
+        put_change(index, due, lines, writer)
+    }
+}
+
+/// Writes the line of a chunk, or nothing where it changes no line.
+fn put_change<W: Write>(
+    index: usize,
+    due: u64,
+    lines: &[u8],
+    writer: &mut Watched<W>,
+) -> Result<(), Fault>
+    requires { has_failed writer.old ≡ false }
+    ensures { Puts W.contents writer.old writer.new (change_line index due lines.now) result }
+{
+    writers_join::<W>();
+    if lines.is_empty() {
+        return Ok(());
+    }
+    put_place(index, due, writer)?;
+    put_numbers(lines, writer)?;
+    writer.put(b"\n")?;
+    Ok(())
+}
+
+/// Writes a chunk's place and when it is due.
+fn put_place<W: Write>(index: usize, due: u64, writer: &mut Watched<W>) -> Result<(), Fault>
+    requires { has_failed writer.old ≡ false }
+    ensures { Puts W.contents writer.old writer.new
+        (decimal index ++ 32 ∷ seconds_form due) result }
+{
+    let mut digits = Buffer::new();
+    let index = digits.format(index).as_bytes();
+    writer.put_all(&[index, b" ", seconds_text(due).as_bytes()])
+}
+
+/// Writes numbers, a space before each.
+fn put_numbers<W: Write>(numbers: &[u8], writer: &mut Watched<W>) -> Result<(), Fault>
+    requires { has_failed writer.old ≡ false }
+    ensures { Puts W.contents writer.old writer.new (flat_map spaced_number numbers.now) result }
+{
+    pieces_join::<W, u8>();
+    for number in numbers {
+        put_number(*number, writer)?;
+    }
+    Ok(())
+}
+
+/// Writes a space and a number.
+fn put_number<W: Write>(number: u8, writer: &mut Watched<W>) -> Result<(), Fault>
+    requires { has_failed writer.old ≡ false }
+    ensures { Puts W.contents writer.old writer.new (spaced_number number) result }
+{
+    writer.put_all(&[b" ", Buffer::new().format(number).as_bytes()])
+}

@@ -1,0 +1,224 @@
+//! What stands on a screen, copied, and which lines differ from it.
+
+ghost use Rattle.std.specs.Prelude.{◌≡◌, ◌≢◌, ◌≤◌, ℕ, length, not, take, true, false};
+ghost use Rattle.vt_screen.specs.Cells.{row_at};
+ghost use Rattle.vt_screen.specs.Picture.{SoundRow};
+ghost use Rattle.screen_print.specs.SameRows.{changed_lines, is_changed, same_cell, same_row};
+ghost use Rattle.std.specs.Cmp.Lexicographic.{pointwise};
+
+use arrayvec::ArrayVec;
+use std::marker::Model;
+use vt_screen::laws::screens_are_sound;
+use vt_screen::limits::{LINES, NARROW_COLUMNS, WIDE_COLUMNS};
+use vt_screen::{Cell, Row, Screen};
+use vt_term::Terminal;
+
+/// How many rows a screen has.
+pub(crate) const ROWS: usize = LINES as usize;
+
+const NARROW: usize = NARROW_COLUMNS as usize;
+
+const WIDE: usize = WIDE_COLUMNS as usize;
+
+/// A copy of what stands on a screen: its columns, its rows, whether it is reversed, and its cursor.
+#[derive(Drop)]
+pub struct Still {
+    rows: [Row; ROWS],
+    wide: bool,
+    reversed: bool,
+    line: u8,
+    column: u8,
+}
+
+impl Model for Still {
+    ghost use Rattle.screen_print.specs.Stills.{IsStill, Still};
+
+    ghost Value = { Still };
+
+    ghost use Rattle.screen_print.specs.View.{still_in};
+
+    ghost view = { still_in };
+
+    ghost invariant = { λ s. IsStill (still_in s) };
+}
+
+impl Still {
+    ghost use Rattle.screen_print.specs.Stills.{IsStill, still_of};
+
+    /// What stands on the screen of a terminal.
+    pub fn of(terminal: &Terminal) -> Self
+        ensures { result ≡ still_of terminal.now.console }
+    {
+        let screen = terminal.screen();
+        let (line, column) = screen.cursor();
+        Still {
+            rows: rows_of(screen),
+            wide: is_wide(screen),
+            reversed: terminal.modes().reverse_screen,
+            line,
+            column,
+        }
+    }
+
+    /// Whether it has 132 columns.
+    pub fn is_wide(&self) -> bool
+        ensures { result ≡ self.now.wide }
+    {
+        self.wide
+    }
+
+    /// The row of a line.
+    pub fn row(&self, line: u8) -> &Row
+        requires low { 1 ≤ line }
+        requires high { line ≤ LINES }
+        ensures value { result.now ≡ row_at self.now.rows line }
+        ensures sound { SoundRow self.now.wide result.now }
+    {
+        &self.rows[line as usize - 1]
+    }
+
+    /// Whether the screen is reversed.
+    pub fn is_reversed(&self) -> bool
+        ensures { result ≡ self.now.reversed }
+    {
+        self.reversed
+    }
+
+    /// The cursor's line and column.
+    pub fn cursor(&self) -> (u8, u8)
+        ensures line { result.0 ≡ self.now.line }
+        ensures column { result.1 ≡ self.now.column }
+    {
+        (self.line, self.column)
+    }
+
+    /// Becomes what stands on the screen of a terminal, and tells which lines that changes.
+    pub(crate) fn take_changes(&mut self, terminal: &Terminal) -> ArrayVec<u8, ROWS>
+        ensures still { self.new ≡ still_of terminal.now.console }
+        ensures changed { result.items ≡ changed_lines self.old.rows self.new.rows }
+    {
+        let screen = terminal.screen();
+        screens_are_sound(screen);
+        let wide = is_wide(screen);
+        let narrow = !(wide || self.wide);
+        let lines = take_changes(&mut self.rows, screen, narrow);
+        self.wide = wide;
+        self.reversed = terminal.modes().reverse_screen;
+        (self.line, self.column) = screen.cursor();
+        lines
+    }
+
+    /// Becomes another one, from which it differs in these lines.
+    pub(crate) fn catch_up(&mut self, other: &Still, lines: &[u8])
+        requires { lines.now ≡ changed_lines self.old.rows other.now.rows }
+        ensures { self.new ≡ other.now }
+    {
+        copy_lines(&mut self.rows, &other.rows, lines);
+        self.wide = other.wide;
+        self.reversed = other.reversed;
+        self.line = other.line;
+        self.column = other.column;
+    }
+}
+
+/// Whether a screen has 132 columns.
+fn is_wide(screen: &Screen) -> bool
+    ensures { result ≡ screen.now.picture.wide }
+{
+    screen.columns() == WIDE_COLUMNS
+}
+
+/// A copy of the screen's rows.
+fn rows_of(screen: &Screen) -> [Row; ROWS]
+    ensures { result ≡ screen.now.picture.rows }
+{
+    screens_are_sound(screen);
+    let mut rows = [Row::blank(); ROWS];
+    for line in 1..LINES + 1 {
+        rows[line as usize - 1] = *screen.row(line);
+    }
+    rows
+}
+
+/// The lines that differ from the rows, which become those of the screen.
+fn take_changes(rows: &mut [Row; ROWS], screen: &Screen, narrow: bool) -> ArrayVec<u8, ROWS>
+    requires here { narrow ≡ true → screen.now.picture.wide ≡ false }
+    requires there { narrow ≡ true → (k : ℕ) → SoundRow false (row_at rows.old k) }
+    ensures rows { rows.new ≡ screen.now.picture.rows }
+    ensures changed { result.items ≡ changed_lines rows.old screen.now.picture.rows }
+{
+    screens_are_sound(screen);
+    let mut changed = ArrayVec::new();
+    for line in 1..LINES + 1 {
+        if take_change(rows, screen, line, narrow) {
+            changed.push(line);
+        }
+    }
+    changed
+}
+
+/// Whether a line differs from its row, which becomes that of the screen.
+fn take_change(rows: &mut [Row; ROWS], screen: &Screen, line: u8, narrow: bool) -> bool
+    requires low { 1 ≤ line }
+    requires high { line ≤ LINES }
+    requires here { narrow ≡ true → screen.now.picture.wide ≡ false }
+    requires there { narrow ≡ true → SoundRow false (row_at rows.old line) }
+    ensures changed { result ≡ is_changed rows.old screen.now.picture.rows line }
+    ensures taken { row_at rows.new line ≡ row_at screen.now.picture.rows line }
+    ensures whole { length rows.new ≡ ROWS }
+    ensures others { (k : ℕ) → 1 ≤ k → k ≢ line → row_at rows.new k ≡ row_at rows.old k }
+{
+    let row = screen.row(line);
+    let at = line as usize - 1;
+    if same_row(&rows[at], row, narrow) {
+        return false;
+    }
+    rows[at] = *row;
+    true
+}
+
+/// Whether two rows have the same size and the same cells. Rows of narrow screens are blank right of
+/// column 80, and aren't compared there.
+fn same_row(one: &Row, other: &Row, narrow: bool) -> bool
+    requires { narrow ≡ true → SoundRow false one.now × SoundRow false other.now }
+    ensures { result ≡ same_row one.now other.now }
+{
+    one.size == other.size && same_cells(one, other, narrow)
+}
+
+/// Whether two rows have the same cells.
+fn same_cells(one: &Row, other: &Row, narrow: bool) -> bool
+    requires { narrow ≡ true → SoundRow false one.now × SoundRow false other.now }
+    ensures { result ≡ pointwise same_cell one.now.cells other.now.cells }
+{
+    if narrow {
+        return same_first::<NARROW>(&one.cells, &other.cells);
+    }
+    same_first::<WIDE>(&one.cells, &other.cells)
+}
+
+/// Whether the first N cells are the same. Each is compared, whatever those before it came to, so that
+/// many are compared at once.
+fn same_first<const N: usize>(one: &[Cell; WIDE], other: &[Cell; WIDE]) -> bool
+    requires { N ≤ WIDE }
+    ensures same { result ≡ pointwise same_cell (take N one.now) (take N other.now) }
+    ensures whole { length one.now ≡ WIDE }
+    ensures other_whole { length other.now ≡ WIDE }
+{
+    let mut same = true;
+    for at in 0..N {
+        same &= one[at].number() == other[at].number();
+    }
+    same
+}
+
+/// Copies the rows of these lines.
+fn copy_lines(rows: &mut [Row; ROWS], other: &[Row; ROWS], lines: &[u8])
+    requires { lines.now ≡ changed_lines rows.old other.now }
+    ensures { rows.new ≡ other.now }
+{
+    for line in lines {
+        let at = *line as usize - 1;
+        rows[at] = other[at];
+    }
+}
