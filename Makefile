@@ -2,7 +2,7 @@
 PREFIX ?= /usr/local
 SOURCES := crates.txt $(shell find crates -name out -prune -o -type f -print)
 
-.PHONY: all quick demo lint test soak install uninstall clean
+.PHONY: all quick demo lint test browser soak install uninstall clean
 
 all: bin/typetool
 
@@ -44,6 +44,11 @@ test: lint
 	tests/memory.py bin/typetool
 	tests/damage.py bin/typetool 500
 	tests/refused.py 1 16
+	tests/browser.py bin/typetool
+
+# The player of a page in Chromium, where there is one.
+browser: bin/typetool
+	tests/browser.py bin/typetool
 
 # The long forms: more limits on memory, 20,000 damaged pairs, every growth refused in turn, and more wrong bodies.
 soak: bin/typetool

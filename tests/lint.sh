@@ -1,14 +1,14 @@
 #!/usr/bin/env bash
-# Looks over the shell, the Python and the layout of all crates.
+# Looks over the shell, the Python, the JavaScript and the layout of all crates.
 #
 #     tests/lint.sh
 #
-# It takes Debian's shellcheck, flake8 and black (apt-get install shellcheck flake8 black), and rt. A linter that isn't
-# there is passed over with a sentence that says so. The last line is 'N passed, M failed'.
+# It takes Debian's shellcheck, flake8, black and eslint (apt-get install shellcheck flake8 black eslint), and rt. A
+# linter that isn't there is passed over with a sentence that says so. The last line is 'N passed, M failed'.
 set -u
 cd "$(dirname "$0")/.." || exit 2
 shell=(tests/*.sh bench/*.sh completions/typetool.bash .ci/run)
-python=(tests/*.py bench/*.py examples/*.py)
+python=(tests/*.py bench/*.py examples/*.py assets/*.py)
 passed=0 failed=0
 
 # look NAME COMMAND..: runs a linter, which answers 0 where all is well.
@@ -50,6 +50,9 @@ if command -v black >/dev/null && ! black --version | grep -q '^black, 23'; then
 else
     look 'the layout of the Python' black --quiet --check --diff --line-length 120 "${python[@]}"
 fi
+# Debian's eslint finds what it stands on there, whichever node comes first.
+export NODE_PATH=/usr/share/nodejs
+look 'the JavaScript' eslint assets/page.js
 if command -v rt >/dev/null; then
     if layout crates/*; then passed=$((passed + 1)); else failed=$((failed + 1)); fi
 else

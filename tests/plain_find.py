@@ -1,0 +1,57 @@
+"""A plain reading of where a text stands on a screen, and of when it came and went.
+
+It is written from docs/PICTURES.md alone and shares nothing with the program.
+"""
+from collections import Counter
+
+from plain_screen import drawn, text_of
+
+
+def rows_of(escaped):
+    """The characters of each row, from column 1 to its right margin."""
+    screen = drawn(escaped)
+    return [text_of(screen, row) for row in screen.rows]
+
+
+def lines_of(rows):
+    """The rows of each line, from its first one on: a row whose last character is a space ends a line."""
+    line = []
+    for number, row in enumerate(rows):
+        line.append((number, row))
+        if row[-1] == " " or number == len(rows) - 1:
+            yield line
+            line = []
+
+
+def standing(rows, text):
+    """Each place of the text: row and column from 1, its left part, and its rows as they are written."""
+    for line in lines_of(rows):
+        joined = "".join(row for _, row in line)
+        starts = [sum(len(row) for _, row in line[:n]) for n in range(len(line) + 1)]
+        for at in range(len(joined) - len(text) + 1):
+            if joined.startswith(text, at):
+                first = max(n for n in range(len(line)) if starts[n] <= at)
+                last = max(n for n in range(len(line)) if starts[n] < at + len(text))
+                left = joined[starts[first] : at + len(text)]
+                shown = joined[starts[first] : starts[last + 1]].rstrip(" ")
+                yield line[first][0] + 1, at - starts[first] + 1, left, shown
+
+
+def less(one, other):
+    """Each of one before which one has at least as many with its left part as the other has in all."""
+    there, before = Counter(left for _, _, left, _ in other), Counter()
+    for place in one:
+        if before[place[2]] >= there[place[2]]:
+            yield place
+        before[place[2]] += 1
+
+
+def find_lines(screens, dues, asked, text):
+    """The find lines of these chunks, of the screens before and after each; dues as they are written."""
+    told = []
+    for index in asked:
+        before, after = (list(standing(rows, text)) for rows in screens[index : index + 2])
+        for sign, places in (("-", less(before, after)), ("+", less(after, before))):
+            for row, column, _, shown in places:
+                told.append(f"{sign} {index} {dues[index]} {row} {column} {shown}\n")
+    return "".join(told)
