@@ -230,7 +230,8 @@ asked 'refused edits' 1 'delete 3 3\ninsert 11 0 -\ninsert 0 1000000.000001 -\nl
     'refused E6 BadRange\nrefused E1 NoSuchChunk\nrefused E2 DelayTooLarge\nend\n' ten.script ten.timing
 asked 'no lines' 0 '' '' ab.script ab.timing
 asked 'a terminal at every chunk' 0 'screen 9\nscreen 0\n' "$(screen_of ab)$(screen_of a)" ab.script ab.timing --every 1
-check 'every with a sign' 2 '' 'typetool: bad number of chunks\n' session --every=+5 nowhere nowhere
+check 'every with a sign' 2 '' 'typetool: bad number of chunks: 1 to 1000000\n' session --every=+5 nowhere nowhere
+check 'every out of its range' 2 '' 'typetool: bad number of chunks: 1 to 1000000\n' session --every 0 nowhere nowhere
 
 # The second profile and the escaped print.
 printf 'Script started on X\nabcdef\033[1;2H\033[2P\033[c' >edits.script
@@ -238,7 +239,7 @@ printf '0.5 19\n' >edits.timing
 check 'cells deleted under a VT102' 0 "$(screen_of adef)" '' screen --at 1 --profile vt102 edits.script edits.timing
 asked 'a session of a VT102' 0 'reports 1\nscreen 1\n' '1b5b3f3663\n'"$(screen_of adef)" \
     edits.script edits.timing --profile vt102
-check 'another profile' 2 '' 'typetool: bad profile\n' screen --at 1 --profile vt220 nowhere nowhere
+check 'another profile' 2 '' 'typetool: bad profile: vt100 or vt102\n' screen --at 1 --profile vt220 nowhere nowhere
 check 'the escaped print' 0 '\033[?7l\033)0\033[1;1Hadef\033[0m\017\033[?7h\033[1;2H' '' \
     screen --at 1 --escaped --profile vt102 edits.script edits.timing
 "$program" session ab.script ab.timing 0>>there >out.txt 2>err.txt

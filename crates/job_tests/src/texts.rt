@@ -67,8 +67,8 @@ fn a_job_fault_has_the_text_of_its_fault(rt: HostRuntime) -> Result<(), Fail> {
 fn a_line_that_is_no_job_is_told_why(rt: HostRuntime) -> Result<(), Fail> {
     let texts = [
         (WordsFault::BadSeconds, "bad seconds"),
-        (WordsFault::BadEvery, "bad number of chunks"),
-        (WordsFault::BadProfile, "bad profile"),
+        (WordsFault::BadEvery, "bad number of chunks: 1 to 1000000"),
+        (WordsFault::BadProfile, "bad profile: vt100 or vt102"),
         (WordsFault::Memory, "out of memory"),
     ];
     for (fault, wanted) in texts {

@@ -7,7 +7,7 @@ use Rattle.tape_core.specs.Tape.{Tape}
 use Rattle.tape_core.specs.declared.devices.Watched.{Watched}
 use Rattle.tape_core.specs.declared.fault.Fault.{Fault}
 use Rattle.tape_core.specs.declared.fault.Fault.TheVariants.{OutOfMemory, ReadFault, WriteFault}
-use Rattle.tape_jobs.specs.Endings.{AreRead, AreSound, Begun, EndsAt, HasFailed, IsBroken, IsDone, IsForDevice, IsForMemory, IsSound, IsUnwritten, IsWhole, OnFiles, Readers, RunEnds, RunsOut, Stays, Tells, WantsMemory, Writers, Wrote, Stopped, is_refused}
+use Rattle.tape_jobs.specs.Endings.{AReaderFailed, AreRead, AreSound, AsksNothing, HasFailed, HoldFiles, IsBroken, IsDone, IsForDevice, IsForMemory, IsSound, IsUndone, IsUnwritten, IsWhole, JobEnds, OnFiles, Readers, RunEnds, RunsOut, TookBoth, TookPartOfBoth, WantsMemory, Writers, is_refused}
 use Rattle.tape_jobs.specs.Output.{Comes, Done, Files, IsDoneStatus, done_on, is_stopped, outcome_by, refused_with, status_of, takes_requests, writes_timing}
 use Rattle.tape_jobs.specs.declared.job.Ending.{Ending}
 use Rattle.tape_jobs.specs.declared.job.Job.{Job}
@@ -16,17 +16,20 @@ use Rattle.tape_jobs.specs.declared.job.JobFault.{JobFault}
 use Rattle.tape_jobs.specs.declared.job.JobFault.TheVariants.{File, Line, Memory}
 
 -- a pair with a fault
-comes_refused : (job : Job) (files : Files) (f : Fault) → fault_of files.script files.timing ≡ Some f → Comes job files (refused_with (File f))
+comes_refused : (job : Job) (files : Files) (f : Fault) → fault_of files.script files.timing ≡ Some f
+    → Comes job files (refused_with (File f))
 comes_refused job files f e =
     subst (λ o. MatchOption o ((tape : Tape) × reads files.script files.timing tape × (refused_with (File f) ≡ done_on job tape files.requests)) (λ g. refused_with (File f) ≡ refused_with (File g))) (sym e) refl
 
 -- a pair that is read
-comes_done : (job : Job) (files : Files) (tape : Tape) → reads files.script files.timing tape → Comes job files (done_on job tape files.requests)
+comes_done : (job : Job) (files : Files) (tape : Tape) → reads files.script files.timing tape
+    → Comes job files (done_on job tape files.requests)
 comes_done job files tape h =
     subst (λ o. MatchOption o ((other : Tape) × reads files.script files.timing other × (done_on job tape files.requests ≡ done_on job other files.requests)) (λ g. done_on job tape files.requests ≡ refused_with (File g))) (sym h.faultless) (tape, h, refl)
 
 -- where a job takes no request lines, it comes to the same whatever they are
-same_done : (job : Job) (tape : Tape) (one other : List ℕ) → (takes_requests job ≡ true → one ≡ other) → done_on job tape one ≡ done_on job tape other
+same_done : (job : Job) (tape : Tape) (one other : List ℕ) → (takes_requests job ≡ true → one ≡ other)
+    → done_on job tape one ≡ done_on job tape other
 same_done (jobs.Due at) tape one other same = refl
 same_done jobs.Info tape one other same = refl
 same_done (jobs.Screen at profile escaped) tape one other same = refl
@@ -56,7 +59,7 @@ pub record IsBefore {O P : Type 0} (writers : Writers O P) : Type 0 where
 
 module _ {O P : Type 0} {writers : Writers O P} (before : IsBefore writers) where
   -- where nothing was written
-  took_none : IsUnwritten writers → (f : JobFault) → Wrote writers (refused_with f)
+  took_none : IsUnwritten writers → (f : JobFault) → TookBoth writers (refused_with f)
   took_none unwritten f = record {
     text = subst (λ x. Took writers.out.bytes writers.out.old x []) (sym unwritten.0) before.nothing;
     timing = subst (λ x. Took writers.out_timing.bytes writers.out_timing.old x []) (sym unwritten.1) before.nothing_timing;
@@ -67,9 +70,13 @@ module _ {O P : Type 0} {writers : Writers O P} (before : IsBefore writers) wher
 
 module _ {S T R O P : Type 0} {readers : Readers S T R} {writers : Writers O P} {job : Job} (before : IsBefore writers) where
   -- a job whose files aren't read
-  pub ends_unread : (f : Fault) → (is_stop f ≡ false → (files : Files) → Tells readers job files → fault_of files.script files.timing ≡ Some f)
-      → (f ≢ ReadFault → AreRead readers) → (f ≡ ReadFault → HasFailed readers.script ⊎ (HasFailed readers.timing ⊎ HasFailed readers.requests)) → f ≢ WriteFault
-      → (takes_requests job ≡ false → Stays readers.requests) → IsUnwritten writers → RunEnds readers writers job (outcome_by (Err (File f)))
+  pub ends_unread : (f : Fault)
+      → (is_stop f ≡ false → (files : Files) → HoldFiles readers job files → fault_of files.script files.timing ≡ Some f)
+      → (f ≢ ReadFault → AreRead readers)
+      → (f ≡ ReadFault → HasFailed readers.script ⊎ (HasFailed readers.timing ⊎ HasFailed readers.requests))
+      → f ≢ WriteFault
+      → (takes_requests job ≡ false → AsksNothing readers.requests) → IsUnwritten writers
+      → RunEnds readers writers job (outcome_by (Err (File f)))
   ends_unread f fault read failed other alone unwritten = record {
     done = λ e. absurd (cc);
     refused = λ e.
@@ -104,8 +111,8 @@ module _ {S T R O P : Type 0} {readers : Readers S T R} {writers : Writers O P} 
   }
 
   -- a job on the recording that was read
-  module _ (tape : Tape) (lines : List ℕ) (is_read : (files : Files) → Tells readers job files → reads files.script files.timing tape × (takes_requests job ≡ true → lines ≡ files.requests))
-      (read : AreRead readers) (alone : takes_requests job ≡ false → Stays readers.requests) (alone_timing : writes_timing job ≡ false → Stays writers.out_timing) where
+  module _ (tape : Tape) (lines : List ℕ) (is_read : (files : Files) → HoldFiles readers job files → reads files.script files.timing tape × (takes_requests job ≡ true → lines ≡ files.requests))
+      (read : AreRead readers) (alone : takes_requests job ≡ false → AsksNothing readers.requests) (alone_timing : writes_timing job ≡ false → AsksNothing writers.out_timing) where
     on_files : {Is : Done → Type 0} → Is (done_on job tape lines) → OnFiles readers job Is
     on_files {Is} is = λ files told.
         let known = is_read files told in (
@@ -114,7 +121,8 @@ module _ {S T R O P : Type 0} {readers : Readers S T R} {writers : Writers O P} 
           is,
         )
 
-    ends_done : (ending : Ending) → IsDone writers job (done_on job tape lines) ending → RunEnds readers writers job (outcome_by (Ok ending))
+    ends_done : (ending : Ending) → IsDone writers job (done_on job tape lines) ending
+        → RunEnds readers writers job (outcome_by (Ok ending))
     ends_done ending is = record {
       done = λ _. (
         record { read = read; written = (is.wrote.text.sound, is.wrote.timing.sound); comes = on_files (sym is.outcome, is.wrote) },
@@ -134,13 +142,14 @@ module _ {S T R O P : Type 0} {readers : Readers S T R} {writers : Writers O P} 
       out_timing = alone_timing;
     }
 
-    begun_sound : (done : Done) → Begun writers done → AreSound writers
+    begun_sound : (done : Done) → TookPartOfBoth writers done false → AreSound writers
     begun_sound done begun = elim begun [
       | inl (first, stays) ↦ (first.failing, subst (λ x. has_failed x ≡ false) (sym stays) before.nothing_timing.sound)
       | inr (whole, second) ↦ (whole.sound, second.failing)
     ]
 
-    ends_for_memory : WantsMemory writers job (done_on job tape lines) → RunEnds readers writers job (outcome_by (Err Memory))
+    ends_for_memory : WantsMemory writers job (done_on job tape lines)
+        → RunEnds readers writers job (outcome_by (Err Memory))
     ends_for_memory wants = record {
       done = λ e. absurd (cc);
       refused = λ e. absurd (cc);
@@ -161,13 +170,15 @@ module _ {S T R O P : Type 0} {readers : Readers S T R} {writers : Writers O P} 
       out_timing = alone_timing;
     }
 
-    stopped_failed : (done : Done) → Stopped writers done → HasFailed writers.out ⊎ HasFailed writers.out_timing
+    stopped_failed : (done : Done) → TookPartOfBoth writers done true
+        → HasFailed writers.out ⊎ HasFailed writers.out_timing
     stopped_failed done stopped = elim stopped [
       | inl (first, stays) ↦ inl (first.failing)
       | inr (whole, second) ↦ inr (second.failing)
     ]
 
-    ends_at_a_writer : Stopped writers (done_on job tape lines) → RunEnds readers writers job (outcome_by (Err (File WriteFault)))
+    ends_at_a_writer : TookPartOfBoth writers (done_on job tape lines) true
+        → RunEnds readers writers job (outcome_by (Err (File WriteFault)))
     ends_at_a_writer stopped = record {
       done = λ e. absurd (cc);
       refused = λ e. absurd (cc);
@@ -186,14 +197,15 @@ module _ {S T R O P : Type 0} {readers : Readers S T R} {writers : Writers O P} 
       out_timing = alone_timing;
     }
 
-    ends_refused : (f : JobFault) → is_stopped (Some f) ≡ false → done_on job tape lines ≡ refused_with f → IsUnwritten writers → RunEnds readers writers job (outcome_by (Err f))
+    ends_refused : (f : JobFault) → is_stopped (Some f) ≡ false → done_on job tape lines ≡ refused_with f
+        → IsUnwritten writers → RunEnds readers writers job (outcome_by (Err f))
     ends_refused f unstopped same unwritten = record {
       done = λ e. absurd (cc);
       refused = λ _. (
         record {
           read = read;
           written = both_sound before unwritten;
-          comes = on_files (refused_outcome f unstopped ∙ ap (λ (d : Done). d.outcome) (sym same), subst (Wrote writers) (sym same) (took_none before unwritten f));
+          comes = on_files (refused_outcome f unstopped ∙ ap (λ (d : Done). d.outcome) (sym same), subst (TookBoth writers) (sym same) (took_none before unwritten f));
         },
         unwritten,
       );
@@ -210,7 +222,8 @@ module _ {S T R O P : Type 0} {readers : Readers S T R} {writers : Writers O P} 
       out_timing = λ _. unwritten.1;
     }
 
-    ends_at : (f : JobFault) → EndsAt writers job (done_on job tape lines) f → RunEnds readers writers job (outcome_by (Err f))
+    ends_at : (f : JobFault) → IsUndone writers job (done_on job tape lines) f
+        → RunEnds readers writers job (outcome_by (Err f))
     ends_at f ends = elim ends [
       | inl (e, wants) ↦ subst (λ g. RunEnds readers writers job (outcome_by (Err g))) (sym e) (ends_for_memory wants)
       | inr later ↦ elim later [
@@ -219,6 +232,7 @@ module _ {S T R O P : Type 0} {readers : Readers S T R} {writers : Writers O P} 
       ]
     ]
 
-    pub ends_performed : (r : Result Ending JobFault) → IfOk r (IsDone writers job (done_on job tape lines)) → IfErr r (EndsAt writers job (done_on job tape lines)) → RunEnds readers writers job (outcome_by r)
-    ends_performed (Ok ending) done fault = ends_done ending done
-    ends_performed (Err f) done fault = ends_at f fault
+    pub ends_performed : (r : Result Ending JobFault) → JobEnds writers job (done_on job tape lines) r
+        → RunEnds readers writers job (outcome_by r)
+    ends_performed (Ok ending) done = ends_done ending done
+    ends_performed (Err f) fault = ends_at f fault

@@ -11,8 +11,6 @@ use Rattle.std.specs.List.{after_first, before_first, fold, list_all, position_o
 use Rattle.std.specs.Option.{option_and_then, option_map, option_map_or}
 use Rattle.std.specs.Str.{bytes_eq}
 use Rattle.clap.specs.Lexer.{strip_byte, long_of, long_of_rest, short_of_rest}
-use Rattle.clap.specs.ValueTests.{accepts, is_numeral}
-use Rattle.clap.specs.declared.builder.value_parser.ValueParser.TheVariants as parses
 use Rattle.clap.specs.Words.{App, Shape, Text, Row, takes}
 use Rattle.clap.specs.Simple.{built, built_leaf, entered, inherited, names_of, marked_built, with_leaf_noted}
 use Rattle.clap.specs.Takes.{bundle_passes, built_takes, default_passes, entered_passes, flag_word_passes, is_valid, level_passes, other_passes, settle_passes, step_passes, turn_passes, walk_passes, word_passes}
@@ -21,8 +19,8 @@ use Rattle.clap.proofs.OnLiterals.{clap_on_literals}
 use Rattle.tape_jobs.proofs.CommandLemmas.{is_simple_app, means, means_job}
 use Rattle.tape_core.specs.Seconds.{last_moment, micros, seconds_of}
 use Rattle.tape_jobs.specs.CommandLine.{typetool_app, clap_takes, every_allowed, every_of, after, readable, job_in, profile_named, value_in, meaning_in, meaning_of_words, subcommand_in, app_in, name_in, id_in, rule_in, flags_in, paths_in}
-use Rattle.tape_jobs.specs.Lines.{Asks, IsPlain, profile_or_first, with_escaped, with_profile}
-use Rattle.tape_jobs.specs.Stored.{least_every, most_every, usual_every}
+use Rattle.tape_jobs.specs.Lines.{Asks, IsPlain, escaped_words, profile_or_first, profile_words}
+use Rattle.tape_jobs.specs.Stored.{usual_every}
 use Rattle.vt_term.specs.declared.profile.Profile.{Profile}
 use Rattle.vt_term.specs.declared.profile.Profile.TheVariants.{Vt100, Vt102}
 use Rattle.tape_jobs.specs.declared.job.Job.{Job}
@@ -63,7 +61,8 @@ no_name positional word = refl
 
 module _ (word : Text) (plain : IsPlain word) where
   -- so it is a value
-  is_value : (c : List Rule) (waiting : Waiting) (position : ℕ) (h : Held) → word_met c [] false waiting position word h ≡ plain_word c waiting word h
+  is_value : (c : List Rule) (waiting : Waiting) (position : ℕ) (h : Held)
+      → word_met c [] false waiting position word h ≡ plain_word c waiting word h
   is_value c waiting position h =
       ap (λ o. subcommand_or_other c o waiting position word h) (no_name waiting word)
       ∙ ap (λ b. if b then (h, trailing position) else long_or_other c waiting word (long_of word) h) (no_hyphens word plain)
@@ -127,7 +126,8 @@ module _ (s : Shape) (w : Walk) (text : Text) (plain : IsPlain text) (untrailing
       is_some stopped || (word_passes s [] is_trailing w.waiting text w.held
       && step_passes s w.position (word_met s.rules [] is_trailing w.waiting w.position text w.held).0 (word_met s.rules [] is_trailing w.waiting w.position text w.held).1)
 
-  plain_turn : step_passes s w.position (plain_word s.rules w.waiting text w.held).0 (plain_word s.rules w.waiting text w.held).1 ≡ true → turn_passes s [] w text ≡ true
+  plain_turn : step_passes s w.position (plain_word s.rules w.waiting text w.held).0 (plain_word s.rules w.waiting text w.held).1 ≡ true
+      → turn_passes s [] w text ≡ true
   plain_turn passes =
       ap (λ o. turn_where o w.is_trailing) unstopped
       ∙ ap (turn_where None) untrailing
@@ -139,7 +139,9 @@ record Goes (s : Shape) (w : Walk) (words : List Word) : Type 0 where
   pub to : fold (walked s.rules []) w (map text_of words) ≡ fold (stepped s.rules) w words
   pub passes : walk_passes s [] w (map text_of words) ≡ true
 
-goes_on : (s : Shape) (w : Walk) (word : Word) (rest : List Word) → walked s.rules [] w (text_of word) ≡ stepped s.rules w word → turn_passes s [] w (text_of word) ≡ true → Goes s (stepped s.rules w word) rest → Goes s w (word ∷ rest)
+goes_on : (s : Shape) (w : Walk) (word : Word) (rest : List Word)
+    → walked s.rules [] w (text_of word) ≡ stepped s.rules w word → turn_passes s [] w (text_of word) ≡ true
+    → Goes s (stepped s.rules w word) rest → Goes s w (word ∷ rest)
 unfolding walk_passes
 goes_on s w word rest step turn g = record {
   to = ap (λ x. fold (walked s.rules []) x (map text_of rest)) step ∙ g.to;
@@ -172,14 +174,16 @@ level_takes s words =
     && (settle_passes s.rules s.args_override_self (end_of s words).held
     && (list_all default_passes s.rules && is_valid s (finished s.rules (end_of s words).held) false))
 
-level_by : (s : Shape) (words : List Word) → ArePlain words → level_takes s words ≡ true → level_passes s [] nothing_held (map text_of words) false ≡ true
+level_by : (s : Shape) (words : List Word) → ArePlain words → level_takes s words ≡ true
+    → level_passes s [] nothing_held (map text_of words) false ≡ true
 level_by s words plain taken =
     let g = goes s words (walk_from nothing_held) plain (first_true _ _ taken) in
     both_true _ _ g.passes
     (ap (λ (x : Walk). settle_passes s.rules s.args_override_self x.held && (list_all default_passes s.rules && is_valid s (finished s.rules x.held) false)) g.to
     ∙ second_true _ _ taken)
 
-rows_by : (s : Shape) (words : List Word) → ArePlain words → level_takes s words ≡ true → rows_after s.rules [] (map text_of words) ≡ finished s.rules (end_of s words).held
+rows_by : (s : Shape) (words : List Word) → ArePlain words → level_takes s words ≡ true
+    → rows_after s.rules [] (map text_of words) ≡ finished s.rules (end_of s words).held
 rows_by s words plain taken =
     ap (λ (x : Walk). finished s.rules x.held) (goes s words (walk_from nothing_held) plain (first_true _ _ taken)).to
 
@@ -187,19 +191,22 @@ rows_by s words plain taken =
 abbrev halted : Text → List Text → Walk
 halted name words = record (walk_from nothing_held) { stopped = Some (name, words) }
 
-halted_walk : (c : List Rule) (names : Names) (name : Text) (before words : List Text) → fold (walked c names) (halted name before) words ≡ halted name (before ++ words)
+halted_walk : (c : List Rule) (names : Names) (name : Text) (before words : List Text)
+    → fold (walked c names) (halted name before) words ≡ halted name (before ++ words)
 unfolding walked
 halted_walk c names name before [] = ap (halted name) (sym (append-nil before))
 halted_walk c names name before (word ∷ rest) =
     halted_walk c names name (before ++ word ∷ []) rest ∙ ap (halted name) (append_assoc before (word ∷ []) rest)
 
-halted_passes : (s : Shape) (names : Names) (name : Text) (before words : List Text) → walk_passes s names (halted name before) words ≡ true
+halted_passes : (s : Shape) (names : Names) (name : Text) (before words : List Text)
+    → walk_passes s names (halted name before) words ≡ true
 unfolding walk_passes walked
 halted_passes s names name before [] = refl
 halted_passes s names name before (word ∷ rest) = halted_passes s names name (before ++ word ∷ []) rest
 
 -- a command takes words whose walk passes and ends here
-takes_by : (a : App) (words : List Text) (end : Walk) → walk a.top.rules (names_of a) nothing_held words ≡ end → walk_passes a.top (names_of a) (walk_from nothing_held) words ≡ true → entered_passes a end.stopped ≡ true
+takes_by : (a : App) (words : List Text) (end : Walk) → walk a.top.rules (names_of a) nothing_held words ≡ end
+    → walk_passes a.top (names_of a) (walk_from nothing_held) words ≡ true → entered_passes a end.stopped ≡ true
     → (settle_passes a.top.rules a.top.args_override_self end.held && (list_all default_passes a.top.rules && is_valid a.top (finished a.top.rules end.held) (is_some (entered a end.stopped)))) ≡ true
     → built_takes a nothing_held words ≡ true
 takes_by a words end ends passes below here =
@@ -214,7 +221,8 @@ abbrev leaf : Subcommand → Shape
 leaf s = built_leaf (inherited (with_leaf_noted (marked_built typetool_app.top)) (app_in s).top)
 
 -- the walk of the whole command over the subcommand's name and the words behind it
-enters : (s : Subcommand) (words : List Text) → walk (built typetool_app).top.rules (names_of (built typetool_app)) nothing_held (name_in s ∷ words) ≡ halted (name_in s) words
+enters : (s : Subcommand) (words : List Text)
+    → walk (built typetool_app).top.rules (names_of (built typetool_app)) nothing_held (name_in s ∷ words) ≡ halted (name_in s) words
 unfolding clap_on_literals typetool_app app_in name_in flags_in paths_in id_in rule_in
 enters Due words = halted_walk (built typetool_app).top.rules (names_of (built typetool_app)) (name_in Due) [] words
 enters Info words = halted_walk (built typetool_app).top.rules (names_of (built typetool_app)) (name_in Info) [] words
@@ -224,7 +232,8 @@ enters Reports words = halted_walk (built typetool_app).top.rules (names_of (bui
 enters Save words = halted_walk (built typetool_app).top.rules (names_of (built typetool_app)) (name_in Save) [] words
 enters Session words = halted_walk (built typetool_app).top.rules (names_of (built typetool_app)) (name_in Session) [] words
 
-enter_passes : (s : Subcommand) (words : List Text) → walk_passes (built typetool_app).top (names_of (built typetool_app)) (walk_from nothing_held) (name_in s ∷ words) ≡ true
+enter_passes : (s : Subcommand) (words : List Text)
+    → walk_passes (built typetool_app).top (names_of (built typetool_app)) (walk_from nothing_held) (name_in s ∷ words) ≡ true
 unfolding clap_on_literals typetool_app app_in name_in flags_in paths_in id_in rule_in
 enter_passes Due words = halted_passes (built typetool_app).top (names_of (built typetool_app)) (name_in Due) [] words
 enter_passes Info words = halted_passes (built typetool_app).top (names_of (built typetool_app)) (name_in Info) [] words
@@ -235,7 +244,8 @@ enter_passes Save words = halted_passes (built typetool_app).top (names_of (buil
 enter_passes Session words = halted_passes (built typetool_app).top (names_of (built typetool_app)) (name_in Session) [] words
 
 -- what is entered is the subcommand
-entered_leaf : (s : Subcommand) (words : List Text) → entered (built typetool_app) (Some (name_in s, words)) ≡ Some (name_in s, rows_after (leaf s).rules [] words)
+entered_leaf : (s : Subcommand) (words : List Text)
+    → entered (built typetool_app) (Some (name_in s, words)) ≡ Some (name_in s, rows_after (leaf s).rules [] words)
 unfolding typetool_app app_in name_in flags_in paths_in id_in rule_in
 entered_leaf Due words = refl
 entered_leaf Info words = refl
@@ -245,7 +255,8 @@ entered_leaf Reports words = refl
 entered_leaf Save words = refl
 entered_leaf Session words = refl
 
-leaf_passes : (s : Subcommand) (words : List Text) → level_passes (leaf s) [] nothing_held words false ≡ true → entered_passes (built typetool_app) (Some (name_in s, words)) ≡ true
+leaf_passes : (s : Subcommand) (words : List Text) → level_passes (leaf s) [] nothing_held words false ≡ true
+    → entered_passes (built typetool_app) (Some (name_in s, words)) ≡ true
 unfolding typetool_app app_in name_in flags_in paths_in id_in rule_in
 leaf_passes Due words e = e
 leaf_passes Info words e = e
@@ -280,7 +291,10 @@ module _ (program : Text) (s : Subcommand) (words : List Word) (plain : ArePlain
       ∙ ap (λ r. Some (name_in s, r)) (rows_by (leaf s) words plain taken)
 
   -- such a line asks for the job that its values mean
-  asks_by : (job : Job) (paths : List Text) → job_in s (finished (leaf s).rules (end_of (leaf s) words).held) ≡ Ok job → paths ≡ map (λ a. value_in (id_in a) (finished (leaf s).rules (end_of (leaf s) words).held)) (paths_in s) → Asks (program ∷ name_in s ∷ map text_of words) job paths
+  asks_by : (job : Job) (paths : List Text)
+      → job_in s (finished (leaf s).rules (end_of (leaf s) words).held) ≡ Ok job
+      → paths ≡ map (λ a. value_in (id_in a) (finished (leaf s).rules (end_of (leaf s) words).held)) (paths_in s)
+      → Asks (program ∷ name_in s ∷ map text_of words) job paths
   asks_by job paths is are = record {
     taken = takes_line;
     meaning = means _ s _ line_met ∙ ap (λ m. Some m) (means_job s _ job paths is are);
@@ -324,64 +338,24 @@ seconds_are_plain (c ∷ rest) moment e =
 
 -- ---- the number of chunks that a flag gives
 
-allowed_only : (n count : ℕ) (out : Bool) → (if out then None else Some n) ≡ Some count → out ≡ false
-allowed_only n count true e = absurd (cc)
-allowed_only n count false e = refl
+digits_if : (text : Text) (count : ℕ) (is : Bool) → is ≡ (nat_lt 0 (length text) && list_all is_ascii_digit text)
+    → option_and_then every_allowed (option_map (λ n. min n last_moment) (if is then Some (digits_value 10 text) else None)) ≡ Some count
+    → list_all is_ascii_digit text ≡ true
+digits_if text count false is e = absurd (cc)
+digits_if text count true is e = second_true _ _ (sym is)
 
--- a number that is allowed is written in digits, and lies in the range
-pub record IsAllowed (text : Text) : Type 0 where
-  pub some : nat_lt 0 (length text) ≡ true
-  pub digits : list_all is_ascii_digit text ≡ true
-  pub low : 1 ≤ digits_value 10 text
-  pub high : digits_value 10 text ≤ 1000000
-
-in_the_range : (v : ℕ) → (nat_lt (min v last_moment) least_every || nat_lt most_every (min v last_moment)) ≡ false → (1 ≤ v) × (v ≤ 1000000)
-in_the_range v e = (grind (arith, nat_tests), grind (arith, nat_tests))
-
-allowed_by : (text : Text) (count : ℕ) (is : Bool) → is ≡ (nat_lt 0 (length text) && list_all is_ascii_digit text)
-    → option_and_then every_allowed (option_map (λ n. min n last_moment) (if is then Some (digits_value 10 text) else None)) ≡ Some count → IsAllowed text
-allowed_by text count false is e = absurd (cc)
-allowed_by text count true is e =
-    let range = in_the_range (digits_value 10 text) (allowed_only (min (digits_value 10 text) last_moment) count (nat_lt (min (digits_value 10 text) last_moment) least_every || nat_lt most_every (min (digits_value 10 text) last_moment)) e) in
-    record { some = first_true _ _ (sym is); digits = second_true _ _ (sym is); low = range.0; high = range.1 }
-
-allowed : (text : Text) (count : ℕ) → every_of text ≡ Some count → IsAllowed text
+-- a number of chunks is written in digits
+number_in_digits : (text : Text) (count : ℕ) → every_of text ≡ Some count → list_all is_ascii_digit text ≡ true
 unfolding every_of
-allowed text count e = allowed_by text count (nat_lt 0 (length text) && list_all is_ascii_digit text) refl e
+number_in_digits text count e = digits_if text count (nat_lt 0 (length text) && list_all is_ascii_digit text) refl e
 
 digit_range : (c : ℕ) → is_ascii_digit c ≡ true → IsInRange 48 57 c
 digit_range c e = (grind (arith, nat_tests), grind (arith, nat_tests))
-
-digit_is_small : (c : ℕ) → is_ascii_digit c ≡ true → nat_lt (digit_value c) 10 ≡ true
-digit_is_small c e =
-    let range = digit_range c e in
-    let same : digit_value c + 48 ≡ c = digit_value_digit c range in
-    let small : digit_value c < 10 = omega (arith, same, range.1) in
-    grind (arith, nat_tests)
-
-digits_are_small : (text : Text) → list_all is_ascii_digit text ≡ true → list_all (λ d. nat_lt (digit_value d) 10) text ≡ true
-digits_are_small [] e = refl
-digits_are_small (c ∷ rest) e = both_true _ _ (digit_is_small c (first_true _ _ e)) (digits_are_small rest (second_true _ _ e))
-
-no_plus : (text : Text) → list_all is_ascii_digit text ≡ true → get_or text 0 0 ≢ 43
-no_plus [] e = λ z. absurd (omega (arith, z))
-no_plus (c ∷ rest) e = λ plus. absurd (omega (arith, plus, (digit_range c (first_true _ _ e)).0))
 
 number_is_plain : (text : Text) → list_all is_ascii_digit text ≡ true → IsPlain text
 number_is_plain [] e = refl
 number_is_plain (c ∷ rest) e =
     is_false (c == 45) (λ same. absurd (omega (arith, eqb-true c 45 same, (digit_range c (first_true _ _ e)).0)))
-
--- clap takes it
-number_is_accepted : (text : Text) → IsAllowed text → accepts false (parses.Unsigned least_every most_every) text ≡ true
-number_is_accepted text known =
-    let v = digits_value 10 text in
-    let small : nat_lt v (2 ^ 64) ≡ true = let below : v < 2 ^ 64 = omega (arith, known.high) in grind (arith, nat_tests) in
-    let low : nat_le 1 v ≡ true = let here = known.low in grind (arith, nat_tests) in
-    let high : nat_le v 1000000 ≡ true = let here = known.high in grind (arith, nat_tests) in
-    ap (λ t. is_numeral t && (nat_lt (digits_value 10 t) (2 ^ 64) && (nat_le least_every (digits_value 10 t) && nat_le (digits_value 10 t) most_every)))
-    (without_leading_plus_none text (no_plus text known.digits))
-    ∙ both_true _ _ (both_true _ _ known.some (digits_are_small text known.digits)) (both_true _ _ small (both_true _ _ low high))
 
 -- ---- each line
 
@@ -400,7 +374,8 @@ module _ (program script timing : Text) (p : IsPlain script) (q : IsPlain timing
       asks_by program Save (value_word script ∷ value_word timing ∷ value_word new_script ∷ value_word new_timing ∷ [])
       (p, (q, (r, (t, tt)))) refl job.Save (script ∷ timing ∷ new_script ∷ new_timing ∷ []) refl refl
 
-  pub session_line : (profile : Option Profile) → Asks (program ∷ codes "session" ∷ with_profile profile (script ∷ timing ∷ [])) (job.Session usual_every (profile_or_first profile)) (script ∷ timing ∷ [])
+  pub session_line : (profile : Option Profile)
+      → Asks (program ∷ codes "session" ∷ (profile_words profile ++ script ∷ timing ∷ [])) (job.Session usual_every (profile_or_first profile)) (script ∷ timing ∷ [])
   unfolding clap_on_literals typetool_app app_in name_in flags_in paths_in id_in rule_in job_in profile_named
   session_line None = asks_by program Session files (p, (q, tt)) refl (job.Session usual_every Vt100) (script ∷ timing ∷ []) refl refl
   session_line (Some Vt100) =
@@ -423,7 +398,8 @@ module _ (program script timing : Text) (p : IsPlain script) (q : IsPlain timing
         asks_by program Due (literal (codes "--at") ∷ value_word at ∷ files) are_plain refl (job.Due moment) (script ∷ timing ∷ [])
         (moment_read (λ m. job.Due m)) refl
 
-    pub reports_line : (profile : Option Profile) → Asks (program ∷ codes "reports" ∷ codes "--at" ∷ at ∷ with_profile profile (script ∷ timing ∷ [])) (job.Reports moment (profile_or_first profile)) (script ∷ timing ∷ [])
+    pub reports_line : (profile : Option Profile)
+        → Asks (program ∷ codes "reports" ∷ codes "--at" ∷ at ∷ (profile_words profile ++ script ∷ timing ∷ [])) (job.Reports moment (profile_or_first profile)) (script ∷ timing ∷ [])
     unfolding clap_on_literals typetool_app app_in name_in flags_in paths_in id_in rule_in job_in profile_named
     reports_line None =
         asks_by program Reports (literal (codes "--at") ∷ value_word at ∷ files) are_plain refl (job.Reports moment Vt100) (script ∷ timing ∷ [])
@@ -435,7 +411,8 @@ module _ (program script timing : Text) (p : IsPlain script) (q : IsPlain timing
         asks_by program Reports (literal (codes "--at") ∷ value_word at ∷ literal (codes "--profile") ∷ literal (codes "vt102") ∷ files) are_plain refl
         (job.Reports moment Vt102) (script ∷ timing ∷ []) (moment_read (λ m. job.Reports m Vt102)) refl
 
-    pub screen_line : (escaped : Bool) (profile : Option Profile) → Asks (program ∷ codes "screen" ∷ codes "--at" ∷ at ∷ with_escaped escaped (with_profile profile (script ∷ timing ∷ []))) (job.Screen moment (profile_or_first profile) escaped) (script ∷ timing ∷ [])
+    pub screen_line : (escaped : Bool) (profile : Option Profile)
+        → Asks (program ∷ codes "screen" ∷ codes "--at" ∷ at ∷ ((escaped_words escaped ++ profile_words profile) ++ script ∷ timing ∷ [])) (job.Screen moment (profile_or_first profile) escaped) (script ∷ timing ∷ [])
     unfolding clap_on_literals typetool_app app_in name_in flags_in paths_in id_in rule_in job_in profile_named
     screen_line false None =
         asks_by program Screen (literal (codes "--at") ∷ value_word at ∷ files) are_plain refl (job.Screen moment Vt100 false) (script ∷ timing ∷ [])
@@ -456,7 +433,8 @@ module _ (program script timing : Text) (p : IsPlain script) (q : IsPlain timing
         asks_by program Screen (literal (codes "--at") ∷ value_word at ∷ literal (codes "--escaped") ∷ literal (codes "--profile") ∷ literal (codes "vt102") ∷ files) are_plain refl
         (job.Screen moment Vt102 true) (script ∷ timing ∷ []) (moment_read (λ m. job.Screen m Vt102 true)) refl
 
-    pub changes_line : (profile : Option Profile) → Asks (program ∷ codes "changes" ∷ codes "--to" ∷ at ∷ with_profile profile (script ∷ timing ∷ [])) (job.Changes None moment (profile_or_first profile)) (script ∷ timing ∷ [])
+    pub changes_line : (profile : Option Profile)
+        → Asks (program ∷ codes "changes" ∷ codes "--to" ∷ at ∷ (profile_words profile ++ script ∷ timing ∷ [])) (job.Changes None moment (profile_or_first profile)) (script ∷ timing ∷ [])
     unfolding clap_on_literals typetool_app app_in name_in flags_in paths_in id_in rule_in job_in profile_named
     changes_line None =
         asks_by program Changes (literal (codes "--to") ∷ value_word at ∷ files) are_plain refl (job.Changes None moment Vt100) (script ∷ timing ∷ [])
@@ -473,12 +451,14 @@ module _ (program script timing : Text) (p : IsPlain script) (q : IsPlain timing
       both_plain : ArePlain (value_word from ∷ value_word at ∷ files)
       both_plain = (seconds_are_plain from start d, are_plain)
 
-      both_read : (played : Profile) → after (after (readable unread.Seconds (seconds_of from)) (λ m. Ok (Some m))) (λ first. after (readable unread.Seconds (seconds_of at)) (λ m. Ok (job.Changes first m played))) ≡ Ok (job.Changes (Some start) moment played)
+      both_read : (played : Profile)
+          → after (after (readable unread.Seconds (seconds_of from)) (λ m. Ok (Some m))) (λ first. after (readable unread.Seconds (seconds_of at)) (λ m. Ok (job.Changes first m played))) ≡ Ok (job.Changes (Some start) moment played)
       both_read played =
           ap (λ o. after (after (readable unread.Seconds o) (λ m. Ok (Some m))) (λ first. after (readable unread.Seconds (seconds_of at)) (λ m. Ok (job.Changes first m played)))) d
           ∙ moment_read (λ m. job.Changes (Some start) m played)
 
-      pub changes_from_line : (profile : Option Profile) → Asks (program ∷ codes "changes" ∷ codes "--from" ∷ from ∷ codes "--to" ∷ at ∷ with_profile profile (script ∷ timing ∷ [])) (job.Changes (Some start) moment (profile_or_first profile)) (script ∷ timing ∷ [])
+      pub changes_from_line : (profile : Option Profile)
+          → Asks (program ∷ codes "changes" ∷ codes "--from" ∷ from ∷ codes "--to" ∷ at ∷ (profile_words profile ++ script ∷ timing ∷ [])) (job.Changes (Some start) moment (profile_or_first profile)) (script ∷ timing ∷ [])
       unfolding clap_on_literals typetool_app app_in name_in flags_in paths_in id_in rule_in job_in profile_named
       changes_from_line None =
           asks_by program Changes (literal (codes "--from") ∷ value_word from ∷ literal (codes "--to") ∷ value_word at ∷ files) both_plain refl (job.Changes (Some start) moment Vt100) (script ∷ timing ∷ [])
@@ -493,28 +473,21 @@ module _ (program script timing : Text) (p : IsPlain script) (q : IsPlain timing
   -- the line with a number of chunks
   module _ (every : Text) (count : ℕ) (e : every_of every ≡ Some count) where
     number_plain : ArePlain (value_word every ∷ files)
-    number_plain = (number_is_plain every (allowed every count e).digits, (p, (q, tt)))
+    number_plain = (number_is_plain every (number_in_digits every count e), (p, (q, tt)))
 
-    number_read : (played : Profile) → after (readable unread.Every (every_of every)) (λ n. Ok (job.Session n played)) ≡ Ok (job.Session count played)
+    number_read : (played : Profile)
+        → after (readable unread.Every (every_of every)) (λ n. Ok (job.Session n played)) ≡ Ok (job.Session count played)
     number_read played = ap (λ o. after (readable unread.Every o) (λ n. Ok (job.Session n played))) e
 
-    taken : accepts false (parses.Unsigned least_every most_every) every ≡ true
-    taken = number_is_accepted every (allowed every count e)
-
-    alone_taken : (((accepts false (parses.Unsigned least_every most_every) every && true) && true) && true) ≡ true
-    alone_taken = ap (λ b. ((b && true) && true) && true) taken
-
-    beside_taken : ((((accepts false (parses.Unsigned least_every most_every) every && true) && true) && true) && true) ≡ true
-    beside_taken = ap (λ b. (((b && true) && true) && true) && true) taken
-
-    pub session_every_line : (profile : Option Profile) → Asks (program ∷ codes "session" ∷ codes "--every" ∷ every ∷ with_profile profile (script ∷ timing ∷ [])) (job.Session count (profile_or_first profile)) (script ∷ timing ∷ [])
+    pub session_every_line : (profile : Option Profile)
+        → Asks (program ∷ codes "session" ∷ codes "--every" ∷ every ∷ (profile_words profile ++ script ∷ timing ∷ [])) (job.Session count (profile_or_first profile)) (script ∷ timing ∷ [])
     unfolding clap_on_literals typetool_app app_in name_in flags_in paths_in id_in rule_in job_in profile_named
     session_every_line None =
-        asks_by program Session (literal (codes "--every") ∷ value_word every ∷ files) number_plain alone_taken
+        asks_by program Session (literal (codes "--every") ∷ value_word every ∷ files) number_plain refl
         (job.Session count Vt100) (script ∷ timing ∷ []) (number_read Vt100) refl
     session_every_line (Some Vt100) =
-        asks_by program Session (literal (codes "--every") ∷ value_word every ∷ literal (codes "--profile") ∷ literal (codes "vt100") ∷ files) number_plain beside_taken
+        asks_by program Session (literal (codes "--every") ∷ value_word every ∷ literal (codes "--profile") ∷ literal (codes "vt100") ∷ files) number_plain refl
         (job.Session count Vt100) (script ∷ timing ∷ []) (number_read Vt100) refl
     session_every_line (Some Vt102) =
-        asks_by program Session (literal (codes "--every") ∷ value_word every ∷ literal (codes "--profile") ∷ literal (codes "vt102") ∷ files) number_plain beside_taken
+        asks_by program Session (literal (codes "--every") ∷ value_word every ∷ literal (codes "--profile") ∷ literal (codes "vt102") ∷ files) number_plain refl
         (job.Session count Vt102) (script ∷ timing ∷ []) (number_read Vt102) refl

@@ -15,11 +15,13 @@ pub record AnsweredBefore {T : Type 0} (contents : T → Option (List ℕ)) (old
   pub refusals : any_refused first lines ≡ (refused || any_refused course rest)
 
 -- the answers to a line and those behind it
-pub answered_next : (course : Course) (lines rest : List (List ℕ)) (line : List ℕ) → lines ≡ line ∷ rest → answered course lines ≡ answer course (request line) ++ answered (course_after course (request line)) rest
+pub answered_next : (course : Course) (lines rest : List (List ℕ)) (line : List ℕ) → lines ≡ line ∷ rest
+    → answered course lines ≡ answer course (request line) ++ answered (course_after course (request line)) rest
 unfolding answered
 answered_next course lines rest line e = ap (answered course) e
 
-refused_next : (course : Course) (lines rest : List (List ℕ)) (line : List ℕ) → lines ≡ line ∷ rest → any_refused course lines ≡ (is_refused course (request line) || any_refused (course_after course (request line)) rest)
+refused_next : (course : Course) (lines rest : List (List ℕ)) (line : List ℕ) → lines ≡ line ∷ rest
+    → any_refused course lines ≡ (is_refused course (request line) || any_refused (course_after course (request line)) rest)
 unfolding any_refused
 refused_next course lines rest line e = ap (any_refused course) e
 
@@ -33,16 +35,22 @@ refused_none course lines e = ap (any_refused course) e
 
 module _ {T : Type 0} {contents : T → Option (List ℕ)} {old now : Watched T} {first course : Course} {lines rest : List (List ℕ)} {refused : Bool} where
   -- what went out by the last line
-  pub answered_all : AnsweredBefore contents old now first lines course rest refused → rest ≡ [] → Took contents old now (answered first lines)
+  pub answered_all : AnsweredBefore contents old now first lines course rest refused → rest ≡ []
+      → Took contents old now (answered first lines)
   answered_all before none =
       subst (λ t. Took contents old now t) (sym (before.cut ∙ ap (λ t. before.text ++ t) (answered_none course rest none) ∙ append-nil before.text)) before.took
 
-  pub refused_all : AnsweredBefore contents old now first lines course rest refused → rest ≡ [] → refused ≡ any_refused first lines
+  pub refused_all : AnsweredBefore contents old now first lines course rest refused → rest ≡ []
+      → refused ≡ any_refused first lines
   refused_all before none =
       sym (before.refusals ∙ ap (λ r. refused || r) (refused_none course rest none) ∙ or-false refused)
 
   -- one line more
-  pub answered_more : (new : Watched T) (left : List (List ℕ)) (line : List ℕ) (after : Course) (is : Bool) → AnsweredBefore contents old now first lines course rest refused → rest ≡ line ∷ left → after ≡ course_after course (request line) → is ≡ is_refused course (request line) → ((x : List ℕ) → Took contents old now x → Took contents old new (x ++ answer course (request line))) → AnsweredBefore contents old new first lines after left (refused || is)
+  pub answered_more : (new : Watched T) (left : List (List ℕ)) (line : List ℕ) (after : Course) (is : Bool)
+      → AnsweredBefore contents old now first lines course rest refused → rest ≡ line ∷ left
+      → after ≡ course_after course (request line) → is ≡ is_refused course (request line)
+      → ((x : List ℕ) → Took contents old now x → Took contents old new (x ++ answer course (request line)))
+      → AnsweredBefore contents old new first lines after left (refused || is)
   answered_more new left line after is before e course_is refused_is took = record {
     text = before.text ++ answer course (request line);
     took = took before.text before.took;
@@ -56,5 +64,7 @@ module _ {T : Type 0} {contents : T → Option (List ℕ)} {old now : Watched T}
   }
 
   -- the answers, where the next one is the first of those that are left
-  pub answers_left : (left : List (List ℕ)) (line : List ℕ) (before : AnsweredBefore contents old now first lines course rest refused) → rest ≡ line ∷ left → answered first lines ≡ before.text ++ (answer course (request line) ++ answered (course_after course (request line)) left)
+  pub answers_left : (left : List (List ℕ)) (line : List ℕ) (before : AnsweredBefore contents old now first lines course rest refused)
+      → rest ≡ line ∷ left
+      → answered first lines ≡ before.text ++ (answer course (request line) ++ answered (course_after course (request line)) left)
   answers_left left line before e = before.cut ∙ ap (λ t. before.text ++ t) (answered_next course rest left line e)

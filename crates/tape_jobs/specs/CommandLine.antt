@@ -4,7 +4,6 @@ use Rattle.std.specs.Option.{option_and_then, option_map}
 use Rattle.std.specs.Str.{bytes_eq}
 use Rattle.clap.specs.Words.{App, IsAmong, Kinds, Row, Rule, Shape, Text, fault_of, first_of, kind_of, new_app, new_rule, subcommand_of, takes, with_subcommand}
 use Rattle.clap.specs.declared.builder.ArgAction.TheVariants.{Set, SetTrue}
-use Rattle.clap.specs.declared.builder.value_parser.ValueParser.TheVariants as parses
 use Rattle.tape_core.specs.Seconds.{seconds_of}
 use Rattle.tape_seek.specs.Requests.{place_of}
 use Rattle.tape_jobs.specs.Stored.{least_every, most_every, usual_every}
@@ -73,15 +72,12 @@ id_in NewTiming = codes "new-timing"
 
 -- a flag that takes seconds, such as `--at 12.5`, and must be given (ours)
 abbrev pub seconds_rule : Text → Rule
-seconds_rule id = record (new_rule id) { long = Some id; action = Some Set; required = true; value_names = 1 }
+seconds_rule id =
+    record (new_rule id) { long = Some id; action = Some Set; required = true; value_names = 1 }
 
 -- a flag with a value that may be left out (ours)
 abbrev pub optional_rule : Text → Rule
 optional_rule id = record (new_rule id) { long = Some id; action = Some Set; value_names = 1 }
-
--- such a flag that takes a number of chunks: clap refuses what isn't from 1 to 1,000,000 (ours)
-abbrev pub every_rule : Text → Rule
-every_rule id = record (optional_rule id) { parser = Some (parses.Unsigned least_every most_every) }
 
 -- a flag without a value (ours)
 abbrev pub switch_rule : Text → Rule
@@ -96,7 +92,7 @@ unfoldable pub rule_in : Argument → Rule
 rule_in At = seconds_rule (id_in At)
 rule_in From = optional_rule (id_in From)
 rule_in To = seconds_rule (id_in To)
-rule_in Every = every_rule (id_in Every)
+rule_in Every = optional_rule (id_in Every)
 rule_in Profile = optional_rule (id_in Profile)
 rule_in Escaped = switch_rule (id_in Escaped)
 rule_in Script = path_rule (id_in Script)
@@ -153,7 +149,8 @@ every_in rows = every_if (first_of (id_in Every) rows)
 -- the profile of this name (ours)
 unfoldable pub profile_named : Text → Option Played
 profile_named name =
-    if bytes_eq name (codes "vt100") then Some Vt100 else (if bytes_eq name (codes "vt102") then Some Vt102 else None)
+    if bytes_eq name (codes "vt100") then Some Vt100
+    else (if bytes_eq name (codes "vt102") then Some Vt102 else None)
 
 -- the profile that a text names, and a VT100 if there is no text (ours)
 abbrev pub profile_if : Option Text → Result Played Unreadable
@@ -172,13 +169,19 @@ switch_in id rows = bytes_eq (value_in id rows) (codes "true")
 unfoldable pub job_in : Subcommand → List Row → Result Job Unreadable
 job_in Due rows = after (moment_in (id_in At) rows) (λ at. Ok (job.Due at))
 job_in Info rows = Ok job.Info
-job_in Screen rows = after (moment_in (id_in At) rows) (λ at. after (profile_in rows) (λ profile. Ok (job.Screen at profile (switch_in (id_in Escaped) rows))))
+job_in Screen rows =
+    after (moment_in (id_in At) rows) (λ at. after (profile_in rows) (λ profile.
+    Ok (job.Screen at profile (switch_in (id_in Escaped) rows))))
 job_in Changes rows =
     after (moment_given_in (id_in From) rows) (λ from. after (moment_in (id_in To) rows) (λ to.
     after (profile_in rows) (λ profile. Ok (job.Changes from to profile))))
-job_in Reports rows = after (moment_in (id_in At) rows) (λ at. after (profile_in rows) (λ profile. Ok (job.Reports at profile)))
+job_in Reports rows =
+    after (moment_in (id_in At) rows) (λ at. after (profile_in rows) (λ profile.
+    Ok (job.Reports at profile)))
 job_in Save rows = Ok job.Save
-job_in Session rows = after (every_in rows) (λ every. after (profile_in rows) (λ profile. Ok (job.Session every profile)))
+job_in Session rows =
+    after (every_in rows) (λ every. after (profile_in rows) (λ profile.
+    Ok (job.Session every profile)))
 
 -- ---- what clap is told
 
@@ -188,11 +191,19 @@ with_rules a rules = record a { top = record a.top { rules = a.top.rules ++ rule
 
 -- a subcommand: its flags, and then its paths (ours)
 unfoldable pub app_in : Subcommand → App
-app_in s = with_rules (with_rules (new_app (name_in s)) (map rule_in (flags_in s))) (map rule_in (paths_in s))
+app_in s =
+    with_rules (with_rules (new_app (name_in s)) (map rule_in (flags_in s))) (map rule_in (paths_in s))
 
 -- the program's name, and that a subcommand must follow (ours)
 abbrev pub top_app : App
-top_app = record { top = record (new_app (codes "typetool")).top { arg_required_else_help = true; subcommand_required = true; disable_help_subcommand = true }; subs = [] }
+top_app = record {
+  top = record (new_app (codes "typetool")).top {
+    arg_required_else_help = true;
+    subcommand_required = true;
+    disable_help_subcommand = true;
+  };
+  subs = [];
+}
 
 -- a command with these subcommands (ours)
 abbrev pub with_subcommands : App → List Subcommand → App
@@ -228,11 +239,13 @@ pub record Meaning : Type 0 where
 
 -- what a subcommand means with these values, or what of them isn't readable (ours)
 abbrev pub meaning_in : Subcommand → List Row → Result Meaning Unreadable
-meaning_in s rows = after (job_in s rows) (λ job. Ok (record { job = job; paths = map (λ a. value_in (id_in a) rows) (paths_in s) }))
+meaning_in s rows = after (job_in s rows) (λ job.
+    Ok (record { job = job; paths = map (λ a. value_in (id_in a) rows) (paths_in s) }))
 
 -- what a subcommand means by its name and its values (ours)
 abbrev pub meaning_of : Text × List Row → Option (Result Meaning Unreadable)
-meaning_of met = option_map (λ s. meaning_in s met.1) (find (λ s. bytes_eq (name_in s) met.0) subcommands_in_order)
+meaning_of met = option_map (λ s. meaning_in s met.1)
+    (find (λ s. bytes_eq (name_in s) met.0) subcommands_in_order)
 
 -- what a command line means (ours)
 unfoldable pub meaning_of_words : List Text → Option (Result Meaning Unreadable)
@@ -258,11 +271,16 @@ fault_of_unread unread.Seconds = BadSeconds
 fault_of_unread unread.Every = BadEvery
 fault_of_unread unread.Profile = BadProfile
 
+-- clap reads these words, and this of them isn't readable (ours)
+abbrev pub IsUnreadable : List Text → Unreadable → Type 0
+IsUnreadable words fault =
+    (clap_faults words ≡ []) × (meaning_of_words words ≡ Some (Err fault))
+
 -- why words aren't a job: clap finds a fault of that kind in them and doesn't promise to take them, or it reads them
 -- and some seconds aren't readable, or the number of chunks, or the profile; memory may always be refused (ours)
 abbrev pub FailsFor : List Text → WordsFault → Type 0
 FailsFor words (Clap e) = IsAmong (kind_of e) (clap_faults words) × (clap_takes words ≡ false)
 FailsFor words Memory = Unit {0}
-FailsFor words BadSeconds = (clap_faults words ≡ []) × (meaning_of_words words ≡ Some (Err unread.Seconds))
-FailsFor words BadEvery = (clap_faults words ≡ []) × (meaning_of_words words ≡ Some (Err unread.Every))
-FailsFor words BadProfile = (clap_faults words ≡ []) × (meaning_of_words words ≡ Some (Err unread.Profile))
+FailsFor words BadSeconds = IsUnreadable words unread.Seconds
+FailsFor words BadEvery = IsUnreadable words unread.Every
+FailsFor words BadProfile = IsUnreadable words unread.Profile

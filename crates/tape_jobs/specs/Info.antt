@@ -7,16 +7,14 @@ use Rattle.tape_core.specs.Written.{seconds_form}
 
 -- a line: a name with the space after it, a value and LF (ours)
 unfoldable pub info_line : List ℕ → List ℕ → List ℕ
-info_line name value = (name ++ value) ++ 10 ∷ []
+info_line name value = name ++ (value ++ 10 ∷ [])
 
--- the five lines: how many chunks and how many bytes in them, the sum of the delays, the bytes of header and trailer
--- (ours)
-abbrev pub info_lines : ℕ → ℕ → ℕ → ℕ → ℕ → List ℕ
-info_lines chunks bytes time header trailer =
-    info_line (codes "chunks ") (decimal chunks) ++ info_line (codes "bytes ") (decimal bytes) ++ info_line (codes "length ") (seconds_form time)
-    ++ info_line (codes "header ") (decimal header) ++ info_line (codes "trailer ") (decimal trailer)
-
--- what `info` tells of a recording (ours)
+-- what `info` tells of a recording, in five lines: how many chunks and how many bytes in them, the sum of the delays,
+-- the bytes of header and trailer (ours)
 unfoldable pub info_text : Tape → List ℕ
 info_text tape =
-    info_lines (length tape.chunks) (body_len tape.chunks) (play_length tape.chunks) (length tape.header) (length tape.trailer)
+    info_line (codes "chunks ") (decimal (length tape.chunks))
+    ++ info_line (codes "bytes ") (decimal (body_len tape.chunks))
+    ++ info_line (codes "length ") (seconds_form (play_length tape.chunks))
+    ++ info_line (codes "header ") (decimal (length tape.header))
+    ++ info_line (codes "trailer ") (decimal (length tape.trailer))

@@ -1,5 +1,5 @@
 -- What a plain command line means: each line of the synopsis, its flags in the order of help (ours).
-use Rattle.std.specs.Prelude.{◌≡◌, ℕ, ◌==◌, Bool, true, false, List, [], ◌∷◌, Option, Some, None, Ok, codes}
+use Rattle.std.specs.Prelude.{◌≡◌, ℕ, ◌==◌, ◌++◌, Bool, true, false, List, [], ◌∷◌, Option, Some, None, Ok, codes}
 use Rattle.clap.specs.Words.{Text}
 use Rattle.tape_jobs.specs.CommandLine.{clap_takes, meaning_of_words}
 use Rattle.tape_jobs.specs.declared.job.Job.{Job}
@@ -14,10 +14,10 @@ begins_with_hyphen (c ∷ rest) = c == 45
 abbrev pub IsPlain : Text → Type 0
 IsPlain word = begins_with_hyphen word ≡ false
 
--- `--escaped`, where it is asked for, before the words behind it (ours)
-abbrev pub with_escaped : Bool → List Text → List Text
-with_escaped true words = codes "--escaped" ∷ words
-with_escaped false words = words
+-- `--escaped`, where it is asked for (ours)
+abbrev pub escaped_words : Bool → List Text
+escaped_words true = codes "--escaped" ∷ []
+escaped_words false = []
 
 -- the name of a profile (ours)
 abbrev pub profile_name : Profile → Text
@@ -25,16 +25,22 @@ profile_name Vt100 = codes "vt100"
 profile_name Vt102 = codes "vt102"
 
 -- `--profile` and a name, where one is given (ours)
-abbrev pub with_profile : Option Profile → List Text → List Text
-with_profile None words = words
-with_profile (Some profile) words = codes "--profile" ∷ profile_name profile ∷ words
+abbrev pub profile_words : Option Profile → List Text
+profile_words None = []
+profile_words (Some profile) = codes "--profile" ∷ profile_name profile ∷ []
 
 -- the profile that is given, and a VT100 where none is (ours)
 abbrev pub profile_or_first : Option Profile → Profile
 profile_or_first None = Vt100
 profile_or_first (Some profile) = profile
 
--- clap takes these words, and they mean this job over these paths: so they are read as that, or memory is refused (ours)
+-- clap takes these words, and they mean this job over these paths: so they are read as that, or memory is refused
+-- (ours)
 pub record Asks (words : List Text) (job : Job) (paths : List Text) : Type 0 where
   pub taken : clap_takes words ≡ true
   pub meaning : meaning_of_words words ≡ Some (Ok (record { job = job; paths = paths }))
+
+-- a line that asks for this job: the program's name, the subcommand's, these flags, a script and a timing (ours)
+abbrev pub LineAsks : Text → List Text → Job → Type 0
+LineAsks name flags job = (program script timing : Text) → IsPlain script → IsPlain timing
+    → Asks (program ∷ name ∷ (flags ++ script ∷ timing ∷ [])) job (script ∷ timing ∷ [])

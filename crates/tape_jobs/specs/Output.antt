@@ -47,11 +47,13 @@ writes_timing _ = false
 
 -- what a job comes to that is done with these texts (ours)
 abbrev pub done_with : List ℕ → List ℕ → Done
-done_with text timing = record { text = text; timing = timing; outcome = record { status = 0; fault = None } }
+done_with text timing =
+    record { text = text; timing = timing; outcome = record { status = 0; fault = None } }
 
 -- what a job comes to at a fault of its own: nothing is written (ours)
 abbrev pub refused_with : JobFault → Done
-refused_with f = record { text = []; timing = []; outcome = record { status = 1; fault = Some f } }
+refused_with f =
+    record { text = []; timing = []; outcome = record { status = 1; fault = Some f } }
 
 -- what `save` comes to: both files anew, or the fault of the first line that is refused, with nothing written (ours)
 abbrev pub done_saving : Result Tape (ℕ × EditFault) → Done
@@ -73,7 +75,11 @@ status_after WithRefusals = 1
 
 -- what a session comes to: its answers, and status 1 where any line was refused (ours)
 abbrev pub done_answering : List ℕ → Bool → Done
-done_answering text refused = record { text = text; timing = []; outcome = record { status = status_after (ending_by refused); fault = None } }
+done_answering text refused = record {
+  text = text;
+  timing = [];
+  outcome = record { status = status_after (ending_by refused); fault = None };
+}
 
 -- what a job comes to on a recording and request lines: the bytes that are due, what the recording holds, what the
 -- terminal shows, which lines of it each chunk changes, what it has sent by then, both files anew, or the answers to
@@ -81,12 +87,16 @@ done_answering text refused = record { text = text; timing = []; outcome = recor
 abbrev pub done_on : Job → Tape → List ℕ → Done
 done_on (Due at) tape requests = done_with (due tape.chunks at) []
 done_on Info tape requests = done_with (info_text tape) []
-done_on (Screen at profile escaped) tape requests = done_with (screen_text escaped (term_at profile tape at).console) []
-done_on (Changes from to profile) tape requests = done_with (change_lines profile tape from to) []
-done_on (Reports at profile) tape requests = done_with (hex_line (term_at profile tape at).reports) []
+done_on (Screen at profile escaped) tape requests =
+    done_with (screen_text escaped (term_at profile tape at).console) []
+done_on (Changes from to profile) tape requests =
+    done_with (change_lines profile tape from to) []
+done_on (Reports at profile) tape requests =
+    done_with (hex_line (term_at profile tape at).reports) []
 done_on Save tape requests = saved_by tape requests
 done_on (Session every profile) tape requests =
-    done_answering (answered (started profile tape) (lines_of requests)) (any_refused (started profile tape) (lines_of requests))
+    done_answering (answered (started profile tape) (lines_of requests))
+    (any_refused (started profile tape) (lines_of requests))
 
 -- the jobs that may take memory once the recording is read: those that open a session (ours)
 abbrev pub TakesMemory : Job → Type 0

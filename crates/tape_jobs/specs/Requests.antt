@@ -26,11 +26,13 @@ started profile tape = record { profile = profile; tape = tape; log = [] }
 
 -- Private: where a session stands (ours)
 abbrev pub course_of : State → Course
-course_of session = record { profile = session.profile; tape = session.recording; log = session.log }
+course_of session =
+    record { profile = session.profile; tape = session.recording; log = session.log }
 
 -- an edit without a fault changes the recording and stands in the log; any other leaves both (ours)
 abbrev pub after_judging : Course → Edit → Option EditFault → Course
-after_judging course edit None = record { profile = course.profile; tape = edited course.tape edit; log = course.log ++ edit ∷ [] }
+after_judging course edit None =
+    record course { tape = edited course.tape edit; log = course.log ++ edit ∷ [] }
 after_judging course edit (Some f) = course
 
 -- after what a line asks for; none is a line of no known form (ours)
@@ -60,12 +62,8 @@ unless_refused line (Some f) rest = Err (line, f)
 unfoldable pub saved : ℕ → Course → List (List ℕ) → Result Tape (ℕ × EditFault)
 saved line course [] = Ok course.tape
 saved line course (text ∷ rest) =
-    unless_refused line (refusal_of course.tape (edit_asked (request text))) (saved (line + 1) (course_after course (request text)) rest)
-
--- Private: a refused line as a fault of the job; want of memory has no line (ours)
-abbrev pub fault_on : ℕ → EditFault → JobFault
-fault_on line fault.OutOfMemory = Memory
-fault_on line f = Line line f
+    unless_refused line (refusal_of course.tape (edit_asked (request text)))
+    (saved (line + 1) (course_after course (request text)) rest)
 
 -- Private: the fault of a job whose request lines aren't all done: the first that is refused, or want of memory (ours)
 abbrev pub StopsEditing : Result Tape (ℕ × EditFault) → JobFault → Type 0
@@ -74,12 +72,12 @@ StopsEditing saving (Line line f) = saving ≡ Err (line, f)
 StopsEditing saving Memory = Unit {0}
 
 -- the code and the name of a fault (ours)
-unfoldable pub fault_text : EditFault → List ℕ
-fault_text fault.NoSuchChunk = codes "E1 NoSuchChunk"
-fault_text fault.DelayTooLarge = codes "E2 DelayTooLarge"
-fault_text fault.ChunkTooLong = codes "E3 ChunkTooLong"
-fault_text fault.TooManyChunks = codes "E4 TooManyChunks"
-fault_text fault.TooManyBytes = codes "E5 TooManyBytes"
-fault_text fault.BadRange = codes "E6 BadRange"
-fault_text fault.OutOfMemory = codes "E7 OutOfMemory"
-fault_text fault.BadLine = codes "E8 BadLine"
+unfoldable pub fault_name : EditFault → List ℕ
+fault_name fault.NoSuchChunk = codes "E1 NoSuchChunk"
+fault_name fault.DelayTooLarge = codes "E2 DelayTooLarge"
+fault_name fault.ChunkTooLong = codes "E3 ChunkTooLong"
+fault_name fault.TooManyChunks = codes "E4 TooManyChunks"
+fault_name fault.TooManyBytes = codes "E5 TooManyBytes"
+fault_name fault.BadRange = codes "E6 BadRange"
+fault_name fault.OutOfMemory = codes "E7 OutOfMemory"
+fault_name fault.BadLine = codes "E8 BadLine"

@@ -11,7 +11,7 @@ use Rattle.tape_seek.specs.declared.requests.Request.{Request}
 use Rattle.tape_seek.specs.declared.requests.Request.TheVariants as asks
 use Rattle.tape_jobs.specs.Info.{info_line, info_text}
 use Rattle.tape_jobs.specs.Moment.{hex_line, screen_text}
-use Rattle.tape_jobs.specs.Requests.{Course, course_after, fault_text}
+use Rattle.tape_jobs.specs.Requests.{Course, course_after, fault_name}
 
 -- lines, and the one behind them that says that there are no more (ours)
 abbrev pub ended : List ℕ → List ℕ
@@ -19,7 +19,7 @@ ended lines = lines ++ (codes "end" ++ 10 ∷ [])
 
 -- the answer to a line that is refused (ours)
 abbrev pub refusal : EditFault → List ℕ
-refusal f = info_line (codes "refused ") (fault_text f)
+refusal f = info_line (codes "refused ") (fault_name f)
 
 -- the answer to an edit with this fault, or with none (ours)
 abbrev pub edit_answer : Option EditFault → List ℕ
@@ -31,7 +31,8 @@ abbrev pub answer : Course → Option Request → List ℕ
 answer course None = refusal fault.BadLine
 answer course (Some asks.Nothing) = []
 answer course (Some (asks.Edit edit)) = edit_answer (edit_fault course.tape edit)
-answer course (Some (asks.Screen at)) = screen_text false (term_at course.profile course.tape at).console
+answer course (Some (asks.Screen at)) =
+    screen_text false (term_at course.profile course.tape at).console
 answer course (Some (asks.Reports at)) = hex_line (term_at course.profile course.tape at).reports
 answer course (Some (asks.Changes from to)) = ended (change_lines course.profile course.tape from to)
 answer course (Some asks.Info) = info_text course.tape
@@ -46,9 +47,11 @@ is_refused course _ = false
 -- the answers to lines, one after another (ours)
 unfoldable pub answered : Course → List (List ℕ) → List ℕ
 answered course [] = []
-answered course (line ∷ rest) = answer course (request line) ++ answered (course_after course (request line)) rest
+answered course (line ∷ rest) =
+    answer course (request line) ++ answered (course_after course (request line)) rest
 
 -- whether any of them is refused (ours)
 unfoldable pub any_refused : Course → List (List ℕ) → Bool
 any_refused course [] = false
-any_refused course (line ∷ rest) = is_refused course (request line) || any_refused (course_after course (request line)) rest
+any_refused course (line ∷ rest) =
+    is_refused course (request line) || any_refused (course_after course (request line)) rest

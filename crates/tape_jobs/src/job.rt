@@ -4,16 +4,16 @@ ghost use Rattle.std.specs.Prelude.{◌≡◌, ◌⊎◌, ◌≢◌, ℕ, List, 
 ghost use Rattle.tape_core.specs.Devices.{inner_of, has_failed, StopsReading};
 ghost use Rattle.tape_core.specs.Faults.{is_stop};
 ghost use Rattle.tape_core.specs.Reading.{fault_of, reads};
-ghost use Rattle.tape_jobs.specs.Endings.{EndsAt, IsDone, RunEnds, readers_of, used, writers_of};
-ghost use Rattle.tape_jobs.specs.Output.{takes_requests, writes_timing, done_on, status_after, status_of, outcome_by};
+ghost use Rattle.tape_jobs.specs.Endings.{JobEnds, RunEnds, readers_of, used, writers_of};
+ghost use Rattle.tape_jobs.specs.Output.{done_on, outcome_by, status_after, status_of, takes_requests, writes_timing};
 
 use crate::jobs::changes::write_changes;
 use crate::jobs::due::write_due;
 use crate::jobs::info::write_info;
-use crate::jobs::reports::write_reports;
-use crate::jobs::save::save;
-use crate::jobs::screen::write_screen;
+use crate::jobs::moment::write_moment;
+use crate::jobs::save::write_edited;
 use crate::jobs::session::write_answers;
+use crate::shared::answers::Asked;
 use crate::shared::editing::name_of;
 use screen_print::ChangesFault;
 use std::alloc::Global;
@@ -120,7 +120,7 @@ impl From<OutOfMemory> for JobFault {
 
 impl From<ChangesFault> for JobFault {
     ghost use Rattle.std.specs.Prelude.{◌≡◌};
-    ghost use Rattle.tape_jobs.specs.Moment.{fault_of_changes};
+    ghost use Rattle.tape_jobs.specs.Endings.{fault_of_changes};
 
     ghost from_gives = { λ stop fault. fault ≡ fault_of_changes stop };
 
@@ -171,9 +171,10 @@ pub fn run<S: Read, T: Read, R: Read, O: Write, P: Write>(
     requires requests { has_failed requests.old ≡ false }
     requires out { has_failed out.old ≡ false }
     requires out_timing { has_failed out_timing.old ≡ false }
-    ensures { let readers = readers_of (used S.remaining script.old script.new) (used T.remaining timing.old timing.new)
-        (used R.remaining requests.old requests.new) in
-        let writers = writers_of (used O.contents out.old out.new) (used P.contents out_timing.old out_timing.new) in
+    ensures { let readers = readers_of (used S.remaining script.old script.new)
+        (used T.remaining timing.old timing.new) (used R.remaining requests.old requests.new) in
+        let writers = writers_of (used O.contents out.old out.new)
+        (used P.contents out_timing.old out_timing.new) in
         RunEnds readers writers job result }
 {
     writers_join::<O>();
@@ -195,10 +196,9 @@ fn perform<O: Write, P: Write>(
 ) -> Result<Ending, JobFault>
     requires out { has_failed out.old ≡ false }
     requires out_timing { has_failed out_timing.old ≡ false }
-    ensures done { IfOk result (IsDone (writers_of (used O.contents out.old out.new)
-        (used P.contents out_timing.old out_timing.new)) job (done_on job given.recording given.requests.items)) }
-    ensures fault { IfErr result (EndsAt (writers_of (used O.contents out.old out.new)
-        (used P.contents out_timing.old out_timing.new)) job (done_on job given.recording given.requests.items)) }
+    ensures ends { let writers = writers_of (used O.contents out.old out.new)
+        (used P.contents out_timing.old out_timing.new) in
+        JobEnds writers job (done_on job given.recording given.requests.items) result }
     ensures alone { writes_timing job ≡ false → out_timing.new ≡ out_timing.old }
 {
     let Given {
@@ -206,38 +206,32 @@ fn perform<O: Write, P: Write>(
         requests,
     } = given;
     match job {
-        Job::Due { at } => {
-            write_due(&ManuallyDrop::new(recording), at, out)?;
-            Ok(Ending::Clean)
-        }
-        Job::Info => {
-            write_info(&ManuallyDrop::new(recording), out)?;
-            Ok(Ending::Clean)
-        }
+        Job::Due { at } => write_due(&ManuallyDrop::new(recording), at, out)?,
+        Job::Info => write_info(&ManuallyDrop::new(recording), out)?,
         Job::Screen {
             at,
             profile,
             escaped,
-        } => {
-            write_screen(alloc, recording, profile, at, escaped, out)?;
-            Ok(Ending::Clean)
-        }
+        } => write_moment(
+            alloc,
+            recording,
+            profile,
+            at,
+            Asked::Screen { escaped },
+            out,
+        )?,
         Job::Changes { from, to, profile } => {
-            write_changes(alloc, recording, profile, from, to, out)?;
-            Ok(Ending::Clean)
+            write_changes(alloc, recording, profile, from, to, out)?
         }
         Job::Reports { at, profile } => {
-            write_reports(alloc, recording, profile, at, out)?;
-            Ok(Ending::Clean)
+            write_moment(alloc, recording, profile, at, Asked::Reports, out)?
         }
-        Job::Save => {
-            save(alloc, recording, &requests, out, out_timing)?;
-            Ok(Ending::Clean)
-        }
+        Job::Save => return write_edited(alloc, recording, &requests, out, out_timing),
         Job::Session { every, profile } => {
-            write_answers(alloc, recording, profile, every, &requests, out)
+            return write_answers(alloc, recording, profile, every, &requests, out);
         }
     }
+    Ok(Ending::Clean)
 }
 
 /// How a job ends that is done, or isn't for this fault.
@@ -284,7 +278,8 @@ fn read_files<S: Read, T: Read, R: Read>(
         → fault_of s t ≡ Some fault) }
     ensures sound { result ≢ Err Fault.ReadFault → (has_failed script.new ≡ false)
         × (has_failed timing.new ≡ false) × (has_failed requests.new ≡ false) }
-    ensures read_fault { IfErr result (λ fault. fault ≡ Fault.ReadFault → (has_failed script.new ≡ true)
+    ensures read_fault { IfErr result (λ fault. fault ≡ Fault.ReadFault
+        → (has_failed script.new ≡ true)
         ⊎ ((has_failed timing.new ≡ true) ⊎ (has_failed requests.new ≡ true))) }
     ensures no_write_fault { IfErr result (λ fault. fault ≢ Fault.WriteFault) }
     ensures alone { takes_requests job ≡ false → requests.new ≡ requests.old }

@@ -1,9 +1,8 @@
-//! The jobs, one function each.
+//! The jobs, one function each; `screen` and `reports` share theirs.
 
 pub mod changes;
 pub mod due;
 pub mod info;
-pub mod reports;
+pub mod moment;
 pub mod save;
-pub mod screen;
 pub mod session;

@@ -37,11 +37,11 @@ pub enum WordsFault {
     /// A number of seconds isn't readable.
     #[error("bad seconds")]
     BadSeconds,
-    /// The number of chunks between stored terminals isn't in digits alone.
-    #[error("bad number of chunks")]
+    /// The number of chunks between stored terminals isn't one in digits alone, or is out of its range.
+    #[error("bad number of chunks: 1 to 1000000")]
     BadEvery,
     /// There is no such profile.
-    #[error("bad profile")]
+    #[error("bad profile: vt100 or vt102")]
     BadProfile,
 }
 
@@ -91,7 +91,8 @@ fn parse<'a>(alloc: Global, words: &'a [String]) -> Result<ArgMatches<'a>, Words
     ensures taken { OnOk result (clap_faults (map string_bytes words.entry.now) ≡ []) }
     ensures met { IfOk result (λ matches.
         subcommand_rows_of matches ≡ subcommand_in (map string_bytes words.entry.now)) }
-    ensures named { IfOk result (λ matches. IsNamed (subcommand_name_of matches) typetool_app.subs) }
+    ensures named { IfOk result (λ matches.
+        IsNamed (subcommand_name_of matches) typetool_app.subs) }
     ensures fault { IfErr result (FailsFor (map string_bytes words.entry.now)) }
     ensures seconds { IfErr result (λ fault. fault ≢ WordsFault.BadSeconds) }
 {
@@ -108,7 +109,8 @@ fn parse<'a>(alloc: Global, words: &'a [String]) -> Result<ArgMatches<'a>, Words
 /// Which subcommand was given, and its values.
 fn subcommand_of<'m, 'a>(matches: &'m ArgMatches<'a>) -> (Subcommand, &'m ArgMatches<'a>)
     requires { IsNamed (subcommand_name_of matches.now) typetool_app.subs }
-    ensures { subcommand_rows_of matches.entry.now ≡ Some (name_in result.0, rows_of (found_of result.1.now)) }
+    ensures { subcommand_rows_of matches.entry.now
+        ≡ Some (name_in result.0, rows_of (found_of result.1.now)) }
 {
     let all = subcommands();
     for subcommand in &all {
@@ -124,9 +126,10 @@ fn values_under<'m, 'a>(
     matches: &'m ArgMatches<'a>,
     subcommand: Subcommand,
 ) -> Option<&'m ArgMatches<'a>>
-    ensures given { IfSome result (λ values.
-        subcommand_rows_of matches.entry.now ≡ Some (name_in subcommand, rows_of (found_of values.now))) }
-    ensures other { result ≡ None → subcommand_name_of matches.entry.now ≢ Some (name_in subcommand) }
+    ensures given { IfSome result (λ values. subcommand_rows_of matches.entry.now
+        ≡ Some (name_in subcommand, rows_of (found_of values.now))) }
+    ensures other { result ≡ None
+        → subcommand_name_of matches.entry.now ≢ Some (name_in subcommand) }
 {
     matches.subcommand_matches(name_of(subcommand))
 }

@@ -31,7 +31,8 @@ stop_status (of_job fault) = status_of fault
 
 -- how the job ends: with the status of its fault where it has one, and else with one of a job that is done (ours)
 abbrev pub IsOutcome : Job → Outcome → Type 0
-IsOutcome job outcome = MatchOption outcome.fault (IsDoneStatus job outcome.status) (λ fault. outcome.status ≡ status_of fault)
+IsOutcome job outcome = MatchOption outcome.fault (IsDoneStatus job outcome.status)
+    (λ fault. outcome.status ≡ status_of fault)
 
 -- it ends as the job does on these files (ours)
 abbrev pub IsAnswer : Job → Files → Outcome → Type 0

@@ -4,7 +4,7 @@ ghost use Rattle.std.specs.Prelude.{◌≡◌, ◌⊎◌, ◌≢◌, ◌≤◌, 
 ghost use Rattle.clap.specs.Words.{kind_of};
 ghost use Rattle.tape_core.specs.Devices.{has_failed};
 ghost use Rattle.tape_jobs.specs.CommandLine.{path_count};
-ghost use Rattle.tape_jobs.specs.Endings.{Tells, readers_of, used};
+ghost use Rattle.tape_jobs.specs.Endings.{HoldFiles, readers_of, used};
 ghost use Rattle.tape_jobs.specs.Output.{Files as Given, is_stopped};
 ghost use Rattle.typetool.specs.Program.{IsAnswer, IsNotCreated, IsNotOpen, IsOutcome, stop_status};
 
@@ -105,7 +105,7 @@ fn attempt<R: Files + Env + Input + Print + AllocGlobal>(rt: &R) -> Result<Outco
 {
     let words = arguments(rt)?;
     let read = read_words(rt.alloc(), words.as_slice())?;
-    perform(rt, &read)
+    open_and_run(rt, &read)
 }
 
 /// The words of the command line, the program's name first.
@@ -120,7 +120,10 @@ fn arguments<R: Env + AllocGlobal>(rt: &R) -> Result<Vec<String>, Stop>
 }
 
 /// Opens the files in order, and does the job.
-fn perform<R: Files + Input + Print + AllocGlobal>(rt: &R, words: &Words) -> Result<Outcome, Stop>
+fn open_and_run<R: Files + Input + Print + AllocGlobal>(
+    rt: &R,
+    words: &Words,
+) -> Result<Outcome, Stop>
     requires { path_count words.now.job ≤ vec_len words.now.paths }
     ensures outcome { IfOk result (IsOutcome words.now.job) }
     // Else a file or memory was refused.
@@ -158,10 +161,11 @@ fn print<R: Files + Print + AllocGlobal, Q: io::Read>(
     requires requests { has_failed requests.old ≡ false }
     ensures outcome { IfOk result (IsOutcome job) }
     // Where nothing stopped the job, it is what the job comes to on these files.
-    ensures answer { IfOk result (λ outcome. is_stopped outcome.fault ≡ false → (files : Given)
-        → Tells (readers_of (used R.File.remaining script.old script.new) (used R.File.remaining timing.old timing.new)
-        (used Q.remaining requests.old requests.new)) job files
-        → IsAnswer job files outcome) }
+    ensures answer { let readers = readers_of (used R.File.remaining script.old script.new)
+        (used R.File.remaining timing.old timing.new)
+        (used Q.remaining requests.old requests.new) in
+        IfOk result (λ outcome. is_stopped outcome.fault ≡ false → (files : Given)
+        → HoldFiles readers job files → IsAnswer job files outcome) }
     ensures stop { IfErr result (λ stop. stop ≡ Stop.Memory) }
 {
     let mut out = buffered(rt, io::writer(rt))?;
@@ -261,11 +265,11 @@ fn tell<R: Eprint>(rt: &R, stop: &Stop) -> u8
 
 /// Shows clap's text, and answers the status. Help that can't be written is a write fault.
 fn show<R: Print + Eprint>(rt: &R, error: clap::Error) -> u8
-    ensures mistake { (kind_of error ≢ ErrorKind.DisplayHelp) → (kind_of error ≢ ErrorKind.DisplayVersion)
-        → result ≡ 2 }
+    ensures mistake { (kind_of error ≢ ErrorKind.DisplayHelp)
+        → (kind_of error ≢ ErrorKind.DisplayVersion) → result ≡ 2 }
     // Help is told with status 0, and with 3 where it can't be written.
-    ensures asked { (kind_of error ≡ ErrorKind.DisplayHelp) ⊎ (kind_of error ≡ ErrorKind.DisplayVersion)
-        → (result ≡ 0) ⊎ (result ≡ 3) }
+    ensures asked { (kind_of error ≡ ErrorKind.DisplayHelp)
+        ⊎ (kind_of error ≡ ErrorKind.DisplayVersion) → (result ≡ 0) ⊎ (result ≡ 3) }
 {
     match error.print(rt) {
         Err(_) if !error.use_stderr() => tell(rt, &Stop::Job(JobFault::File(Fault::WriteFault))),

@@ -19,6 +19,7 @@ fn every_is_read(rt: HostRuntime) -> Result<(), Fail> {
     Ok(())
 }
 
+/// Out of the range, or not in digits alone.
 #[test]
 fn every_is_refused(rt: HostRuntime) -> Result<(), Fail> {
     for line in [
@@ -29,17 +30,17 @@ fn every_is_refused(rt: HostRuntime) -> Result<(), Fail> {
         "typetool session --every=-1 s t",
         "typetool session --every=1.5 s t",
         "typetool session --every=99999999999999999999999 s t",
+        "typetool session s t --every=+5",
     ] {
-        compare_left(&rt, line)?;
+        let words = words_of(rt.alloc(), line)?;
+        let told = told(rt.alloc(), words.as_slice())?;
+        assert_eq!(rt; told.as_str(), "bad number of chunks: 1 to 1000000", "{line:?}");
     }
     Ok(())
 }
 
-/// clap takes a sign, which the project doesn't.
+/// clap takes it for a flag.
 #[test]
-fn every_has_no_sign(rt: HostRuntime) -> Result<(), Fail> {
-    let words = words_of(rt.alloc(), "typetool session s t --every=+5")?;
-    let told = told(rt.alloc(), words.as_slice())?;
-    assert_eq!(rt; told.as_str(), "bad number of chunks");
-    Ok(())
+fn every_with_a_hyphen_is_left_to_clap(rt: HostRuntime) -> Result<(), Fail> {
+    compare_left(&rt, "typetool session --every -1 s t")
 }

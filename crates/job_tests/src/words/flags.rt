@@ -49,7 +49,7 @@ fn refuses_other_profiles(rt: HostRuntime) -> Result<(), Fail> {
     ] {
         let words = words_of(rt.alloc(), line)?;
         let told = told(rt.alloc(), words.as_slice())?;
-        assert_eq!(rt; told.as_str(), "bad profile", "{line:?}");
+        assert_eq!(rt; told.as_str(), "bad profile: vt100 or vt102", "{line:?}");
     }
     Ok(())
 }

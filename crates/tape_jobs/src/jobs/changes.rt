@@ -1,9 +1,9 @@
 //! The job `changes`: which lines of the screen each chunk changes.
 
-ghost use Rattle.std.specs.Prelude.{◌≡◌, false, true, OnOk, IfErr};
+ghost use Rattle.std.specs.Prelude.{◌≡◌, false, true, OnOk};
 ghost use Rattle.screen_print.specs.ChangeLines.{change_lines};
-ghost use Rattle.tape_core.specs.Devices.{has_failed, is_flushed, Took};
-ghost use Rattle.tape_jobs.specs.Moment.{StopsAt};
+ghost use Rattle.tape_core.specs.Devices.{has_failed, is_flushed};
+ghost use Rattle.tape_jobs.specs.Endings.{JobPuts};
 
 use crate::job::JobFault;
 use crate::laws::stops_join;
@@ -25,13 +25,12 @@ pub fn write_changes<O: Write>(
     out: &mut Watched<O>,
 ) -> Result<(), JobFault>
     requires { has_failed out.old ≡ false }
-    ensures ok { OnOk result (Took O.contents out.old out.new (change_lines profile recording from to)) }
+    ensures puts { JobPuts O.contents out.old out.new
+        (change_lines profile recording from to) result }
     ensures flushed { OnOk result (is_flushed out.new ≡ true) }
-    ensures fault { IfErr result (StopsAt O.contents out.old out.new (change_lines profile recording from to)) }
 {
     stops_join::<O>();
     let session = open_session(alloc, recording, EVERY, profile)?;
-    let mut session = ManuallyDrop::new(session);
-    changes(&mut session, from, to, out)?;
+    changes(&mut ManuallyDrop::new(session), from, to, out)?;
     Ok(())
 }

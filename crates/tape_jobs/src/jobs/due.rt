@@ -1,7 +1,7 @@
-//! The job `due`.
+//! The job `due`: the bytes that are due by a moment.
 
-ghost use Rattle.std.specs.Prelude.{◌≡◌, false, true, OnOk, IfErr, OnErr};
-ghost use Rattle.tape_core.specs.Devices.{has_failed, is_flushed, Took, StoppedIn};
+ghost use Rattle.std.specs.Prelude.{◌≡◌, false, true, OnOk};
+ghost use Rattle.tape_core.specs.Devices.{Puts, has_failed, is_flushed};
 ghost use Rattle.tape_core.specs.Due.{due};
 
 use std::io::Write;
@@ -15,10 +15,8 @@ pub fn write_due<O: Write>(
     out: &mut Watched<O>,
 ) -> Result<(), Fault>
     requires { has_failed out.old ≡ false }
-    ensures ok { OnOk result (Took O.contents out.old out.new (due recording.now.chunks at)) }
+    ensures puts { Puts O.contents out.old out.new (due recording.now.chunks at) result }
     ensures flushed { OnOk result (is_flushed out.new ≡ true) }
-    ensures fault { IfErr result (λ fault. fault ≡ Fault.WriteFault) }
-    ensures stopped { OnErr result (StoppedIn O.contents out.old out.new (due recording.now.chunks at)) }
 {
     due_is_first();
     writers_join::<O>();

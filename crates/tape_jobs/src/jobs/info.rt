@@ -1,7 +1,7 @@
 //! The job `info`: what a recording holds, in five lines.
 
-ghost use Rattle.std.specs.Prelude.{◌≡◌, false, true, OnOk, IfErr, OnErr};
-ghost use Rattle.tape_core.specs.Devices.{has_failed, is_flushed, Took, StoppedIn};
+ghost use Rattle.std.specs.Prelude.{◌≡◌, false, true, OnOk};
+ghost use Rattle.tape_core.specs.Devices.{Puts, has_failed, is_flushed};
 ghost use Rattle.tape_jobs.specs.Info.{info_text};
 
 use crate::shared::answers::put_info;
@@ -12,10 +12,8 @@ use tape_core::{Fault, Recording, Watched};
 /// Writes the five lines, and flushes.
 pub fn write_info<O: Write>(recording: &Recording, out: &mut Watched<O>) -> Result<(), Fault>
     requires { has_failed out.old ≡ false }
-    ensures ok { OnOk result (Took O.contents out.old out.new (info_text recording.now)) }
+    ensures puts { Puts O.contents out.old out.new (info_text recording.now) result }
     ensures flushed { OnOk result (is_flushed out.new ≡ true) }
-    ensures fault { IfErr result (λ fault. fault ≡ Fault.WriteFault) }
-    ensures stopped { OnErr result (StoppedIn O.contents out.old out.new (info_text recording.now)) }
 {
     writers_join::<O>();
     put_info(recording, out)?;

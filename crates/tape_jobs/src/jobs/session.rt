@@ -1,22 +1,21 @@
 //! The job `session`: an answer to each request line.
 
-ghost use Rattle.std.specs.Prelude.{◌≡◌, ◌≤◌, ◌++◌, ◌∷◌, [], IfErr, IfOk, OnOk, Some, codes, false, is_some, max, min, true};
+ghost use Rattle.std.specs.Prelude.{◌≡◌, ◌≤◌, IfOk, OnOk, false, is_some, max, min, true};
 ghost use Rattle.screen_print.specs.ChangeLines.{change_lines};
-ghost use Rattle.tape_core.specs.Devices.{Took, has_failed, is_flushed};
+ghost use Rattle.tape_core.specs.Devices.{Puts, has_failed, is_flushed};
 ghost use Rattle.tape_core.specs.Text.{lines_of};
 ghost use Rattle.tape_seek.specs.Edits.{edit_fault};
 ghost use Rattle.tape_seek.specs.Requests.{request};
 ghost use Rattle.tape_seek.specs.WrittenLog.{log_text};
-ghost use Rattle.tape_seek.specs.declared.requests.Request.TheVariants as asks;
-ghost use Rattle.tape_jobs.specs.Moment.{StopsAt};
+ghost use Rattle.tape_jobs.specs.Endings.{JobPuts};
 ghost use Rattle.tape_jobs.specs.Output.{ending_by};
-ghost use Rattle.tape_jobs.specs.Stored.{least_every, most_every};
-ghost use Rattle.tape_jobs.specs.Requests.{course_after, course_of, started};
+ghost use Rattle.tape_jobs.specs.Requests.{after_judging, course_after, course_of, started};
 ghost use Rattle.tape_jobs.specs.Session.{answer, answered, any_refused, edit_answer, ended, is_refused, refusal};
+ghost use Rattle.tape_jobs.specs.Stored.{least_every, most_every};
 
 use crate::job::{Ending, JobFault};
 use crate::laws::stops_join;
-use crate::shared::answers::{put_info, put_line, put_reports, put_screen};
+use crate::shared::answers::{Asked, put_info, put_line, put_moment};
 use crate::shared::editing::{make_edit, name_of};
 use crate::shared::opening::{LEAST_EVERY, MOST_EVERY, open_session};
 use screen_print::changes;
@@ -25,7 +24,7 @@ use std::io::Write;
 use std::mem::ManuallyDrop;
 use tape_core::laws::writers_join;
 use tape_core::text::next_line;
-use tape_core::{Recording, Watched};
+use tape_core::{Fault, Recording, Watched};
 use tape_seek::{Edit, EditFault, LineFault, Request, Session, read_line, write_log};
 use vt_term::Profile;
 
@@ -40,13 +39,11 @@ pub fn write_answers<O: Write>(
     out: &mut Watched<O>,
 ) -> Result<Ending, JobFault>
     requires { has_failed out.old ≡ false }
-    ensures ok { OnOk result (Took O.contents out.old out.new
-        (answered (started profile recording) (lines_of requests.now))) }
+    ensures puts { JobPuts O.contents out.old out.new
+        (answered (started profile recording) (lines_of requests.now)) result }
     ensures ending { IfOk result (λ ending. ending
         ≡ ending_by (any_refused (started profile recording) (lines_of requests.now))) }
     ensures flushed { OnOk result (is_flushed out.new ≡ true) }
-    ensures fault { IfErr result (StopsAt O.contents out.old out.new
-        (answered (started profile recording) (lines_of requests.now))) }
 {
     stops_join::<O>();
     writers_join::<O>();
@@ -85,10 +82,10 @@ fn answer_all<O: Write>(
     out: &mut Watched<O>,
 ) -> Result<bool, JobFault>
     requires { has_failed out.old ≡ false }
-    ensures ok { OnOk result (Took O.contents out.old out.new (answered (course_of session.old) (lines_of requests.now))) }
-    ensures refused { IfOk result (λ refused. refused ≡ any_refused (course_of session.old) (lines_of requests.now)) }
-    ensures fault { IfErr result (StopsAt O.contents out.old out.new
-        (answered (course_of session.old) (lines_of requests.now))) }
+    ensures puts { JobPuts O.contents out.old out.new
+        (answered (course_of session.old) (lines_of requests.now)) result }
+    ensures refused { IfOk result (λ refused. refused
+        ≡ any_refused (course_of session.old) (lines_of requests.now)) }
 {
     stops_join::<O>();
     writers_join::<O>();
@@ -111,117 +108,60 @@ fn answer_line<O: Write>(
     out: &mut Watched<O>,
 ) -> Result<bool, JobFault>
     requires { has_failed out.old ≡ false }
-    ensures ok { OnOk result (Took O.contents out.old out.new (answer (course_of session.old) (request line.now))) }
-    ensures refused { IfOk result (λ refused. refused ≡ is_refused (course_of session.old) (request line.now)) }
-    ensures course { OnOk result (course_of session.new ≡ course_after (course_of session.old) (request line.now)) }
-    ensures fault { IfErr result (StopsAt O.contents out.old out.new (answer (course_of session.old) (request line.now))) }
+    ensures puts { JobPuts O.contents out.old out.new
+        (answer (course_of session.old) (request line.now)) result }
+    ensures refused { IfOk result (λ refused. refused
+        ≡ is_refused (course_of session.old) (request line.now)) }
+    ensures course { OnOk result (course_of session.new
+        ≡ course_after (course_of session.old) (request line.now)) }
 {
     stops_join::<O>();
     match read_line(alloc, line) {
-        Ok(request) => answer(session, request, out),
+        Ok(Request::Nothing) => {}
+        Ok(Request::Edit(edit)) => return answer_edit(session, edit, out),
+        Ok(Request::Screen(at)) => put_moment(session, at, Asked::Screen { escaped: false }, out)?,
+        Ok(Request::Reports(at)) => put_moment(session, at, Asked::Reports, out)?,
+        Ok(Request::Changes { from, to }) => put_changes(session, from, to, out)?,
+        Ok(Request::Info) => put_info(session.recording(), out)?,
+        Ok(Request::Log) => put_log(session, out)?,
         Err(LineFault::BadLine) => {
-            refuse(EditFault::BadLine, out)?;
-            Ok(true)
+            put_refusal(EditFault::BadLine, out)?;
+            return Ok(true);
         }
-        Err(LineFault::OutOfMemory) => Err(JobFault::Memory),
+        Err(LineFault::OutOfMemory) => return Err(JobFault::Memory),
     }
+    Ok(false)
 }
 
-/// Answers a request, and tells whether it was refused.
-fn answer<O: Write>(
-    session: &mut Session,
-    request: Request,
-    out: &mut Watched<O>,
-) -> Result<bool, JobFault>
-    requires { has_failed out.old ≡ false }
-    ensures ok { OnOk result (Took O.contents out.old out.new (answer (course_of session.old) (Some request))) }
-    ensures refused { IfOk result (λ refused. refused ≡ is_refused (course_of session.old) (Some request)) }
-    ensures course { OnOk result (course_of session.new ≡ course_after (course_of session.old) (Some request)) }
-    ensures fault { IfErr result (StopsAt O.contents out.old out.new (answer (course_of session.old) (Some request))) }
-{
-    match request {
-        Request::Nothing => Ok(false),
-        Request::Edit(edit) => answer_edit(session, edit, out),
-        Request::Screen(at) => {
-            put_screen(session, at, false, out)?;
-            Ok(false)
-        }
-        Request::Reports(at) => {
-            put_reports(session, at, out)?;
-            Ok(false)
-        }
-        Request::Changes { from, to } => {
-            put_changes(session, from, to, out)?;
-            Ok(false)
-        }
-        Request::Info => {
-            put_info(session.recording(), out)?;
-            Ok(false)
-        }
-        Request::Log => {
-            put_log(session, out)?;
-            Ok(false)
-        }
-    }
-}
-
-/// Makes an edit, and answers `ok`, or refuses it. Tells whether it was refused.
+/// Makes an edit, and answers `ok`, or refuses it with nothing changed. Tells whether it was refused.
 fn answer_edit<O: Write>(
     session: &mut Session,
     edit: Edit,
     out: &mut Watched<O>,
 ) -> Result<bool, JobFault>
     requires { has_failed out.old ≡ false }
-    ensures ok { OnOk result (Took O.contents out.old out.new (edit_answer (edit_fault session.old.recording edit))) }
-    ensures refused { IfOk result (λ refused. refused ≡ is_some (edit_fault session.old.recording edit)) }
+    ensures puts { JobPuts O.contents out.old out.new
+        (edit_answer (edit_fault session.old.recording edit)) result }
+    ensures refused { IfOk result (λ refused. refused
+        ≡ is_some (edit_fault session.old.recording edit)) }
     ensures course { OnOk result (course_of session.new
-        ≡ course_after (course_of session.old) (Some (asks.Edit edit))) }
-    ensures fault { IfErr result (StopsAt O.contents out.old out.new
-        (edit_answer (edit_fault session.old.recording edit))) }
+        ≡ after_judging (course_of session.old) edit (edit_fault session.old.recording edit)) }
 {
     stops_join::<O>();
-    let fault = try_edit(session, edit)?;
-    put_edit_answer(fault, out)?;
+    let fault = make_edit(session, edit)?;
+    match fault {
+        None => out.put(b"ok\n")?,
+        Some(fault) => put_refusal(fault, out)?,
+    }
     Ok(fault.is_some())
 }
 
-/// Makes an edit, or tells why it is refused, with nothing changed. Want of memory stops the job.
-fn try_edit(session: &mut Session, edit: Edit) -> Result<Option<EditFault>, JobFault>
-    ensures ok { IfOk result (λ fault. fault ≡ edit_fault session.old.recording edit) }
-    ensures course { OnOk result (course_of session.new
-        ≡ course_after (course_of session.old) (Some (asks.Edit edit))) }
-    ensures fault { IfErr result (λ fault. fault ≡ JobFault.Memory) }
-{
-    match make_edit(session, edit) {
-        Ok(()) => Ok(None),
-        Err(EditFault::OutOfMemory) => Err(JobFault::Memory),
-        Err(fault) => Ok(Some(fault)),
-    }
-}
-
-/// Answers an edit that was made, or that has this fault.
-fn put_edit_answer<O: Write>(fault: Option<EditFault>, out: &mut Watched<O>) -> Result<(), JobFault>
+/// Writes that a line is refused, and why.
+fn put_refusal<O: Write>(fault: EditFault, out: &mut Watched<O>) -> Result<(), Fault>
     requires { has_failed out.old ≡ false }
-    ensures ok { OnOk result (Took O.contents out.old out.new (edit_answer fault)) }
-    ensures fault { IfErr result (StopsAt O.contents out.old out.new (edit_answer fault)) }
+    ensures { Puts O.contents out.old out.new (refusal fault) result }
 {
-    match fault {
-        None => {
-            out.put(b"ok\n")?;
-            Ok(())
-        }
-        Some(fault) => refuse(fault, out),
-    }
-}
-
-/// Answers that a line is refused, and why.
-fn refuse<O: Write>(fault: EditFault, out: &mut Watched<O>) -> Result<(), JobFault>
-    requires { has_failed out.old ≡ false }
-    ensures ok { OnOk result (Took O.contents out.old out.new (refusal fault)) }
-    ensures fault { IfErr result (StopsAt O.contents out.old out.new (refusal fault)) }
-{
-    put_line(b"refused ", name_of(fault).as_bytes(), out)?;
-    Ok(())
+    put_line(b"refused ", name_of(fault).as_bytes(), out)
 }
 
 /// Writes change lines, and that they end.
@@ -232,36 +172,24 @@ fn put_changes<O: Write>(
     out: &mut Watched<O>,
 ) -> Result<(), JobFault>
     requires { has_failed out.old ≡ false }
-    ensures ok { OnOk result (Took O.contents out.old out.new
-        (ended (change_lines session.old.profile session.old.recording from to))) }
-    ensures fault { IfErr result (StopsAt O.contents out.old out.new
-        (ended (change_lines session.old.profile session.old.recording from to))) }
+    ensures puts { JobPuts O.contents out.old out.new
+        (ended (change_lines session.old.profile session.old.recording from to)) result }
     ensures stays { course_of session.new ≡ course_of session.old }
 {
     stops_join::<O>();
     writers_join::<O>();
     changes(session, from, to, out)?;
-    put_end(out)
+    out.put(b"end\n")?;
+    Ok(())
 }
 
 /// Writes the log, and that it ends.
-fn put_log<O: Write>(session: &Session, out: &mut Watched<O>) -> Result<(), JobFault>
+fn put_log<O: Write>(session: &Session, out: &mut Watched<O>) -> Result<(), Fault>
     requires { has_failed out.old ≡ false }
-    ensures ok { OnOk result (Took O.contents out.old out.new (ended (log_text session.now.log))) }
-    ensures fault { IfErr result (StopsAt O.contents out.old out.new (ended (log_text session.now.log))) }
+    ensures { Puts O.contents out.old out.new (ended (log_text session.now.log)) result }
 {
-    stops_join::<O>();
     writers_join::<O>();
     write_log(session.log(), out)?;
-    put_end(out)
-}
-
-/// Writes the line behind the last one of an answer.
-fn put_end<O: Write>(out: &mut Watched<O>) -> Result<(), JobFault>
-    requires { has_failed out.old ≡ false }
-    ensures ok { OnOk result (Took O.contents out.old out.new (codes "end" ++ 10 ∷ [])) }
-    ensures fault { IfErr result (StopsAt O.contents out.old out.new (codes "end" ++ 10 ∷ [])) }
-{
     out.put(b"end\n")?;
     Ok(())
 }

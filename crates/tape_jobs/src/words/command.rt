@@ -3,12 +3,11 @@
 ghost use Rattle.std.specs.Prelude.{◌≡◌, ◌∷◌, [], Some, IfOk, false, map};
 ghost use Rattle.clap.specs.Words.{app_of, items_of, rule_of};
 ghost use Rattle.clap.specs.declared.Command.TheViews.{out-Command as fields_of};
-ghost use Rattle.tape_jobs.specs.CommandLine.{app_in, path_rule, optional_rule, every_rule, rule_in, seconds_rule, switch_rule, top_app, typetool_app, with_rules};
+ghost use Rattle.tape_jobs.specs.CommandLine.{app_in, optional_rule, path_rule, rule_in, seconds_rule, switch_rule, top_app, typetool_app, with_rules};
 
 use super::help::{about_of, details_of, help_of, value_name_of};
 use super::table::{Argument, Subcommand, flags_of, id_of, name_of, paths_of, subcommands};
-use crate::shared::opening::{LEAST_EVERY, MOST_EVERY};
-use clap::{Arg, ArgAction, Command, value_parser};
+use clap::{Arg, ArgAction, Command};
 use std::alloc::{AllocError, Global};
 
 /// The whole command line.
@@ -87,13 +86,7 @@ fn arg_of<'a>(alloc: Global, argument: Argument) -> Arg<'a>
             value_name_of(argument),
             help_of(argument),
         ),
-        Argument::From | Argument::Profile => optional_flag(
-            alloc,
-            id_of(argument),
-            value_name_of(argument),
-            help_of(argument),
-        ),
-        Argument::Every => every_flag(
+        Argument::From | Argument::Every | Argument::Profile => optional_flag(
             alloc,
             id_of(argument),
             value_name_of(argument),
@@ -131,18 +124,6 @@ fn optional_flag<'a>(alloc: Global, id: &'a str, name: &'a str, help: &'a str) -
         .value_name(name)
         .action(ArgAction::Set)
         .help(help)
-}
-
-/// A flag with a number of chunks that may be left out. clap refuses numbers out of its range.
-fn every_flag<'a>(alloc: Global, id: &'a str, name: &'a str, help: &'a str) -> Arg<'a>
-    ensures rule { rule_of result ≡ every_rule id.entry.now }
-    ensures name { items_of result.val_names ≡ name.entry ∷ [] }
-    ensures help { result.help ≡ Some help.entry }
-    ensures local { result.global ≡ false }
-{
-    optional_flag(alloc, id, name, help).value_parser(value_parser!(u64).range(
-        LEAST_EVERY as i64..=MOST_EVERY as i64,
-    ))
 }
 
 /// A flag without a value.

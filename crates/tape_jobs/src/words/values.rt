@@ -166,7 +166,8 @@ fn value_text<'a>(values: &ArgMatches<'a>, argument: Argument) -> &'a str
 
 /// The value of an argument, where it is given.
 fn value_given<'a>(values: &ArgMatches<'a>, argument: Argument) -> Option<&'a str>
-    ensures { option_map (λ text. text.now) result ≡ first_of (id_in argument) (rows_of (found_of values.now)) }
+    ensures { option_map (λ text. text.now) result
+        ≡ first_of (id_in argument) (rows_of (found_of values.now)) }
 {
     values.get_str(id_of(argument))
 }

@@ -8,17 +8,17 @@ returns-in-Ok g c =
     let before : IsBefore (writers_of (used g.O.Write.contents c.args.out.now c.perform.new.out) (used g.P.Write.contents c.args.out_timing.now c.perform.new.out_timing)) = record { nothing = c.writers_join.ensures.nothing _ c.requires.out; nothing_timing = c.writers_join-2.ensures.nothing _ c.requires.out_timing } in
     rw c.outcome_of.ensures
     (ends_performed before c.in-Ok.given.recording c.in-Ok.given.requests.items
-    (λ files told. (
-      c.in-Ok.ensures.ok files.script files.timing told.script_told told.timing_told,
-      λ takes. c.in-Ok.ensures.requests takes files.requests (told.requests_told takes),
+    (λ files held. (
+      c.in-Ok.ensures.ok files.script files.timing held.script held.timing,
+      λ takes. c.in-Ok.ensures.requests takes files.requests (held.requests takes),
     ))
     (c.in-Ok.ensures.sound (λ e. absurd (cc))) c.in-Ok.ensures.alone c.perform.ensures.alone
-    c.perform.result c.perform.ensures.done c.perform.ensures.fault)
+    c.perform.result c.perform.ensures.ends)
 
 pub returns-in-Err : goal.returns-in-Err
 returns-in-Err g c =
     let before : IsBefore (writers_of (used g.O.Write.contents c.args.out.now c.args.out.now) (used g.P.Write.contents c.args.out_timing.now c.args.out_timing.now)) = record { nothing = c.writers_join.ensures.nothing _ c.requires.out; nothing_timing = c.writers_join-2.ensures.nothing _ c.requires.out_timing } in
     rw c.outcome_of-in-Err.ensures
     (ends_unread before c.in-Err.fault
-    (λ unstopped files told. c.in-Err.ensures.fault unstopped files.script files.timing told.script_told told.timing_told)
+    (λ unstopped files held. c.in-Err.ensures.fault unstopped files.script files.timing held.script held.timing)
     (λ other. c.in-Err.ensures.sound (λ e. other (cc))) c.in-Err.ensures.read_fault c.in-Err.ensures.no_write_fault c.in-Err.ensures.alone (refl, refl))

@@ -2,28 +2,28 @@ use Rattle.tape_jobs.proofs.LineLemmas.{changes_from_line, changes_line, due_lin
 use Rattle.tape_jobs.proofs.laws.plain_lines_are_read.Goals as goal
 
 pub returns-clause-due : goal.returns-clause-due
-returns-clause-due c = due_line
+returns-clause-due c = λ at moment e program script timing p q. due_line program script timing p q at moment e
 
 pub returns-clause-info : goal.returns-clause-info
 returns-clause-info c = info_line
 
 pub returns-clause-screen : goal.returns-clause-screen
-returns-clause-screen c = screen_line
+returns-clause-screen c = λ at moment e escaped profile program script timing p q. screen_line program script timing p q at moment e escaped profile
 
 pub returns-clause-changes : goal.returns-clause-changes
-returns-clause-changes c = changes_line
+returns-clause-changes c = λ to moment e profile program script timing p q. changes_line program script timing p q to moment e profile
 
 pub returns-clause-changes_from : goal.returns-clause-changes_from
-returns-clause-changes_from c = changes_from_line
+returns-clause-changes_from c = λ to moment e from start d profile program script timing p q. changes_from_line program script timing p q to moment e from start d profile
 
 pub returns-clause-reports : goal.returns-clause-reports
-returns-clause-reports c = reports_line
+returns-clause-reports c = λ at moment e profile program script timing p q. reports_line program script timing p q at moment e profile
 
 pub returns-clause-save : goal.returns-clause-save
 returns-clause-save c = save_line
 
 pub returns-clause-session : goal.returns-clause-session
-returns-clause-session c = session_line
+returns-clause-session c = λ profile program script timing p q. session_line program script timing p q profile
 
 pub returns-clause-session_every : goal.returns-clause-session_every
-returns-clause-session_every c = session_every_line
+returns-clause-session_every c = λ every count e profile program script timing p q. session_every_line program script timing p q every count e profile

@@ -11,17 +11,17 @@ pub loop-rest-preserved : goal.loop-rest-preserved
 loop-rest-preserved g c =
     let line = c.in_ok-is_refused in
     answered_more c.answer_line.new.out (lines_of c.next_line.result.1.now) c.next_line.result.0.now (course_of c.answer_line.new.session) line.is_refused c.loop-rest.invariant
-    c.next_line.ensures.lines line.ensures.course line.ensures.refused (λ x took. c.writers_join.ensures.both _ _ _ x _ line.ensures.ok took)
+    c.next_line.ensures.lines line.ensures.course line.ensures.refused (λ x took. c.writers_join.ensures.both _ _ _ x _ line.ensures.puts took)
 
-pub returns-in_err-is_refused-clause-fault : goal.returns-in_err-is_refused-clause-fault
-returns-in_err-is_refused-clause-fault g c =
+pub returns-in_err-is_refused-clause-puts : goal.returns-in_err-is_refused-clause-puts
+returns-in_err-is_refused-clause-puts g c =
     let p = err_from_is_err_and c.from_residual.result c.from_residual.ensures.1 in
     let before = c.loop-rest.invariant in
     rw (p.1, p.2, answers_left (lines_of c.next_line.result.1.now) c.next_line.result.0.now before c.next_line.ensures.lines)
-    (c.stops_join.ensures.in_second _ _ _ before.text _ _ (c.stops_join.ensures.in_first _ _ _ _ _ c.in_err-is_refused.ensures.fault) before.took)
+    (c.stops_join.ensures.in_second _ _ _ before.text _ _ (c.stops_join.ensures.in_first _ _ _ _ _ c.in_err-is_refused.ensures.puts) before.took)
 
-pub returns-clause-ok : goal.returns-clause-ok
-returns-clause-ok g c =
+pub returns-clause-puts : goal.returns-clause-puts
+returns-clause-puts g c =
     let none : length c.loop-rest.rest.now ≡ 0 = grind (arith, nat_tests) in
     answered_all c.loop-rest.invariant (ap lines_of (nil_from_length c.loop-rest.rest.now none))
 

@@ -7,8 +7,8 @@ use Rattle.tape_jobs.specs.Session.{answered}
 use Rattle.tape_jobs.specs.declared.job.JobFault.TheVariants.{File}
 use Rattle.tape_jobs.proofs.jobs.session.write_answers.Goals as goal
 
-pub returns-in_err-finish-clause-fault : goal.returns-in_err-finish-clause-fault
-returns-in_err-finish-clause-fault g c =
+pub returns-in_err-finish-clause-puts : goal.returns-in_err-finish-clause-puts
+returns-in_err-finish-clause-puts g c =
     let p = err_from_is_err_and c.from_residual-in_err-finish.result c.from_residual-in_err-finish.ensures.1 in
     let lines = lines_of c.args.requests.now in
     let took : Took g.O.Write.contents c.args.out.now c.answer_all.new.out (answered (started c.args.profile c.args.recording) lines) = search rules in
