@@ -93,7 +93,8 @@ named_in : (words : List Text) (met : Text × List Row) → subcommand_in words 
     → IsNamed (Some met.0) typetool_app.subs
 unfolding subcommand_in typetool_app app_in
 named_in words met e =
-    entered_named (built typetool_app) (stop_after (built typetool_app).top.rules (names_of (built typetool_app)) (argument_words typetool_app words)) met e
+    let a = built typetool_app in
+    entered_named a (stop_after a.top.rules (names_of a) (argument_words typetool_app words)) met e
 
 module _ {Z : Type 0} where
   name_and_rows : (o : Option (Box SubCommand Z))
@@ -129,7 +130,8 @@ pub with_rules_more : (a b : App) (arguments : List Argument) (i : ℕ) (d : Arg
     → with_rule a r ≡ with_rules b (map rule_in (take (i + 1) arguments))
 with_rules_more a b arguments i d r lt at e =
     let x = get_or arguments i d in
-    let rules : map rule_in (take (i + 1) arguments) ≡ map rule_in (take i arguments) ++ rule_in x ∷ [] = ap (map rule_in) (take_more arguments i d lt) ∙ map-append rule_in (take i arguments) (x ∷ []) in
+    let rules : map rule_in (take (i + 1) arguments) ≡ map rule_in (take i arguments) ++ rule_in x ∷ [] =
+    ap (map rule_in) (take_more arguments i d lt) ∙ map-append rule_in (take i arguments) (x ∷ []) in
     ap (λ (c : App). with_rule c r) e
     ∙ ap (λ q. with_rule (with_rules b (map rule_in (take i arguments))) q) at
     ∙ ap (λ l. record b { top = record b.top { rules = l } })

@@ -19,13 +19,18 @@ use Rattle.tape_jobs.specs.declared.job.JobFault.TheVariants.{File, Line, Memory
 comes_refused : (job : Job) (files : Files) (f : Fault) → fault_of files.script files.timing ≡ Some f
     → Comes job files (refused_with (File f))
 comes_refused job files f e =
-    subst (λ o. MatchOption o ((tape : Tape) × reads files.script files.timing tape × (refused_with (File f) ≡ done_on job tape files.requests)) (λ g. refused_with (File f) ≡ refused_with (File g))) (sym e) refl
+    subst (λ o. MatchOption o
+    ((tape : Tape) × reads files.script files.timing tape × (refused_with (File f) ≡ done_on job tape files.requests))
+    (λ g. refused_with (File f) ≡ refused_with (File g))) (sym e) refl
 
 -- a pair that is read
 comes_done : (job : Job) (files : Files) (tape : Tape) → reads files.script files.timing tape
     → Comes job files (done_on job tape files.requests)
 comes_done job files tape h =
-    subst (λ o. MatchOption o ((other : Tape) × reads files.script files.timing other × (done_on job tape files.requests ≡ done_on job other files.requests)) (λ g. done_on job tape files.requests ≡ refused_with (File g))) (sym h.faultless) (tape, h, refl)
+    let done = done_on job tape files.requests in
+    subst (λ o. MatchOption o
+    ((other : Tape) × reads files.script files.timing other × (done ≡ done_on job other files.requests))
+    (λ g. done ≡ refused_with (File g))) (sym h.faultless) (tape, h, refl)
 
 -- where a job takes no request lines, it comes to the same whatever they are
 same_done : (job : Job) (tape : Tape) (one other : List ℕ) → (takes_requests job ≡ true → one ≡ other)
@@ -84,7 +89,11 @@ module _ {S T R O P : Type 0} {readers : Readers S T R} {writers : Writers O P} 
           record {
             read = read (λ r. stops (File f) (File ReadFault) refl (ap (λ x. File x) r) unstopped);
             written = both_sound before unwritten;
-            comes = λ files told. (refused_with (File f), comes_refused job files f (fault unstopped files told), (refused_outcome (File f) unstopped, took_none before unwritten (File f)));
+            comes = λ files held. (
+              refused_with (File f),
+              comes_refused job files f (fault unstopped files held),
+              (refused_outcome (File f) unstopped, took_none before unwritten (File f)),
+            );
           },
           unwritten,
         );
@@ -111,11 +120,14 @@ module _ {S T R O P : Type 0} {readers : Readers S T R} {writers : Writers O P} 
   }
 
   -- a job on the recording that was read
-  module _ (tape : Tape) (lines : List ℕ) (is_read : (files : Files) → HoldFiles readers job files → reads files.script files.timing tape × (takes_requests job ≡ true → lines ≡ files.requests))
-      (read : AreRead readers) (alone : takes_requests job ≡ false → AsksNothing readers.requests) (alone_timing : writes_timing job ≡ false → AsksNothing writers.out_timing) where
+  module _ (tape : Tape) (lines : List ℕ)
+      (is_read : (files : Files) → HoldFiles readers job files
+      → reads files.script files.timing tape × (takes_requests job ≡ true → lines ≡ files.requests))
+      (read : AreRead readers) (alone : takes_requests job ≡ false → AsksNothing readers.requests)
+      (alone_timing : writes_timing job ≡ false → AsksNothing writers.out_timing) where
     on_files : {Is : Done → Type 0} → Is (done_on job tape lines) → OnFiles readers job Is
-    on_files {Is} is = λ files told.
-        let known = is_read files told in (
+    on_files {Is} is = λ files held.
+        let known = is_read files held in (
           done_on job tape lines,
           subst (Comes job files) (sym (same_done job tape lines files.requests known.1)) (comes_done job files tape known.0),
           is,
@@ -205,7 +217,10 @@ module _ {S T R O P : Type 0} {readers : Readers S T R} {writers : Writers O P} 
         record {
           read = read;
           written = both_sound before unwritten;
-          comes = on_files (refused_outcome f unstopped ∙ ap (λ (d : Done). d.outcome) (sym same), subst (TookBoth writers) (sym same) (took_none before unwritten f));
+          comes = on_files (
+            refused_outcome f unstopped ∙ ap (λ (d : Done). d.outcome) (sym same),
+            subst (TookBoth writers) (sym same) (took_none before unwritten f),
+          );
         },
         unwritten,
       );

@@ -14,7 +14,7 @@ use Rattle.clap.specs.Lexer.{strip_byte, long_of, long_of_rest, short_of_rest}
 use Rattle.clap.specs.Words.{App, Shape, Text, Row, takes}
 use Rattle.clap.specs.Simple.{built, built_leaf, entered, inherited, names_of, marked_built, with_leaf_noted}
 use Rattle.clap.specs.Takes.{bundle_passes, built_takes, default_passes, entered_passes, flag_word_passes, is_valid, level_passes, other_passes, settle_passes, step_passes, turn_passes, walk_passes, word_passes}
-use Rattle.clap.specs.Walk.{Held, Names, Rule, Walk, Waiting, after_step, finished, idle, option, positional, long_or_other, nothing_held, plain_word, rows_after, short_or_plain, subcommand_met, subcommand_or_other, trailing, walk, walk_from, walked, walked_from, word_met}
+use Rattle.clap.specs.Walk.{Held, Names, Rule, Step, Walk, Waiting, after_step, finished, idle, option, positional, long_or_other, nothing_held, plain_word, rows_after, short_or_plain, subcommand_met, subcommand_or_other, trailing, walk, walk_from, walked, walked_from, word_met}
 use Rattle.clap.proofs.OnLiterals.{clap_on_literals}
 use Rattle.tape_jobs.proofs.CommandLemmas.{is_simple_app, means, means_job}
 use Rattle.tape_core.specs.Seconds.{last_moment, micros, seconds_of}
@@ -74,8 +74,10 @@ module _ (word : Text) (plain : IsPlain word) where
   value_passes_by s waiting h =
       ap (λ o. other_passes s o word h) (no_name waiting word)
       ∙ ap (λ b. b || (flag_word_passes s.rules s.args_override_self (long_of word) word h)) (no_hyphens word plain)
-      ∙ ap (λ o. flag_word_passes s.rules s.args_override_self (option_and_then long_of_rest (option_and_then (strip_byte 45) o)) word h) (no_hyphen word plain)
-      ∙ ap (λ o. option_map_or (λ flags. bundle_passes s.rules s.args_override_self flags h) (option_and_then short_of_rest o) true) (no_hyphen word plain)
+      ∙ ap (λ o. flag_word_passes s.rules s.args_override_self (option_and_then long_of_rest (option_and_then (strip_byte 45) o)) word h)
+      (no_hyphen word plain)
+      ∙ ap (λ o. option_map_or (λ flags. bundle_passes s.rules s.args_override_self flags h) (option_and_then short_of_rest o) true)
+      (no_hyphen word plain)
 
 -- ---- a walk over words of which some are plain
 
@@ -113,18 +115,23 @@ is_none None e = refl
 is_none (Some x) e = absurd (cc)
 
 -- the walk over a plain word that nothing stops
-module _ (s : Shape) (w : Walk) (text : Text) (plain : IsPlain text) (untrailing : w.is_trailing ≡ false) (unstopped : w.stopped ≡ None) where
+module _ (s : Shape) (w : Walk) (text : Text) (plain : IsPlain text) (untrailing : w.is_trailing ≡ false)
+    (unstopped : w.stopped ≡ None) where
+  -- what the word does, by whether a `--` stands before it
+  abbrev met_where : Bool → Held × Step
+  met_where is_trailing = word_met s.rules [] is_trailing w.waiting w.position text w.held
+
   plain_step : walked s.rules [] w text ≡ stepped s.rules w (value_word text)
   unfolding walked
   plain_step =
       ap (λ o. walked_from s.rules [] o w text) unstopped
-      ∙ ap (λ b. after_step s.rules text w (word_met s.rules [] b w.waiting w.position text w.held).0 (word_met s.rules [] b w.waiting w.position text w.held).1) untrailing
+      ∙ ap (λ b. after_step s.rules text w (met_where b).0 (met_where b).1) untrailing
       ∙ ap (λ met. after_step s.rules text w met.0 met.1) (is_value text plain s.rules w.waiting w.position w.held)
 
   abbrev turn_where : Option (Text × List Text) → Bool → Bool
   turn_where stopped is_trailing =
       is_some stopped || (word_passes s [] is_trailing w.waiting text w.held
-      && step_passes s w.position (word_met s.rules [] is_trailing w.waiting w.position text w.held).0 (word_met s.rules [] is_trailing w.waiting w.position text w.held).1)
+      && step_passes s w.position (met_where is_trailing).0 (met_where is_trailing).1)
 
   plain_turn : step_passes s w.position (plain_word s.rules w.waiting text w.held).0 (plain_word s.rules w.waiting text w.held).1 ≡ true
       → turn_passes s [] w text ≡ true
@@ -163,6 +170,12 @@ goes s (value_word text ∷ rest) w plain taken =
 
 -- ---- a subcommand, with the words behind its name
 
+-- what is left to judge of a command when its words are over
+abbrev settles : Shape → Held → Bool → Bool
+settles s h is_entered =
+    settle_passes s.rules s.args_override_self h
+    && (list_all default_passes s.rules && is_valid s (finished s.rules h) is_entered)
+
 -- where the walk stands when the words are over
 abbrev end_of : Shape → List Word → Walk
 end_of s words = fold (stepped s.rules) (walk_from nothing_held) words
@@ -170,16 +183,14 @@ end_of s words = fold (stepped s.rules) (walk_from nothing_held) words
 -- whether a level takes the words, whatever the plain ones are
 abbrev level_takes : Shape → List Word → Bool
 level_takes s words =
-    are_taken s (walk_from nothing_held) words
-    && (settle_passes s.rules s.args_override_self (end_of s words).held
-    && (list_all default_passes s.rules && is_valid s (finished s.rules (end_of s words).held) false))
+    are_taken s (walk_from nothing_held) words && settles s (end_of s words).held false
 
 level_by : (s : Shape) (words : List Word) → ArePlain words → level_takes s words ≡ true
     → level_passes s [] nothing_held (map text_of words) false ≡ true
 level_by s words plain taken =
     let g = goes s words (walk_from nothing_held) plain (first_true _ _ taken) in
     both_true _ _ g.passes
-    (ap (λ (x : Walk). settle_passes s.rules s.args_override_self x.held && (list_all default_passes s.rules && is_valid s (finished s.rules x.held) false)) g.to
+    (ap (λ (x : Walk). settles s x.held false) g.to
     ∙ second_true _ _ taken)
 
 rows_by : (s : Shape) (words : List Word) → ArePlain words → level_takes s words ≡ true
@@ -207,13 +218,13 @@ halted_passes s names name before (word ∷ rest) = halted_passes s names name (
 -- a command takes words whose walk passes and ends here
 takes_by : (a : App) (words : List Text) (end : Walk) → walk a.top.rules (names_of a) nothing_held words ≡ end
     → walk_passes a.top (names_of a) (walk_from nothing_held) words ≡ true → entered_passes a end.stopped ≡ true
-    → (settle_passes a.top.rules a.top.args_override_self end.held && (list_all default_passes a.top.rules && is_valid a.top (finished a.top.rules end.held) (is_some (entered a end.stopped)))) ≡ true
+    → settles a.top end.held (is_some (entered a end.stopped)) ≡ true
     → built_takes a nothing_held words ≡ true
 takes_by a words end ends passes below here =
     let left = walk a.top.rules (names_of a) nothing_held words in
     both_true _ _ (ap (λ (x : Walk). entered_passes a x.stopped) ends ∙ below)
     (both_true _ _ passes
-    (ap (λ (x : Walk). settle_passes a.top.rules a.top.args_override_self x.held && (list_all default_passes a.top.rules && is_valid a.top (finished a.top.rules x.held) (is_some (entered a x.stopped)))) ends
+    (ap (λ (x : Walk). settles a.top x.held (is_some (entered a x.stopped))) ends
     ∙ here))
 
 -- the subcommand as clap builds it
@@ -266,7 +277,7 @@ leaf_passes Reports words e = e
 leaf_passes Save words e = e
 leaf_passes Session words e = e
 
-above_passes : (settle_passes (built typetool_app).top.rules (built typetool_app).top.args_override_self nothing_held && (list_all default_passes (built typetool_app).top.rules && is_valid (built typetool_app).top (finished (built typetool_app).top.rules nothing_held) true)) ≡ true
+above_passes : settles (built typetool_app).top nothing_held true ≡ true
 unfolding typetool_app app_in name_in flags_in paths_in id_in rule_in
 above_passes = refl
 
@@ -279,7 +290,7 @@ module _ (program : Text) (s : Subcommand) (words : List Word) (plain : ArePlain
       both_true _ _ is_simple_app
       (takes_by a (name_in s ∷ behind) (halted (name_in s) behind) (enters s behind) (enter_passes s behind)
       (leaf_passes s behind (level_by (leaf s) words plain taken))
-      (ap (λ o. settle_passes a.top.rules a.top.args_override_self nothing_held && (list_all default_passes a.top.rules && is_valid a.top (finished a.top.rules nothing_held) (is_some o))) (entered_leaf s behind)
+      (ap (λ o. settles a.top nothing_held (is_some o)) (entered_leaf s behind)
       ∙ above_passes))
 
   line_met : subcommand_in (program ∷ name_in s ∷ map text_of words) ≡ Some (name_in s, finished (leaf s).rules (end_of (leaf s) words).held)
@@ -320,7 +331,8 @@ unfolding seconds_of
 no_seconds rest =
     let whole = before_first (λ b. b == 46) (45 ∷ rest) in
     let decimals = after_first (λ b. b == 46) (45 ∷ rest) in
-    ap (λ c. option_map (λ us. min us last_moment) (if nat_lt 0 (length whole) && (c && list_all is_ascii_digit decimals) then Some (micros whole decimals) else None))
+    ap (λ c. option_map (λ us. min us last_moment)
+    (if nat_lt 0 (length whole) && (c && list_all is_ascii_digit decimals) then Some (micros whole decimals) else None))
     (no_digit (position_or_len (λ b. b == 46) rest) rest)
     ∙ no_value (λ us. min us last_moment) (micros whole decimals) (nat_lt 0 (length whole))
 
@@ -363,9 +375,18 @@ module _ (program script timing : Text) (p : IsPlain script) (q : IsPlain timing
   abbrev files : List Word
   files = value_word script ∷ value_word timing ∷ []
 
-  pub info_line : Asks (program ∷ codes "info" ∷ script ∷ timing ∷ []) job.Info (script ∷ timing ∷ [])
+  abbrev paths : List Text
+  paths = script ∷ timing ∷ []
+
+  abbrev as_vt100 : List Word
+  as_vt100 = literal (codes "--profile") ∷ literal (codes "vt100") ∷ files
+
+  abbrev as_vt102 : List Word
+  as_vt102 = literal (codes "--profile") ∷ literal (codes "vt102") ∷ files
+
+  pub info_line : Asks (program ∷ codes "info" ∷ script ∷ timing ∷ []) job.Info paths
   unfolding clap_on_literals typetool_app app_in name_in flags_in paths_in id_in rule_in job_in
-  info_line = asks_by program Info files (p, (q, tt)) refl job.Info (script ∷ timing ∷ []) refl refl
+  info_line = asks_by program Info files (p, (q, tt)) refl job.Info paths refl refl
 
   pub save_line : (new_script new_timing : Text) → IsPlain new_script → IsPlain new_timing
       → Asks (program ∷ codes "save" ∷ script ∷ timing ∷ new_script ∷ new_timing ∷ []) job.Save (script ∷ timing ∷ new_script ∷ new_timing ∷ [])
@@ -375,13 +396,13 @@ module _ (program script timing : Text) (p : IsPlain script) (q : IsPlain timing
       (p, (q, (r, (t, tt)))) refl job.Save (script ∷ timing ∷ new_script ∷ new_timing ∷ []) refl refl
 
   pub session_line : (profile : Option Profile)
-      → Asks (program ∷ codes "session" ∷ (profile_words profile ++ script ∷ timing ∷ [])) (job.Session usual_every (profile_or_first profile)) (script ∷ timing ∷ [])
+      → Asks (program ∷ codes "session" ∷ (profile_words profile ++ paths)) (job.Session usual_every (profile_or_first profile)) paths
   unfolding clap_on_literals typetool_app app_in name_in flags_in paths_in id_in rule_in job_in profile_named
-  session_line None = asks_by program Session files (p, (q, tt)) refl (job.Session usual_every Vt100) (script ∷ timing ∷ []) refl refl
+  session_line None = asks_by program Session files (p, (q, tt)) refl (job.Session usual_every Vt100) paths refl refl
   session_line (Some Vt100) =
-      asks_by program Session (literal (codes "--profile") ∷ literal (codes "vt100") ∷ files) (p, (q, tt)) refl (job.Session usual_every Vt100) (script ∷ timing ∷ []) refl refl
+      asks_by program Session (as_vt100) (p, (q, tt)) refl (job.Session usual_every Vt100) paths refl refl
   session_line (Some Vt102) =
-      asks_by program Session (literal (codes "--profile") ∷ literal (codes "vt102") ∷ files) (p, (q, tt)) refl (job.Session usual_every Vt102) (script ∷ timing ∷ []) refl refl
+      asks_by program Session (as_vt102) (p, (q, tt)) refl (job.Session usual_every Vt102) paths refl refl
 
   -- the lines with a moment
   module _ (at : Text) (moment : ℕ) (e : seconds_of at ≡ Some moment) where
@@ -392,59 +413,63 @@ module _ (program script timing : Text) (p : IsPlain script) (q : IsPlain timing
     moment_read : (of : ℕ → Job) → after (readable unread.Seconds (seconds_of at)) (λ m. Ok (of m)) ≡ Ok (of moment)
     moment_read of = ap (λ o. after (readable unread.Seconds o) (λ m. Ok (of m))) e
 
-    pub due_line : Asks (program ∷ codes "due" ∷ codes "--at" ∷ at ∷ script ∷ timing ∷ []) (job.Due moment) (script ∷ timing ∷ [])
+    pub due_line : Asks (program ∷ codes "due" ∷ codes "--at" ∷ at ∷ script ∷ timing ∷ []) (job.Due moment) paths
     unfolding clap_on_literals typetool_app app_in name_in flags_in paths_in id_in rule_in job_in
     due_line =
-        asks_by program Due (literal (codes "--at") ∷ value_word at ∷ files) are_plain refl (job.Due moment) (script ∷ timing ∷ [])
+        asks_by program Due (literal (codes "--at") ∷ value_word at ∷ files) are_plain refl (job.Due moment) paths
         (moment_read (λ m. job.Due m)) refl
 
     pub reports_line : (profile : Option Profile)
-        → Asks (program ∷ codes "reports" ∷ codes "--at" ∷ at ∷ (profile_words profile ++ script ∷ timing ∷ [])) (job.Reports moment (profile_or_first profile)) (script ∷ timing ∷ [])
+        → Asks (program ∷ codes "reports" ∷ codes "--at" ∷ at ∷ (profile_words profile ++ paths))
+        (job.Reports moment (profile_or_first profile)) paths
     unfolding clap_on_literals typetool_app app_in name_in flags_in paths_in id_in rule_in job_in profile_named
     reports_line None =
-        asks_by program Reports (literal (codes "--at") ∷ value_word at ∷ files) are_plain refl (job.Reports moment Vt100) (script ∷ timing ∷ [])
+        asks_by program Reports (literal (codes "--at") ∷ value_word at ∷ files) are_plain refl (job.Reports moment Vt100) paths
         (moment_read (λ m. job.Reports m Vt100)) refl
     reports_line (Some Vt100) =
-        asks_by program Reports (literal (codes "--at") ∷ value_word at ∷ literal (codes "--profile") ∷ literal (codes "vt100") ∷ files) are_plain refl
-        (job.Reports moment Vt100) (script ∷ timing ∷ []) (moment_read (λ m. job.Reports m Vt100)) refl
+        asks_by program Reports (literal (codes "--at") ∷ value_word at ∷ as_vt100) are_plain refl
+        (job.Reports moment Vt100) paths (moment_read (λ m. job.Reports m Vt100)) refl
     reports_line (Some Vt102) =
-        asks_by program Reports (literal (codes "--at") ∷ value_word at ∷ literal (codes "--profile") ∷ literal (codes "vt102") ∷ files) are_plain refl
-        (job.Reports moment Vt102) (script ∷ timing ∷ []) (moment_read (λ m. job.Reports m Vt102)) refl
+        asks_by program Reports (literal (codes "--at") ∷ value_word at ∷ as_vt102) are_plain refl
+        (job.Reports moment Vt102) paths (moment_read (λ m. job.Reports m Vt102)) refl
 
     pub screen_line : (escaped : Bool) (profile : Option Profile)
-        → Asks (program ∷ codes "screen" ∷ codes "--at" ∷ at ∷ ((escaped_words escaped ++ profile_words profile) ++ script ∷ timing ∷ [])) (job.Screen moment (profile_or_first profile) escaped) (script ∷ timing ∷ [])
+        → Asks (program ∷ codes "screen" ∷ codes "--at" ∷ at ∷ ((escaped_words escaped ++ profile_words profile) ++ paths))
+        (job.Screen moment (profile_or_first profile) escaped) paths
     unfolding clap_on_literals typetool_app app_in name_in flags_in paths_in id_in rule_in job_in profile_named
     screen_line false None =
-        asks_by program Screen (literal (codes "--at") ∷ value_word at ∷ files) are_plain refl (job.Screen moment Vt100 false) (script ∷ timing ∷ [])
+        asks_by program Screen (literal (codes "--at") ∷ value_word at ∷ files) are_plain refl (job.Screen moment Vt100 false) paths
         (moment_read (λ m. job.Screen m Vt100 false)) refl
     screen_line false (Some Vt100) =
-        asks_by program Screen (literal (codes "--at") ∷ value_word at ∷ literal (codes "--profile") ∷ literal (codes "vt100") ∷ files) are_plain refl
-        (job.Screen moment Vt100 false) (script ∷ timing ∷ []) (moment_read (λ m. job.Screen m Vt100 false)) refl
+        asks_by program Screen (literal (codes "--at") ∷ value_word at ∷ as_vt100) are_plain refl
+        (job.Screen moment Vt100 false) paths (moment_read (λ m. job.Screen m Vt100 false)) refl
     screen_line false (Some Vt102) =
-        asks_by program Screen (literal (codes "--at") ∷ value_word at ∷ literal (codes "--profile") ∷ literal (codes "vt102") ∷ files) are_plain refl
-        (job.Screen moment Vt102 false) (script ∷ timing ∷ []) (moment_read (λ m. job.Screen m Vt102 false)) refl
+        asks_by program Screen (literal (codes "--at") ∷ value_word at ∷ as_vt102) are_plain refl
+        (job.Screen moment Vt102 false) paths (moment_read (λ m. job.Screen m Vt102 false)) refl
     screen_line true None =
-        asks_by program Screen (literal (codes "--at") ∷ value_word at ∷ literal (codes "--escaped") ∷ files) are_plain refl (job.Screen moment Vt100 true) (script ∷ timing ∷ [])
+        asks_by program Screen (literal (codes "--at") ∷ value_word at ∷ literal (codes "--escaped") ∷ files) are_plain refl
+        (job.Screen moment Vt100 true) paths
         (moment_read (λ m. job.Screen m Vt100 true)) refl
     screen_line true (Some Vt100) =
-        asks_by program Screen (literal (codes "--at") ∷ value_word at ∷ literal (codes "--escaped") ∷ literal (codes "--profile") ∷ literal (codes "vt100") ∷ files) are_plain refl
-        (job.Screen moment Vt100 true) (script ∷ timing ∷ []) (moment_read (λ m. job.Screen m Vt100 true)) refl
+        asks_by program Screen (literal (codes "--at") ∷ value_word at ∷ literal (codes "--escaped") ∷ as_vt100) are_plain refl
+        (job.Screen moment Vt100 true) paths (moment_read (λ m. job.Screen m Vt100 true)) refl
     screen_line true (Some Vt102) =
-        asks_by program Screen (literal (codes "--at") ∷ value_word at ∷ literal (codes "--escaped") ∷ literal (codes "--profile") ∷ literal (codes "vt102") ∷ files) are_plain refl
-        (job.Screen moment Vt102 true) (script ∷ timing ∷ []) (moment_read (λ m. job.Screen m Vt102 true)) refl
+        asks_by program Screen (literal (codes "--at") ∷ value_word at ∷ literal (codes "--escaped") ∷ as_vt102) are_plain refl
+        (job.Screen moment Vt102 true) paths (moment_read (λ m. job.Screen m Vt102 true)) refl
 
     pub changes_line : (profile : Option Profile)
-        → Asks (program ∷ codes "changes" ∷ codes "--to" ∷ at ∷ (profile_words profile ++ script ∷ timing ∷ [])) (job.Changes None moment (profile_or_first profile)) (script ∷ timing ∷ [])
+        → Asks (program ∷ codes "changes" ∷ codes "--to" ∷ at ∷ (profile_words profile ++ paths))
+        (job.Changes None moment (profile_or_first profile)) paths
     unfolding clap_on_literals typetool_app app_in name_in flags_in paths_in id_in rule_in job_in profile_named
     changes_line None =
-        asks_by program Changes (literal (codes "--to") ∷ value_word at ∷ files) are_plain refl (job.Changes None moment Vt100) (script ∷ timing ∷ [])
+        asks_by program Changes (literal (codes "--to") ∷ value_word at ∷ files) are_plain refl (job.Changes None moment Vt100) paths
         (moment_read (λ m. job.Changes None m Vt100)) refl
     changes_line (Some Vt100) =
-        asks_by program Changes (literal (codes "--to") ∷ value_word at ∷ literal (codes "--profile") ∷ literal (codes "vt100") ∷ files) are_plain refl
-        (job.Changes None moment Vt100) (script ∷ timing ∷ []) (moment_read (λ m. job.Changes None m Vt100)) refl
+        asks_by program Changes (literal (codes "--to") ∷ value_word at ∷ as_vt100) are_plain refl
+        (job.Changes None moment Vt100) paths (moment_read (λ m. job.Changes None m Vt100)) refl
     changes_line (Some Vt102) =
-        asks_by program Changes (literal (codes "--to") ∷ value_word at ∷ literal (codes "--profile") ∷ literal (codes "vt102") ∷ files) are_plain refl
-        (job.Changes None moment Vt102) (script ∷ timing ∷ []) (moment_read (λ m. job.Changes None m Vt102)) refl
+        asks_by program Changes (literal (codes "--to") ∷ value_word at ∷ as_vt102) are_plain refl
+        (job.Changes None moment Vt102) paths (moment_read (λ m. job.Changes None m Vt102)) refl
 
     -- and with two
     module _ (from : Text) (start : ℕ) (d : seconds_of from ≡ Some start) where
@@ -452,23 +477,28 @@ module _ (program script timing : Text) (p : IsPlain script) (q : IsPlain timing
       both_plain = (seconds_are_plain from start d, are_plain)
 
       both_read : (played : Profile)
-          → after (after (readable unread.Seconds (seconds_of from)) (λ m. Ok (Some m))) (λ first. after (readable unread.Seconds (seconds_of at)) (λ m. Ok (job.Changes first m played))) ≡ Ok (job.Changes (Some start) moment played)
+          → after (after (readable unread.Seconds (seconds_of from)) (λ m. Ok (Some m)))
+          (λ first. after (readable unread.Seconds (seconds_of at)) (λ m. Ok (job.Changes first m played)))
+          ≡ Ok (job.Changes (Some start) moment played)
       both_read played =
-          ap (λ o. after (after (readable unread.Seconds o) (λ m. Ok (Some m))) (λ first. after (readable unread.Seconds (seconds_of at)) (λ m. Ok (job.Changes first m played)))) d
+          ap (λ o. after (after (readable unread.Seconds o) (λ m. Ok (Some m)))
+          (λ first. after (readable unread.Seconds (seconds_of at)) (λ m. Ok (job.Changes first m played)))) d
           ∙ moment_read (λ m. job.Changes (Some start) m played)
 
       pub changes_from_line : (profile : Option Profile)
-          → Asks (program ∷ codes "changes" ∷ codes "--from" ∷ from ∷ codes "--to" ∷ at ∷ (profile_words profile ++ script ∷ timing ∷ [])) (job.Changes (Some start) moment (profile_or_first profile)) (script ∷ timing ∷ [])
+          → Asks (program ∷ codes "changes" ∷ codes "--from" ∷ from ∷ codes "--to" ∷ at ∷ (profile_words profile ++ paths))
+          (job.Changes (Some start) moment (profile_or_first profile)) paths
       unfolding clap_on_literals typetool_app app_in name_in flags_in paths_in id_in rule_in job_in profile_named
       changes_from_line None =
-          asks_by program Changes (literal (codes "--from") ∷ value_word from ∷ literal (codes "--to") ∷ value_word at ∷ files) both_plain refl (job.Changes (Some start) moment Vt100) (script ∷ timing ∷ [])
+          asks_by program Changes (literal (codes "--from") ∷ value_word from ∷ literal (codes "--to") ∷ value_word at ∷ files) both_plain refl
+          (job.Changes (Some start) moment Vt100) paths
           (both_read Vt100) refl
       changes_from_line (Some Vt100) =
-          asks_by program Changes (literal (codes "--from") ∷ value_word from ∷ literal (codes "--to") ∷ value_word at ∷ literal (codes "--profile") ∷ literal (codes "vt100") ∷ files) both_plain refl
-          (job.Changes (Some start) moment Vt100) (script ∷ timing ∷ []) (both_read Vt100) refl
+          asks_by program Changes (literal (codes "--from") ∷ value_word from ∷ literal (codes "--to") ∷ value_word at ∷ as_vt100) both_plain refl
+          (job.Changes (Some start) moment Vt100) paths (both_read Vt100) refl
       changes_from_line (Some Vt102) =
-          asks_by program Changes (literal (codes "--from") ∷ value_word from ∷ literal (codes "--to") ∷ value_word at ∷ literal (codes "--profile") ∷ literal (codes "vt102") ∷ files) both_plain refl
-          (job.Changes (Some start) moment Vt102) (script ∷ timing ∷ []) (both_read Vt102) refl
+          asks_by program Changes (literal (codes "--from") ∷ value_word from ∷ literal (codes "--to") ∷ value_word at ∷ as_vt102) both_plain refl
+          (job.Changes (Some start) moment Vt102) paths (both_read Vt102) refl
 
   -- the line with a number of chunks
   module _ (every : Text) (count : ℕ) (e : every_of every ≡ Some count) where
@@ -480,14 +510,15 @@ module _ (program script timing : Text) (p : IsPlain script) (q : IsPlain timing
     number_read played = ap (λ o. after (readable unread.Every o) (λ n. Ok (job.Session n played))) e
 
     pub session_every_line : (profile : Option Profile)
-        → Asks (program ∷ codes "session" ∷ codes "--every" ∷ every ∷ (profile_words profile ++ script ∷ timing ∷ [])) (job.Session count (profile_or_first profile)) (script ∷ timing ∷ [])
+        → Asks (program ∷ codes "session" ∷ codes "--every" ∷ every ∷ (profile_words profile ++ paths))
+        (job.Session count (profile_or_first profile)) paths
     unfolding clap_on_literals typetool_app app_in name_in flags_in paths_in id_in rule_in job_in profile_named
     session_every_line None =
         asks_by program Session (literal (codes "--every") ∷ value_word every ∷ files) number_plain refl
-        (job.Session count Vt100) (script ∷ timing ∷ []) (number_read Vt100) refl
+        (job.Session count Vt100) paths (number_read Vt100) refl
     session_every_line (Some Vt100) =
-        asks_by program Session (literal (codes "--every") ∷ value_word every ∷ literal (codes "--profile") ∷ literal (codes "vt100") ∷ files) number_plain refl
-        (job.Session count Vt100) (script ∷ timing ∷ []) (number_read Vt100) refl
+        asks_by program Session (literal (codes "--every") ∷ value_word every ∷ as_vt100) number_plain refl
+        (job.Session count Vt100) paths (number_read Vt100) refl
     session_every_line (Some Vt102) =
-        asks_by program Session (literal (codes "--every") ∷ value_word every ∷ literal (codes "--profile") ∷ literal (codes "vt102") ∷ files) number_plain refl
-        (job.Session count Vt102) (script ∷ timing ∷ []) (number_read Vt102) refl
+        asks_by program Session (literal (codes "--every") ∷ value_word every ∷ as_vt102) number_plain refl
+        (job.Session count Vt102) paths (number_read Vt102) refl

@@ -8,7 +8,8 @@ use Rattle.tape_jobs.specs.Requests.{Course, course_after}
 use Rattle.tape_jobs.specs.Session.{answer, answered, any_refused, is_refused}
 
 -- lines were answered: the text that went out, whether any was refused, and the rest decides the rest
-pub record AnsweredBefore {T : Type 0} (contents : T → Option (List ℕ)) (old new : Watched T) (first : Course) (lines : List (List ℕ)) (course : Course) (rest : List (List ℕ)) (refused : Bool) : Type 0 where
+pub record AnsweredBefore {T : Type 0} (contents : T → Option (List ℕ)) (old new : Watched T)
+    (first : Course) (lines : List (List ℕ)) (course : Course) (rest : List (List ℕ)) (refused : Bool) : Type 0 where
   pub text : List ℕ
   pub took : Took contents old new text
   pub cut : answered first lines ≡ text ++ answered course rest
@@ -33,12 +34,14 @@ refused_none : (course : Course) (lines : List (List ℕ)) → lines ≡ [] → 
 unfolding any_refused
 refused_none course lines e = ap (any_refused course) e
 
-module _ {T : Type 0} {contents : T → Option (List ℕ)} {old now : Watched T} {first course : Course} {lines rest : List (List ℕ)} {refused : Bool} where
+module _ {T : Type 0} {contents : T → Option (List ℕ)} {old now : Watched T} {first course : Course}
+    {lines rest : List (List ℕ)} {refused : Bool} where
   -- what went out by the last line
   pub answered_all : AnsweredBefore contents old now first lines course rest refused → rest ≡ []
       → Took contents old now (answered first lines)
   answered_all before none =
-      subst (λ t. Took contents old now t) (sym (before.cut ∙ ap (λ t. before.text ++ t) (answered_none course rest none) ∙ append-nil before.text)) before.took
+      subst (λ t. Took contents old now t)
+      (sym (before.cut ∙ ap (λ t. before.text ++ t) (answered_none course rest none) ∙ append-nil before.text)) before.took
 
   pub refused_all : AnsweredBefore contents old now first lines course rest refused → rest ≡ []
       → refused ≡ any_refused first lines

@@ -34,7 +34,11 @@ fn every_is_refused(rt: HostRuntime) -> Result<(), Fail> {
     ] {
         let words = words_of(rt.alloc(), line)?;
         let told = told(rt.alloc(), words.as_slice())?;
-        assert_eq!(rt; told.as_str(), "bad number of chunks: 1 to 1000000", "{line:?}");
+        assert_eq!(rt;
+            told.as_str(),
+            "bad number of chunks: 1 to 1000000",
+            "{line:?}"
+        );
     }
     Ok(())
 }

@@ -5,7 +5,11 @@ use Rattle.tape_jobs.proofs.job.run.Goals as goal
 
 pub returns-in-Ok : goal.returns-in-Ok
 returns-in-Ok g c =
-    let before : IsBefore (writers_of (used g.O.Write.contents c.args.out.now c.perform.new.out) (used g.P.Write.contents c.args.out_timing.now c.perform.new.out_timing)) = record { nothing = c.writers_join.ensures.nothing _ c.requires.out; nothing_timing = c.writers_join-2.ensures.nothing _ c.requires.out_timing } in
+    let before : IsBefore (writers_of (used g.O.Write.contents c.args.out.now c.perform.new.out)
+    (used g.P.Write.contents c.args.out_timing.now c.perform.new.out_timing)) = record {
+      nothing = c.writers_join.ensures.nothing _ c.requires.out;
+      nothing_timing = c.writers_join-2.ensures.nothing _ c.requires.out_timing;
+    } in
     rw c.outcome_of.ensures
     (ends_performed before c.in-Ok.given.recording c.in-Ok.given.requests.items
     (λ files held. (
@@ -17,8 +21,13 @@ returns-in-Ok g c =
 
 pub returns-in-Err : goal.returns-in-Err
 returns-in-Err g c =
-    let before : IsBefore (writers_of (used g.O.Write.contents c.args.out.now c.args.out.now) (used g.P.Write.contents c.args.out_timing.now c.args.out_timing.now)) = record { nothing = c.writers_join.ensures.nothing _ c.requires.out; nothing_timing = c.writers_join-2.ensures.nothing _ c.requires.out_timing } in
+    let before : IsBefore (writers_of (used g.O.Write.contents c.args.out.now c.args.out.now)
+    (used g.P.Write.contents c.args.out_timing.now c.args.out_timing.now)) = record {
+      nothing = c.writers_join.ensures.nothing _ c.requires.out;
+      nothing_timing = c.writers_join-2.ensures.nothing _ c.requires.out_timing;
+    } in
     rw c.outcome_of-in-Err.ensures
     (ends_unread before c.in-Err.fault
     (λ unstopped files held. c.in-Err.ensures.fault unstopped files.script files.timing held.script held.timing)
-    (λ other. c.in-Err.ensures.sound (λ e. other (cc))) c.in-Err.ensures.read_fault c.in-Err.ensures.no_write_fault c.in-Err.ensures.alone (refl, refl))
+    (λ other. c.in-Err.ensures.sound (λ e. other (cc))) c.in-Err.ensures.read_fault c.in-Err.ensures.no_write_fault
+    c.in-Err.ensures.alone (refl, refl))

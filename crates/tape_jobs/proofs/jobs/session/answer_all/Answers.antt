@@ -10,7 +10,8 @@ use Rattle.tape_jobs.proofs.jobs.session.answer_all.Goals as goal
 pub loop-rest-preserved : goal.loop-rest-preserved
 loop-rest-preserved g c =
     let line = c.in_ok-is_refused in
-    answered_more c.answer_line.new.out (lines_of c.next_line.result.1.now) c.next_line.result.0.now (course_of c.answer_line.new.session) line.is_refused c.loop-rest.invariant
+    answered_more c.answer_line.new.out (lines_of c.next_line.result.1.now) c.next_line.result.0.now
+    (course_of c.answer_line.new.session) line.is_refused c.loop-rest.invariant
     c.next_line.ensures.lines line.ensures.course line.ensures.refused (λ x took. c.writers_join.ensures.both _ _ _ x _ line.ensures.puts took)
 
 pub returns-in_err-is_refused-clause-puts : goal.returns-in_err-is_refused-clause-puts

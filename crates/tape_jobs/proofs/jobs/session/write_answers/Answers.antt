@@ -11,5 +11,6 @@ pub returns-in_err-finish-clause-puts : goal.returns-in_err-finish-clause-puts
 returns-in_err-finish-clause-puts g c =
     let p = err_from_is_err_and c.from_residual-in_err-finish.result c.from_residual-in_err-finish.ensures.1 in
     let lines = lines_of c.args.requests.now in
-    let took : Took g.O.Write.contents c.args.out.now c.answer_all.new.out (answered (started c.args.profile c.args.recording) lines) = search rules in
+    let text = answered (started c.args.profile c.args.recording) lines in
+    let took : Took g.O.Write.contents c.args.out.now c.answer_all.new.out text = search rules in
     rw (p.1, p.2) (inr (ap File c.in_err-finish.ensures.puts.0, c.writers_join.ensures.at_flush _ _ _ _ true c.in_err-finish.ensures.puts.1 took))

@@ -10,6 +10,7 @@ loop-argument-preserved c =
     let below : at < length arguments = omega arith in
     let added : AddsArg c.loop-argument.more c.arg_of.result c.in_ok-more.more = c.in_ok-more.ensures in (
       added.shape c.arg_of.ensures.local
-          ∙ with_rules_more (app_of c.loop-argument.more) (app_of c.args.command) arguments at _ _ below c.arg_of.ensures.rule c.loop-argument.invariant.0,
+          ∙ with_rules_more (app_of c.loop-argument.more) (app_of c.args.command) arguments at _ _ below
+          c.arg_of.ensures.rule c.loop-argument.invariant.0,
       rw (c.loop-argument.invariant.1, c.arg_of.ensures.local) at added.globals,
     )
