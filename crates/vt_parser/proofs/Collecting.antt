@@ -10,11 +10,12 @@ use Rattle.vt_parser.specs.declared.commands.Mode.TheVariants.{Ansi}
 use Rattle.vt_parser.specs.declared.commands.Command.TheVariants as command
 use Rattle.vt_parser.specs.declared.states.ParserState.{ParserState}
 use Rattle.vt_parser.specs.declared.states.ParserState.TheVariants.{Ground, Escape, CsiStart, Csi, CsiIgnored}
-use Rattle.vt_parser.specs.Syntax.{escape, is_graphic}
+use Rattle.vt_parser.specs.Syntax.{escape, is_within, is_graphic}
 use Rattle.vt_parser.specs.Forms.{is_control_sequence_text, is_control_sequence_final, is_plain, held}
 use Rattle.vt_parser.specs.Machine.{Outcome, moves_to, gives, digit_joined, semicolon_joined, control_sequence_joined, joined, stepped, Runs}
 use Rattle.vt_parser.specs.Reading.{GoesOn}
 use Rattle.vt_parser.proofs.ManyBytes.{runs_more, runs_push}
+use Rattle.vt_parser.proofs.Table.{control_actions}
 use Rattle.vt_parser.proofs.Whole.{joins, escape_begins}
 
 -- ---- bytes of a text
@@ -88,6 +89,21 @@ pub runs_one : (state : ParserState) (mode : Mode) (bytes : List ℕ) (step : Ou
     → stepped state mode (get_or bytes 0 0) ≡ step → Runs state mode (take 1 bytes) step
 runs_one state mode [] step some is = absurd (omega arith)
 runs_one state mode (byte ∷ rest) step some is = is
+
+-- a control character on ground that has an effect
+control_steps : (mode : Mode) (byte : ℕ) → is_within 8 15 byte ≡ true
+    → stepped Ground mode byte ≡ record { state = Ground; command = Some (command.Control byte) }
+unfolding stepped
+control_steps mode byte is = let kind = control_actions byte is in simp (kind, is)
+
+pub control_runs : (state : ParserState) (mode : Mode) (bytes : List ℕ) → 0 < length bytes → state ≡ Ground
+    → is_within 8 15 (get_or bytes 0 0) ≡ true
+    → Runs state mode (take 1 bytes) (record { state = state; command = Some (command.Control (get_or bytes 0 0)) })
+control_runs state mode bytes some ground is =
+    let byte = get_or bytes 0 0 in
+    let steps : ParserState → Type 0 =
+    λ state. stepped state mode byte ≡ record { state = state; command = Some (command.Control byte) } in
+    runs_one state mode bytes _ some (subst steps (sym ground) (control_steps mode byte is))
 
 -- ESC `[` in ANSI mode, and bytes of the text that it begins
 pub opening_runs : (state : ParserState) (bytes : List ℕ) (n : ℕ) (step : Outcome) → get_or bytes 0 0 ≡ escape → get_or bytes 1 0 ≡ 91

@@ -2,7 +2,7 @@
 //! text of a control sequence, which comes most often, by `control_sequence`.
 ghost use Rattle.std.specs.Prelude.{◌≡◌, ◌≢◌, ◌==◌, ℕ, ◌≤◌, ◌<◌, List, length, take, slice_index, true, false, None};
 ghost use Rattle.std.specs.List.{list_all, prefix_len};
-ghost use Rattle.vt_parser.specs.Syntax.{is_graphic};
+ghost use Rattle.vt_parser.specs.Syntax.{is_within, is_graphic};
 ghost use Rattle.vt_parser.specs.Forms.{most_params};
 ghost use Rattle.vt_parser.specs.Step.{control_of};
 ghost use Rattle.vt_parser.specs.Machine.{context_in, begun, escape_joined, joined, stepped};
@@ -12,7 +12,7 @@ use crate::control_sequence::{Params, read_control_sequence, read_first, read_te
 use crate::forms::{
     ADDRESS, ADDRESS_OFFSET, BRACKET, begins_string, is_control_sequence_final, is_intermediate,
 };
-use crate::syntax::{Action, Context, action_of, is_escape, is_graphic, is_nul};
+use crate::syntax::{Action, Context, action_of, is_effective, is_escape, is_graphic, is_nul};
 use crate::tokens::Event;
 use crate::{Mode, ParserState, printable_run};
 
@@ -53,6 +53,8 @@ pub(crate) fn read(
     let byte = bytes[0];
     if is_graphic(byte) {
         read_graphic(state, params, bytes)
+    } else if is_executed(state, byte) {
+        (1, Some(Event::Control(byte)))
     } else if is_nul(byte) {
         (nul_run(bytes), None)
     } else if opens_control_sequence(mode, bytes) {
@@ -63,6 +65,18 @@ pub(crate) fn read(
 }
 
 // ---- ahead of the table
+
+// A control character on ground that has an effect. The table says so too, and takes longer.
+#[inline]
+fn is_executed(state: &ParserState, byte: u8) -> bool
+    ensures ground { result ≡ true → state.now ≡ ParserState.Ground }
+    ensures effective { result ≡ true → is_within 8 15 byte ≡ true }
+{
+    match state {
+        ParserState::Ground => is_effective(byte),
+        _ => false,
+    }
+}
 
 // How many NULs the bytes begin with.
 #[inline]
@@ -153,9 +167,10 @@ fn control_of(byte: u8) -> Option<Event>
     ensures lent { IsLent result }
     ensures command { (params : List ℕ) → event_command result params ≡ control_of byte }
 {
-    match byte {
-        8..=15 => Some(Event::Control(byte)),
-        _ => None,
+    if is_effective(byte) {
+        Some(Event::Control(byte))
+    } else {
+        None
     }
 }
 

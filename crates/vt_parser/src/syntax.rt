@@ -3,7 +3,7 @@
 //! `specs/Syntax` has the same table, row by row. What is decided ahead of it, for speed, stands below it: `machine`
 //! and `runs` name no byte of their own.
 ghost use Rattle.std.specs.Prelude.{◌≡◌, ◌==◌, true};
-ghost use Rattle.vt_parser.specs.Syntax.{escape, is_graphic, actions_by, actions_of, action_at, action_of};
+ghost use Rattle.vt_parser.specs.Syntax.{escape, is_within, is_graphic, actions_by, actions_of, action_at, action_of};
 ghost use Rattle.vt_parser.specs.Ahead.{is_print, is_join, is_begin, Idles};
 
 /// Where a byte comes.
@@ -65,6 +65,8 @@ const ACK: u8 = 6;
 const BEL: u8 = 7;
 
 const BS: u8 = 8;
+
+const SI: u8 = 15;
 
 const ETB: u8 = 23;
 
@@ -139,6 +141,16 @@ pub(crate) fn is_graphic(byte: u8) -> bool
     ensures joined { result ≡ is_join (actions_of byte).in_sequence }
 {
     matches!(byte, SPACE..=TILDE)
+}
+
+/// A control character that has an effect, BS to SI: the table executes it on ground.
+#[inline]
+#[tactic(auto, using(crate::proofs::Table::control_actions))]
+pub(crate) fn is_effective(byte: u8) -> bool
+    ensures value { result ≡ is_within 8 15 byte }
+    ensures executed { result ≡ true → (actions_of byte).on_ground ≡ Action.Execute }
+{
+    matches!(byte, BS..=SI)
 }
 
 /// NUL, by which lines are padded: the table leaves all as it is.
