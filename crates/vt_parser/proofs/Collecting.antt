@@ -12,7 +12,7 @@ use Rattle.vt_parser.specs.declared.states.ParserState.{ParserState}
 use Rattle.vt_parser.specs.declared.states.ParserState.TheVariants.{Ground, Escape, CsiStart, Csi, CsiIgnored}
 use Rattle.vt_parser.specs.Syntax.{escape, is_within, is_graphic}
 use Rattle.vt_parser.specs.Forms.{is_control_sequence_text, is_control_sequence_final, is_plain, held}
-use Rattle.vt_parser.specs.Machine.{Outcome, moves_to, gives, digit_joined, semicolon_joined, control_sequence_joined, joined, stepped, Runs}
+use Rattle.vt_parser.specs.Machine.{Transition, moves_to, gives, digit_joined, semicolon_joined, control_sequence_joined, joined, stepped, Runs}
 use Rattle.vt_parser.specs.Reading.{GoesOn}
 use Rattle.vt_parser.proofs.ManyBytes.{runs_more, runs_push}
 use Rattle.vt_parser.proofs.Table.{control_actions}
@@ -21,7 +21,7 @@ use Rattle.vt_parser.proofs.Whole.{joins, escape_begins}
 -- ---- bytes of a text
 
 -- a byte that joins a text, and the step that it makes
-pub record JoinsText (private : Bool) (params : ArrayVec ℕ) (over : Bool) (byte : ℕ) (step : Outcome) : Type 0 where
+pub record JoinsText (private : Bool) (params : ArrayVec ℕ) (over : Bool) (byte : ℕ) (step : Transition) : Type 0 where
   graphic : is_graphic byte ≡ true
   does : control_sequence_joined private params over byte ≡ step
 
@@ -43,7 +43,7 @@ other_joins private params over byte is other = record { graphic = grind (arith,
 
 -- from where it joins to all that was read
 pub further : (front : List ℕ) (state : ParserState) (private : Bool) (params : ArrayVec ℕ) (over : Bool)
-    (bytes : List ℕ) (at : ℕ) (step other : Outcome) → at < length bytes
+    (bytes : List ℕ) (at : ℕ) (step other : Transition) → at < length bytes
     → JoinsText private params over (get_or bytes at 0) step → other ≡ step
     → GoesOn front state (take at bytes) (moves_to (Csi private params over)) → GoesOn front state (take (at + 1) bytes) other
 unfolding joined
@@ -51,21 +51,21 @@ further front state private params over bytes at step other within joined same l
     let there : ParserState = Csi private params over in
     let byte = get_or bytes at 0 in
     subst (λ (taken : List ℕ). Runs start mode taken other) (sym (take_more bytes at 0 within))
-    (subst (λ (last : Outcome). Runs start mode (take at bytes ++ byte ∷ []) last)
+    (subst (λ (last : Transition). Runs start mode (take at bytes ++ byte ∷ []) last)
     (joins there mode byte refl joined.graphic ∙ joined.does ∙ sym same)
     (runs_push start mode (take at bytes) there byte (led start mode runs)))
 
 -- ---- where a text begins
 
 -- two states that take the first byte alike take the bytes alike
-same_first : (state other : ParserState) (mode : Mode) (byte : ℕ) (rest : List ℕ) (step : Outcome) → stepped state mode byte ≡ stepped other mode byte
+same_first : (state other : ParserState) (mode : Mode) (byte : ℕ) (rest : List ℕ) (step : Transition) → stepped state mode byte ≡ stepped other mode byte
     → Runs state mode (byte ∷ rest) step → Runs other mode (byte ∷ rest) step
 same_first state other mode byte [] step same runs = sym same ∙ runs
 same_first state other mode byte (second ∷ rest) step same runs =
-    subst (λ (s : Outcome). (s.command ≡ None) × Runs s.state mode (second ∷ rest) step) same runs
+    subst (λ (s : Transition). (s.command ≡ None) × Runs s.state mode (second ∷ rest) step) same runs
 
 -- the text after ESC [ is read from its first byte on, or from behind the `?`
-pub start_runs : (mode : Mode) (bytes : List ℕ) (n from : ℕ) (step : Outcome) → 0 < n → 0 < length bytes → is_graphic (get_or bytes 0 0) ≡ true
+pub start_runs : (mode : Mode) (bytes : List ℕ) (n from : ℕ) (step : Transition) → 0 < n → 0 < length bytes → is_graphic (get_or bytes 0 0) ≡ true
     → from ≡ cond (get_or bytes 0 0 == 63) 1 0
     → GoesOn (take from bytes) (Csi (get_or bytes 0 0 == 63) (held (0 ∷ [])) false) (take n bytes) step
     → Runs CsiStart mode (take n bytes) step
@@ -85,7 +85,7 @@ start_runs mode _ _ from step some within graphic begins led = absurd (omega ari
 
 -- ---- other bytes
 
-pub runs_one : (state : ParserState) (mode : Mode) (bytes : List ℕ) (step : Outcome) → 0 < length bytes
+pub runs_one : (state : ParserState) (mode : Mode) (bytes : List ℕ) (step : Transition) → 0 < length bytes
     → stepped state mode (get_or bytes 0 0) ≡ step → Runs state mode (take 1 bytes) step
 runs_one state mode [] step some is = absurd (omega arith)
 runs_one state mode (byte ∷ rest) step some is = is
@@ -106,7 +106,7 @@ control_runs state mode bytes some ground is =
     runs_one state mode bytes _ some (subst steps (sym ground) (control_steps mode byte is))
 
 -- ESC `[` in ANSI mode, and bytes of the text that it begins
-pub opening_runs : (state : ParserState) (bytes : List ℕ) (n : ℕ) (step : Outcome) → get_or bytes 0 0 ≡ escape → get_or bytes 1 0 ≡ 91
+pub opening_runs : (state : ParserState) (bytes : List ℕ) (n : ℕ) (step : Transition) → get_or bytes 0 0 ≡ escape → get_or bytes 1 0 ≡ 91
     → 1 < length bytes → Runs CsiStart Ansi (take n (drop 2 bytes)) step → Runs state Ansi (take (n + 2) bytes) step
 unfolding joined
 opening_runs state (byte ∷ other ∷ rest) n step first second long runs =

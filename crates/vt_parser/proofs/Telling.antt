@@ -18,9 +18,9 @@ use Rattle.vt_parser.specs.Step.{command_of, pending_after, mode_after}
 use Rattle.vt_parser.specs.Fold.{mode_after_bytes, pending_after_bytes, Gives}
 use Rattle.vt_parser.specs.Law.{IsProper}
 use Rattle.vt_parser.specs.Token.{command_of_token, TellsOf, Leads}
-use Rattle.vt_parser.specs.Machine.{Outcome, joined, Runs}
+use Rattle.vt_parser.specs.Machine.{Transition, joined, Runs}
 use Rattle.vt_parser.proofs.Whole.{joins}
-use Rattle.vt_parser.specs.Reading.{HasParams, event_command}
+use Rattle.vt_parser.specs.Reading.{HasParams, event_command, command_told}
 use Rattle.vt_parser.proofs.Shapes.{shows_none}
 use Rattle.vt_parser.proofs.LawLemmas.{commands_are_proper, graphic_is_shown}
 use Rattle.vt_parser.proofs.Agrees.{same_command, ground_is_empty}
@@ -33,12 +33,12 @@ pub has_params : (state : ParserState) → IsShown state → HasParams state
 unfolding joined
 has_params (Csi private params over) shown =
     let told = same_command shown.0 shown.0 shown.1 64 (Csi private params over) shown.2
-    ∙ ap (λ (s : Outcome). s.command) (joins (Csi private params over) shown.0 64 refl refl) in
+    ∙ ap (λ (s : Transition). s.command) (joins (Csi private params over) shown.0 64 refl refl) in
     let P : Option Command → Type 0 = λ command. IfSome command IsProper in
     (subst P told (commands_are_proper shown.0 shown.1 64)).0
 has_params state shown = tt
 
-pub shown_after : (state : ParserState) (given : Mode) (bytes : List ℕ) (step : Outcome) → IsShown state
+pub shown_after : (state : ParserState) (given : Mode) (bytes : List ℕ) (step : Transition) → IsShown state
     → Runs state given bytes step → IsShown step.state
 shown_after state given bytes step shown runs = (
   mode_after_bytes given shown.0 bytes,
@@ -46,7 +46,7 @@ shown_after state given bytes step shown runs = (
   (runs_agree given shown.0 shown.1 state bytes step shown.2 runs).1,
 )
 
-pub leads : (state : ParserState) (given : Mode) (bytes : List ℕ) (step : Outcome) → Runs state given bytes step → Leads state given bytes step.state
+pub leads : (state : ParserState) (given : Mode) (bytes : List ℕ) (step : Transition) → Runs state given bytes step → Leads state given bytes step.state
 leads state given bytes step runs = λ mode pending view. (runs_agree given mode pending state bytes step view runs).1
 
 -- ---- runs on ground
@@ -91,18 +91,25 @@ no_run : (event : Event) (params : List ℕ) (byte : ℕ) → event_command (Som
 no_run Error params byte is = cc
 no_run _ params byte is = cc
 
-pub event_told : (given mode : Mode) (pending bytes : List ℕ) (event : Event) (params : List ℕ) (token : Token)
+event_told : (given mode : Mode) (pending bytes : List ℕ) (event : Event) (params : List ℕ) (token : Token)
     → event_command (Some event) params ≡ Some (command_of_token token)
     → Gives given mode pending bytes (event_command (Some event) params) → TellsOf given mode pending bytes (Some token)
 event_told given mode pending bytes event params (tokens.Show run) is gives = absurd (no_run event params _ is)
 event_told given mode pending bytes event params token is gives = subst (Gives given mode pending bytes) is gives
 
--- ---- one byte
+no_command : (command : Command) → None ≡ Some command → ⊥
+no_command command is = cc
 
--- the command of the token of a byte
-abbrev pub command_told : Option Token → Option Command
-command_told None = None
-command_told (Some token) = Some (command_of_token token)
+-- the same where there may be neither
+pub lent_told : (given mode : Mode) (pending bytes : List ℕ) (event : Option Event) (params : List ℕ) (token : Option Token)
+    → event_command event params ≡ command_told token → Gives given mode pending bytes (event_command event params)
+    → TellsOf given mode pending bytes token
+lent_told given mode pending bytes event params None is gives = subst (Gives given mode pending bytes) is gives
+lent_told given mode pending bytes (Some event) params (Some token) is gives =
+    event_told given mode pending bytes event params token is gives
+lent_told given mode pending bytes None params (Some token) is gives = absurd (no_command (command_of_token token) is)
+
+-- ---- one byte
 
 byte_told : (given mode : Mode) (pending : List ℕ) (byte : ℕ) (token : Option Token)
     → TellsOf given mode pending (byte ∷ []) token → command_of mode pending byte ≡ command_told token

@@ -23,14 +23,14 @@ context_in Text = context.Text
 context_in _ = context.Sequence
 
 -- the state after a byte, and its command
-pub record Outcome : Type 0 where
+pub record Transition : Type 0 where
   pub state : ParserState
   pub command : Option Command
 
-abbrev pub moves_to : ParserState → Outcome
+abbrev pub moves_to : ParserState → Transition
 moves_to state = record { state = state; command = None }
 
-abbrev pub gives : Option Command → Outcome
+abbrev pub gives : Option Command → Transition
 gives command = record { state = Ground; command = command }
 
 -- a number with one more digit, at most the greatest parameter
@@ -41,7 +41,7 @@ with_digit value digit = min greatest_param (10 * value + (digit - 48))
 abbrev pub with_last_digit : List ℕ → ℕ → List ℕ
 with_last_digit params digit = front params ++ with_digit (final params) digit ∷ []
 
-abbrev pub escape_joined : ℕ → Outcome
+abbrev pub escape_joined : ℕ → Transition
 escape_joined byte =
     if is_intermediate byte then moves_to (EscapeOne byte)
     else (if begins_control_sequence byte then moves_to CsiStart
@@ -57,7 +57,7 @@ semicolon_joined private params over =
     if nat_lt (length params.items) most_params then Csi private (held (params.items ++ 0 ∷ [])) over
     else Csi private params true
 
-abbrev pub control_sequence_joined : Bool → ArrayVec ℕ → Bool → ℕ → Outcome
+abbrev pub control_sequence_joined : Bool → ArrayVec ℕ → Bool → ℕ → Transition
 control_sequence_joined private params over byte =
     if is_control_sequence_final byte then gives (Some (CsiCommand private params byte))
     else (if is_digit byte then moves_to (digit_joined private params over byte)
@@ -65,13 +65,13 @@ control_sequence_joined private params over byte =
     else moves_to CsiIgnored))
 
 -- the first byte of a text: `?` marks it, and any other joins as if it followed a parameter 0
-abbrev pub start_joined : ℕ → Outcome
+abbrev pub start_joined : ℕ → Transition
 start_joined byte =
     if byte == question_mark then moves_to (Csi true (held (0 ∷ [])) false)
     else control_sequence_joined false (held (0 ∷ [])) false byte
 
 -- a byte that joins, 32 to 126
-unfoldable pub joined : ParserState → ℕ → Outcome
+unfoldable pub joined : ParserState → ℕ → Transition
 joined Ground byte = moves_to Ground
 joined Text byte = moves_to Text
 joined Escape byte = escape_joined byte
@@ -90,7 +90,7 @@ abbrev pub begun : Mode → ParserState
 begun Ansi = Escape
 begun Vt52Mode = Vt52Escape
 
-abbrev pub stepped_by : Action → ParserState → Mode → ℕ → Outcome
+abbrev pub stepped_by : Action → ParserState → Mode → ℕ → Transition
 stepped_by Ignore state mode byte = moves_to state
 stepped_by Execute state mode byte = record { state = state; command = control_of byte }
 stepped_by Print state mode byte = record { state = state; command = Some (Show byte) }
@@ -101,11 +101,11 @@ stepped_by End state mode byte = moves_to Ground
 stepped_by Cancel state mode byte = gives (Some Error)
 
 -- one step of the machine
-unfoldable pub stepped : ParserState → Mode → ℕ → Outcome
+unfoldable pub stepped : ParserState → Mode → ℕ → Transition
 stepped state mode byte = stepped_by (action_of (context_in state) byte) state mode byte
 
 -- the machine over bytes: with the last of them this step is made, and no command comes before it
-abbrev pub Runs : ParserState → Mode → List ℕ → Outcome → Type 0
+abbrev pub Runs : ParserState → Mode → List ℕ → Transition → Type 0
 Runs state mode [] step = moves_to state ≡ step
 Runs state mode (byte ∷ []) step = stepped state mode byte ≡ step
 Runs state mode (byte ∷ next ∷ rest) step =

@@ -6,12 +6,14 @@ use Rattle.vt_parser.specs.declared.commands.Command.{Command}
 use Rattle.vt_parser.specs.declared.commands.Command.TheVariants as command
 use Rattle.vt_parser.specs.declared.tokens.Event.{Event}
 use Rattle.vt_parser.specs.declared.tokens.Event.TheVariants.{Error, Control, Esc, Csi, Vt52, Vt52Address}
+use Rattle.vt_parser.specs.declared.tokens.Token.{Token}
 use Rattle.vt_parser.specs.declared.control_sequence.Collected.{Collected}
 use Rattle.vt_parser.specs.declared.states.ParserState.{ParserState}
 use Rattle.vt_parser.specs.declared.states.ParserState.TheVariants.{CsiStart, Csi as CsiState}
 use Rattle.vt_parser.specs.Syntax.{escape}
 use Rattle.vt_parser.specs.Forms.{bracket, question_mark, most_params, held}
-use Rattle.vt_parser.specs.Machine.{Outcome, moves_to, Runs}
+use Rattle.vt_parser.specs.Token.{command_of_token}
+use Rattle.vt_parser.specs.Machine.{Transition, moves_to, Runs}
 
 -- ---- states
 
@@ -63,18 +65,23 @@ event_command (Some (Csi private count last)) params = Some (command.Csi private
 event_command (Some (Vt52 last)) params = Some (command.Vt52 last)
 event_command (Some (Vt52Address line column)) params = Some (command.Vt52Address line column)
 
+-- the command of a token, if there is one
+abbrev pub command_told : Option Token → Option Command
+command_told None = None
+command_told (Some token) = Some (command_of_token token)
+
 -- the machine's outcome that an event tells
-abbrev pub event_outcome : Option Event → List ℕ → ParserState → Outcome
-event_outcome event params state = record { state = state; command = event_command event params }
+abbrev pub event_transition : Option Event → List ℕ → ParserState → Transition
+event_transition event params state = record { state = state; command = event_command event params }
 
 -- so many of the bytes led from a state to what came
 abbrev pub Reads : ParserState → Mode → List ℕ → ℕ × Option Event → List ℕ → ParserState → Type 0
 Reads start mode bytes read params state =
-    Runs start mode (take read.0 bytes) (event_outcome read.1 params state)
+    Runs start mode (take read.0 bytes) (event_transition read.1 params state)
 
 -- what came has this outcome, whatever lies in the array
-abbrev pub Comes : Option Event → ParserState → Outcome → Type 0
-Comes event state outcome = (params : List ℕ) → event_outcome event params state ≡ outcome
+abbrev pub IsTransition : Option Event → ParserState → Transition → Type 0
+IsTransition event state outcome = (params : List ℕ) → event_transition event params state ≡ outcome
 
 -- the parameters of an event lie in the array
 abbrev pub IsLent : Option Event → Type 0
@@ -82,6 +89,6 @@ IsLent (Some (Csi private count last)) = count ≤ most_params
 IsLent _ = Unit {0}
 
 -- from wherever bytes led to a state, more of them lead to another one
-abbrev pub GoesOn : List ℕ → ParserState → List ℕ → Outcome → Type 0
+abbrev pub GoesOn : List ℕ → ParserState → List ℕ → Transition → Type 0
 GoesOn front state bytes outcome =
     (start : ParserState) (mode : Mode) → Runs start mode front (moves_to state) → Runs start mode bytes outcome

@@ -1,14 +1,16 @@
 //! Control sequences: from their introducer, or from where their text was left, to the final byte or as far as it goes.
 ghost use Rattle.std.specs.Prelude.{◌≡◌, ℕ, ◌≤◌, ◌<◌, List, length, take, slice_index, true, false, Some};
 ghost use Rattle.vt_parser.specs.Syntax.{is_graphic};
-ghost use Rattle.vt_parser.specs.Forms.{held, is_plain};
+ghost use Rattle.vt_parser.specs.Forms.{most_params, held, is_plain};
 ghost use Rattle.vt_parser.specs.Machine.{with_digit, moves_to, digit_joined, semicolon_joined};
-ghost use Rattle.vt_parser.specs.Reading.{IsOpening, IsCounted, IsStarted, gathered, collected, event_command, event_outcome, Reads, IsLent, GoesOn};
+ghost use Rattle.vt_parser.specs.Reading.{IsOpening, IsCounted, IsStarted, gathered, collected, event_command, event_transition, Reads, IsLent, GoesOn};
 
-use crate::forms::{QUESTION_MARK, SEMICOLON, is_control_sequence_final, is_control_sequence_text};
+use crate::forms::{
+    BRACKET, QUESTION_MARK, SEMICOLON, is_control_sequence_final, is_control_sequence_text,
+};
 use crate::limits::{GREATEST_PARAM, MOST_PARAMS};
 use crate::states::copied;
-use crate::syntax::is_graphic;
+use crate::syntax::{is_escape, is_graphic};
 use crate::tokens::Event;
 use crate::{Command, Mode, ParserState};
 
@@ -24,6 +26,15 @@ pub(crate) struct Collected {
     pub over: bool,
 }
 
+/// Whether bytes begin with ESC `[` in ANSI mode.
+#[inline]
+pub(crate) fn opens_control_sequence(mode: Mode, bytes: &[u8]) -> bool
+    requires { 0 < length bytes.now }
+    ensures { result ≡ true → (mode ≡ Mode.Ansi) × IsOpening bytes.now }
+{
+    is_escape(bytes[0]) && bytes.len() > 1 && bytes[1] == BRACKET && mode == Mode::Ansi
+}
+
 /// ESC `[` in ANSI mode, and what follows of its text.
 #[inline]
 pub(crate) fn read_control_sequence(
@@ -34,6 +45,7 @@ pub(crate) fn read_control_sequence(
     requires { IsOpening bytes.now }
     ensures some { 0 < result.0 }
     ensures within { result.0 ≤ length bytes.now }
+    ensures long { length params.new ≡ most_params }
     ensures lent { IsLent result.1 }
     ensures runs { (start : ParserState)
         → Reads start Mode.Ansi bytes.now result params.new state.new }
@@ -118,7 +130,7 @@ pub(crate) fn read_text(
     ensures within { result.0 ≤ length bytes.now }
     ensures lent { IsLent result.1 }
     ensures runs { GoesOn (take from bytes.now) (collected text params.old)
-        (take result.0 bytes.now) (event_outcome result.1 params.new state.new) }
+        (take result.0 bytes.now) (event_transition result.1 params.new state.new) }
 {
     let (at, text) = collect(text, params, bytes, from);
     if at < bytes.len() {
@@ -213,12 +225,23 @@ fn finish(state: &mut ParserState, params: &mut Params, text: Collected, last: u
         ≡ Some (Command.Csi text.private (gathered text params.old) last) }
 {
     params[text.count - 1] = text.last;
-    *state = ParserState::Ground;
+    settle(state);
     Some(Event::Csi {
         private: text.private,
         count: text.count,
         last,
     })
+}
+
+// Back to ground. Most control sequences came whole, so that the state stands there still, and nothing is written.
+#[inline]
+fn settle(state: &mut ParserState)
+    ensures { state.new ≡ ParserState.Ground }
+{
+    match state {
+        ParserState::Ground => {}
+        _ => *state = ParserState::Ground,
+    }
 }
 
 // The bytes end inside the text, or a byte comes that doesn't belong to it.

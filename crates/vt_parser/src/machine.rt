@@ -1,18 +1,18 @@
-//! Bytes from a state to the next, in place. `read` is the top: bytes go by the table of the control syntax, and the
-//! text of a control sequence, which comes most often, by `control_sequence`.
+//! Bytes from a state to the next, in place, where they are no run on ground and begin no control sequence. `read` is
+//! the top: bytes go by the table of the control syntax, and the text of a control sequence by `control_sequence`.
 ghost use Rattle.std.specs.Prelude.{◌≡◌, ◌≢◌, ◌==◌, ℕ, ◌≤◌, ◌<◌, List, length, take, slice_index, true, false, None};
 ghost use Rattle.std.specs.List.{list_all, prefix_len};
 ghost use Rattle.vt_parser.specs.Syntax.{is_within, is_graphic};
 ghost use Rattle.vt_parser.specs.Forms.{most_params};
 ghost use Rattle.vt_parser.specs.Step.{control_of};
 ghost use Rattle.vt_parser.specs.Machine.{context_in, begun, escape_joined, joined, stepped};
-ghost use Rattle.vt_parser.specs.Reading.{HasParams, IsCollecting, IsOpening, event_command, Reads, Comes, IsLent};
+ghost use Rattle.vt_parser.specs.Reading.{HasParams, IsCollecting, event_command, Reads, IsTransition, IsLent};
 
-use crate::control_sequence::{Params, read_control_sequence, read_first, read_text, resumed};
+use crate::control_sequence::{Params, read_first, read_text, resumed};
 use crate::forms::{
     ADDRESS, ADDRESS_OFFSET, BRACKET, begins_string, is_control_sequence_final, is_intermediate,
 };
-use crate::syntax::{Action, Context, action_of, is_effective, is_escape, is_graphic, is_nul};
+use crate::syntax::{Action, Context, action_of, is_effective, is_graphic, is_nul};
 use crate::tokens::Event;
 use crate::{Mode, ParserState, printable_run};
 
@@ -57,8 +57,6 @@ pub(crate) fn read(
         (1, Some(Event::Control(byte)))
     } else if is_nul(byte) {
         (nul_run(bytes), None)
-    } else if opens_control_sequence(mode, bytes) {
-        read_control_sequence(state, params, bytes)
     } else {
         (1, act(state, mode, byte))
     }
@@ -89,15 +87,6 @@ fn nul_run(bytes: &[u8]) -> usize
         end += 1;
     }
     end
-}
-
-// ESC `[` in ANSI mode.
-#[inline]
-fn opens_control_sequence(mode: Mode, bytes: &[u8]) -> bool
-    requires { 0 < length bytes.now }
-    ensures { result ≡ true → (mode ≡ Mode.Ansi) × IsOpening bytes.now }
-{
-    mode == Mode::Ansi && is_escape(bytes[0]) && bytes.len() > 1 && bytes[1] == BRACKET
 }
 
 // Bytes of which the first is a graphic character, where it isn't shown.
@@ -138,7 +127,7 @@ fn read_graphic(
 fn act(state: &mut ParserState, mode: Mode, byte: u8) -> Option<Event>
     requires { is_graphic byte ≡ false }
     ensures lent { IsLent result }
-    ensures comes { Comes result state.new (stepped state.old mode byte) }
+    ensures comes { IsTransition result state.new (stepped state.old mode byte) }
 {
     match action_of(context_in(state), byte) {
         Action::Ignore => None,
@@ -189,7 +178,7 @@ fn begun(mode: Mode) -> ParserState
 fn join(state: &mut ParserState, byte: u8) -> Option<Event>
     requires { IsCollecting state.old → ⊥ }
     ensures lent { IsLent result }
-    ensures comes { Comes result state.new (joined state.old byte) }
+    ensures comes { IsTransition result state.new (joined state.old byte) }
 {
     match state {
         ParserState::Escape => join_escape(state, byte),
@@ -216,7 +205,7 @@ fn join(state: &mut ParserState, byte: u8) -> Option<Event>
 #[inline]
 fn join_escape(state: &mut ParserState, byte: u8) -> Option<Event>
     ensures lent { IsLent result }
-    ensures comes { Comes result state.new (escape_joined byte) }
+    ensures comes { IsTransition result state.new (escape_joined byte) }
 {
     if is_intermediate(byte) {
         go_to(state, ParserState::EscapeOne(byte))

@@ -3,7 +3,7 @@ ghost use Rattle.std.specs.Prelude.{◌≡◌, Some, length};
 ghost use Rattle.vt_parser.specs.Forms.{most_params};
 ghost use Rattle.vt_parser.specs.Law.{IsProper};
 ghost use Rattle.vt_parser.specs.Token.{command_of_token};
-ghost use Rattle.vt_parser.specs.Reading.{event_command, IsLent};
+ghost use Rattle.vt_parser.specs.Reading.{event_command, command_told, IsLent};
 
 use crate::Command;
 use crate::states::copied;
@@ -108,5 +108,18 @@ impl Event {
             Event::Vt52(last) => Token::Vt52(last),
             Event::Vt52Address { line, column } => Token::Vt52Address { line, column },
         }
+    }
+}
+
+/// What an event tells, its parameters lent from the array.
+#[inline]
+pub(crate) fn lent<'a>(event: Option<Event>, params: &'a [u16]) -> Option<Token<'a>>
+    requires lent { IsLent event }
+    requires long { length params.now ≡ most_params }
+    ensures { event_command event params.now ≡ command_told result }
+{
+    match event {
+        Some(event) => Some(event.token(params)),
+        None => None,
     }
 }

@@ -1,8 +1,9 @@
 -- Bytes that are taken a few at a time.
 use Rattle.std.proofs.Common.{◌≡◌, ℕ, ◌+◌, List, ◌++◌, length, take, drop, sym, ap, ◌∙◌, arith}
 use Rattle.std.proofs.Math.Seq.{take-add}
-use Rattle.std.proofs.lemmas.List.{length-append, take-append-drop}
+use Rattle.std.proofs.lemmas.List.{length-append, take-append-drop, drop-drop}
 use Rattle.vt_term.specs.Term.{Term, play, sent}
+use Rattle.vt_term.specs.Seen.{Seen, Shows}
 use Rattle.vt_term.specs.Sink.{Sink, after_sending, HasRoom, KeepsFront}
 use Rattle.vt_term.proofs.Sinks.{after_sending-append, keeps_length}
 use Rattle.vt_term.proofs.Steps.{plays_in_parts, sends_in_parts}
@@ -32,6 +33,16 @@ length-sent x at bytes =
     ap (λ (l : List ℕ). length (sent x l)) (sym (take-append-drop at bytes))
     ∙ ap length (sends_in_parts x (take at bytes) (drop at bytes))
     ∙ length-append (sent x (take at bytes)) (sent (play x (take at bytes)) (drop at bytes))
+
+-- what was fed: the bytes up to a place, and the rest of them is left
+pub record Fed (start now_ : Seen) (first then_ : Sink) (bytes rest : List ℕ) : Type 0 where
+  pub at : ℕ
+  pub left : rest ≡ drop at bytes
+  pub shows : (x : Term) → Shows start x → Shows now_ (play x (take at bytes))
+  pub sent : (x : Term) → Shows start x → then_ ≡ after_sending first (sent x (take at bytes))
+
+pub left_on : (bytes rest : List ℕ) (at n : ℕ) → rest ≡ drop at bytes → drop n rest ≡ drop (at + n) bytes
+left_on bytes rest at n left = ap (drop n) left ∙ drop-drop n at bytes
 
 -- room for all is room for what a front of the bytes sends ..
 pub room_for_front : (x : Term) (bytes : List ℕ) (at : ℕ) (sink : Sink) → HasRoom sink (sent x bytes) → HasRoom sink (sent x (take at bytes))

@@ -94,9 +94,9 @@ IsSavedWell None = Unit {0}
 IsSavedWell (Some saved) =
     (1 ≤ saved.line) × (saved.line ≤ line_count) × (1 ≤ saved.column) × (saved.column ≤ wide_columns)
 
--- What every terminal keeps: the screen is sound (the cursor is at most at its line's right margin, cells right of it are
--- blank, glyphs are at most 126), and the cursor is inside the margins while DECOM is set (EK-VT100-UG
--- chapter 3, DECOM; the cut at the right margin: ours).
+-- What every terminal keeps: the screen is sound (the cursor is at most at its line's right margin, cells right of it
+-- are blank, glyphs are at most 126), and the cursor is inside the margins while DECOM is set (EK-VT100-UG chapter 3,
+-- DECOM; the cut at the right margin: ours).
 pub record IsSafe (s : Console) : Type 0 where
   pub sound : Sound s.picture
   pub inside : s.modes.origin ≡ true → IsInRegion s.picture

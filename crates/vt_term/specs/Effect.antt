@@ -21,8 +21,8 @@ use Rattle.vt_term.specs.PrivateModes.{private_effect}
 use Rattle.vt_term.specs.Vt52.{vt52_named, vt52_effect, address_effect}
 use Rattle.vt_term.specs.Replies.{escape_reply, sequence_reply, vt52_reply, reply_of}
 
--- a glyph is put: in insert mode the cells from the cursor on make room for it (VT102 User Guide, IRM; that this holds in
--- VT52 mode too: ours), else it takes the place of the one there
+-- a glyph is put: in insert mode the cells from the cursor on make room for it (VT102 User Guide, IRM; that this
+-- holds in VT52 mode too: ours), else it takes the place of the one there
 abbrev pub put_by : Modes → Attributes → ℕ → Picture → Picture
 put_by modes rendition glyph p =
     if modes.insert then shown_inserting glyph rendition modes.autowrap p else shown glyph rendition modes.autowrap p

@@ -19,7 +19,8 @@ use Rattle.vt_term.specs.Term.{Term, play, sent}
 abbrev pub on_ground : Console → List ℕ → Term
 on_ground s reports = record { console = s; pending = []; reports = reports }
 
--- The bytes lead from what is shown to what is shown then: nothing is pending before them or after them, and nothing is sent.
+-- The bytes lead from what is shown to what is shown then: nothing is pending before them or after them, and nothing
+-- is sent.
 pub record Brings (s : Console) (bytes : List ℕ) (t : Console) : Type 0 where
   pub played : (reports : List ℕ) → play (on_ground s reports) bytes ≡ on_ground t reports
   pub silent : (reports : List ℕ) → sent (on_ground s reports) bytes ≡ []
@@ -72,12 +73,15 @@ DesignationsBring =
 -- .. ESC [, numbers in decimal and a final byte, ..
 abbrev pub ControlSequencesBring : Type 0
 ControlSequencesBring =
-    (s : Console) (numbers : List ℕ) (last : ℕ) → s.modes.mode ≡ Ansi → AreParams numbers → is_control_sequence_final last ≡ true
+    (s : Console) (numbers : List ℕ) (last : ℕ) → s.modes.mode ≡ Ansi → AreParams numbers
+    → is_control_sequence_final last ≡ true
     → control_sequence_reply false last numbers s ≡ []
     → Brings s (escape ∷ 91 ∷ (params_text numbers ++ last ∷ [])) (control_sequence_effect false last numbers s)  -- [
 
 -- .. and the same with `?` before the numbers, which never has a reply.
 abbrev pub PrivateSequencesBring : Type 0
 PrivateSequencesBring =
-    (s : Console) (numbers : List ℕ) (last : ℕ) → s.modes.mode ≡ Ansi → AreParams numbers → is_control_sequence_final last ≡ true
-    → Brings s (escape ∷ 91 ∷ 63 ∷ (params_text numbers ++ last ∷ [])) (control_sequence_effect true last numbers s)  -- [ ?
+    (s : Console) (numbers : List ℕ) (last : ℕ) → s.modes.mode ≡ Ansi → AreParams numbers
+    → is_control_sequence_final last ≡ true
+    → Brings s (escape ∷ 91 ∷ 63 ∷ (params_text numbers ++ last ∷ []))  -- [ ?
+    (control_sequence_effect true last numbers s)

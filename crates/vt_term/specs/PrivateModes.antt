@@ -38,8 +38,8 @@ vt52_entered s = record s {
   sets = record s.sets { vt52_graphics = false };
 }
 
--- The table of their effects, set (true) or reset. DECCKM, DECSCLM, DECARM and DECINLM are kept and have no other effect
--- (EK-VT100-UG chapter 3; what they keep: ours).
+-- The table of their effects, set (true) or reset. DECCKM, DECSCLM, DECARM and DECINLM are kept and have no other
+-- effect (EK-VT100-UG chapter 3; what they keep: ours).
 abbrev pub mode_effect : Bool → PrivateMode → Console → Console
 mode_effect value Decckm s = on_modes (λ modes. record modes { cursor_keys = value }) s
 mode_effect value Decanm s = if value then s else vt52_entered s

@@ -8,8 +8,8 @@ use Rattle.vt_term.specs.declared.sets.Slot.{Slot}
 use Rattle.vt_term.specs.declared.sets.Slot.TheVariants.{G0, G1}
 use Rattle.vt_term.specs.declared.sets.Sets.{Sets}
 
--- The glyph of a byte 32 to 126: its own number; in the UK set 30, the pound sign, for #; in special graphics 0 to 31 for
--- the bytes 95 to 126 (EK-VT100-UG chapter 3, character sets; the numbers: ours).
+-- The glyph of a byte 32 to 126: its own number; in the UK set 30, the pound sign, for #; in special graphics 0 to 31
+-- for the bytes 95 to 126 (EK-VT100-UG chapter 3, character sets; the numbers: ours).
 abbrev pub glyph_of : CharacterSet → ℕ → ℕ
 glyph_of Ascii byte = byte
 glyph_of Uk byte = if byte == 35 then 30 else byte

@@ -39,8 +39,8 @@ vt52_named = named vt52_sequences
 abbrev pub graphics_set : Bool → Console → Console
 graphics_set value s = on_sets (λ sets. record sets { vt52_graphics = value }) s
 
--- The table of their effects. Identify replies and has none; in ANSI mode again, G0, G1 and the invoked set are as they were
--- (EK-VT100-UG chapter 3; what stays: ours).
+-- The table of their effects. Identify replies and has none; in ANSI mode again, G0, G1 and the invoked set are as they
+-- were (EK-VT100-UG chapter 3; what stays: ours).
 abbrev pub vt52_effect : Vt52Sequence → Console → Console
 vt52_effect Up s = on_picture (stepped_up 1) s
 vt52_effect Down s = on_picture (stepped_down 1) s

@@ -99,9 +99,10 @@ impl Terminal {
         ensures room { (x : Term) → Shows self.old x → HasRoom sink.old (sent x bytes.now)
             → IsOk result }
     {
-        let mut at = 0;
-        while at < bytes.len() {
-            at += self.take_some(&bytes[at..], sink)?;
+        let mut rest = bytes;
+        while !rest.is_empty() {
+            let taken = self.take_some(rest, sink)?;
+            rest = &rest[taken..];
         }
         Ok(())
     }

@@ -1,17 +1,14 @@
-use Rattle.std.proofs.Common.{◌≡◌, List, ℕ, take, Option, Some, refl, sym, ap, ◌∙◌, subst, arith}
+use Rattle.std.proofs.Common.{◌≡◌, List, ℕ, take, Some, refl, sym, ap, ◌∙◌, subst, arith}
 use Rattle.std.proofs.lemmas.List.{length-take}
 use Rattle.vt_parser.specs.declared.states.ParserState.{ParserState}
 use Rattle.vt_parser.specs.declared.commands.Mode.{Mode}
-use Rattle.vt_parser.specs.declared.tokens.Event.{Event}
 use Rattle.vt_parser.specs.View.{parser_view}
-use Rattle.vt_parser.specs.Fold.{Gives}
 use Rattle.vt_parser.specs.Token.{TellsOf, Leads}
-use Rattle.vt_parser.specs.Reading.{event_command}
+use Rattle.vt_parser.specs.Reading.{Reads}
 use Rattle.vt_parser.proofs.Agrees.{ground_is_empty}
 use Rattle.vt_parser.proofs.ManyBytes.{runs_agree}
-use Rattle.vt_parser.proofs.Telling.{has_params, shown_after, leads, run_leads, run_proper, told_proper, event_told}
+use Rattle.vt_parser.proofs.Telling.{has_params, shown_after, leads, run_leads, run_proper, told_proper, lent_told}
 use Rattle.vt_parser.proofs.Parser.next.Goals as goal
-use Rattle.vt_parser.proofs.Parser.next.Goals.{in-Some, in-None}
 
 pub returns-then-run-gt0 : goal.returns-then-run-gt0
 returns-then-run-gt0 c =
@@ -38,13 +35,44 @@ returns-then-run-gt0 c =
 pub read-taken-requires-clause-params : goal.read-taken-requires-clause-params
 read-taken-requires-clause-params c = has_params c.self.inside.state c.self.invariant.0
 
-pub invariant_of-self-in-Some : goal.invariant_of-self-in-Some
-invariant_of-self-in-Some c =
+pub invariant_of-self-then-opens_control_sequence : goal.invariant_of-self-then-opens_control_sequence
+invariant_of-self-then-opens_control_sequence c =
+    let read = c.read_control_sequence-taken in
+    let opens = c.opens_control_sequence.ensures c.if-opens_control_sequence.true in
+    let P : Mode → Type 0 = λ mode. Reads c.self.inside.state mode c.args.bytes.now read.result read.new.params read.new.state in
+    let runs : P c.args.mode = subst P (sym opens.0) (read.ensures.runs c.self.inside.state) in
+    (shown_after c.self.inside.state c.args.mode _ _ c.self.invariant.0 runs, read.ensures.long)
+
+pub invariant_of-self-2 : goal.invariant_of-self-2
+invariant_of-self-2 c =
     (shown_after c.self.inside.state c.args.mode _ _ c.self.invariant.0 c.read-taken.ensures.runs, c.read-taken.ensures.long)
 
-pub invariant_of-self-in-None : goal.invariant_of-self-in-None
-invariant_of-self-in-None c =
-    (shown_after c.self.inside.state c.args.mode _ _ c.self.invariant.0 c.read-taken.ensures.runs, c.read-taken.ensures.long)
+pub returns-then-opens_control_sequence : goal.returns-then-opens_control_sequence
+returns-then-opens_control_sequence c =
+    let read = c.read_control_sequence-taken in
+    let state = c.self.inside.state in
+    let given = c.args.mode in
+    let taken = take read.result.0 c.args.bytes.now in
+    let opens = c.opens_control_sequence.ensures c.if-opens_control_sequence.true in
+    let P : Mode → Type 0 = λ mode. Reads c.self.inside.state mode c.args.bytes.now read.result read.new.params read.new.state in
+    let runs : P c.args.mode = subst P (sym opens.0) (read.ensures.runs c.self.inside.state) in
+    let inside : (mode : Mode) (pending : List ℕ) → parser_view mode pending ≡ Some c.args.self.now → parser_view mode pending ≡ Some state
+    = λ mode pending view. view ∙ ap Some (sym c.self.view_is) in
+    let told : (mode : Mode) (pending : List ℕ) → parser_view mode pending ≡ Some c.args.self.now
+    → TellsOf given mode pending taken c.lent.result
+    = λ mode pending view. lent_told given mode pending taken read.result.1 read.new.params c.lent.result c.lent.ensures
+    (runs_agree given mode pending state taken _ (inside mode pending view) runs).0 in
+    let shown = c.self.invariant.0 in (
+      (refl, λ _. tt, λ mode pending view. leads state given taken _ runs mode pending (inside mode pending view)),
+      record {
+        state = tt;
+        some = read.ensures.some;
+        within = read.ensures.within;
+        told = told;
+        proper = told_proper given shown.0 shown.1 taken c.lent.result (omega (arith, length-take read.result.0 c.args.bytes.now))
+            (told shown.0 shown.1 (shown.2 ∙ ap Some c.self.view_is));
+      },
+    )
 
 pub returns : goal.returns
 returns c =
@@ -52,30 +80,21 @@ returns c =
     let state = c.self.inside.state in
     let given = c.args.mode in
     let taken = take read.result.0 c.args.bytes.now in
+    let runs = read.ensures.runs in
     let inside : (mode : Mode) (pending : List ℕ) → parser_view mode pending ≡ Some c.args.self.now → parser_view mode pending ≡ Some state
     = λ mode pending view. view ∙ ap Some (sym c.self.view_is) in
-    let gives : (event : Option Event) → read.result.1 ≡ event → (mode : Mode) (pending : List ℕ) → parser_view mode pending ≡ Some c.args.self.now
-    → Gives given mode pending taken (event_command event read.new.params)
-    = λ event is mode pending view.
-    subst (λ (it : Option Event). Gives given mode pending taken (event_command it read.new.params)) is
-    (runs_agree given mode pending state taken _ (inside mode pending view) read.ensures.runs).0 in
     let told : (mode : Mode) (pending : List ℕ) → parser_view mode pending ≡ Some c.args.self.now
-    → TellsOf given mode pending taken c.match-event.token
-    = λ mode pending view. elim c.match-event.branch [
-      | in-Some w ↦ subst (TellsOf given mode pending taken) (sym w.token-is)
-          (event_told given mode pending taken w.in-Some.event _ w.token.result w.token.ensures (gives _ w.in-Some.is mode pending view))
-      | in-None w ↦ subst (TellsOf given mode pending taken) (sym w.token-is) (gives _ w.in-None.is mode pending view)
-    ] in
-    let same : c.match-event.self.0 ≡ read.new.state
-    = elim c.match-event.branch [ in-Some w ↦ ap (λ s. s.0) w.self-is | in-None w ↦ ap (λ s. s.0) w.self-is ] in
+    → TellsOf given mode pending taken c.lent-2.result
+    = λ mode pending view. lent_told given mode pending taken read.result.1 read.new.params c.lent-2.result c.lent-2.ensures
+    (runs_agree given mode pending state taken _ (inside mode pending view) runs).0 in
     let shown = c.self.invariant.0 in (
-      (refl, λ _. tt, λ mode pending view. leads state given taken _ read.ensures.runs mode pending (inside mode pending view) ∙ ap Some (sym same)),
+      (refl, λ _. tt, λ mode pending view. leads state given taken _ runs mode pending (inside mode pending view)),
       record {
         state = tt;
         some = read.ensures.some;
         within = read.ensures.within;
         told = told;
-        proper = told_proper given shown.0 shown.1 taken c.match-event.token (omega (arith, length-take read.result.0 c.args.bytes.now))
+        proper = told_proper given shown.0 shown.1 taken c.lent-2.result (omega (arith, length-take read.result.0 c.args.bytes.now))
             (told shown.0 shown.1 (shown.2 ∙ ap Some c.self.view_is));
       },
     )

@@ -2,7 +2,8 @@ use Rattle.std.proofs.Common.{Option, Some, IfSome, sym, ap, ◌∙◌, subst}
 use Rattle.vt_parser.specs.declared.tokens.Token.{Token}
 use Rattle.vt_parser.specs.Law.{IsProper}
 use Rattle.vt_parser.specs.Token.{command_of_token}
-use Rattle.vt_parser.proofs.Telling.{command_told, step_told}
+use Rattle.vt_parser.specs.Reading.{command_told}
+use Rattle.vt_parser.proofs.Telling.{step_told}
 use Rattle.vt_parser.proofs.Parser.step.Goals as goal
 
 pub command-requires : goal.command-requires
