@@ -9,6 +9,7 @@ mod EditedLemmas
 mod WrittenLemmas
 mod LineLemmas
 mod ReadingLemmas
+mod CutLemmas
 mod ReadBackLemmas
 mod FaultLemmas
 mod WordLemmas

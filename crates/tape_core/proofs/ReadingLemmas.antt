@@ -1,18 +1,18 @@
--- Where the script ends inside a chunk.
-use Rattle.std.proofs.Common.{◌≡◌, ◌==◌, All, ℕ, ◌+◌, ◌-◌, ◌<◌, ◌≤◌, Bool, true, false, List, [], ◌++◌, length, get_or, take, drop, map, Some, None, nat_lt, refl, ap, sym, ◌∙◌, arith, length-append, zero-add, subst, append_assoc}
+-- Where the script ends inside a chunk, and what is read of parts that are cut as the timing counts.
+use Rattle.std.proofs.Common.{◌≡◌, ◌==◌, All, ℕ, ◌+◌, ◌-◌, ◌<◌, ◌≤◌, Bool, true, false, List, [], ◌++◌, length, get_or, take, drop, map, Some, None, nat_lt, refl, ap, sym, ◌∙◌, arith, zero-add, subst, append_assoc}
 use Rattle.std.specs.List.{position_or_len, range_with_len}
 use Rattle.std.proofs.lemmas.Bool.{lt-ltb, le-ltb, ltb-true}
-use Rattle.std.proofs.lemmas.List.{take-take, take_all, get_or-take, length-take, length-drop, length-map, take-append-drop}
+use Rattle.std.proofs.lemmas.List.{take-take, take_all, get_or-take, length-take, length-drop, length-map, take-append-drop, drop-drop}
 use Rattle.std.proofs.Math.ListN.{get_or-map}
 use Rattle.std.proofs.lemmas.List.Concat.{length-flat_map}
 use Rattle.std.proofs.lemmas.List.Folds.{fold-map}
 use Rattle.std.proofs.lemmas.List.FromFn.{get_or-range_with_len}
-use Rattle.std.proofs.lemmas.List.Sums.{position_or_len_is, sum_by-take-le, sum_by_more, fails_before_first, passes_at_first}
+use Rattle.std.proofs.lemmas.List.Sums.{position_or_len_is, sum_by-take-le, fails_before_first, passes_at_first}
 use Rattle.tape_core.specs.declared.chunk.Chunk.{Chunk}
 use Rattle.tape_core.specs.declared.timing.Entry.{Entry}
 use Rattle.tape_core.specs.Tape.{IsHeader, body, body_len}
-use Rattle.tape_core.specs.Timing.{IsWithin, counted_bytes, entries_of, timing_fault}
-use Rattle.tape_core.specs.Steps.{AreWithin, entry_for}
+use Rattle.tape_core.specs.Timing.{IsWithin, counted_bytes, entries_of}
+use Rattle.tape_core.specs.Steps.{IsCut, entry_for}
 use Rattle.tape_core.specs.Text.{lines_of}
 use Rattle.tape_core.specs.Reading.{fault_of, first_short, has_header, header_len, reads}
 use Rattle.tape_core.proofs.DueLemmas.{length_range}
@@ -57,17 +57,6 @@ module _ (bytes : ℕ) (entries : List Entry) where
       let at = place_at (length entries) (omega arith) (λ k h. fits_before k (length entries) h (omega (arith, ap counted_bytes all))) (λ h. absurd (omega arith)) in
       rw (at, length_range 0 (length entries), le-ltb (length entries) (length entries) (omega arith)) refl
 
--- the chunks so far leave too few bytes for the next
-pub short_here : (bytes rest : List ℕ) (chunks : List Chunk) (entries : List Entry) (i : ℕ) (d : Entry)
-    → map entry_for chunks ≡ take i entries → bytes ≡ body chunks ++ rest
-    → i < length entries → length rest < (get_or entries i d).count → first_short (length bytes) entries ≡ Some i
-short_here bytes rest chunks entries i d timed joined lt short =
-    let held = counted_for chunks in
-    let sum = ap counted_bytes timed in
-    let long = ap length joined ∙ length-append (body chunks) rest in
-    short_at (length bytes) entries i lt (omega (arith, body_length chunks, held, sum, long))
-    (omega (arith, body_length chunks, held, sum, long, sum_by_more (λ e. e.count) entries i d lt))
-
 module _ (script : List ℕ) (found : has_header script ≡ true) where
   header_within : position_or_len (λ b. b == 10) script < length script
   header_within = ltb-true _ _ found
@@ -89,29 +78,33 @@ each_within chunks entries are within k d lt =
     let at : get_or entries k (entry_for d) ≡ entry_for (get_or chunks k d) = ap (λ es. get_or es k (entry_for d)) (sym are) ∙ get_or-map entry_for chunks k d in
     subst IsWithin at (within k (entry_for d) more)
 
--- what is cut so is what the pair of files says
-pub reads_parts : (script timing : List ℕ) (entries : List Entry) (header rest trailer : List ℕ) (chunks : List Chunk)
-    → entries ≡ entries_of (lines_of timing) → timing_fault timing ≡ None → AreWithin entries → has_header script ≡ true
-    → header ≡ take (header_len script) script → rest ≡ drop (header_len script) script → rest ≡ body chunks ++ trailer
-    → map entry_for chunks ≡ entries
+-- header, chunks and trailer that are cut so are what the pair of files says
+pub reads_parts : (script timing : List ℕ) (start : ℕ) (header trailer : List ℕ) (chunks : List Chunk) (bytes : ℕ)
+    → start ≡ header_len script → start ≤ length script → bytes ≤ length script - start → IsCut script start timing chunks bytes
+    → header ≡ take start script → trailer ≡ take ((length script - start) - bytes) (drop (start + bytes) script)
     → reads script timing (record { header = header; chunks = chunks; trailer = trailer })
 unfolding fault_of
-reads_parts script timing entries header rest trailer chunks read faultless within found head behind joined timed =
-    let each = each_within chunks entries timed within.each in
-    let long : length (body chunks) + length trailer ≡ length script - header_len script =
-    sym (length-append (body chunks) trailer) ∙ ap length (sym joined ∙ behind) ∙ length-drop (header_len script) script in
-    let sum : counted_bytes entries ≡ length (body chunks) = ap counted_bytes (sym timed) ∙ counted_for chunks ∙ sym (body_length chunks) in
-    let short = never_short (length script - header_len script) entries (omega arith) in
+reads_parts script timing start header trailer chunks bytes place found fit cut head tail =
+    let entries = entries_of (lines_of timing) in
+    let has : has_header script ≡ true = lt-ltb (position_or_len (λ b. b == 10) script) (length script) (omega (arith, place, found)) in
+    let each = each_within chunks entries (cut.timed fit) cut.within.each in
+    let sum : bytes ≡ body_len chunks = cut.counted ∙ ap counted_bytes (sym (cut.timed fit)) ∙ counted_for chunks in
+    let short = never_short (length script - header_len script) entries (omega (arith, fit, place, cut.counted)) in
+    let behind = length-drop (start + bytes) script in
+    let rest : trailer ≡ drop bytes (drop start script) =
+    tail ∙ take_all ((length script - start) - bytes) (drop (start + bytes) script) (omega (arith, behind)) ∙ sym (drop-drop bytes start script) in
     record {
-      faultless = rw (faultless, ← read, found, short) refl;
+      faultless = rw (cut.faultless, has, short) refl;
       fitting = record {
-        header = rw head (first_line script found);
-        few = omega (arith, within.few, ap length timed, length-map chunks entry_for);
+        header = rw (head, place) (first_line script has);
+        few = omega (arith, cut.within.few, ap length (cut.timed fit), length-map chunks entry_for);
         delays = λ k d lt. (each k d lt).delay;
         lengths = λ k d lt. (each k d lt).count;
-        bytes = omega (arith, within.bytes, sum, body_length chunks);
+        bytes = omega (arith, cut.within.bytes, sum, cut.counted);
       };
-      timed = timed_chunks [] (lines_of timing) chunks faultless (timed ∙ read);
-      joined = sym (ap (λ h. h ++ body chunks ++ trailer) head ∙ append_assoc (take (header_len script) script) (body chunks) trailer
-          ∙ ap (λ x. take (header_len script) script ++ x) (sym joined ∙ behind) ∙ take-append-drop (header_len script) script);
+      timed = timed_chunks [] (lines_of timing) chunks cut.faultless (cut.timed fit);
+      joined = sym (ap (λ h. h ++ body chunks ++ trailer) head ∙ ap (λ x. take start script ++ x ++ trailer) (cut.joined fit)
+          ∙ ap (λ x. take start script ++ take bytes (drop start script) ++ x) rest
+          ∙ append_assoc (take start script) (take bytes (drop start script)) (drop bytes (drop start script))
+          ∙ ap (λ x. take start script ++ x) (take-append-drop bytes (drop start script)) ∙ take-append-drop start script);
     }

@@ -3,13 +3,13 @@ use Rattle.std.proofs.Common.{◌≡◌, ℕ, ◌+◌, ◌<◌, ◌≤◌, List,
 use Rattle.std.specs.List.{cons_option}
 use Rattle.std.specs.Option.{option_or, option_to_list}
 use Rattle.std.proofs.lemmas.List.Sums.{sum_by_push}
-use Rattle.std.proofs.lemmas.List.Elements.{All-push, filter_map-append}
+use Rattle.std.proofs.lemmas.List.Elements.{All-nil, All-push, filter_map-append}
 use Rattle.std.proofs.lemmas.Bool.{lt-leb, le-ltb}
 use Rattle.tape_core.specs.declared.timing.Entry.{Entry}
 use Rattle.tape_core.specs.declared.fault.Fault.{Fault}
 use Rattle.tape_core.specs.Tape.{most_chunks, longest_body}
 use Rattle.tape_core.specs.Timing.{IsWithin, counted_bytes, entries_of, entry_in, entry_of, fault_after, fault_of_line, first_fault, timing_fault}
-use Rattle.tape_core.specs.Steps.{AreWithin}
+use Rattle.tape_core.specs.Steps.{AreWithin, FitsAfter}
 use Rattle.tape_core.specs.Text.{lines_of}
 
 -- Some lines are read, and the rest of the text has the others.
@@ -22,6 +22,18 @@ pub record ReadSoFar (timing rest : List ℕ) (entries : List Entry) (bytes line
   pub cut : lines_of timing ≡ before ++ lines_of rest
   pub fault : timing_fault timing ≡ first_fault before (lines_of rest)
   pub behind : line + length rest ≤ length timing
+
+pub nothing_read : (timing : List ℕ) → ReadSoFar timing timing [] 0 0
+nothing_read timing = record {
+  before = [];
+  number = refl;
+  read = refl;
+  counted = refl;
+  within = record { few = omega arith; each = All-nil IsWithin; bytes = omega arith };
+  cut = refl;
+  fault = refl;
+  behind = omega arith;
+}
 
 one_entry : (o : Option Entry) → cons_option o [] ≡ option_to_list o
 one_entry None = refl
@@ -58,10 +70,9 @@ module _ (timing rest after text : List ℕ) (entries : List Entry) (bytes line 
     behind = omega (arith, r.behind);
   }
 
-  pub line_timed : (e : Entry) → length after < length rest → entry_of text ≡ Ok (Some e) → IsWithin e
-      → length entries < most_chunks → bytes + e.count ≤ longest_body
+  pub line_timed : (e : Entry) → length after < length rest → entry_of text ≡ Ok (Some e) → FitsAfter (length entries) bytes e
       → ReadSoFar timing after (entries ++ e ∷ []) (bytes + e.count) (line + 1)
-  line_timed e shorter timed fits few small =
+  line_timed e shorter timed fits =
       let sum : counted_bytes (entries ++ e ∷ []) ≡ bytes + e.count = sum_by_push (λ x. x.count) entries e ∙ ap (λ n. n + e.count) (sym r.counted) in
       record {
         before = r.before ++ text ∷ [];
@@ -69,11 +80,11 @@ module _ (timing rest after text : List ℕ) (entries : List Entry) (bytes line 
         read = sym (entries_next ∙ rw timed refl);
         counted = sym sum;
         within = record {
-          few = omega (arith, length-append entries (e ∷ []));
-          each = All-push IsWithin entries e r.within.each fits;
-          bytes = omega (arith, sum);
+          few = omega (arith, length-append entries (e ∷ []), fits.few);
+          each = All-push IsWithin entries e r.within.each fits.within;
+          bytes = omega (arith, sum, fits.small);
         };
         cut = cut_next;
-        fault = fault_next ∙ rw (timed, lt-leb most_chunks (length entries) few, le-ltb longest_body (bytes + e.count) small) refl;
+        fault = fault_next ∙ rw (timed, lt-leb most_chunks (length entries) fits.few, le-ltb longest_body (bytes + e.count) fits.small) refl;
         behind = omega (arith, r.behind);
       }

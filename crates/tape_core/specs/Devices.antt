@@ -6,8 +6,8 @@
 --   TookPart       a writer has taken a beginning of a text, and then it has failed or it hasn't
 --   Puts           a writer was given a text: it took it whole, or a write fault is told and it failed in it
 --
--- A function that writes and has no fault but a write fault says what it puts by `Puts`: those of this crate, of the log
--- and of the prints. The jobs still say it in parts, by `Took` and `StoppedIn`.
+-- A function that writes and has no fault but a write fault says what it puts by `Puts`: those of this crate, of the
+-- log and of the prints. The jobs still say it in parts, by `Took` and `StoppedIn`.
 use Rattle.std.specs.Prelude.{◌≡◌, ℕ, Bool, true, false, List, [], ◌∷◌, ◌++◌, Option, IfSome, Result, MatchResult}
 use Rattle.std.specs.Io.KnownBytes.{Appends, IsAtEnd}
 use Rattle.tape_core.specs.declared.devices.Watched.{Watched}
@@ -44,7 +44,8 @@ pub record Took {T : Type 0} (contents : T → Option (List ℕ)) (old new : Wat
   pub grown : Appends (contents (inner_of old)) (contents (inner_of new)) text
 
 -- the writer has taken a beginning of this text after what it held, and then it has failed or it hasn't (ours)
-pub record TookPart {T : Type 0} (contents : T → Option (List ℕ)) (old new : Watched T) (text : List ℕ) (failed : Bool) : Type 0 where
+pub record TookPart {T : Type 0} (contents : T → Option (List ℕ)) (old new : Watched T) (text : List ℕ) (failed : Bool)
+    : Type 0 where
   pub failing : has_failed new ≡ failed
   pub front : List ℕ
   pub rest : List ℕ

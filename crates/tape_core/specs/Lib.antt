@@ -6,6 +6,7 @@ pub mod Text
 pub mod Seconds
 pub mod Timing
 pub mod Reading
+pub mod Held
 pub mod Kept
 pub mod Steps
 pub mod Law

@@ -19,7 +19,7 @@ pub use bytes::Bytes;
 pub use chunk::Chunk;
 pub use devices::{Watched, slurp};
 pub use fault::Fault;
-pub use reading::read_recording;
+pub use reading::{read_recording, read_recording_of};
 pub use recording::Recording;
 pub use seconds::read_seconds;
 pub use seconds_form::{SecondsText, seconds_text};

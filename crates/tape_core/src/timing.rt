@@ -1,18 +1,17 @@
 //! The classic timing format: a line for each output, with its delay and its count.
-ghost use Rattle.std.specs.Prelude.{◌≡◌, ◌<◌, ◌≤◌, ◌≢◌, ◌∷◌, false, ℕ, List, None, Some, All, IfOk, IfErr, IfSome, length, min};
+ghost use Rattle.std.specs.Prelude.{◌≡◌, ◌<◌, ◌≤◌, ◌∷◌, false, ℕ, List, Some, Ok, IfOk, IfErr, IfSome, length, min};
 ghost use Rattle.std.specs.Option.{option_map};
 ghost use Rattle.tape_core.specs.Faults.{is_stop};
 ghost use Rattle.tape_core.specs.Seconds.{last_moment};
-ghost use Rattle.tape_core.specs.Timing.{IsWithin, at_line, begins_with_letter, delay_of, entries_of, entry_of, only_count, timing_fault};
-ghost use Rattle.tape_core.specs.Steps.{AreWithin};
+ghost use Rattle.tape_core.specs.Tape.{longest_body};
+ghost use Rattle.tape_core.specs.Timing.{IsWithin, at_line, begins_with_letter, delay_of, entry_of, fault_of_line, only_count};
+ghost use Rattle.tape_core.specs.Steps.{FitsAfter};
 ghost use Rattle.tape_core.specs.Text.{fields, lines_of, number_of};
-ghost use Rattle.tape_core.specs.declared.fault.Fault.TheVariants as fault;
 
 use crate::fault::Fault;
 use crate::limits::{LONGEST_BODY, LONGEST_CHUNK, LONGEST_DELAY, MOST_CHUNKS};
 use crate::seconds::read_seconds;
 use crate::text::{next_field, next_line, only_field, read_number};
-use std::alloc::{AllocError, Global};
 
 mod written;
 
@@ -102,7 +101,7 @@ fn read_entry(text: &[u8]) -> Result<Option<Entry>, EntryFault>
 }
 
 /// What the first line of a text that isn't empty says, and what stands behind it.
-fn first_entry(text: &[u8]) -> (Result<Option<Entry>, EntryFault>, &[u8])
+pub fn first_entry(text: &[u8]) -> (Result<Option<Entry>, EntryFault>, &[u8])
     requires { 0 < length text.now }
     ensures said { (line : List ℕ)
         × (lines_of text.now ≡ line ∷ lines_of result.1.now) × (result.0 ≡ entry_of line) }
@@ -116,34 +115,28 @@ fn first_entry(text: &[u8]) -> (Result<Option<Entry>, EntryFault>, &[u8])
     (read_entry(line), after)
 }
 
-/// Reads the entries of all lines that aren't blank, or the fault of the first line that has one.
-pub fn read_timing(alloc: Global, timing: &[u8]) -> Result<Vec<Entry>, Fault>
-    ensures entries { IfOk result (λ v. v.items ≡ entries_of (lines_of timing.now)) }
-    ensures faultless { IfOk result (λ v. timing_fault timing.now ≡ None) }
-    ensures within { IfOk result (λ v. AreWithin v.items) }
-    ensures fault { IfErr result (λ f. f ≢ fault.OutOfMemory → timing_fault timing.now ≡ Some f) }
-    ensures kinds { IfErr result (λ f. f ≢ fault.OutOfMemory → is_stop f ≡ false) }
+/// What a line says, or its fault where so many entries, which count so many bytes, stand before it.
+pub fn judged(
+    said: Result<Option<Entry>, EntryFault>,
+    line: u64,
+    entries: usize,
+    bytes: u64,
+) -> Result<Option<Entry>, Fault>
+    requires said { IfOk said (λ entry. IfSome entry IsWithin) }
+    requires bytes { bytes ≤ longest_body }
+    ensures ok { IfOk result (λ entry. said ≡ Ok entry) }
+    ensures within { IfOk result (λ entry. IfSome entry (FitsAfter entries bytes)) }
+    ensures fault { IfErr result (λ f. fault_of_line line entries bytes said ≡ Some f) }
+    ensures kinds { IfErr result (λ f. is_stop f ≡ false) }
 {
-    let mut entries = Vec::new(alloc);
-    let mut bytes: u64 = 0;
-    let mut line: u64 = 0;
-    let mut rest = timing;
-    while !rest.is_empty() {
-        let (said, after) = first_entry(rest);
-        rest = after;
-        line += 1;
-        match said {
-            Err(fault) => return Err(fault.at(line)),
-            Ok(None) => {}
-            Ok(Some(_)) if entries.len() >= MOST_CHUNKS => return Err(Fault::TooManyChunks(line)),
-            Ok(Some(entry)) => {
-                bytes += entry.count;
-                if bytes > LONGEST_BODY {
-                    return Err(Fault::TooManyBytes(line));
-                }
-                entries.push(entry).map_err(AllocError::from)?;
-            }
-        }
+    let Some(entry) = said.map_err(|fault| fault.at(line))? else {
+        return Ok(None);
+    };
+    if entries >= MOST_CHUNKS {
+        return Err(Fault::TooManyChunks(line));
     }
-    Ok(entries)
+    if bytes + entry.count > LONGEST_BODY {
+        return Err(Fault::TooManyBytes(line));
+    }
+    Ok(Some(entry))
 }

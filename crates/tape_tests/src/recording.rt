@@ -6,6 +6,7 @@ mod faults;
 mod reading;
 mod refused;
 mod seconds;
+mod sharing;
 mod text;
 mod writing;
 mod written_lines;

@@ -1,6 +1,7 @@
 //! Refused growths. `tests/refused.py` runs these with the first, second, .. growth of memory refused, until none is, and
 //! counts the lines `refused: WHAT`. After a refusal all is as it must be, and the same call then answers.
 use super::changes::{A, BB, EMPTY, NEW, SCRIPT, TIMING, compare_chunks};
+use super::sharing::handed;
 use crate::once_more::{bytes, read};
 use std::io;
 use std::io::Read;
@@ -51,6 +52,29 @@ fn a_recording(rt: HostRuntime) -> Result<(), Fail> {
             println!(rt; "refused: read_recording")?;
             assert_eq!(rt; fault, Fault::OutOfMemory);
             read_recording(rt.alloc(), script, timing)?
+        }
+    };
+    let parts = (
+        b"head\n".as_slice(),
+        b"ccc".as_slice(),
+        b"tail".as_slice(),
+        10,
+        7_000_000,
+    );
+    assert_eq!(rt; told(&recording), Some(parts));
+    Ok(())
+}
+
+#[test]
+fn a_recording_of_a_script(rt: HostRuntime) -> Result<(), Fail> {
+    let script = b"head\nabbcccddddtail";
+    let timing = b"1.000000 1\n2 2\n0 3\n4 4\n0 0\n";
+    let recording = match handed(rt.alloc(), script, timing) {
+        Ok(recording) => recording,
+        Err(fault) => {
+            println!(rt; "refused: read_recording_of")?;
+            assert_eq!(rt; fault, Fault::OutOfMemory);
+            handed(rt.alloc(), script, timing)?
         }
     };
     let parts = (

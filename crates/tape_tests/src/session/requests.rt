@@ -8,26 +8,23 @@ const FORMS: &[(&[u8], &str)] = &[
     (b" \t  ", "Nothing"),
     (
         b"insert 2 1.5 -",
-        "Edit(Insert { at: 2, delay: 1500000, bytes: Bytes { items: [] } })",
+        "Edit(Insert { at: 2, delay: 1500000, bytes: [] })",
     ),
     (
         b"insert 1 0.25 58",
-        "Edit(Insert { at: 1, delay: 250000, bytes: Bytes { items: [88] } })",
+        "Edit(Insert { at: 1, delay: 250000, bytes: [88] })",
     ),
     (b"delete 0 1", "Edit(Delete { from: 0, to: 1 })"),
     (b"delete 3 3", "Edit(Delete { from: 3, to: 3 })"),
     (
         b"replace 007 4A4b",
-        "Edit(Replace { at: 7, bytes: Bytes { items: [74, 75] } })",
+        "Edit(Replace { at: 7, bytes: [74, 75] })",
     ),
     (
         b"replace 0 00fFa1",
-        "Edit(Replace { at: 0, bytes: Bytes { items: [0, 255, 161] } })",
+        "Edit(Replace { at: 0, bytes: [0, 255, 161] })",
     ),
-    (
-        b"replace 0 -",
-        "Edit(Replace { at: 0, bytes: Bytes { items: [] } })",
-    ),
+    (b"replace 0 -", "Edit(Replace { at: 0, bytes: [] })"),
     (b"retime 4 0.0000019", "Edit(Retime { at: 4, delay: 1 })"),
     (b"retime 0 01.", "Edit(Retime { at: 0, delay: 1000000 })"),
     (b"cap 2", "Edit(Cap { max: 2000000 })"),

@@ -1,11 +1,9 @@
-use Rattle.std.proofs.Common.{◌≡◌, ◌++◌, map, take}
-use Rattle.tape_core.specs.Tape.{body}
-use Rattle.tape_core.specs.Steps.{entry_for}
+use Rattle.std.proofs.Common.{length}
+use Rattle.tape_core.proofs.CutLemmas.{CutSoFar}
 use Rattle.tape_core.proofs.reading.cut_chunks.Given as goal
 
--- the chunks so far have their entries, and the rest stands behind their bytes
-abbrev pub invariant-loop-i : goal.invariant-loop-i
-invariant-loop-i l = record {
-  timed : map entry_for l.chunks.items ≡ take l.i l.entries;
-  joined : l.fn.bytes ≡ body l.chunks.items ++ l.rest;
-}
+abbrev pub invariant-loop-rest : goal.invariant-loop-rest
+invariant-loop-rest l = CutSoFar l.script.value.items l.start l.timing l.rest l.chunks.items l.entries l.bytes l.line
+
+abbrev pub decreases-loop-rest : goal.decreases-loop-rest
+decreases-loop-rest l = length l.rest
