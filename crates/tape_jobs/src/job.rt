@@ -20,7 +20,7 @@ use std::alloc::Global;
 use std::io::{Read, Write};
 use std::mem::ManuallyDrop;
 use tape_core::laws::writers_join;
-use tape_core::{Fault, Recording, Watched, read_recording, slurp};
+use tape_core::{Fault, Recording, Watched, read_recording_of, slurp};
 use tape_seek::EditFault;
 use thiserror::Error;
 use vt_term::{OutOfMemory, Profile};
@@ -287,7 +287,7 @@ fn read_files<S: Read, T: Read, R: Read>(
     let script = slurp(alloc, script)?;
     let timing = slurp(alloc, timing)?;
     let requests = read_requests(alloc, job, requests)?;
-    let recording = read_recording(alloc, &script, &timing)?;
+    let recording = read_recording_of(alloc, script, &timing)?;
     Ok(Given {
         recording,
         requests,
