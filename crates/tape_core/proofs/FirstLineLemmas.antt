@@ -46,6 +46,24 @@ digit_read text [] n d r some low high of small = absurd (omega arith)
 digit_read text (b ∷ after) n d r some low high of small =
     subst (λ x. DigitsRead text x (n * 10 + d)) (sym (take_rest (b ∷ after) 1)) (next_digit_read text after n b d r (is_digit b low high) of small)
 
+-- six digits in front of the rest
+pub six_read : (text : List ℕ) → 6 ≤ length text
+    → 48 ≤ get_or text 0 0 → get_or text 0 0 ≤ 57 → 48 ≤ get_or text 1 0 → get_or text 1 0 ≤ 57 → 48 ≤ get_or text 2 0 → get_or text 2 0 ≤ 57
+    → 48 ≤ get_or text 3 0 → get_or text 3 0 ≤ 57 → 48 ≤ get_or text 4 0 → get_or text 4 0 ≤ 57 → 48 ≤ get_or text 5 0 → get_or text 5 0 ≤ 57
+    → DigitsRead text (take (length text - 6) (drop 6 text))
+    (((((((0 * 10 + (get_or text 0 0 - 48)) * 10 + (get_or text 1 0 - 48)) * 10 + (get_or text 2 0 - 48)) * 10 + (get_or text 3 0 - 48)) * 10 + (get_or text 4 0 - 48)) * 10 + (get_or text 5 0 - 48)))
+six_read (a ∷ b ∷ c ∷ d ∷ e ∷ f ∷ more) long a0 a9 b0 b9 c0 c9 d0 d9 e0 e9 f0 f9 =
+    let text = a ∷ b ∷ c ∷ d ∷ e ∷ f ∷ more in
+    let r0 = no_digits_read text in
+    let r1 = next_digit_read text (b ∷ c ∷ d ∷ e ∷ f ∷ more) 0 a (a - 48) r0 (is_digit a a0 a9) refl (omega arith) in
+    let r2 = next_digit_read text (c ∷ d ∷ e ∷ f ∷ more) _ b (b - 48) r1 (is_digit b b0 b9) refl (omega arith) in
+    let r3 = next_digit_read text (d ∷ e ∷ f ∷ more) _ c (c - 48) r2 (is_digit c c0 c9) refl (omega arith) in
+    let r4 = next_digit_read text (e ∷ f ∷ more) _ d (d - 48) r3 (is_digit d d0 d9) refl (omega arith) in
+    let r5 = next_digit_read text (f ∷ more) _ e (e - 48) r4 (is_digit e e0 e9) refl (omega arith) in
+    let r6 = next_digit_read text more _ f (f - 48) r5 (is_digit f f0 f9) refl (omega arith) in
+    subst (λ rest. DigitsRead text rest ((((((0 * 10 + (a - 48)) * 10 + (b - 48)) * 10 + (c - 48)) * 10 + (d - 48)) * 10 + (e - 48)) * 10 + (f - 48))) (sym (take_rest text 6)) r6
+six_read text long a0 a9 b0 b9 c0 c9 d0 d9 e0 e9 f0 f9 = absurd (omega arith)
+
 -- a text whose first byte is known
 pub begins : (text : List ℕ) (b : ℕ) → 1 ≤ length text → get_or text 0 0 ≡ b → text ≡ b ∷ take (length text - 1) (drop 1 text)
 begins [] b some is = absurd (omega arith)
