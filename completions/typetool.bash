@@ -7,7 +7,11 @@ _typetool() {
         [changes]='--from --to --profile --help' [reports]='--at --profile --help' [session]='--every --profile --help'
     )
     if [ "$COMP_CWORD" = 1 ]; then
-        mapfile -t COMPREPLY < <(compgen -W "${!taken[*]} --help" -- "$word")
+        mapfile -t COMPREPLY < <(compgen -W "${!taken[*]} help --help --version" -- "$word")
+        return
+    fi
+    if [ "${COMP_WORDS[1]}" = help ]; then
+        mapfile -t COMPREPLY < <(compgen -W "${!taken[*]}" -- "$word")
         return
     fi
     case $last in

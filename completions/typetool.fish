@@ -1,7 +1,10 @@
 # Completion of typetool's command line for fish.
 set -l commands due info screen changes reports save session
-set -l alone "not __fish_seen_subcommand_from $commands"
-complete -c typetool -s h -l help -d 'Print help'
+set -l alone "not __fish_seen_subcommand_from $commands help"
+complete -c typetool -n 'not __fish_seen_subcommand_from help' -s h -l help -d 'Print help'
+complete -c typetool -n $alone -s V -l version -d 'Print version'
+complete -c typetool -n $alone -f -a help -d 'Help of a command'
+complete -c typetool -n '__fish_seen_subcommand_from help' -f -a "$commands"
 complete -c typetool -n $alone -f -a due -d 'Raw bytes by a moment'
 complete -c typetool -n $alone -f -a info -d 'Chunks, bytes and length'
 complete -c typetool -n $alone -f -a screen -d 'The screen at a moment'

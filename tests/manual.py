@@ -49,7 +49,14 @@ def spoken(text):
 
 
 def flags_of(text):
-    return set(re.findall(r"^ +(?:-h, )?(--[a-z]+)", text, flags=re.MULTILINE))
+    return set(re.findall(r"^ +(?:-[hV], )?(--[a-z]+)", text, flags=re.MULTILINE))
+
+
+def front():
+    """The flags and the commands of the help text of the whole program."""
+    text = read(os.path.join(TOP, "tests", "help", "typetool.txt"))
+    listed = re.search(r"^Commands:\n(.*?)^$", text, flags=re.MULTILINE | re.DOTALL)[1]
+    return flags_of(text), set(re.findall(r"^  ([a-z]+) ", listed, flags=re.MULTILINE))
 
 
 def sentences(text):
@@ -67,15 +74,15 @@ def requests(text):
 
 def in_page():
     page = spoken(read(PAGE))
-    texts = helps()
+    texts, (front_flags, commands) = helps(), front()
     for command, text in texts.items():
         missing = [sentence for sentence in sentences(text) if sentence.rstrip(".)") not in page]
         missing += [words for words in requests(text) if " ".join(words.split()) not in page]
         check(f"the page on {command}", missing, [])
-    flags = set().union(*map(flags_of, texts.values()))
+    flags = front_flags.union(*map(flags_of, texts.values()))
     check("the page's flags", set(re.findall(r"--[a-z]+", page)) - {"--log", "--logging"}, flags)
     listed = re.search(r"^\.SH COMMANDS\n(.*?)^\.SH", read(PAGE), flags=re.MULTILINE | re.DOTALL)[1]
-    check("the page's commands", set(re.findall(r"^\.TP\n\.B ([a-z]+)$", listed, flags=re.MULTILINE)), set(texts))
+    check("the page's commands", set(re.findall(r"^\.TP\n\.B ([a-z]+)$", listed, flags=re.MULTILINE)), commands)
 
 
 def warnings():
@@ -103,12 +110,14 @@ def offered(shell, *words):
 
 
 def in_shells():
-    texts = helps()
+    texts, (front_flags, commands) = helps(), front()
     for shell in ("bash", "fish"):
         if not shutil.which(shell):
             print(f"manual: {shell} is passed over, since it isn't installed (apt-get install {shell})")
             continue
-        check(f"{shell}: commands", {word for word in offered(shell, "typetool", "") if word[0] != "-"}, set(texts))
+        check(f"{shell}: commands", {word for word in offered(shell, "typetool", "") if word[0] != "-"}, commands)
+        check(f"{shell}: flags", offered(shell, "typetool", "--"), front_flags)
+        check(f"{shell}: what help is for", offered(shell, "typetool", "help", ""), set(texts))
         for command, text in texts.items():
             check(f"{shell}: {command}", offered(shell, "typetool", command, "--"), flags_of(text))
         check(f"{shell}: profiles", offered(shell, "typetool", "screen", "--profile", "vt"), {"vt100", "vt102"})

@@ -129,9 +129,13 @@ for text in "$texts"/*.txt; do
     cp "$text" want.bin
     same "help: $command" "${words[@]}" --help
     same "short help: $command" "${words[@]}" -h
+    same "help of: $command" help "${words[@]}"
 done
 
+check 'the version' 0 'typetool 0.1.0\n' '' --version
+check 'the version by a letter' 0 'typetool 0.1.0\n' '' -V
 status 'no command' 2
+status 'help of an unknown command' 2 help play
 status 'an unknown command' 2 play
 status 'a missing path' 2 due --at 1 ab.script
 

@@ -167,10 +167,11 @@ pub fn compare_left(rt: &(impl Runtime<A = Global> + Abort), line: &str) -> Resu
 }
 
 /// Lines that are none of the program's.
-const MISTAKES: [&str; 28] = [
+const MISTAKES: [&str; 29] = [
     "typetool",
     "typetool dew",
-    "typetool help",
+    "typetool help dew",
+    "typetool due --version s t",
     "typetool --at 1 due s t",
     "typetool info",
     "typetool info --at 1 s t",
@@ -202,6 +203,47 @@ const MISTAKES: [&str; 28] = [
 fn leaves_mistakes_to_clap(rt: HostRuntime) -> Result<(), Fail> {
     for line in &MISTAKES {
         compare_left(&rt, line)?;
+    }
+    Ok(())
+}
+
+/// What a line that asks for help or for the version is told.
+fn asked(rt: &(impl Runtime<A = Global> + Abort), line: &str) -> Result<String, Fail> {
+    let words = words_of(rt.alloc(), line)?;
+    match read_words(rt.alloc(), words.as_slice()) {
+        Err(WordsFault::Clap(error)) => {
+            assert!(rt; !error.use_stderr(), "{line:?} is a mistake");
+            Ok(format!(in rt.alloc(); "{error}")?)
+        }
+        Err(fault) => panic!(rt; "{line:?} asks for help or the version, and not for {fault}"),
+        Ok(read) => panic!(rt;
+            "{line:?} asks for help or the version, and not {:?}",
+            read.job
+        ),
+    }
+}
+
+#[test]
+fn tells_its_version(rt: HostRuntime) -> Result<(), Fail> {
+    for line in ["typetool --version", "typetool -V"] {
+        let told = asked(&rt, line)?;
+        assert_eq!(rt; told.as_str(), "typetool 0.1.0\n", "{line:?}");
+    }
+    Ok(())
+}
+
+/// The subcommand `help` tells what the flag does.
+#[test]
+fn helps_by_subcommand_and_flag(rt: HostRuntime) -> Result<(), Fail> {
+    for (line, flag) in [
+        ("typetool help", "typetool --help"),
+        ("typetool help due", "typetool due --help"),
+        ("typetool help screen", "typetool screen --help"),
+        ("typetool help session", "typetool session --help"),
+    ] {
+        let told = asked(&rt, line)?;
+        let wanted = asked(&rt, flag)?;
+        assert_eq!(rt; told.as_str(), wanted.as_str(), "{line:?}");
     }
     Ok(())
 }

@@ -1,9 +1,12 @@
 -- What clap's answers say of the words, for the command line of this program.
-use Rattle.std.proofs.Common.{◌≡◌, ◌≢◌, Bool, true, false, List, [], ◌∷◌, Option, Some, None, Result, refl, sym, ◌∙◌, ap, subst, inl, inr, option_map, is_some, find, if◌then◌else◌}
+use Rattle.std.proofs.Common.{◌≡◌, ◌≢◌, Bool, true, false, codes, List, [], ◌∷◌, Option, Some, None, Result, refl, sym, ◌∙◌, ap, subst, inl, inr, option_map, is_some, find, if◌then◌else◌}
 use Rattle.std.specs.Prelude.{Box}
 use Rattle.clap.specs.Words.{App, HasMatchesOf, FailsBy, Row, Shape, Text, fault_of, is_simple, is_simple_and_free, kind_of, subcommand_name_of, subcommand_of, subcommand_rows, subcommand_rows_of, takes}
-use Rattle.clap.specs.Simple.{entered, built, names_of, argument_words, rows_at, label_of}
-use Rattle.clap.specs.Walk.{stop_after, answers_to}
+use Rattle.clap.specs.Simple.{entered, built, help_shape, names_of, argument_words, rows_at, label_of}
+use Rattle.clap.specs.Faults.{walk_fault}
+use Rattle.clap.specs.Walk.{answers_to, nothing_held, stop_after, walk_from}
+use Rattle.std.proofs.lemmas.Slice.Eq.{bytes_eq-Decides}
+use Rattle.tape_jobs.proofs.HelpLemmas.{help_is_told, named_before, none_first, stopped_name}
 use Rattle.clap.specs.Matches.{has_subcommand}
 use Rattle.std.specs.Box.{box_value}
 use Rattle.clap.specs.declared.ArgMatches.{ArgMatches}
@@ -88,13 +91,21 @@ entered_named : (a : App) (stop : Option (Text × List Text)) (met : Text × Lis
 entered_named a None met e = absurd (cc)
 entered_named a (Some p) met e = found_named (λ s. rows_at s p.1) (λ s. refl) (λ s. answers_to p.0 (label_of s)) a.subs met e
 
--- and so has the one in the words
-named_in : (words : List Text) (met : Text × List Row) → subcommand_in words ≡ Some met
+-- and so has the one in words that clap takes: it isn't `help`
+named_in : (words : List Text) (met : Text × List Row) → clap_faults words ≡ [] → subcommand_in words ≡ Some met
     → IsNamed (Some met.0) typetool_app.subs
-unfolding subcommand_in typetool_app app_in
-named_in words met e =
+unfolding subcommand_in clap_faults typetool_app app_in name_in flags_in paths_in id_in rule_in
+named_in words met taken e =
     let a = built typetool_app in
-    entered_named a (stop_after a.top.rules (names_of a) (argument_words typetool_app words)) met e
+    let arguments = argument_words typetool_app words in
+    let stop = stop_after a.top.rules (names_of a) arguments in
+    named_before (Some met.0) typetool_app.subs help_shape
+    (λ help.
+    let it : met.0 ≡ codes "help" = cc in
+    help_is_told a.top (names_of a) refl arguments (walk_from nothing_held) met.0 refl
+    (stopped_name a stop met refl e) ((bytes_eq-Decides met.0 (codes "help")).1 it)
+    (none_first (walk_fault a.top (names_of a) (walk_from nothing_held) arguments) _ taken))
+    (entered_named a stop met e)
 
 module _ {Z : Type 0} where
   name_and_rows : (o : Option (Box SubCommand Z))
@@ -106,18 +117,18 @@ module _ {Z : Type 0} where
   has_rows None = refl
   has_rows (Some b) = refl
 
-named_if : (name : Option Text) (rows : Option (Text × List Row)) (words : List Text)
-    → name ≡ option_map (λ p. p.0) rows → is_some rows ≡ true → rows ≡ subcommand_in words
-    → IsNamed name typetool_app.subs
-named_if name None words n some e = absurd (cc)
-named_if name (Some met) words n some e = subst (λ o. IsNamed o typetool_app.subs) (sym n) (named_in words met (sym e))
+named_if : (name : Option Text) (rows : Option (Text × List Row)) (words : List Text) → clap_faults words ≡ []
+    → name ≡ option_map (λ p. p.0) rows → is_some rows ≡ true → rows ≡ subcommand_in words → IsNamed name typetool_app.subs
+named_if name None words taken n some e = absurd (cc)
+named_if name (Some met) words taken n some e =
+    subst (λ o. IsNamed o typetool_app.subs) (sym n) (named_in words met taken (sym e))
 
 -- a subcommand that was met has the name of one of this command's
-pub named_by : (words : List Text) (m : ArgMatches) → subcommand_rows_of m ≡ subcommand_in words
+pub named_by : (words : List Text) (m : ArgMatches) → clap_faults words ≡ [] → subcommand_rows_of m ≡ subcommand_in words
     → has_subcommand m ≡ true → IsNamed (subcommand_name_of m) typetool_app.subs
-named_by words m e some =
+named_by words m taken e some =
     let found = (out-ArgMatches m).subcommand in
-    named_if (subcommand_name_of m) (subcommand_rows_of m) words (name_and_rows found) (sym (has_rows found) ∙ some) e
+    named_if (subcommand_name_of m) (subcommand_rows_of m) words taken (name_and_rows found) (sym (has_rows found) ∙ some) e
 
 -- a command with no further argument
 pub with_rules_none : (a : App) → a ≡ with_rules a []

@@ -1,14 +1,13 @@
 -- What a job comes to, and how a run of it ends.
-use Rattle.std.proofs.Common.{◌≡◌, ◌≢◌, ◌⊎◌, ℕ, Bool, true, false, List, [], refl, sym, ap, ◌∙◌, subst, inl, inr, not, Option, Some, None, MatchOption, Result, Ok, Err, IfOk, IfErr, true≢false, if◌then◌else◌}
-use Rattle.tape_core.specs.Devices.{Took, has_failed, inner_of}
+use Rattle.std.proofs.Common.{◌≡◌, ◌≢◌, ◌⊎◌, ℕ, Bool, true, false, List, [], refl, sym, ap, ◌∙◌, subst, inl, inr, not, Some, MatchOption, Result, Ok, Err, true≢false, if◌then◌else◌}
+use Rattle.tape_core.specs.Devices.{Took, has_failed}
 use Rattle.tape_core.specs.Faults.{is_stop}
 use Rattle.tape_core.specs.Reading.{fault_of, reads}
 use Rattle.tape_core.specs.Tape.{Tape}
-use Rattle.tape_core.specs.declared.devices.Watched.{Watched}
 use Rattle.tape_core.specs.declared.fault.Fault.{Fault}
 use Rattle.tape_core.specs.declared.fault.Fault.TheVariants.{OutOfMemory, ReadFault, WriteFault}
-use Rattle.tape_jobs.specs.Endings.{AReaderFailed, AreRead, AreSound, AsksNothing, HasFailed, HoldFiles, IsBroken, IsDone, IsForDevice, IsForMemory, IsSound, IsUndone, IsUnwritten, IsWhole, JobEnds, OnFiles, Readers, RunEnds, RunsOut, TookBoth, TookPartOfBoth, WantsMemory, Writers, is_refused}
-use Rattle.tape_jobs.specs.Output.{Comes, Done, Files, IsDoneStatus, done_on, is_stopped, outcome_by, refused_with, status_of, takes_requests, writes_timing}
+use Rattle.tape_jobs.specs.Endings.{AreRead, AreSound, AsksNothing, HasFailed, HoldFiles, IsDone, IsUndone, IsUnwritten, JobEnds, OnFiles, Readers, RunEnds, TookBoth, TookPartOfBoth, WantsMemory, Writers}
+use Rattle.tape_jobs.specs.Output.{Comes, Done, Files, done_on, is_stopped, outcome_by, refused_with, takes_requests, writes_timing}
 use Rattle.tape_jobs.specs.declared.job.Ending.{Ending}
 use Rattle.tape_jobs.specs.declared.job.Job.{Job}
 use Rattle.tape_jobs.specs.declared.job.Job.TheVariants as jobs

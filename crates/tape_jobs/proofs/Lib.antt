@@ -1,5 +1,6 @@
-pub mod CommandLemmas
-pub mod JobLemmas
-pub mod LineLemmas
-pub mod RequestLemmas
-pub mod SessionLemmas
+mod CommandLemmas
+mod HelpLemmas
+mod JobLemmas
+mod LineLemmas
+mod RequestLemmas
+mod SessionLemmas

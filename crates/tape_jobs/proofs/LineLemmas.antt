@@ -1,24 +1,22 @@
 -- What clap makes of a plain command line.
-use Rattle.std.proofs.Common.{◌≡◌, ℕ, ◌&&◌, ◌||◌, Bool, true, false, not, List, [], ◌∷◌, ◌++◌, map, Option, Some, None, Ok, codes, ◌==◌, length, min, nat_le, nat_lt, get_or, ◌+◌, ◌^◌, ◌<◌, ◌≤◌, ◌≢◌, arith, suc, take, refl, sym, ◌∙◌, ap, ap₂, subst, is_some, append_assoc, append-nil, if◌then◌else◌}
+use Rattle.std.proofs.Common.{◌≡◌, ℕ, ◌&&◌, ◌||◌, Bool, true, false, not, List, [], ◌∷◌, ◌++◌, map, Option, Some, None, Ok, codes, ◌==◌, length, min, nat_lt, ◌+◌, arith, suc, take, refl, sym, ◌∙◌, ap, ap₂, subst, is_some, append_assoc, append-nil, if◌then◌else◌}
 use Rattle.std.proofs.lemmas.Bool.{eqb-true}
 use Rattle.std.proofs.lemmas.Bool.Decides.{nat_tests}
-use Rattle.std.proofs.lemmas.Str.{digit_value_digit}
-use Rattle.std.proofs.lemmas.Str.Parse.{without_leading_plus_none}
-use Rattle.std.specs.Char.{digit_value, is_ascii_digit}
+use Rattle.std.specs.Char.{is_ascii_digit}
 use Rattle.std.specs.Int.{IsInRange}
 use Rattle.std.specs.Str.Parse.{digits_value}
 use Rattle.std.specs.List.{after_first, before_first, fold, list_all, position_or_len}
 use Rattle.std.specs.Option.{option_and_then, option_map, option_map_or}
 use Rattle.std.specs.Str.{bytes_eq}
 use Rattle.clap.specs.Lexer.{strip_byte, long_of, long_of_rest, short_of_rest}
-use Rattle.clap.specs.Words.{App, Shape, Text, Row, takes}
+use Rattle.clap.specs.Words.{App, Shape, Text}
 use Rattle.clap.specs.Simple.{built, built_leaf, entered, inherited, names_of, marked_built, with_leaf_noted}
 use Rattle.clap.specs.Takes.{bundle_passes, built_takes, default_passes, entered_passes, flag_word_passes, is_valid, level_passes, other_passes, settle_passes, step_passes, turn_passes, walk_passes, word_passes}
 use Rattle.clap.specs.Walk.{Held, Names, Rule, Step, Walk, Waiting, after_step, finished, idle, option, positional, long_or_other, nothing_held, plain_word, rows_after, short_or_plain, subcommand_met, subcommand_or_other, trailing, walk, walk_from, walked, walked_from, word_met}
 use Rattle.clap.proofs.OnLiterals.{clap_on_literals}
 use Rattle.tape_jobs.proofs.CommandLemmas.{is_simple_app, means, means_job}
 use Rattle.tape_core.specs.Seconds.{last_moment, micros, seconds_of}
-use Rattle.tape_jobs.specs.CommandLine.{typetool_app, clap_takes, every_allowed, every_of, after, readable, job_in, profile_named, value_in, meaning_in, meaning_of_words, subcommand_in, app_in, name_in, id_in, rule_in, flags_in, paths_in}
+use Rattle.tape_jobs.specs.CommandLine.{typetool_app, clap_takes, every_allowed, every_of, after, readable, job_in, profile_named, value_in, subcommand_in, app_in, name_in, id_in, rule_in, flags_in, paths_in}
 use Rattle.tape_jobs.specs.Lines.{Asks, IsPlain, escaped_words, profile_or_first, profile_words}
 use Rattle.tape_jobs.specs.Stored.{usual_every}
 use Rattle.vt_term.specs.declared.profile.Profile.{Profile}

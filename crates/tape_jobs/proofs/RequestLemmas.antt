@@ -1,6 +1,5 @@
 -- Edits from request lines, one line after another.
-use Rattle.std.proofs.Common.{◌≡◌, ◌≢◌, ℕ, ◌+◌, List, [], ◌∷◌, Option, Some, None, Result, Ok, Err, sym, ◌∙◌, ap, unwrap_or}
-use Rattle.tape_core.specs.Tape.{Tape}
+use Rattle.std.proofs.Common.{◌≡◌, ◌≢◌, ℕ, ◌+◌, List, [], ◌∷◌, Option, Some, None, Ok, Err, sym, ◌∙◌, ap, unwrap_or}
 use Rattle.tape_seek.specs.Edits.{edit_fault}
 use Rattle.tape_seek.specs.Requests.{request}
 use Rattle.tape_seek.specs.State.{State, accepted}

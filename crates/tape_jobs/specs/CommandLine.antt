@@ -194,13 +194,13 @@ unfoldable pub app_in : Subcommand → App
 app_in s =
     with_rules (with_rules (new_app (name_in s)) (map rule_in (flags_in s))) (map rule_in (paths_in s))
 
--- the program's name, and that a subcommand must follow (ours)
+-- the program's name and version, and that a subcommand must follow (ours)
 abbrev pub top_app : App
 top_app = record {
   top = record (new_app (codes "typetool")).top {
+    has_version = true;
     arg_required_else_help = true;
     subcommand_required = true;
-    disable_help_subcommand = true;
   };
   subs = [];
 }

@@ -1,5 +1,5 @@
 -- What a plain command line means: each line of the synopsis, its flags in the order of help (ours).
-use Rattle.std.specs.Prelude.{◌≡◌, ℕ, ◌==◌, ◌++◌, Bool, true, false, List, [], ◌∷◌, Option, Some, None, Ok, codes}
+use Rattle.std.specs.Prelude.{◌≡◌, ◌==◌, ◌++◌, Bool, true, false, List, [], ◌∷◌, Option, Some, None, Ok, codes}
 use Rattle.clap.specs.Words.{Text}
 use Rattle.tape_jobs.specs.CommandLine.{clap_takes, meaning_of_words}
 use Rattle.tape_jobs.specs.declared.job.Job.{Job}

@@ -5,7 +5,7 @@ ghost use Rattle.clap.specs.Words.{app_of, items_of, rule_of};
 ghost use Rattle.clap.specs.declared.Command.TheViews.{out-Command as fields_of};
 ghost use Rattle.tape_jobs.specs.CommandLine.{app_in, optional_rule, path_rule, rule_in, seconds_rule, switch_rule, top_app, typetool_app, with_rules};
 
-use super::help::{about_of, details_of, help_of, value_name_of};
+use super::help::{EXAMPLE, VERSION, about_of, details_of, help_of, value_name_of};
 use super::table::{Argument, Subcommand, flags_of, id_of, name_of, paths_of, subcommands};
 use clap::{Arg, ArgAction, Command};
 use std::alloc::{AllocError, Global};
@@ -24,16 +24,17 @@ pub fn typetool_command<'a>(alloc: Global) -> Result<Command<'a>, AllocError>
     Ok(command)
 }
 
-/// The program's name and what it does. A subcommand must follow.
+/// The program's name, its version and what it does. A subcommand must follow, and clap adds `help`.
 fn top_command<'a>(alloc: Global) -> Command<'a>
     ensures app { app_of result ≡ top_app }
     ensures local { (fields_of result).has_globals ≡ false }
 {
     Command::new(alloc, "typetool")
+        .version(VERSION)
         .about("Edit and seek in terminal recordings made by script(1)")
+        .after_help(EXAMPLE)
         .subcommand_required(true)
         .arg_required_else_help(true)
-        .disable_help_subcommand(true)
 }
 
 /// One subcommand, from its row of the table.

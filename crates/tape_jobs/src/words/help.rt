@@ -2,6 +2,12 @@
 
 use super::table::{Argument, Subcommand};
 
+/// The program's version.
+pub const VERSION: &str = "0.1.0";
+
+/// What help tells of the whole program after its subcommands.
+pub const EXAMPLE: &str = "Example: typetool screen --at 12.5 demo.script demo.timing";
+
 /// What a subcommand does, in one line.
 pub fn about_of<'a>(subcommand: Subcommand) -> &'a str {
     match subcommand {

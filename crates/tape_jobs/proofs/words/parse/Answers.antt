@@ -14,7 +14,8 @@ returns-in-Ok-clause-met c = met_by _ _ c.in-Ok.matches c.in_ok-command.ensures.
 
 pub returns-in-Ok-clause-named : goal.returns-in-Ok-clause-named
 returns-in-Ok-clause-named c =
-    named_by _ c.in-Ok.matches (met_by _ _ c.in-Ok.matches c.in_ok-command.ensures.app c.in-Ok.ensures.matches)
+    named_by _ c.in-Ok.matches (fails_by _ _ (Ok c.in-Ok.matches) c.in_ok-command.ensures.app c.in-Ok.ensures.kinds)
+    (met_by _ _ c.in-Ok.matches c.in_ok-command.ensures.app c.in-Ok.ensures.matches)
     (subcommand_required c.in_ok-command.command c.in-Ok.matches c.in-Ok.ensures.parsed c.in_ok-command.ensures.local
     (ap (λ (a : App). a.top.subcommand_required) c.in_ok-command.ensures.app ∙ needs_subcommand))
 
