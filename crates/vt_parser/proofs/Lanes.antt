@@ -1,4 +1,4 @@
--- Runs of graphic characters, seen 32 lanes at a time through the mask of the other bytes.
+-- Runs of graphic characters, seen 16 lanes at a time through the mask of the other bytes.
 use Rattle.std.proofs.Common.{◌≡◌, ℕ, ◌+◌, ◌-◌, ◌%◌, ◌^◌, ◌<◌, ◌≤◌, Bool, not, cond, eqb, leb, List, [], ◌∷◌, map, length, drop, refl, sym, ap, ap₂, ◌∙◌, arith, w8, Fits}
 use Rattle.std.specs.Prelude.{replicate}
 use Rattle.std.specs.List.{prefix_len}
@@ -29,15 +29,15 @@ each_byte : (lanes : List ℕ) → Each1 (Fits w8) lanes → map test_of lanes �
 each_byte [] fits = refl
 each_byte (byte ∷ rest) fits = ap₂ (λ first tail. first ∷ tail) (agree_below_at test_of is_other 256 byte refl fits.0.fits) (each_byte rest fits.1)
 
-pub others_mask : (lanes : List ℕ) → length lanes ≡ 32 → Each1 (Fits w8) lanes
-    → mask_l (map (top 7) (zip2 at_most (replicate 32 95) (zip2 less_wrapping lanes (replicate 32 32)))) % 2 ^ 64 ≡ mask_l (map is_other lanes)
+pub others_mask : (lanes : List ℕ) → length lanes ≡ 16 → Each1 (Fits w8) lanes
+    → mask_l (map (top 7) (zip2 at_most (replicate 16 95) (zip2 less_wrapping lanes (replicate 16 32)))) % 2 ^ 64 ≡ mask_l (map is_other lanes)
 others_mask lanes long fits =
-    let shifted = zip2_splat less_wrapping lanes 32 32 long in
+    let shifted = zip2_splat less_wrapping lanes 16 32 long in
     let compared =
-    zip2_splat_left at_most 95 32 (map (λ byte. less_wrapping byte 32) lanes) (length-map lanes (λ byte. less_wrapping byte 32) ∙ long)
+    zip2_splat_left at_most 95 16 (map (λ byte. less_wrapping byte 32) lanes) (length-map lanes (λ byte. less_wrapping byte 32) ∙ long)
     ∙ map-map (at_most 95) (λ byte. less_wrapping byte 32) lanes in
     let tested = map-map (top 7) (λ byte. at_most 95 (less_wrapping byte 32)) lanes ∙ each_byte lanes fits in
-    ap (λ values. mask_l (map (top 7) (zip2 at_most (replicate 32 95) values)) % 2 ^ 64) shifted
+    ap (λ values. mask_l (map (top 7) (zip2 at_most (replicate 16 95) values)) % 2 ^ 64) shifted
     ∙ ap (λ values. mask_l (map (top 7) values) % 2 ^ 64) compared
     ∙ ap (λ tests. mask_l tests % 2 ^ 64) tested
     ∙ mask_l-mod (map is_other lanes) 64 (omega (arith, length-map lanes is_other))

@@ -1,4 +1,4 @@
-//! Runs of graphic characters, 32 bytes at a time.
+//! Runs of graphic characters, 16 bytes at a time.
 ghost use Rattle.std.specs.Prelude.{◌≡◌, ◌+◌, ◌≤◌, length, drop, map};
 ghost use Rattle.std.specs.List.{prefix_len};
 ghost use Rattle.std.specs.Simd.Lanes.{mask_l};
@@ -8,16 +8,16 @@ ghost use Rattle.vt_parser.specs.Ahead.{is_other};
 use crate::syntax::{GRAPHICS, SPACE, is_graphic};
 use std::simd::prelude::*;
 
-const LANES: usize = 32;
+const LANES: usize = 16;
 
 // A bit for each lane that is no graphic character. Less a space, the bytes below it wrap round to the top.
 #[inline]
 #[tactic(auto, using(crate::proofs::Lanes::others_mask))]
-fn others(lanes: u8x32) -> u64
+fn others(lanes: u8x16) -> u64
     ensures { result ≡ mask_l (map is_other lanes) }
 {
-    (lanes - u8x32::splat(SPACE))
-        .simd_ge(u8x32::splat(GRAPHICS))
+    (lanes - u8x16::splat(SPACE))
+        .simd_ge(u8x16::splat(GRAPHICS))
         .to_bitmask()
 }
 
@@ -42,7 +42,7 @@ pub fn printable_run(bytes: &[u8]) -> usize
 {
     let mut end = 0;
     while bytes.len() - end >= LANES {
-        let found = others(u8x32::from_slice(&bytes[end..]));
+        let found = others(u8x16::from_slice(&bytes[end..]));
         if found != 0 {
             return end + found.trailing_zeros() as usize;
         }

@@ -7,5 +7,5 @@ pub returns-then-found-ne0 : goal.returns-then-found-ne0
 returns-then-found-ne0 c =
     let found = c.others-found.ensures in
     let end = c.loop-end in
-    let run = run_stops c.args.bytes.now end.end 32 (omega arith) (omega arith) (omega (arith, found)) ∙ ap (count_trailing_zeros 64) (sym found) in
+    let run = run_stops c.args.bytes.now end.end 16 (omega arith) (omega arith) (omega (arith, found)) ∙ ap (count_trailing_zeros 64) (sym found) in
     record { value = omega (arith, run, end.invariant.0); within = omega (arith, run, run_bound c.args.bytes.now end.end end.invariant.1) }
