@@ -12,3 +12,4 @@ mod Soundness
 mod Stops
 mod Tables
 mod Turns
+mod Packed

@@ -14,3 +14,4 @@ pub mod Table
 pub mod Tabs
 pub mod View
 pub mod Written
+pub mod Packed

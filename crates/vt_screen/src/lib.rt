@@ -1,6 +1,6 @@
 //! The screen of a terminal: cells told by line and column, a cursor, margins, tabs and line sizes.
 //!
-//! Fixed arrays: nothing here takes memory, and nothing is refused.
+//! Fixed arrays: nothing here takes memory, and nothing is refused, but for a screen that is packed to be kept for later.
 #![tactic(auto)]
 
 mod cell;
@@ -12,4 +12,4 @@ mod screen;
 
 pub use cell::{Cell, Row, Size};
 pub use rendition::Rendition;
-pub use screen::Screen;
+pub use screen::{PackedScreen, Screen};

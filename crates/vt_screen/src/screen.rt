@@ -12,10 +12,13 @@ ghost use Rattle.vt_screen.specs.Puts.{put, shown, run_shown, wrap_taken};
 ghost use Rattle.vt_screen.specs.Scrolls.{indexed, reverse_indexed, lines_deleted, lines_inserted, scrolled_up, scrolled_down};
 ghost use Rattle.vt_screen.specs.Tabs.{stop_at, stop_after, tabbed, tab_made, tabs_cleared};
 
+mod packed;
+
 use crate::cell::{Cell, Row, Size, columns_of, margin_of};
 use crate::grid::Grid;
 use crate::limits::{LAST_GLYPH, LINES, WIDE_COLUMNS};
 use crate::rendition::Rendition;
+pub use packed::PackedScreen;
 use std::marker::Model;
 
 /// 24 lines of 80 or 132 columns with a cursor, a pending wrap, margins, tab stops and a size for each

@@ -1,0 +1,194 @@
+//! Screens that are kept for later, without the blank tails of their lines.
+
+ghost use Rattle.std.specs.Prelude.{◌≡◌, ℕ, ◌+◌, ◌<◌, ◌≤◌, IfOk, OnOk, length, true};
+ghost use Rattle.vt_screen.specs.Cells.{blank, cell_at, row_at};
+ghost use Rattle.vt_screen.specs.Packed.{ArePacked, IsPart, unpacked};
+ghost use Rattle.vt_screen.specs.declared.screen.packed.Part.{Part};
+ghost use Rattle.vt_screen.specs.Slots.{rows_of};
+
+use crate::cell::{Cell, Row, Size};
+use crate::grid::Grid;
+use crate::limits::{LINES, WIDE_COLUMNS};
+use crate::screen::Screen;
+use std::alloc::{AllocError, Global};
+use std::marker::Model;
+
+// So many cells are packed at most before a line's come in.
+const MOST_CELLS: usize = (LINES as usize - 1) * WIDE_COLUMNS as usize;
+
+/// A line's size, and where its cells lie among those of all lines.
+#[derive(Clone, Copy, Debug)]
+struct Part {
+    size: Size,
+    from: u16,
+    len: u8,
+}
+
+/// A screen of which each line is kept up to its last cell that isn't blank. Contracts see the picture.
+#[derive(Debug, Drop)]
+pub struct PackedScreen {
+    cells: Vec<Cell>,
+    parts: [Part; LINES as usize],
+    tabs: [bool; WIDE_COLUMNS as usize],
+    wide: bool,
+    line: u8,
+    column: u8,
+    wrap: bool,
+    top: u8,
+    bottom: u8,
+}
+
+impl Model for PackedScreen {
+    ghost use Rattle.vt_screen.specs.Picture.{Picture};
+
+    ghost Value = { Picture };
+
+    ghost use Rattle.vt_screen.specs.Packed.{IsPacked, packed_picture};
+
+    ghost view = { packed_picture };
+
+    ghost invariant = { IsPacked };
+}
+
+impl Screen {
+    /// The screen to be kept for later.
+    pub fn pack(&self, alloc: Global) -> Result<PackedScreen, AllocError>
+        ensures { IfOk result (λ packed. packed ≡ self.now.picture) }
+    {
+        let mut cells = Vec::with_capacity(alloc, used_in_all(&self.grid))?;
+        let parts = pack_rows(&self.grid, &mut cells)?;
+        Ok(PackedScreen {
+            cells,
+            parts,
+            tabs: self.tabs,
+            wide: self.wide,
+            line: self.line,
+            column: self.column,
+            wrap: self.wrap,
+            top: self.top,
+            bottom: self.bottom,
+        })
+    }
+
+    /// Becomes the screen that was packed.
+    pub fn unpack(&mut self, packed: &PackedScreen)
+        ensures { self.new.picture ≡ packed.now }
+    {
+        put_rows(&mut self.grid, packed);
+        self.tabs = packed.tabs;
+        self.wide = packed.wide;
+        self.line = packed.line;
+        self.column = packed.column;
+        self.wrap = packed.wrap;
+        self.top = packed.top;
+        self.bottom = packed.bottom;
+    }
+}
+
+impl PackedScreen {
+    /// The row of a line.
+    fn row(&self, line: u8) -> Row
+        requires low { 1 ≤ line }
+        requires high { line ≤ LINES }
+        ensures value { result ≡ row_at self.now.rows line }
+        ensures whole { length result.cells ≡ WIDE_COLUMNS }
+    {
+        let part = self.parts[line as usize - 1];
+        row_of(self.cells.as_slice(), part)
+    }
+}
+
+/// The row of a part: its cells, and blank ones behind them.
+fn row_of(cells: &[Cell], part: Part) -> Row
+    requires { IsPart cells.now part }
+    ensures value { result ≡ unpacked cells.now part }
+    ensures whole { length result.cells ≡ WIDE_COLUMNS }
+{
+    let mut row = Row::blank();
+    row.size = part.size;
+    let from = part.from as usize;
+    for i in 0..part.len as usize {
+        row.cells[i] = cells[from + i];
+    }
+    row
+}
+
+/// Puts back all rows.
+fn put_rows(grid: &mut Grid, packed: &PackedScreen)
+    ensures { (line : ℕ) → 1 ≤ line → line ≤ LINES
+        → row_at (rows_of grid.new) line ≡ row_at packed.now.rows line }
+{
+    for line in 1..LINES + 1 {
+        grid.set_row(line, packed.row(line));
+    }
+}
+
+/// Whether a cell is blank, by its number.
+#[inline]
+#[tactic(auto, using(crate::proofs::Packed::blank_by_number))]
+fn is_blank(cell: Cell) -> bool
+    ensures { result ≡ true → cell ≡ blank }
+{
+    cell.number() == 32
+}
+
+/// How many cells a row has up to the last one that isn't blank.
+fn used(row: &Row) -> u8
+    requires { length row.now.cells ≡ WIDE_COLUMNS }
+    ensures within { result ≤ WIDE_COLUMNS }
+    ensures tail { (column : ℕ) → result < column → cell_at row.now column ≡ blank }
+{
+    let mut used = WIDE_COLUMNS;
+    while used > 0 && is_blank(row.cells[used as usize - 1]) {
+        used -= 1;
+    }
+    used
+}
+
+/// How many cells all rows have up to the last one of each that isn't blank.
+fn used_in_all(grid: &Grid) -> usize {
+    let mut total = 0;
+    for line in 1..LINES + 1 {
+        total += used(grid.row(line)) as usize;
+    }
+    total
+}
+
+/// Packs all rows, and says where each lies.
+fn pack_rows(grid: &Grid, cells: &mut Vec<Cell>) -> Result<[Part; LINES as usize], AllocError>
+    requires { length cells.old.items ≡ 0 }
+    ensures { IfOk result (λ parts.
+        ArePacked (rows_of grid.now) cells.new.items parts (LINES + 1)) }
+{
+    let mut parts = [Part {
+        size: Size::Single,
+        from: 0,
+        len: 0,
+    }; LINES as usize];
+    for line in 1..LINES + 1 {
+        parts[line as usize - 1] = pack_row(grid.row(line), cells)?;
+    }
+    Ok(parts)
+}
+
+/// Puts a row's cells up to the last one that isn't blank behind the others, and says where they lie.
+fn pack_row(row: &Row, cells: &mut Vec<Cell>) -> Result<Part, AllocError>
+    requires whole { length row.now.cells ≡ WIDE_COLUMNS }
+    requires few { length cells.old.items ≤ MOST_CELLS }
+    ensures row { IfOk result (λ part. unpacked cells.new.items part ≡ row.now) }
+    ensures part { IfOk result (λ part. IsPart cells.new.items part) }
+    ensures others { (part : Part) → IsPart cells.old.items part → OnOk result
+        (IsPart cells.new.items part
+        × (unpacked cells.new.items part ≡ unpacked cells.old.items part)) }
+    ensures few { OnOk result
+        (length cells.new.items ≤ length cells.old.items + WIDE_COLUMNS) }
+{
+    let from = cells.len() as u16;
+    let len = used(row);
+    cells.extend_from_slice(&row.cells[..len as usize])?;
+    Ok(Part {
+        size: row.size,
+        from,
+        len,
+    })
+}
