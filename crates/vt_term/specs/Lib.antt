@@ -15,3 +15,4 @@ pub mod Seen
 pub mod Sink
 pub mod Printing
 pub mod Law
+pub mod Packed

@@ -1,7 +1,8 @@
 //! A VT100 terminal: what bytes do to its screen, modes and character sets, and what it answers.
 //!
-//! EK-VT100-UG chapter 3 is the model, VT52 mode included; a second profile adds the VT102's editing functions. A terminal takes no memory; only the list of its reports
-//! grows, and only where a reply is sent past its end.
+//! EK-VT100-UG chapter 3 is the model, VT52 mode included; a second profile adds the VT102's editing functions. A terminal
+//! takes no memory; only the list of its reports grows, and only where a reply is sent past its end, and a terminal that is
+//! packed to be kept for later takes what its cells need.
 #![tactic(auto)]
 
 mod below;
@@ -27,4 +28,4 @@ pub use profile::Profile;
 pub use reports::{OutOfMemory, Reports};
 pub use saved::Saved;
 pub use sets::{CharacterSet, Sets, Slot};
-pub use terminal::Terminal;
+pub use terminal::{PackedTerminal, Terminal};

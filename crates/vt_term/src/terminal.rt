@@ -1,9 +1,12 @@
 //! The terminal: a parser before a console.
 ghost use Rattle.std.specs.Prelude.{◌≡◌, ℕ, ◌≤◌, ◌<◌, true, false, [], ◌∷◌, length, take, IsOk, IfOk, OnOk, OnErr};
 
+mod packed;
+
 use crate::below::laws_below;
 use crate::console::Console;
 use crate::{Modes, OutOfMemory, Profile, Reports, Saved, Sets};
+pub use packed::PackedTerminal;
 use std::marker::Model;
 use vt_parser::{Parser, ParserState};
 use vt_screen::{Rendition, Screen};

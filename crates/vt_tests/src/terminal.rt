@@ -32,6 +32,7 @@ use vt_term::{CharacterSet, Modes, OutOfMemory, Profile, Reports, Saved, Sets, S
 pub(crate) mod changes;
 mod editing;
 mod nothing;
+mod packed;
 mod played;
 mod recordings;
 mod refused;

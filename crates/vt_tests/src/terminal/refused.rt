@@ -89,3 +89,21 @@ fn no_growth_within_the_list(rt: HostRuntime) -> Result<(), Fail> {
     }
     Ok(())
 }
+
+/// Packs a terminal; where memory is refused, once more.
+#[test]
+fn a_packed_terminal(rt: HostRuntime) -> Result<(), Fail> {
+    let left = fed(&rt, &[b"ab\x1b[1;4mc\x1b7\x1b[5;5Hd\x1b["])?;
+    let packed = match left.terminal.pack(rt.alloc()) {
+        Ok(packed) => packed,
+        Err(_) => {
+            println!(rt; "refused: pack")?;
+            left.terminal.pack(rt.alloc())?
+        }
+    };
+    let mut again = Terminal::reset();
+    again.unpack(&packed);
+    let is_same = are_same_terminals(&again, &left.terminal);
+    assert!(rt; is_same, "a terminal that was packed");
+    Ok(())
+}
