@@ -31,7 +31,7 @@ lint:
 	tests/lint.sh
 
 # The scripts run the program that the gate has proved and built. The 1st and the 16th growth of each test of refused growths
-# are refused: the tests of seeks begin up to five growths late, so that the 16th is each of theirs in turn.
+# are refused: the tests of seeks begin up to six growths late, so that the 16th is each of theirs in turn.
 test: lint
 	rt ci
 	mkdir -p bin

@@ -27,7 +27,7 @@ use std::alloc::{AllocError, Global};
 use tape_core::Chunk;
 use tape_core::laws::first_grows_by_a_chunk;
 use vt_term::laws::{plays_in_parts, sends_in_parts};
-use vt_term::{OutOfMemory, Profile, Reports, Terminal};
+use vt_term::{OutOfMemory, PackedTerminal, Profile, Reports, Terminal};
 
 /// A replay of the chunks of a recording, kept up to the frontier.
 #[derive(Debug, Drop)]
@@ -42,8 +42,8 @@ pub(crate) struct Replay {
     pub head: usize,
     /// The working terminal.
     pub working: Terminal,
-    /// The terminals at `every`, twice `every` and so on.
-    pub stored: Vec<Box<Terminal>>,
+    /// The terminals at `every`, twice `every` and so on, packed.
+    pub stored: Vec<Box<PackedTerminal>>,
     /// All that was sent up to the frontier.
     pub reports: Reports,
     /// How many bytes were sent by each count from 0 to the frontier.
@@ -167,7 +167,7 @@ impl Replay {
         if terminals == 0 {
             self.working = first_terminal(self.profile);
         } else {
-            self.working.copy_from(&self.stored[terminals - 1]);
+            self.working.unpack(&self.stored[terminals - 1]);
         }
         self.head = terminals * self.every;
     }
@@ -291,15 +291,14 @@ impl Replay {
         Ok(())
     }
 
-    /// Stores a copy of the working terminal behind the others.
+    /// Stores the working terminal, packed, behind the others.
     fn store_working(&mut self) -> Result<(), AllocError>
         ensures ok { OnOk result (Stores self.old self.new) }
         ensures err { OnErr result (self.new.stored.items ≡ self.old.stored.items) }
         ensures rest { self.new ≡ record self.old { stored = self.new.stored } }
     {
-        let mut copy = first_terminal(self.profile);
-        copy.copy_from(&self.working);
-        self.stored.push(Box::new(self.alloc, copy)?)?;
+        let packed = self.working.pack(self.alloc)?;
+        self.stored.push(Box::new(self.alloc, packed)?)?;
         Ok(())
     }
 

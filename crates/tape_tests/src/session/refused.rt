@@ -178,6 +178,11 @@ fn refused_seeks_behind_five_growths(rt: HostRuntime) -> Result<(), Fail> {
 }
 
 #[test]
+fn refused_seeks_behind_six_growths(rt: HostRuntime) -> Result<(), Fail> {
+    check_seeks(&rt, 6, TO_AND_FRO)
+}
+
+#[test]
 fn refused_seeks_past_a_stored_terminal(rt: HostRuntime) -> Result<(), Fail> {
     check_seeks(&rt, 0, PAST_A_STORED_TERMINAL)
 }
@@ -205,6 +210,11 @@ fn refused_seeks_past_a_stored_terminal_behind_four_growths(rt: HostRuntime) -> 
 #[test]
 fn refused_seeks_past_a_stored_terminal_behind_five_growths(rt: HostRuntime) -> Result<(), Fail> {
     check_seeks(&rt, 5, PAST_A_STORED_TERMINAL)
+}
+
+#[test]
+fn refused_seeks_past_a_stored_terminal_behind_six_growths(rt: HostRuntime) -> Result<(), Fail> {
+    check_seeks(&rt, 6, PAST_A_STORED_TERMINAL)
 }
 
 /// Makes an edit; where memory is refused, once more with the edit that came back.
