@@ -1,5 +1,5 @@
 -- Slots that are filled line by line, and become blank.
-use Rattle.std.proofs.Common.{◌≡◌, ℕ, zero, suc, ◌+◌, ◌-◌, ◌<◌, ◌≤◌, Bool, true, false, List, length, get_or, set, refl, sym, ap, ap₂, inl, inr, ◌∙◌, subst, arith}
+use Rattle.std.proofs.Common.{◌≡◌, ℕ, zero, suc, ◌+◌, ◌-◌, ◌<◌, ◌≤◌, Bool, true, false, List, length, set, refl, sym, ap, ap₂, inl, inr, ◌∙◌, subst, arith}
 use Rattle.std.specs.Prelude.{if◌then◌else◌, ◌==◌, fold, nat_le}
 use Rattle.std.specs.List.{range_with_len}
 use Rattle.std.proofs.lemmas.Bool.{cases_lt}

@@ -1,19 +1,19 @@
 -- A run of characters on one line, written at once.
-use Rattle.std.proofs.Common.{◌≡◌, ◌≢◌, ℕ, ◌+◌, ◌<◌, ◌≤◌, Bool, true, false, List, [], ◌∷◌, ◌++◌, length, take, drop, refl, sym, ap, ap₂, inl, inr, ◌∙◌, arith}
+use Rattle.std.proofs.Common.{◌≡◌, ◌≢◌, ℕ, ◌+◌, ◌-◌, ◌<◌, ◌≤◌, Bool, true, false, List, [], ◌∷◌, ◌++◌, length, take, drop, refl, sym, ap, ap₂, inl, inr, ◌∙◌, arith}
 use Rattle.std.specs.Prelude.{if◌then◌else◌, ◌==◌}
 use Rattle.std.proofs.lemmas.Bool.{cases_eq}
 use Rattle.std.proofs.lemmas.Bool.Decides.{nat_tests}
 use Rattle.std.proofs.lemmas.Grind.{fold-append}
-use Rattle.std.proofs.lemmas.List.{take-append-drop}
+use Rattle.std.proofs.lemmas.List.{take-append-drop, length-take-le}
 use Rattle.vt_screen.specs.declared.cell.Cell.{Cell}
 use Rattle.vt_screen.specs.declared.cell.Row.{Row}
 use Rattle.vt_screen.specs.Attributes.{Attributes}
 use Rattle.vt_screen.specs.Cells.{blank_row, row_at}
-use Rattle.vt_screen.specs.Picture.{Picture, margin_of, right_margin}
+use Rattle.vt_screen.specs.Picture.{Picture, Sound, margin_of, right_margin}
 use Rattle.vt_screen.specs.Moves.{moved_to_left, on_line}
 use Rattle.vt_screen.specs.Scrolls.{indexed, scrolled_up}
 use Rattle.vt_screen.specs.Puts.{with_row, with_cell, put, wrap_taken, shown, run_shown}
-use Rattle.vt_screen.specs.Slots.{order_indexed, order_wrap_taken, order_run_shown}
+use Rattle.vt_screen.specs.Slots.{ScreenState, order_indexed, order_wrap_taken, order_run_shown}
 use Rattle.vt_screen.specs.Written.{written}
 use Rattle.vt_screen.proofs.Tables.{length-table, nth-table, table_ext, table_is}
 use Rattle.vt_screen.proofs.Soundness.{row_put, either_picture}
@@ -131,6 +131,17 @@ module _ (rendition : Attributes) (autowrap : Bool) where
   order_within (glyph ∷ other ∷ glyphs) p order unwrapped low high fits =
       ap₂ (λ (q : Picture) (names : List ℕ). order_run_shown (other ∷ glyphs) rendition autowrap q names) (shown_next glyph p unwrapped (omega arith)) (order_unwrapped p order unwrapped)
       ∙ order_within (other ∷ glyphs) (next glyph p) order unwrapped low high (omega (arith, margin_next glyph p low high))
+
+  -- the same of a body, which knows what is seen of the screen
+  pub names_stay : (n : ℕ) (glyphs : List ℕ) (p : Picture) (seen : ScreenState) (margin : ℕ) (order after : List ℕ)
+      → p ≡ seen.picture → Sound p → seen.picture.wrap ≡ false → margin ≡ right_margin seen.picture seen.picture.line
+      → n ≤ length glyphs → n ≤ margin - p.column + 1 → after ≡ order
+      → after ≡ order_run_shown (take n glyphs) rendition autowrap p order
+  names_stay n glyphs p seen margin order after same sound unwrapped is_margin within fits stays =
+      let here : margin ≡ right_margin p p.line = is_margin ∙ ap (λ (q : Picture). right_margin q q.line) (sym same) in
+      let none : p.wrap ≡ false = ap (λ (q : Picture). q.wrap) same ∙ unwrapped in
+      let len = length-take-le n glyphs within in
+      stays ∙ sym (order_within (take n glyphs) p order none sound.line_low sound.line_high (omega (arith, sound.column_high)))
 
   order_parts : (xs ys : List ℕ) (p : Picture) (order : List ℕ)
       → order_run_shown (xs ++ ys) rendition autowrap p order

@@ -8,7 +8,8 @@ use Rattle.vt_screen.specs.Cells.{blank, blank_row, row_at, rows_by}
 use Rattle.vt_screen.specs.declared.cell.Cell.{Cell}
 use Rattle.vt_screen.specs.Lines.{filled_to}
 use Rattle.vt_screen.specs.Scrolls.{is_in_region}
-use Rattle.vt_screen.specs.Picture.{Picture, Sound, columns}
+use Rattle.vt_screen.specs.Moves.{moved_to_left}
+use Rattle.vt_screen.specs.Picture.{Picture, Sound, columns, with_rows}
 use Rattle.vt_screen.specs.Slots.{slot_at, line_below, line_above}
 use Rattle.vt_screen.specs.Written.{lines_changed, lines_taken}
 use Rattle.vt_screen.proofs.SoundRows.{all_blank, cleared}
@@ -56,6 +57,17 @@ pub in_region : {X : Type 0} (p : Picture) (q r : X) → p.top ≤ p.line → p.
 in_region p q r below above =
     let inside : is_in_region p ≡ true = grind (arith, nat_tests) in
     ap (λ (b : Bool). if b then q else r) (sym inside)
+
+-- lines that moved inside the margins, those that came free filled, and the cursor in column 1
+pub region_moved : (p : Picture) (sound : Sound p) (source : ℕ → ℕ) (f : ℕ → Row) (was now : List Row) (first last to : ℕ) (cell : Cell)
+    → p.top ≤ p.line → p.line ≤ p.bottom → was ≡ lines_taken source p.rows → cell ≡ blank → to ≡ columns p.wide
+    → now ≡ lines_changed (filled_to cell to) first last was
+    → ((k : ℕ) → (if nat_le first k && nat_lt k last then blank_row else row_at p.rows (source k)) ≡ f k)
+    → moved_to_left (with_rows now p) ≡ (if is_in_region p then moved_to_left (with_rows (rows_by f) p) else p)
+region_moved p sound source f was now first last to cell below above turned is_blank is_wide filled each =
+    let rows : now ≡ rows_by f =
+    scrolled p sound source was turned f first last now (filled_with now was first last cell blank to (columns p.wide) is_blank is_wide filled) each in
+    ap (λ (rs : List Row). moved_to_left (with_rows rs p)) rows ∙ in_region p (moved_to_left (with_rows (rows_by f) p)) p below above
 
 -- up and down by a count: n, or all of the lines
 module _ (rows : List Row) (n count top bottom : ℕ) (apart : top ≤ bottom) (few : count ≡ min n (bottom + 1 - top)) where

@@ -1,16 +1,17 @@
-use Rattle.std.proofs.Common.{◌≡◌, ℕ, ◌+◌, ◌-◌, List, false, min, ap, subst, sym, ◌∙◌, arith}
+use Rattle.std.proofs.Common.{◌≡◌, ℕ, ◌+◌, ◌-◌, false, min, ap, subst, sym, ◌∙◌, arith}
 use Rattle.std.proofs.lemmas.Bool.Decides.{nat_tests}
-use Rattle.vt_screen.specs.declared.cell.Row.{Row}
-use Rattle.vt_screen.specs.Cells.{blank}
-use Rattle.vt_screen.specs.Moves.{moved_to_left}
-use Rattle.vt_screen.specs.Picture.{Sound, columns, with_rows}
-use Rattle.vt_screen.specs.Scrolls.{scrolled_down, lines_inserted}
+use Rattle.vt_screen.specs.Picture.{Sound}
+use Rattle.vt_screen.specs.Scrolls.{lines_inserted}
 use Rattle.vt_screen.specs.Slots.{ScreenState, rows_of, line_above, slots_blanked, slots_lines_inserted}
 use Rattle.vt_screen.specs.View.{picture_of}
 use Rattle.vt_screen.proofs.Blanked.{Filled, slots_freed}
-use Rattle.vt_screen.proofs.Scrolled.{scrolled, filled_with, in_region, down_by}
+use Rattle.vt_screen.proofs.Scrolled.{region_moved, in_region, down_by}
 use Rattle.vt_screen.proofs.Soundness.{sound_lines_inserted}
 use Rattle.vt_screen.proofs.screen.Screen.insert_lines.Goals as goal
+
+-- how many lines move
+few_move : (c : goal.After-self-then-self-2-1) → c.lines_left-count.result ≡ min c.args.n (c.self.inside.bottom + 1 - c.self.inside.line)
+few_move c = c.lines_left-count.ensures ∙ ap (λ (s : ScreenState). min c.args.n (s.picture.bottom + 1 - s.picture.line)) (sym c.self.view_is)
 
 are_inserted : (c : goal.After-self-then-self-2-1)
     → record (picture_of c.self.inside) { rows = rows_of c.fill_lines.new.self; column = 1; wrap = false }
@@ -18,12 +19,9 @@ are_inserted : (c : goal.After-self-then-self-2-1)
 are_inserted c =
     let p = picture_of c.self.inside in
     let count = c.lines_left-count.result in
-    let few : count ≡ min c.args.n (p.bottom + 1 - p.line) = c.lines_left-count.ensures ∙ ap (λ (s : ScreenState). min c.args.n (s.picture.bottom + 1 - s.picture.line)) (sym c.self.view_is) in
-    let rows : rows_of c.fill_lines.new.self ≡ scrolled_down c.args.n p.line p.bottom p.rows =
-    scrolled p c.self.invariant (line_above count p.line p.bottom) (rows_of c.turn_down.new.self) c.turn_down.ensures.rows _ p.line (p.line + count - 1 + 1) _
-    (filled_with _ _ p.line (p.line + count - 1 + 1) c.blank.result blank c.columns_of.result (columns p.wide) c.blank.ensures c.columns_of.ensures c.fill_lines.ensures.rows)
-    (down_by p.rows c.args.n count p.line p.bottom c.if-self-2.true few _ (omega (arith, few))) in
-    ap (λ (rs : List Row). moved_to_left (with_rows rs p)) rows ∙ in_region p (moved_to_left (with_rows (scrolled_down c.args.n p.line p.bottom p.rows) p)) p c.if-self.true c.if-self-2.true
+    region_moved p c.self.invariant (line_above count p.line p.bottom) _ _ _ p.line (p.line + count - 1 + 1) _ _
+    c.if-self.true c.if-self-2.true c.turn_down.ensures.rows c.blank.ensures c.columns_of.ensures c.fill_lines.ensures.rows
+    (down_by p.rows c.args.n count p.line p.bottom c.if-self-2.true (few_move c) _ (omega (arith, few_move c)))
 
 pub invariant_of-self : goal.invariant_of-self
 invariant_of-self c = subst Sound (sym (are_inserted c)) (sound_lines_inserted (picture_of c.self.inside) c.self.invariant c.args.n)
@@ -37,7 +35,7 @@ are_freed : (c : goal.After-self-then-self-2-1)
 are_freed c =
     let p = picture_of c.self.inside in
     let count = c.lines_left-count.result in
-    let few : count ≡ min c.args.n (p.bottom + 1 - p.line) = c.lines_left-count.ensures ∙ ap (λ (s : ScreenState). min c.args.n (s.picture.bottom + 1 - s.picture.line)) (sym c.self.view_is) in
+    let few = few_move c in
     let source = line_above count p.line p.bottom in
     let line_low = c.self.invariant.line_low in
     let bottom_high = c.self.invariant.bottom_high in

@@ -6,7 +6,7 @@ use Rattle.vt_screen.specs.Picture.{Sound, right_margin}
 use Rattle.vt_screen.specs.Slots.{ScreenState, rows_of, order_run_shown}
 use Rattle.vt_screen.specs.Puts.{run_shown}
 use Rattle.vt_screen.specs.View.{picture_of}
-use Rattle.vt_screen.proofs.Runs.{run_within, run_to_margin, order_within}
+use Rattle.vt_screen.proofs.Runs.{run_within, run_to_margin, names_stay}
 use Rattle.vt_screen.proofs.Soundness.{sound_run_shown}
 use Rattle.vt_screen.proofs.screen.Screen.show_part.Goals as goal
 
@@ -52,32 +52,16 @@ returns-else-taken-room-clause-picture c =
     within c ∙ ap (λ (s : ScreenState). run_shown (take c.min-taken.result c.args.glyphs.now) c.args.rendition c.args.autowrap s.picture) c.self.view_is
 
 -- no wrap is taken among them
-names_stay_then : (c : goal.After-self-then-taken-room-1)
-    → c.write_run.new.self.order
-    ≡ order_run_shown (take c.min-taken.result c.args.glyphs.now) c.args.rendition c.args.autowrap (picture_of c.self.inside) c.self.inside.grid.order
-names_stay_then c =
-    let p = picture_of c.self.inside in
-    let margin : c.margin-margin.result ≡ right_margin p p.line = c.margin-margin.ensures.value ∙ ap (λ (s : ScreenState). right_margin s.picture s.picture.line) (sym c.self.view_is) in
-    let unwrapped : p.wrap ≡ false = ap (λ (s : ScreenState). s.picture.wrap) c.self.view_is ∙ c.requires.wrap in
-    let len = length-take-le c.min-taken.result c.args.glyphs.now (omega arith) in
-    c.write_run.ensures.order
-    ∙ sym (order_within c.args.rendition c.args.autowrap (take c.min-taken.result c.args.glyphs.now) p c.self.inside.grid.order unwrapped c.self.invariant.line_low c.self.invariant.line_high (omega (arith, c.self.invariant.column_high)))
-
 pub returns-then-taken-room-clause-order : goal.returns-then-taken-room-clause-order
 returns-then-taken-room-clause-order c =
-    names_stay_then c ∙ ap (λ (s : ScreenState). order_run_shown (take c.min-taken.result c.args.glyphs.now) c.args.rendition c.args.autowrap s.picture s.order) c.self.view_is
-
-names_stay_else : (c : goal.After-self-else-taken-room-1)
-    → c.write_run.new.self.order
-    ≡ order_run_shown (take c.min-taken.result c.args.glyphs.now) c.args.rendition c.args.autowrap (picture_of c.self.inside) c.self.inside.grid.order
-names_stay_else c =
-    let p = picture_of c.self.inside in
-    let margin : c.margin-margin.result ≡ right_margin p p.line = c.margin-margin.ensures.value ∙ ap (λ (s : ScreenState). right_margin s.picture s.picture.line) (sym c.self.view_is) in
-    let unwrapped : p.wrap ≡ false = ap (λ (s : ScreenState). s.picture.wrap) c.self.view_is ∙ c.requires.wrap in
-    let len = length-take-le c.min-taken.result c.args.glyphs.now (omega arith) in
-    c.write_run.ensures.order
-    ∙ sym (order_within c.args.rendition c.args.autowrap (take c.min-taken.result c.args.glyphs.now) p c.self.inside.grid.order unwrapped c.self.invariant.line_low c.self.invariant.line_high (omega (arith, c.self.invariant.column_high)))
+    names_stay c.args.rendition c.args.autowrap c.min-taken.result c.args.glyphs.now (picture_of c.self.inside) c.args.self.now
+    c.margin-margin.result c.self.inside.grid.order c.write_run.new.self.order (ap (λ (s : ScreenState). s.picture) c.self.view_is)
+    c.self.invariant c.requires.wrap c.margin-margin.ensures.value (omega arith) (omega arith) c.write_run.ensures.order
+    ∙ ap (λ (s : ScreenState). order_run_shown (take c.min-taken.result c.args.glyphs.now) c.args.rendition c.args.autowrap s.picture s.order) c.self.view_is
 
 pub returns-else-taken-room-clause-order : goal.returns-else-taken-room-clause-order
 returns-else-taken-room-clause-order c =
-    names_stay_else c ∙ ap (λ (s : ScreenState). order_run_shown (take c.min-taken.result c.args.glyphs.now) c.args.rendition c.args.autowrap s.picture s.order) c.self.view_is
+    names_stay c.args.rendition c.args.autowrap c.min-taken.result c.args.glyphs.now (picture_of c.self.inside) c.args.self.now
+    c.margin-margin.result c.self.inside.grid.order c.write_run.new.self.order (ap (λ (s : ScreenState). s.picture) c.self.view_is)
+    c.self.invariant c.requires.wrap c.margin-margin.ensures.value (omega arith) (omega arith) c.write_run.ensures.order
+    ∙ ap (λ (s : ScreenState). order_run_shown (take c.min-taken.result c.args.glyphs.now) c.args.rendition c.args.autowrap s.picture s.order) c.self.view_is
