@@ -8,10 +8,6 @@ use Rattle.tape_seek.specs.State.{State}
 use Rattle.screen_print.specs.declared.chunk_changes.ChangesFault.{ChangesFault}
 use Rattle.screen_print.specs.declared.chunk_changes.ChangesFault.TheVariants.{Write, Memory}
 
--- the writer is sound, and has taken a beginning of this text after what it held (ours)
-abbrev pub Began : {T : Type 0} → (T → Option (List ℕ)) → Watched T → Watched T → List ℕ → Type 0
-Began contents old new text = TookPart contents old new text false
-
 -- a beginning of the text has gone out: the writer failed in it, or memory was refused and the writer is sound (ours)
 abbrev pub StopsChanges : {T : Type 0} → (T → Option (List ℕ)) → Watched T → Watched T → List ℕ → ChangesFault → Type 0
 StopsChanges contents old new text Write = TookPart contents old new text true

@@ -6,8 +6,7 @@
 --   TookPart       a writer has taken a beginning of a text, and then it has failed or it hasn't
 --   Puts           a writer was given a text: it took it whole, or a write fault is told and it failed in it
 --
--- A function that writes and has no fault but a write fault says what it puts by `Puts`: those of this crate, of the
--- log and of the prints. The jobs still say it in parts, by `Took` and `StoppedIn`.
+-- A function that writes and has no fault but a write fault says what it puts by `Puts`.
 use Rattle.std.specs.Prelude.{◌≡◌, ℕ, Bool, true, false, List, [], ◌∷◌, ◌++◌, Option, IfSome, Result, MatchResult}
 use Rattle.std.specs.Io.KnownBytes.{Appends, IsAtEnd}
 use Rattle.tape_core.specs.declared.devices.Watched.{Watched}
@@ -51,10 +50,6 @@ pub record TookPart {T : Type 0} (contents : T → Option (List ℕ)) (old new :
   pub rest : List ℕ
   pub cut : text ≡ front ++ rest
   pub grown : Appends (contents (inner_of old)) (contents (inner_of new)) front
-
--- the writer failed in this text (ours)
-abbrev pub StoppedIn : {T : Type 0} → (T → Option (List ℕ)) → Watched T → Watched T → List ℕ → Type 0
-StoppedIn contents old new text = TookPart contents old new text true
 
 -- the writer was given this text: at Ok it has taken it whole, and at Err that is a write fault, and it has failed in
 -- it (ours)
