@@ -194,7 +194,8 @@ answers_by_name : (s : Shape) (word : Text) → is_empty s.aliases ≡ true → 
     → s.name ≡ word
 answers_by_name s word plain answers =
     (bytes_eq-Decides s.name word).0
-    (sym (or-false (bytes_eq s.name word)) ∙ sym (ap (λ b. bytes_eq s.name word || b) (no_alias s.aliases (λ alias. bytes_eq alias word) plain)) ∙ answers)
+    (sym (or-false (bytes_eq s.name word))
+    ∙ sym (ap (λ b. bytes_eq s.name word || b) (no_alias s.aliases (λ alias. bytes_eq alias word) plain)) ∙ answers)
 
 entered_here : (f : Shape → Text × List Row) → ((s : Shape) → (f s).0 ≡ s.name) → (word : Text) (b : Bool) (s : Shape)
     (rest : List Shape) (met : Text × List Row) → (b ≡ true → s.name ≡ word)

@@ -14,7 +14,8 @@ pub returns-clause-changes : goal.returns-clause-changes
 returns-clause-changes c = λ to moment e profile program script timing p q. changes_line program script timing p q to moment e profile
 
 pub returns-clause-changes_from : goal.returns-clause-changes_from
-returns-clause-changes_from c = λ to moment e from start d profile program script timing p q. changes_from_line program script timing p q to moment e from start d profile
+returns-clause-changes_from c = λ to moment e from start d profile program script timing p q.
+    changes_from_line program script timing p q to moment e from start d profile
 
 pub returns-clause-reports : goal.returns-clause-reports
 returns-clause-reports c = λ at moment e profile program script timing p q. reports_line program script timing p q at moment e profile
