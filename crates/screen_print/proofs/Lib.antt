@@ -4,6 +4,7 @@ mod RowLemmas
 mod StillLemmas
 mod WalkLemmas
 mod ChangeLemmas
+mod FindLemmas
 mod EscapedLemmas
 mod InkLemmas
 mod Redrawn

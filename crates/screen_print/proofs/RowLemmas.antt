@@ -137,7 +137,7 @@ same_row_decides one other =
 
 -- ---- rows by line
 
-nth_is : (rows : List Row) (line : ℕ) → row_at rows line ≡ get_or rows (line - 1) blank_row
+pub nth_is : (rows : List Row) (line : ℕ) → row_at rows line ≡ get_or rows (line - 1) blank_row
 unfolding nth
 nth_is rows line = refl
 

@@ -57,7 +57,7 @@ seeks_keep_history old new seeks = λ o is. seeks.recording ∙ is ∙ ap (edite
 abbrev pub texts_from : (ℕ → List ℕ) → ℕ → ℕ → List ℕ
 texts_from f start n = flat_map f (range_with_len start n)
 
-one_more : (f : ℕ → List ℕ) (start n : ℕ) → texts_from f start (n + 1) ≡ texts_from f start n ++ f (start + n)
+pub one_more : (f : ℕ → List ℕ) (start n : ℕ) → texts_from f start (n + 1) ≡ texts_from f start n ++ f (start + n)
 one_more f start n =
     ap (flat_map f) (range_more start n) ∙ flat_map-append f (range_with_len start n) ((start + n) ∷ [])
     ∙ ap (λ l. texts_from f start n ++ l) (append-nil (f (start + n)))

@@ -7,4 +7,6 @@ pub mod Stills
 pub mod View
 pub mod Walk
 pub mod ChangeLines
+pub mod FindLines
+pub mod Places
 pub mod Stops

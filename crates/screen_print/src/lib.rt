@@ -4,13 +4,16 @@
 mod change_lines;
 mod chunk_changes;
 mod escaped_print;
+mod find_lines;
 mod glyphs;
 pub mod laws;
 mod plain_print;
+mod standing;
 mod still;
 
 pub use change_lines::changes;
 pub use chunk_changes::{ChangesFault, ChunkPrinter, put_chunks};
 pub use escaped_print::escaped;
+pub use find_lines::find;
 pub use plain_print::plain;
 pub use still::Still;

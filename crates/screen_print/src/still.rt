@@ -92,6 +92,13 @@ impl Still {
         (self.line, self.column)
     }
 
+    /// Every still has 24 rows, blank right of the right margin. Nothing runs.
+    pub fn sound(&self)
+        ensures { IsStill self.now }
+    {
+        let _wide = self.wide;
+    }
+
     /// Becomes what stands on the screen of a terminal, and tells which lines that changes.
     pub(crate) fn take_changes(&mut self, terminal: &Terminal) -> ArrayVec<u8, ROWS>
         ensures still { self.new ≡ still_of terminal.now.console }

@@ -5,6 +5,7 @@ use std::test::Fail;
 use vt_term::{Profile, Reports, Terminal};
 
 mod escaped;
+mod find;
 mod plain;
 mod refused;
 

@@ -1,0 +1,302 @@
+//! At which chunks of a recording a text comes to stand on the screen, and at which it goes.
+
+ghost use Rattle.std.specs.Prelude.{
+  ◌≡◌,
+  ◌≢◌,
+  ◌≤◌,
+  ◌<◌,
+  ◌+◌,
+  ◌-◌,
+  ◌++◌,
+  ◌∷◌,
+  [],
+  All,
+  encode_utf8,
+  length,
+  nat_eq,
+  nat_le,
+  slice_index_or,
+  take,
+  true,
+  false,
+  Err,
+  OnOk,
+  IfErr,
+};
+ghost use Rattle.std.specs.Cmp.Lexicographic.{pointwise};
+ghost use Rattle.std.specs.Fmt.{decimal};
+ghost use Rattle.std.specs.List.{count_by, flat_map};
+ghost use Rattle.tape_core.specs.Devices.{Puts, Took, has_failed, is_flushed};
+ghost use Rattle.tape_core.specs.Due.{due_count};
+ghost use Rattle.tape_core.specs.Written.{seconds_form};
+ghost use Rattle.tape_seek.specs.State.{KeepsHistory};
+ghost use Rattle.screen_print.specs.FindLines.{
+  count_left,
+  find_lines,
+  found_line,
+  heading,
+  is_less,
+  left_of,
+  less_line,
+  less_lines,
+  place_in,
+};
+ghost use Rattle.screen_print.specs.Places.{IsPlace};
+ghost use Rattle.screen_print.specs.Stops.{OnlySeeks, StopsChanges};
+
+use crate::chunk_changes::{ChangesFault, ChunkPrinter, put_chunks};
+use crate::standing::{Place, found_rows, row_text, standing};
+use crate::still::Still;
+use itoa::Buffer;
+use std::io::Write;
+use tape_core::laws::{pieces_join, writers_join};
+use tape_core::{Fault, Watched, seconds_text};
+use tape_seek::Session;
+
+/// Writes, for each chunk that is due after `from` (None: from chunk 0 on) and by `to`, at which places of
+/// the screen a text came to stand in it and from which it went, and flushes. It works by seeks. After a
+/// fault a beginning of the text has gone out. The recording and the log stay, and the frontier isn't
+/// lowered.
+#[tactic(auto, using(crate::proofs::WalkLemmas::seeks_keep_history), unfolding(crate::specs::FindLines::find_lines))]
+pub fn find<W: Write>(
+    session: &mut Session,
+    from: Option<u64>,
+    to: u64,
+    text: &[char],
+    writer: &mut Watched<W>,
+) -> Result<(), ChangesFault>
+    requires { has_failed writer.old ≡ false }
+    ensures ok { OnOk result (Took W.contents writer.old writer.new
+        (find_lines session.old.profile session.old.recording from to text.now)) }
+    ensures flushed { OnOk result (is_flushed writer.new ≡ true) }
+    ensures fault { IfErr result (StopsChanges W.contents writer.old writer.new
+        (find_lines session.old.profile session.old.recording from to text.now)) }
+    ensures stays { OnlySeeks session.old session.new }
+    // Whatever recording the session was opened with: where its own is that one edited by the log,
+    // it is so still.
+    ensures history { KeepsHistory session.old session.new }
+    ensures room { due_count session.old.recording.chunks to ≤ session.old.marks.frontier
+        → result ≢ Err ChangesFault.Memory }
+{
+    writers_join::<W>();
+    put_chunks(session, from, to, &Finder { text }, writer)?;
+    writer.finish()?;
+    Ok(())
+}
+
+/// Writes where a text came to stand and from where it went.
+#[derive(Drop)]
+struct Finder<'a> {
+    text: &'a [char],
+}
+
+impl<'a> ChunkPrinter for Finder<'a> {
+    ghost use Rattle.screen_print.specs.FindLines.{find_text};
+
+    ghost text = { λ f. find_text f.text.now };
+
+    #[tactic(auto, unfolding(crate::specs::FindLines::find_text))]
+    fn put<W: Write>(
+        &self,
+        index: usize,
+        due: u64,
+        before: &Still,
+        after: &Still,
+        _lines: &[u8],
+        writer: &mut Watched<W>,
+    ) -> Result<(), Fault> {
+        writers_join::<W>();
+        let went = standing(before, self.text);
+        let came = standing(after, self.text);
+        let went = Standing {
+            still: before,
+            places: went.as_slice(),
+        };
+        let came = Standing {
+            still: after,
+            places: came.as_slice(),
+        };
+        let chunk = Chunk {
+            index,
+            due,
+            len: self.text.len(),
+        };
+        put_less(b'-', &chunk, &went, &came, writer)?;
+        put_less(b'+', &chunk, &came, &went, writer)?;
+        Ok(())
+    }
+}
+
+/// Where a text stands on a screen.
+#[derive(Drop)]
+struct Standing<'a> {
+    still: &'a Still,
+    places: &'a [Place],
+}
+
+/// A chunk's place, when it is due, and how long the text is that is looked for.
+#[derive(Drop)]
+struct Chunk {
+    index: usize,
+    due: u64,
+    len: usize,
+}
+
+/// Writes the lines of what stands on one screen and is less on the other.
+fn put_less<W: Write>(
+    sign: u8,
+    chunk: &Chunk,
+    one: &Standing<'_>,
+    other: &Standing<'_>,
+    writer: &mut Watched<W>,
+) -> Result<(), Fault>
+    requires here { All (IsPlace one.now.still.now) one.now.places.now }
+    requires there { All (IsPlace other.now.still.now) other.now.places.now }
+    requires sound { has_failed writer.old ≡ false }
+    ensures { Puts W.contents writer.old writer.new
+        (less_lines sign chunk.now.index chunk.now.due chunk.now.len one.now.still.now one.now.places.now
+        other.now.still.now other.now.places.now) result }
+{
+    writers_join::<W>();
+    for at in 0..one.places.len() {
+        put_if_less(sign, chunk, one, at, other, writer)?;
+    }
+    Ok(())
+}
+
+/// Writes the line of one place, if it is less on the other screen.
+fn put_if_less<W: Write>(
+    sign: u8,
+    chunk: &Chunk,
+    one: &Standing<'_>,
+    at: usize,
+    other: &Standing<'_>,
+    writer: &mut Watched<W>,
+) -> Result<(), Fault>
+    requires within { at < length one.now.places.now }
+    requires here { All (IsPlace one.now.still.now) one.now.places.now }
+    requires there { All (IsPlace other.now.still.now) other.now.places.now }
+    requires sound { has_failed writer.old ≡ false }
+    ensures { Puts W.contents writer.old writer.new
+        (less_line sign chunk.now.index chunk.now.due chunk.now.len one.now.still.now one.now.places.now
+        other.now.still.now other.now.places.now at) result }
+{
+    writers_join::<W>();
+    if is_less(one, at, other) {
+        return put_found(sign, chunk, one.still, one.places[at], writer);
+    }
+    Ok(())
+}
+
+/// Whether a place is less on the other screen.
+fn is_less(one: &Standing<'_>, at: usize, other: &Standing<'_>) -> bool
+    requires within { at < length one.now.places.now }
+    requires here { All (IsPlace one.now.still.now) one.now.places.now }
+    requires there { All (IsPlace other.now.still.now) other.now.places.now }
+    ensures { result ≡ is_less one.now.still.now one.now.places.now other.now.still.now
+        other.now.places.now at }
+{
+    let place = one.places[at];
+    let before = count_left(one.still, &one.places[..at], one.still, place);
+    let there = count_left(other.still, other.places, one.still, place);
+    there <= before
+}
+
+/// How many of the places have the same to the left as another place.
+fn count_left(still: &Still, places: &[Place], other: &Still, there: Place) -> usize
+    requires here { All (IsPlace still.now) places.now }
+    requires there { IsPlace other.now there }
+    ensures { result ≡ count_left still.now places.now (left_of other.now there) }
+{
+    let mut count = 0;
+    for place in places {
+        if same_left(still, *place, other, there) {
+            count += 1;
+        }
+    }
+    count
+}
+
+/// Whether two places have the same to the left.
+fn same_left(still: &Still, place: Place, other: &Still, there: Place) -> bool
+    requires here { IsPlace still.now place }
+    requires there { IsPlace other.now there }
+    ensures { result ≡ pointwise nat_eq (left_of still.now place) (left_of other.now there) }
+{
+    if place.column != there.column {
+        return false;
+    }
+    let left = place.column as usize - 1;
+    let row = row_text(still, place.line);
+    let other_row = row_text(other, there.line);
+    row.as_slice()[..left] == other_row.as_slice()[..left]
+}
+
+/// Writes a find line.
+fn put_found<W: Write>(
+    sign: u8,
+    chunk: &Chunk,
+    still: &Still,
+    place: Place,
+    writer: &mut Watched<W>,
+) -> Result<(), Fault>
+    requires place { IsPlace still.now place }
+    requires sound { has_failed writer.old ≡ false }
+    ensures { Puts W.contents writer.old writer.new
+        (found_line sign chunk.now.index chunk.now.due chunk.now.len still.now place) result }
+{
+    writers_join::<W>();
+    put_heading(sign, chunk, place, writer)?;
+    let rows = found_rows(still, place, chunk.len);
+    put_chars(rows.as_slice(), writer)?;
+    writer.put(b"\n")?;
+    Ok(())
+}
+
+/// Writes what stands before the rows: the sign, the chunk's place, when it is due, and the place.
+fn put_heading<W: Write>(
+    sign: u8,
+    chunk: &Chunk,
+    place: Place,
+    writer: &mut Watched<W>,
+) -> Result<(), Fault>
+    requires { has_failed writer.old ≡ false }
+    ensures { Puts W.contents writer.old writer.new
+        (heading sign chunk.now.index chunk.now.due place) result }
+{
+    let mut index = Buffer::new();
+    let mut line = Buffer::new();
+    let mut column = Buffer::new();
+    writer.put_all(&[
+        &[sign, b' '],
+        index.format(chunk.index).as_bytes(),
+        b" ",
+        seconds_text(chunk.due).as_bytes(),
+        b" ",
+        line.format(place.line).as_bytes(),
+        b" ",
+        column.format(place.column).as_bytes(),
+        b" ",
+    ])
+}
+
+/// Writes characters in UTF-8.
+fn put_chars<W: Write>(chars: &[char], writer: &mut Watched<W>) -> Result<(), Fault>
+    requires { has_failed writer.old ≡ false }
+    ensures { Puts W.contents writer.old writer.new (flat_map encode_utf8 chars.now) result }
+{
+    pieces_join::<W, char>();
+    for character in chars {
+        put_char(*character, writer)?;
+    }
+    Ok(())
+}
+
+/// Writes a character in UTF-8.
+fn put_char<W: Write>(character: char, writer: &mut Watched<W>) -> Result<(), Fault>
+    requires { has_failed writer.old ≡ false }
+    ensures { Puts W.contents writer.old writer.new (encode_utf8 character) result }
+{
+    let mut bytes = [0; 4];
+    writer.put(character.encode_utf8(&mut bytes).as_bytes())
+}

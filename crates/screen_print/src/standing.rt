@@ -1,0 +1,188 @@
+//! Where a text stands on a screen.
+
+ghost use Rattle.std.specs.Prelude.{◌≡◌, ◌+◌, ◌-◌, ◌*◌, ◌≤◌, ◌++◌, All, drop, length, ◌==◌};
+ghost use Rattle.std.specs.List.{suffix_len};
+ghost use Rattle.vt_screen.specs.Cells.{row_at};
+ghost use Rattle.vt_screen.specs.Picture.{margin_of};
+ghost use Rattle.screen_print.specs.FindLines.{begins, ends_line, found_rows, line_text_from, places_in, row_text, row_texts, rows_reaching, standing};
+ghost use Rattle.screen_print.specs.Places.{IsPlace};
+
+use crate::glyphs::character;
+use crate::still::Still;
+use arrayvec::ArrayVec;
+use vt_screen::Size;
+use vt_screen::limits::{LINES, NARROW_COLUMNS, WIDE_COLUMNS};
+
+/// How many cells a row has.
+const ROW: usize = WIDE_COLUMNS as usize;
+
+/// How many cells a screen has.
+pub(crate) const CELLS: usize = 3168;
+
+/// A line and a column of the screen.
+#[derive(Clone, Copy, Default, Debug, PartialEq, Eq)]
+pub struct Place {
+    pub line: u8,
+    pub column: u8,
+}
+
+/// Where a text stands, in reading order.
+pub(crate) fn standing(still: &Still, text: &[char]) -> ArrayVec<Place, CELLS>
+    ensures places { result.items ≡ standing text.now still.now }
+    ensures within { All (IsPlace still.now) result.items }
+{
+    still.sound();
+    let mut places = ArrayVec::new();
+    for line in 1..LINES + 1 {
+        push_places(still, text, line, &mut places);
+    }
+    places
+}
+
+/// Puts the places of one row behind others.
+fn push_places(still: &Still, text: &[char], line: u8, places: &mut ArrayVec<Place, CELLS>)
+    requires low { 1 ≤ line }
+    requires high { line ≤ LINES }
+    requires room { length places.old.items + 132 ≤ CELLS }
+    requires before { All (IsPlace still.now) places.old.items }
+    ensures places { places.new.items ≡ places.old.items
+        ++ places_in text.now line (line_text_from (drop (line - 1) (row_texts still.now)))
+        (length (row_text still.now.wide (row_at still.now.rows line))) }
+    ensures short { length places.new.items ≤ length places.old.items + 132 }
+    ensures after { All (IsPlace still.now) places.new.items }
+{
+    still.sound();
+    let columns = columns_of(still, line);
+    let line_text = line_text(still, line);
+    for column in 1..columns + 1 {
+        if begins(text, line_text.as_slice(), column) {
+            places.push(Place { line, column });
+        }
+    }
+}
+
+/// Whether a text begins in a line at a column of its first row.
+fn begins(text: &[char], line: &[char], column: u8) -> bool
+    requires low { 1 ≤ column }
+    requires high { column ≤ length line.now }
+    ensures { result ≡ begins text.now line.now column }
+{
+    line[column as usize - 1..].starts_with(text)
+}
+
+/// The line's text from a row on.
+fn line_text(still: &Still, line: u8) -> ArrayVec<char, CELLS>
+    requires low { 1 ≤ line }
+    requires high { line ≤ LINES }
+    ensures { result.items ≡ line_text_from (drop (line - 1) (row_texts still.now)) }
+{
+    still.sound();
+    let mut text = ArrayVec::new();
+    for at in line..LINES + 1 {
+        let row = row_text(still, at);
+        push_chars(&mut text, row.as_slice());
+        if ends_line(row.as_slice()) {
+            return text;
+        }
+    }
+    text
+}
+
+/// The rows of a found text of so many characters, from its first character's to its last one's, without
+/// the spaces at the end.
+pub(crate) fn found_rows(still: &Still, place: Place, len: usize) -> ArrayVec<char, CELLS>
+    requires { IsPlace still.now place }
+    ensures { result.items ≡ found_rows len still.now place }
+{
+    let least = len as u128 + u128::from(place.column) - 1;
+    let mut rows = rows_reaching(still, place.line, least);
+    rows.truncate(trimmed_len(rows.as_slice()));
+    rows
+}
+
+/// How many characters are left without the spaces at their end.
+fn trimmed_len(chars: &[char]) -> usize
+    ensures { result + suffix_len (λ c. c == 32) chars.now ≡ length chars.now }
+{
+    let mut len = chars.len();
+    while len > 0 && chars[len - 1] == ' ' {
+        len -= 1;
+    }
+    len
+}
+
+/// The rows from a line on that together have so many characters.
+fn rows_reaching(still: &Still, line: u8, least: u128) -> ArrayVec<char, CELLS>
+    requires low { 1 ≤ line }
+    requires high { line ≤ LINES }
+    ensures { result.items ≡ rows_reaching least (drop (line - 1) (row_texts still.now)) }
+{
+    still.sound();
+    let mut text = ArrayVec::new();
+    let mut least = least;
+    for at in line..LINES + 1 {
+        let row = row_text(still, at);
+        push_chars(&mut text, row.as_slice());
+        if least <= row.len() as u128 {
+            return text;
+        }
+        least -= row.len() as u128;
+    }
+    text
+}
+
+/// Whether a row ends its line.
+fn ends_line(row: &[char]) -> bool
+    requires { 1 ≤ length row.now }
+    ensures { result ≡ ends_line row.now }
+{
+    row[row.len() - 1] == ' '
+}
+
+fn push_chars(text: &mut ArrayVec<char, CELLS>, chars: &[char])
+    requires { length text.old.items + length chars.now ≤ CELLS }
+    ensures { text.new.items ≡ text.old.items ++ chars.now }
+{
+    let _ = text.try_extend_from_slice(chars);
+}
+
+/// The text of a row.
+pub(crate) fn row_text(still: &Still, line: u8) -> ArrayVec<char, ROW>
+    requires low { 1 ≤ line }
+    requires high { line ≤ LINES }
+    ensures text { result.items ≡ row_text still.now.wide (row_at still.now.rows line) }
+    ensures some { 1 ≤ length result.items }
+    ensures few { length result.items ≤ ROW }
+{
+    let row = still.row(line);
+    let margin = margin_of(still.is_wide(), row.size) as usize;
+    let mut text = ArrayVec::new();
+    for cell in &row.cells[..margin] {
+        text.push(character(cell.glyph));
+    }
+    text
+}
+
+/// How many characters a row has as text.
+fn columns_of(still: &Still, line: u8) -> u8
+    requires low { 1 ≤ line }
+    requires high { line ≤ LINES }
+    ensures columns { result ≡ length (row_text still.now.wide (row_at still.now.rows line)) }
+    ensures high { result ≤ WIDE_COLUMNS }
+{
+    margin_of(still.is_wide(), still.row(line).size)
+}
+
+/// The right margin of a row of a size.
+fn margin_of(wide: bool, size: Size) -> u8
+    ensures value { result ≡ margin_of wide size }
+    ensures low { 40 ≤ result }
+    ensures high { result ≤ WIDE_COLUMNS }
+{
+    let columns = if wide { WIDE_COLUMNS } else { NARROW_COLUMNS };
+    if size.is_single() {
+        columns
+    } else {
+        columns / 2
+    }
+}

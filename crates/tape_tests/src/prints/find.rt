@@ -1,0 +1,82 @@
+//! Find lines.
+
+use crate::once_more::read;
+use screen_print::find;
+use std::alloc::Global;
+use std::process::Abort;
+use std::rt::Runtime;
+use std::test::Fail;
+use tape_core::Watched;
+use tape_seek::Session;
+
+/// Chunks without delays, divided by bars, a text, and its find lines.
+const ROWS: [(&[u8], &str, &str); 9] = [
+    // The screen is erased.
+    (
+        b"ab\r\nab|\x1b[2J",
+        "ab",
+        "+ 0 0.000000 1 1 ab\n+ 0 0.000000 2 1 ab\n- 1 0.000000 1 1 ab\n- 1 0.000000 2 1 ab\n",
+    ),
+    // A line that scrolls stays.
+    (b"\x1b[24;1Herr|\r\n|x", "err", "+ 0 0.000000 24 1 err\n"),
+    // Text to the right changes nothing.
+    (b"er|r|or", "err", "+ 1 0.000000 1 1 err\n"),
+    // The second of two equal lines.
+    (
+        b"err|\r\nerr",
+        "err",
+        "+ 0 0.000000 1 1 err\n+ 1 0.000000 2 1 err\n",
+    ),
+    // A text runs on over the margin.
+    (
+        b"xxxxxxxxxxxxxxxxxxxxxxxxxxxxxxxxxxxxxxxxxxxxxxxxxxxxxxxxxxxxxxxxxxxxxxxxxxxxxxabc",
+        "abc",
+        "+ 0 0.000000 1 79 xxxxxxxxxxxxxxxxxxxxxxxxxxxxxxxxxxxxxxxxxxxxxxxxxxxxxxxxxxxxxxxxxxxxxxxxxxxxxxabc\n",
+    ),
+    // Overlapping places.
+    (b"aaa", "aa", "+ 0 0.000000 1 1 aaa\n+ 0 0.000000 1 2 aaa\n"),
+    // Line drawing.
+    (b"\x1b(0q", "\u{2500}", "+ 0 0.000000 1 1 \u{2500}\n"),
+    // Text that is written over.
+    (b"a|\rb", "a", "+ 0 0.000000 1 1 a\n- 1 0.000000 1 1 a\n"),
+    // A line that runs on scrolls.
+    (
+        b"xxxxxxxxxxxxxxxxxxxxxxxxxxxxxxxxxxxxxxxxxxxxxxxxxxxxxxxxxxxxxxxxxxxxxxxxxxxxxxxxerr|\x1b[24;1H\n",
+        "err",
+        "+ 0 0.000000 2 1 err\n",
+    ),
+];
+
+/// The find lines of chunks without delays.
+fn found(
+    rt: &(impl Runtime<A = Global> + Abort),
+    chunks: &[u8],
+    text: &str,
+) -> Result<Vec<u8>, Fail> {
+    let alloc = rt.alloc();
+    let mut script = vec![in alloc; b'\n']?;
+    let mut timing = String::new(alloc);
+    for chunk in chunks.split(|byte| *byte == b'|') {
+        script.extend_from_slice(chunk)?;
+        timing.push_str(format!(in alloc; "0 {}\n", chunk.len())?.as_str())?;
+    }
+    let recording = read(rt, script.as_slice(), timing.as_bytes())?;
+    let mut session = Session::open(alloc, recording, 1)?;
+    let mut characters = Vec::new(alloc);
+    for character in text.chars() {
+        characters.push(character)?;
+    }
+    let mut writer = Watched::new(Vec::new(alloc));
+    let answer = find(&mut session, None, 0, characters.as_slice(), &mut writer);
+    assert_eq!(rt; answer, Ok(()));
+    Ok(writer.into_inner())
+}
+
+#[test]
+fn tells_where_a_text_comes_and_goes(rt: HostRuntime) -> Result<(), Fail> {
+    for (chunks, text, lines) in &ROWS {
+        let got = found(&rt, chunks, text)?;
+        assert_eq!(&rt; got.as_slice(), lines.as_bytes(), "{text}");
+    }
+    Ok(())
+}
