@@ -30,8 +30,8 @@ lint:
 	tests/manual.py
 	tests/lint.sh
 
-# The scripts run the program that the gate has proved and built. The 1st and the 16th growth of each test of refused growths
-# are refused: the tests of seeks begin up to six growths late, so that the 16th is each of theirs in turn.
+# The scripts run the program that the gate has proved and built. Seeks grow the 6th to the 13th time, and their tests of
+# refused growths begin up to six growths late: with the 12th and the 13th refused each of them is refused in turn.
 test: lint
 	rt ci
 	mkdir -p bin
@@ -43,7 +43,7 @@ test: lint
 	tests/limits.py bin/typetool
 	tests/memory.py bin/typetool
 	tests/damage.py bin/typetool 500
-	tests/refused.py 1 16
+	tests/refused.py 1 12 13
 	tests/browser.py bin/typetool
 
 # The player of a page in Chromium, where there is one.
