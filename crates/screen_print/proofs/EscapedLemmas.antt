@@ -22,13 +22,16 @@ pen_after-append pen [] ys = refl
 pen_after-append pen (x ∷ xs) ys = pen_after-append (pen_of x) xs ys
 
 -- one cell more
-pub cells_text_more : (pen : Pen) (cells : List Cell) (n : ℕ) (d : Cell) → n < length cells → cells_text pen (take (n + 1) cells) ≡ cells_text pen (take n cells) ++ cell_text (pen_after pen (take n cells)) (get_or cells n d)
+pub cells_text_more : (pen : Pen) (cells : List Cell) (n : ℕ) (d : Cell) → n < length cells
+    → cells_text pen (take (n + 1) cells)
+    ≡ cells_text pen (take n cells) ++ cell_text (pen_after pen (take n cells)) (get_or cells n d)
 cells_text_more pen cells n d within =
     ap (cells_text pen) (take_more cells n d within)
     ∙ cells_text-append pen (take n cells) (get_or cells n d ∷ [])
     ∙ ap (λ t. cells_text pen (take n cells) ++ t) (append-nil (cell_text (pen_after pen (take n cells)) (get_or cells n d)))
 
-pub pen_after_more : (pen : Pen) (cells : List Cell) (n : ℕ) (d : Cell) → n < length cells → pen_after pen (take (n + 1) cells) ≡ pen_of (get_or cells n d)
+pub pen_after_more : (pen : Pen) (cells : List Cell) (n : ℕ) (d : Cell) → n < length cells
+    → pen_after pen (take (n + 1) cells) ≡ pen_of (get_or cells n d)
 pen_after_more pen cells n d within =
     ap (pen_after pen) (take_more cells n d within)
     ∙ pen_after-append pen (take n cells) (get_or cells n d ∷ [])
@@ -48,14 +51,17 @@ pub left_out_pen : (pen : Pen) (row : Row) → is_left_out row.size (inked row.c
 unfolding pen_after_line
 left_out_pen pen row out = ap (pen_after pen) (none_inked row.size (inked row.cells) out)
 
-pub written_text : (pen : Pen) (line : ℕ) (row : Row) → is_left_out row.size (inked row.cells) ≡ false → line_text pen line row ≡ placed_text line 1 ++ size_text row.size ++ cells_text pen (inked row.cells)
+pub written_text : (pen : Pen) (line : ℕ) (row : Row) → is_left_out row.size (inked row.cells) ≡ false
+    → line_text pen line row ≡ placed_text line 1 ++ size_text row.size ++ cells_text pen (inked row.cells)
 unfolding line_text
 written_text pen line row written = rw written refl
 
 -- ---- lines
 
 -- joined lines are written as their parts in turn
-pub lines_text-append : (pen : Pen) (line : ℕ) (xs ys : List Row) → lines_text pen line (xs ++ ys) ≡ lines_text pen line xs ++ lines_text (pen_after_lines pen xs) (line + length xs) ys
+pub lines_text-append : (pen : Pen) (line : ℕ) (xs ys : List Row)
+    → lines_text pen line (xs ++ ys)
+    ≡ lines_text pen line xs ++ lines_text (pen_after_lines pen xs) (line + length xs) ys
 unfolding lines_text pen_after_lines
 lines_text-append pen line [] ys = ap (λ n. lines_text pen n ys) (sym (add-zero line))
 lines_text-append pen line (x ∷ xs) ys =
@@ -84,7 +90,9 @@ taken_to rows line low high =
     ap (λ n. take n rows) (sym next) ∙ take_more rows (line - 1) blank_row before
 
 -- one line more
-pub lines_text_more : (pen : Pen) (rows : List Row) (line : ℕ) → 1 ≤ line → line ≤ length rows → lines_text pen 1 (take line rows) ≡ lines_text pen 1 (take (line - 1) rows) ++ line_text (pen_after_lines pen (take (line - 1) rows)) line (row_at rows line)
+pub lines_text_more : (pen : Pen) (rows : List Row) (line : ℕ) → 1 ≤ line → line ≤ length rows
+    → lines_text pen 1 (take line rows)
+    ≡ lines_text pen 1 (take (line - 1) rows) ++ line_text (pen_after_lines pen (take (line - 1) rows)) line (row_at rows line)
 lines_text_more pen rows line low high =
     let before : line - 1 ≤ length rows = omega arith in
     let number : 1 + length (take (line - 1) rows) ≡ line = ap (λ n. 1 + n) (length-take-le (line - 1) rows before) ∙ omega arith in
@@ -94,7 +102,9 @@ lines_text_more pen rows line low high =
     (one_line_text (pen_after_lines pen (take (line - 1) rows)) (1 + length (take (line - 1) rows)) (row_at rows line)
     ∙ ap (λ n. line_text (pen_after_lines pen (take (line - 1) rows)) n (row_at rows line)) number)
 
-pub pen_after_lines_more : (pen : Pen) (rows : List Row) (line : ℕ) → 1 ≤ line → line ≤ length rows → pen_after_lines pen (take line rows) ≡ pen_after_line (pen_after_lines pen (take (line - 1) rows)) (row_at rows line)
+pub pen_after_lines_more : (pen : Pen) (rows : List Row) (line : ℕ) → 1 ≤ line → line ≤ length rows
+    → pen_after_lines pen (take line rows)
+    ≡ pen_after_line (pen_after_lines pen (take (line - 1) rows)) (row_at rows line)
 pen_after_lines_more pen rows line low high =
     ap (pen_after_lines pen) (taken_to rows line low high)
     ∙ pen_after_lines-append pen (take (line - 1) rows) (row_at rows line ∷ [])

@@ -21,7 +21,8 @@ pub row_text_is : (wide : Bool) (row : Row) (margin n : ℕ) (chars : List ℕ) 
 row_text_is wide row margin n chars at whole same =
     same ∙ ap (map (λ cell. character cell.glyph)) (take_all n (take margin row.cells) whole) ∙ ap (λ m. map (λ cell. character cell.glyph) (take m row.cells)) at
 
-pub row_text_len : (wide : Bool) (row : Row) (margin : ℕ) → margin ≡ margin_of wide row.size → margin ≤ 132 → length row.cells ≡ 132 → length (row_text wide row) ≡ margin
+pub row_text_len : (wide : Bool) (row : Row) (margin : ℕ) → margin ≡ margin_of wide row.size → margin ≤ 132
+    → length row.cells ≡ 132 → length (row_text wide row) ≡ margin
 row_text_len wide row margin at high whole =
     length-map (take (margin_of wide row.size) row.cells) (λ cell. character cell.glyph)
     ∙ length-take-le (margin_of wide row.size) row.cells (omega (arith, at)) ∙ sym at
@@ -85,7 +86,8 @@ places_row text still line whole low high = rw (texts_at still line whole low hi
 here_again : (still : Still) (at : ℕ) → drop (at + 1 - 1) (row_texts still) ≡ drop at (row_texts still)
 here_again still at = ap (λ n. drop n (row_texts still)) (omega arith)
 
-pub joined_more : (still : Still) (at : ℕ) (text row whole : List ℕ) → length still.rows ≡ 24 → 1 ≤ at → at ≤ 24 → row ≡ row_text still.wide (row_at still.rows at) → ends_line row ≡ false
+pub joined_more : (still : Still) (at : ℕ) (text row whole : List ℕ) → length still.rows ≡ 24 → 1 ≤ at → at ≤ 24
+    → row ≡ row_text still.wide (row_at still.rows at) → ends_line row ≡ false
     → text ++ line_text_from (drop (at - 1) (row_texts still)) ≡ whole → (text ++ row) ++ line_text_from (drop (at + 1 - 1) (row_texts still)) ≡ whole
 joined_more still at text row whole rows low high is goes before =
     append_assoc text row (line_text_from (drop (at + 1 - 1) (row_texts still)))
@@ -95,7 +97,8 @@ joined_more still at text row whole rows low high is goes before =
     ∙ ap line_text_from (sym (texts_at still at rows low high)))
     ∙ before
 
-pub joined_end : (still : Still) (at : ℕ) (text row whole : List ℕ) → length still.rows ≡ 24 → 1 ≤ at → at ≤ 24 → row ≡ row_text still.wide (row_at still.rows at) → ends_line row ≡ true
+pub joined_end : (still : Still) (at : ℕ) (text row whole : List ℕ) → length still.rows ≡ 24 → 1 ≤ at → at ≤ 24
+    → row ≡ row_text still.wide (row_at still.rows at) → ends_line row ≡ true
     → text ++ line_text_from (drop (at - 1) (row_texts still)) ≡ whole → text ++ row ≡ whole
 joined_end still at text row whole rows low high is ends before =
     ap (λ t. text ++ t) (line_ends row (drop at (row_texts still)) ends
@@ -114,11 +117,13 @@ enough : (n : ℕ) (row : List ℕ) (rows : List (List ℕ)) → nat_le n (lengt
 unfolding rows_reaching
 enough n row rows ends = rw ends (sym (append-nil row))
 
-too_few : (n : ℕ) (row : List ℕ) (rows : List (List ℕ)) → nat_le n (length row) ≡ false → row ++ rows_reaching (n - length row) rows ≡ rows_reaching n (row ∷ rows)
+too_few : (n : ℕ) (row : List ℕ) (rows : List (List ℕ)) → nat_le n (length row) ≡ false
+    → row ++ rows_reaching (n - length row) rows ≡ rows_reaching n (row ∷ rows)
 unfolding rows_reaching
 too_few n row rows goes = rw goes refl
 
-pub reaching_more : (still : Still) (at n : ℕ) (text row whole : List ℕ) → length still.rows ≡ 24 → 1 ≤ at → at ≤ 24 → row ≡ row_text still.wide (row_at still.rows at) → length row < n
+pub reaching_more : (still : Still) (at n : ℕ) (text row whole : List ℕ) → length still.rows ≡ 24 → 1 ≤ at → at ≤ 24
+    → row ≡ row_text still.wide (row_at still.rows at) → length row < n
     → text ++ rows_reaching n (drop (at - 1) (row_texts still)) ≡ whole → (text ++ row) ++ rows_reaching (n - length row) (drop (at + 1 - 1) (row_texts still)) ≡ whole
 reaching_more still at n text row whole rows low high is goes before =
     append_assoc text row (rows_reaching (n - length row) (drop (at + 1 - 1) (row_texts still)))
@@ -128,7 +133,8 @@ reaching_more still at n text row whole rows low high is goes before =
     ∙ ap (rows_reaching n) (sym (texts_at still at rows low high)))
     ∙ before
 
-pub reaching_end : (still : Still) (at n : ℕ) (text row whole : List ℕ) → length still.rows ≡ 24 → 1 ≤ at → at ≤ 24 → row ≡ row_text still.wide (row_at still.rows at) → n ≤ length row
+pub reaching_end : (still : Still) (at n : ℕ) (text row whole : List ℕ) → length still.rows ≡ 24 → 1 ≤ at → at ≤ 24
+    → row ≡ row_text still.wide (row_at still.rows at) → n ≤ length row
     → text ++ rows_reaching n (drop (at - 1) (row_texts still)) ≡ whole → text ++ row ≡ whole
 reaching_end still at n text row whole rows low high is ends before =
     ap (λ t. text ++ t) (enough n row (drop at (row_texts still)) (le-leb n (length row) ends)
@@ -160,13 +166,15 @@ unfolding places_from
 standing_all text still line places rows high before =
     sym (append-nil places) ∙ ap (λ t. places ++ places_from text line t) (sym (no_texts still (line - 1) rows (omega arith))) ∙ before
 
-pub columns_fit : (still : Still) (line : ℕ) → length still.rows ≡ 24 → 1 ≤ line → line ≤ 24 → length (row_text still.wide (row_at still.rows line)) ≤ length (line_text_from (drop (line - 1) (row_texts still)))
+pub columns_fit : (still : Still) (line : ℕ) → length still.rows ≡ 24 → 1 ≤ line → line ≤ 24
+    → length (row_text still.wide (row_at still.rows line)) ≤ length (line_text_from (drop (line - 1) (row_texts still)))
 columns_fit still line rows low high =
     subst (λ l. length (row_text still.wide (row_at still.rows line)) ≤ length (line_text_from l)) (sym (texts_at still line rows low high))
     (row_fits (row_text still.wide (row_at still.rows line)) (drop line (row_texts still)))
 
 -- places, a column more
-pub placed_step : (text : List ℕ) (line : ℕ) (lines : List ℕ) (column : ℕ) (here : Bool) (old before new : List Place) → 1 ≤ column → here ≡ begins text lines column
+pub placed_step : (text : List ℕ) (line : ℕ) (lines : List ℕ) (column : ℕ) (here : Bool) (old before new : List Place)
+    → 1 ≤ column → here ≡ begins text lines column
     → before ≡ old ++ places_in text line lines (column - 1) → new ≡ before ++ cond here (place_in line column ∷ []) [] → new ≡ old ++ places_in text line lines (column + 1 - 1)
 placed_step text line lines column here old before new low is so_far more =
     let same : column ≡ column + 1 - 1 = omega arith in
@@ -182,6 +190,7 @@ first_more f n = one_more f 0 n ∙ ap (λ k. texts_from f 0 n ++ f k) (omega ar
 pub first_cut : (f : ℕ → List ℕ) (n all : ℕ) → n < all → texts_from f 0 all ≡ (texts_from f 0 n ++ f n) ++ texts_from f (0 + (n + 1)) (all - (n + 1))
 first_cut f n all lt = texts_around f 0 n all lt ∙ ap (λ k. (texts_from f 0 n ++ f k) ++ texts_from f (0 + (n + 1)) (all - (n + 1))) (omega arith)
 
-pub place_alone : (still : Still) (place : Place) → IsPlace still place → (k : ℕ) (d : Place) → k < length (place ∷ []) → IsPlace still (get_or (place ∷ []) k d)
+pub place_alone : (still : Still) (place : Place) → IsPlace still place → (k : ℕ) (d : Place)
+    → k < length (place ∷ []) → IsPlace still (get_or (place ∷ []) k d)
 place_alone still place is zero d lt = is
 place_alone still place is (suc k) d lt = absurd (omega arith)

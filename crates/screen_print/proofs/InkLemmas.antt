@@ -34,7 +34,8 @@ module _ {X : Type 0} (p : X → Bool) (xs : List X) (d : X) where
       ]
 
   -- a tail that passes is no longer than the longest
-  tail_is_longest_to : (n : ℕ) → n ≤ length xs → (from : ℕ) → ((k : ℕ) → from ≤ k → k < n → p (get_or xs k d) ≡ true) → n - suffix_len p (take n xs) ≤ from
+  tail_is_longest_to : (n : ℕ) → n ≤ length xs → (from : ℕ) → ((k : ℕ) → from ≤ k → k < n → p (get_or xs k d) ≡ true)
+      → n - suffix_len p (take n xs) ≤ from
   tail_is_longest_to zero within from all = omega arith
   tail_is_longest_to (suc n) within from all =
       let at_last : n ≡ suc n - 1 = omega arith in
@@ -78,7 +79,8 @@ blank_past_ink row full column past within =
     cell_is row column ∙ (same_cell_decides (get_or row.cells (column - 1) blank) blank).0 passes
 
 -- .. and where all cells right of a column are blank, there are no more than that
-pub ink_within : (row : Row) → length row.cells ≡ 132 → (margin : ℕ) → ((column : ℕ) → margin < column → cell_at row column ≡ blank) → ink row ≤ margin
+pub ink_within : (row : Row) → length row.cells ≡ 132 → (margin : ℕ)
+    → ((column : ℕ) → margin < column → cell_at row column ≡ blank) → ink row ≤ margin
 ink_within row full margin right =
     tail_is_longest is_blank row.cells blank margin
     (λ k low high. ap is_blank (sym (cell_next row k) ∙ right (k + 1) (omega arith)))

@@ -10,7 +10,10 @@ use Rattle.vt_screen.specs.Table.{nth}
 use Rattle.screen_print.specs.PlainText.{printed, is_space, printed_line, plain_text}
 
 -- what is printed of a line: all the cells that are left without the spaces at its end
-pub printed_line_is : (wide : Bool) (row : Row) (margin len n : ℕ) (bytes : List ℕ) → margin ≡ margin_of wide row.size → len + suffix_len is_space (take margin row.cells) ≡ length (take margin row.cells) → length (take len (take margin row.cells)) ≤ n → bytes ≡ flat_map printed (take n (take len (take margin row.cells))) → bytes ++ 10 ∷ [] ≡ printed_line wide row
+pub printed_line_is : (wide : Bool) (row : Row) (margin len n : ℕ) (bytes : List ℕ) → margin ≡ margin_of wide row.size
+    → len + suffix_len is_space (take margin row.cells) ≡ length (take margin row.cells)
+    → length (take len (take margin row.cells)) ≤ n
+    → bytes ≡ flat_map printed (take n (take len (take margin row.cells))) → bytes ++ 10 ∷ [] ≡ printed_line wide row
 unfolding printed_line
 printed_line_is wide row margin len n bytes at_margin left whole same =
     let shorter : len ≡ length (take margin row.cells) - suffix_len is_space (take margin row.cells) = omega arith in
@@ -22,7 +25,8 @@ abbrev pub first_lines : Picture → ℕ → List ℕ
 first_lines p n = flat_map (printed_line p.wide) (take n p.rows)
 
 -- one line more
-pub first_lines_more : (p : Picture) (line : ℕ) → length p.rows ≡ 24 → 1 ≤ line → line ≤ 24 → first_lines p line ≡ first_lines p (line - 1) ++ printed_line p.wide (row_at p.rows line)
+pub first_lines_more : (p : Picture) (line : ℕ) → length p.rows ≡ 24 → 1 ≤ line → line ≤ 24
+    → first_lines p line ≡ first_lines p (line - 1) ++ printed_line p.wide (row_at p.rows line)
 unfolding nth
 first_lines_more p line whole low high =
     let before : line - 1 < length p.rows = omega arith in

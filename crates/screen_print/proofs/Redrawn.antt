@@ -60,7 +60,8 @@ pub record LawsBelow : Type 0 where
   pub all_drawn : (rows : List Row) → length rows ≡ 24 → rows_to 24 rows ≡ rows
   pub to_place : (line column : ℕ) (p : Picture) → line ≤ 24 → column ≤ right_margin p line
       → placed line column false p ≡ record p { line = line; column = column; wrap = false }
-  pub single_begun : (line : ℕ) (rows : List Row) → 1 ≤ line → line ≤ 24 → (row_at rows line).size ≡ Single → rows_to (line - 1) rows ≡ drawn_to line 0 rows
+  pub single_begun : (line : ℕ) (rows : List Row) → 1 ≤ line → line ≤ 24 → (row_at rows line).size ≡ Single
+      → rows_to (line - 1) rows ≡ drawn_to line 0 rows
   pub size_begun : (p : Picture) (rows : List Row) → 1 ≤ p.line → p.line ≤ 24 → p.column ≡ 1 → p.rows ≡ rows_to (p.line - 1) rows
       → size_set (row_at rows p.line).size p ≡ record p { rows = drawn_to p.line 0 rows; wrap = false }
   pub cell_drawn : (p : Picture) (rows : List Row) → 1 ≤ p.line → p.line ≤ 24 → 1 ≤ p.column
@@ -154,9 +155,12 @@ sets_rendition a = sets_by a.bold a.underscore a.blink a.reverse
 -- the byte is a graphic character, and stands for the glyph where its slot is invoked
 record ShowsGlyph (glyph byte : ℕ) (slot : Slot) : Type 0 where
   graphic : is_graphic byte ≡ true
-  glyph_is : (graphics : Bool) → glyph_of (set_in slot (record { g0 = Ascii; g1 = SpecialGraphics; invoked = slot; vt52_graphics = graphics })) byte ≡ glyph
+  glyph_is : (graphics : Bool)
+      → glyph_of (set_in slot (record { g0 = Ascii; g1 = SpecialGraphics; invoked = slot; vt52_graphics = graphics })) byte
+      ≡ glyph
 
-shows_by : (glyph : ℕ) (low : Bool) → nat_lt glyph 32 ≡ low → glyph ≤ 126 → ShowsGlyph glyph (if low then 95 + glyph else glyph) (if low then G1 else G0)
+shows_by : (glyph : ℕ) (low : Bool) → nat_lt glyph 32 ≡ low → glyph ≤ 126
+    → ShowsGlyph glyph (if low then 95 + glyph else glyph) (if low then G1 else G0)
 shows_by glyph true is small = record { graphic = grind (arith, nat_tests); glyph_is = λ graphics. grind (arith, nat_tests) }
 shows_by glyph false is small = record { graphic = grind (arith, nat_tests); glyph_is = λ graphics. refl }
 
@@ -276,7 +280,8 @@ module _ (laws : LawsBelow) (c : Console) where
         (cells_text pen (take n (row_at rows line).cells))
         (drawing c (drawn_to line n rows) line (min (n + 1) margin) (pen_after pen (take n (row_at rows line).cells)))
 
-    one_cell_more : (pen : Pen) (n : ℕ) → n + 1 ≤ margin → n < length (row_at rows line).cells → (cell_at (row_at rows line) (n + 1)).glyph ≤ 126 → CellsBring pen n → CellsBring pen (n + 1)
+    one_cell_more : (pen : Pen) (n : ℕ) → n + 1 ≤ margin → n < length (row_at rows line).cells
+        → (cell_at (row_at rows line) (n + 1)).glyph ≤ 126 → CellsBring pen n → CellsBring pen (n + 1)
     one_cell_more pen n within inside small before =
         let cells = (row_at rows line).cells in
         let cell = cell_at (row_at rows line) (n + 1) in

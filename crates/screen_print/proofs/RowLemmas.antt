@@ -31,7 +31,9 @@ size_again Double = refl
 size_again Top = refl
 size_again Bottom = refl
 
-attributes_again : (bold underscore blink reverse : Bool) → attributes_of (byte_of (record { bold = bold; underscore = underscore; blink = blink; reverse = reverse })) ≡ record { bold = bold; underscore = underscore; blink = blink; reverse = reverse }
+attributes_again : (bold underscore blink reverse : Bool)
+    → attributes_of (byte_of (record { bold = bold; underscore = underscore; blink = blink; reverse = reverse }))
+    ≡ record { bold = bold; underscore = underscore; blink = blink; reverse = reverse }
 attributes_again true true true true = refl
 attributes_again true true true false = refl
 attributes_again true true false true = refl
@@ -156,7 +158,8 @@ row_next : (rows : List Row) (k : ℕ) → row_at rows (k + 1) ≡ get_or rows k
 row_next rows k = nth_is rows (k + 1) ∙ ap (λ (i : ℕ). get_or rows i blank_row) (omega arith)
 
 -- rows that are the same line by line
-pub rows_by_line : (rows these : List Row) → length rows ≡ 24 → length these ≡ 24 → ((line : ℕ) → 1 ≤ line → line ≤ 24 → row_at rows line ≡ row_at these line) → rows ≡ these
+pub rows_by_line : (rows these : List Row) → length rows ≡ 24 → length these ≡ 24
+    → ((line : ℕ) → 1 ≤ line → line ≤ 24 → row_at rows line ≡ row_at these line) → rows ≡ these
 rows_by_line rows these whole whole' same =
     fill_by_all (λ k. get_or these k blank_row) rows 24 blank_row whole
     (λ k lt. sym (row_next rows k) ∙ same (k + 1) (omega arith) (omega arith) ∙ row_next these k)

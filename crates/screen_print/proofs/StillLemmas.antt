@@ -34,7 +34,8 @@ blank_behind : (row : Row) (k : ℕ) → SoundRow false row → 80 ≤ k → get
 blank_behind row k sound high = sym (cell_is row k) ∙ sound.blank_right (k + 1) (omega (arith, margin_low row.size))
 
 -- cells of which the first 80 are the same
-same_front : (one other : Row) (k : ℕ) → SoundRow false one → SoundRow false other → take 80 one.cells ≡ take 80 other.cells → get_or one.cells k blank ≡ get_or other.cells k blank
+same_front : (one other : Row) (k : ℕ) → SoundRow false one → SoundRow false other
+    → take 80 one.cells ≡ take 80 other.cells → get_or one.cells k blank ≡ get_or other.cells k blank
 same_front one other k sound sound' same = elim (cases_lt k 80) [
   | inl lt ↦ sym (get_or-take 80 one.cells k blank lt) ∙ ap (λ (l : List Cell). get_or l k blank) same ∙ get_or-take 80 other.cells k blank lt
   | inr ge ↦ blank_behind one k sound ge ∙ sym (blank_behind other k sound' ge)
@@ -111,7 +112,8 @@ differs_or_same before after k low high =
     (λ fails. (same_row_decides (row_at before k) (row_at after k)).0 (not-false (same_row (row_at before k) (row_at after k)) fails))
 
 -- a row more is copied
-pub copied_more : (rows other : List Row) (lines : List ℕ) (i line k : ℕ) (row : Row) → i < length lines → line ≡ get_or lines i line → 1 ≤ line → line ≤ length rows → 1 ≤ k
+pub copied_more : (rows other : List Row) (lines : List ℕ) (i line k : ℕ) (row : Row) → i < length lines
+    → line ≡ get_or lines i line → 1 ≤ line → line ≤ length rows → 1 ≤ k
     → row ≡ row_at other line → IsIn (drop i lines) k (row_at rows k ≡ row_at other k) → IsIn (drop (i + 1) lines) k (row_at (set rows (line - 1) row) k ≡ row_at other k)
 copied_more rows other lines i line k row lt is low high here same before =
     let cut : drop i lines ≡ line ∷ drop (i + 1) lines = drop_more lines i line lt ∙ ap (λ x. x ∷ drop (i + 1) lines) (sym is) in

@@ -72,7 +72,9 @@ range_split a (suc m) n =
     let there : a + 1 + m ≡ a + suc m = omega arith in
     ap (range_with_len a) longer ∙ ap (λ l. a ∷ l) (range_split (a + 1) m n ∙ ap (λ b. range_with_len (a + 1) m ++ range_with_len b n) there)
 
-pub texts_around : (f : ℕ → List ℕ) (start n all : ℕ) → n < all → texts_from f start all ≡ (texts_from f start n ++ f (start + n)) ++ texts_from f (start + (n + 1)) (all - (n + 1))
+pub texts_around : (f : ℕ → List ℕ) (start n all : ℕ) → n < all
+    → texts_from f start all
+    ≡ (texts_from f start n ++ f (start + n)) ++ texts_from f (start + (n + 1)) (all - (n + 1))
 texts_around f start n all within =
     let parts : n + 1 + (all - (n + 1)) ≡ all = omega arith in
     ap (texts_from f start) (sym parts)
@@ -100,7 +102,8 @@ texts_cut f start end index here low high is =
     ∙ ap (λ l. (texts_from f start n ++ l) ++ texts_from f (start + (n + 1)) (end - start - (n + 1))) (sym (is ∙ ap f (sym at)))
 
 -- memory refused before the text of a chunk
-pub began_before : {T : Type 0} {contents : T → Option (List ℕ)} {a b : Watched T} (f : ℕ → List ℕ) (start end index : ℕ) → start ≤ index → index < end
+pub began_before : {T : Type 0} {contents : T → Option (List ℕ)} {a b : Watched T} (f : ℕ → List ℕ) (start end index : ℕ)
+    → start ≤ index → index < end
     → Took contents a b (texts_from f start (index - start)) → TookPart contents a b (texts_from f start (end - start)) false
 began_before f start end index low high before =
     let n = index - start in
@@ -115,7 +118,8 @@ began_before f start end index low high before =
     }
 
 -- what is written of a chunk is its text
-pub text_is : (text : ChunkText) (profile plays : Profile) (tape once : Tape) (index due : ℕ) (before after : Still) → plays ≡ profile → once ≡ tape → due ≡ due_time tape.chunks index → before ≡ still_after profile tape index
+pub text_is : (text : ChunkText) (profile plays : Profile) (tape once : Tape) (index due : ℕ) (before after : Still)
+    → plays ≡ profile → once ≡ tape → due ≡ due_time tape.chunks index → before ≡ still_after profile tape index
     → after ≡ still_after plays once (index + 1) → text index due before after ≡ text_at text profile tape index
 text_is text profile plays tape once index due before after same_profile same on is next =
     ap (λ d. text index d before after) on
@@ -135,7 +139,8 @@ all_in p a zero h = refl
 all_in p a (suc n) h = rw (h a (omega arith) (omega arith)) (ap (λ l. a ∷ l) (all_in p (a + 1) n (λ i low high. h i (omega arith) (omega arith))))
 
 -- those that pass lie between two places
-passing_between : (p : ℕ → Bool) (start end n : ℕ) → start ≤ end → end ≤ n → ((i : ℕ) → i < start → p i ≡ false) → ((i : ℕ) → start ≤ i → i < end → p i ≡ true) → ((i : ℕ) → end ≤ i → i < n → p i ≡ false)
+passing_between : (p : ℕ → Bool) (start end n : ℕ) → start ≤ end → end ≤ n → ((i : ℕ) → i < start → p i ≡ false)
+    → ((i : ℕ) → start ≤ i → i < end → p i ≡ true) → ((i : ℕ) → end ≤ i → i < n → p i ≡ false)
     → filter p (range_with_len 0 n) ≡ range_with_len start (end - start)
 passing_between p start end n low high before inside past =
     let parts : start + ((end - start) + (n - end)) ≡ n = omega arith in
@@ -165,13 +170,15 @@ late : (from : Option ℕ) (to due : ℕ) → to < due → is_asked from to due 
 late None to due h = lt-leb due to h
 late (Some from) to due h = both_false (nat_lt from due) (nat_le due to) (lt-leb due to h)
 
-early : DueIsBelowTheCount → (chunks : List Chunk) (from : Option ℕ) (to i : ℕ) → i < length chunks → i < first_asked chunks from → is_asked from to (due_time chunks i) ≡ false
+early : DueIsBelowTheCount → (chunks : List Chunk) (from : Option ℕ) (to i : ℕ) → i < length chunks
+    → i < first_asked chunks from → is_asked from to (due_time chunks i) ≡ false
 early law chunks None to i within h = absurd (omega arith)
 early law chunks (Some from) to i within h =
     let due : due_time chunks i ≤ from = (law chunks from i within).1 h in
     rw (le-ltb from (due_time chunks i) due) refl
 
-asked : DueIsBelowTheCount → (chunks : List Chunk) (from : Option ℕ) (to i : ℕ) → i < length chunks → first_asked chunks from ≤ i → i < due_count chunks to → is_asked from to (due_time chunks i) ≡ true
+asked : DueIsBelowTheCount → (chunks : List Chunk) (from : Option ℕ) (to i : ℕ) → i < length chunks
+    → first_asked chunks from ≤ i → i < due_count chunks to → is_asked from to (due_time chunks i) ≡ true
 asked law chunks None to i within low h = le-leb (due_time chunks i) to ((law chunks to i within).1 h)
 asked law chunks (Some from) to i within low h =
     both_true (nat_lt from (due_time chunks i)) (nat_le (due_time chunks i) to)
@@ -181,7 +188,8 @@ asked law chunks (Some from) to i within low h =
     ])
     (le-leb (due_time chunks i) to ((law chunks to i within).1 h))
 
-past_due : DueIsBelowTheCount → (chunks : List Chunk) (from : Option ℕ) (to i : ℕ) → i < length chunks → due_count chunks to ≤ i → is_asked from to (due_time chunks i) ≡ false
+past_due : DueIsBelowTheCount → (chunks : List Chunk) (from : Option ℕ) (to i : ℕ) → i < length chunks
+    → due_count chunks to ≤ i → is_asked from to (due_time chunks i) ≡ false
 past_due law chunks from to i within h =
     late from to (due_time chunks i)
     (elim (cases_lt to (due_time chunks i)) [
@@ -190,7 +198,8 @@ past_due law chunks from to i within h =
     ])
 
 -- the chunks that are asked for, where there are some
-pub asked_some : DueIsBelowTheCount → (text : ChunkText) (profile : Profile) (tape : Tape) (from : Option ℕ) (to : ℕ) → first_asked tape.chunks from ≤ due_count tape.chunks to → due_count tape.chunks to ≤ length tape.chunks
+pub asked_some : DueIsBelowTheCount → (text : ChunkText) (profile : Profile) (tape : Tape) (from : Option ℕ) (to : ℕ)
+    → first_asked tape.chunks from ≤ due_count tape.chunks to → due_count tape.chunks to ≤ length tape.chunks
     → walk_text text profile tape from to ≡ texts_from (text_at text profile tape) (first_asked tape.chunks from) (due_count tape.chunks to - first_asked tape.chunks from)
 unfolding walk_text
 asked_some law text profile tape from to some within =
@@ -199,14 +208,17 @@ asked_some law text profile tape from to some within =
     (λ i low high. asked law tape.chunks from to i (omega arith) low high)
     (λ i low high. past_due law tape.chunks from to i high low))
 
-pub asked_from : DueIsBelowTheCount → (text : ChunkText) (profile : Profile) (tape : Tape) (from : Option ℕ) (to start end : ℕ) → start ≡ first_asked tape.chunks from → end ≡ due_count tape.chunks to → start ≤ end → end ≤ length tape.chunks
+pub asked_from : DueIsBelowTheCount
+    → (text : ChunkText) (profile : Profile) (tape : Tape) (from : Option ℕ) (to start end : ℕ)
+    → start ≡ first_asked tape.chunks from → end ≡ due_count tape.chunks to → start ≤ end → end ≤ length tape.chunks
     → texts_from (text_at text profile tape) start (end - start) ≡ walk_text text profile tape from to
 asked_from law text profile tape from to start end low high some within =
     ap (λ s. texts_from (text_at text profile tape) s (end - s)) low ∙ ap (λ e. texts_from (text_at text profile tape) (first_asked tape.chunks from) (e - first_asked tape.chunks from)) high
     ∙ sym (asked_some law text profile tape from to (omega (arith, low, high)) (omega (arith, high)))
 
 -- and where there is none
-pub asked_none : DueIsBelowTheCount → (text : ChunkText) (profile : Profile) (tape : Tape) (from : Option ℕ) (to : ℕ) → due_count tape.chunks to ≤ first_asked tape.chunks from → walk_text text profile tape from to ≡ []
+pub asked_none : DueIsBelowTheCount → (text : ChunkText) (profile : Profile) (tape : Tape) (from : Option ℕ) (to : ℕ)
+    → due_count tape.chunks to ≤ first_asked tape.chunks from → walk_text text profile tape from to ≡ []
 unfolding walk_text
 asked_none law text profile tape from to none =
     ap (flat_map (text_at text profile tape)) (none_in (λ i. is_asked from to (due_time tape.chunks i)) 0 (length tape.chunks)

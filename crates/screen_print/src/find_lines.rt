@@ -154,8 +154,8 @@ fn put_less<W: Write>(
     requires there { All (IsPlace other.now.still.now) other.now.places.now }
     requires sound { has_failed writer.old ≡ false }
     ensures { Puts W.contents writer.old writer.new
-        (less_lines sign chunk.now.index chunk.now.due chunk.now.len one.now.still.now one.now.places.now
-        other.now.still.now other.now.places.now) result }
+        (less_lines sign chunk.now.index chunk.now.due chunk.now.len
+        one.now.still.now one.now.places.now other.now.still.now other.now.places.now) result }
 {
     writers_join::<W>();
     for at in 0..one.places.len() {
@@ -178,8 +178,8 @@ fn put_if_less<W: Write>(
     requires there { All (IsPlace other.now.still.now) other.now.places.now }
     requires sound { has_failed writer.old ≡ false }
     ensures { Puts W.contents writer.old writer.new
-        (less_line sign chunk.now.index chunk.now.due chunk.now.len one.now.still.now one.now.places.now
-        other.now.still.now other.now.places.now at) result }
+        (less_line sign chunk.now.index chunk.now.due chunk.now.len
+        one.now.still.now one.now.places.now other.now.still.now other.now.places.now at) result }
 {
     writers_join::<W>();
     if is_less(one, at, other) {

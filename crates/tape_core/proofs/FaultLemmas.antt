@@ -57,7 +57,9 @@ parts first (second ∷ more ∷ rest) e d n = absurd (cc)
 -- a faulty line has the fault told
 module _ (text first : List ℕ) (rest : List (List ℕ)) (fault : EntryFault) (are : fields text ≡ first ∷ rest) where
   large_or_long : (delay count : ℕ) (s t : Bool) → nat_lt longest_delay delay ≡ s → nat_lt longest_chunk count ≡ t → TimingLine text delay count
-      → cond {A = Result (Option Entry) EntryFault} s (Err line.DelayTooLarge) (cond t (Err line.ChunkTooLong) (Ok (Some (record { delay = delay; count = count })))) ≡ Err fault
+      → cond {A = Result (Option Entry) EntryFault} s (Err line.DelayTooLarge)
+      (cond t (Err line.ChunkTooLong) (Ok (Some (record { delay = delay; count = count }))))
+      ≡ Err fault
       → IsFaulty text fault
   large_or_long delay count true t large long l h =
       let same : line.DelayTooLarge ≡ fault = cc in

@@ -18,7 +18,8 @@ use Rattle.tape_seek.specs.Requests.{bytes_of, pairs_of}
 same_digits : (c : ℕ) → is_ascii_hexdigit c ≡ is_hex_digit c
 same_digits c = grind (arith, nat_tests)
 
-decodes : (text : List ℕ) (r : Result (List ℕ) FromHexError) → decode_of text ≡ r → (t : Bool) → list_all is_ascii_hexdigit text ≡ t → length text % 2 ≡ 0 → t ≡ is_some (result_ok r)
+decodes : (text : List ℕ) (r : Result (List ℕ) FromHexError) → decode_of text ≡ r → (t : Bool)
+    → list_all is_ascii_hexdigit text ≡ t → length text % 2 ≡ 0 → t ≡ is_some (result_ok r)
 decodes text (Ok bytes) is true all even = refl
 decodes text (Err e) is true all even =
     let digits : AllPass is_hex_digit text = λ k d lt. sym (same_digits (get_or text k d)) ∙ AllPass-from_list_all is_ascii_hexdigit text all k d lt in
@@ -35,18 +36,22 @@ pub pairs_test : (text : List ℕ) → 0 < length text → length text % 2 ≡ 0
 pairs_test text some even =
     rw (lt-ltb 0 (length text) some) (decodes text (decode_of text) refl (list_all is_ascii_hexdigit text) refl even)
 
-some_bytes : (text : List ℕ) (r : Result (List ℕ) FromHexError) → decode_of text ≡ r → is_some (result_ok r) ≡ true → 0 < length text → IsSomeAnd (result_ok r) (λ bytes. bytes ≢ [])
+some_bytes : (text : List ℕ) (r : Result (List ℕ) FromHexError) → decode_of text ≡ r → is_some (result_ok r) ≡ true
+    → 0 < length text → IsSomeAnd (result_ok r) (λ bytes. bytes ≢ [])
 some_bytes text (Ok bytes) is some long =
     let ok = decode_of-ok text bytes is in
     λ none. let short : length bytes ≡ 0 = ap length none in absurd (omega (arith, ok.2, short))
 some_bytes text (Err e) is some long = absurd (false≢true some)
 
-pairs_case : (text : List ℕ) (t : Bool) → nat_lt 0 (length text) ≡ t → is_some (cond t (result_ok (decode_of text)) None) ≡ true → IsSomeAnd (cond t (result_ok (decode_of text)) None) (λ bytes. bytes ≢ [])
+pairs_case : (text : List ℕ) (t : Bool) → nat_lt 0 (length text) ≡ t
+    → is_some (cond t (result_ok (decode_of text)) None) ≡ true
+    → IsSomeAnd (cond t (result_ok (decode_of text)) None) (λ bytes. bytes ≢ [])
 pairs_case text true long some = some_bytes text (decode_of text) refl some (ltb-true 0 (length text) long)
 pairs_case text false long some = absurd (false≢true some)
 
 -- digits that are bytes are at least one byte
-pub pairs_some : (text : List ℕ) → bytes_eq text (codes "-") ≡ false → is_some (pairs_of text) ≡ true → IsSomeAnd (bytes_of text) (λ bytes. bytes ≢ [])
+pub pairs_some : (text : List ℕ) → bytes_eq text (codes "-") ≡ false → is_some (pairs_of text) ≡ true
+    → IsSomeAnd (bytes_of text) (λ bytes. bytes ≢ [])
 pairs_some text other some = rw other (pairs_case text (nat_lt 0 (length text)) refl some)
 
 encode-append : (digits first second : List ℕ) → encode_with digits (first ++ second) ≡ encode_with digits first ++ encode_with digits second
@@ -61,12 +66,15 @@ pub record HexBefore {O : Type 0} (contents : O → Option (List ℕ)) (old new 
   pub took : Took contents old new (encode_lower gone)
 
 -- before the first piece
-pub hex_none : {O : Type 0} (contents : O → Option (List ℕ)) (out : Watched O) (bytes rest : List ℕ) → rest ≡ bytes → Took contents out out [] → HexBefore contents out out bytes rest
+pub hex_none : {O : Type 0} (contents : O → Option (List ℕ)) (out : Watched O) (bytes rest : List ℕ) → rest ≡ bytes
+    → Took contents out out [] → HexBefore contents out out bytes rest
 unfolding encode_with
 hex_none contents out bytes rest same took = record { gone = []; cut = sym same; took = took }
 
 -- one more piece
-pub hex_more : {O : Type 0} {contents : O → Option (List ℕ)} {a b c : Watched O} {bytes rest : List ℕ} (piece left : List ℕ) → rest ≡ piece ++ left → (h : HexBefore contents a b bytes rest) → Took contents a c (encode_lower h.gone ++ encode_lower piece) → HexBefore contents a c bytes left
+pub hex_more : {O : Type 0} {contents : O → Option (List ℕ)} {a b c : Watched O} {bytes rest : List ℕ} (piece left : List ℕ)
+    → rest ≡ piece ++ left → (h : HexBefore contents a b bytes rest)
+    → Took contents a c (encode_lower h.gone ++ encode_lower piece) → HexBefore contents a c bytes left
 hex_more {contents = contents} {a = a} {c = c} piece left parts h took = record {
   gone = h.gone ++ piece;
   cut = h.cut ∙ ap (λ (l : List ℕ). h.gone ++ l) parts ∙ sym (append_assoc h.gone piece left);
@@ -74,12 +82,14 @@ hex_more {contents = contents} {a = a} {c = c} piece left parts h took = record 
 }
 
 -- after the last piece
-pub hex_all : {O : Type 0} {contents : O → Option (List ℕ)} {a b : Watched O} {bytes rest : List ℕ} → rest ≡ [] → HexBefore contents a b bytes rest → Took contents a b (encode_lower bytes)
+pub hex_all : {O : Type 0} {contents : O → Option (List ℕ)} {a b : Watched O} {bytes rest : List ℕ} → rest ≡ []
+    → HexBefore contents a b bytes rest → Took contents a b (encode_lower bytes)
 hex_all {contents = contents} {a = a} {b = b} none h =
     subst (λ (l : List ℕ). Took contents a b (encode_lower l)) (sym (h.cut ∙ ap (λ (l : List ℕ). h.gone ++ l) none ∙ append-nil h.gone)) h.took
 
 -- the digits of what has gone out, of a piece and of what is left
-pub hex_around : {O : Type 0} {contents : O → Option (List ℕ)} {a b : Watched O} {bytes rest : List ℕ} (piece left : List ℕ) → rest ≡ piece ++ left → (h : HexBefore contents a b bytes rest)
+pub hex_around : {O : Type 0} {contents : O → Option (List ℕ)} {a b : Watched O} {bytes rest : List ℕ} (piece left : List ℕ)
+    → rest ≡ piece ++ left → (h : HexBefore contents a b bytes rest)
     → encode_lower bytes ≡ (encode_lower h.gone ++ encode_lower piece) ++ encode_lower left
 hex_around {bytes = bytes} piece left parts h =
     let whole : bytes ≡ (h.gone ++ piece) ++ left = h.cut ∙ ap (λ (l : List ℕ). h.gone ++ l) parts ∙ sym (append_assoc h.gone piece left) in

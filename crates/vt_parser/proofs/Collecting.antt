@@ -58,7 +58,8 @@ further front state private params over bytes at step other within joined same l
 -- ---- where a text begins
 
 -- two states that take the first byte alike take the bytes alike
-same_first : (state other : ParserState) (mode : Mode) (byte : ℕ) (rest : List ℕ) (step : Transition) → stepped state mode byte ≡ stepped other mode byte
+same_first : (state other : ParserState) (mode : Mode) (byte : ℕ) (rest : List ℕ) (step : Transition)
+    → stepped state mode byte ≡ stepped other mode byte
     → Runs state mode (byte ∷ rest) step → Runs other mode (byte ∷ rest) step
 same_first state other mode byte [] step same runs = sym same ∙ runs
 same_first state other mode byte (second ∷ rest) step same runs =

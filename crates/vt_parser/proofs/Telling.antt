@@ -46,7 +46,8 @@ shown_after state given bytes step shown runs = (
   (runs_agree given shown.0 shown.1 state bytes step shown.2 runs).1,
 )
 
-pub leads : (state : ParserState) (given : Mode) (bytes : List ℕ) (step : Transition) → Runs state given bytes step → Leads state given bytes step.state
+pub leads : (state : ParserState) (given : Mode) (bytes : List ℕ) (step : Transition) → Runs state given bytes step
+    → Leads state given bytes step.state
 leads state given bytes step runs = λ mode pending view. (runs_agree given mode pending state bytes step view runs).1
 
 -- ---- runs on ground

@@ -123,7 +123,9 @@ module _ (laws : LawsBelow) where
   -- bytes that come to one command, or to none
   pub shows_given : (seen : Seen) (x : Term) (bytes : List ℕ) (command : Option Command) (state : ParserState) → Shows seen x
       → Gives seen.console.modes.mode (mode_of x) x.pending bytes command
-      → parser_view (mode_after_bytes seen.console.modes.mode (mode_of x) bytes) (pending_after_bytes seen.console.modes.mode (mode_of x) x.pending bytes) ≡ Some state
+      → parser_view (mode_after_bytes seen.console.modes.mode (mode_of x) bytes)
+      (pending_after_bytes seen.console.modes.mode (mode_of x) x.pending bytes)
+      ≡ Some state
       → Shows (record { console = effect_if command seen.console; state = state }) (play x bytes) × (sent x bytes ≡ reply_if command seen.console)
   shows_given seen x bytes command state shows gives view =
       let given = seen.console.modes.mode in

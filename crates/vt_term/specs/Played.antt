@@ -40,8 +40,8 @@ mode_has_row profile false param = has_row_of (is_mode_of profile) (named ansi_m
 abbrev pub vt52_has_row : ℕ → Bool
 vt52_has_row last = is_some (vt52_named last)
 
--- A command of the parser. Characters, controls and a direct cursor address are always played; parameters of h and l are
--- asked for by themselves.
+-- A command of the parser. Characters, controls and a direct cursor address are always played; parameters of h and l
+-- are asked for by themselves.
 abbrev pub has_row : Profile → Command → Bool
 has_row profile (Esc inter last) = escape_has_row inter last
 has_row profile (Csi private params last) = sequence_has_row profile private last
@@ -62,7 +62,8 @@ mode_by_reset _ mode = mode
 
 -- every parameter where modes are reset
 abbrev pub mode_by_switch : Option Bool → List ℕ → Mode → Mode
-mode_by_switch (Some false) params mode = fold (λ left param. mode_by_reset (named private_modes param) left) mode params
+mode_by_switch (Some false) params mode =
+    fold (λ left param. mode_by_reset (named private_modes param) left) mode params
 mode_by_switch _ params mode = mode
 
 -- ESC < leaves ANSI mode (EK-VT100-UG chapter 3)
@@ -82,7 +83,8 @@ mode_left _ mode = mode
 -- What has no row does nothing, and there is no reply to it ..
 abbrev pub RowlessDoNothing : Type 0
 RowlessDoNothing =
-    (command : Command) (s : Console) → has_row s.profile command ≡ false → (effect command s ≡ s) × (reply command s ≡ [])
+    (command : Command) (s : Console) → has_row s.profile command ≡ false
+    → (effect command s ≡ s) × (reply command s ≡ [])
 
 -- .. nor does a parameter of h and l, with `?` ..
 abbrev pub RowlessModesStay : Type 0

@@ -81,7 +81,8 @@ pub fn mode_left(command: &Command, mode: Mode) -> Mode
 
 // DECANM reset leaves VT52 mode.
 fn mode_by_resets(params: &[u16], mode: Mode) -> Mode
-    ensures { result ≡ fold (λ left param. mode_by_reset (named private_modes param) left) mode params.now }
+    ensures { result
+        ≡ fold (λ left param. mode_by_reset (named private_modes param) left) mode params.now }
 {
     let mut left = mode;
     for &param in params {
