@@ -2,7 +2,7 @@
 use super::changes::compare_chunks;
 use std::alloc::Global;
 use std::test::Fail;
-use tape_core::{Bytes, Fault, Recording, read_recording_of};
+use tape_core::{Fault, Recording, read_recording_of};
 
 /// Hands a copy of the script over.
 pub(super) fn handed(alloc: Global, script: &[u8], timing: &[u8]) -> Result<Recording, Fault> {
@@ -51,27 +51,6 @@ fn faults_of_a_script(rt: HostRuntime) {
             "of {script:?} and {timing:?}"
         );
     }
-}
-
-/// Chunks that share a script with one that was replaced or taken out stay as they are.
-#[test]
-fn edits_leave_the_other_parts(rt: HostRuntime) -> Result<(), Fail> {
-    let mut recording = handed(rt.alloc(), SCRIPT, TIMING)?;
-    let bytes = Bytes::copy_of(rt.alloc(), b"XYZ")?;
-    assert_eq!(rt; (recording.chunks().len(), recording.body_len()), (5, 10));
-    recording.replace(1, bytes);
-    recording.remove(2, 3);
-    compare_chunks(
-        &rt,
-        &recording,
-        &[
-            (1_000_000, b"a"),
-            (2_000_000, b"XYZ"),
-            (4_000_000, b"dddd"),
-            (0, b""),
-        ],
-    );
-    Ok(())
 }
 
 /// How many chunks have other bytes than these.
