@@ -1,24 +1,23 @@
 -- The plain print line by line.
 use Rattle.std.proofs.Common.{◌≡◌, ℕ, ◌+◌, ◌-◌, ◌≤◌, ◌<◌, Bool, List, [], ◌∷◌, ◌++◌, length, take, get_or, refl, sym, ◌∙◌, ap, append-nil, arith}
-use Rattle.std.specs.List.{suffix_len, flat_map}
+use Rattle.std.specs.List.{flat_map}
 use Rattle.std.proofs.lemmas.List.{take_more, take_all}
 use Rattle.std.proofs.lemmas.Grind.{flat_map-append}
+use Rattle.vt_screen.specs.declared.cell.Cell.{Cell}
 use Rattle.vt_screen.specs.declared.cell.Row.{Row}
 use Rattle.vt_screen.specs.Cells.{blank_row, row_at}
 use Rattle.vt_screen.specs.Picture.{Picture, margin_of}
 use Rattle.vt_screen.specs.Table.{nth}
-use Rattle.screen_print.specs.PlainText.{printed, is_space, printed_line, plain_text}
+use Rattle.screen_print.specs.PlainText.{printed, trimmed, printed_line, plain_text}
 
 -- what is printed of a line: all the cells that are left without the spaces at its end
-pub printed_line_is : (wide : Bool) (row : Row) (margin len n : ℕ) (bytes : List ℕ) → margin ≡ margin_of wide row.size
-    → len + suffix_len is_space (take margin row.cells) ≡ length (take margin row.cells)
-    → length (take len (take margin row.cells)) ≤ n
-    → bytes ≡ flat_map printed (take n (take len (take margin row.cells))) → bytes ++ 10 ∷ [] ≡ printed_line wide row
+pub printed_line_is : (wide : Bool) (row : Row) (margin n : ℕ) (cells : List Cell) (bytes : List ℕ) → margin ≡ margin_of wide row.size
+    → cells ≡ trimmed (take margin row.cells) → length cells ≤ n → bytes ≡ flat_map printed (take n cells)
+    → bytes ++ 10 ∷ [] ≡ printed_line wide row
 unfolding printed_line
-printed_line_is wide row margin len n bytes at_margin left whole same =
-    let shorter : len ≡ length (take margin row.cells) - suffix_len is_space (take margin row.cells) = omega arith in
-    let all : take n (take len (take margin row.cells)) ≡ take len (take margin row.cells) = take_all n _ whole in
-    rw (same, all, shorter, at_margin) refl
+printed_line_is wide row margin n cells bytes at_margin left whole same =
+    let all : take n cells ≡ cells = take_all n _ whole in
+    rw (same, all, left, at_margin) refl
 
 -- the text of the first lines
 abbrev pub first_lines : Picture → ℕ → List ℕ

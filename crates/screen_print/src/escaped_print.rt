@@ -143,8 +143,8 @@ fn is_left_out(size: Size, cells: &[Cell]) -> bool
     size.is_single() && cells.is_empty()
 }
 
-/// The cells to the last one that isn't blank.
-fn inked(cells: &[Cell]) -> &[Cell]
+/// The cells to the last one that isn't blank, that is, a space without rendition.
+pub fn inked(cells: &[Cell]) -> &[Cell]
     ensures { result.now ≡ inked cells.now }
 {
     &cells[..inked_len(cells)]

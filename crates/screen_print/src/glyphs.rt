@@ -39,8 +39,8 @@ const SPECIAL_GRAPHICS: [char; 32] = [
     '·', // 31 centred dot
 ];
 
-/// The character that a glyph is printed as: from 32 on, the character of ASCII with that number.
-pub(crate) fn character(glyph: u8) -> char
+/// The character that a glyph is printed as (ours): from 32 on, the character of ASCII with that number.
+pub fn character(glyph: u8) -> char
     ensures value { result ≡ character glyph }
     ensures short { length (encode_utf8 result) ≤ 3 }
 {

@@ -13,7 +13,8 @@ mod still;
 
 pub use change_lines::changes;
 pub use chunk_changes::{ChangesFault, ChunkPrinter, put_chunks};
-pub use escaped_print::escaped;
+pub use escaped_print::{escaped, inked};
 pub use find_lines::find;
-pub use plain_print::plain;
+pub use glyphs::character;
+pub use plain_print::{plain, trimmed};
 pub use still::Still;

@@ -4,7 +4,7 @@ ghost use Rattle.std.specs.Prelude.{◌≡◌, ◌+◌, ◌≤◌, length, OnOk,
 ghost use Rattle.std.specs.List.{suffix_len};
 ghost use Rattle.vt_screen.specs.Cells.{row_at};
 ghost use Rattle.tape_core.specs.Devices.{Puts, has_failed, is_flushed};
-ghost use Rattle.screen_print.specs.PlainText.{is_space, plain_text, printed_line};
+ghost use Rattle.screen_print.specs.PlainText.{is_space, plain_text, printed_line, trimmed};
 
 use crate::glyphs::character;
 use arrayvec::ArrayString;
@@ -58,11 +58,18 @@ fn printed_line(screen: &Screen, line: u8) -> ArrayString<LINE_BYTES>
     let margin = screen.right_margin(line) as usize;
     let cells = &screen.row(line).cells[..margin];
     let mut text = ArrayString::new();
-    for cell in &cells[..printed_len(cells)] {
+    for cell in trimmed(cells) {
         text.push(character(cell.glyph));
     }
     text.push('\n');
     text
+}
+
+/// The cells without the spaces at their end, whatever rendition those have.
+pub fn trimmed(cells: &[Cell]) -> &[Cell]
+    ensures { result.now ≡ trimmed cells.now }
+{
+    &cells[..printed_len(cells)]
 }
 
 /// How many of the cells are left without the spaces at their end.
