@@ -1,17 +1,17 @@
--- How the writing of change lines ends early, and what it leaves of a session.
+-- How a walk over chunks ends early, and what it leaves of a session.
 use Rattle.std.specs.Prelude.{◌≡◌, ℕ, ◌≤◌, true, false, List, Option, None, Some}
 use Rattle.tape_core.specs.Devices.{TookPart}
 use Rattle.tape_core.specs.Due.{due_count}
 use Rattle.tape_core.specs.declared.chunk.Chunk.{Chunk}
 use Rattle.tape_core.specs.declared.devices.Watched.{Watched}
 use Rattle.tape_seek.specs.State.{State}
-use Rattle.screen_print.specs.declared.chunk_changes.ChangesFault.{ChangesFault}
-use Rattle.screen_print.specs.declared.chunk_changes.ChangesFault.TheVariants.{Write, Memory}
+use Rattle.screen_print.specs.declared.walk.ChangesFault.{ChangesFault}
+use Rattle.screen_print.specs.declared.walk.ChangesFault.TheVariants.{Write, Memory}
 
 -- a beginning of the text has gone out: the writer failed in it, or memory was refused and the writer is sound (ours)
-abbrev pub StopsChanges : {T : Type 0} → (T → Option (List ℕ)) → Watched T → Watched T → List ℕ → ChangesFault → Type 0
-StopsChanges contents old new text Write = TookPart contents old new text true
-StopsChanges contents old new text Memory = TookPart contents old new text false
+abbrev pub StopsWalk : {T : Type 0} → (T → Option (List ℕ)) → Watched T → Watched T → List ℕ → ChangesFault → Type 0
+StopsWalk contents old new text Write = TookPart contents old new text true
+StopsWalk contents old new text Memory = TookPart contents old new text false
 
 -- seeks alone were made: profile, recording and log stay, and the frontier isn't lowered
 pub record OnlySeeks (old new : State) : Type 0 where

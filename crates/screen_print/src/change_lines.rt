@@ -19,10 +19,10 @@ ghost use Rattle.tape_core.specs.Due.{due_count};
 ghost use Rattle.tape_core.specs.Written.{seconds_form};
 ghost use Rattle.tape_seek.specs.State.{KeepsHistory};
 ghost use Rattle.screen_print.specs.ChangeLines.{change_line, change_lines, spaced_number};
-ghost use Rattle.screen_print.specs.Stops.{OnlySeeks, StopsChanges};
+ghost use Rattle.screen_print.specs.Stops.{OnlySeeks, StopsWalk};
 
-use crate::chunk_changes::{ChangesFault, ChunkPrinter, put_chunks};
 use crate::still::Still;
+use crate::walk::{ChangesFault, ChunkPrinter, put_chunks};
 use itoa::Buffer;
 use std::io::Write;
 use tape_core::laws::{pieces_join, writers_join};
@@ -43,7 +43,7 @@ pub fn changes<W: Write>(
     ensures ok { OnOk result (Took W.contents writer.old writer.new
         (change_lines session.old.profile session.old.recording from to)) }
     ensures flushed { OnOk result (is_flushed writer.new ≡ true) }
-    ensures fault { IfErr result (StopsChanges W.contents writer.old writer.new
+    ensures fault { IfErr result (StopsWalk W.contents writer.old writer.new
         (change_lines session.old.profile session.old.recording from to)) }
     ensures stays { OnlySeeks session.old session.new }
     // Whatever recording the session was opened with: where its own is that one edited by the log,

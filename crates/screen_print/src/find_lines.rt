@@ -42,11 +42,11 @@ ghost use Rattle.screen_print.specs.FindLines.{
   place_in,
 };
 ghost use Rattle.screen_print.specs.Places.{IsPlace};
-ghost use Rattle.screen_print.specs.Stops.{OnlySeeks, StopsChanges};
+ghost use Rattle.screen_print.specs.Stops.{OnlySeeks, StopsWalk};
 
-use crate::chunk_changes::{ChangesFault, ChunkPrinter, put_chunks};
 use crate::standing::{Place, found_rows, row_text, standing};
 use crate::still::Still;
+use crate::walk::{ChangesFault, ChunkPrinter, put_chunks};
 use itoa::Buffer;
 use std::io::Write;
 use tape_core::laws::{pieces_join, writers_join};
@@ -69,7 +69,7 @@ pub fn find<W: Write>(
     ensures ok { OnOk result (Took W.contents writer.old writer.new
         (find_lines session.old.profile session.old.recording from to text.now)) }
     ensures flushed { OnOk result (is_flushed writer.new ≡ true) }
-    ensures fault { IfErr result (StopsChanges W.contents writer.old writer.new
+    ensures fault { IfErr result (StopsWalk W.contents writer.old writer.new
         (find_lines session.old.profile session.old.recording from to text.now)) }
     ensures stays { OnlySeeks session.old session.new }
     // Whatever recording the session was opened with: where its own is that one edited by the log,

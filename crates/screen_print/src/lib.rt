@@ -2,7 +2,6 @@
 #![tactic(auto)]
 
 mod change_lines;
-mod chunk_changes;
 mod escaped_print;
 mod find_lines;
 mod glyphs;
@@ -10,11 +9,12 @@ pub mod laws;
 mod plain_print;
 mod standing;
 mod still;
+mod walk;
 
 pub use change_lines::changes;
-pub use chunk_changes::{ChangesFault, ChunkPrinter, put_chunks};
 pub use escaped_print::{escaped, inked};
 pub use find_lines::find;
 pub use glyphs::character;
 pub use plain_print::{plain, trimmed};
 pub use still::Still;
+pub use walk::{ChangesFault, ChunkPrinter, put_chunks};

@@ -10,8 +10,8 @@
 --                   has failed or it hasn't
 --   IsUnwritten     neither writer was asked for anything
 use Rattle.std.specs.Prelude.{◌≡◌, ℕ, ◌⊎◌, Bool, true, false, List, Option, Some, None, MatchOption, Result, MatchResult, Ok, not}
-use Rattle.screen_print.specs.declared.chunk_changes.ChangesFault.{ChangesFault}
-use Rattle.screen_print.specs.declared.chunk_changes.ChangesFault.TheVariants as changes
+use Rattle.screen_print.specs.declared.walk.ChangesFault.{ChangesFault}
+use Rattle.screen_print.specs.declared.walk.ChangesFault.TheVariants as changes
 use Rattle.tape_core.specs.Devices.{Took, TookPart, has_failed, inner_of, is_flushed}
 use Rattle.tape_core.specs.declared.devices.Watched.{Watched}
 use Rattle.tape_core.specs.declared.fault.Fault.TheVariants as fault
@@ -113,7 +113,7 @@ abbrev pub JobPuts : {O A : Type 0} → (O → Option (List ℕ)) → Watched O 
 JobPuts contents old new text result =
     MatchResult result (λ done. Took contents old new text) (StopsIn contents old new text)
 
--- why change lines end early, as a fault of a job (ours)
+-- why a walk over chunks ends early, as a fault of a job (ours)
 abbrev pub fault_of_changes : ChangesFault → JobFault
 fault_of_changes changes.Write = File fault.WriteFault
 fault_of_changes changes.Memory = Memory

@@ -3,7 +3,7 @@ use Rattle.tape_core.specs.Devices.{Took}
 use Rattle.screen_print.specs.Stops.{OnlySeeks}
 use Rattle.screen_print.specs.Walk.{still_after, text_at}
 use Rattle.screen_print.proofs.WalkLemmas.{texts_from}
-use Rattle.screen_print.proofs.chunk_changes.put_between.Given as goal
+use Rattle.screen_print.proofs.walk.put_between.Given as goal
 
 -- the texts of the chunks so far have gone out, and both stills are those after them
 abbrev pub invariant-loop-index : goal.invariant-loop-index

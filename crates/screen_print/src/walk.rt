@@ -20,7 +20,7 @@ ghost use Rattle.tape_core.specs.Devices.{Puts, Took, has_failed};
 ghost use Rattle.tape_core.specs.Due.{due_count};
 ghost use Rattle.tape_seek.specs.State.{KeepsHistory, Leaves};
 ghost use Rattle.screen_print.specs.SameRows.{changed_lines};
-ghost use Rattle.screen_print.specs.Stops.{OnlySeeks, StopsChanges, first_asked};
+ghost use Rattle.screen_print.specs.Stops.{OnlySeeks, StopsWalk, first_asked};
 ghost use Rattle.screen_print.specs.Walk.{still_after, text_at, walk_text};
 
 use crate::still::{ROWS, Still};
@@ -30,7 +30,7 @@ use tape_core::laws::{due_is_below_the_count, writers_join};
 use tape_core::{Fault, Watched};
 use tape_seek::{OutOfMemory, Session};
 
-/// Why a walk over chunks ends before the last of them.
+/// Why a walk over chunks ends before the last of them. It is named after `changes`, the first of the walks.
 #[derive(Debug, Clone, Copy, PartialEq, Eq)]
 pub enum ChangesFault {
     /// The writer failed.
@@ -40,7 +40,7 @@ pub enum ChangesFault {
 }
 
 impl From<Fault> for ChangesFault {
-    ghost use Rattle.screen_print.specs.declared.chunk_changes.ChangesFault.TheVariants as stops;
+    ghost use Rattle.screen_print.specs.declared.walk.ChangesFault.TheVariants as stops;
 
     ghost from_gives = { λ _ fault. fault ≡ stops.Write };
 
@@ -50,7 +50,7 @@ impl From<Fault> for ChangesFault {
 }
 
 impl From<OutOfMemory> for ChangesFault {
-    ghost use Rattle.screen_print.specs.declared.chunk_changes.ChangesFault.TheVariants as stops;
+    ghost use Rattle.screen_print.specs.declared.walk.ChangesFault.TheVariants as stops;
 
     ghost from_gives = { λ _ fault. fault ≡ stops.Memory };
 
@@ -96,7 +96,7 @@ pub fn put_chunks<P: ChunkPrinter, W: Write>(
     requires { has_failed writer.old ≡ false }
     ensures ok { OnOk result (Took W.contents writer.old writer.new
         (walk_text (P.text printer.now) session.old.profile session.old.recording from to)) }
-    ensures fault { IfErr result (StopsChanges W.contents writer.old writer.new
+    ensures fault { IfErr result (StopsWalk W.contents writer.old writer.new
         (walk_text (P.text printer.now) session.old.profile session.old.recording from to)) }
     ensures stays { OnlySeeks session.old session.new }
     ensures room { due_count session.old.recording.chunks to ≤ session.old.marks.frontier
@@ -136,7 +136,7 @@ fn put_between<P: ChunkPrinter, W: Write>(
     ensures ok { OnOk result (Took W.contents writer.old writer.new
         (flat_map (text_at (P.text printer.now) session.old.profile session.old.recording)
         (range_with_len start (end - start)))) }
-    ensures fault { IfErr result (StopsChanges W.contents writer.old writer.new
+    ensures fault { IfErr result (StopsWalk W.contents writer.old writer.new
         (flat_map (text_at (P.text printer.now) session.old.profile session.old.recording)
         (range_with_len start (end - start)))) }
     ensures stays { OnlySeeks session.old session.new }

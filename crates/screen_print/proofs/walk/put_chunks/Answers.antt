@@ -3,9 +3,9 @@ use Rattle.std.specs.Result.{IfErr, OnOk}
 use Rattle.tape_core.specs.Devices.{Took}
 use Rattle.tape_core.specs.Due.{due_count}
 use Rattle.tape_core.specs.Tape.{Tape}
-use Rattle.screen_print.specs.Stops.{StopsChanges}
+use Rattle.screen_print.specs.Stops.{StopsWalk}
 use Rattle.screen_print.proofs.WalkLemmas.{asked_from, asked_none}
-use Rattle.screen_print.proofs.chunk_changes.put_chunks.Goals as goal
+use Rattle.screen_print.proofs.walk.put_chunks.Goals as goal
 
 pub returns-then-start-end-clause-ok : goal.returns-then-start-end-clause-ok
 returns-then-start-end-clause-ok g c =
@@ -25,7 +25,7 @@ returns-then-start-end-clause-fault g c =
     let within : c.due_count-end.result ≤ length tape.chunks =
     subst (λ (t : Tape). c.due_count-end.result ≤ length t.chunks) c.recording.ensures c.due_count-end.ensures.within in
     let text = asked_from c.due_is_below_the_count.ensures (g.P.ChunkPrinter.text c.args.printer.now) c.args.session.now.profile tape c.args.from c.args.to c.first_asked-start.result c.due_count-end.result c.first_asked-start.ensures high (omega arith) within in
-    subst (λ t. IfErr c.put_between.result (StopsChanges g.W.Write.contents c.args.writer.now c.put_between.new.writer t)) text c.put_between.ensures.fault
+    subst (λ t. IfErr c.put_between.result (StopsWalk g.W.Write.contents c.args.writer.now c.put_between.new.writer t)) text c.put_between.ensures.fault
 
 pub returns-clause-ok : goal.returns-clause-ok
 returns-clause-ok g c =

@@ -8,7 +8,7 @@ use Rattle.screen_print.specs.SameRows.{changed_lines}
 use Rattle.screen_print.specs.Stills.{Still}
 use Rattle.screen_print.specs.Walk.{still_after, text_at}
 use Rattle.screen_print.proofs.WalkLemmas.{began_before, leaves_only_seeks, only_seeks_more, text_is, texts_cut, texts_more}
-use Rattle.screen_print.proofs.chunk_changes.put_between.Goals as goal
+use Rattle.screen_print.proofs.walk.put_between.Goals as goal
 
 pub returns-in_err-changed-clause-fault : goal.returns-in_err-changed-clause-fault
 returns-in_err-changed-clause-fault g c =
