@@ -13,7 +13,7 @@ use Rattle.vt_screen.specs.declared.screen.packed.Part.{Part}
 use Rattle.vt_screen.specs.Attributes.{Attributes, bit, byte_of, plain}
 use Rattle.vt_screen.specs.Table.{table, nth}
 use Rattle.vt_screen.specs.Cells.{blank, blank_cells, blank_row, cell_at, row_at, rows_by}
-use Rattle.vt_screen.specs.Packed.{ArePacked, IsPacked, IsPart, packed_picture, part_at, unpacked}
+use Rattle.vt_screen.specs.Packed.{ArePacked, AreUsed, IsPacked, IsPart, IsUsed, packed_picture, part_at, unpacked}
 use Rattle.vt_screen.specs.Puts.{with_row}
 use Rattle.vt_screen.specs.Slots.{Held, rows_of}
 use Rattle.vt_screen.proofs.Rows.{blank_whole, row_is}
@@ -112,6 +112,24 @@ unpacked_stays cells more part is =
           ∙ sym (nth_is blank cells (part.from + k)) in
           grind (arith, nat_tests)
     ]))
+
+-- one line more is counted
+pub used_next : (rows : List Row) (lens : List ℕ) (line len : ℕ) → 1 ≤ line → line ≤ 24 → AreUsed rows lens line
+    → IsUsed (row_at rows line) len → AreUsed rows (set lens (line - 1) len) (line + 1)
+used_next rows lens line len low high used is = record {
+  all = length-set lens (line - 1) len ∙ used.all;
+  line = λ k klow before. elim (cases_lt k line) [
+    | inl less ↦
+        let left : nth 0 (set lens (line - 1) len) k ≡ nth 0 lens k =
+        nth_is 0 _ k ∙ get_or-set_other lens (line - 1) (k - 1) len 0 (λ e. absurd (omega (arith, e))) ∙ sym (nth_is 0 lens k) in
+        subst (IsUsed (row_at rows k)) (sym left) (used.line k klow less)
+    | inr past ↦
+        let same : line ≡ k = omega arith in
+        let put : nth 0 (set lens (line - 1) len) line ≡ len =
+        nth_is 0 _ line ∙ get_or-set_same lens (line - 1) len 0 (omega (arith, used.all)) in
+        subst (λ n. IsUsed (row_at rows n) (nth 0 (set lens (line - 1) len) n)) same (subst (IsUsed (row_at rows line)) (sym put) is)
+  ];
+}
 
 -- ---- all rows
 

@@ -6,7 +6,7 @@ use Rattle.vt_screen.specs.declared.cell.Size.TheVariants.{Single}
 use Rattle.vt_screen.specs.declared.screen.packed.PackedScreen.TheInside.{Inside as Fields}
 use Rattle.vt_screen.specs.declared.screen.packed.Part.{Part}
 use Rattle.vt_screen.specs.Table.{nth}
-use Rattle.vt_screen.specs.Cells.{blank, row_at, row_by, rows_by}
+use Rattle.vt_screen.specs.Cells.{blank, cell_at, row_at, row_by, rows_by}
 use Rattle.vt_screen.specs.Limits.{line_count, wide_columns}
 use Rattle.vt_screen.specs.Picture.{Picture, Sound}
 
@@ -42,6 +42,16 @@ pub record IsPacked (s : Fields) : Type 0 where
   pub sound : Sound (packed_picture s)
   pub parts : length s.parts ≡ line_count
   pub part : (line : ℕ) → 1 ≤ line → line ≤ line_count → IsPart s.cells.items (part_at s.parts line)
+
+-- a row's cells behind so many first ones are blank
+pub record IsUsed (row : Row) (len : ℕ) : Type 0 where
+  pub within : len ≤ wide_columns
+  pub tail : (column : ℕ) → len < column → cell_at row column ≡ blank
+
+-- the same of each line before this one
+pub record AreUsed (rows : List Row) (lens : List ℕ) (before : ℕ) : Type 0 where
+  pub all : length lens ≡ line_count
+  pub line : (line : ℕ) → 1 ≤ line → line < before → IsUsed (row_at rows line) (nth 0 lens line)
 
 -- the lines before this one are packed
 pub record ArePacked (rows : List Row) (cells : List Cell) (parts : List Part) (before : ℕ) : Type 0 where

@@ -1,8 +1,8 @@
 //! Screens that are kept for later, without the blank tails of their lines.
 
-ghost use Rattle.std.specs.Prelude.{◌≡◌, ℕ, ◌+◌, ◌<◌, ◌≤◌, IfOk, OnOk, length, true};
-ghost use Rattle.vt_screen.specs.Cells.{blank, cell_at, row_at};
-ghost use Rattle.vt_screen.specs.Packed.{ArePacked, IsPart, unpacked};
+ghost use Rattle.std.specs.Prelude.{◌≡◌, ℕ, ◌+◌, ◌≤◌, IfOk, OnOk, length, true};
+ghost use Rattle.vt_screen.specs.Cells.{blank, row_at};
+ghost use Rattle.vt_screen.specs.Packed.{ArePacked, AreUsed, IsPart, IsUsed, unpacked};
 ghost use Rattle.vt_screen.specs.declared.screen.packed.Part.{Part};
 ghost use Rattle.vt_screen.specs.Slots.{rows_of};
 
@@ -55,8 +55,9 @@ impl Screen {
     pub fn pack(&self, alloc: Global) -> Result<PackedScreen, AllocError>
         ensures { IfOk result (λ packed. packed ≡ self.now.picture) }
     {
-        let mut cells = Vec::with_capacity(alloc, used_in_all(&self.grid))?;
-        let parts = pack_rows(&self.grid, &mut cells)?;
+        let used = used_by_line(&self.grid);
+        let mut cells = Vec::with_capacity(alloc, sum(&used))?;
+        let parts = pack_rows(&self.grid, &used, &mut cells)?;
         Ok(PackedScreen {
             cells,
             parts,
@@ -132,31 +133,49 @@ fn is_blank(cell: Cell) -> bool
     cell.number() == 32
 }
 
-/// How many cells a row has up to the last one that isn't blank.
+/// How many cells a row has up to the last one that isn't blank. Each is looked at, whatever the others are, so that many
+/// are looked at at once.
 fn used(row: &Row) -> u8
     requires { length row.now.cells ≡ WIDE_COLUMNS }
-    ensures within { result ≤ WIDE_COLUMNS }
-    ensures tail { (column : ℕ) → result < column → cell_at row.now column ≡ blank }
+    ensures { IsUsed row.now result }
 {
-    let mut used = WIDE_COLUMNS;
-    while used > 0 && is_blank(row.cells[used as usize - 1]) {
-        used -= 1;
+    let mut used = 0;
+    for column in 0..WIDE_COLUMNS {
+        if !is_blank(row.cells[column as usize]) {
+            used = column + 1;
+        }
     }
     used
 }
 
-/// How many cells all rows have up to the last one of each that isn't blank.
-fn used_in_all(grid: &Grid) -> usize {
-    let mut total = 0;
+/// How many cells each row has up to the last one that isn't blank.
+fn used_by_line(grid: &Grid) -> [u8; LINES as usize]
+    ensures { AreUsed (rows_of grid.now) result (LINES + 1) }
+{
+    let mut all = [0; LINES as usize];
     for line in 1..LINES + 1 {
-        total += used(grid.row(line)) as usize;
+        all[line as usize - 1] = used(grid.row(line));
     }
-    total
+    all
 }
 
-/// Packs all rows, and says where each lies.
-fn pack_rows(grid: &Grid, cells: &mut Vec<Cell>) -> Result<[Part; LINES as usize], AllocError>
-    requires { length cells.old.items ≡ 0 }
+/// How many these are together.
+fn sum(all: &[u8; LINES as usize]) -> usize {
+    let mut sum = 0;
+    for used in all {
+        sum += *used as usize;
+    }
+    sum
+}
+
+/// Packs all rows, of which each has so many cells, and says where each lies.
+fn pack_rows(
+    grid: &Grid,
+    used: &[u8; LINES as usize],
+    cells: &mut Vec<Cell>,
+) -> Result<[Part; LINES as usize], AllocError>
+    requires none { length cells.old.items ≡ 0 }
+    requires used { AreUsed (rows_of grid.now) used.now (LINES + 1) }
     ensures { IfOk result (λ parts.
         ArePacked (rows_of grid.now) cells.new.items parts (LINES + 1)) }
 {
@@ -166,14 +185,15 @@ fn pack_rows(grid: &Grid, cells: &mut Vec<Cell>) -> Result<[Part; LINES as usize
         len: 0,
     }; LINES as usize];
     for line in 1..LINES + 1 {
-        parts[line as usize - 1] = pack_row(grid.row(line), cells)?;
+        parts[line as usize - 1] = pack_row(grid.row(line), used[line as usize - 1], cells)?;
     }
     Ok(parts)
 }
 
-/// Puts a row's cells up to the last one that isn't blank behind the others, and says where they lie.
-fn pack_row(row: &Row, cells: &mut Vec<Cell>) -> Result<Part, AllocError>
+/// Puts a row's first cells, behind which all are blank, behind the others, and says where they lie.
+fn pack_row(row: &Row, len: u8, cells: &mut Vec<Cell>) -> Result<Part, AllocError>
     requires whole { length row.now.cells ≡ WIDE_COLUMNS }
+    requires used { IsUsed row.now len }
     requires few { length cells.old.items ≤ MOST_CELLS }
     ensures row { IfOk result (λ part. unpacked cells.new.items part ≡ row.now) }
     ensures part { IfOk result (λ part. IsPart cells.new.items part) }
@@ -184,7 +204,6 @@ fn pack_row(row: &Row, cells: &mut Vec<Cell>) -> Result<Part, AllocError>
         (length cells.new.items ≤ length cells.old.items + WIDE_COLUMNS) }
 {
     let from = cells.len() as u16;
-    let len = used(row);
     cells.extend_from_slice(&row.cells[..len as usize])?;
     Ok(Part {
         size: row.size,

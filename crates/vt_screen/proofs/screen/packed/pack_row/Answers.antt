@@ -9,12 +9,12 @@ returns-clause-row c =
     let old = c.args.cells.now.items in
     let row = c.args.row.now in
     let from : c.len-from.result ≡ length old = omega (arith, c.len-from.ensures) in
-    rw (c.in_ok-extend_from_slice.ensures.items, from) (packed_row old row c.used-len.result c.requires.whole c.used-len.ensures.tail)
+    rw (c.in_ok-extend_from_slice.ensures.items, from) (packed_row old row c.args.len c.requires.whole c.requires.used.tail)
 
 pub returns-clause-others : goal.returns-clause-others
 returns-clause-others c = λ part is.
     let old = c.args.cells.now.items in
-    let more = take c.used-len.result c.args.row.now.cells in
+    let more = take c.args.len c.args.row.now.cells in
     let items : c.extend_from_slice.new.self.items ≡ old ++ more = c.in_ok-extend_from_slice.ensures.items in (
       subst (λ (cells : List Cell). IsPart cells part) (sym items) (part_stays old more part is),
       ap (λ (cells : List Cell). unpacked cells part) items ∙ unpacked_stays old more part is,

@@ -1,7 +1,13 @@
-use Rattle.std.proofs.Common.{◌∙◌, arith}
+use Rattle.std.proofs.Common.{◌∙◌, sym, arith}
 use Rattle.vt_screen.specs.Slots.{rows_of}
 use Rattle.vt_screen.proofs.Packed.{packed_next}
+use Rattle.vt_screen.proofs.Tables.{nth_is}
 use Rattle.vt_screen.proofs.screen.packed.pack_rows.Goals as goal
+
+pub pack_row-requires-clause-used : goal.pack_row-requires-clause-used
+pack_row-requires-clause-used c =
+    let line = c.loop-line.line in
+    rw (c.row.ensures.value, sym (nth_is 0 c.args.used.now line)) (c.requires.used.line line (omega arith) (omega arith))
 
 pub loop-line-preserved : goal.loop-line-preserved
 loop-line-preserved c =
