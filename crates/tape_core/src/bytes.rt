@@ -59,7 +59,7 @@ impl Bytes {
 
     /// So many bytes of a text that is shared, from a place on. Takes no memory; refused where the owners of the text
     /// are too many to count.
-    pub(crate) fn part_of(text: &Rc<Vec<u8>>, start: usize, len: usize) -> Result<Self, AllocError>
+    pub fn part_of(text: &Rc<Vec<u8>>, start: usize, len: usize) -> Result<Self, AllocError>
         requires { start + len ≤ length text.now.value.items }
         ensures { IfOk result (λ part. part ≡ take len (drop start text.now.value.items)) }
     {

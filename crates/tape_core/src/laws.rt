@@ -12,7 +12,7 @@ ghost use Rattle.tape_core.specs.Seconds.{IsSeconds, last_moment, seconds_of};
 ghost use Rattle.tape_core.specs.Tape.{Tape, fits};
 ghost use Rattle.tape_core.specs.Reading.{reads};
 ghost use Rattle.tape_core.specs.Text.{NumberText, is_blank, number_of};
-ghost use Rattle.tape_core.specs.Timing.{IsFaulty, IsWithin, TimingLine, entry_of};
+ghost use Rattle.tape_core.specs.Timing.{DelayText, IsFaulty, IsWithin, TimingLine, delay_of, entry_of};
 ghost use Rattle.tape_core.specs.Written.{script_text, timing_text};
 
 use std::io::Write;
@@ -70,6 +70,13 @@ pub fn seconds_are_spelled()
     ensures { (text : List ℕ) → MatchOption (seconds_of text)
         ((us : ℕ) → IsSeconds text us → ⊥)
         (λ us. (value : ℕ) × IsSeconds text value × (us ≡ min value last_moment)) }
+{}
+
+/// A field is read as a delay where it is spelled as one, with that value, and nowhere else.
+pub fn delays_are_spelled()
+    ensures { (text : List ℕ) → MatchOption (delay_of text)
+        ((delay : ℕ) → DelayText text delay → ⊥)
+        (λ delay. DelayText text delay) }
 {}
 
 /// What is read as an entry is a line of the timing format that says it.

@@ -12,7 +12,7 @@ mod recording;
 mod seconds;
 mod seconds_form;
 pub mod text;
-mod timing;
+pub mod timing;
 mod writing;
 
 pub use bytes::Bytes;

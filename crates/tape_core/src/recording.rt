@@ -36,8 +36,8 @@ impl Model for Recording {
 }
 
 impl Recording {
-    /// A recording of these parts, with its due times added up once.
-    pub(crate) fn from_parts(
+    /// A recording of these parts, with its due times added up once: the header, the chunks and the trailer.
+    pub fn from_parts(
         alloc: Global,
         header: Bytes,
         chunks: Vec<Chunk>,

@@ -50,9 +50,10 @@ impl EntryFault {
     }
 }
 
-/// The delay that a field writes, at most the greatest moment: `-` makes it zero.
+/// The delay that a field writes, in microseconds, at most the greatest moment: `-` makes it zero. None where it writes
+/// none. script(1).
 #[tactic(auto, unfolding(crate::specs::Seconds::seconds_of))]
-fn read_delay(field: &[u8]) -> Option<u64>
+pub fn read_delay(field: &[u8]) -> Option<u64>
     ensures { result ≡ option_map (λ us. min us last_moment) (delay_of field.now) }
 {
     match field {
@@ -61,15 +62,15 @@ fn read_delay(field: &[u8]) -> Option<u64>
     }
 }
 
-/// The count where it is the only field of the text, at most 10^18.
-fn read_only_count(text: &[u8]) -> Option<u64>
+/// The count where it is the only field of the text, at most 10^18. None where it isn't.
+pub fn read_only_count(text: &[u8]) -> Option<u64>
     ensures { result ≡ option_map (λ n. min n last_moment) (only_count (fields text.now)) }
 {
     read_number(only_field(text)?)
 }
 
-/// Whether the field begins with a letter.
-fn has_letter_first(field: &[u8]) -> bool
+/// Whether the field begins with a letter, `A` to `Z` or `a` to `z`.
+pub fn has_letter_first(field: &[u8]) -> bool
     ensures { result ≡ begins_with_letter field.now }
 {
     match field {
@@ -78,8 +79,8 @@ fn has_letter_first(field: &[u8]) -> bool
     }
 }
 
-/// What a line says: None where it is blank, its entry, or its first fault.
-fn read_entry(text: &[u8]) -> Result<Option<Entry>, EntryFault>
+/// What a line says: None where it is blank, its entry, or its first fault. script(1); the limits are ours.
+pub fn read_entry(text: &[u8]) -> Result<Option<Entry>, EntryFault>
     ensures said { result ≡ entry_of text.now }
     ensures within { IfOk result (λ entry. IfSome entry IsWithin) }
 {
@@ -101,7 +102,7 @@ fn read_entry(text: &[u8]) -> Result<Option<Entry>, EntryFault>
 }
 
 /// What the first line of a text that isn't empty says, and what stands behind it.
-pub fn first_entry(text: &[u8]) -> (Result<Option<Entry>, EntryFault>, &[u8])
+pub(crate) fn first_entry(text: &[u8]) -> (Result<Option<Entry>, EntryFault>, &[u8])
     requires { 0 < length text.now }
     ensures said { (line : List ℕ)
         × (lines_of text.now ≡ line ∷ lines_of result.1.now) × (result.0 ≡ entry_of line) }
@@ -116,7 +117,7 @@ pub fn first_entry(text: &[u8]) -> (Result<Option<Entry>, EntryFault>, &[u8])
 }
 
 /// What a line says, or its fault where so many entries, which count so many bytes, stand before it.
-pub fn judged(
+pub(crate) fn judged(
     said: Result<Option<Entry>, EntryFault>,
     line: u64,
     entries: usize,
