@@ -1,12 +1,12 @@
 -- The texts of chunks, one after another.
-use Rattle.std.proofs.Common.{◌≡◌, ℕ, zero, suc, ◌+◌, ◌-◌, ◌<◌, ◌≤◌, Bool, true, false, ◌&&◌, List, [], ◌∷◌, ◌++◌, length, filter, nat_le, nat_lt, Option, None, Some, Result, Ok, Err, refl, ap, sym, ◌∙◌, arith, inl, inr, add-zero, append_assoc, append-nil}
+use Rattle.std.proofs.Common.{◌≡◌, ℕ, zero, suc, ◌+◌, ◌-◌, ◌<◌, ◌≤◌, Bool, true, false, ◌&&◌, List, [], ◌∷◌, ◌++◌, length, filter, nat_le, nat_lt, Option, None, Some, Result, Ok, Err, refl, ap, sym, ◌∙◌, arith, inl, inr, add-zero, append-nil}
 use Rattle.std.specs.List.{flat_map, range_with_len}
 use Rattle.std.proofs.lemmas.Bool.{cases_lt, lt-ltb, le-ltb, le-leb, lt-leb}
 use Rattle.std.proofs.lemmas.List.Concat.{flat_map-append}
 use Rattle.std.proofs.lemmas.List.Elements.{filter-append}
 use Rattle.tape_core.specs.declared.chunk.Chunk.{Chunk}
 use Rattle.tape_core.specs.declared.devices.Watched.{Watched}
-use Rattle.tape_core.specs.Devices.{Took, TookPart}
+use Rattle.tape_core.specs.Devices.{TookPart}
 use Rattle.tape_core.specs.Due.{due_count, due_time}
 use Rattle.tape_core.specs.Tape.{Tape}
 use Rattle.tape_core.specs.Law.{DueIsBelowTheCount}
@@ -14,8 +14,9 @@ use Rattle.tape_seek.specs.Edits.{edited_all}
 use Rattle.tape_seek.specs.State.{KeepsHistory, Leaves, State}
 use Rattle.vt_term.specs.declared.profile.Profile.{Profile}
 use Rattle.screen_print.specs.Walk.{ChunkText, is_asked, still_after, text_at, walk_text}
-use Rattle.screen_print.specs.Stills.{Still}
-use Rattle.screen_print.specs.Stops.{OnlySeeks, first_asked}
+use Rattle.screen_print.specs.declared.walk.ChangesFault.{ChangesFault}
+use Rattle.screen_print.specs.declared.walk.ChangesFault.TheVariants.{Write, Memory}
+use Rattle.screen_print.specs.Stops.{OnlySeeks, StopsWalk, first_asked}
 use Rattle.screen_print.proofs.RowLemmas.{range_more}
 
 -- ---- seeks
@@ -101,32 +102,23 @@ texts_cut f start end index here low high is =
     texts_around f start n (end - start) within
     ∙ ap (λ l. (texts_from f start n ++ l) ++ texts_from f (start + (n + 1)) (end - start - (n + 1))) (sym (is ∙ ap f (sym at)))
 
--- memory refused before the text of a chunk
-pub began_before : {T : Type 0} {contents : T → Option (List ℕ)} {a b : Watched T} (f : ℕ → List ℕ) (start end index : ℕ)
-    → start ≤ index → index < end
-    → Took contents a b (texts_from f start (index - start)) → TookPart contents a b (texts_from f start (end - start)) false
-began_before f start end index low high before =
-    let n = index - start in
-    let within : n < end - start = omega arith in
-    let rest = texts_from f (start + (n + 1)) (end - start - (n + 1)) in
-    record {
-      front = texts_from f start n;
-      rest = f (start + n) ++ rest;
-      cut = texts_around f start n (end - start) within ∙ append_assoc (texts_from f start n) (f (start + n)) rest;
-      failing = before.sound;
-      grown = before.grown;
-    }
+-- the text of a chunk stays as seeks are made
+pub text_stays : (text : ChunkText) (a b : State) (index : ℕ) → OnlySeeks a b
+    → text_at text b.profile b.recording index ≡ text_at text a.profile a.recording index
+text_stays text a b index h =
+    ap (λ p. text_at text p b.recording index) h.profile ∙ ap (λ t. text_at text a.profile t index) h.recording
 
--- what is written of a chunk is its text
-pub text_is : (text : ChunkText) (profile plays : Profile) (tape once : Tape) (index due : ℕ) (before after : Still)
-    → plays ≡ profile → once ≡ tape → due ≡ due_time tape.chunks index → before ≡ still_after profile tape index
-    → after ≡ still_after plays once (index + 1) → text index due before after ≡ text_at text profile tape index
-text_is text profile plays tape once index due before after same_profile same on is next =
-    ap (λ d. text index d before after) on
-    ∙ ap (λ b. text index (due_time tape.chunks index) b after) is
-    ∙ ap (text index (due_time tape.chunks index) (still_after profile tape index)) (next
-    ∙ ap (λ t. still_after plays t (index + 1)) same
-    ∙ ap (λ p. still_after p tape (index + 1)) same_profile)
+-- and so does what stands on the screen
+pub still_stays : (a b : State) (count : ℕ) → OnlySeeks a b → still_after b.profile b.recording count ≡ still_after a.profile a.recording count
+still_stays a b count h =
+    ap (λ p. still_after p b.recording count) h.profile ∙ ap (λ t. still_after a.profile t count) h.recording
+
+-- a walk that ends in one text ends in the whole of them, where a writer's failing does
+pub stops_within : {T : Type 0} (contents : T → Option (List ℕ)) (old mid new : Watched T) (part whole : List ℕ) (fault : ChangesFault)
+    → ((failed : Bool) → TookPart contents mid new part failed → TookPart contents old new whole failed)
+    → StopsWalk contents mid new part fault → StopsWalk contents old new whole fault
+stops_within contents old mid new part whole Write grows h = grows true h
+stops_within contents old mid new part whole Memory grows h = grows false h
 
 -- ---- which chunks are asked for
 

@@ -28,6 +28,7 @@ use std::io::Write;
 use tape_core::laws::{pieces_join, writers_join};
 use tape_core::{Fault, Watched, seconds_text};
 use tape_seek::Session;
+use vt_term::Terminal;
 
 /// Writes, for each chunk that is due after `from` (None: from chunk 0 on) and by `to`, the lines that
 /// it changes, and flushes. It works by seeks. After a fault a beginning of the text has gone out. The
@@ -71,7 +72,7 @@ impl ChunkPrinter for ChangedLines {
         index: usize,
         due: u64,
         _before: &Still,
-        _after: &Still,
+        _after: &Terminal,
         lines: &[u8],
         writer: &mut Watched<W>,
     ) -> Result<(), Fault> {

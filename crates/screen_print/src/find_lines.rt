@@ -33,6 +33,7 @@ ghost use Rattle.tape_seek.specs.State.{KeepsHistory};
 ghost use Rattle.screen_print.specs.FindLines.{
   count_left,
   find_lines,
+  find_text,
   found_line,
   heading,
   is_less,
@@ -52,6 +53,7 @@ use std::io::Write;
 use tape_core::laws::{pieces_join, writers_join};
 use tape_core::{Fault, Watched, seconds_text};
 use tape_seek::Session;
+use vt_term::Terminal;
 
 /// Writes, for each chunk that is due after `from` (None: from chunk 0 on) and by `to`, at which places of
 /// the screen a text came to stand in it and from which it went, and flushes. It works by seeks. After a
@@ -95,36 +97,52 @@ impl<'a> ChunkPrinter for Finder<'a> {
 
     ghost text = { λ f. find_text f.text.now };
 
-    #[tactic(auto, unfolding(crate::specs::FindLines::find_text))]
     fn put<W: Write>(
         &self,
         index: usize,
         due: u64,
         before: &Still,
-        after: &Still,
+        after: &Terminal,
         _lines: &[u8],
         writer: &mut Watched<W>,
     ) -> Result<(), Fault> {
-        writers_join::<W>();
-        let went = standing(before, self.text);
-        let came = standing(after, self.text);
-        let went = Standing {
-            still: before,
-            places: went.as_slice(),
-        };
-        let came = Standing {
-            still: after,
-            places: came.as_slice(),
-        };
         let chunk = Chunk {
             index,
             due,
             len: self.text.len(),
         };
-        put_less(b'-', &chunk, &went, &came, writer)?;
-        put_less(b'+', &chunk, &came, &went, writer)?;
-        Ok(())
+        put_moves(self.text, &chunk, before, &Still::of(after), writer)
     }
+}
+
+/// Writes from where a text went in a chunk, and where it came to stand.
+#[tactic(auto, unfolding(crate::specs::FindLines::find_text))]
+fn put_moves<W: Write>(
+    text: &[char],
+    chunk: &Chunk,
+    before: &Still,
+    after: &Still,
+    writer: &mut Watched<W>,
+) -> Result<(), Fault>
+    requires len { chunk.now.len ≡ length text.now }
+    requires sound { has_failed writer.old ≡ false }
+    ensures { Puts W.contents writer.old writer.new
+        (find_text text.now chunk.now.index chunk.now.due before.now after.now) result }
+{
+    writers_join::<W>();
+    let went = standing(before, text);
+    let came = standing(after, text);
+    let went = Standing {
+        still: before,
+        places: went.as_slice(),
+    };
+    let came = Standing {
+        still: after,
+        places: came.as_slice(),
+    };
+    put_less(b'-', chunk, &went, &came, writer)?;
+    put_less(b'+', chunk, &came, &went, writer)?;
+    Ok(())
 }
 
 /// Where a text stands on a screen.

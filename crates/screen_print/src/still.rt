@@ -1,9 +1,9 @@
-//! What stands on a screen, copied, and which lines differ from it.
+//! What stands on a screen, copied, and in which lines another screen differs from it.
 
 ghost use Rattle.std.specs.Prelude.{◌≡◌, ◌≢◌, ◌≤◌, ℕ, length, not, take, true, false};
 ghost use Rattle.vt_screen.specs.Cells.{row_at};
 ghost use Rattle.vt_screen.specs.Picture.{SoundRow};
-ghost use Rattle.screen_print.specs.SameRows.{changed_lines, is_changed, same_cell, same_row};
+ghost use Rattle.screen_print.specs.SameRows.{changed_lines, same_cell, same_row};
 ghost use Rattle.std.specs.Cmp.Lexicographic.{pointwise};
 
 use arrayvec::ArrayVec;
@@ -99,32 +99,27 @@ impl Still {
         let _wide = self.wide;
     }
 
-    /// Becomes what stands on the screen of a terminal, and tells which lines that changes.
-    pub(crate) fn take_changes(&mut self, terminal: &Terminal) -> ArrayVec<u8, ROWS>
-        ensures still { self.new ≡ still_of terminal.now.console }
-        ensures changed { result.items ≡ changed_lines self.old.rows self.new.rows }
+    /// The lines in which it differs from what stands on the screen of a terminal.
+    pub(crate) fn changed_lines(&self, terminal: &Terminal) -> ArrayVec<u8, ROWS>
+        ensures { result.items
+            ≡ changed_lines self.now.rows terminal.now.console.picture.rows }
+    {
+        let screen = terminal.screen();
+        let narrow = !(self.wide || is_wide(screen));
+        changed_lines(&self.rows, screen, narrow)
+    }
+
+    /// Becomes what stands on the screen of a terminal, from which it differs in these lines.
+    pub(crate) fn catch_up(&mut self, terminal: &Terminal, lines: &[u8])
+        requires { lines.now ≡ changed_lines self.old.rows terminal.now.console.picture.rows }
+        ensures { self.new ≡ still_of terminal.now.console }
     {
         let screen = terminal.screen();
         screens_are_sound(screen);
-        let wide = is_wide(screen);
-        let narrow = !(wide || self.wide);
-        let lines = take_changes(&mut self.rows, screen, narrow);
-        self.wide = wide;
+        copy_lines(&mut self.rows, screen, lines);
+        self.wide = is_wide(screen);
         self.reversed = terminal.modes().reverse_screen;
         (self.line, self.column) = screen.cursor();
-        lines
-    }
-
-    /// Becomes another one, from which it differs in these lines.
-    pub(crate) fn catch_up(&mut self, other: &Still, lines: &[u8])
-        requires { lines.now ≡ changed_lines self.old.rows other.now.rows }
-        ensures { self.new ≡ other.now }
-    {
-        copy_lines(&mut self.rows, &other.rows, lines);
-        self.wide = other.wide;
-        self.reversed = other.reversed;
-        self.line = other.line;
-        self.column = other.column;
     }
 }
 
@@ -147,41 +142,20 @@ fn rows_of(screen: &Screen) -> [Row; ROWS]
     rows
 }
 
-/// The lines that differ from the rows, which become those of the screen.
-fn take_changes(rows: &mut [Row; ROWS], screen: &Screen, narrow: bool) -> ArrayVec<u8, ROWS>
+/// The lines in which the rows differ from those of the screen.
+fn changed_lines(rows: &[Row; ROWS], screen: &Screen, narrow: bool) -> ArrayVec<u8, ROWS>
     requires here { narrow ≡ true → screen.now.picture.wide ≡ false }
-    requires there { narrow ≡ true → (k : ℕ) → SoundRow false (row_at rows.old k) }
-    ensures rows { rows.new ≡ screen.now.picture.rows }
-    ensures changed { result.items ≡ changed_lines rows.old screen.now.picture.rows }
+    requires there { narrow ≡ true → (k : ℕ) → SoundRow false (row_at rows.now k) }
+    ensures { result.items ≡ changed_lines rows.now screen.now.picture.rows }
 {
     screens_are_sound(screen);
     let mut changed = ArrayVec::new();
     for line in 1..LINES + 1 {
-        if take_change(rows, screen, line, narrow) {
+        if !same_row(&rows[line as usize - 1], screen.row(line), narrow) {
             changed.push(line);
         }
     }
     changed
-}
-
-/// Whether a line differs from its row, which becomes that of the screen.
-fn take_change(rows: &mut [Row; ROWS], screen: &Screen, line: u8, narrow: bool) -> bool
-    requires low { 1 ≤ line }
-    requires high { line ≤ LINES }
-    requires here { narrow ≡ true → screen.now.picture.wide ≡ false }
-    requires there { narrow ≡ true → SoundRow false (row_at rows.old line) }
-    ensures changed { result ≡ is_changed rows.old screen.now.picture.rows line }
-    ensures taken { row_at rows.new line ≡ row_at screen.now.picture.rows line }
-    ensures whole { length rows.new ≡ ROWS }
-    ensures others { (k : ℕ) → 1 ≤ k → k ≢ line → row_at rows.new k ≡ row_at rows.old k }
-{
-    let row = screen.row(line);
-    let at = line as usize - 1;
-    if same_row(&rows[at], row, narrow) {
-        return false;
-    }
-    rows[at] = *row;
-    true
 }
 
 /// Whether two rows have the same size and the same cells. Rows of narrow screens are blank right of
@@ -219,13 +193,13 @@ fn same_first<const N: usize>(one: &[Cell; WIDE], other: &[Cell; WIDE]) -> bool
     same
 }
 
-/// Copies the rows of these lines.
-fn copy_lines(rows: &mut [Row; ROWS], other: &[Row; ROWS], lines: &[u8])
-    requires { lines.now ≡ changed_lines rows.old other.now }
-    ensures { rows.new ≡ other.now }
+/// Copies the rows of these lines from the screen.
+fn copy_lines(rows: &mut [Row; ROWS], screen: &Screen, lines: &[u8])
+    requires { lines.now ≡ changed_lines rows.old screen.now.picture.rows }
+    ensures { rows.new ≡ screen.now.picture.rows }
 {
+    screens_are_sound(screen);
     for line in lines {
-        let at = *line as usize - 1;
-        rows[at] = other[at];
+        rows[*line as usize - 1] = *screen.row(*line);
     }
 }

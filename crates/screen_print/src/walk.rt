@@ -4,6 +4,7 @@
 ghost use Rattle.std.specs.Prelude.{
   ◌≡◌,
   ◌≢◌,
+  ◌+◌,
   ◌-◌,
   ◌<◌,
   ◌≤◌,
@@ -20,15 +21,16 @@ ghost use Rattle.tape_core.specs.Devices.{Puts, Took, has_failed};
 ghost use Rattle.tape_core.specs.Due.{due_count};
 ghost use Rattle.tape_seek.specs.State.{KeepsHistory, Leaves};
 ghost use Rattle.screen_print.specs.SameRows.{changed_lines};
+ghost use Rattle.screen_print.specs.Stills.{still_of};
 ghost use Rattle.screen_print.specs.Stops.{OnlySeeks, StopsWalk, first_asked};
 ghost use Rattle.screen_print.specs.Walk.{still_after, text_at, walk_text};
 
-use crate::still::{ROWS, Still};
-use arrayvec::ArrayVec;
+use crate::still::Still;
 use std::io::Write;
 use tape_core::laws::{due_is_below_the_count, writers_join};
 use tape_core::{Fault, Watched};
 use tape_seek::{OutOfMemory, Session};
+use vt_term::Terminal;
 
 /// Why a walk over chunks ends before the last of them. It is named after `changes`, the first of the walks.
 #[derive(Debug, Clone, Copy, PartialEq, Eq)]
@@ -61,26 +63,28 @@ impl From<OutOfMemory> for ChangesFault {
 
 /// What writes a text of each chunk.
 pub trait ChunkPrinter {
+    ghost use Rattle.screen_print.specs.Stills.{still_of};
     ghost use Rattle.screen_print.specs.Walk.{ChunkText};
 
     /// The text of a chunk.
     ghost text: { Self → ChunkText };
 
-    /// Writes the text of the chunk at a place, when it is due, by what stands before and after it, which
-    /// differ in these lines.
+    /// Writes the text of the chunk at a place, when it is due, by what stands before it and on the terminal
+    /// after it, which differ in these lines.
     fn put<W: Write>(
         &self,
         index: usize,
         due: u64,
         before: &Still,
-        after: &Still,
+        after: &Terminal,
         lines: &[u8],
         writer: &mut Watched<W>,
     ) -> Result<(), Fault>
         requires sound { has_failed writer.old ≡ false }
-        requires changed { lines.now ≡ changed_lines before.now.rows after.now.rows }
+        requires changed { lines.now
+            ≡ changed_lines before.now.rows after.now.console.picture.rows }
         ensures { Puts W.contents writer.old writer.new
-            (text self.now index due before.now after.now) result };
+            (text self.now index due before.now (still_of after.now.console)) result };
 }
 
 /// Writes what the printer writes of each chunk that is due after `from` (None: from chunk 0 on) and by
@@ -143,14 +147,9 @@ fn put_between<P: ChunkPrinter, W: Write>(
     ensures room { end ≤ session.old.marks.frontier → result ≢ Err ChangesFault.Memory }
 {
     writers_join::<W>();
-    let mut before = still_at(session, start)?;
-    let mut after = still_at(session, start)?;
+    let mut still = still_at(session, start)?;
     for index in start..end {
-        let changed = changes_at(session, index + 1, &mut after)?;
-        let lines = changed.as_slice();
-        let due = session.recording().due_time(index);
-        printer.put(index, due, &before, &after, lines, writer)?;
-        before.catch_up(&after, lines);
+        put_chunk(session, index, &mut still, printer, writer)?;
     }
     Ok(())
 }
@@ -168,22 +167,51 @@ fn still_at(session: &mut Session, count: usize) -> Result<Still, OutOfMemory>
     Ok(Still::of(view.terminal()))
 }
 
-/// The lines in which a still differs from what stands on the screen after so many chunks, which it
-/// becomes.
-fn changes_at(
+/// Writes the text of one chunk, by what stands before it, which becomes what stands after it.
+fn put_chunk<P: ChunkPrinter, W: Write>(
     session: &mut Session,
-    count: usize,
+    index: usize,
     still: &mut Still,
-) -> Result<ArrayVec<u8, ROWS>, OutOfMemory>
-    requires { count ≤ length session.old.recording.chunks }
-    ensures state { Leaves result count session.old session.new }
-    ensures history { KeepsHistory session.old session.new }
-    ensures still { OnOk result
-        (still.new ≡ still_after session.old.profile session.old.recording count) }
-    ensures changed { IfOk result (λ lines.
-        lines.items ≡ changed_lines still.old.rows still.new.rows) }
-    ensures room { count ≤ session.old.marks.frontier → IsOk result }
+    printer: &P,
+    writer: &mut Watched<W>,
+) -> Result<(), ChangesFault>
+    requires within { index < length session.old.recording.chunks }
+    requires fits { index < usize.MAX }
+    requires sound { has_failed writer.old ≡ false }
+    requires before { still.old ≡ still_after session.old.profile session.old.recording index }
+    ensures ok { OnOk result (Took W.contents writer.old writer.new
+        (text_at (P.text printer.now) session.old.profile session.old.recording index)) }
+    ensures after { OnOk result (still.new
+        ≡ still_after session.old.profile session.old.recording (index + 1)) }
+    ensures fault { IfErr result (StopsWalk W.contents writer.old writer.new
+        (text_at (P.text printer.now) session.old.profile session.old.recording index)) }
+    ensures stays { OnlySeeks session.old session.new }
+    ensures room { index < session.old.marks.frontier → result ≢ Err ChangesFault.Memory }
 {
-    let view = session.seek_count(count)?;
-    Ok(still.take_changes(view.terminal()))
+    let due = session.recording().due_time(index);
+    let view = session.seek_count(index + 1)?;
+    put_seen(index, due, still, view.terminal(), printer, writer)?;
+    Ok(())
+}
+
+/// Writes the text of a chunk, by what stands before it and on the terminal after it, which becomes what
+/// stands before the next one.
+fn put_seen<P: ChunkPrinter, W: Write>(
+    index: usize,
+    due: u64,
+    still: &mut Still,
+    terminal: &Terminal,
+    printer: &P,
+    writer: &mut Watched<W>,
+) -> Result<(), Fault>
+    requires { has_failed writer.old ≡ false }
+    ensures puts { Puts W.contents writer.old writer.new
+        (P.text printer.now index due still.old (still_of terminal.now.console)) result }
+    ensures after { OnOk result (still.new ≡ still_of terminal.now.console) }
+{
+    let changed = still.changed_lines(terminal);
+    let lines = changed.as_slice();
+    printer.put(index, due, still, terminal, lines, writer)?;
+    still.catch_up(terminal, lines);
+    Ok(())
 }

@@ -3,9 +3,9 @@ use Rattle.vt_screen.specs.Cells.{row_at}
 use Rattle.screen_print.proofs.StillLemmas.{IsIn}
 use Rattle.screen_print.proofs.still.copy_lines.Given as goal
 
--- each row is the other's, or stands at a line that comes
+-- each row is the screen's, or stands at a line that comes
 abbrev pub invariant-loop-line : goal.invariant-loop-line
 invariant-loop-line l = record {
   whole : length l.rows ≡ 24;
-  copied : (k : ℕ) → 1 ≤ k → k ≤ 24 → IsIn (drop l.line-index l.lines) k (row_at l.rows k ≡ row_at l.other k);
+  copied : (k : ℕ) → 1 ≤ k → k ≤ 24 → IsIn (drop l.line-index l.lines) k (row_at l.rows k ≡ row_at l.screen.picture.rows k);
 }

@@ -1,0 +1,11 @@
+use Rattle.std.proofs.Common.{◌≡◌, ◌+◌, ◌-◌, ◌≤◌, length, filter}
+use Rattle.std.specs.List.{range_with_len}
+use Rattle.screen_print.specs.SameRows.{is_changed}
+use Rattle.screen_print.proofs.still.changed_lines.Given as goal
+
+-- those so far differ
+abbrev pub invariant-loop-line : goal.invariant-loop-line
+invariant-loop-line l = record {
+  changed : l.changed.items ≡ filter (is_changed l.rows l.screen.picture.rows) (range_with_len 1 (l.line - 1));
+  few : length l.changed.items + 1 ≤ l.line;
+}
