@@ -12,9 +12,9 @@ use Rattle.vt_parser.specs.declared.states.ParserState.{ParserState}
 use Rattle.vt_parser.specs.declared.states.ParserState.TheVariants.{Ground, Escape, CsiStart, Csi, CsiIgnored}
 use Rattle.vt_parser.specs.Syntax.{escape, is_within, is_graphic}
 use Rattle.vt_parser.specs.Forms.{is_control_sequence_text, is_control_sequence_final, is_plain, held}
-use Rattle.vt_parser.specs.Machine.{Transition, moves_to, gives, digit_joined, semicolon_joined, control_sequence_joined, joined, stepped, Runs}
+use Rattle.vt_parser.specs.Machine.{Transition, moves_to, gives, digit_joined, semicolon_joined, control_sequence_joined, joined, stepped, formless_at, Runs, Passes, Arrives}
 use Rattle.vt_parser.specs.Reading.{GoesOn}
-use Rattle.vt_parser.proofs.ManyBytes.{runs_more, runs_push}
+use Rattle.vt_parser.proofs.ManyBytes.{arrives_more, arrives_push, runs_more}
 use Rattle.vt_parser.proofs.Table.{control_actions}
 use Rattle.vt_parser.proofs.Whole.{joins, escape_begins}
 
@@ -47,49 +47,52 @@ pub further : (front : List ℕ) (state : ParserState) (private : Bool) (params 
     → JoinsText private params over (get_or bytes at 0) step → other ≡ step
     → GoesOn front state (take at bytes) (moves_to (Csi private params over)) → GoesOn front state (take (at + 1) bytes) other
 unfolding joined
-further front state private params over bytes at step other within joined same led = λ start mode runs.
+further front state private params over bytes at step other within joined same led = λ start mode arrives.
     let there : ParserState = Csi private params over in
     let byte = get_or bytes at 0 in
-    subst (λ (taken : List ℕ). Runs start mode taken other) (sym (take_more bytes at 0 within))
-    (subst (λ (last : Transition). Runs start mode (take at bytes ++ byte ∷ []) last)
+    subst (λ (taken : List ℕ). Arrives start mode taken other) (sym (take_more bytes at 0 within))
+    (subst (λ (last : Transition). Arrives start mode (take at bytes ++ byte ∷ []) last)
     (joins there mode byte refl joined.graphic ∙ joined.does ∙ sym same)
-    (runs_push start mode (take at bytes) there byte (led start mode runs)))
+    (arrives_push start mode (take at bytes) there byte refl (led start mode arrives)))
 
 -- ---- where a text begins
 
 -- two states that take the first byte alike take the bytes alike
 same_first : (state other : ParserState) (mode : Mode) (byte : ℕ) (rest : List ℕ) (step : Transition)
     → stepped state mode byte ≡ stepped other mode byte
-    → Runs state mode (byte ∷ rest) step → Runs other mode (byte ∷ rest) step
-same_first state other mode byte [] step same runs = sym same ∙ runs
-same_first state other mode byte (second ∷ rest) step same runs =
-    subst (λ (s : Transition). (s.command ≡ None) × Runs s.state mode (second ∷ rest) step) same runs
+    → Arrives state mode (byte ∷ rest) step → Arrives other mode (byte ∷ rest) step
+same_first state other mode byte [] step same arrives = record { runs = sym same ∙ arrives.runs; passes = tt }
+same_first state other mode byte (second ∷ rest) step same arrives = record {
+  runs = subst (λ (s : Transition). (s.command ≡ None) × Runs s.state mode (second ∷ rest) step) same arrives.runs;
+  passes = subst (λ (s : Transition). (formless_at s.state second ≡ None) × Passes s.state mode (second ∷ rest)) same
+      arrives.passes;
+}
 
 -- the text after ESC [ is read from its first byte on, or from behind the `?`
 pub start_runs : (mode : Mode) (bytes : List ℕ) (n from : ℕ) (step : Transition) → 0 < n → 0 < length bytes → is_graphic (get_or bytes 0 0) ≡ true
     → from ≡ cond (get_or bytes 0 0 == 63) 1 0
     → GoesOn (take from bytes) (Csi (get_or bytes 0 0 == 63) (held (0 ∷ [])) false) (take n bytes) step
-    → Runs CsiStart mode (take n bytes) step
+    → Arrives CsiStart mode (take n bytes) step
 unfolding joined
 start_runs mode (byte ∷ rest) (suc n) from step some within graphic begins led =
     let start : ParserState = Csi (byte == 63) (held (0 ∷ [])) false in
-    let ends : (state : ParserState) → ℕ → Type 0 = λ state k. Runs state mode (take k (byte ∷ rest)) (moves_to start) in
+    let ends : (state : ParserState) → ℕ → Type 0 = λ state k. Arrives state mode (take k (byte ∷ rest)) (moves_to start) in
     elim (cases_Bool (byte == 63)) [
       | inl marked ↦ led CsiStart mode (subst (ends CsiStart) (let at : 1 ≡ from = grind arith in at)
-          (joins CsiStart mode byte refl graphic ∙ simp marked))
+          (record { runs = joins CsiStart mode byte refl graphic ∙ simp marked; passes = tt }))
       | inr unmarked ↦
           same_first start CsiStart mode byte (take n rest) step
           (joins start mode byte refl graphic ∙ sym (joins CsiStart mode byte refl graphic ∙ simp unmarked))
-          (led start mode (subst (ends start) (let at : 0 ≡ from = grind arith in at) refl))
+          (led start mode (subst (ends start) (let at : 0 ≡ from = grind arith in at) (record { runs = refl; passes = tt })))
     ]
 start_runs mode _ _ from step some within graphic begins led = absurd (omega arith)
 
 -- ---- other bytes
 
 pub runs_one : (state : ParserState) (mode : Mode) (bytes : List ℕ) (step : Transition) → 0 < length bytes
-    → stepped state mode (get_or bytes 0 0) ≡ step → Runs state mode (take 1 bytes) step
+    → stepped state mode (get_or bytes 0 0) ≡ step → Arrives state mode (take 1 bytes) step
 runs_one state mode [] step some is = absurd (omega arith)
-runs_one state mode (byte ∷ rest) step some is = is
+runs_one state mode (byte ∷ rest) step some is = record { runs = is; passes = tt }
 
 -- a control character on ground that has an effect
 control_steps : (mode : Mode) (byte : ℕ) → is_within 8 15 byte ≡ true
@@ -99,7 +102,7 @@ control_steps mode byte is = let kind = control_actions byte is in simp (kind, i
 
 pub control_runs : (state : ParserState) (mode : Mode) (bytes : List ℕ) → 0 < length bytes → state ≡ Ground
     → is_within 8 15 (get_or bytes 0 0) ≡ true
-    → Runs state mode (take 1 bytes) (record { state = state; command = Some (command.Control (get_or bytes 0 0)) })
+    → Arrives state mode (take 1 bytes) (record { state = state; command = Some (command.Control (get_or bytes 0 0)) })
 control_runs state mode bytes some ground is =
     let byte = get_or bytes 0 0 in
     let steps : ParserState → Type 0 =
@@ -108,15 +111,16 @@ control_runs state mode bytes some ground is =
 
 -- ESC `[` in ANSI mode, and bytes of the text that it begins
 pub opening_runs : (state : ParserState) (bytes : List ℕ) (n : ℕ) (step : Transition) → get_or bytes 0 0 ≡ escape → get_or bytes 1 0 ≡ 91
-    → 1 < length bytes → Runs CsiStart Ansi (take n (drop 2 bytes)) step → Runs state Ansi (take (n + 2) bytes) step
+    → 1 < length bytes → Arrives CsiStart Ansi (take n (drop 2 bytes)) step → Arrives state Ansi (take (n + 2) bytes) step
 unfolding joined
-opening_runs state (byte ∷ other ∷ rest) n step first second long runs =
+opening_runs state (byte ∷ other ∷ rest) n step first second long arrives =
     let begins : stepped state Ansi byte ≡ moves_to Escape = ap (stepped state Ansi) first ∙ escape_begins state Ansi in
     let opens : stepped Escape Ansi other ≡ moves_to CsiStart = ap (stepped Escape Ansi) second ∙ joins Escape Ansi 91 refl refl in
     let size : suc (suc n) ≡ n + 2 = omega arith in
-    subst (λ (k : ℕ). Runs state Ansi (take k (byte ∷ other ∷ rest)) step) size
-    (runs_more state Escape Ansi byte (other ∷ take n rest) step begins (runs_more Escape CsiStart Ansi other (take n rest) step opens runs))
-opening_runs state _ n step first second long runs = absurd (omega arith)
+    subst (λ (k : ℕ). Arrives state Ansi (take k (byte ∷ other ∷ rest)) step) size
+    (arrives_more state Escape Ansi byte (other ∷ take n rest) step (λ _. refl) begins
+    (arrives_more Escape CsiStart Ansi other (take n rest) step (λ _. refl) opens arrives))
+opening_runs state _ n step first second long arrives = absurd (omega arith)
 
 -- NUL leaves all as it is
 nul_stays : (state : ParserState) (mode : Mode) → stepped state mode 0 ≡ moves_to state
@@ -124,11 +128,32 @@ unfolding stepped
 nul_stays Ground mode = refl
 nul_stays _ mode = refl
 
-pub nuls_run : (state : ParserState) (mode : Mode) (bytes : List ℕ) (n : ℕ)
+nul_ends_none : (state : ParserState) → formless_at state 0 ≡ None
+nul_ends_none Ground = refl
+nul_ends_none _ = refl
+
+nuls_pass : (state : ParserState) (mode : Mode) (bytes : List ℕ) (n : ℕ)
+    → n ≤ prefix_len (λ byte. byte == 0) bytes → Passes state mode (take n bytes)
+nuls_pass state mode bytes zero le = tt
+nuls_pass state mode [] (suc n) le = tt
+nuls_pass state mode (byte ∷ rest) (suc zero) le = tt
+nuls_pass state mode (byte ∷ []) (suc (suc n)) le = tt
+nuls_pass state mode (byte ∷ next ∷ rest) (suc (suc n)) le =
+    let is : byte ≡ 0 = grind (arith, nat_tests) in
+    let also : next ≡ 0 = grind (arith, nat_tests) in
+    let stays : stepped state mode byte ≡ moves_to state = ap (stepped state mode) is ∙ nul_stays state mode in
+    subst (λ (s : Transition). (formless_at s.state next ≡ None) × Passes s.state mode (next ∷ take n rest)) (sym stays)
+    (ap (formless_at state) also ∙ nul_ends_none state, nuls_pass state mode (next ∷ rest) (suc n) (grind (arith, nat_tests)))
+
+nuls_move : (state : ParserState) (mode : Mode) (bytes : List ℕ) (n : ℕ)
     → n ≤ prefix_len (λ byte. byte == 0) bytes → Runs state mode (take n bytes) (moves_to state)
-nuls_run state mode bytes zero le = refl
-nuls_run state mode [] (suc n) le = refl
-nuls_run state mode (byte ∷ rest) (suc n) le =
+nuls_move state mode bytes zero le = refl
+nuls_move state mode [] (suc n) le = refl
+nuls_move state mode (byte ∷ rest) (suc n) le =
     let is : byte ≡ 0 = grind (arith, nat_tests) in
     runs_more state state mode byte (take n rest) (moves_to state)
-    (ap (stepped state mode) is ∙ nul_stays state mode) (nuls_run state mode rest n (grind (arith, nat_tests)))
+    (ap (stepped state mode) is ∙ nul_stays state mode) (nuls_move state mode rest n (grind (arith, nat_tests)))
+
+pub nuls_run : (state : ParserState) (mode : Mode) (bytes : List ℕ) (n : ℕ)
+    → n ≤ prefix_len (λ byte. byte == 0) bytes → Arrives state mode (take n bytes) (moves_to state)
+nuls_run state mode bytes n le = record { runs = nuls_move state mode bytes n le; passes = nuls_pass state mode bytes n le }

@@ -4,6 +4,7 @@ mod Shapes
 mod Growing
 mod Joins
 mod Agrees
+mod Endings
 mod ManyBytes
 mod LawLemmas
 mod Whole

@@ -16,15 +16,18 @@ use Rattle.vt_parser.specs.Syntax.{is_graphic}
 use Rattle.vt_parser.specs.View.{parser_view, IsShown}
 use Rattle.vt_parser.specs.Step.{command_of, pending_after, mode_after}
 use Rattle.vt_parser.specs.Fold.{mode_after_bytes, pending_after_bytes, Gives}
+use Rattle.vt_parser.specs.Formless.{NoneEndsBehind}
 use Rattle.vt_parser.specs.Law.{IsProper}
 use Rattle.vt_parser.specs.Token.{command_of_token, TellsOf, Leads}
-use Rattle.vt_parser.specs.Machine.{Transition, joined, Runs}
+use Rattle.vt_parser.specs.Machine.{Transition, formless_at, joined, stepped, Runs, Passes}
 use Rattle.vt_parser.proofs.Whole.{joins}
 use Rattle.vt_parser.specs.Reading.{HasParams, event_command, command_told}
 use Rattle.vt_parser.proofs.Shapes.{shows_none}
 use Rattle.vt_parser.proofs.LawLemmas.{commands_are_proper, graphic_is_shown}
 use Rattle.vt_parser.proofs.Agrees.{same_command, ground_is_empty}
+use Rattle.vt_parser.proofs.Endings.{none_behind}
 use Rattle.vt_parser.proofs.ManyBytes.{runs_agree}
+use Rattle.vt_parser.proofs.Table.{graphic_actions}
 
 -- ---- states
 
@@ -52,6 +55,10 @@ leads state given bytes step runs = λ mode pending view. (runs_agree given mode
 
 -- ---- runs on ground
 
+ground_stays : (given : Mode) (byte : ℕ) → is_graphic byte ≡ true → (stepped Ground given byte).state ≡ Ground
+unfolding stepped
+ground_stays given byte is = let kind = graphic_actions byte is in simp kind
+
 none_stays : (given mode : Mode) (bytes : List ℕ) → list_all is_graphic bytes ≡ true → pending_after_bytes given mode [] bytes ≡ []
 none_stays given mode [] graphic = refl
 none_stays given mode (byte ∷ rest) graphic =
@@ -64,6 +71,20 @@ run_leads given bytes graphic = λ mode pending view.
     let there = mode_after_bytes given mode bytes in
     ap (λ (p : List ℕ). parser_view there (pending_after_bytes given mode p bytes)) (ground_is_empty.1 mode pending view)
     ∙ ap (parser_view there) (none_stays given mode bytes graphic) ∙ shows_none there
+
+ground_passes : (given : Mode) (bytes : List ℕ) → list_all is_graphic bytes ≡ true → Passes Ground given bytes
+ground_passes given [] graphic = tt
+ground_passes given (byte ∷ []) graphic = tt
+ground_passes given (byte ∷ next ∷ rest) graphic =
+    let parts = and_parts (is_graphic byte) (list_all is_graphic (next ∷ rest)) graphic in
+    subst (λ (state : ParserState). (formless_at state next ≡ None) × Passes state given (next ∷ rest))
+    (sym (ground_stays given byte parts.0)) (refl, ground_passes given (next ∷ rest) parts.1)
+
+pub run_passes : (given mode : Mode) (pending bytes : List ℕ) → list_all is_graphic bytes ≡ true → pending ≡ []
+    → NoneEndsBehind given mode pending bytes
+run_passes given mode pending bytes graphic none =
+    subst (λ (p : List ℕ). NoneEndsBehind given mode p bytes) (sym none)
+    (none_behind given mode [] Ground bytes (shows_none mode) (ground_passes given bytes graphic))
 
 -- ---- tokens
 

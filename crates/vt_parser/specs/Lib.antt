@@ -2,6 +2,7 @@ pub mod Syntax
 pub mod Forms
 pub mod View
 pub mod Step
+pub mod Formless
 pub mod Ahead
 pub mod Fold
 pub mod Decimals

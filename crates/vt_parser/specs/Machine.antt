@@ -12,8 +12,10 @@ use Rattle.vt_parser.specs.declared.syntax.Action.{Action}
 use Rattle.vt_parser.specs.declared.syntax.Action.TheVariants.{Ignore, Execute, Print, Mark, Begin, Join, End, Cancel}
 use Rattle.vt_parser.specs.declared.states.ParserState.{ParserState}
 use Rattle.vt_parser.specs.declared.states.ParserState.TheVariants.{Ground, Escape, EscapeOne, EscapeMany, CsiStart, Csi, CsiIgnored, Text, Vt52Escape, Vt52Line, Vt52Column}
+use Rattle.vt_parser.specs.declared.states.Formless.{Formless}
+use Rattle.vt_parser.specs.declared.states.Formless.TheVariants as formless
 use Rattle.vt_parser.specs.Syntax.{action_of}
-use Rattle.vt_parser.specs.Forms.{is_intermediate, is_control_sequence_final, begins_control_sequence, begins_string, begins_address, is_digit, is_semicolon, question_mark, greatest_param, most_params, held, front, final}
+use Rattle.vt_parser.specs.Forms.{is_intermediate, is_escape_final, is_control_sequence_final, begins_control_sequence, begins_string, begins_address, is_digit, is_semicolon, question_mark, greatest_param, most_params, held, front, final}
 use Rattle.vt_parser.specs.Step.{control_of}
 
 -- where a state is
@@ -85,6 +87,12 @@ joined Vt52Escape byte = if begins_address byte then moves_to Vt52Line else give
 joined Vt52Line byte = moves_to (Vt52Column byte)
 joined (Vt52Column line) byte = gives (Some (Vt52Address (line - 31) (byte - 31)))
 
+-- the sequence without a command that a byte ends
+abbrev pub formless_at : ParserState → ℕ → Option Formless
+formless_at EscapeMany byte = if is_escape_final byte then Some (formless.Escape byte) else None
+formless_at CsiIgnored byte = if is_control_sequence_final byte then Some (formless.ControlSequence byte) else None
+formless_at _ byte = None
+
 -- ESC in a mode
 abbrev pub begun : Mode → ParserState
 begun Ansi = Escape
@@ -110,3 +118,16 @@ Runs state mode [] step = moves_to state ≡ step
 Runs state mode (byte ∷ []) step = stepped state mode byte ≡ step
 Runs state mode (byte ∷ next ∷ rest) step =
     ((stepped state mode byte).command ≡ None) × Runs (stepped state mode byte).state mode (next ∷ rest) step
+
+-- no byte but the first ends a sequence without a command
+abbrev pub Passes : ParserState → Mode → List ℕ → Type 0
+Passes state mode [] = Unit {0}
+Passes state mode (byte ∷ []) = Unit {0}
+Passes state mode (byte ∷ next ∷ rest) =
+    (formless_at (stepped state mode byte).state next ≡ None)
+    × Passes (stepped state mode byte).state mode (next ∷ rest)
+
+-- with the last byte this step is made; no command comes before it, and no byte but the first ends a sequence without one
+pub record Arrives (state : ParserState) (mode : Mode) (bytes : List ℕ) (step : Transition) : Type 0 where
+  pub runs : Runs state mode bytes step
+  pub passes : Passes state mode bytes

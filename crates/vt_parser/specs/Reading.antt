@@ -13,7 +13,7 @@ use Rattle.vt_parser.specs.declared.states.ParserState.TheVariants.{CsiStart, Cs
 use Rattle.vt_parser.specs.Syntax.{escape}
 use Rattle.vt_parser.specs.Forms.{bracket, question_mark, most_params, held}
 use Rattle.vt_parser.specs.Token.{command_of_token}
-use Rattle.vt_parser.specs.Machine.{Transition, moves_to, Runs}
+use Rattle.vt_parser.specs.Machine.{Transition, moves_to, Arrives}
 
 -- ---- states
 
@@ -77,7 +77,7 @@ event_transition event params state = record { state = state; command = event_co
 -- so many of the bytes led from a state to what came
 abbrev pub Reads : ParserState → Mode → List ℕ → ℕ × Option Event → List ℕ → ParserState → Type 0
 Reads start mode bytes read params state =
-    Runs start mode (take read.0 bytes) (event_transition read.1 params state)
+    Arrives start mode (take read.0 bytes) (event_transition read.1 params state)
 
 -- what came has this outcome, whatever lies in the array
 abbrev pub IsTransition : Option Event → ParserState → Transition → Type 0
@@ -91,4 +91,4 @@ IsLent _ = Unit {0}
 -- from wherever bytes led to a state, more of them lead to another one
 abbrev pub GoesOn : List ℕ → ParserState → List ℕ → Transition → Type 0
 GoesOn front state bytes outcome =
-    (start : ParserState) (mode : Mode) → Runs start mode front (moves_to state) → Runs start mode bytes outcome
+    (start : ParserState) (mode : Mode) → Arrives start mode front (moves_to state) → Arrives start mode bytes outcome

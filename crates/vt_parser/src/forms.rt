@@ -1,6 +1,6 @@
 //! The bytes of which sequences are made: `specs/Forms` has the same, line by line.
 ghost use Rattle.std.specs.Prelude.{◌≡◌};
-ghost use Rattle.vt_parser.specs.Forms.{is_intermediate, is_control_sequence_text, is_control_sequence_final, begins_string};
+ghost use Rattle.vt_parser.specs.Forms.{is_intermediate, is_escape_final, is_control_sequence_text, is_control_sequence_final, begins_string};
 
 /// What makes ESC `[` the control sequence introducer.
 pub(crate) const BRACKET: u8 = b'[';
@@ -22,6 +22,14 @@ pub(crate) fn is_intermediate(byte: u8) -> bool
     ensures { result ≡ is_intermediate byte }
 {
     matches!(byte, 32..=47)
+}
+
+/// The final byte of an escape sequence.
+#[inline]
+pub(crate) fn is_escape_final(byte: u8) -> bool
+    ensures { result ≡ is_escape_final byte }
+{
+    matches!(byte, 48..=126)
 }
 
 /// A parameter or intermediate byte of a control sequence.

@@ -8,6 +8,7 @@ ghost use Rattle.std.specs.Prelude.{◌≡◌, ◌≤◌, ◌<◌, ℕ, List, So
 ghost use Rattle.vt_parser.specs.View.{parser_view, IsShown};
 ghost use Rattle.vt_parser.specs.Step.{command_of, pending_after, mode_after};
 ghost use Rattle.vt_parser.specs.Law.{IsProper};
+ghost use Rattle.vt_parser.specs.Formless.{NoneEndsBehind};
 ghost use Rattle.vt_parser.specs.Token.{command_of_token, TellsOf};
 
 mod commands;
@@ -25,7 +26,7 @@ pub use commands::{Command, Mode};
 use control_sequence::{opens_control_sequence, read_control_sequence};
 use limits::MOST_PARAMS;
 pub use runs::printable_run;
-pub use states::ParserState;
+pub use states::{Formless, ParserState};
 use std::marker::Model;
 pub use tokens::Token;
 use tokens::lent;
@@ -80,6 +81,9 @@ impl Parser {
         // .. and the token is theirs.
         ensures told { (m : Mode) (pending : List ℕ) → parser_view m pending ≡ Some self.old
             → TellsOf mode m pending (take result.0 bytes.now) result.1 }
+        // No byte taken but the first ends a sequence without a command.
+        ensures formless { (m : Mode) (pending : List ℕ) → parser_view m pending ≡ Some self.old
+            → NoneEndsBehind mode m pending (take result.0 bytes.now) }
         ensures proper { IfSome result.1 (λ token. IsProper (command_of_token token)) }
     {
         let run = machine::run_at(&self.state, bytes);

@@ -1,6 +1,11 @@
 //! What a parser shows of an unfinished sequence.
-ghost use Rattle.std.specs.Prelude.{◌≡◌, ◌≤◌, length};
+ghost use Rattle.std.specs.Prelude.{◌≡◌, ◌≤◌, List, Some, length, ℕ};
+ghost use Rattle.vt_parser.specs.View.{parser_view};
+ghost use Rattle.vt_parser.specs.Formless.{formless_of};
+ghost use Rattle.vt_parser.specs.Machine.{formless_at};
 
+use crate::Mode;
+use crate::forms::{is_control_sequence_final, is_escape_final};
 use crate::limits::MOST_PARAMS;
 use arrayvec::ArrayVec;
 
@@ -36,6 +41,15 @@ pub enum ParserState {
     Vt52Column(u8),
 }
 
+/// The form of a finished sequence that gives no command.
+#[derive(Clone, Copy, Debug, PartialEq, Eq)]
+pub enum Formless {
+    /// ESC, two or more intermediates, and this final byte.
+    Escape(u8),
+    /// ESC, `[`, a text that isn't well formed, and this final byte.
+    ControlSequence(u8),
+}
+
 /// A list of the same parameters.
 pub(crate) fn copied(params: &[u16]) -> ArrayVec<u16, MOST_PARAMS>
     requires { length params.now ≤ MOST_PARAMS }
@@ -49,6 +63,30 @@ pub(crate) fn copied(params: &[u16]) -> ArrayVec<u16, MOST_PARAMS>
 }
 
 impl ParserState {
+    /// The sequence without a command that a byte ends, if it ends one.
+    #[inline]
+    pub fn formless_with(&self, byte: u8) -> Option<Formless>
+        // Whatever pending bytes the state stands for, it is theirs.
+        ensures { (m : Mode) (pending : List ℕ) → parser_view m pending ≡ Some self.now
+            → result ≡ formless_of m pending byte }
+    {
+        self.formless_at(byte)
+    }
+
+    // The same, by the state alone.
+    #[inline]
+    fn formless_at(&self, byte: u8) -> Option<Formless>
+        ensures { result ≡ formless_at self.now byte }
+    {
+        match self {
+            ParserState::EscapeMany if is_escape_final(byte) => Some(Formless::Escape(byte)),
+            ParserState::CsiIgnored if is_control_sequence_final(byte) => {
+                Some(Formless::ControlSequence(byte))
+            }
+            _ => None,
+        }
+    }
+
     /// The same state again. It can't fail, as `clone` of a list may.
     pub(crate) fn copy(&self) -> ParserState
         ensures { result ≡ self.now }

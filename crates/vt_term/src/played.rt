@@ -1,11 +1,14 @@
 //! Which finished sequences are played, and the mode that commands leave, for whoever reads bytes without a screen.
 ghost use Rattle.std.specs.Prelude.{◌≡◌, fold};
 ghost use Rattle.vt_term.specs.Rows.{named};
-ghost use Rattle.vt_term.specs.PrivateModes.{private_modes};
-ghost use Rattle.vt_term.specs.Played.{escape_has_row, sequence_has_row, mode_has_row, vt52_has_row, mode_left, mode_by_reset};
+ghost use Rattle.vt_parser.specs.Token.{command_of_token};
+ghost use Rattle.vt_term.specs.Escapes.{escape_named};
+ghost use Rattle.vt_term.specs.PrivateModes.{private_modes, switches};
+ghost use Rattle.vt_term.specs.Vt52.{vt52_named};
+ghost use Rattle.vt_term.specs.Played.{escape_has_row, sequence_has_row, mode_has_row, vt52_has_row, mode_left, mode_by_escape, mode_by_switch, mode_by_vt52, mode_by_reset};
 
 use crate::Profile;
-use vt_parser::{Command, Mode};
+use vt_parser::{Command, Mode, Token};
 
 /// Whether an escape sequence has a row.
 pub fn escape_has_row(inter: Option<u8>, last: u8) -> bool
@@ -65,18 +68,61 @@ pub fn mode_left(command: &Command, mode: Mode) -> Mode
     ensures { result ≡ mode_left command.now mode }
 {
     match command {
-        Command::Esc {
-            inter: None,
-            last: b'c',
-        } => Mode::Ansi, // RIS
+        Command::Esc { inter, last } => mode_by_escape(*inter, *last, mode),
         Command::Csi {
             private: true,
             params,
-            last: b'l',
-        } => mode_by_resets(params.as_slice(), mode),
-        Command::Vt52(b'<') => Mode::Ansi,
+            last,
+        } => mode_by_switch(*last, params.as_slice(), mode),
+        Command::Vt52(last) => mode_by_vt52(*last, mode),
         _ => mode,
     }
+}
+
+/// The mode that what a token asks for leaves.
+pub fn mode_after(token: &Token, mode: Mode) -> Mode
+    ensures { result ≡ mode_left (command_of_token token.now) mode }
+{
+    match token {
+        Token::Esc { inter, last } => mode_by_escape(*inter, *last, mode),
+        Token::Csi {
+            private: true,
+            params,
+            last,
+        } => mode_by_switch(*last, params, mode),
+        Token::Vt52(last) => mode_by_vt52(*last, mode),
+        _ => mode,
+    }
+}
+
+// RIS leaves ANSI mode.
+fn mode_by_escape(inter: Option<u8>, last: u8, mode: Mode) -> Mode
+    ensures { result ≡ mode_by_escape (escape_named inter last) mode }
+{
+    match inter {
+        None if last == b'c' => Mode::Ansi,
+        _ => mode,
+    }
+}
+
+// Modes that are reset.
+fn mode_by_switch(last: u8, params: &[u16], mode: Mode) -> Mode
+    ensures { result ≡ mode_by_switch (named switches last) params.now mode }
+{
+    if last == b'l' {
+        return mode_by_resets(params, mode);
+    }
+    mode
+}
+
+// ESC `<` leaves ANSI mode.
+fn mode_by_vt52(last: u8, mode: Mode) -> Mode
+    ensures { result ≡ mode_by_vt52 (vt52_named last) mode }
+{
+    if last == b'<' {
+        return Mode::Ansi;
+    }
+    mode
 }
 
 // DECANM reset leaves VT52 mode.

@@ -235,6 +235,37 @@ fn ignores_texts_that_are_not_well_formed(rt: HostRuntime) -> Result<(), Fail> {
     all_told(&rt, Mode::Ansi, IGNORED)
 }
 
+// The sequences without a command that the bytes end.
+fn formless(alloc: Global, bytes: &[u8]) -> Result<String, Fail> {
+    let mut parser = Parser::new();
+    let mut text = String::new(alloc);
+    for byte in bytes {
+        if let Some(form) = parser.state().formless_with(*byte) {
+            write!(text, "{form:?}, ")?;
+        }
+        let _ = parser.step(Mode::Ansi, *byte);
+    }
+    Ok(text)
+}
+
+const FORMLESS: &[(&[u8], &str)] = &[
+    (
+        b"\x1b[1 q\x1b[>c",
+        "ControlSequence(113), ControlSequence(99), ",
+    ),
+    (b"\x1b(*B", "Escape(66), "),
+    (b"\x1b[?25l\x1b(B\x1b[1 \x18\x1bP1$\x1b\\", ""),
+];
+
+#[test]
+fn tells_sequences_without_a_command(rt: HostRuntime) -> Result<(), Fail> {
+    for (bytes, want) in FORMLESS {
+        let text = formless(rt.alloc(), bytes)?;
+        assert_eq!(rt; text.as_str(), *want, "at {bytes:?}");
+    }
+    Ok(())
+}
+
 // What a byte that is no graphic character gives where it comes, and the state after it.
 fn in_sequence(alloc: Global, byte: u8, escaped: &str, state: &str) -> Result<String, Fail> {
     let mut text = String::new(alloc);

@@ -1,9 +1,11 @@
 //! Which finished sequences have a row, and the mode that commands leave.
 use std::rt::HostRuntime;
 use std::test::Fail;
-use vt_parser::{Command, Mode, Parser};
+use vt_parser::{Command, Mode, Parser, Token};
 use vt_term::Profile;
-use vt_term::played::{escape_has_row, mode_has_row, mode_left, sequence_has_row, vt52_has_row};
+use vt_term::played::{
+    escape_has_row, mode_after, mode_has_row, mode_left, sequence_has_row, vt52_has_row,
+};
 
 const VT100: Profile = Profile::Vt100;
 
@@ -106,5 +108,17 @@ fn modes_are_left(rt: HostRuntime) -> Result<(), Fail> {
     for (mode, bytes, want) in LEFT {
         assert_eq!(rt; left(mode, bytes), want, "{:?}", bytes);
     }
+    Ok(())
+}
+
+#[test]
+fn tokens_leave_modes(rt: HostRuntime) -> Result<(), Fail> {
+    let reset = Token::Csi {
+        private: true,
+        params: &[7, 2],
+        last: b'l',
+    };
+    assert_eq!(rt; mode_after(&reset, Mode::Ansi), Mode::Vt52);
+    assert_eq!(rt; mode_after(&Token::Vt52(b'<'), Mode::Vt52), Mode::Ansi);
     Ok(())
 }
