@@ -166,6 +166,7 @@ class Damage:
             ["info"],
             ["screen", "--at", "1"],
             ["changes", "--to", "1"],
+            ["find", "a"],
             ["reports", "--at", "1"],
             ["session"],
         ):

@@ -69,6 +69,7 @@ COMMANDS = [
     (["info", "s", "t"], b""),
     (["screen", "--at", "99", "s", "t"], b""),
     (["changes", "--to", "99", "s", "t"], b""),
+    (["find", "line 5", "s", "t"], b""),
     (["reports", "--at", "99", "s", "t"], b""),
     (["save", "s", "t", "s2", "t2"], REQUESTS),
     (["session", "s", "t"], REQUESTS + b"screen 99\nreports 99\nchanges - 99\nscreen 0\nlog\ninfo\n"),

@@ -77,7 +77,7 @@ check 'an answer' 0 '1b5b3f313b3263\n' '' reports --at 0 asks.script asks.timing
 # refused NAME STATUS ERR SCRIPT TIMING: a damaged pair, which is only told, whatever the command.
 refused() {
     local command words
-    for command in 'due --at 1' info 'screen --at 1' 'changes --to 1' 'reports --at 1' session; do
+    for command in 'due --at 1' info 'screen --at 1' 'changes --to 1' 'find a' 'reports --at 1' session; do
         read -ra words <<<"$command"
         check "$1: ${words[0]}" "$2" '' "typetool: $3\n" "${words[@]}" "$4" "$5" </dev/null
     done
@@ -218,6 +218,17 @@ printf '%b%b' "$head" "a${E}[m${E}[3;1Hb" >three.script
 printf '0 1\n0 3\n1.5 7\n' >three.timing
 check 'changes by a moment' 0 '0 0.000000 1\n2 1.500000 3\n' '' changes --to 2 three.script three.timing
 
+check 'a text that came' 0 '+ 0 0.000000 1 1 a\n' '' find a three.script three.timing
+check 'a text that came later' 0 '+ 2 1.500000 3 1 b\n' '' find --from 1 --to 1.5 b three.script three.timing
+check 'a text that never came' 0 '' '' find c three.script three.timing
+printf '%b--help' "$head" >flag.script
+printf '0 6\n' >flag.timing
+check 'a text that looks like a flag' 0 '+ 0 0.000000 1 1 --help\n' '' find -- --help flag.script flag.timing
+check 'a text of spaces' 2 '' 'typetool: bad text\n' find '  ' nowhere nowhere
+check 'a text with a tab' 2 '' 'typetool: bad text\n' find $'a\tb' nowhere nowhere
+check 'bad seconds before a bad text' 2 '' 'typetool: bad seconds\n' find --to x '' nowhere nowhere
+check 'a bad profile before a bad text' 2 '' 'typetool: bad profile: vt100 or vt102\n' find --profile x '' nowhere nowhere
+
 # asked NAME STATUS LINES OUT SCRIPT TIMING [FLAG..]: a session over request lines, with nothing on standard error.
 asked() {
     local name=$1 wanted=$2 lines=$3 out=$4 script=$5 timing=$6
@@ -255,6 +266,8 @@ printf 'info\n' | "$program" session ab.script ab.timing >/dev/full 2>err.txt
 verdict 'a session into a full device' 3 $? '' 'typetool: write fault\n'
 "$program" changes --to 1 ab.script ab.timing >/dev/full 2>err.txt
 verdict 'changes into a full device' 3 $? '' 'typetool: write fault\n'
+"$program" find a ab.script ab.timing >/dev/full 2>err.txt
+verdict 'find into a full device' 3 $? '' 'typetool: write fault\n'
 printf 'info\n' | "$program" session ab.script ab.timing >&- 2>err.txt
 verdict 'a session into a closed output' 3 $? '' 'typetool: write fault\n'
 "$program" changes --to 1 ab.script ab.timing >&- 2>err.txt

@@ -60,11 +60,24 @@ pub(crate) fn do_job(
     timing: &[u8],
     requests: &[u8],
 ) -> Ended {
+    do_job_beside(alloc, job, &[], script, timing, requests)
+}
+
+/// The same, with a text beside the job.
+pub(crate) fn do_job_beside(
+    alloc: Global,
+    job: Job,
+    text: &[char],
+    script: &[u8],
+    timing: &[u8],
+    requests: &[u8],
+) -> Ended {
     let mut out = Watched::new(Vec::new(alloc));
     let mut out_timing = Watched::new(Vec::new(alloc));
-    let outcome = tape_jobs::run(
+    let outcome = tape_jobs::run_with(
         alloc,
         job,
+        text,
         &mut Watched::new(script),
         &mut Watched::new(timing),
         &mut Watched::new(requests),

@@ -69,6 +69,7 @@ fn a_line_that_is_no_job_is_told_why(rt: HostRuntime) -> Result<(), Fail> {
         (WordsFault::BadSeconds, "bad seconds"),
         (WordsFault::BadEvery, "bad number of chunks: 1 to 1000000"),
         (WordsFault::BadProfile, "bad profile: vt100 or vt102"),
+        (WordsFault::BadText, "bad text"),
         (WordsFault::Memory, "out of memory"),
     ];
     for (fault, wanted) in texts {

@@ -6,6 +6,7 @@ use tape_jobs::{Job, Words, WordsFault, read_words};
 use vt_term::Profile;
 
 mod every;
+mod find;
 mod flags;
 
 /// The words of a command line, with one space between.

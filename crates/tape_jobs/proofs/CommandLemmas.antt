@@ -21,24 +21,25 @@ use Rattle.std.specs.Str.{bytes_eq}
 use Rattle.std.proofs.lemmas.List.{get_or_default, map-append, take_all, take_more}
 use Rattle.std.proofs.lemmas.List.Sums.{fold_more}
 use Rattle.clap.specs.Words.{Rule, with_rule, with_subcommand}
-use Rattle.tape_jobs.specs.CommandLine.{typetool_app, clap_faults, clap_takes, subcommand_in, subcommands_in_order, app_in, after, every_in, fault_of_unread, id_in, job_in, meaning_in, meaning_of, meaning_of_words, moment_given_in, moment_in, name_in, path_count, paths_in, profile_in, rule_in, switch_in, top_app, value_in, with_rules, with_subcommands, flags_in, FailsFor, IsNamed}
+use Rattle.tape_jobs.specs.CommandLine.{typetool_app, clap_faults, clap_takes, subcommand_in, subcommands_in_order, app_in, after, every_in, fault_of_unread, id_in, job_in, meaning_in, meaning_of, meaning_of_words, moment_given_in, moment_in, moment_or_last_in, name_in, path_count, paths_in, profile_in, rule_in, searched_in, switch_in, text_in, texts_in, top_app, value_in, with_rules, with_subcommands, flags_in, FailsFor, IsNamed}
 use Rattle.tape_jobs.specs.declared.job.Job.{Job}
 use Rattle.tape_jobs.specs.declared.job.Job.TheVariants as jobs
 use Rattle.tape_jobs.specs.declared.words.table.Argument.{Argument}
-use Rattle.tape_jobs.specs.declared.words.table.Argument.TheVariants.{At, Escaped, From, To}
+use Rattle.tape_jobs.specs.declared.words.table.Argument.TheVariants.{At, Escaped, From, To, Until}
 use Rattle.tape_jobs.specs.declared.words.table.Subcommand.{Subcommand}
-use Rattle.tape_jobs.specs.declared.words.table.Subcommand.TheVariants.{Due, Info, Screen, Changes, Reports, Save, Session}
+use Rattle.tape_jobs.specs.declared.words.table.Subcommand.TheVariants.{Due, Info, Screen, Changes, Find, Reports, Save, Session}
 use Rattle.tape_jobs.specs.declared.words.values.Unreadable.{Unreadable}
 use Rattle.tape_jobs.specs.declared.words.values.Unreadable.TheVariants as unread
+use Rattle.vt_term.specs.declared.profile.Profile.{Profile}
 
 -- clap says what such a command's matches are
 pub is_simple_app : is_simple typetool_app ≡ true
-unfolding typetool_app app_in name_in flags_in paths_in id_in rule_in
+unfolding typetool_app app_in name_in flags_in texts_in paths_in id_in rule_in
 is_simple_app = refl
 
 -- and what its faults are
 pub is_free_app : is_simple_and_free typetool_app ≡ true
-unfolding typetool_app app_in name_in flags_in paths_in id_in rule_in
+unfolding typetool_app app_in name_in flags_in texts_in paths_in id_in rule_in
 is_free_app = refl
 
 -- a subcommand must follow the program's name
@@ -94,7 +95,7 @@ entered_named a (Some p) met e = found_named (λ s. rows_at s p.1) (λ s. refl) 
 -- and so has the one in words that clap takes: it isn't `help`
 named_in : (words : List Text) (met : Text × List Row) → clap_faults words ≡ [] → subcommand_in words ≡ Some met
     → IsNamed (Some met.0) typetool_app.subs
-unfolding subcommand_in clap_faults typetool_app app_in name_in flags_in paths_in id_in rule_in
+unfolding subcommand_in clap_faults typetool_app app_in name_in flags_in texts_in paths_in id_in rule_in
 named_in words met taken e =
     let a = built typetool_app in
     let arguments = argument_words typetool_app words in
@@ -171,6 +172,7 @@ first_named Due = refl
 first_named Info = refl
 first_named Screen = refl
 first_named Changes = refl
+first_named Find = refl
 first_named Reports = refl
 first_named Save = refl
 first_named Session = refl
@@ -183,18 +185,24 @@ means words s rows e =
     ap (option_and_then meaning_of) e ∙ ap (option_map (λ t. meaning_in t rows)) (first_named s)
 
 -- where the job and the paths are read
-pub means_job : (s : Subcommand) (rows : List Row) (job : Job) (paths : List Text) → job_in s rows ≡ Ok job
-    → paths ≡ map (λ a. value_in (id_in a) rows) (paths_in s)
-    → meaning_in s rows ≡ Ok (record { job = job; paths = paths })
-means_job s rows job paths e p =
-    ap (λ r. after r (λ j. Ok (record { job = j; paths = map (λ a. value_in (id_in a) rows) (paths_in s) }))) e
-    ∙ ap (λ l. Ok (record { job = job; paths = l })) (sym p)
+pub means_job : (s : Subcommand) (rows : List Row) (job : Job) (text : List ℕ) (paths : List Text) → job_in s rows ≡ Ok job
+    → text ≡ text_in s rows → paths ≡ map (λ a. value_in (id_in a) rows) (paths_in s)
+    → meaning_in s rows ≡ Ok (record { job = job; text = text; paths = paths })
+means_job s rows job text paths e t p =
+    let here = map (λ a. value_in (id_in a) rows) (paths_in s) in
+    ap (λ r. after r (λ j. Ok (record { job = j; text = text_in s rows; paths = here }))) e
+    ∙ ap (λ x. Ok (record { job = job; text = x; paths = here })) (sym t)
+    ∙ ap (λ l. Ok (record { job = job; text = text; paths = l })) (sym p)
 
 -- where they aren't
 pub means_fault : (s : Subcommand) (rows : List Row) (fault : Unreadable) → job_in s rows ≡ Err fault
     → meaning_in s rows ≡ Err fault
 means_fault s rows fault e =
-    ap (λ r. after r (λ j. Ok (record { job = j; paths = map (λ a. value_in (id_in a) rows) (paths_in s) }))) e
+    ap (λ r. after r (λ j. Ok (record {
+      job = j;
+      text = text_in s rows;
+      paths = map (λ a. value_in (id_in a) rows) (paths_in s);
+    }))) e
 
 -- and the fault of the words
 pub fails_unread : (words : List Text) (fault : Unreadable) → clap_faults words ≡ []
@@ -202,6 +210,7 @@ pub fails_unread : (words : List Text) (fault : Unreadable) → clap_faults word
 fails_unread words unread.Seconds taken meant = (taken, meant)
 fails_unread words unread.Every taken meant = (taken, meant)
 fails_unread words unread.Profile taken meant = (taken, meant)
+fails_unread words unread.Text taken meant = (taken, meant)
 
 -- a job from a value that was read
 after_read : {A : Type 0} (read : Result A Unreadable) (next : A → Result Job Unreadable) (job : Job) (n : ℕ)
@@ -231,6 +240,13 @@ enough_paths Changes rows job e =
     (λ from. after (moment_in (id_in To) rows) (λ to. after (profile_in rows) (λ p. Ok (jobs.Changes from to p)))) job 2
     (λ from later. after_read (moment_in (id_in To) rows) (λ to. after (profile_in rows) (λ p. Ok (jobs.Changes from to p))) job 2
     (λ to last. of_value (profile_in rows) (λ p. jobs.Changes from to p) job 2 (λ p. lit≤ tt) last) later) e
+enough_paths Find rows job e =
+    let searched = λ (from : Option ℕ) (to : ℕ) (profile : Profile). after (searched_in rows) (λ text. Ok (jobs.Find from to profile)) in
+    after_read (moment_given_in (id_in From) rows)
+    (λ from. after (moment_or_last_in (id_in Until) rows) (λ to. after (profile_in rows) (searched from to))) job 2
+    (λ from later. after_read (moment_or_last_in (id_in Until) rows) (λ to. after (profile_in rows) (searched from to)) job 2
+    (λ to last. after_read (profile_in rows) (searched from to) job 2
+    (λ profile end. of_value (searched_in rows) (λ text. jobs.Find from to profile) job 2 (λ text. lit≤ tt) end) last) later) e
 enough_paths Reports rows job e =
     after_read (moment_in (id_in At) rows) (λ at. after (profile_in rows) (λ p. Ok (jobs.Reports at p))) job 2
     (λ at later. of_value (profile_in rows) (λ p. jobs.Reports at p) job 2 (λ p. lit≤ tt) later) e

@@ -19,28 +19,36 @@ comes_refused : (job : Job) (files : Files) (f : Fault) → fault_of files.scrip
     → Comes job files (refused_with (File f))
 comes_refused job files f e =
     subst (λ o. MatchOption o
-    ((tape : Tape) × reads files.script files.timing tape × (refused_with (File f) ≡ done_on job tape files.requests))
+    ((tape : Tape) × reads files.script files.timing tape × (refused_with (File f) ≡ done_on job tape files.requests files.text))
     (λ g. refused_with (File f) ≡ refused_with (File g))) (sym e) refl
 
 -- a pair that is read
 comes_done : (job : Job) (files : Files) (tape : Tape) → reads files.script files.timing tape
-    → Comes job files (done_on job tape files.requests)
+    → Comes job files (done_on job tape files.requests files.text)
 comes_done job files tape h =
-    let done = done_on job tape files.requests in
+    let done = done_on job tape files.requests files.text in
     subst (λ o. MatchOption o
-    ((other : Tape) × reads files.script files.timing other × (done ≡ done_on job other files.requests))
+    ((other : Tape) × reads files.script files.timing other × (done ≡ done_on job other files.requests files.text))
     (λ g. done ≡ refused_with (File g))) (sym h.faultless) (tape, h, refl)
 
 -- where a job takes no request lines, it comes to the same whatever they are
-same_done : (job : Job) (tape : Tape) (one other : List ℕ) → (takes_requests job ≡ true → one ≡ other)
-    → done_on job tape one ≡ done_on job tape other
-same_done (jobs.Due at) tape one other same = refl
-same_done jobs.Info tape one other same = refl
-same_done (jobs.Screen at profile escaped) tape one other same = refl
-same_done (jobs.Changes from to profile) tape one other same = refl
-same_done (jobs.Reports at profile) tape one other same = refl
-same_done jobs.Save tape one other same = ap (done_on jobs.Save tape) (same refl)
-same_done (jobs.Session every profile) tape one other same = ap (done_on (jobs.Session every profile) tape) (same refl)
+same_lines : (job : Job) (tape : Tape) (one other text : List ℕ) → (takes_requests job ≡ true → one ≡ other)
+    → done_on job tape one text ≡ done_on job tape other text
+same_lines (jobs.Due at) tape one other text same = refl
+same_lines jobs.Info tape one other text same = refl
+same_lines (jobs.Screen at profile escaped) tape one other text same = refl
+same_lines (jobs.Changes from to profile) tape one other text same = refl
+same_lines (jobs.Find from to profile) tape one other text same = refl
+same_lines (jobs.Reports at profile) tape one other text same = refl
+same_lines jobs.Save tape one other text same = ap (λ r. done_on jobs.Save tape r text) (same refl)
+same_lines (jobs.Session every profile) tape one other text same =
+    ap (λ r. done_on (jobs.Session every profile) tape r text) (same refl)
+
+-- and beside the same text
+same_done : (job : Job) (tape : Tape) (one other text same_text : List ℕ) → (takes_requests job ≡ true → one ≡ other)
+    → same_text ≡ text → done_on job tape one text ≡ done_on job tape other same_text
+same_done job tape one other text same_text same e =
+    same_lines job tape one other text same ∙ ap (done_on job tape other) (sym e)
 
 is_not : (b : Bool) → not b ≡ true → b ≡ false
 is_not true e = absurd (cc)
@@ -124,15 +132,16 @@ module _ {S T R O P : Type 0} {readers : Readers S T R} {writers : Writers O P} 
       → reads files.script files.timing tape × (takes_requests job ≡ true → lines ≡ files.requests))
       (read : AreRead readers) (alone : takes_requests job ≡ false → AsksNothing readers.requests)
       (alone_timing : writes_timing job ≡ false → AsksNothing writers.out_timing) where
-    on_files : {Is : Done → Type 0} → Is (done_on job tape lines) → OnFiles readers job Is
+    on_files : {Is : Done → Type 0} → Is (done_on job tape lines readers.text) → OnFiles readers job Is
     on_files {Is} is = λ files held.
         let known = is_read files held in (
-          done_on job tape lines,
-          subst (Comes job files) (sym (same_done job tape lines files.requests known.1)) (comes_done job files tape known.0),
+          done_on job tape lines readers.text,
+          subst (Comes job files) (sym (same_done job tape lines files.requests readers.text files.text known.1 held.text))
+              (comes_done job files tape known.0),
           is,
         )
 
-    ends_done : (ending : Ending) → IsDone writers job (done_on job tape lines) ending
+    ends_done : (ending : Ending) → IsDone writers job (done_on job tape lines readers.text) ending
         → RunEnds readers writers job (outcome_by (Ok ending))
     ends_done ending is = record {
       done = λ _. (
@@ -159,14 +168,14 @@ module _ {S T R O P : Type 0} {readers : Readers S T R} {writers : Writers O P} 
       | inr (whole, second) ↦ (whole.sound, second.failing)
     ]
 
-    ends_for_memory : WantsMemory writers job (done_on job tape lines)
+    ends_for_memory : WantsMemory writers job (done_on job tape lines readers.text)
         → RunEnds readers writers job (outcome_by (Err Memory))
     ends_for_memory wants = record {
       done = λ e. absurd (cc);
       refused = λ e. absurd (cc);
       memory = λ m. record {
         read = read;
-        written = begun_sound (done_on job tape lines) wants.begun;
+        written = begun_sound (done_on job tape lines readers.text) wants.begun;
         reading = λ e. absurd (cc);
         takes = λ _. wants.takes;
         begun = λ _. on_files wants.begun;
@@ -188,7 +197,7 @@ module _ {S T R O P : Type 0} {readers : Readers S T R} {writers : Writers O P} 
       | inr (whole, second) ↦ inr (second.failing)
     ]
 
-    ends_at_a_writer : TookPartOfBoth writers (done_on job tape lines) true
+    ends_at_a_writer : TookPartOfBoth writers (done_on job tape lines readers.text) true
         → RunEnds readers writers job (outcome_by (Err (File WriteFault)))
     ends_at_a_writer stopped = record {
       done = λ e. absurd (cc);
@@ -200,7 +209,7 @@ module _ {S T R O P : Type 0} {readers : Readers S T R} {writers : Writers O P} 
       device = λ d. record {
         reader = λ e. absurd (cc);
         unwritten = λ e. absurd (cc);
-        writer = λ _. stopped_failed (done_on job tape lines) stopped;
+        writer = λ _. stopped_failed (done_on job tape lines readers.text) stopped;
         stopped = λ _. on_files stopped;
       };
       status = refl;
@@ -208,7 +217,7 @@ module _ {S T R O P : Type 0} {readers : Readers S T R} {writers : Writers O P} 
       out_timing = alone_timing;
     }
 
-    ends_refused : (f : JobFault) → is_stopped (Some f) ≡ false → done_on job tape lines ≡ refused_with f
+    ends_refused : (f : JobFault) → is_stopped (Some f) ≡ false → done_on job tape lines readers.text ≡ refused_with f
         → IsUnwritten writers → RunEnds readers writers job (outcome_by (Err f))
     ends_refused f unstopped same unwritten = record {
       done = λ e. absurd (cc);
@@ -236,7 +245,7 @@ module _ {S T R O P : Type 0} {readers : Readers S T R} {writers : Writers O P} 
       out_timing = λ _. unwritten.1;
     }
 
-    ends_at : (f : JobFault) → IsUndone writers job (done_on job tape lines) f
+    ends_at : (f : JobFault) → IsUndone writers job (done_on job tape lines readers.text) f
         → RunEnds readers writers job (outcome_by (Err f))
     ends_at f ends = elim ends [
       | inl (e, wants) ↦ subst (λ g. RunEnds readers writers job (outcome_by (Err g))) (sym e) (ends_for_memory wants)
@@ -246,7 +255,7 @@ module _ {S T R O P : Type 0} {readers : Readers S T R} {writers : Writers O P} 
       ]
     ]
 
-    pub ends_performed : (r : Result Ending JobFault) → JobEnds writers job (done_on job tape lines) r
+    pub ends_performed : (r : Result Ending JobFault) → JobEnds writers job (done_on job tape lines readers.text) r
         → RunEnds readers writers job (outcome_by r)
     ends_performed (Ok ending) done = ends_done ending done
     ends_performed (Err f) fault = ends_at f fault

@@ -1,5 +1,5 @@
 -- What clap makes of a plain command line.
-use Rattle.std.proofs.Common.{◌≡◌, ℕ, ◌&&◌, ◌||◌, Bool, true, false, not, List, [], ◌∷◌, ◌++◌, map, Option, Some, None, Ok, codes, ◌==◌, length, min, nat_lt, ◌+◌, arith, suc, take, refl, sym, ◌∙◌, ap, ap₂, subst, is_some, append_assoc, append-nil, if◌then◌else◌}
+use Rattle.std.proofs.Common.{◌≡◌, ℕ, ◌&&◌, ◌||◌, Bool, true, false, not, List, [], ◌∷◌, ◌++◌, map, Option, Some, None, Ok, chars, codes, ◌==◌, length, min, nat_lt, ◌+◌, arith, suc, take, refl, sym, ◌∙◌, ap, ap₂, subst, is_some, append_assoc, append-nil, if◌then◌else◌}
 use Rattle.std.proofs.lemmas.Bool.{eqb-true}
 use Rattle.std.proofs.lemmas.Bool.Decides.{nat_tests}
 use Rattle.std.specs.Char.{is_ascii_digit}
@@ -16,7 +16,7 @@ use Rattle.clap.specs.Walk.{Held, Names, Rule, Step, Walk, Waiting, after_step, 
 use Rattle.clap.proofs.OnLiterals.{clap_on_literals}
 use Rattle.tape_jobs.proofs.CommandLemmas.{is_simple_app, means, means_job}
 use Rattle.tape_core.specs.Seconds.{last_moment, micros, seconds_of}
-use Rattle.tape_jobs.specs.CommandLine.{typetool_app, clap_takes, every_allowed, every_of, after, readable, job_in, profile_named, value_in, subcommand_in, app_in, name_in, id_in, rule_in, flags_in, paths_in}
+use Rattle.tape_jobs.specs.CommandLine.{typetool_app, clap_takes, every_allowed, every_of, after, readable, job_in, is_searchable, moment_if, moment_or_last, profile_named, searchable, value_in, subcommand_in, app_in, name_in, id_in, rule_in, flags_in, texts_in, text_in, paths_in}
 use Rattle.tape_jobs.specs.Lines.{Asks, IsPlain, escaped_words, profile_or_first, profile_words}
 use Rattle.tape_jobs.specs.Stored.{usual_every}
 use Rattle.vt_term.specs.declared.profile.Profile.{Profile}
@@ -25,7 +25,7 @@ use Rattle.tape_jobs.specs.declared.job.Job.{Job}
 use Rattle.tape_jobs.specs.declared.job.Job.TheVariants as job
 use Rattle.tape_jobs.specs.declared.words.values.Unreadable.TheVariants as unread
 use Rattle.tape_jobs.specs.declared.words.table.Subcommand.{Subcommand}
-use Rattle.tape_jobs.specs.declared.words.table.Subcommand.TheVariants.{Due, Info, Screen, Changes, Reports, Save, Session}
+use Rattle.tape_jobs.specs.declared.words.table.Subcommand.TheVariants.{Due, Info, Screen, Changes, Find, Reports, Save, Session}
 
 both_true : (a b : Bool) → a ≡ true → b ≡ true → (a && b) ≡ true
 both_true a b e f = ap₂ (λ x y. x && y) e f
@@ -232,22 +232,24 @@ leaf s = built_leaf (inherited (with_leaf_noted (marked_built typetool_app.top))
 -- the walk of the whole command over the subcommand's name and the words behind it
 enters : (s : Subcommand) (words : List Text)
     → walk (built typetool_app).top.rules (names_of (built typetool_app)) nothing_held (name_in s ∷ words) ≡ halted (name_in s) words
-unfolding clap_on_literals typetool_app app_in name_in flags_in paths_in id_in rule_in
+unfolding clap_on_literals typetool_app app_in name_in flags_in texts_in paths_in id_in rule_in
 enters Due words = halted_walk (built typetool_app).top.rules (names_of (built typetool_app)) (name_in Due) [] words
 enters Info words = halted_walk (built typetool_app).top.rules (names_of (built typetool_app)) (name_in Info) [] words
 enters Screen words = halted_walk (built typetool_app).top.rules (names_of (built typetool_app)) (name_in Screen) [] words
 enters Changes words = halted_walk (built typetool_app).top.rules (names_of (built typetool_app)) (name_in Changes) [] words
+enters Find words = halted_walk (built typetool_app).top.rules (names_of (built typetool_app)) (name_in Find) [] words
 enters Reports words = halted_walk (built typetool_app).top.rules (names_of (built typetool_app)) (name_in Reports) [] words
 enters Save words = halted_walk (built typetool_app).top.rules (names_of (built typetool_app)) (name_in Save) [] words
 enters Session words = halted_walk (built typetool_app).top.rules (names_of (built typetool_app)) (name_in Session) [] words
 
 enter_passes : (s : Subcommand) (words : List Text)
     → walk_passes (built typetool_app).top (names_of (built typetool_app)) (walk_from nothing_held) (name_in s ∷ words) ≡ true
-unfolding clap_on_literals typetool_app app_in name_in flags_in paths_in id_in rule_in
+unfolding clap_on_literals typetool_app app_in name_in flags_in texts_in paths_in id_in rule_in
 enter_passes Due words = halted_passes (built typetool_app).top (names_of (built typetool_app)) (name_in Due) [] words
 enter_passes Info words = halted_passes (built typetool_app).top (names_of (built typetool_app)) (name_in Info) [] words
 enter_passes Screen words = halted_passes (built typetool_app).top (names_of (built typetool_app)) (name_in Screen) [] words
 enter_passes Changes words = halted_passes (built typetool_app).top (names_of (built typetool_app)) (name_in Changes) [] words
+enter_passes Find words = halted_passes (built typetool_app).top (names_of (built typetool_app)) (name_in Find) [] words
 enter_passes Reports words = halted_passes (built typetool_app).top (names_of (built typetool_app)) (name_in Reports) [] words
 enter_passes Save words = halted_passes (built typetool_app).top (names_of (built typetool_app)) (name_in Save) [] words
 enter_passes Session words = halted_passes (built typetool_app).top (names_of (built typetool_app)) (name_in Session) [] words
@@ -255,28 +257,30 @@ enter_passes Session words = halted_passes (built typetool_app).top (names_of (b
 -- what is entered is the subcommand
 entered_leaf : (s : Subcommand) (words : List Text)
     → entered (built typetool_app) (Some (name_in s, words)) ≡ Some (name_in s, rows_after (leaf s).rules [] words)
-unfolding typetool_app app_in name_in flags_in paths_in id_in rule_in
+unfolding typetool_app app_in name_in flags_in texts_in paths_in id_in rule_in
 entered_leaf Due words = refl
 entered_leaf Info words = refl
 entered_leaf Screen words = refl
 entered_leaf Changes words = refl
+entered_leaf Find words = refl
 entered_leaf Reports words = refl
 entered_leaf Save words = refl
 entered_leaf Session words = refl
 
 leaf_passes : (s : Subcommand) (words : List Text) → level_passes (leaf s) [] nothing_held words false ≡ true
     → entered_passes (built typetool_app) (Some (name_in s, words)) ≡ true
-unfolding typetool_app app_in name_in flags_in paths_in id_in rule_in
+unfolding typetool_app app_in name_in flags_in texts_in paths_in id_in rule_in
 leaf_passes Due words e = e
 leaf_passes Info words e = e
 leaf_passes Screen words e = e
 leaf_passes Changes words e = e
+leaf_passes Find words e = e
 leaf_passes Reports words e = e
 leaf_passes Save words e = e
 leaf_passes Session words e = e
 
 above_passes : settles (built typetool_app).top nothing_held true ≡ true
-unfolding typetool_app app_in name_in flags_in paths_in id_in rule_in
+unfolding typetool_app app_in name_in flags_in texts_in paths_in id_in rule_in
 above_passes = refl
 
 module _ (program : Text) (s : Subcommand) (words : List Word) (plain : ArePlain words) (taken : level_takes (leaf s) words ≡ true) where
@@ -300,13 +304,14 @@ module _ (program : Text) (s : Subcommand) (words : List Word) (plain : ArePlain
       ∙ ap (λ r. Some (name_in s, r)) (rows_by (leaf s) words plain taken)
 
   -- such a line asks for the job that its values mean
-  asks_by : (job : Job) (paths : List Text)
+  asks_by : (job : Job) (text : List ℕ) (paths : List Text)
       → job_in s (finished (leaf s).rules (end_of (leaf s) words).held) ≡ Ok job
+      → text ≡ text_in s (finished (leaf s).rules (end_of (leaf s) words).held)
       → paths ≡ map (λ a. value_in (id_in a) (finished (leaf s).rules (end_of (leaf s) words).held)) (paths_in s)
-      → Asks (program ∷ name_in s ∷ map text_of words) job paths
-  asks_by job paths is are = record {
+      → Asks (program ∷ name_in s ∷ map text_of words) job text paths
+  asks_by job text paths is beside are = record {
     taken = takes_line;
-    meaning = means _ s _ line_met ∙ ap (λ m. Some m) (means_job s _ job paths is are);
+    meaning = means _ s _ line_met ∙ ap (λ m. Some m) (means_job s _ job text paths is beside are);
   }
 
 -- ---- the values of flags
@@ -382,25 +387,25 @@ module _ (program script timing : Text) (p : IsPlain script) (q : IsPlain timing
   abbrev as_vt102 : List Word
   as_vt102 = literal (codes "--profile") ∷ literal (codes "vt102") ∷ files
 
-  pub info_line : Asks (program ∷ codes "info" ∷ script ∷ timing ∷ []) job.Info paths
-  unfolding clap_on_literals typetool_app app_in name_in flags_in paths_in id_in rule_in job_in
-  info_line = asks_by program Info files (p, (q, tt)) refl job.Info paths refl refl
+  pub info_line : Asks (program ∷ codes "info" ∷ script ∷ timing ∷ []) job.Info [] paths
+  unfolding clap_on_literals typetool_app app_in name_in flags_in texts_in paths_in id_in rule_in job_in text_in
+  info_line = asks_by program Info files (p, (q, tt)) refl job.Info [] paths refl refl refl
 
   pub save_line : (new_script new_timing : Text) → IsPlain new_script → IsPlain new_timing
-      → Asks (program ∷ codes "save" ∷ script ∷ timing ∷ new_script ∷ new_timing ∷ []) job.Save (script ∷ timing ∷ new_script ∷ new_timing ∷ [])
-  unfolding clap_on_literals typetool_app app_in name_in flags_in paths_in id_in rule_in job_in
+      → Asks (program ∷ codes "save" ∷ script ∷ timing ∷ new_script ∷ new_timing ∷ []) job.Save [] (script ∷ timing ∷ new_script ∷ new_timing ∷ [])
+  unfolding clap_on_literals typetool_app app_in name_in flags_in texts_in paths_in id_in rule_in job_in text_in
   save_line new_script new_timing r t =
       asks_by program Save (value_word script ∷ value_word timing ∷ value_word new_script ∷ value_word new_timing ∷ [])
-      (p, (q, (r, (t, tt)))) refl job.Save (script ∷ timing ∷ new_script ∷ new_timing ∷ []) refl refl
+      (p, (q, (r, (t, tt)))) refl job.Save [] (script ∷ timing ∷ new_script ∷ new_timing ∷ []) refl refl refl
 
   pub session_line : (profile : Option Profile)
-      → Asks (program ∷ codes "session" ∷ (profile_words profile ++ paths)) (job.Session usual_every (profile_or_first profile)) paths
-  unfolding clap_on_literals typetool_app app_in name_in flags_in paths_in id_in rule_in job_in profile_named
-  session_line None = asks_by program Session files (p, (q, tt)) refl (job.Session usual_every Vt100) paths refl refl
+      → Asks (program ∷ codes "session" ∷ (profile_words profile ++ paths)) (job.Session usual_every (profile_or_first profile)) [] paths
+  unfolding clap_on_literals typetool_app app_in name_in flags_in texts_in paths_in id_in rule_in job_in text_in profile_named
+  session_line None = asks_by program Session files (p, (q, tt)) refl (job.Session usual_every Vt100) [] paths refl refl refl
   session_line (Some Vt100) =
-      asks_by program Session (as_vt100) (p, (q, tt)) refl (job.Session usual_every Vt100) paths refl refl
+      asks_by program Session (as_vt100) (p, (q, tt)) refl (job.Session usual_every Vt100) [] paths refl refl refl
   session_line (Some Vt102) =
-      asks_by program Session (as_vt102) (p, (q, tt)) refl (job.Session usual_every Vt102) paths refl refl
+      asks_by program Session (as_vt102) (p, (q, tt)) refl (job.Session usual_every Vt102) [] paths refl refl refl
 
   -- the lines with a moment
   module _ (at : Text) (moment : ℕ) (e : seconds_of at ≡ Some moment) where
@@ -411,63 +416,63 @@ module _ (program script timing : Text) (p : IsPlain script) (q : IsPlain timing
     moment_read : (of : ℕ → Job) → after (readable unread.Seconds (seconds_of at)) (λ m. Ok (of m)) ≡ Ok (of moment)
     moment_read of = ap (λ o. after (readable unread.Seconds o) (λ m. Ok (of m))) e
 
-    pub due_line : Asks (program ∷ codes "due" ∷ codes "--at" ∷ at ∷ script ∷ timing ∷ []) (job.Due moment) paths
-    unfolding clap_on_literals typetool_app app_in name_in flags_in paths_in id_in rule_in job_in
+    pub due_line : Asks (program ∷ codes "due" ∷ codes "--at" ∷ at ∷ script ∷ timing ∷ []) (job.Due moment) [] paths
+    unfolding clap_on_literals typetool_app app_in name_in flags_in texts_in paths_in id_in rule_in job_in text_in
     due_line =
-        asks_by program Due (literal (codes "--at") ∷ value_word at ∷ files) are_plain refl (job.Due moment) paths
-        (moment_read (λ m. job.Due m)) refl
+        asks_by program Due (literal (codes "--at") ∷ value_word at ∷ files) are_plain refl (job.Due moment) [] paths
+        (moment_read (λ m. job.Due m)) refl refl
 
     pub reports_line : (profile : Option Profile)
         → Asks (program ∷ codes "reports" ∷ codes "--at" ∷ at ∷ (profile_words profile ++ paths))
-        (job.Reports moment (profile_or_first profile)) paths
-    unfolding clap_on_literals typetool_app app_in name_in flags_in paths_in id_in rule_in job_in profile_named
+        (job.Reports moment (profile_or_first profile)) [] paths
+    unfolding clap_on_literals typetool_app app_in name_in flags_in texts_in paths_in id_in rule_in job_in text_in profile_named
     reports_line None =
-        asks_by program Reports (literal (codes "--at") ∷ value_word at ∷ files) are_plain refl (job.Reports moment Vt100) paths
-        (moment_read (λ m. job.Reports m Vt100)) refl
+        asks_by program Reports (literal (codes "--at") ∷ value_word at ∷ files) are_plain refl (job.Reports moment Vt100) [] paths
+        (moment_read (λ m. job.Reports m Vt100)) refl refl
     reports_line (Some Vt100) =
         asks_by program Reports (literal (codes "--at") ∷ value_word at ∷ as_vt100) are_plain refl
-        (job.Reports moment Vt100) paths (moment_read (λ m. job.Reports m Vt100)) refl
+        (job.Reports moment Vt100) [] paths (moment_read (λ m. job.Reports m Vt100)) refl refl
     reports_line (Some Vt102) =
         asks_by program Reports (literal (codes "--at") ∷ value_word at ∷ as_vt102) are_plain refl
-        (job.Reports moment Vt102) paths (moment_read (λ m. job.Reports m Vt102)) refl
+        (job.Reports moment Vt102) [] paths (moment_read (λ m. job.Reports m Vt102)) refl refl
 
     pub screen_line : (escaped : Bool) (profile : Option Profile)
         → Asks (program ∷ codes "screen" ∷ codes "--at" ∷ at ∷ ((escaped_words escaped ++ profile_words profile) ++ paths))
-        (job.Screen moment (profile_or_first profile) escaped) paths
-    unfolding clap_on_literals typetool_app app_in name_in flags_in paths_in id_in rule_in job_in profile_named
+        (job.Screen moment (profile_or_first profile) escaped) [] paths
+    unfolding clap_on_literals typetool_app app_in name_in flags_in texts_in paths_in id_in rule_in job_in text_in profile_named
     screen_line false None =
-        asks_by program Screen (literal (codes "--at") ∷ value_word at ∷ files) are_plain refl (job.Screen moment Vt100 false) paths
-        (moment_read (λ m. job.Screen m Vt100 false)) refl
+        asks_by program Screen (literal (codes "--at") ∷ value_word at ∷ files) are_plain refl (job.Screen moment Vt100 false) [] paths
+        (moment_read (λ m. job.Screen m Vt100 false)) refl refl
     screen_line false (Some Vt100) =
         asks_by program Screen (literal (codes "--at") ∷ value_word at ∷ as_vt100) are_plain refl
-        (job.Screen moment Vt100 false) paths (moment_read (λ m. job.Screen m Vt100 false)) refl
+        (job.Screen moment Vt100 false) [] paths (moment_read (λ m. job.Screen m Vt100 false)) refl refl
     screen_line false (Some Vt102) =
         asks_by program Screen (literal (codes "--at") ∷ value_word at ∷ as_vt102) are_plain refl
-        (job.Screen moment Vt102 false) paths (moment_read (λ m. job.Screen m Vt102 false)) refl
+        (job.Screen moment Vt102 false) [] paths (moment_read (λ m. job.Screen m Vt102 false)) refl refl
     screen_line true None =
         asks_by program Screen (literal (codes "--at") ∷ value_word at ∷ literal (codes "--escaped") ∷ files) are_plain refl
-        (job.Screen moment Vt100 true) paths
-        (moment_read (λ m. job.Screen m Vt100 true)) refl
+        (job.Screen moment Vt100 true) [] paths
+        (moment_read (λ m. job.Screen m Vt100 true)) refl refl
     screen_line true (Some Vt100) =
         asks_by program Screen (literal (codes "--at") ∷ value_word at ∷ literal (codes "--escaped") ∷ as_vt100) are_plain refl
-        (job.Screen moment Vt100 true) paths (moment_read (λ m. job.Screen m Vt100 true)) refl
+        (job.Screen moment Vt100 true) [] paths (moment_read (λ m. job.Screen m Vt100 true)) refl refl
     screen_line true (Some Vt102) =
         asks_by program Screen (literal (codes "--at") ∷ value_word at ∷ literal (codes "--escaped") ∷ as_vt102) are_plain refl
-        (job.Screen moment Vt102 true) paths (moment_read (λ m. job.Screen m Vt102 true)) refl
+        (job.Screen moment Vt102 true) [] paths (moment_read (λ m. job.Screen m Vt102 true)) refl refl
 
     pub changes_line : (profile : Option Profile)
         → Asks (program ∷ codes "changes" ∷ codes "--to" ∷ at ∷ (profile_words profile ++ paths))
-        (job.Changes None moment (profile_or_first profile)) paths
-    unfolding clap_on_literals typetool_app app_in name_in flags_in paths_in id_in rule_in job_in profile_named
+        (job.Changes None moment (profile_or_first profile)) [] paths
+    unfolding clap_on_literals typetool_app app_in name_in flags_in texts_in paths_in id_in rule_in job_in text_in profile_named
     changes_line None =
-        asks_by program Changes (literal (codes "--to") ∷ value_word at ∷ files) are_plain refl (job.Changes None moment Vt100) paths
-        (moment_read (λ m. job.Changes None m Vt100)) refl
+        asks_by program Changes (literal (codes "--to") ∷ value_word at ∷ files) are_plain refl (job.Changes None moment Vt100) [] paths
+        (moment_read (λ m. job.Changes None m Vt100)) refl refl
     changes_line (Some Vt100) =
         asks_by program Changes (literal (codes "--to") ∷ value_word at ∷ as_vt100) are_plain refl
-        (job.Changes None moment Vt100) paths (moment_read (λ m. job.Changes None m Vt100)) refl
+        (job.Changes None moment Vt100) [] paths (moment_read (λ m. job.Changes None m Vt100)) refl refl
     changes_line (Some Vt102) =
         asks_by program Changes (literal (codes "--to") ∷ value_word at ∷ as_vt102) are_plain refl
-        (job.Changes None moment Vt102) paths (moment_read (λ m. job.Changes None m Vt102)) refl
+        (job.Changes None moment Vt102) [] paths (moment_read (λ m. job.Changes None m Vt102)) refl refl
 
     -- and with two
     module _ (from : Text) (start : ℕ) (d : seconds_of from ≡ Some start) where
@@ -485,18 +490,86 @@ module _ (program script timing : Text) (p : IsPlain script) (q : IsPlain timing
 
       pub changes_from_line : (profile : Option Profile)
           → Asks (program ∷ codes "changes" ∷ codes "--from" ∷ from ∷ codes "--to" ∷ at ∷ (profile_words profile ++ paths))
-          (job.Changes (Some start) moment (profile_or_first profile)) paths
-      unfolding clap_on_literals typetool_app app_in name_in flags_in paths_in id_in rule_in job_in profile_named
+          (job.Changes (Some start) moment (profile_or_first profile)) [] paths
+      unfolding clap_on_literals typetool_app app_in name_in flags_in texts_in paths_in id_in rule_in job_in text_in profile_named
       changes_from_line None =
           asks_by program Changes (literal (codes "--from") ∷ value_word from ∷ literal (codes "--to") ∷ value_word at ∷ files) both_plain refl
-          (job.Changes (Some start) moment Vt100) paths
-          (both_read Vt100) refl
+          (job.Changes (Some start) moment Vt100) [] paths
+          (both_read Vt100) refl refl
       changes_from_line (Some Vt100) =
           asks_by program Changes (literal (codes "--from") ∷ value_word from ∷ literal (codes "--to") ∷ value_word at ∷ as_vt100) both_plain refl
-          (job.Changes (Some start) moment Vt100) paths (both_read Vt100) refl
+          (job.Changes (Some start) moment Vt100) [] paths (both_read Vt100) refl refl
       changes_from_line (Some Vt102) =
           asks_by program Changes (literal (codes "--from") ∷ value_word from ∷ literal (codes "--to") ∷ value_word at ∷ as_vt102) both_plain refl
-          (job.Changes (Some start) moment Vt102) paths (both_read Vt102) refl
+          (job.Changes (Some start) moment Vt102) [] paths (both_read Vt102) refl refl
+
+  -- the lines with a text
+  module _ (text : Text) (r : IsPlain text) (found : is_searchable (chars text) ≡ true) where
+    abbrev searched : List Word
+    searched = value_word text ∷ files
+
+    abbrev profiled : Option Profile → List Word
+    profiled None = searched
+    profiled (Some Vt100) = literal (codes "--profile") ∷ literal (codes "vt100") ∷ searched
+    profiled (Some Vt102) = literal (codes "--profile") ∷ literal (codes "vt102") ∷ searched
+
+    text_plain : ArePlain searched
+    text_plain = (r, (p, (q, tt)))
+
+    -- the text is judged last
+    text_read : (job : Job) → after (readable unread.Text (searchable (chars text))) (λ t. Ok job) ≡ Ok job
+    text_read job = ap (λ b. after (readable unread.Text (if b then Some (chars text) else None)) (λ t. Ok job)) found
+
+    pub find_line : (profile : Option Profile)
+        → Asks (program ∷ codes "find" ∷ (profile_words profile ++ text ∷ paths))
+        (job.Find None last_moment (profile_or_first profile)) (chars text) paths
+    unfolding clap_on_literals typetool_app app_in name_in flags_in texts_in paths_in id_in rule_in job_in text_in profile_named
+    find_line None =
+        asks_by program Find (profiled None) text_plain refl (job.Find None last_moment Vt100) (chars text) paths
+        (text_read (job.Find None last_moment Vt100)) refl refl
+    find_line (Some Vt100) =
+        asks_by program Find (profiled (Some Vt100)) text_plain refl (job.Find None last_moment Vt100) (chars text) paths
+        (text_read (job.Find None last_moment Vt100)) refl refl
+    find_line (Some Vt102) =
+        asks_by program Find (profiled (Some Vt102)) text_plain refl (job.Find None last_moment Vt102) (chars text) paths
+        (text_read (job.Find None last_moment Vt102)) refl refl
+
+    -- between two moments
+    module _ (from : Text) (start : ℕ) (d : seconds_of from ≡ Some start)
+        (to : Text) (end : ℕ) (e : seconds_of to ≡ Some end) where
+      abbrev between : Option Profile → List Word
+      between profile =
+          literal (codes "--from") ∷ value_word from ∷ literal (codes "--to") ∷ value_word to ∷ profiled profile
+
+      between_read : (played : Profile)
+          → after (moment_if (Some from))
+          (λ first. after (after (moment_if (Some to)) (λ given. Ok (moment_or_last given)))
+          (λ last. after (readable unread.Text (searchable (chars text))) (λ t. Ok (job.Find first last played))))
+          ≡ Ok (job.Find (Some start) end played)
+      between_read played =
+          ap (λ o. after (after (readable unread.Seconds o) (λ m. Ok (Some m)))
+          (λ first. after (after (moment_if (Some to)) (λ given. Ok (moment_or_last given)))
+          (λ last. after (readable unread.Text (searchable (chars text))) (λ t. Ok (job.Find first last played))))) d
+          ∙ ap (λ o. after (after (after (readable unread.Seconds o) (λ m. Ok (Some m))) (λ given. Ok (moment_or_last given)))
+          (λ last. after (readable unread.Text (searchable (chars text))) (λ t. Ok (job.Find (Some start) last played)))) e
+          ∙ text_read (job.Find (Some start) end played)
+
+      between_plain : ArePlain (value_word from ∷ value_word to ∷ searched)
+      between_plain = (seconds_are_plain from start d, (seconds_are_plain to end e, text_plain))
+
+      pub find_between_line : (profile : Option Profile)
+          → Asks (program ∷ codes "find" ∷ codes "--from" ∷ from ∷ codes "--to" ∷ to ∷ (profile_words profile ++ text ∷ paths))
+          (job.Find (Some start) end (profile_or_first profile)) (chars text) paths
+      unfolding clap_on_literals typetool_app app_in name_in flags_in texts_in paths_in id_in rule_in job_in text_in profile_named
+      find_between_line None =
+          asks_by program Find (between None) between_plain refl (job.Find (Some start) end Vt100) (chars text) paths
+          (between_read Vt100) refl refl
+      find_between_line (Some Vt100) =
+          asks_by program Find (between (Some Vt100)) between_plain refl (job.Find (Some start) end Vt100) (chars text) paths
+          (between_read Vt100) refl refl
+      find_between_line (Some Vt102) =
+          asks_by program Find (between (Some Vt102)) between_plain refl (job.Find (Some start) end Vt102) (chars text) paths
+          (between_read Vt102) refl refl
 
   -- the line with a number of chunks
   module _ (every : Text) (count : ℕ) (e : every_of every ≡ Some count) where
@@ -509,14 +582,14 @@ module _ (program script timing : Text) (p : IsPlain script) (q : IsPlain timing
 
     pub session_every_line : (profile : Option Profile)
         → Asks (program ∷ codes "session" ∷ codes "--every" ∷ every ∷ (profile_words profile ++ paths))
-        (job.Session count (profile_or_first profile)) paths
-    unfolding clap_on_literals typetool_app app_in name_in flags_in paths_in id_in rule_in job_in profile_named
+        (job.Session count (profile_or_first profile)) [] paths
+    unfolding clap_on_literals typetool_app app_in name_in flags_in texts_in paths_in id_in rule_in job_in text_in profile_named
     session_every_line None =
         asks_by program Session (literal (codes "--every") ∷ value_word every ∷ files) number_plain refl
-        (job.Session count Vt100) paths (number_read Vt100) refl
+        (job.Session count Vt100) [] paths (number_read Vt100) refl refl
     session_every_line (Some Vt100) =
         asks_by program Session (literal (codes "--every") ∷ value_word every ∷ as_vt100) number_plain refl
-        (job.Session count Vt100) paths (number_read Vt100) refl
+        (job.Session count Vt100) [] paths (number_read Vt100) refl refl
     session_every_line (Some Vt102) =
         asks_by program Session (literal (codes "--every") ∷ value_word every ∷ as_vt102) number_plain refl
-        (job.Session count Vt102) paths (number_read Vt102) refl
+        (job.Session count Vt102) [] paths (number_read Vt102) refl refl

@@ -1,21 +1,23 @@
 -- The command line: the table of subcommands, what clap is told of it, and the job and the paths that its answer means.
-use Rattle.std.specs.Prelude.{◌≡◌, ℕ, ◌⊎◌, ◌++◌, Bool, true, false, List, [], ◌∷◌, map, Option, Some, None, Result, Ok, Err, codes, unwrap_or, string_bytes, find, fold, nat_lt, ◌||◌, if◌then◌else◌}
+use Rattle.std.specs.Prelude.{◌≡◌, ℕ, ◌⊎◌, ◌++◌, Bool, true, false, List, [], ◌∷◌, map, Option, Some, None, Result, Ok, Err, codes, unwrap_or, string_bytes, chars, find, fold, nat_lt, not, ◌==◌, ◌&&◌, ◌||◌, if◌then◌else◌}
+use Rattle.std.specs.Char.{is_control}
+use Rattle.std.specs.List.{list_all, list_any}
 use Rattle.std.specs.Option.{option_and_then, option_map}
 use Rattle.std.specs.Str.{bytes_eq}
 use Rattle.clap.specs.Words.{App, IsAmong, Kinds, Row, Rule, Shape, Text, fault_of, first_of, kind_of, new_app, new_rule, subcommand_of, takes, with_subcommand}
 use Rattle.clap.specs.declared.builder.ArgAction.TheVariants.{Set, SetTrue}
-use Rattle.tape_core.specs.Seconds.{seconds_of}
+use Rattle.tape_core.specs.Seconds.{last_moment, seconds_of}
 use Rattle.tape_seek.specs.Requests.{place_of}
 use Rattle.tape_jobs.specs.Stored.{least_every, most_every, usual_every}
 use Rattle.tape_jobs.specs.declared.job.Job.{Job}
 use Rattle.tape_jobs.specs.declared.job.Job.TheVariants as job
 use Rattle.tape_jobs.specs.declared.words.Words.{Words}
 use Rattle.tape_jobs.specs.declared.words.WordsFault.{WordsFault}
-use Rattle.tape_jobs.specs.declared.words.WordsFault.TheVariants.{Clap, Memory, BadSeconds, BadEvery, BadProfile}
+use Rattle.tape_jobs.specs.declared.words.WordsFault.TheVariants.{Clap, Memory, BadSeconds, BadEvery, BadProfile, BadText}
 use Rattle.tape_jobs.specs.declared.words.table.Argument.{Argument}
-use Rattle.tape_jobs.specs.declared.words.table.Argument.TheVariants.{At, From, To, Every, Profile, Escaped, Script, Timing, NewScript, NewTiming}
+use Rattle.tape_jobs.specs.declared.words.table.Argument.TheVariants.{At, From, To, Until, Every, Profile, Escaped, Sought, Script, Timing, NewScript, NewTiming}
 use Rattle.tape_jobs.specs.declared.words.table.Subcommand.{Subcommand}
-use Rattle.tape_jobs.specs.declared.words.table.Subcommand.TheVariants.{Due, Info, Screen, Changes, Reports, Save, Session}
+use Rattle.tape_jobs.specs.declared.words.table.Subcommand.TheVariants.{Due, Info, Screen, Changes, Find, Reports, Save, Session}
 use Rattle.tape_jobs.specs.declared.words.values.Unreadable.{Unreadable}
 use Rattle.tape_jobs.specs.declared.words.values.Unreadable.TheVariants as unread
 use Rattle.vt_term.specs.declared.profile.Profile.{Profile as Played}
@@ -25,7 +27,7 @@ use Rattle.vt_term.specs.declared.profile.Profile.TheVariants.{Vt100, Vt102}
 
 -- the subcommands, in the order in which help tells them (ours)
 abbrev pub subcommands_in_order : List Subcommand
-subcommands_in_order = Due ∷ Info ∷ Screen ∷ Changes ∷ Reports ∷ Save ∷ Session ∷ []
+subcommands_in_order = Due ∷ Info ∷ Screen ∷ Changes ∷ Find ∷ Reports ∷ Save ∷ Session ∷ []
 
 -- the name of a subcommand (ours)
 unfoldable pub name_in : Subcommand → Text
@@ -33,6 +35,7 @@ name_in Due = codes "due"
 name_in Info = codes "info"
 name_in Screen = codes "screen"
 name_in Changes = codes "changes"
+name_in Find = codes "find"
 name_in Reports = codes "reports"
 name_in Save = codes "save"
 name_in Session = codes "session"
@@ -43,9 +46,15 @@ flags_in Due = At ∷ []
 flags_in Info = []
 flags_in Screen = At ∷ Escaped ∷ Profile ∷ []
 flags_in Changes = From ∷ To ∷ Profile ∷ []
+flags_in Find = From ∷ Until ∷ Profile ∷ []
 flags_in Reports = At ∷ Profile ∷ []
 flags_in Save = []
 flags_in Session = Every ∷ Profile ∷ []
+
+-- the texts of a subcommand, which stand before its paths (ours)
+unfoldable pub texts_in : Subcommand → List Argument
+texts_in Find = Sought ∷ []
+texts_in _ = []
 
 -- the paths of a subcommand, in the line's order (ours)
 unfoldable pub paths_in : Subcommand → List Argument
@@ -53,6 +62,7 @@ paths_in Due = Script ∷ Timing ∷ []
 paths_in Info = Script ∷ Timing ∷ []
 paths_in Screen = Script ∷ Timing ∷ []
 paths_in Changes = Script ∷ Timing ∷ []
+paths_in Find = Script ∷ Timing ∷ []
 paths_in Reports = Script ∷ Timing ∷ []
 paths_in Save = Script ∷ Timing ∷ NewScript ∷ NewTiming ∷ []
 paths_in Session = Script ∷ Timing ∷ []
@@ -62,9 +72,11 @@ unfoldable pub id_in : Argument → Text
 id_in At = codes "at"
 id_in From = codes "from"
 id_in To = codes "to"
+id_in Until = codes "to"
 id_in Every = codes "every"
 id_in Profile = codes "profile"
 id_in Escaped = codes "escaped"
+id_in Sought = codes "text"
 id_in Script = codes "script"
 id_in Timing = codes "timing"
 id_in NewScript = codes "new-script"
@@ -83,22 +95,24 @@ optional_rule id = record (new_rule id) { long = Some id; action = Some Set; val
 abbrev pub switch_rule : Text → Rule
 switch_rule id = record (new_rule id) { long = Some id; action = Some SetTrue }
 
--- a path that must be given (ours)
-abbrev pub path_rule : Text → Rule
-path_rule id = record (new_rule id) { action = Some Set; required = true; value_names = 1 }
+-- a text or a path that must be given (ours)
+abbrev pub positional_rule : Text → Rule
+positional_rule id = record (new_rule id) { action = Some Set; required = true; value_names = 1 }
 
 -- what clap is told of an argument (ours)
 unfoldable pub rule_in : Argument → Rule
 rule_in At = seconds_rule (id_in At)
 rule_in From = optional_rule (id_in From)
 rule_in To = seconds_rule (id_in To)
+rule_in Until = optional_rule (id_in Until)
 rule_in Every = optional_rule (id_in Every)
 rule_in Profile = optional_rule (id_in Profile)
 rule_in Escaped = switch_rule (id_in Escaped)
-rule_in Script = path_rule (id_in Script)
-rule_in Timing = path_rule (id_in Timing)
-rule_in NewScript = path_rule (id_in NewScript)
-rule_in NewTiming = path_rule (id_in NewTiming)
+rule_in Sought = positional_rule (id_in Sought)
+rule_in Script = positional_rule (id_in Script)
+rule_in Timing = positional_rule (id_in Timing)
+rule_in NewScript = positional_rule (id_in NewScript)
+rule_in NewTiming = positional_rule (id_in NewTiming)
 
 -- ---- values
 
@@ -128,6 +142,14 @@ moment_if (Some text) = after (readable unread.Seconds (seconds_of text)) (λ mo
 -- the moment that a flag gives, in microseconds, if it is given (ours)
 abbrev pub moment_given_in : Text → List Row → Result (Option ℕ) Unreadable
 moment_given_in id rows = moment_if (first_of id rows)
+
+-- the moment that a flag gives, in microseconds, and the last moment there is, if it isn't given: each chunk is due by
+-- then (ours)
+abbrev pub moment_or_last : Option ℕ → ℕ
+moment_or_last given = unwrap_or given last_moment
+
+abbrev pub moment_or_last_in : Text → List Row → Result ℕ Unreadable
+moment_or_last_in id rows = after (moment_given_in id rows) (λ given. Ok (moment_or_last given))
 
 -- the number, if so many chunks may lie between stored terminals: from 1 to 1,000,000 (ours)
 abbrev pub every_allowed : ℕ → Option ℕ
@@ -161,6 +183,18 @@ profile_if (Some text) = readable unread.Profile (profile_named text)
 abbrev pub profile_in : List Row → Result Played Unreadable
 profile_in rows = profile_if (first_of (id_in Profile) rows)
 
+-- whether these characters can be looked for: one of them isn't a space, and none is a control character, below U+0020
+-- or from U+007F to U+009F (ours)
+unfoldable pub is_searchable : List ℕ → Bool
+is_searchable text = list_any (λ c. not (c == 32)) text && list_all (λ c. not (is_control c)) text
+
+-- the characters of a text that can be looked for (ours)
+abbrev pub searchable : List ℕ → Option (List ℕ)
+searchable text = if is_searchable text then Some text else None
+
+abbrev pub searched_in : List Row → Result (List ℕ) Unreadable
+searched_in rows = readable unread.Text (searchable (chars (value_in (id_in Sought) rows)))
+
 -- whether a flag without a value is given: clap tells `true` then, and else `false` (ours)
 abbrev pub switch_in : Text → List Row → Bool
 switch_in id rows = bytes_eq (value_in id rows) (codes "true")
@@ -175,6 +209,10 @@ job_in Screen rows =
 job_in Changes rows =
     after (moment_given_in (id_in From) rows) (λ from. after (moment_in (id_in To) rows) (λ to.
     after (profile_in rows) (λ profile. Ok (job.Changes from to profile))))
+job_in Find rows =
+    after (moment_given_in (id_in From) rows) (λ from. after (moment_or_last_in (id_in Until) rows) (λ to.
+    after (profile_in rows) (λ profile. after (searched_in rows) (λ text.
+    Ok (job.Find from to profile)))))
 job_in Reports rows =
     after (moment_in (id_in At) rows) (λ at. after (profile_in rows) (λ profile.
     Ok (job.Reports at profile)))
@@ -189,10 +227,11 @@ job_in Session rows =
 abbrev pub with_rules : App → List Rule → App
 with_rules a rules = record a { top = record a.top { rules = a.top.rules ++ rules } }
 
--- a subcommand: its flags, and then its paths (ours)
+-- a subcommand: its flags, its texts, and then its paths (ours)
 unfoldable pub app_in : Subcommand → App
 app_in s =
-    with_rules (with_rules (new_app (name_in s)) (map rule_in (flags_in s))) (map rule_in (paths_in s))
+    with_rules (with_rules (with_rules (new_app (name_in s)) (map rule_in (flags_in s)))
+    (map rule_in (texts_in s))) (map rule_in (paths_in s))
 
 -- the program's name and version, and that a subcommand must follow (ours)
 abbrev pub top_app : App
@@ -232,15 +271,24 @@ IsNamed name (s ∷ rest) = (name ≡ Some s.name) ⊎ IsNamed name rest
 
 -- ---- what the words mean
 
--- a job, and the paths in the line's order (ours)
+-- a job, the characters of the text beside it, and the paths in the line's order (ours)
 pub record Meaning : Type 0 where
   pub job : Job
+  pub text : List ℕ
   pub paths : List Text
+
+-- the characters of the text beside a job: what `find` looks for, and none for the others (ours)
+unfoldable pub text_in : Subcommand → List Row → List ℕ
+text_in Find rows = chars (value_in (id_in Sought) rows)
+text_in _ rows = []
 
 -- what a subcommand means with these values, or what of them isn't readable (ours)
 abbrev pub meaning_in : Subcommand → List Row → Result Meaning Unreadable
-meaning_in s rows = after (job_in s rows) (λ job.
-    Ok (record { job = job; paths = map (λ a. value_in (id_in a) rows) (paths_in s) }))
+meaning_in s rows = after (job_in s rows) (λ job. Ok (record {
+  job = job;
+  text = text_in s rows;
+  paths = map (λ a. value_in (id_in a) rows) (paths_in s);
+}))
 
 -- what a subcommand means by its name and its values (ours)
 abbrev pub meaning_of : Text × List Row → Option (Result Meaning Unreadable)
@@ -251,9 +299,10 @@ meaning_of met = option_map (λ s. meaning_in s met.1)
 unfoldable pub meaning_of_words : List Text → Option (Result Meaning Unreadable)
 meaning_of_words words = option_and_then meaning_of (subcommand_in words)
 
--- the job and the paths that were read (ours)
+-- the job, the text and the paths that were read (ours)
 abbrev pub meaning_read : Words → Meaning
-meaning_read words = record { job = words.job; paths = map string_bytes words.paths.items }
+meaning_read words =
+    record { job = words.job; text = words.text.items; paths = map string_bytes words.paths.items }
 
 -- how many paths a job has (ours)
 abbrev pub path_count : Job → ℕ
@@ -261,6 +310,7 @@ path_count (job.Due at) = 2
 path_count job.Info = 2
 path_count (job.Screen at profile escaped) = 2
 path_count (job.Changes from to profile) = 2
+path_count (job.Find from to profile) = 2
 path_count (job.Reports at profile) = 2
 path_count job.Save = 4
 path_count (job.Session every profile) = 2
@@ -270,6 +320,7 @@ abbrev pub fault_of_unread : Unreadable → WordsFault
 fault_of_unread unread.Seconds = BadSeconds
 fault_of_unread unread.Every = BadEvery
 fault_of_unread unread.Profile = BadProfile
+fault_of_unread unread.Text = BadText
 
 -- clap reads these words, and this of them isn't readable (ours)
 abbrev pub IsUnreadable : List Text → Unreadable → Type 0
@@ -277,10 +328,11 @@ IsUnreadable words fault =
     (clap_faults words ≡ []) × (meaning_of_words words ≡ Some (Err fault))
 
 -- why words aren't a job: clap finds a fault of that kind in them and doesn't promise to take them, or it reads them
--- and some seconds aren't readable, or the number of chunks, or the profile; memory may always be refused (ours)
+-- and some seconds aren't readable, or the number of chunks, the profile, or the text; memory may always be refused (ours)
 abbrev pub FailsFor : List Text → WordsFault → Type 0
 FailsFor words (Clap e) = IsAmong (kind_of e) (clap_faults words) × (clap_takes words ≡ false)
 FailsFor words Memory = Unit {0}
 FailsFor words BadSeconds = IsUnreadable words unread.Seconds
 FailsFor words BadEvery = IsUnreadable words unread.Every
 FailsFor words BadProfile = IsUnreadable words unread.Profile
+FailsFor words BadText = IsUnreadable words unread.Text

@@ -45,31 +45,35 @@ HasFailed device = has_failed device.new ≡ true
 abbrev pub AsksNothing : {T : Type 0} → Device T → Type 0
 AsksNothing device = device.new ≡ device.old
 
--- the readers of a job (ours)
+-- the readers of a job, and the characters of the text beside it (ours)
 pub record Readers (S T R : Type 0) : Type 0 where
   pub script : Device S
   pub timing : Device T
   pub requests : Device R
+  pub text : List ℕ
 
 -- its writers: of its text, and of a new timing (ours)
 pub record Writers (O P : Type 0) : Type 0 where
   pub out : Device O
   pub out_timing : Device P
 
-abbrev pub readers_of : {S T R : Type 0} → Device S → Device T → Device R → Readers S T R
-readers_of script timing requests =
-    record { script = script; timing = timing; requests = requests }
+abbrev pub readers_of : {S T R : Type 0} → Device S → Device T → Device R → List ℕ
+    → Readers S T R
+readers_of script timing requests text =
+    record { script = script; timing = timing; requests = requests; text = text }
 
 abbrev pub writers_of : {O P : Type 0} → Device O → Device P → Writers O P
 writers_of out out_timing = record { out = out; out_timing = out_timing }
 
--- the readers have these texts to tell; the requests matter where the job reads them (ours)
+-- the readers have these texts to tell; the requests matter where the job reads them; and the text is the one beside
+-- the job (ours)
 pub record HoldFiles {S T R : Type 0} (readers : Readers S T R) (job : Job) (files : Files)
     : Type 0 where
   pub script : readers.script.bytes (inner_of readers.script.old) ≡ Some files.script
   pub timing : readers.timing.bytes (inner_of readers.timing.old) ≡ Some files.timing
   pub requests : takes_requests job ≡ true
       → readers.requests.bytes (inner_of readers.requests.old) ≡ Some files.requests
+  pub text : files.text ≡ readers.text
 
 -- no reader has failed (ours)
 abbrev pub AreRead : {S T R : Type 0} → Readers S T R → Type 0

@@ -1,7 +1,7 @@
 -- What a plain command line means: each line of the synopsis, its flags in the order of help (ours).
-use Rattle.std.specs.Prelude.{◌≡◌, ◌==◌, ◌++◌, Bool, true, false, List, [], ◌∷◌, Option, Some, None, Ok, codes}
+use Rattle.std.specs.Prelude.{◌≡◌, ℕ, chars, ◌==◌, ◌++◌, Bool, true, false, List, [], ◌∷◌, Option, Some, None, Ok, codes}
 use Rattle.clap.specs.Words.{Text}
-use Rattle.tape_jobs.specs.CommandLine.{clap_takes, meaning_of_words}
+use Rattle.tape_jobs.specs.CommandLine.{clap_takes, is_searchable, meaning_of_words}
 use Rattle.tape_jobs.specs.declared.job.Job.{Job}
 use Rattle.vt_term.specs.declared.profile.Profile.{Profile}
 use Rattle.vt_term.specs.declared.profile.Profile.TheVariants.{Vt100, Vt102}
@@ -34,13 +34,21 @@ abbrev pub profile_or_first : Option Profile → Profile
 profile_or_first None = Vt100
 profile_or_first (Some profile) = profile
 
--- clap takes these words, and they mean this job over these paths: so they are read as that, or memory is refused
--- (ours)
-pub record Asks (words : List Text) (job : Job) (paths : List Text) : Type 0 where
+-- clap takes these words, and they mean this job over these paths, with this text beside it: so they are read as that,
+-- or memory is refused (ours)
+pub record Asks (words : List Text) (job : Job) (text : List ℕ) (paths : List Text) : Type 0 where
   pub taken : clap_takes words ≡ true
-  pub meaning : meaning_of_words words ≡ Some (Ok (record { job = job; paths = paths }))
+  pub meaning : meaning_of_words words ≡ Some (Ok (record { job = job; text = text; paths = paths }))
 
 -- a line that asks for this job: the program's name, the subcommand's, these flags, a script and a timing (ours)
 abbrev pub LineAsks : Text → List Text → Job → Type 0
 LineAsks name flags job = (program script timing : Text) → IsPlain script → IsPlain timing
-    → Asks (program ∷ name ∷ (flags ++ script ∷ timing ∷ [])) job (script ∷ timing ∷ [])
+    → Asks (program ∷ name ∷ (flags ++ script ∷ timing ∷ [])) job [] (script ∷ timing ∷ [])
+
+-- a line that asks where a text came to stand, of characters that can be looked for: the program's name, the
+-- subcommand's, these flags, the text, a script and a timing (ours)
+abbrev pub FindAsks : List Text → Job → Type 0
+FindAsks flags job = (text : Text) → IsPlain text → is_searchable (chars text) ≡ true
+    → (program script timing : Text) → IsPlain script → IsPlain timing
+    → Asks (program ∷ codes "find" ∷ (flags ++ text ∷ script ∷ timing ∷ [])) job (chars text)
+    (script ∷ timing ∷ [])

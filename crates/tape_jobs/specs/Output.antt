@@ -1,6 +1,7 @@
 -- What a job comes to: a function of its files, with no device and no want of memory in it.
 use Rattle.std.specs.Prelude.{◌≡◌, ℕ, ◌⊎◌, Bool, true, false, List, [], Option, Some, None, MatchOption, Result, Ok, Err, if◌then◌else◌}
 use Rattle.screen_print.specs.ChangeLines.{change_lines}
+use Rattle.screen_print.specs.FindLines.{find_lines}
 use Rattle.tape_core.specs.Due.{due}
 use Rattle.tape_core.specs.Faults.{is_stop}
 use Rattle.tape_core.specs.Reading.{fault_of, reads}
@@ -15,18 +16,19 @@ use Rattle.tape_jobs.specs.Moment.{hex_line, screen_text}
 use Rattle.tape_jobs.specs.Requests.{saved, started}
 use Rattle.tape_jobs.specs.Session.{answered, any_refused}
 use Rattle.tape_jobs.specs.declared.job.Job.{Job}
-use Rattle.tape_jobs.specs.declared.job.Job.TheVariants.{Due, Info, Screen, Changes, Reports, Save, Session}
+use Rattle.tape_jobs.specs.declared.job.Job.TheVariants.{Due, Info, Screen, Changes, Find, Reports, Save, Session}
 use Rattle.tape_jobs.specs.declared.job.Ending.{Ending}
 use Rattle.tape_jobs.specs.declared.job.Ending.TheVariants.{Clean, WithRefusals}
 use Rattle.tape_jobs.specs.declared.job.JobFault.{JobFault}
 use Rattle.tape_jobs.specs.declared.job.JobFault.TheVariants.{File, Line, Memory}
 use Rattle.tape_jobs.specs.declared.job.Outcome.{Outcome}
 
--- the texts that a job is given (ours)
+-- what a job is given: the texts of its files, and the characters of the text that stands beside it (ours)
 pub record Files : Type 0 where
   pub script : List ℕ
   pub timing : List ℕ
   pub requests : List ℕ
+  pub text : List ℕ
 
 -- what a job comes to: the text that it writes, the text of a new timing, and how it ends (ours)
 pub record Done : Type 0 where
@@ -81,20 +83,22 @@ done_answering text refused = record {
   outcome = record { status = status_after (ending_by refused); fault = None };
 }
 
--- what a job comes to on a recording and request lines: the bytes that are due, what the recording holds, what the
--- terminal shows, which lines of it each chunk changes, what it has sent by then, both files anew, or the answers to
--- the lines (ours)
-abbrev pub done_on : Job → Tape → List ℕ → Done
-done_on (Due at) tape requests = done_with (due tape.chunks at) []
-done_on Info tape requests = done_with (info_text tape) []
-done_on (Screen at profile escaped) tape requests =
+-- what a job comes to on a recording, request lines and a text: the bytes that are due, what the recording holds, what
+-- the terminal shows, which lines of it each chunk changes, where the text came to stand and where it went, what the
+-- terminal has sent by then, both files anew, or the answers to the lines (ours)
+abbrev pub done_on : Job → Tape → List ℕ → List ℕ → Done
+done_on (Due at) tape requests text = done_with (due tape.chunks at) []
+done_on Info tape requests text = done_with (info_text tape) []
+done_on (Screen at profile escaped) tape requests text =
     done_with (screen_text escaped (term_at profile tape at).console) []
-done_on (Changes from to profile) tape requests =
+done_on (Changes from to profile) tape requests text =
     done_with (change_lines profile tape from to) []
-done_on (Reports at profile) tape requests =
+done_on (Find from to profile) tape requests text =
+    done_with (find_lines profile tape from to text) []
+done_on (Reports at profile) tape requests text =
     done_with (hex_line (term_at profile tape at).reports) []
-done_on Save tape requests = saved_by tape requests
-done_on (Session every profile) tape requests =
+done_on Save tape requests text = saved_by tape requests
+done_on (Session every profile) tape requests text =
     done_answering (answered (started profile tape) (lines_of requests))
     (any_refused (started profile tape) (lines_of requests))
 
@@ -107,6 +111,7 @@ TakesMemory _ = Unit {0}
 -- the jobs that take all their memory before they write anything: the others write as they go (ours)
 abbrev pub writes_last : Job → Bool
 writes_last (Changes from to profile) = false
+writes_last (Find from to profile) = false
 writes_last (Session every profile) = false
 writes_last _ = true
 
@@ -114,7 +119,7 @@ writes_last _ = true
 -- recording (ours)
 abbrev pub Comes : Job → Files → Done → Type 0
 Comes job files done = MatchOption (fault_of files.script files.timing)
-    ((tape : Tape) × reads files.script files.timing tape × (done ≡ done_on job tape files.requests))
+    ((tape : Tape) × reads files.script files.timing tape × (done ≡ done_on job tape files.requests files.text))
     (λ f. done ≡ refused_with (File f))
 
 -- a device or want of memory stopped the job (ours)

@@ -1,6 +1,6 @@
 //! The jobs: each reads its files whole and then writes its text.
 
-ghost use Rattle.std.specs.Prelude.{◌≡◌, ◌⊎◌, ◌≢◌, ℕ, List, true, false, Some, IfOk, IfErr};
+ghost use Rattle.std.specs.Prelude.{[], ◌≡◌, ◌⊎◌, ◌≢◌, ℕ, List, true, false, Some, IfOk, IfErr};
 ghost use Rattle.tape_core.specs.Devices.{inner_of, has_failed, StopsReading};
 ghost use Rattle.tape_core.specs.Faults.{is_stop};
 ghost use Rattle.tape_core.specs.Reading.{fault_of, reads};
@@ -9,6 +9,7 @@ ghost use Rattle.tape_jobs.specs.Output.{done_on, outcome_by, status_after, stat
 
 use crate::jobs::changes::write_changes;
 use crate::jobs::due::write_due;
+use crate::jobs::find::write_found;
 use crate::jobs::info::write_info;
 use crate::jobs::moment::write_moment;
 use crate::jobs::save::write_edited;
@@ -43,6 +44,13 @@ pub enum Job {
     /// Write which lines of the screen each chunk changes, of those that are due after `from` (None: from chunk 0 on) and
     /// by `to`.
     Changes {
+        from: Option<u64>,
+        to: u64,
+        profile: Profile,
+    },
+    /// Write where on the screen a text came to stand and from where it went, in chunks that are due after `from` (None:
+    /// from chunk 0 on) and by `to`. The text stands beside the job.
+    Find {
         from: Option<u64>,
         to: u64,
         profile: Profile,
@@ -172,7 +180,33 @@ pub fn run<S: Read, T: Read, R: Read, O: Write, P: Write>(
     requires out { has_failed out.old ≡ false }
     requires out_timing { has_failed out_timing.old ≡ false }
     ensures { let readers = readers_of (used S.remaining script.old script.new)
-        (used T.remaining timing.old timing.new) (used R.remaining requests.old requests.new) in
+        (used T.remaining timing.old timing.new) (used R.remaining requests.old requests.new) [] in
+        let writers = writers_of (used O.contents out.old out.new)
+        (used P.contents out_timing.old out_timing.new) in
+        RunEnds readers writers job result }
+{
+    run_with(alloc, job, &[], script, timing, requests, out, out_timing)
+}
+
+/// Does a job as `run` does, with a text beside it: what `find` looks for.
+pub fn run_with<S: Read, T: Read, R: Read, O: Write, P: Write>(
+    alloc: Global,
+    job: Job,
+    text: &[char],
+    script: &mut Watched<S>,
+    timing: &mut Watched<T>,
+    requests: &mut Watched<R>,
+    out: &mut Watched<O>,
+    out_timing: &mut Watched<P>,
+) -> Outcome
+    requires script { has_failed script.old ≡ false }
+    requires timing { has_failed timing.old ≡ false }
+    requires requests { has_failed requests.old ≡ false }
+    requires out { has_failed out.old ≡ false }
+    requires out_timing { has_failed out_timing.old ≡ false }
+    ensures { let readers = readers_of (used S.remaining script.old script.new)
+        (used T.remaining timing.old timing.new) (used R.remaining requests.old requests.new)
+        text.now in
         let writers = writers_of (used O.contents out.old out.new)
         (used P.contents out_timing.old out_timing.new) in
         RunEnds readers writers job result }
@@ -180,7 +214,7 @@ pub fn run<S: Read, T: Read, R: Read, O: Write, P: Write>(
     writers_join::<O>();
     writers_join::<P>();
     match read_files(alloc, job, script, timing, requests) {
-        Ok(given) => outcome_of(perform(alloc, job, given, out, out_timing)),
+        Ok(given) => outcome_of(perform(alloc, job, text, given, out, out_timing)),
         Err(fault) => outcome_of(Err(JobFault::File(fault))),
     }
 }
@@ -190,6 +224,7 @@ pub fn run<S: Read, T: Read, R: Read, O: Write, P: Write>(
 fn perform<O: Write, P: Write>(
     alloc: Global,
     job: Job,
+    text: &[char],
     given: Given,
     out: &mut Watched<O>,
     out_timing: &mut Watched<P>,
@@ -198,7 +233,7 @@ fn perform<O: Write, P: Write>(
     requires out_timing { has_failed out_timing.old ≡ false }
     ensures ends { let writers = writers_of (used O.contents out.old out.new)
         (used P.contents out_timing.old out_timing.new) in
-        JobEnds writers job (done_on job given.recording given.requests.items) result }
+        JobEnds writers job (done_on job given.recording given.requests.items text.now) result }
     ensures alone { writes_timing job ≡ false → out_timing.new ≡ out_timing.old }
 {
     let Given {
@@ -222,6 +257,9 @@ fn perform<O: Write, P: Write>(
         )?,
         Job::Changes { from, to, profile } => {
             write_changes(alloc, recording, profile, from, to, out)?
+        }
+        Job::Find { from, to, profile } => {
+            write_found(alloc, recording, profile, from, to, text, out)?
         }
         Job::Reports { at, profile } => {
             write_moment(alloc, recording, profile, at, Asked::Reports, out)?
@@ -313,6 +351,7 @@ fn read_requests<R: Read>(
         | Job::Info
         | Job::Screen { .. }
         | Job::Changes { .. }
+        | Job::Find { .. }
         | Job::Reports { .. } => Ok(Vec::new(alloc)),
     }
 }

@@ -2,6 +2,7 @@
 
 pub mod changes;
 pub mod due;
+pub mod find;
 pub mod info;
 pub mod moment;
 pub mod save;

@@ -2,9 +2,9 @@
 
 ghost use Rattle.std.specs.Prelude.{◌≡◌, ◌++◌, ◌∷◌, [], ℕ, Bool, List, None, Option, Some, codes, false};
 ghost use Rattle.clap.specs.Words.{Text};
-ghost use Rattle.tape_core.specs.Seconds.{seconds_of};
+ghost use Rattle.tape_core.specs.Seconds.{last_moment, seconds_of};
 ghost use Rattle.tape_jobs.specs.CommandLine.{every_of};
-ghost use Rattle.tape_jobs.specs.Lines.{Asks, IsPlain, LineAsks, escaped_words, profile_or_first, profile_words};
+ghost use Rattle.tape_jobs.specs.Lines.{Asks, FindAsks, IsPlain, LineAsks, escaped_words, profile_or_first, profile_words};
 ghost use Rattle.tape_jobs.specs.Stored.{usual_every};
 ghost use Rattle.vt_term.specs.declared.profile.Profile.{Profile};
 ghost use Rattle.tape_jobs.specs.declared.job.Job.TheVariants as job;
@@ -48,6 +48,12 @@ pub fn plain_lines_are_read()
         → (profile : Option Profile) → LineAsks (codes "changes")
         (codes "--from" ∷ from ∷ codes "--to" ∷ to ∷ profile_words profile)
         (job.Changes (Some start) moment (profile_or_first profile)) }
+    ensures find { (profile : Option Profile) → FindAsks (profile_words profile)
+        (job.Find None last_moment (profile_or_first profile)) }
+    ensures find_between { (from : Text) (start : ℕ) → seconds_of from ≡ Some start
+        → (to : Text) (end : ℕ) → seconds_of to ≡ Some end → (profile : Option Profile)
+        → FindAsks (codes "--from" ∷ from ∷ codes "--to" ∷ to ∷ profile_words profile)
+        (job.Find (Some start) end (profile_or_first profile)) }
     ensures reports { (at : Text) (moment : ℕ) → seconds_of at ≡ Some moment
         → (profile : Option Profile) → LineAsks (codes "reports")
         (codes "--at" ∷ at ∷ profile_words profile)
@@ -55,7 +61,7 @@ pub fn plain_lines_are_read()
     ensures save { (program script timing : Text) → IsPlain script → IsPlain timing
         → (new_script new_timing : Text) → IsPlain new_script → IsPlain new_timing
         → Asks (program ∷ codes "save" ∷ script ∷ timing ∷ new_script ∷ new_timing ∷ [])
-        job.Save (script ∷ timing ∷ new_script ∷ new_timing ∷ []) }
+        job.Save [] (script ∷ timing ∷ new_script ∷ new_timing ∷ []) }
     ensures session { (profile : Option Profile) → LineAsks (codes "session")
         (profile_words profile) (job.Session usual_every (profile_or_first profile)) }
     ensures session_every { (every : Text) (count : ℕ) → every_of every ≡ Some count

@@ -7,5 +7,5 @@ pub mod laws;
 mod shared;
 mod words;
 
-pub use job::{Ending, Job, JobFault, Outcome, run};
+pub use job::{Ending, Job, JobFault, Outcome, run, run_with};
 pub use words::{Words, WordsFault, read_words};

@@ -16,12 +16,14 @@ use command::typetool_command;
 use std::alloc::{AllocError, Global};
 use table::{Subcommand, name_of, subcommands};
 use thiserror::Error as ThisError;
-use values::{Unreadable, read_job, read_paths};
+use values::{Unreadable, read_job, read_paths, read_text};
 
-/// A command line that was read: the job, and the paths in the line's order.
+/// A command line that was read: the job, the characters of the text beside it, which but for `find` has none, and the
+/// paths in the line's order.
 #[derive(Debug, Drop)]
 pub struct Words {
     pub job: Job,
+    pub text: Vec<char>,
     pub paths: Vec<String>,
 }
 
@@ -43,6 +45,9 @@ pub enum WordsFault {
     /// There is no such profile.
     #[error("bad profile: vt100 or vt102")]
     BadProfile,
+    /// The text that is looked for has spaces alone, or a control character.
+    #[error("bad text")]
+    BadText,
 }
 
 impl From<AllocError> for WordsFault {
@@ -68,8 +73,9 @@ pub fn read_words(alloc: Global, words: &[String]) -> Result<Words, WordsFault>
     let (subcommand, values) = subcommand_of(&matches);
     match read_job(subcommand, values) {
         Ok(job) => {
+            let text = read_text(alloc, subcommand, values)?;
             let paths = read_paths(alloc, subcommand, values)?;
-            Ok(Words { job, paths })
+            Ok(Words { job, text, paths })
         }
         Err(unread) => Err(fault_of_unread(unread)),
     }
@@ -83,6 +89,7 @@ fn fault_of_unread(unread: Unreadable) -> WordsFault
         Unreadable::Seconds => WordsFault::BadSeconds,
         Unreadable::Every => WordsFault::BadEvery,
         Unreadable::Profile => WordsFault::BadProfile,
+        Unreadable::Text => WordsFault::BadText,
     }
 }
 

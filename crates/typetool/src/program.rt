@@ -15,7 +15,7 @@ use std::io::BufWriter;
 use std::rt::{Env, Files};
 use std::{env, fs, io};
 use tape_core::{Fault, Watched};
-use tape_jobs::{Job, JobFault, Outcome, Words, WordsFault, read_words, run};
+use tape_jobs::{Job, JobFault, Outcome, Words, WordsFault, read_words, run, run_with};
 use thiserror::Error;
 
 /// How many bytes of standard output are held back before they are written.
@@ -67,7 +67,12 @@ fn status_of(stop: &Stop) -> u8
 {
     match stop {
         Stop::Words(WordsFault::Clap(error)) => { if error.use_stderr() { 2 } else { 0 } }
-        Stop::Words(WordsFault::BadSeconds | WordsFault::BadEvery | WordsFault::BadProfile)
+        Stop::Words(
+            WordsFault::BadSeconds
+            | WordsFault::BadEvery
+            | WordsFault::BadProfile
+            | WordsFault::BadText,
+        )
         | Stop::NotText => 2,
         Stop::Words(WordsFault::Memory)
         | Stop::Memory
@@ -131,7 +136,8 @@ fn open_and_run<R: Files + Input + Print + AllocGlobal>(
 {
     let mut script = open(rt, words.paths[0].as_str())?;
     let mut timing = open(rt, words.paths[1].as_str())?;
-    match words.job {
+    let (job, text) = (words.job, words.text.as_slice());
+    match job {
         Job::Save => {
             let out = create(rt, words.paths[2].as_str())?;
             let out_timing = create(rt, words.paths[3].as_str())?;
@@ -139,11 +145,11 @@ fn open_and_run<R: Files + Input + Print + AllocGlobal>(
         }
         Job::Session { .. } => {
             let mut requests = Watched::new(rt.reader());
-            print(rt, words.job, &mut script, &mut timing, &mut requests)
+            print(rt, job, text, &mut script, &mut timing, &mut requests)
         }
-        job => {
+        _ => {
             let mut requests = Watched::new(io::empty());
-            print(rt, job, &mut script, &mut timing, &mut requests)
+            print(rt, job, text, &mut script, &mut timing, &mut requests)
         }
     }
 }
@@ -152,6 +158,7 @@ fn open_and_run<R: Files + Input + Print + AllocGlobal>(
 fn print<R: Files + Print + AllocGlobal, Q: io::Read>(
     rt: &R,
     job: Job,
+    text: &[char],
     script: &mut Watched<R::File>,
     timing: &mut Watched<R::File>,
     requests: &mut Watched<Q>,
@@ -163,15 +170,16 @@ fn print<R: Files + Print + AllocGlobal, Q: io::Read>(
     // Where nothing stopped the job, it is what the job comes to on these files.
     ensures answer { let readers = readers_of (used R.File.remaining script.old script.new)
         (used R.File.remaining timing.old timing.new)
-        (used Q.remaining requests.old requests.new) in
+        (used Q.remaining requests.old requests.new) text.now in
         IfOk result (λ outcome. is_stopped outcome.fault ≡ false → (files : Given)
         → HoldFiles readers job files → IsAnswer job files outcome) }
     ensures stop { IfErr result (λ stop. stop ≡ Stop.Memory) }
 {
     let mut out = buffered(rt, io::writer(rt))?;
-    let outcome = run(
+    let outcome = run_with(
         rt.alloc(),
         job,
+        text,
         script,
         timing,
         requests,

@@ -4,7 +4,7 @@ use std::io;
 use std::io::{ErrorKind, Read, Write};
 use std::process::Abort;
 use tape_core::{Fault, Watched};
-use tape_jobs::{Job, JobFault, Outcome, run};
+use tape_jobs::{Job, JobFault, Outcome, run_with};
 use vt_term::Profile;
 
 /// A call that never comes: the device is sound.
@@ -94,10 +94,12 @@ const SCRIPT: &[u8] = b"Script started on X\nab";
 
 const TIMING: &[u8] = b"0.000000 1\n0.500000 1\n";
 
-/// A job with its request lines, over two chunks of a byte each: whether it reads the lines, and both texts.
+/// A job with the text beside it and its request lines, over two chunks of a byte each: whether it reads the lines, and
+/// both texts.
 #[derive(Clone, Copy)]
 struct Case {
     job: Job,
+    sought: &'static [char],
     requests: &'static [u8],
     reads_requests: bool,
     text: &'static [u8],
@@ -108,6 +110,7 @@ struct Case {
 fn plain_case(job: Job, text: &'static [u8]) -> Case {
     Case {
         job,
+        sought: &[],
         requests: b"left alone",
         reads_requests: false,
         text,
@@ -119,7 +122,7 @@ fn plain_case(job: Job, text: &'static [u8]) -> Case {
 const END: u64 = 500_000;
 
 /// Each job at the end of the recording.
-fn cases() -> [Case; 7] {
+fn cases() -> [Case; 8] {
     let profile = Profile::Vt100;
     let screen = Job::Screen {
         at: END,
@@ -142,16 +145,31 @@ fn cases() -> [Case; 7] {
             b"ab\n\n\n\n\n\n\n\n\n\n\n\n\n\n\n\n\n\n\n\n\n\n\n\n",
         ),
         plain_case(changes, b"0 0.000000 1\n1 0.500000 1\n"),
+        find_case(profile),
         plain_case(Job::Reports { at: END, profile }, b"\n"),
         save_case(),
         session_case(profile),
     ]
 }
 
+/// The second chunk's character.
+fn find_case(profile: Profile) -> Case {
+    let job = Job::Find {
+        from: None,
+        to: END,
+        profile,
+    };
+    Case {
+        sought: &['b'],
+        ..plain_case(job, b"+ 1 0.500000 1 2 ab\n")
+    }
+}
+
 /// Another chunk goes in, and both files are written.
 fn save_case() -> Case {
     Case {
         job: Job::Save,
+        sought: &[],
         requests: b"insert 1 0.25 58\n",
         reads_requests: true,
         text: b"Script started on X\naXb",
@@ -163,6 +181,7 @@ fn save_case() -> Case {
 fn session_case(profile: Profile) -> Case {
     Case {
         job: Job::Session { every: 1, profile },
+        sought: &[],
         requests: b"delete 0 1\n\ninfo",
         reads_requests: true,
         text: b"ok\nchunks 1\nbytes 1\nlength 0.500000\nheader 20\ntrailer 0\n",
@@ -207,9 +226,10 @@ fn run_slowly<R: Abort + AllocGlobal>(
     let mut requests = Watched::new(slow_reader(case.requests, failing.requests));
     let mut out = Watched::new(slow_writer(rt, out));
     let mut out_timing = Watched::new(slow_writer(rt, out_timing));
-    let outcome = run(
+    let outcome = run_with(
         rt.alloc(),
         case.job,
+        case.sought,
         &mut script,
         &mut timing,
         &mut requests,
@@ -382,9 +402,10 @@ fn readers_are_read_in_order(rt: HostRuntime) {
 /// A run over a pair with a fault, whose request lines fail at a call: how it ended, and the calls of the request lines.
 fn run_damaged<R: Abort + AllocGlobal>(rt: &R, case: &Case, call: usize) -> (Outcome, usize) {
     let mut requests = Watched::new(slow_reader(case.requests, call));
-    let outcome = run(
+    let outcome = run_with(
         rt.alloc(),
         case.job,
+        case.sought,
         &mut Watched::new(SCRIPT),
         &mut Watched::new(b"0.1".as_slice()),
         &mut requests,

@@ -7,7 +7,7 @@ use std::process::Abort;
 use std::rt::Runtime;
 use std::test::Fail;
 use tape_core::{Fault, Watched};
-use tape_jobs::{Job, JobFault, run};
+use tape_jobs::{Job, JobFault, run_with};
 use vt_term::Profile;
 
 /// Three chunks, half a second apart, on lines 1, 3 and 1, and the first two with reports.
@@ -15,10 +15,11 @@ const SCRIPT: &[u8] = b"Script started on X\nab\x1b[6n\x1b[3;1Hcd\x1b[c\x1b[1;1H
 
 const TIMING: &[u8] = b"0.5 6\n0.5 11\n0.5 7\n";
 
-/// A job with its request lines, and both texts that it writes.
+/// A job with the text beside it and its request lines, and both texts that it writes.
 #[derive(Clone, Copy)]
 struct Case {
     job: Job,
+    sought: &'static [char],
     requests: &'static [u8],
     text: &'static [u8],
     new_timing: &'static [u8],
@@ -28,6 +29,7 @@ struct Case {
 fn plain_case(job: Job, text: &'static [u8]) -> Case {
     Case {
         job,
+        sought: &[],
         requests: b"",
         text,
         new_timing: b"",
@@ -48,9 +50,10 @@ fn room(rt: &impl Runtime<A = Global>) -> Result<Vec<u8>, Fail> {
 fn do_job(rt: &(impl Runtime<A = Global> + Abort), case: Case) -> Result<Ended, Fail> {
     let mut out = Watched::new(room(rt)?);
     let mut out_timing = Watched::new(room(rt)?);
-    let outcome = run(
+    let outcome = run_with(
         rt.alloc(),
         case.job,
+        case.sought,
         &mut Watched::new(SCRIPT),
         &mut Watched::new(TIMING),
         &mut Watched::new(case.requests),
@@ -155,6 +158,21 @@ fn run_changes(rt: HostRuntime) -> Result<(), Fail> {
 }
 
 #[test]
+fn run_find(rt: HostRuntime) -> Result<(), Fail> {
+    let job = Job::Find {
+        from: None,
+        to: 9_000_000,
+        profile: Profile::Vt102,
+    };
+    let text = b"+ 0 0.500000 1 2 ab\n- 2 1.500000 1 2 ab\n+ 2 1.500000 1 2 eb\n";
+    let case = Case {
+        sought: &['b'],
+        ..plain_case(job, text)
+    };
+    compare(&rt, case)
+}
+
+#[test]
 fn run_reports(rt: HostRuntime) -> Result<(), Fail> {
     let job = Job::Reports {
         at: 1_000_000,
@@ -168,6 +186,7 @@ fn run_reports(rt: HostRuntime) -> Result<(), Fail> {
 fn run_save(rt: HostRuntime) -> Result<(), Fail> {
     let case = Case {
         job: Job::Save,
+        sought: &[],
         requests: b"insert 0 0.125 78\ndelete 1 2\nreplace 2 79\nretime 1 2\ncap 1\n",
         text: b"Script started on X\nx\x1b[3;1Hcd\x1b[cy",
         new_timing: b"0.125000 1\n1.000000 11\n0.500000 1\n",
@@ -183,6 +202,7 @@ fn run_session(rt: HostRuntime) -> Result<(), Fail> {
             every: 1,
             profile: Profile::Vt100,
         },
+        sought: &[],
         requests: b"reports 0.5\nchanges - 9\ninsert 0 0.125 78\nreports 9\ninfo\nlog\n",
         text: b"1b5b313b3352\n0 0.500000 1\n1 1.000000 3\n2 1.500000 1\nend\nok\n\
             1b5b313b34521b5b3f313b3263\nchunks 4\nbytes 25\nlength 1.625000\nheader 20\ntrailer 0\n\

@@ -3,10 +3,12 @@
 ghost use Rattle.std.specs.Prelude.{◌≡◌, ◌∷◌, [], Some, IfOk, false, map};
 ghost use Rattle.clap.specs.Words.{app_of, items_of, rule_of};
 ghost use Rattle.clap.specs.declared.Command.TheViews.{out-Command as fields_of};
-ghost use Rattle.tape_jobs.specs.CommandLine.{app_in, optional_rule, path_rule, rule_in, seconds_rule, switch_rule, top_app, typetool_app, with_rules};
+ghost use Rattle.tape_jobs.specs.CommandLine.{app_in, optional_rule, positional_rule, rule_in, seconds_rule, switch_rule, top_app, typetool_app, with_rules};
 
 use super::help::{EXAMPLE, VERSION, about_of, details_of, help_of, value_name_of};
-use super::table::{Argument, Subcommand, flags_of, id_of, name_of, paths_of, subcommands};
+use super::table::{
+    Argument, Subcommand, flags_of, id_of, name_of, paths_of, subcommands, texts_of,
+};
 use clap::{Arg, ArgAction, Command};
 use std::alloc::{AllocError, Global};
 
@@ -48,6 +50,7 @@ pub fn subcommand_command<'a>(
 {
     let command = Command::new(alloc, name_of(subcommand));
     let command = with_arguments(alloc, command, flags_of(subcommand))?;
+    let command = with_arguments(alloc, command, texts_of(subcommand))?;
     let command = with_arguments(alloc, command, paths_of(subcommand))?;
     Ok(
         command
@@ -87,14 +90,18 @@ fn arg_of<'a>(alloc: Global, argument: Argument) -> Arg<'a>
             value_name_of(argument),
             help_of(argument),
         ),
-        Argument::From | Argument::Every | Argument::Profile => optional_flag(
+        Argument::From | Argument::Until | Argument::Every | Argument::Profile => optional_flag(
             alloc,
             id_of(argument),
             value_name_of(argument),
             help_of(argument),
         ),
         Argument::Escaped => switch(alloc, id_of(argument), help_of(argument)),
-        Argument::Script | Argument::Timing | Argument::NewScript | Argument::NewTiming => path(
+        Argument::Sought
+        | Argument::Script
+        | Argument::Timing
+        | Argument::NewScript
+        | Argument::NewTiming => positional(
             alloc,
             id_of(argument),
             value_name_of(argument),
@@ -139,9 +146,9 @@ fn switch<'a>(alloc: Global, id: &'a str, help: &'a str) -> Arg<'a>
         .help(help)
 }
 
-/// A path, which must be given.
-fn path<'a>(alloc: Global, id: &'a str, name: &'a str, help: &'a str) -> Arg<'a>
-    ensures rule { rule_of result ≡ path_rule id.entry.now }
+/// A text or a path, which must be given.
+fn positional<'a>(alloc: Global, id: &'a str, name: &'a str, help: &'a str) -> Arg<'a>
+    ensures rule { rule_of result ≡ positional_rule id.entry.now }
     ensures name { items_of result.val_names ≡ name.entry ∷ [] }
     ensures help { result.help ≡ Some help.entry }
     ensures local { result.global ≡ false }

@@ -15,6 +15,7 @@ pub fn about_of<'a>(subcommand: Subcommand) -> &'a str {
         Subcommand::Info => "Tell how many chunks and bytes the recording has, and how long it is",
         Subcommand::Screen => "Write the screen as it is at a moment: 24 lines of text",
         Subcommand::Changes => "Tell which lines of the screen each chunk changes",
+        Subcommand::Find => "Tell when a text came to stand on the screen, and when it went",
         Subcommand::Reports => {
             "Write all that the terminal has answered by a moment, in hexadecimal"
         }
@@ -51,6 +52,17 @@ const SESSION_DETAILS: &str =
     E8 BadLine        a line of no known form\n\n\
     Example: printf 'cap 2\\nscreen 12.5\\n' | typetool session demo.script demo.timing";
 
+/// The lines that `find` writes, and what it doesn't find.
+const FIND_DETAILS: &str =
+    "A line for each place at which the text came to stand (+) or from which it went (-): the sign, the\n\
+    chunk (counted from 0), when it is due (seconds), line and column of the first character, and the\n\
+    rows in which it stands, one space between. Text that only scrolls isn't told again.\n\n\
+    A text is found where it runs on over the right margin, too; but a phrase whose space falls on the\n\
+    right margin isn't found, since a row that ends with a space doesn't run on.\n\n\
+    A TEXT that begins with - stands behind --, as in the second example.\n\n\
+    Example: typetool find 'No such file' demo.script demo.timing\n\
+    Example: typetool find --from 12.5 -- --help demo.script demo.timing";
+
 /// What help tells of a subcommand after its arguments: more of what it does, and an example.
 pub fn details_of<'a>(subcommand: Subcommand) -> &'a str {
     match subcommand {
@@ -73,6 +85,7 @@ pub fn details_of<'a>(subcommand: Subcommand) -> &'a str {
              and the lines that differ before and after it alone (1 to 24), one space between.\n\n\
              Example: typetool changes --from 12.5 --to 60 demo.script demo.timing"
         }
+        Subcommand::Find => FIND_DETAILS,
         Subcommand::Reports => {
             "One line of lower-case digits, empty where nothing was answered.\n\n\
              Example: typetool reports --at 12.5 demo.script demo.timing"
@@ -85,10 +98,11 @@ pub fn details_of<'a>(subcommand: Subcommand) -> &'a str {
 /// What help calls the value of an argument.
 pub fn value_name_of<'a>(argument: Argument) -> &'a str {
     match argument {
-        Argument::At | Argument::From | Argument::To => "SECONDS",
+        Argument::At | Argument::From | Argument::To | Argument::Until => "SECONDS",
         Argument::Every => "CHUNKS",
         Argument::Profile => "PROFILE",
         Argument::Escaped => "",
+        Argument::Sought => "TEXT",
         Argument::Script => "SCRIPT",
         Argument::Timing => "TIMING",
         Argument::NewScript => "NEWSCRIPT",
@@ -105,6 +119,8 @@ pub fn help_of<'a>(argument: Argument) -> &'a str {
         Argument::From =>
             "Only chunks that are due after this moment; all from the first on, if not given",
         Argument::To => "Only chunks that are due by this moment",
+        Argument::Until =>
+            "Only chunks that are due by this moment; all up to the last, if not given",
         Argument::Every => {
             "A terminal is kept at every so many chunks, from 1 to 1000000 (100 if not given): fewer chunks \
              between terminals take more memory, and more take longer to go back"
@@ -114,6 +130,8 @@ pub fn help_of<'a>(argument: Argument) -> &'a str {
         Argument::Escaped => {
             "Write a text that draws the screen again on a reset terminal, with renditions and sizes"
         }
+        Argument::Sought =>
+            "What to look for: characters as they stand on the screen, not only spaces",
         Argument::Script => "The typescript that script(1) wrote: the bytes themselves",
         Argument::Timing => {
             "Its timing file, in the classic format: a line of a delay and a count for each chunk. \

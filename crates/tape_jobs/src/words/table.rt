@@ -1,7 +1,7 @@
 //! The table of subcommands: their names, flags and paths, and what help tells of them.
 
 ghost use Rattle.std.specs.Prelude.{◌≡◌, map};
-ghost use Rattle.tape_jobs.specs.CommandLine.{flags_in, id_in, name_in, paths_in, subcommands_in_order};
+ghost use Rattle.tape_jobs.specs.CommandLine.{flags_in, id_in, name_in, paths_in, subcommands_in_order, texts_in};
 
 /// The subcommands.
 #[derive(Clone, Copy, Debug, PartialEq, Eq)]
@@ -10,6 +10,7 @@ pub enum Subcommand {
     Info,
     Screen,
     Changes,
+    Find,
     Reports,
     Save,
     Session,
@@ -20,16 +21,20 @@ pub enum Subcommand {
 pub enum Argument {
     /// A moment.
     At,
-    /// The moment after which changes are asked for.
+    /// The moment after which chunks are asked for.
     From,
-    /// The moment by which they are.
+    /// The moment by which they are, where it must be given.
     To,
+    /// The moment by which they are, where it may be left out.
+    Until,
     /// How many chunks lie between stored terminals.
     Every,
     /// Which terminal plays.
     Profile,
     /// A text that draws the screen again is asked for.
     Escaped,
+    /// The text that is looked for.
+    Sought,
     /// The typescript.
     Script,
     /// Its timing file.
@@ -41,7 +46,7 @@ pub enum Argument {
 }
 
 /// The subcommands, in the order in which help tells them.
-pub fn subcommands() -> [Subcommand; 7]
+pub fn subcommands() -> [Subcommand; 8]
     ensures { result ≡ subcommands_in_order }
 {
     [
@@ -49,6 +54,7 @@ pub fn subcommands() -> [Subcommand; 7]
         Subcommand::Info,
         Subcommand::Screen,
         Subcommand::Changes,
+        Subcommand::Find,
         Subcommand::Reports,
         Subcommand::Save,
         Subcommand::Session,
@@ -65,6 +71,7 @@ pub fn name_of<'a>(subcommand: Subcommand) -> &'a str
         Subcommand::Info => "info",
         Subcommand::Screen => "screen",
         Subcommand::Changes => "changes",
+        Subcommand::Find => "find",
         Subcommand::Reports => "reports",
         Subcommand::Save => "save",
         Subcommand::Session => "session",
@@ -80,9 +87,27 @@ pub fn flags_of(subcommand: Subcommand) -> &'static [Argument]
         Subcommand::Due => &[Argument::At],
         Subcommand::Screen => &[Argument::At, Argument::Escaped, Argument::Profile],
         Subcommand::Changes => &[Argument::From, Argument::To, Argument::Profile],
+        Subcommand::Find => &[Argument::From, Argument::Until, Argument::Profile],
         Subcommand::Reports => &[Argument::At, Argument::Profile],
         Subcommand::Session => &[Argument::Every, Argument::Profile],
         Subcommand::Info | Subcommand::Save => &[],
+    }
+}
+
+/// The texts of a subcommand, which stand before its paths.
+#[tactic(auto, unfolding(crate::specs::CommandLine::texts_in))]
+pub fn texts_of(subcommand: Subcommand) -> &'static [Argument]
+    ensures { result.now ≡ texts_in subcommand }
+{
+    match subcommand {
+        Subcommand::Find => &[Argument::Sought],
+        Subcommand::Due
+        | Subcommand::Info
+        | Subcommand::Screen
+        | Subcommand::Changes
+        | Subcommand::Reports
+        | Subcommand::Save
+        | Subcommand::Session => &[],
     }
 }
 
@@ -96,6 +121,7 @@ pub fn paths_of(subcommand: Subcommand) -> &'static [Argument]
         | Subcommand::Info
         | Subcommand::Screen
         | Subcommand::Changes
+        | Subcommand::Find
         | Subcommand::Reports
         | Subcommand::Session => &[Argument::Script, Argument::Timing],
         Subcommand::Save => &[
@@ -115,10 +141,11 @@ pub fn id_of<'a>(argument: Argument) -> &'a str
     match argument {
         Argument::At => "at",
         Argument::From => "from",
-        Argument::To => "to",
+        Argument::To | Argument::Until => "to",
         Argument::Every => "every",
         Argument::Profile => "profile",
         Argument::Escaped => "escaped",
+        Argument::Sought => "text",
         Argument::Script => "script",
         Argument::Timing => "timing",
         Argument::NewScript => "new-script",

@@ -1,15 +1,19 @@
 //! The job and the paths that a subcommand's values mean.
 
-ghost use Rattle.std.specs.Prelude.{◌≡◌, IfOk, map, string_bytes, vec_len, length};
+ghost use Rattle.std.specs.Prelude.{◌≡◌, ◌==◌, IfOk, chars, not, map, string_bytes, vec_len, length};
 ghost use Rattle.std.specs.Option.{option_map};
+ghost use Rattle.std.specs.Char.{is_control};
+ghost use Rattle.std.specs.List.{list_all, list_any};
 ghost use Rattle.clap.specs.Words.{first_of, found_of, rows_of};
-ghost use Rattle.tape_jobs.specs.CommandLine.{every_allowed, every_in, every_of, id_in, job_in, moment_in, moment_given_in, paths_in, profile_in, profile_named, switch_in, value_in};
+ghost use Rattle.tape_jobs.specs.CommandLine.{every_allowed, every_in, every_of, id_in, is_searchable, job_in, moment_in, moment_given_in, moment_or_last_in, paths_in, profile_in, profile_named, switch_in, text_in, value_in};
+ghost use Rattle.tape_jobs.specs.declared.words.table.Subcommand.TheVariants.{Find as find};
 
 use super::table::{Argument, Subcommand, id_of, paths_of};
 use crate::job::Job;
 use crate::shared::opening::{EVERY, LEAST_EVERY, MOST_EVERY};
 use clap::ArgMatches;
 use std::alloc::{AllocError, Global};
+use tape_core::limits::LAST_MOMENT;
 use tape_core::read_seconds;
 use tape_core::text::read_number;
 use vt_term::Profile;
@@ -23,6 +27,8 @@ pub enum Unreadable {
     Every,
     /// Which terminal plays.
     Profile,
+    /// The text that is looked for.
+    Text,
 }
 
 /// The job that a subcommand's values mean.
@@ -45,6 +51,7 @@ pub fn read_job(subcommand: Subcommand, values: &ArgMatches<'_>) -> Result<Job, 
             to: read_moment(values, Argument::To)?,
             profile: read_profile(values)?,
         }),
+        Subcommand::Find => read_find(values),
         Subcommand::Reports => Ok(Job::Reports {
             at: read_moment(values, Argument::At)?,
             profile: read_profile(values)?,
@@ -74,6 +81,50 @@ fn read_moment_given(values: &ArgMatches<'_>, flag: Argument) -> Result<Option<u
     };
     let moment = read_seconds(text.as_bytes()).ok_or(Unreadable::Seconds)?;
     Ok(Some(moment))
+}
+
+/// The moment that a flag gives, in microseconds, and the last moment there is, where it isn't given.
+fn read_moment_or_last(values: &ArgMatches<'_>, flag: Argument) -> Result<u64, Unreadable>
+    ensures { result ≡ moment_or_last_in (id_in flag) (rows_of (found_of values.now)) }
+{
+    let given = read_moment_given(values, flag)?;
+    Ok(given.unwrap_or(LAST_MOMENT))
+}
+
+/// The job `find` that the values mean.
+#[tactic(auto, unfolding(crate::specs::CommandLine::job_in))]
+fn read_find(values: &ArgMatches<'_>) -> Result<Job, Unreadable>
+    ensures { result ≡ job_in find (rows_of (found_of values.now)) }
+{
+    let from = read_moment_given(values, Argument::From)?;
+    let to = read_moment_or_last(values, Argument::Until)?;
+    let profile = read_profile(values)?;
+    if !is_searchable(value_text(values, Argument::Sought)) {
+        return Err(Unreadable::Text);
+    }
+    Ok(Job::Find { from, to, profile })
+}
+
+/// Whether a text can be looked for: it has a character other than a space, and no control character.
+#[tactic(auto, unfolding(crate::specs::CommandLine::is_searchable))]
+fn is_searchable(text: &str) -> bool
+    ensures { result ≡ is_searchable (chars text.now) }
+{
+    has_ink(text) && has_no_control(text)
+}
+
+/// Whether one of the characters isn't a space.
+fn has_ink(text: &str) -> bool
+    ensures { result ≡ list_any (λ c. not (c == 32)) (chars text.now) }
+{
+    text.chars().any(|c| c != ' ')
+}
+
+/// Whether none of the characters is a control character.
+fn has_no_control(text: &str) -> bool
+    ensures { result ≡ list_all (λ c. not (is_control c)) (chars text.now) }
+{
+    text.chars().all(|c| !c.is_control())
 }
 
 /// How many chunks are to lie between stored terminals.
@@ -137,6 +188,22 @@ fn is_given(values: &ArgMatches<'_>, flag: Argument) -> bool
     ensures { result ≡ switch_in (id_in flag) (rows_of (found_of values.now)) }
 {
     value_text(values, flag) == "true"
+}
+
+/// The characters of the text beside a job: what `find` looks for, and none for the others.
+#[tactic(auto, unfolding(crate::specs::CommandLine::text_in))]
+pub fn read_text(
+    alloc: Global,
+    subcommand: Subcommand,
+    values: &ArgMatches<'_>,
+) -> Result<Vec<char>, AllocError>
+    ensures { IfOk result (λ text. text.items
+        ≡ text_in subcommand (rows_of (found_of values.now))) }
+{
+    let Subcommand::Find = subcommand else {
+        return Ok(Vec::new(alloc));
+    };
+    value_text(values, Argument::Sought).chars().collect(alloc)
 }
 
 /// The paths of a subcommand, in the line's order.

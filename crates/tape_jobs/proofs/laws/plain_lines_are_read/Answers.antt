@@ -1,4 +1,4 @@
-use Rattle.tape_jobs.proofs.LineLemmas.{changes_from_line, changes_line, due_line, info_line, reports_line, save_line, screen_line, session_every_line, session_line}
+use Rattle.tape_jobs.proofs.LineLemmas.{changes_from_line, changes_line, due_line, find_between_line, find_line, info_line, reports_line, save_line, screen_line, session_every_line, session_line}
 use Rattle.tape_jobs.proofs.laws.plain_lines_are_read.Goals as goal
 
 pub returns-clause-due : goal.returns-clause-due
@@ -16,6 +16,13 @@ returns-clause-changes c = λ to moment e profile program script timing p q. cha
 pub returns-clause-changes_from : goal.returns-clause-changes_from
 returns-clause-changes_from c = λ to moment e from start d profile program script timing p q.
     changes_from_line program script timing p q to moment e from start d profile
+
+pub returns-clause-find : goal.returns-clause-find
+returns-clause-find c = λ profile text r found program script timing p q. find_line program script timing p q text r found profile
+
+pub returns-clause-find_between : goal.returns-clause-find_between
+returns-clause-find_between c = λ from start d to end e profile text r found program script timing p q.
+    find_between_line program script timing p q text r found from start d to end e profile
 
 pub returns-clause-reports : goal.returns-clause-reports
 returns-clause-reports c = λ at moment e profile program script timing p q. reports_line program script timing p q at moment e profile

@@ -20,4 +20,4 @@ answered readers writers job outcome ends (Some f) is running files held =
 
 pub returns-clause-answer : goal.returns-clause-answer
 returns-clause-answer g c = λ running files held.
-    answered _ _ _ _ c.run-outcome.ensures _ refl running files held
+    answered _ _ _ _ c.run_with-outcome.ensures _ refl running files held

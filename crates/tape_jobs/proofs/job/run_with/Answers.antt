@@ -1,7 +1,7 @@
 use Rattle.std.proofs.Common.{refl}
 use Rattle.tape_jobs.specs.Endings.{used, writers_of}
 use Rattle.tape_jobs.proofs.JobLemmas.{IsBefore, ends_performed, ends_unread}
-use Rattle.tape_jobs.proofs.job.run.Goals as goal
+use Rattle.tape_jobs.proofs.job.run_with.Goals as goal
 
 pub returns-in-Ok : goal.returns-in-Ok
 returns-in-Ok g c =
