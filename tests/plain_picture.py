@@ -47,7 +47,7 @@ def runs_of(row):
 
 
 def escaped(text):
-    return text.replace("&", "&amp;").replace("<", "&lt;")
+    return text.replace("&", "&amp;").replace("<", "&lt;").replace(">", "&gt;")
 
 
 def classes(*names):

@@ -1,4 +1,4 @@
-//! What the tests of both prints share.
+//! What the tests of the prints share.
 
 use std::alloc::Global;
 use std::test::Fail;
@@ -6,6 +6,7 @@ use vt_term::{Profile, Reports, Terminal};
 
 mod escaped;
 mod find;
+mod picture;
 mod plain;
 mod refused;
 

@@ -1,0 +1,4 @@
+mod LineLemmas
+mod PlainLemmas
+mod RunLemmas
+mod LetterLemmas

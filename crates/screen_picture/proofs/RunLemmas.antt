@@ -1,0 +1,59 @@
+-- The runs of cells.
+use Rattle.std.proofs.Common.{◌≡◌, ℕ, suc, ◌+◌, ◌-◌, ◌<◌, ◌≤◌, Bool, true, false, List, [], ◌∷◌, ◌++◌, ap, sym, refl, ◌∙◌, length, get_or, map, filter, drop, take, cond, arith}
+use Rattle.std.specs.List.{prefix_len, range_with_len}
+use Rattle.std.proofs.lemmas.Bool.Decides.{nat_tests}
+use Rattle.std.proofs.lemmas.List.{drop_more, get_or_default, length-drop, map-append, take_all}
+use Rattle.std.proofs.lemmas.List.Elements.{filter-append}
+use Rattle.vt_screen.specs.declared.cell.Cell.{Cell}
+use Rattle.vt_screen.specs.Cells.{blank}
+use Rattle.screen_picture.specs.declared.runs.Run.{Run}
+use Rattle.screen_picture.specs.Runs.{begins, cell_behind, is_like, run_at}
+use Rattle.screen_picture.proofs.LineLemmas.{range_split}
+
+prefix_short : {X : Type 0} (p : X → Bool) (xs : List X) → prefix_len p xs ≤ length xs
+prefix_short p [] = omega arith
+prefix_short p (x ∷ xs) =
+    let rest = prefix_short p xs in
+    elim (p x) as (λ b. cond b (1 + prefix_len p xs) 0 ≤ suc (length xs)) [ true ↦ omega arith | false ↦ omega arith ]
+
+is_like_itself : (cell : Cell) → is_like cell cell ≡ true
+is_like_itself cell = grind (arith, nat_tests)
+
+some_prefix : {X : Type 0} (p : X → Bool) (x : X) (xs : List X) → p x ≡ true → 1 ≤ prefix_len p (x ∷ xs)
+some_prefix p x xs passes = rw passes (omega arith)
+
+-- a run has a cell, and ends with the cells at most
+pub run_low : (cells : List Cell) (before : ℕ) → before < length cells → 1 ≤ (run_at cells before).len
+run_low cells before within =
+    rw (drop_more cells before blank within) (some_prefix (is_like (cell_behind cells before)) (cell_behind cells before) (drop (before + 1) cells) (is_like_itself (cell_behind cells before)))
+
+pub run_high : (cells : List Cell) (before : ℕ) → before < length cells → before + (run_at cells before).len ≤ length cells
+run_high cells before within =
+    let short = prefix_short (is_like (cell_behind cells before)) (drop before cells) in
+    omega (arith, length-drop before cells)
+
+-- its length as it is counted
+pub run_len_is : (cells : List Cell) (before : ℕ) (first : Cell) → before < length cells → first ≡ get_or cells before first
+    → prefix_len (is_like first) (take (length cells - before) (drop before cells)) ≡ (run_at cells before).len
+run_len_is cells before first within is =
+    let here : first ≡ cell_behind cells before = is ∙ get_or_default cells before first blank within in
+    ap (λ one. prefix_len (is_like one) (take (length cells - before) (drop before cells))) here
+    ∙ ap (prefix_len (is_like (cell_behind cells before))) (take_all (length cells - before) (drop before cells) (omega (arith, length-drop before cells)))
+
+-- the runs of one cell more
+run_one : (cells : List Cell) (before : ℕ) (here : Bool) → here ≡ begins cells before
+    → map (run_at cells) (filter (begins cells) (before ∷ [])) ≡ cond here (run_at cells before ∷ []) []
+run_one cells before true is = rw (sym is) refl
+run_one cells before false is = rw (sym is) refl
+
+abbrev pub first_runs : List Cell → ℕ → List Run
+first_runs cells n = map (run_at cells) (filter (begins cells) (range_with_len 0 n))
+
+pub runs_more : (cells : List Cell) (before : ℕ) (here : Bool) → here ≡ begins cells before
+    → first_runs cells (before + 1) ≡ first_runs cells before ++ cond here (run_at cells before ∷ []) []
+runs_more cells before here is =
+    ap (λ l. map (run_at cells) (filter (begins cells) l)) (range_split 0 before 1)
+    ∙ ap (map (run_at cells)) (filter-append (begins cells) (range_with_len 0 before) ((0 + before) ∷ []))
+    ∙ map-append (run_at cells) (filter (begins cells) (range_with_len 0 before)) (filter (begins cells) ((0 + before) ∷ []))
+    ∙ ap (λ (k : ℕ). first_runs cells before ++ map (run_at cells) (filter (begins cells) (k ∷ []))) (omega arith)
+    ∙ ap (λ l. first_runs cells before ++ l) (run_one cells before here is)

@@ -1,0 +1,8 @@
+pub mod Outlines
+pub mod Runs
+pub mod Letters
+pub mod Strokes
+pub mod Grounds
+pub mod Framed
+pub mod Cursor
+pub mod Picture
