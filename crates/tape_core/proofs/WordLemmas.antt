@@ -7,11 +7,10 @@ use Rattle.std.proofs.lemmas.Bool.Decides.{nat_tests}
 use Rattle.std.proofs.lemmas.Fmt.{decimal_is_IsNumeral}
 use Rattle.std.proofs.lemmas.List.Elements.{All-append, All-cons, All-weaker}
 use Rattle.tape_core.specs.Seconds.{second}
-use Rattle.tape_core.specs.Timing.{DelayText, delay_of}
 use Rattle.tape_core.specs.Text.{IsWord, NumberText, fields, is_blank, is_plain, number_of}
 use Rattle.tape_core.specs.Written.{seconds_form, six_digits}
-use Rattle.tape_core.proofs.LineLemmas.{delay_text, number_text}
-use Rattle.tape_core.proofs.ReadBackLemmas.{HasNoBlank, decimal_digits, delay_read, fields_before_blank, fields_of_word, number_read, six_digits_are}
+use Rattle.tape_core.proofs.LineLemmas.{number_text}
+use Rattle.tape_core.proofs.ReadBackLemmas.{HasNoBlank, decimal_digits, fields_before_blank, fields_of_word, number_read, six_digits_are}
 
 no_blank : (b : ℕ) → is_plain b ≡ true → is_blank b ≡ false
 no_blank b plain = grind (arith, nat_tests)
@@ -32,15 +31,6 @@ spelled text (Some n) is = number_text text n is
 
 pub number_spelled : (text : List ℕ) → MatchOption (number_of text) ((n : ℕ) → NumberText text n → ⊥) (λ n. NumberText text n)
 number_spelled text = spelled text (number_of text) refl
-
--- a field is read as a delay where it is spelled as one
-delay_told : (text : List ℕ) (o : Option ℕ) → delay_of text ≡ o
-    → MatchOption o ((delay : ℕ) → DelayText text delay → ⊥) (λ delay. DelayText text delay)
-delay_told text None is = λ delay s. let some = sym is ∙ (delay_read text delay s).read in cc
-delay_told text (Some delay) is = delay_text text delay is
-
-pub delay_spelled : (text : List ℕ) → MatchOption (delay_of text) ((delay : ℕ) → DelayText text delay → ⊥) (λ delay. DelayText text delay)
-delay_spelled text = delay_told text (delay_of text) refl
 
 digit_is_plain : (b : ℕ) → is_ascii_digit b ≡ true → is_plain b ≡ true
 digit_is_plain b digit = grind (arith, nat_tests)

@@ -74,9 +74,10 @@ pub fn seconds_are_spelled()
 
 /// A field is read as a delay where it is spelled as one, with that value, and nowhere else.
 pub fn delays_are_spelled()
-    ensures { (text : List ℕ) → MatchOption (delay_of text)
-        ((delay : ℕ) → DelayText text delay → ⊥)
-        (λ delay. DelayText text delay) }
+    ensures spelled { (text : List ℕ) (delay : ℕ)
+        → delay_of text ≡ Some delay → DelayText text delay }
+    ensures read { (text : List ℕ) (delay : ℕ)
+        → DelayText text delay → delay_of text ≡ Some delay }
 {}
 
 /// What is read as an entry is a line of the timing format that says it.
