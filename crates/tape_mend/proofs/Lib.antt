@@ -1,0 +1,6 @@
+mod LineLemmas
+mod FrontLemmas
+mod OpeningLemmas
+mod TakenLemmas
+mod ToldLemmas
+mod MendedLemmas

@@ -1,0 +1,106 @@
+-- A line of the multi-stream format is read as what it says.
+use Rattle.std.proofs.Common.{◌≡◌, ℕ, Bool, true, false, cond, List, [], ◌∷◌, Option, Some, None, MatchOption, Ok, nat_eq, refl, ap, sym, ◌∙◌, subst}
+use Rattle.std.proofs.lemmas.Bool.{eqb-true}
+use Rattle.tape_core.specs.Text.{NumberText, fields, number_of}
+use Rattle.tape_core.specs.Timing.{DelayText, delay_of}
+use Rattle.tape_mend.specs.declared.line.Line.{Line}
+use Rattle.tape_mend.specs.declared.line.Stream.{Stream}
+use Rattle.tape_mend.specs.declared.line.Stream.TheVariants.{Header, Input, Output, Signal}
+use Rattle.tape_mend.specs.Streams.{CountText, StreamLine, count_of, counted, delayed, letter_of, named, stream_line, stream_of, stream_of_letter}
+
+-- numbers and delays are read where they are spelled: what laws of `tape_core` say
+pub record AreSpelled : Type 0 where
+  pub numbers : (text : List ℕ) → MatchOption (number_of text) ((n : ℕ) → NumberText text n → ⊥) (λ n. NumberText text n)
+  pub delays : (text : List ℕ) (delay : ℕ) → delay_of text ≡ Some delay → DelayText text delay
+  pub read : (text : List ℕ) (delay : ℕ) → DelayText text delay → delay_of text ≡ Some delay
+
+-- a letter names its stream, and no other does
+of_letter : (s : Stream) → stream_of (letter_of s ∷ []) ≡ Some s
+of_letter Header = refl
+of_letter Input = refl
+of_letter Output = refl
+of_letter Signal = refl
+
+letter_is : (b : ℕ) (s : Stream) → stream_of_letter b ≡ Some s → b ≡ letter_of s
+letter_is b s is = letters (nat_eq b 72) (nat_eq b 73) (nat_eq b 79) (nat_eq b 83) refl refl refl refl is
+  where
+    letters : (h i o g : Bool) → nat_eq b 72 ≡ h → nat_eq b 73 ≡ i → nat_eq b 79 ≡ o → nat_eq b 83 ≡ g
+        → cond h (Some Header) (cond i (Some Input) (cond o (Some Output) (cond g (Some Signal) None))) ≡ Some s → b ≡ letter_of s
+    letters true i o g eh ei eo eg e = let same : Header ≡ s = cc in eqb-true b 72 eh ∙ ap letter_of same
+    letters false true o g eh ei eo eg e = let same : Input ≡ s = cc in eqb-true b 73 ei ∙ ap letter_of same
+    letters false false true g eh ei eo eg e = let same : Output ≡ s = cc in eqb-true b 79 eo ∙ ap letter_of same
+    letters false false false true eh ei eo eg e = let same : Signal ≡ s = cc in eqb-true b 83 eg ∙ ap letter_of same
+    letters false false false false eh ei eo eg e = absurd (cc)
+
+field_is : (first : List ℕ) (s : Stream) → stream_of first ≡ Some s → first ≡ letter_of s ∷ []
+field_is [] s is = absurd (cc)
+field_is (b ∷ []) s is = ap (λ x. x ∷ []) (letter_is b s is)
+field_is (b ∷ c ∷ rest) s is = absurd (cc)
+
+-- a number that is spelled is read
+number_read : AreSpelled → (text : List ℕ) (n : ℕ) → NumberText text n → number_of text ≡ Some n
+number_read are text n is = by (number_of text) refl (are.numbers text)
+  where
+    by : (o : Option ℕ) → number_of text ≡ o → MatchOption o ((n : ℕ) → NumberText text n → ⊥) (λ n. NumberText text n) → number_of text ≡ Some n
+    by None e none = absurd (none n is)
+    by (Some m) e some = e ∙ ap Some (some.value ∙ sym is.value)
+
+number_spelled : AreSpelled → (text : List ℕ) (n : ℕ) → number_of text ≡ Some n → NumberText text n
+number_spelled are text n is = rw is at (are.numbers text)
+
+one_count : AreSpelled → (rest : List (List ℕ)) (count : ℕ) → count_of Output rest ≡ Some count
+    → (text : List ℕ) × (rest ≡ text ∷ []) × NumberText text count
+one_count are [] count is = absurd (cc)
+one_count are (text ∷ []) count is = (text, refl, number_spelled are text count is)
+one_count are (text ∷ next ∷ more) count is = absurd (cc)
+
+count_text : AreSpelled → (s : Stream) (rest : List (List ℕ)) (count : ℕ) → count_of s rest ≡ Some count → CountText s rest count
+count_text are Output rest count is = one_count are rest count is
+count_text are Input rest count is = one_count are rest count is
+count_text are Header rest count is = let none : 0 ≡ count = cc in sym none
+count_text are Signal rest count is = let none : 0 ≡ count = cc in sym none
+
+count_read : AreSpelled → (s : Stream) (rest : List (List ℕ)) (count : ℕ) → CountText s rest count → count_of s rest ≡ Some count
+count_read are Output rest count (text, e, is) = rw e (number_read are text count is)
+count_read are Input rest count (text, e, is) = rw e (number_read are text count is)
+count_read are Header rest count is = ap Some (sym is)
+count_read are Signal rest count is = ap Some (sym is)
+
+-- what a line says is read
+pub said_read : AreSpelled → (text : List ℕ) (said : Line) → StreamLine text said → stream_line (fields text) ≡ Ok (Some said)
+said_read are text said l =
+    ap stream_line l.cut ∙ ap (λ o. named o (l.second ∷ l.rest)) (of_letter said.stream)
+    ∙ ap (λ o. delayed said.stream o l.rest) (are.read l.second said.delay l.delayed)
+    ∙ ap (counted said.stream said.delay) (count_read are said.stream l.rest said.count l.counted)
+
+-- and what is read is what the line says
+pub read_said : AreSpelled → (text : List ℕ) (said : Line) → stream_line (fields text) ≡ Ok (Some said) → StreamLine text said
+read_said are text said is = by_fields (fields text) refl is
+  where
+    by_count : (s : Stream) (first second : List ℕ) (rest : List (List ℕ)) (d : ℕ) (o : Option ℕ) → fields text ≡ first ∷ second ∷ rest
+        → stream_of first ≡ Some s → delay_of second ≡ Some d → count_of s rest ≡ o → counted s d o ≡ Ok (Some said) → StreamLine text said
+    by_count s first second rest d None cut name delay count e = absurd (cc)
+    by_count s first second rest d (Some n) cut name delay count e =
+        let same : ◌≡◌ {A = Line} (record { stream = s; delay = d; count = n }) said = cc in
+        subst (StreamLine text) same (record {
+          second = second;
+          rest = rest;
+          cut = cut ∙ ap (λ x. x ∷ second ∷ rest) (field_is first s name);
+          delayed = are.delays second d delay;
+          counted = count_text are s rest n count;
+        })
+
+    by_delay : (s : Stream) (first second : List ℕ) (rest : List (List ℕ)) (o : Option ℕ) → fields text ≡ first ∷ second ∷ rest
+        → stream_of first ≡ Some s → delay_of second ≡ o → delayed s o rest ≡ Ok (Some said) → StreamLine text said
+    by_delay s first second rest None cut name delay e = absurd (cc)
+    by_delay s first second rest (Some d) cut name delay e = by_count s first second rest d (count_of s rest) cut name delay refl e
+
+    by_name : (first : List ℕ) (rest : List (List ℕ)) (o : Option Stream) → fields text ≡ first ∷ rest
+        → stream_of first ≡ o → named o rest ≡ Ok (Some said) → StreamLine text said
+    by_name first rest None cut name e = absurd (cc)
+    by_name first [] (Some s) cut name e = absurd (cc)
+    by_name first (second ∷ rest) (Some s) cut name e = by_delay s first second rest (delay_of second) cut name refl e
+
+    by_fields : (fs : List (List ℕ)) → fields text ≡ fs → stream_line fs ≡ Ok (Some said) → StreamLine text said
+    by_fields [] cut e = absurd (cc)
+    by_fields (first ∷ rest) cut e = by_name first rest (stream_of first) cut refl e

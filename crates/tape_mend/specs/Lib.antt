@@ -1,0 +1,9 @@
+pub mod Streams
+pub mod Counting
+pub mod Front
+pub mod Taken
+pub mod Mended
+pub mod Told
+pub mod Steps
+pub mod Seen
+pub mod Law

@@ -1,0 +1,15 @@
+-- Private: the logs that the code keeps, as those that definitions speak of.
+use Rattle.std.specs.Prelude.{ℕ, List}
+use Rattle.std.specs.Option.{option_map}
+use Rattle.std.specs.Borrow.{Bor}
+use Rattle.tape_core.specs.Text.{fields}
+use Rattle.tape_mend.specs.declared.logs.Logs.{Logs as Held}
+use Rattle.tape_mend.specs.Counting.{Logs}
+
+-- The fields of a text.
+abbrev pub fields_at : Bor (List ℕ) → List (List ℕ)
+fields_at text = fields text.now
+
+-- What stands behind both names.
+abbrev pub logs_of : Held → Logs
+logs_of logs = record { output = option_map fields_at logs.output; input = option_map fields_at logs.input }

@@ -1,0 +1,24 @@
+//! Laws over the definitions alone, as functions that call those of `tape_core` that they need.
+ghost use Rattle.std.specs.Prelude.{◌≡◌, List, ℕ, true};
+ghost use Rattle.tape_core.specs.Reading.{has_header};
+ghost use Rattle.tape_mend.specs.declared.opening.Header.{Header};
+ghost use Rattle.tape_mend.specs.Law.{AStreamLineIsRead, MendedReadsBack};
+ghost use Rattle.tape_mend.specs.Mended.{seen};
+
+use tape_core::laws::{delays_are_spelled, numbers_are_spelled, what_is_written_reads_back};
+
+/// A line of the multi-stream format is read as what it says, and no other line is.
+pub fn a_stream_line_is_read()
+    ensures { AStreamLineIsRead }
+{
+    numbers_are_spelled();
+    delays_are_spelled();
+}
+
+/// What is mended fits the limits, and, written, it is read again without a fault as that recording.
+pub fn what_is_mended_reads_back()
+    ensures { (how : Header) (script timing : List ℕ)
+        → has_header (seen how script) ≡ true → MendedReadsBack how script timing }
+{
+    what_is_written_reads_back();
+}
