@@ -1,0 +1,33 @@
+-- What holds of every page.
+use Rattle.std.specs.Prelude.{◌≡◌, ℕ, ◌+◌, ◌<◌, ◌≤◌, List, length, map, slice_index_or, take}
+use Rattle.tape_core.specs.Due.{due_time}
+use Rattle.tape_core.specs.Tape.{Tape}
+use Rattle.vt_term.specs.declared.profile.Profile.{Profile}
+use Rattle.screen_print.specs.Stills.{Still}
+use Rattle.screen_print.specs.Walk.{still_after}
+use Rattle.screen_page.specs.Entries.{Entry, entries, first_entry, shown}
+use Rattle.screen_page.specs.Folded.{folded}
+
+-- entries that were folded give what stands on a screen: its rows, as they are shown, and by the last entry its columns,
+-- whether it is reversed, and its cursor
+pub record IsFolded (all : List Entry) (last : Entry) (still : Still) : Type 0 where
+  pub rows : folded all ≡ map shown still.rows
+  pub wide : last.wide ≡ still.wide
+  pub reversed : last.reversed ≡ still.reversed
+  pub line : last.line ≡ still.line
+  pub column : last.column ≡ still.column
+
+-- entry n of a recording
+abbrev pub entry_behind : Profile → Tape → ℕ → Entry
+entry_behind profile tape count = slice_index_or (entries profile tape) count first_entry
+
+-- for every recording and count of chunks, the entries up to that count's give what stands on the terminal after so many
+-- chunks; and each is told as due when its chunk is, the first at 0
+pub record PageReplays : Type 0 where
+  pub folds : (profile : Profile) (tape : Tape) (count : ℕ) → count ≤ length tape.chunks
+      → IsFolded (take (count + 1) (entries profile tape)) (entry_behind profile tape count)
+      (still_after profile tape count)
+  pub begins : (profile : Profile) (tape : Tape) → (entry_behind profile tape 0).due ≡ 0
+  pub due : (profile : Profile) (tape : Tape) (index : ℕ) → index < length tape.chunks
+      → (entry_behind profile tape (index + 1)).due ≡ due_time tape.chunks index
+  pub whole : (profile : Profile) (tape : Tape) → length (entries profile tape) ≡ length tape.chunks + 1
