@@ -4,3 +4,4 @@ mod OpeningLemmas
 mod TakenLemmas
 mod ToldLemmas
 mod MendedLemmas
+mod WholeLemmas

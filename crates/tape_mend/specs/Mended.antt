@@ -49,6 +49,10 @@ losses_of front taken = record {
   chunks = taken.left;
 }
 
+-- Nothing was lost.
+abbrev pub nothing_lost : Losses
+nothing_lost = record { lines = None; inputs = 0; signals = 0; cut = None; chunks = 0 }
+
 -- A recording, and what was lost of it.
 pub record Remains : Type 0 where
   pub tape : Tape

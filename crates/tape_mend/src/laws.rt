@@ -2,10 +2,12 @@
 ghost use Rattle.std.specs.Prelude.{◌≡◌, List, ℕ, true};
 ghost use Rattle.tape_core.specs.Reading.{has_header};
 ghost use Rattle.tape_mend.specs.declared.opening.Header.{Header};
-ghost use Rattle.tape_mend.specs.Law.{AStreamLineIsRead, MendedReadsBack};
+ghost use Rattle.tape_mend.specs.Law.{AStreamLineIsRead, MendedReadsBack, WholeStays};
 ghost use Rattle.tape_mend.specs.Mended.{seen};
 
-use tape_core::laws::{delays_are_spelled, numbers_are_spelled, what_is_written_reads_back};
+use tape_core::laws::{
+    a_timing_line_is_read, delays_are_spelled, numbers_are_spelled, what_is_written_reads_back,
+};
 
 /// A line of the multi-stream format is read as what it says, and no other line is.
 pub fn a_stream_line_is_read()
@@ -21,4 +23,11 @@ pub fn what_is_mended_reads_back()
         → has_header (seen how script) ≡ true → MendedReadsBack how script timing }
 {
     what_is_written_reads_back();
+}
+
+/// What is read without a fault is mended as it is, and nothing is lost of it.
+pub fn what_is_whole_stays()
+    ensures { WholeStays }
+{
+    a_timing_line_is_read();
 }
