@@ -6,6 +6,8 @@
 #[cfg(test)]
 mod devices;
 #[cfg(test)]
+mod mending;
+#[cfg(test)]
 mod once_more;
 #[cfg(test)]
 mod prints;
