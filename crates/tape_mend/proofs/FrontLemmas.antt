@@ -23,8 +23,15 @@ pub record Passes (behind : Behind) (shared : Bool) (said : Line) : Type 0 where
   pub few : (is_output said.stream && nat_le most_chunks behind.outputs) ≡ false
   pub bytes : behind.bytes + lying shared said ≤ longest_body
 
-tested : (a b c d : Bool) (line : Line) (said : Option Line)
-    → cond {A = Result (Option Line) LineFault} a (Err fault.DelayTooLarge) (cond b (Err fault.ChunkTooLong) (cond c (Err fault.TooManyChunks) (cond d (Err fault.TooManyBytes) (Ok (Some line))))) ≡ Ok said
+-- what a line within the limits, or the first one that it breaks, comes to by the answers of four tests
+abbrev by_tests : (delay count chunks bytes : Bool) → Line → Result (Option Line) LineFault
+by_tests delay count chunks bytes line =
+    cond delay (Err fault.DelayTooLarge)
+    (cond count (Err fault.ChunkTooLong)
+    (cond chunks (Err fault.TooManyChunks)
+    (cond bytes (Err fault.TooManyBytes) (Ok (Some line)))))
+
+tested : (a b c d : Bool) (line : Line) (said : Option Line) → by_tests a b c d line ≡ Ok said
     → (a ≡ false) × (b ≡ false) × (c ≡ false) × (d ≡ false) × (said ≡ Some line)
 tested true b c d line said h = absurd (cc)
 tested false true c d line said h = absurd (cc)
@@ -109,6 +116,23 @@ told_again behind shared (Ok (Some line)) said h =
     let p = passes behind shared line said h in
     rw (p.0) (h ∙ ap Ok p.0)
 
+-- what a line comes to whose delay was judged so
+abbrev by_count : Behind → Bool → Bool → Line → Result (Option Line) LineFault
+by_count behind shared delay line =
+    by_tests delay (nat_lt longest_chunk line.count) (is_output line.stream && nat_le most_chunks behind.outputs)
+    (nat_lt longest_body (behind.bytes + lying shared line)) line
+
+capped_count : (behind : Behind) (shared : Bool) (stream : Stream) (delay count : ℕ) (t : Bool)
+    → (last_moment < count) ⊎ (count ≤ last_moment)
+    → by_count behind shared t (record { stream = stream; delay = delay; count = min count last_moment })
+    ≡ by_count behind shared t (record { stream = stream; delay = delay; count = count })
+capped_count behind shared stream delay count t (inl lt) =
+    let long : nat_lt longest_chunk count ≡ true = lt-ltb _ _ (omega arith) in
+    let long' : nat_lt longest_chunk (min count last_moment) ≡ true = lt-ltb _ _ (omega arith) in
+    rw (long, long') refl
+capped_count behind shared stream delay count t (inr le) =
+    let same : min count last_moment ≡ count = omega arith in rw same refl
+
 -- a delay or a count above the greatest moment is above the limit of a line too
 capped_line : (behind : Behind) (shared : Bool) (stream : Stream) (delay count : ℕ)
     → within behind shared (record { stream = stream; delay = min delay last_moment; count = min count last_moment })
@@ -119,25 +143,14 @@ capped_line behind shared stream delay count =
           let long : nat_lt longest_delay (behind.waited + delay) ≡ true = lt-ltb _ _ (omega arith) in
           let long' : nat_lt longest_delay (behind.waited + min delay last_moment) ≡ true = lt-ltb _ _ (omega arith) in
           rw (long, long') refl
-      | inr le ↦ let same : min delay last_moment ≡ delay = omega arith in rw same (capped_count behind shared stream delay count (nat_lt longest_delay (behind.waited + delay)) (cases_lt last_moment count))
+      | inr le ↦
+          let same : min delay last_moment ≡ delay = omega arith in
+          let t = nat_lt longest_delay (behind.waited + delay) in
+          rw same (capped_count behind shared stream delay count t (cases_lt last_moment count))
     ]
-  where
-    capped_count : (behind : Behind) (shared : Bool) (stream : Stream) (delay count : ℕ) (t : Bool) → (last_moment < count) ⊎ (count ≤ last_moment)
-        → cond {A = Result (Option Line) LineFault} t (Err fault.DelayTooLarge) (cond (nat_lt longest_chunk (min count last_moment)) (Err fault.ChunkTooLong)
-        (cond (is_output stream && nat_le most_chunks behind.outputs) (Err fault.TooManyChunks)
-        (cond (nat_lt longest_body (behind.bytes + lying shared (record { stream = stream; delay = delay; count = min count last_moment }))) (Err fault.TooManyBytes)
-        (Ok (Some (record { stream = stream; delay = delay; count = min count last_moment }))))))
-        ≡ cond t (Err fault.DelayTooLarge) (cond (nat_lt longest_chunk count) (Err fault.ChunkTooLong)
-        (cond (is_output stream && nat_le most_chunks behind.outputs) (Err fault.TooManyChunks)
-        (cond (nat_lt longest_body (behind.bytes + lying shared (record { stream = stream; delay = delay; count = count }))) (Err fault.TooManyBytes)
-        (Ok (Some (record { stream = stream; delay = delay; count = count }))))))
-    capped_count behind shared stream delay count t (inl lt) =
-        let long : nat_lt longest_chunk count ≡ true = lt-ltb _ _ (omega arith) in
-        let long' : nat_lt longest_chunk (min count last_moment) ≡ true = lt-ltb _ _ (omega arith) in
-        rw (long, long') refl
-    capped_count behind shared stream delay count t (inr le) = let same : min count last_moment ≡ count = omega arith in rw same refl
 
-pub limited_capped : (behind : Behind) (shared : Bool) (r : Result (Option Line) LineFault) → limited behind shared (capped r) ≡ limited behind shared r
+pub limited_capped : (behind : Behind) (shared : Bool) (r : Result (Option Line) LineFault)
+    → limited behind shared (capped r) ≡ limited behind shared r
 limited_capped behind shared (Err f) = refl
 limited_capped behind shared (Ok None) = refl
 limited_capped behind shared (Ok (Some said)) = capped_line behind shared said.stream said.delay said.count

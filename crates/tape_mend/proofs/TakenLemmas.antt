@@ -39,7 +39,8 @@ none_more pieces = append-nil pieces
 
 counts_with : (pieces : List Piece) (behind : Behind) (shared : Bool) (stream : Stream) (delay count : ℕ) → Counts pieces behind
     → Passes behind shared (record { stream = stream; delay = delay; count = count })
-    → Counts (pieces ++ stream_pieces shared (behind.waited + delay) count stream) (with_line behind shared (Some (record { stream = stream; delay = delay; count = count })))
+    → Counts (pieces ++ stream_pieces shared (behind.waited + delay) count stream)
+    (with_line behind shared (Some (record { stream = stream; delay = delay; count = count })))
 counts_with pieces behind shared Output delay count s p =
     let e : Entry = record { delay = behind.waited + delay; count = count } in
     record {
@@ -95,7 +96,8 @@ front_counts : (format : Format) (pieces : List Piece) (behind : Behind) (logs :
     → FrontCounts (front format pieces behind logs lines)
 front_counts format pieces behind logs [] s = s
 front_counts format pieces behind logs (text ∷ rest) s =
-    by format pieces behind logs text rest s (λ pieces behind logs s. front_counts format pieces behind logs rest s) (limited behind (are_shared logs) (said_by format text)) refl
+    by format pieces behind logs text rest s (λ pieces behind logs s. front_counts format pieces behind logs rest s)
+    (limited behind (are_shared logs) (said_by format text)) refl
   where
     by : (format : Format) (pieces : List Piece) (behind : Behind) (logs : Logs) (text : List ℕ) (rest : List (List ℕ)) → Counts pieces behind
         → ((pieces : List Piece) (behind : Behind) (logs : Logs) → Counts pieces behind → FrontCounts (front format pieces behind logs rest))
@@ -147,7 +149,8 @@ room_output chunks e bytes more le r =
     let len : body_len (chunks ++ c ∷ []) ≡ body_len chunks + length bytes = sum_by_push (λ c. length c.bytes) chunks c in
     record {
       few = omega (arith, length-append chunks (c ∷ []));
-      delays = All-append (λ c. c.delay ≤ longest_delay) chunks (c ∷ []) r.delays (All-cons (λ c. c.delay ≤ longest_delay) c [] one.0 (All-nil (λ (c : Chunk). c.delay ≤ longest_delay)));
+      delays = All-append (λ c. c.delay ≤ longest_delay) chunks (c ∷ []) r.delays
+          (All-cons (λ c. c.delay ≤ longest_delay) c [] one.0 (All-nil (λ (c : Chunk). c.delay ≤ longest_delay)));
       lengths = All-append (λ c. length c.bytes ≤ longest_chunk) chunks (c ∷ []) r.lengths
           (All-cons (λ c. length c.bytes ≤ longest_chunk) c [] (omega (arith, one.1)) (All-nil (λ (c : Chunk). length c.bytes ≤ longest_chunk)));
       bytes = omega arith;
@@ -183,7 +186,8 @@ taken_fits chunks bytes (part ∷ more) r =
     by : (chunks : List Chunk) (bytes : List ℕ) (part : Piece) (more : List Piece) → Room chunks (part ∷ more)
         → ((chunks : List Chunk) (bytes : List ℕ) → Room chunks more → Fit (taken chunks bytes more).chunks)
         → (t : Bool) → nat_le (piece_len part) (length bytes) ≡ t
-        → Fit (cond t (taken (chunks ++ piece_chunks part (take (piece_len part) bytes)) (drop (piece_len part) bytes) more) (stopped chunks bytes part more)).chunks
+        → Fit (cond t (taken (chunks ++ piece_chunks part (take (piece_len part) bytes)) (drop (piece_len part) bytes) more)
+        (stopped chunks bytes part more)).chunks
     by chunks bytes part more r next true h =
         next (chunks ++ piece_chunks part (take (piece_len part) bytes)) (drop (piece_len part) bytes)
         (room_more chunks part (take (piece_len part) bytes) more (omega (arith, length-take (piece_len part) bytes)) r)

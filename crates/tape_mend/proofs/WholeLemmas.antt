@@ -110,18 +110,22 @@ pub record Whole (f : Front) (parts : List Piece) (behind : Behind) : Type 0 whe
   pub inputs : f.behind.inputs ≡ behind.inputs
   pub signals : f.behind.signals ≡ behind.signals
 
-whole_blank : LinesAreRead → (text : List ℕ) (rest : List (List ℕ)) (chunks : List Chunk) (pieces : List Piece) (behind : Behind) (logs : Logs) → fields text ≡ []
+-- nothing is left out of these lines, which time these chunks
+abbrev StaysWhole : Logs → List (List ℕ) → List Chunk → Type 0
+StaysWhole logs lines chunks = (pieces : List Piece) (behind : Behind) → RoomBehind behind chunks
+    → Whole (front Classic pieces behind logs lines) (pieces ++ map piece_for chunks) behind
+
+whole_blank : (text : List ℕ) (rest : List (List ℕ)) (chunks : List Chunk) (pieces : List Piece) (behind : Behind) (logs : Logs)
+    → fields text ≡ []
     → Whole (front Classic pieces (record behind { lines = behind.lines + 1 }) logs rest) (pieces ++ map piece_for chunks) behind
     → Whole (front Classic pieces behind logs (text ∷ rest)) (pieces ++ map piece_for chunks) behind
-whole_blank read text rest chunks pieces behind logs is whole =
+whole_blank text rest chunks pieces behind logs is whole =
     let said : limited behind (are_shared logs) (said_by Classic text) ≡ Ok None = rw is refl in
     rw (front_more Classic pieces behind logs text rest None said, append-nil pieces) whole
 
-whole_chunk : LinesAreRead → (text : List ℕ) (rest : List (List ℕ)) (c : Chunk) (cs : List Chunk) (pieces : List Piece) (behind : Behind) (logs : Logs)
-    → RoomBehind behind (c ∷ cs) → TimingLine text c.delay (length c.bytes)
-    → ((pieces : List Piece) (behind : Behind) → RoomBehind behind cs → Whole (front Classic pieces behind logs rest) (pieces ++ map piece_for cs) behind)
-    → Whole (front Classic pieces behind logs (text ∷ rest)) (pieces ++ map piece_for (c ∷ cs)) behind
-whole_chunk read text rest c cs pieces behind logs room line more =
+whole_chunk : LinesAreRead → (text : List ℕ) (rest : List (List ℕ)) (c : Chunk) (cs : List Chunk) (logs : Logs)
+    → TimingLine text c.delay (length c.bytes) → StaysWhole logs rest cs → StaysWhole logs (text ∷ rest) (c ∷ cs)
+whole_chunk read text rest c cs logs line more pieces behind room =
     let w = first_within c cs room.limits in
     let count : body_len (c ∷ cs) ≡ length c.bytes + body_len cs = sum_by-cons (λ c. length c.bytes) c cs in
     let fits = within_behind behind (are_shared logs) c room.waited w (omega (arith, room.few)) (omega (arith, room.bytes)) in
@@ -143,27 +147,26 @@ whole_chunk read text rest c cs pieces behind logs room line more =
       signals = whole.signals;
     })
 
-front_whole : LinesAreRead → (lines : List (List ℕ)) (chunks : List Chunk) (pieces : List Piece) (behind : Behind) (logs : Logs)
-    → RoomBehind behind chunks → AreTimed (filter has_fields lines) chunks
-    → Whole (front Classic pieces behind logs lines) (pieces ++ map piece_for chunks) behind
-front_whole read [] [] pieces behind logs room timed = record { pieces = sym (append-nil pieces); fault = refl; inputs = refl; signals = refl }
-front_whole read [] (c ∷ cs) pieces behind logs room timed = absurd timed
-front_whole read (text ∷ rest) chunks pieces behind logs room timed =
-    by (fields text) chunks refl room timed (λ chunks pieces behind room timed. front_whole read rest chunks pieces behind logs room timed)
+front_whole : LinesAreRead → (lines : List (List ℕ)) (chunks : List Chunk) (logs : Logs) → AreTimed (filter has_fields lines) chunks
+    → StaysWhole logs lines chunks
+front_whole read [] [] logs timed pieces behind room =
+    record { pieces = sym (append-nil pieces); fault = refl; inputs = refl; signals = refl }
+front_whole read [] (c ∷ cs) logs timed pieces behind room = absurd timed
+front_whole read (text ∷ rest) chunks logs timed pieces behind room =
+    by (fields text) chunks refl timed (λ chunks timed. front_whole read rest chunks logs timed) pieces behind room
   where
-    by : (fs : List (List ℕ)) (chunks : List Chunk) → fields text ≡ fs → RoomBehind behind chunks → AreTimed (filter has_fields (text ∷ rest)) chunks
-        → ((chunks : List Chunk) (pieces : List Piece) (behind : Behind) → RoomBehind behind chunks → AreTimed (filter has_fields rest) chunks
-        → Whole (front Classic pieces behind logs rest) (pieces ++ map piece_for chunks) behind)
-        → Whole (front Classic pieces behind logs (text ∷ rest)) (pieces ++ map piece_for chunks) behind
-    by [] chunks is room timed more =
-        let whole = more chunks pieces (record behind { lines = behind.lines + 1 })
-        (record { waited = room.waited; few = room.few; bytes = room.bytes; limits = room.limits }) (rw is at timed) in
-        whole_blank read text rest chunks pieces behind logs is
+    by : (fs : List (List ℕ)) (chunks : List Chunk) → fields text ≡ fs → AreTimed (filter has_fields (text ∷ rest)) chunks
+        → ((chunks : List Chunk) → AreTimed (filter has_fields rest) chunks → StaysWhole logs rest chunks)
+        → StaysWhole logs (text ∷ rest) chunks
+    by [] chunks is timed more pieces behind room =
+        let whole = more chunks (rw is at timed) pieces (record behind { lines = behind.lines + 1 })
+        (record { waited = room.waited; few = room.few; bytes = room.bytes; limits = room.limits }) in
+        whole_blank text rest chunks pieces behind logs is
         (record { pieces = whole.pieces; fault = whole.fault; inputs = whole.inputs; signals = whole.signals })
-    by (first ∷ others) [] is room timed more = absurd (rw (some_fields text first others is) at timed)
-    by (first ∷ others) (c ∷ cs) is room timed more =
+    by (first ∷ others) [] is timed more pieces behind room = absurd (rw (some_fields text first others is) at timed)
+    by (first ∷ others) (c ∷ cs) is timed more pieces behind room =
         let line = rw (some_fields text first others is) at timed in
-        whole_chunk read text rest c cs pieces behind logs room line.0 (λ pieces behind room. more cs pieces behind room line.1)
+        whole_chunk read text rest c cs logs line.0 (more cs line.1) pieces behind room
 
 -- the pieces of chunks take just their bytes
 taken_whole : (chunks : List Chunk) (before : List Chunk) (trailer : List ℕ)
@@ -208,7 +211,7 @@ whole_stays read script timing tape r =
     } in
     let format = is_classic read lines tape.chunks limits r.timed in
     let front_is : front_of timing ≡ front Classic [] at_first no_logs lines = ap (λ f. front f [] at_first no_logs lines) format in
-    let whole = front_whole read lines tape.chunks [] at_first no_logs room r.timed in
+    let whole = front_whole read lines tape.chunks no_logs r.timed [] at_first room in
     let f = front Classic [] at_first no_logs lines in
     ap (λ f. remains script f (taken [] (drop (header_len script) script) f.pieces)) front_is
     ∙ ap (λ b. remains script f (taken [] b f.pieces)) rest

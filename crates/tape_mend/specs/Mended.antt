@@ -27,8 +27,8 @@ last_session script = fold (later script) 0 (range_with_len 0 (length script))
 abbrev pub made_header : List ℕ
 made_header = codes "Script started" ++ 10 ∷ []
 
--- The typescript that is read: as it is; from the first line of its last session on, where it was appended to; or behind
--- a header that is made for it (ours).
+-- The typescript that is read: as it is; from the first line of its last session on, where it was appended to; or
+-- behind a header that is made for it (ours).
 abbrev pub seen : Header → List ℕ → List ℕ
 seen Kept script = script
 seen Last script = drop (last_session script) script
