@@ -5,6 +5,7 @@ mod StillLemmas
 mod WalkLemmas
 mod ChangeLemmas
 mod FindLemmas
+mod QuietLemmas
 mod EscapedLemmas
 mod InkLemmas
 mod Redrawn

@@ -67,7 +67,7 @@ in_any : {P : Type 0} (xs : List ℕ) (k : ℕ) → P → IsIn xs k P
 in_any [] k p = p
 in_any (x ∷ xs) k p = inr (in_any xs k p)
 
-in_map : {P Q : Type 0} (xs : List ℕ) (k : ℕ) → (P → Q) → IsIn xs k P → IsIn xs k Q
+pub in_map : {P Q : Type 0} (xs : List ℕ) (k : ℕ) → (P → Q) → IsIn xs k P → IsIn xs k Q
 in_map [] k f p = f p
 in_map (x ∷ xs) k f (inl e) = inl e
 in_map (x ∷ xs) k f (inr p) = inr (in_map xs k f p)
@@ -89,7 +89,7 @@ in_filter p a (suc n) k low high fails = elim (cases_eq k a) [
 ]
 
 -- the lines that differ are lines
-in_range : (a n k d : ℕ) → k < n → (a ≤ get_or (range_with_len a n) k d) × (get_or (range_with_len a n) k d < a + n)
+pub in_range : (a n k d : ℕ) → k < n → (a ≤ get_or (range_with_len a n) k d) × (get_or (range_with_len a n) k d < a + n)
 in_range a zero k d lt = absurd (omega arith)
 in_range a (suc n) zero d lt = (omega arith, omega arith)
 in_range a (suc n) (suc k) d lt =
@@ -127,3 +127,13 @@ copied_more rows other lines i line k row lt is low high here same before =
 
 pub copied_all : {P : Type 0} (lines : List ℕ) (i k : ℕ) → length lines ≤ i → IsIn (drop i lines) k P → P
 copied_all {P = P} lines i k past p = subst (λ l. IsIn l k P) (drop_all i lines past) p
+
+-- a line more of which something holds
+pub listed_more : {P : Type 0} (lines : List ℕ) (i line k : ℕ) → i < length lines → line ≡ get_or lines i line
+    → (k ≡ line → P) → IsIn (drop i lines) k P → IsIn (drop (i + 1) lines) k P
+listed_more {P = P} lines i line k lt is here before =
+    let cut : drop i lines ≡ line ∷ drop (i + 1) lines = drop_more lines i line lt ∙ ap (λ x. x ∷ drop (i + 1) lines) (sym is) in
+    elim (subst (λ l. IsIn l k P) cut before) [
+      | inl e ↦ in_any (drop (i + 1) lines) k (here e)
+      | inr rest ↦ rest
+    ]

@@ -64,7 +64,7 @@ one_more f start n =
     ∙ ap (λ l. texts_from f start n ++ l) (append-nil (f (start + n)))
 
 -- numbers in two parts
-range_split : (a m n : ℕ) → range_with_len a (m + n) ≡ range_with_len a m ++ range_with_len (a + m) n
+pub range_split : (a m n : ℕ) → range_with_len a (m + n) ≡ range_with_len a m ++ range_with_len (a + m) n
 range_split a zero n =
     let same : 0 + n ≡ n = omega arith in
     ap (range_with_len a) same ∙ ap (λ b. range_with_len b n) (sym (add-zero a))
@@ -122,7 +122,7 @@ stops_within contents old mid new part whole Memory grows h = grows false h
 
 -- ---- which chunks are asked for
 
-none_in : (p : ℕ → Bool) (a n : ℕ) → ((i : ℕ) → a ≤ i → i < a + n → p i ≡ false) → filter p (range_with_len a n) ≡ []
+pub none_in : (p : ℕ → Bool) (a n : ℕ) → ((i : ℕ) → a ≤ i → i < a + n → p i ≡ false) → filter p (range_with_len a n) ≡ []
 none_in p a zero h = refl
 none_in p a (suc n) h = rw (h a (omega arith) (omega arith)) (none_in p (a + 1) n (λ i low high. h i (omega arith) (omega arith)))
 

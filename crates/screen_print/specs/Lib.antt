@@ -9,4 +9,5 @@ pub mod Walk
 pub mod ChangeLines
 pub mod FindLines
 pub mod Places
+pub mod Quiet
 pub mod Stops

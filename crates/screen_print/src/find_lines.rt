@@ -43,8 +43,10 @@ ghost use Rattle.screen_print.specs.FindLines.{
   place_in,
 };
 ghost use Rattle.screen_print.specs.Places.{IsPlace};
+ghost use Rattle.screen_print.specs.Stills.{still_of};
 ghost use Rattle.screen_print.specs.Stops.{OnlySeeks, StopsWalk};
 
+use crate::quiet::stays;
 use crate::standing::{Place, found_rows, row_text, standing};
 use crate::still::Still;
 use crate::walk::{ChangesFault, ChunkPrinter, put_chunks};
@@ -103,16 +105,38 @@ impl<'a> ChunkPrinter for Finder<'a> {
         due: u64,
         before: &Still,
         after: &Terminal,
-        _lines: &[u8],
+        lines: &[u8],
         writer: &mut Watched<W>,
     ) -> Result<(), Fault> {
-        let chunk = Chunk {
-            index,
-            due,
-            len: self.text.len(),
-        };
-        put_moves(self.text, &chunk, before, &Still::of(after), writer)
+        writers_join::<W>();
+        if stays(self.text, before, after, lines) {
+            return Ok(());
+        }
+        put_laid_out(self.text, index, due, before, after, writer)
     }
+}
+
+/// The same by laying out both screens. Its variables are large, so it stands apart from the walk.
+#[cold]
+#[inline(never)]
+fn put_laid_out<W: Write>(
+    text: &[char],
+    index: usize,
+    due: u64,
+    before: &Still,
+    after: &Terminal,
+    writer: &mut Watched<W>,
+) -> Result<(), Fault>
+    requires { has_failed writer.old ≡ false }
+    ensures { Puts W.contents writer.old writer.new
+        (find_text text.now index due before.now (still_of after.now.console)) result }
+{
+    let chunk = Chunk {
+        index,
+        due,
+        len: text.len(),
+    };
+    put_moves(text, &chunk, before, &Still::of(after), writer)
 }
 
 /// Writes from where a text went in a chunk, and where it came to stand.

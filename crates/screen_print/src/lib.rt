@@ -7,6 +7,7 @@ mod find_lines;
 mod glyphs;
 pub mod laws;
 mod plain_print;
+mod quiet;
 mod standing;
 mod still;
 mod walk;

@@ -6,12 +6,13 @@ ghost use Rattle.vt_screen.specs.Cells.{row_at};
 ghost use Rattle.vt_screen.specs.Picture.{margin_of};
 ghost use Rattle.screen_print.specs.FindLines.{begins, ends_line, found_rows, line_text_from, places_in, row_text, row_texts, rows_reaching, standing};
 ghost use Rattle.screen_print.specs.Places.{IsPlace};
+ghost use Rattle.screen_print.specs.Quiet.{characters};
 
 use crate::glyphs::character;
 use crate::still::Still;
 use arrayvec::ArrayVec;
-use vt_screen::Size;
 use vt_screen::limits::{LINES, NARROW_COLUMNS, WIDE_COLUMNS};
+use vt_screen::{Cell, Row, Size};
 
 /// How many cells a row has.
 const ROW: usize = WIDE_COLUMNS as usize;
@@ -161,6 +162,15 @@ pub(crate) fn row_text(still: &Still, line: u8) -> ArrayVec<char, ROW>
         text.push(character(cell.glyph));
     }
     text
+}
+
+/// The cells of a row from column 1 to its right margin.
+pub(crate) fn cells_of(wide: bool, row: &Row) -> &[Cell]
+    requires { length row.now.cells ≡ WIDE_COLUMNS }
+    ensures text { characters result.now ≡ row_text wide row.now }
+    ensures some { 1 ≤ length result.now }
+{
+    &row.cells[..margin_of(wide, row.size) as usize]
 }
 
 /// How many characters a row has as text.

@@ -124,7 +124,7 @@ impl Still {
 }
 
 /// Whether a screen has 132 columns.
-fn is_wide(screen: &Screen) -> bool
+pub(crate) fn is_wide(screen: &Screen) -> bool
     ensures { result ≡ screen.now.picture.wide }
 {
     screen.columns() == WIDE_COLUMNS

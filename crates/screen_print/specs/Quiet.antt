@@ -1,0 +1,36 @@
+-- Private: rows of which what they show of a text stays, whatever rows stand behind them.
+use Rattle.std.specs.Prelude.{◌≡◌, ℕ, ◌-◌, ◌<◌, ◌≤◌, false, List, ◌∷◌, ◌++◌, filter, length, map, take}
+use Rattle.std.specs.List.{All, range_with_len}
+use Rattle.vt_screen.specs.declared.cell.Cell.{Cell}
+use Rattle.vt_screen.specs.Cells.{row_at}
+use Rattle.vt_screen.specs.Limits.{line_count}
+use Rattle.screen_print.specs.FindLines.{begins, line_text_from, row_text}
+use Rattle.screen_print.specs.Glyphs.{character}
+use Rattle.screen_print.specs.Stills.{Still}
+
+-- the characters of cells
+abbrev pub characters : List Cell → List ℕ
+characters cells = map (λ cell. character cell.glyph) cells
+
+-- behind so many characters of a row the text begins nowhere, whatever follows the row
+abbrev pub BeginsUpTo : List ℕ → ℕ → List ℕ → Type 0
+BeginsUpTo text count row =
+    (rest : List ℕ) (column : ℕ) → count < column → column ≤ length row → begins text (row ++ rest) column ≡ false
+
+-- the columns of a row at which a text begins in its line, where these rows stand behind it
+abbrev pub columns_of : List ℕ → List ℕ → List (List ℕ) → List ℕ
+columns_of text row rows = filter (begins text (line_text_from (row ∷ rows))) (range_with_len 1 (length row))
+
+-- a text begins at the same columns of two rows, with the same to the left, whatever rows stand behind them
+pub record RowStays (text one other : List ℕ) : Type 0 where
+  pub columns : (rows rows' : List (List ℕ)) → columns_of text one rows ≡ columns_of text other rows'
+  pub lefts : (rows : List (List ℕ)) → All (λ column. take (column - 1) one ≡ take (column - 1) other) (columns_of text one rows)
+
+-- so it is with a line of two screens ..
+abbrev pub LineStays : List ℕ → Still → Still → ℕ → Type 0
+LineStays text one other line =
+    RowStays text (row_text one.wide (row_at one.rows line)) (row_text other.wide (row_at other.rows line))
+
+-- .. and with all their lines
+abbrev pub LinesStay : List ℕ → Still → Still → Type 0
+LinesStay text one other = (line : ℕ) → 1 ≤ line → line ≤ line_count → LineStays text one other line
