@@ -14,6 +14,7 @@ use Rattle.tape_mend.specs.declared.line.LineFault.{LineFault}
 use Rattle.tape_mend.specs.declared.line.LineFault.TheVariants as line
 use Rattle.tape_mend.specs.declared.line.Stream.{Stream}
 use Rattle.tape_mend.specs.declared.line.Stream.TheVariants.{Header, Input, Output, Signal}
+use Rattle.tape_mend.specs.Streams.{letter_of}
 
 -- The files into which outputs and inputs were logged: what stands behind the name in the first header line of each
 -- name that has a field there. script(1).
@@ -24,7 +25,7 @@ pub record Logs : Type 0 where
 -- What a header line has behind this name: its fields are the letter H, a delay, the name, and one more at least.
 abbrev pub log_of : List ℕ → List (List ℕ) → Option (List (List ℕ))
 log_of name (letter ∷ delay ∷ first ∷ next ∷ more) =
-    if pointwise nat_eq letter (72 ∷ []) && pointwise nat_eq first name then Some (next ∷ more) else None
+    if pointwise nat_eq letter (letter_of Header ∷ []) && pointwise nat_eq first name then Some (next ∷ more) else None
 log_of name _ = None
 
 -- The logs that are known behind a line: the first ones stay. The classic format names none.

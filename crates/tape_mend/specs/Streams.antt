@@ -39,10 +39,10 @@ pub record StreamLine (text : List ℕ) (said : Line) : Type 0 where
 -- The stream that a field names: it is just the stream's letter.
 abbrev pub stream_of_letter : ℕ → Option Stream
 stream_of_letter b =
-    if b == 72 then Some Header
-    else if b == 73 then Some Input
-    else if b == 79 then Some Output
-    else if b == 83 then Some Signal
+    if b == letter_of Header then Some Header
+    else if b == letter_of Input then Some Input
+    else if b == letter_of Output then Some Output
+    else if b == letter_of Signal then Some Signal
     else None
 
 abbrev pub stream_of : List ℕ → Option Stream
