@@ -1,0 +1,4 @@
+mod HeaderLemmas
+mod ScanLemmas
+mod CountLemmas
+mod NoteLemmas

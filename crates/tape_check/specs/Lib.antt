@@ -1,0 +1,9 @@
+pub mod Words
+pub mod Header
+pub mod Sizes
+pub mod Trailer
+pub mod Unplayed
+pub mod Scan
+pub mod Counting
+pub mod Lines
+pub mod Noting

@@ -1,0 +1,43 @@
+-- The words that are looked for in a typescript, and those that are written.
+use Rattle.std.specs.Prelude.{ℕ, List, [], ◌∷◌, ◌++◌, codes}
+use Rattle.tape_check.specs.declared.words.Word.{Word}
+use Rattle.tape_check.specs.declared.words.Word.TheVariants.{Opening, Closing, NotExecuted, TermLabel, ColumnsLabel, LinesLabel, EightyColumns, TwentyFourLines, Vt52, Vt100, Vt102, Started, Term, Size, Note, NoHeader, OtherSize, PlayedSize, OtherTerm, PlayedTerm, HighBytes, NoUtf8, Trailing, NeverShown, Sessions, MoreSessions, Unplayed, Beginning, Separator, Ending}
+
+-- each word's bytes
+unfoldable pub text_of : Word → List ℕ
+-- what script(1) writes
+text_of Opening = codes "Script started on "
+text_of Closing = 10 ∷ codes "Script done on "
+text_of NotExecuted = codes "<not executed on terminal>]"
+text_of TermLabel = codes "TERM=" ++ 34 ∷ []
+text_of ColumnsLabel = codes "COLUMNS=" ++ 34 ∷ []
+text_of LinesLabel = codes "LINES=" ++ 34 ∷ []
+-- the screen that is played, and the names of terminals
+text_of EightyColumns = codes "80"
+text_of TwentyFourLines = codes "24"
+text_of Vt52 = codes "vt52"
+text_of Vt100 = codes "vt100"
+text_of Vt102 = codes "vt102"
+-- facts
+text_of Started = codes "started "
+text_of Term = codes "term "
+text_of Size = codes "size "
+-- notes
+text_of Note = codes "note "
+text_of NoHeader = codes "header: not script's"
+text_of OtherSize = codes "size: recorded at "
+text_of PlayedSize = codes ", played at 80x24"
+text_of OtherTerm = codes "term: recorded under "
+text_of PlayedTerm = codes ", played as "
+text_of HighBytes = codes "bytes: "
+text_of NoUtf8 = codes " from 128 on: this terminal has no UTF-8"
+text_of Trailing = codes "trailer: "
+text_of NeverShown = codes " bytes behind the last chunk are never shown"
+text_of Sessions = codes "sessions: "
+text_of MoreSessions = codes " more in the trailer"
+-- unplayed sequences
+text_of Unplayed = codes "unplayed "
+-- the line on standard error
+text_of Beginning = codes "typetool: note: "
+text_of Separator = codes "; "
+text_of Ending = codes " (see typetool check)" ++ 10 ∷ []

@@ -1,0 +1,233 @@
+//! A check of a recording: what it says of itself, and what of it this terminal can't show.
+ghost use Rattle.std.specs.Prelude.{◌≡◌, ◌||◌, ◌++◌, ◌∷◌, [], decimal, false, IfErr, IfOk, OnOk, is_some, true};
+ghost use Rattle.std.specs.List.{flat_map};
+ghost use Rattle.tape_core.specs.Devices.{Puts, Took, TookPart, has_failed};
+ghost use Rattle.tape_check.specs.Words.{text_of};
+ghost use Rattle.tape_check.specs.Header.{header_line};
+ghost use Rattle.tape_check.specs.Lines.{StopsCheck, check_text, facts_text, has_any, has_note, has_part, has_parts, is_noted, note_line, note_lines, parts_text, unplayed_line};
+ghost use Rattle.tape_check.specs.Counting.{entries_of};
+ghost use Rattle.tape_check.specs.Noting.{further, notes_seen, parts_in_turn, parts_seen, seen_if};
+
+use crate::header::{header_line, size_of, term_of};
+use crate::notes::{
+    Note, Notes, notes_of, put_facts, put_further, sessions_note, size_note, term_note,
+};
+use crate::scan::unplayed_in;
+use crate::trailer::sessions_in;
+use crate::unplayed::Counts;
+use crate::words::Word;
+use itoa::Buffer;
+use std::alloc::{AllocError, Global};
+use std::io::Write;
+use tape_core::laws::writers_join;
+use tape_core::{Fault, Recording, Watched};
+use vt_term::Profile;
+
+/// Why a check isn't written whole.
+#[derive(Debug, Clone, Copy, PartialEq, Eq)]
+pub enum CheckFault {
+    /// The writer failed.
+    Write,
+    /// Memory was refused to the counts.
+    Memory,
+}
+
+impl From<Fault> for CheckFault {
+    ghost use Rattle.tape_check.specs.declared.check.CheckFault.TheVariants as stops;
+
+    ghost from_gives = { λ _ fault. fault ≡ stops.Write };
+
+    fn from(_fault: Fault) -> Self {
+        CheckFault::Write
+    }
+}
+
+impl From<AllocError> for CheckFault {
+    ghost use Rattle.tape_check.specs.declared.check.CheckFault.TheVariants as stops;
+
+    ghost from_gives = { λ _ fault. fault ≡ stops.Memory };
+
+    fn from(_refused: AllocError) -> Self {
+        CheckFault::Memory
+    }
+}
+
+/// Writes the lines of a check, and tells whether a note or an unplayed sequence is among them. It doesn't flush. After
+/// a write fault a beginning of the text has gone out; where memory is refused nothing has.
+#[tactic(auto, unfolding(crate::specs::Lines::check_text, crate::specs::Lines::is_noted))]
+pub fn write_check<W: Write>(
+    alloc: Global,
+    recording: &Recording,
+    profile: Profile,
+    writer: &mut Watched<W>,
+) -> Result<bool, CheckFault>
+    requires { has_failed writer.old ≡ false }
+    ensures ok { OnOk result
+        (Took W.contents writer.old writer.new (check_text profile recording.now)) }
+    ensures noted { IfOk result (λ noted. noted ≡ is_noted profile recording.now) }
+    ensures fault { IfErr result
+        (StopsCheck W.contents writer.old writer.new (check_text profile recording.now)) }
+{
+    let counts = unplayed_in(alloc, profile, recording.chunks())?;
+    let notes = notes_of(recording, profile);
+    put_check(header_line(recording.header()), &notes, &counts, writer)?;
+    Ok(is_noted(&notes, &counts))
+}
+
+fn is_noted(notes: &Notes<'_>, counts: &Counts) -> bool
+    ensures { result ≡ (has_note (notes_seen notes.now) || has_any (entries_of counts.now)) }
+{
+    notes.any() || !counts.entries.is_empty()
+}
+
+fn put_check<W: Write>(
+    line: &[u8],
+    notes: &Notes<'_>,
+    counts: &Counts,
+    writer: &mut Watched<W>,
+) -> Result<(), Fault>
+    requires { has_failed writer.old ≡ false }
+    ensures { Puts W.contents writer.old writer.new
+        (facts_text line.now ++ note_lines (notes_seen notes.now)
+        ++ flat_map unplayed_line (entries_of counts.now)) result }
+{
+    writers_join::<W>();
+    put_facts(line, writer)?;
+    notes.put(writer)?;
+    put_unplayed(counts, writer)?;
+    Ok(())
+}
+
+fn put_unplayed<W: Write>(counts: &Counts, writer: &mut Watched<W>) -> Result<(), Fault>
+    requires { has_failed writer.old ≡ false }
+    ensures { Puts W.contents writer.old writer.new
+        (flat_map unplayed_line (entries_of counts.now)) result }
+{
+    writers_join::<W>();
+    for (name, count) in counts.entries.iter() {
+        put_entry(name.as_slice(), *count, writer)?;
+    }
+    Ok(())
+}
+
+fn put_entry<W: Write>(name: &[u8], count: u64, writer: &mut Watched<W>) -> Result<(), Fault>
+    requires { has_failed writer.old ≡ false }
+    ensures { Puts W.contents writer.old writer.new (unplayed_line (name.now, count)) result }
+{
+    writers_join::<W>();
+    put_count(count, writer)?;
+    writer.put(name)?;
+    writer.put(b"\n")?;
+    Ok(())
+}
+
+fn put_count<W: Write>(count: u64, writer: &mut Watched<W>) -> Result<(), Fault>
+    requires { has_failed writer.old ≡ false }
+    ensures { Puts W.contents writer.old writer.new
+        (text_of Word.Unplayed ++ decimal count ++ 32 ∷ []) result }
+{
+    let mut digits = Buffer::new();
+    let count = digits.format(count).as_bytes();
+    writer.put_all(&[Word::Unplayed.text(), count, b" "])
+}
+
+/// Writes one line that tells whoever plays a recording what of its size, its terminal and its sessions speaks against
+/// the picture, and tells whether there was something to tell; else it writes nothing. It doesn't flush. After a fault
+/// a beginning of the line has gone out.
+#[tactic(auto, unfolding(crate::specs::Lines::parts))]
+pub fn put_parts<W: Write>(
+    recording: &Recording,
+    profile: Profile,
+    writer: &mut Watched<W>,
+) -> Result<bool, Fault>
+    requires { has_failed writer.old ≡ false }
+    ensures ok { OnOk result
+        (Took W.contents writer.old writer.new (note_line profile recording.now)) }
+    ensures told { IfOk result (λ told. told ≡ has_parts profile recording.now) }
+    ensures fault { IfErr result (λ fault. (fault ≡ Fault.WriteFault)
+        × TookPart W.contents writer.old writer.new (note_line profile recording.now) true) }
+{
+    writers_join::<W>();
+    let line = header_line(recording.header());
+    let parts = Parts {
+        size: size_note(size_of(line)),
+        term: term_note(profile, term_of(line)),
+        sessions: sessions_note(sessions_in(recording.trailer())),
+    };
+    if !parts.any() {
+        return Ok(false);
+    }
+    parts.put_line(writer)?;
+    Ok(true)
+}
+
+/// The notes that are told to whoever plays a recording.
+#[derive(Drop)]
+struct Parts<'a> {
+    size: Option<Note<'a>>,
+    term: Option<Note<'a>>,
+    sessions: Option<Note<'a>>,
+}
+
+impl Parts<'_> {
+    fn any(&self) -> bool
+        ensures { result ≡ has_part (parts_seen self.now) }
+    {
+        self.size.is_some() || self.term.is_some() || self.sessions.is_some()
+    }
+
+    fn put_line<W: Write>(&self, writer: &mut Watched<W>) -> Result<(), Fault>
+        requires { has_failed writer.old ≡ false }
+        ensures { Puts W.contents writer.old writer.new
+            (text_of Word.Beginning ++ parts_text (parts_seen self.now) ++ text_of Word.Ending)
+            result }
+    {
+        writers_join::<W>();
+        writer.put(Word::Beginning.text())?;
+        self.put(writer)?;
+        writer.put(Word::Ending.text())?;
+        Ok(())
+    }
+
+    fn put<W: Write>(&self, writer: &mut Watched<W>) -> Result<(), Fault>
+        requires { has_failed writer.old ≡ false }
+        ensures { Puts W.contents writer.old writer.new (parts_text (parts_seen self.now)) result }
+    {
+        self.put_in_turn(writer)
+    }
+
+    #[tactic(auto, unfolding(crate::specs::Noting::parts_in_turn))]
+    fn put_in_turn<W: Write>(&self, writer: &mut Watched<W>) -> Result<(), Fault>
+        requires { has_failed writer.old ≡ false }
+        ensures { Puts W.contents writer.old writer.new (parts_in_turn self.now) result }
+    {
+        writers_join::<W>();
+        put_further(false, &self.size, writer)?;
+        self.put_term(writer)?;
+        self.put_sessions(writer)?;
+        Ok(())
+    }
+
+    fn put_term<W: Write>(&self, writer: &mut Watched<W>) -> Result<(), Fault>
+        requires { has_failed writer.old ≡ false }
+        ensures { Puts W.contents writer.old writer.new
+            (further (is_some self.now.size) (seen_if self.now.term)) result }
+    {
+        put_further(self.size.is_some(), &self.term, writer)
+    }
+
+    fn put_sessions<W: Write>(&self, writer: &mut Watched<W>) -> Result<(), Fault>
+        requires { has_failed writer.old ≡ false }
+        ensures { Puts W.contents writer.old writer.new
+            (further (is_some self.now.size || is_some self.now.term) (seen_if self.now.sessions))
+            result }
+    {
+        put_further(self.has_header_note(), &self.sessions, writer)
+    }
+
+    fn has_header_note(&self) -> bool
+        ensures { result ≡ (is_some self.now.size || is_some self.now.term) }
+    {
+        self.size.is_some() || self.term.is_some()
+    }
+}

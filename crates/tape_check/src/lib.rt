@@ -1,0 +1,13 @@
+//! What a recording says of itself, and what this terminal can't show of it. No screen is played.
+#![tactic(auto)]
+
+mod check;
+mod header;
+pub mod laws;
+mod notes;
+mod scan;
+mod trailer;
+mod unplayed;
+mod words;
+
+pub use check::{CheckFault, put_parts, write_check};
