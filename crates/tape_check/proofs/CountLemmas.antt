@@ -1,6 +1,6 @@
 -- Counts in a map of short names, against plain lists; bytes that are scanned a few at a time.
 use Rattle.std.proofs.Common.{◌≡◌, ℕ, zero, suc, ◌+◌, ◌<◌, cond, List, [], ◌∷◌, ◌++◌, take, drop, length, get_or, refl, sym, ap, ◌∙◌, subst, arith}
-use Rattle.std.specs.Prelude.{Option, Some, None, fold}
+use Rattle.std.specs.Prelude.{Option, Some, fold}
 use Rattle.std.specs.List.{flat_map}
 use Rattle.std.specs.declared.cmp.Ordering.{Ordering}
 use Rattle.std.specs.declared.cmp.Ordering.TheVariants.{Less, Equal, Greater}
@@ -26,7 +26,7 @@ use Rattle.tape_check.specs.Unplayed.{command_names, formless_names}
 use Rattle.tape_check.specs.declared.scan.Scanner.{Scanner}
 use Rattle.tape_check.specs.Scan.{Scan, mode_left_by, scan_step, names_in, counted}
 use Rattle.tape_check.specs.Counting.{plain_entries, entries_of, Follows, Scanned, LawsBelow}
-use Rattle.tape_check.proofs.ScanLemmas.{names_append, mode_same_bytes, told, Comes, comes_told, view_told}
+use Rattle.tape_check.proofs.ScanLemmas.{names_append, mode_same_bytes, told, comes_told, view_told}
 
 -- ---- counts
 

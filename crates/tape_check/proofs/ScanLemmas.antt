@@ -4,12 +4,10 @@ use Rattle.std.specs.Prelude.{Option, Some, None, fold}
 use Rattle.std.specs.List.{list_all}
 use Rattle.std.proofs.lemmas.Bool.{cases_Bool, and_parts, false≢true}
 use Rattle.std.proofs.lemmas.List.{append-nil}
-use Rattle.std.proofs.lemmas.List.Sums.{fold-append}
 use Rattle.vt_parser.specs.declared.commands.Mode.{Mode}
 use Rattle.vt_parser.specs.declared.commands.Command.{Command}
 use Rattle.vt_parser.specs.declared.commands.Command.TheVariants as commands
 use Rattle.vt_parser.specs.declared.states.ParserState.{ParserState}
-use Rattle.vt_parser.specs.declared.states.ParserState.TheVariants.{Ground}
 use Rattle.vt_parser.specs.declared.states.Formless.{Formless}
 use Rattle.vt_parser.specs.declared.tokens.Token.{Token}
 use Rattle.vt_parser.specs.declared.tokens.Token.TheVariants.{Show}
@@ -23,7 +21,7 @@ use Rattle.vt_parser.specs.Law.{is_sequence}
 use Rattle.vt_term.specs.declared.profile.Profile.{Profile}
 use Rattle.vt_term.specs.Console.{Console}
 use Rattle.vt_term.specs.Effect.{effect_if}
-use Rattle.vt_term.specs.Term.{Term, mode_of, play, step}
+use Rattle.vt_term.specs.Term.{mode_of, play, step}
 use Rattle.vt_term.specs.Played.{mode_left, ModeGoesAlone}
 use Rattle.tape_check.specs.Unplayed.{command_names, formless_names}
 use Rattle.tape_check.specs.Scan.{Scan, mode_left_by, scan_step, names_at, names_in, ScanFollowsPlay}

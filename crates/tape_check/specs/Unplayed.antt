@@ -1,5 +1,5 @@
 -- How an unplayed sequence is written: ESC and its parts, a space between any two (ours).
-use Rattle.std.specs.Prelude.{ℕ, Bool, true, false, not, ◌==◌, ◌&&◌, ◌||◌, nat_le, if◌then◌else◌, List, [], ◌∷◌, ◌++◌, Option, Some, None, codes, decimal, is_some}
+use Rattle.std.specs.Prelude.{ℕ, Bool, true, false, not, ◌==◌, ◌&&◌, ◌||◌, if◌then◌else◌, List, [], ◌∷◌, ◌++◌, Option, Some, None, codes, decimal, is_some}
 use Rattle.std.specs.List.{flat_map}
 use Rattle.vt_parser.specs.declared.commands.Command.{Command}
 use Rattle.vt_parser.specs.declared.commands.Command.TheVariants.{Esc, Csi, Vt52}
@@ -7,7 +7,6 @@ use Rattle.vt_parser.specs.declared.states.Formless.{Formless}
 use Rattle.vt_parser.specs.declared.states.Formless.TheVariants as formless
 use Rattle.vt_parser.specs.Syntax.{is_within}
 use Rattle.vt_term.specs.declared.profile.Profile.{Profile}
-use Rattle.vt_term.specs.Rows.{named}
 use Rattle.vt_term.specs.Played.{escape_has_row, sequence_has_row, mode_has_row, vt52_has_row}
 use Rattle.tape_check.specs.declared.unplayed.Head.{Head}
 use Rattle.tape_check.specs.declared.unplayed.Head.TheVariants as head

@@ -1,5 +1,4 @@
-use Rattle.std.proofs.Common.{◌-◌, Some, sym, ap, ◌∙◌, arith}
-use Rattle.std.specs.Option.{option_copied}
+use Rattle.std.proofs.Common.{◌-◌, sym, ◌∙◌, arith}
 use Rattle.tape_check.proofs.HeaderLemmas.{label_behind, label_found, none_at_end, copied_none, copied_some}
 use Rattle.tape_check.proofs.header.behind_last.Goals as goal
 

@@ -1,11 +1,11 @@
-use Rattle.std.proofs.Common.{take, length, subst, sym, arith}
-use Rattle.std.proofs.Common.{◌≡◌, ◌<◌, get_or, List, ℕ}
+use Rattle.std.proofs.Common.{take, subst}
+use Rattle.std.proofs.Common.{◌≡◌, get_or, List, ℕ}
 use Rattle.std.specs.Prelude.{fold}
 use Rattle.tape_core.specs.declared.chunk.Chunk.{Chunk}
 use Rattle.tape_core.specs.Tape.{body}
 use Rattle.tape_check.specs.Scan.{scan_start, scan_step}
 use Rattle.tape_check.specs.Counting.{Scanned}
-use Rattle.tape_check.proofs.CountLemmas.{scanned_piece, scanner}
+use Rattle.tape_check.proofs.CountLemmas.{scanned_piece}
 use Rattle.tape_check.proofs.scan.unplayed_in.Goals as goal
 
 pub loop-chunk-preserved : goal.loop-chunk-preserved
