@@ -1,6 +1,6 @@
 use super::fed;
 use crate::devices::{compare_taken, small_writer};
-use screen_picture::picture;
+use screen_picture::{cells_of, picture, runs_of};
 use std::alloc::Global;
 use std::test::Fail;
 use tape_core::Watched;
@@ -190,5 +190,20 @@ fn a_failing_writer_holds_a_beginning_of_the_picture(rt: HostRuntime) -> Result<
             compare_taken(&rt, answer, writer, whole.as_slice());
         }
     }
+    Ok(())
+}
+
+#[test]
+fn gives_the_runs_of_a_row(rt: HostRuntime) -> Result<(), Fail> {
+    let terminal = fed(rt.alloc(), b"\x1b[1;7mab\x1b(0qq\x1b[m\x1b(Bc")?;
+    let row = terminal.screen().row(1);
+    let runs = runs_of(row);
+    let mut told = Vec::new(rt.alloc());
+    for run in runs.as_slice() {
+        told.push((run.before, run.kind.number(), cells_of(row, *run).len()))?;
+    }
+    // Bold and reverse, the same and drawn, none of all.
+    let wanted: [(u8, u8, usize); 3] = [(0, 9, 2), (2, 25, 2), (4, 0, 1)];
+    assert_eq!(rt; told.as_slice(), &wanted[..]);
     Ok(())
 }
