@@ -1,17 +1,17 @@
 -- Chunks that leave a text where it stands.
-use Rattle.std.proofs.Common.{◌≡◌, ℕ, zero, suc, ◌+◌, ◌-◌, ◌<◌, ◌≤◌, Bool, true, false, List, [], ◌∷◌, ◌++◌, length, get_or, take, drop, filter, map, nat_eq, refl, ap, sym, ◌∙◌, subst, arith, append-nil, cond, inl, inr}
+use Rattle.std.proofs.Common.{◌≡◌, ℕ, zero, suc, ◌+◌, ◌-◌, ◌<◌, ◌≤◌, Bool, true, false, List, [], ◌∷◌, ◌++◌, length, get_or, take, drop, filter, map, nat_eq, refl, ap, sym, ◌∙◌, subst, arith, append-nil, cond, inl, inr, ◌||◌, nat_lt, slice_index}
 use Rattle.std.specs.Cmp.Lexicographic.{pointwise}
-use Rattle.std.specs.List.{All, count_by, flat_map, range_with_len, starts_with}
-use Rattle.std.proofs.lemmas.Bool.{cases_Bool, cases_lt, eq-eqb, lt-leb}
+use Rattle.std.specs.List.{All, AllPass, count_by, flat_map, range_with_len, starts_with}
+use Rattle.std.proofs.lemmas.Bool.{cases_Bool, cases_lt, eq-eqb, false≢true, le-ltb, lt-leb, lt-ltb}
 use Rattle.std.proofs.lemmas.Bool.Decides.{Decides-eqb}
 use Rattle.std.proofs.lemmas.Slice.Eq.{slice_eq-Decides}
 use Rattle.vt_screen.specs.declared.cell.Cell.{Cell}
-use Rattle.screen_print.specs.Glyphs.{character}
+use Rattle.screen_print.specs.Glyphs.{character, special_graphics}
 use Rattle.std.proofs.lemmas.List.FromFn.{length-range_with_len}
-use Rattle.std.proofs.lemmas.List.Sums.{count_by_more_yes, length-filter, sum_by-take-le}
-use Rattle.std.proofs.lemmas.List.{drop-append-le, drop-take, drop-map, get_or_append_left, get_or_default, get_or-map, get_or-take, length-map, take-append-le, take-take, take_more}
-use Rattle.std.proofs.lemmas.List.Elements.{All-append, All-filter, All-map, All-nil, filter-append}
-use Rattle.vt_screen.specs.Cells.{row_at}
+use Rattle.std.proofs.lemmas.List.Sums.{AllPass-from_list_all, count_by_more_yes, length-filter, sum_by-take-le}
+use Rattle.std.proofs.lemmas.List.{drop-append-le, drop-take, drop-map, get_or_append_left, get_or_default, get_or-drop, get_or-map, get_or-take, length-map, take-append-le, take-take, take_more}
+use Rattle.std.proofs.lemmas.List.Elements.{All-append, All-filter, All-get_or, All-map, All-nil, filter-append}
+use Rattle.vt_screen.specs.Cells.{blank, row_at}
 use Rattle.screen_print.specs.declared.standing.Place.{Place}
 use Rattle.screen_print.specs.FindLines.{begins, ends_line, find_text, is_less, left_of, less_line, less_lines, line_text_from, place_in, places_from, row_text, row_texts, standing}
 use Rattle.screen_print.specs.Quiet.{BeginsUpTo, LineStays, LinesStay, RowStays, characters, columns_of}
@@ -167,6 +167,52 @@ begins_no_more text cells at behind lt here before rest column low high = elim (
       ∙ here rest
   | inr less ↦ before rest column low less
 ]
+
+-- cells of which none has a glyph, and one more
+pub lacks_more : (cells : List Cell) (glyph i : ℕ) (has : Bool) (e : Cell) → i < length cells
+    → (has ≡ false → (k : ℕ) (d : Cell) → k < i → (get_or cells k d).glyph ≡ glyph → ⊥) → (has || nat_eq (get_or cells i e).glyph glyph) ≡ false
+    → (k : ℕ) (d : Cell) → k < i + 1 → (get_or cells k d).glyph ≡ glyph → ⊥
+lacks_more cells glyph i true e lt before none k d less same = absurd (false≢true (sym none))
+lacks_more cells glyph i false e lt before none k d less same = elim (cases_lt k i) [
+  | inl more ↦ before refl k d more same
+  | inr past ↦
+      let at : k ≡ i = omega arith in
+      let here : (get_or cells i e).glyph ≡ glyph =
+      ap (λ (c : Cell). c.glyph) (sym (get_or_default cells i d e lt) ∙ ap (λ n. get_or cells n d) (sym at)) ∙ same in
+      absurd (false≢true (sym none ∙ eq-eqb (get_or cells i e).glyph glyph here))
+]
+
+out_of : (c : ℕ) → 33 ≤ c → c < 127 → (nat_lt c 33 || nat_lt 126 c) ≡ true → ⊥
+out_of c low high out =
+    let no : nat_lt c 33 ≡ false = le-ltb c 33 low in
+    let nor : nat_lt 126 c ≡ false = le-ltb 126 c (omega arith) in
+    false≢true (sym (rw (no, nor) refl) ∙ out)
+
+-- a character of ASCII behind the space is shown by one glyph
+graphic : (glyph c : ℕ) → 33 ≤ c → c < 127 → character glyph ≡ c → glyph ≡ c
+graphic glyph c low high is = elim (cases_lt glyph 32) [
+  | inl lt ↦
+      let special : slice_index special_graphics glyph ≡ c = rw (lt-ltb glyph 32 lt) at is in
+      let all : AllPass (λ x. nat_lt x 33 || nat_lt 126 x) special_graphics =
+      AllPass-from_list_all (λ x. nat_lt x 33 || nat_lt 126 x) special_graphics refl in
+      let out : (nat_lt (slice_index special_graphics glyph) 33 || nat_lt 126 (slice_index special_graphics glyph)) ≡ true =
+      All-get_or (λ x. (nat_lt x 33 || nat_lt 126 x) ≡ true) special_graphics glyph 0 lt all in
+      absurd (out_of c low high (rw special at out))
+  | inr ge ↦ rw (le-ltb glyph 32 ge) at is
+]
+
+pub never_begins : (text : List ℕ) (cells : List Cell) (glyph e : ℕ) → 0 < length text → get_or text 0 e ≡ glyph → 33 ≤ glyph → glyph < 127
+    → All (λ cell. cell.glyph ≡ glyph → ⊥) cells → BeginsUpTo text 0 (characters cells)
+never_begins text cells glyph e some is low high lacks rest column here within =
+    let read : Cell → ℕ = λ c. character c.glyph in
+    let at = column - 1 in
+    let inside : at < length cells = omega (arith, length-map cells read) in
+    let same : at + 0 ≡ at = omega arith in
+    let first : get_or (drop at (characters cells ++ rest)) 0 0 ≡ character (get_or cells at blank).glyph =
+    get_or-drop at (characters cells ++ rest) 0 0 ∙ ap (λ n. get_or (characters cells ++ rest) n 0) same
+    ∙ get_or_append_left (characters cells) rest 0 at (omega (arith, length-map cells read)) ∙ get_or-map read cells at blank 0 inside in
+    mismatch text (drop at (characters cells ++ rest)) 0 some
+    (λ h. lacks at blank inside (graphic (get_or cells at blank).glyph glyph low high (sym first ∙ h ∙ get_or_default text 0 0 e some ∙ is)))
 
 -- ---- screens
 

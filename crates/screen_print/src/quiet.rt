@@ -2,6 +2,8 @@
 
 ghost use Rattle.std.specs.Prelude.{
   ◌≡◌,
+  ◌≢◌,
+  All,
   ◌≤◌,
   ◌<◌,
   ◌++◌,
@@ -146,12 +148,40 @@ fn same_len(one: &[Cell], other: &[Cell]) -> usize
 fn may_begin(text: &[char], cells: &[Cell], behind: usize) -> bool
     ensures { result ≡ false → BeginsUpTo text.now behind (characters cells.now) }
 {
+    if lacks_first(text, cells) {
+        return false;
+    }
     for at in behind..cells.len() {
         if agrees(text, &cells[at..]) {
             return true;
         }
     }
     false
+}
+
+/// Whether surely no cell is read as the first character of a text: one of ASCII, which one glyph shows.
+fn lacks_first(text: &[char], cells: &[Cell]) -> bool
+    ensures { result ≡ true → BeginsUpTo text.now 0 (characters cells.now) }
+{
+    if text.is_empty() {
+        return false;
+    }
+    let first = text[0] as u32;
+    if first < 33 || 126 < first {
+        return false;
+    }
+    !has_glyph(cells, first as u8)
+}
+
+/// Whether a cell has a glyph. Each is looked at, so that many are at once.
+fn has_glyph(cells: &[Cell], glyph: u8) -> bool
+    ensures { result ≡ false → All (λ cell. cell.glyph ≢ glyph) cells.now }
+{
+    let mut has = false;
+    for at in 0..cells.len() {
+        has |= cells[at].glyph == glyph;
+    }
+    has
 }
 
 /// Whether cells are read as a text begins, as far as both go.
