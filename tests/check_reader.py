@@ -174,6 +174,12 @@ def parts(profile, line, trailer):
     return told
 
 
+def note_line(profile, header, trailer):
+    """The line that is told to whoever plays the recording, or nothing."""
+    told = parts(profile, header.removesuffix(b"\n"), trailer)
+    return b"typetool: note: " + b"; ".join(told.values()) + b" (see typetool check)\n" if told else b""
+
+
 def notes(profile, line, body, trailer):
     told = parts(profile, line, trailer)
     if not line.startswith(OPENING):

@@ -5,8 +5,9 @@
 
 Each pair is a real recording, or pieces of several, whose bytes were flipped, cut, doubled and joined. Every command
 has to return in time, with a status of the table: where the plain reader (plain_reader.py) finds a fault, 1 and just
-that fault, nothing written; else 0, or 1 where `save` refuses a request line, and the text that the plain reader comes
-to, where it knows it. What `save` writes is the pair that the plain reader's edits come to.
+that fault, nothing written; else 0, or 1 where `save` refuses a request line or `check` notes something, and the text
+that the plain readers come to, where they know it (check_reader.py: of checks, and the note on standard error). What
+`save` writes is the pair that the plain reader's edits come to.
 The last line is 'N passed, M failed'.
 """
 import concurrent.futures
@@ -17,6 +18,7 @@ import subprocess
 import sys
 import tempfile
 
+import check_reader
 import plain_reader as plain
 
 here = os.path.dirname(os.path.abspath(__file__))
@@ -127,7 +129,7 @@ class Damage:
     def __init__(self, folder, number):
         self.rng = random.Random(seed * 1_000_003 + number)
         self.folder = os.path.join(folder, str(number))
-        self.problems, self.runs = [], 0
+        self.problems, self.runs, self.note = [], 0, b""
         os.mkdir(self.folder)
 
     def path(self, name):
@@ -156,6 +158,10 @@ class Damage:
         recording = plain.read(script, timing)
         if isinstance(recording, str):
             return self.refused(recording)
+        header, chunks, trailer = recording
+        self.note = check_reader.note_line("vt100", header, trailer)
+        text, status = check_reader.check("vt100", header, b"".join(chunk for _, chunk in chunks), trailer)
+        self.expect("check", self.run(["check", "s", "t"]), (status, text, b""))
         self.played(recording)
         self.edited(recording)
 
@@ -167,6 +173,7 @@ class Damage:
             ["screen", "--at", "1"],
             ["changes", "--to", "1"],
             ["find", "a"],
+            ["check"],
             ["reports", "--at", "1"],
             ["session"],
         ):
@@ -180,9 +187,9 @@ class Damage:
         self.expect("due", self.run(["due", "--at", at, "s", "t"]), (0, plain.due(recording[1], us), b""))
         self.expect("info", self.run(["info", "s", "t"]), (0, plain.info(recording), b""))
         status, screen, errors = self.run(["screen", "--at", at, "s", "t"])
-        self.expect("screen", (status, screen.count(b"\n"), errors), (0, 24, b""))
+        self.expect("screen", (status, screen.count(b"\n"), errors), (0, 24, self.note))
         status, reports, errors = self.run(["reports", "--at", at, "s", "t"])
-        self.expect("reports", (status, len(reports) % 2, errors), (0, 1, b""))
+        self.expect("reports", (status, len(reports) % 2, errors), (0, 1, self.note))
         self.changed(recording, at, us)
 
     def changed(self, recording, at, us):
@@ -194,7 +201,7 @@ class Damage:
             times.append(due)
         rows = [line.split(b" ") for line in plain.lines_of(text)]
         places = [int(row[0]) for row in rows]
-        self.expect("changes", (status, errors, places), (0, b"", sorted(set(places))))
+        self.expect("changes", (status, errors, places), (0, self.note, sorted(set(places))))
         for row in rows:
             lines = [int(line) for line in row[2:]]
             self.expect(
@@ -203,7 +210,7 @@ class Damage:
                 (plain.written(times[int(row[0])]), True, True, sorted(set(lines))),
             )
         first = self.run(["changes", "--from", at, "--to", at, "s", "t"])
-        self.expect("changes of no time", first, (0, b"", b""))
+        self.expect("changes of no time", first, (0, b"", self.note))
 
     def edited(self, recording):
         """Some request lines, and then those of them alone that are accepted."""
@@ -224,7 +231,7 @@ class Damage:
         """The same lines in a session, and what it answers of a moment once they are made: what the commands tell of
         the pair that was saved, wherever terminals are stored."""
         status, text = plain.session(recording, b"\n".join(lines))
-        self.expect("session", self.run(["session", "s", "t"], b"\n".join(lines)), (status, text, b""))
+        self.expect("session", self.run(["session", "s", "t"], b"\n".join(lines)), (status, text, self.note))
         at = moment(self.rng)
         told = b"ok\n" * accepted.count(b"\n")
         for words in (["screen", "--at", at], ["reports", "--at", at], ["changes", "--to", at], ["info"]):
@@ -232,7 +239,9 @@ class Damage:
         questions = accepted + b"screen %s\nreports %s\nchanges - %s\ninfo\n" % (at, at, at)
         for every in ("1", "3", "1000000"):
             self.expect(
-                f"session, every {every}", self.run(["session", "--every", every, "s", "t"], questions), (0, told, b"")
+                f"session, every {every}",
+                self.run(["session", "--every", every, "s", "t"], questions),
+                (0, told, self.note),
             )
 
     def saved(self, recording, edits):

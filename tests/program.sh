@@ -77,7 +77,7 @@ check 'an answer' 0 '1b5b3f313b3263\n' '' reports --at 0 asks.script asks.timing
 # refused NAME STATUS ERR SCRIPT TIMING: a damaged pair, which is only told, whatever the command.
 refused() {
     local command words
-    for command in 'due --at 1' info 'screen --at 1' 'changes --to 1' 'find a' 'reports --at 1' session; do
+    for command in 'due --at 1' info 'screen --at 1' check 'changes --to 1' 'find a' 'reports --at 1' session; do
         read -ra words <<<"$command"
         check "$1: ${words[0]}" "$2" '' "typetool: $3\n" "${words[@]}" "$4" "$5" </dev/null
     done
@@ -228,6 +228,29 @@ check 'a text of spaces' 2 '' 'typetool: bad text\n' find '  ' nowhere nowhere
 check 'a text with a tab' 2 '' 'typetool: bad text\n' find $'a\tb' nowhere nowhere
 check 'bad seconds before a bad text' 2 '' 'typetool: bad seconds\n' find --to x '' nowhere nowhere
 check 'a bad profile before a bad text' 2 '' 'typetool: bad profile: vt100 or vt102\n' find --profile x '' nowhere nowhere
+
+# A recording that was made for another terminal: the note stands behind the fault where there is one.
+printf 'Script started on X [TERM="xterm" COLUMNS="120" LINES="40"]\n%b' "${E}[5G${E}[?1049h" >wide.script
+printf '0.5 12\n' >wide.timing
+printf '%b' "$head${E}[P" >delete.script
+printf '0 3\n' >delete.timing
+note='typetool: note: size: recorded at 120x40, played at 80x24; term: recorded under xterm, played as vt100 (see typetool check)\n'
+facts='started X\nterm xterm\nsize 120x40\nnote size: recorded at 120x40, played at 80x24\n'
+check 'a check' 1 "${facts}note term: recorded under xterm, played as vt100\nunplayed 1 ESC [ ? 1049 h\nunplayed 1 ESC [ G\n" '' \
+    check wide.script wide.timing
+check 'a check without a note' 0 'started X\n' '' check ab.script ab.timing
+check 'a check of a sequence of a VT102' 1 'started X\nunplayed 1 ESC [ P\n' '' check delete.script delete.timing
+check 'a check as a VT102' 0 'started X\n' '' check --profile vt102 delete.script delete.timing
+check 'a note beside a screen' 0 "$(screen_of '')" "$note" screen --at 1 wide.script wide.timing
+check 'a note beside reports' 0 '\n' "$note" reports --at 1 wide.script wide.timing
+check 'a note beside find lines' 0 '' "$note" find a wide.script wide.timing
+check 'no note beside what is due' 0 '' '' due --at 0 wide.script wide.timing
+timing '0.5 99\n'
+check 'no note of a pair that is not read' 1 '' 'typetool: typescript ends inside chunk 0\n' screen --at 1 wide.script bad.timing
+"$program" reports --at 1 wide.script wide.timing >/dev/full 2>err.txt
+got=$?
+: >out.txt
+verdict 'a note behind a fault' 3 $got '' "typetool: write fault\n$note"
 
 # asked NAME STATUS LINES OUT SCRIPT TIMING [FLAG..]: a session over request lines, with nothing on standard error.
 asked() {

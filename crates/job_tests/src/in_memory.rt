@@ -44,12 +44,13 @@ pub(crate) fn done<'a>(job: Job, body: &'a str, timing: &'a str, text: &'a str) 
     }
 }
 
-/// Both texts that a job wrote, and how it ended.
+/// Both texts that a job wrote, the note that it told, and how it ended.
 #[derive(Drop)]
 pub(crate) struct Ended {
     pub(crate) outcome: Outcome,
     pub(crate) text: Vec<u8>,
     pub(crate) new_timing: Vec<u8>,
+    pub(crate) note: Vec<u8>,
 }
 
 /// Does a job over texts in memory.
@@ -74,6 +75,7 @@ pub(crate) fn do_job_beside(
 ) -> Ended {
     let mut out = Watched::new(Vec::new(alloc));
     let mut out_timing = Watched::new(Vec::new(alloc));
+    let mut note = Watched::new(Vec::new(alloc));
     let outcome = tape_jobs::run_with(
         alloc,
         job,
@@ -83,11 +85,13 @@ pub(crate) fn do_job_beside(
         &mut Watched::new(requests),
         &mut out,
         &mut out_timing,
+        &mut note,
     );
     Ended {
         outcome,
         text: out.into_inner(),
         new_timing: out_timing.into_inner(),
+        note: note.into_inner(),
     }
 }
 

@@ -79,6 +79,7 @@ fn reads_other_jobs(rt: HostRuntime) -> Result<(), Fail> {
     let rows = [
         ("typetool info s t", Job::Info),
         ("typetool info -- s t", Job::Info),
+        ("typetool check s t", Job::Check { profile: vt100 }),
         ("typetool save s t u v", Job::Save),
         ("typetool screen --at 0.5 s t", screen(500_000, vt100)),
         ("typetool screen s t --at=12", screen(12_000_000, vt100)),

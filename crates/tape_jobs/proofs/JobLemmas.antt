@@ -36,6 +36,7 @@ same_lines : (job : Job) (tape : Tape) (one other text : List ℕ) → (takes_re
     → done_on job tape one text ≡ done_on job tape other text
 same_lines (jobs.Due at) tape one other text same = refl
 same_lines jobs.Info tape one other text same = refl
+same_lines (jobs.Check profile) tape one other text same = refl
 same_lines (jobs.Screen at profile escaped) tape one other text same = refl
 same_lines (jobs.Changes from to profile) tape one other text same = refl
 same_lines (jobs.Find from to profile) tape one other text same = refl

@@ -2,5 +2,6 @@ mod CommandLemmas
 mod HelpLemmas
 mod JobLemmas
 mod LineLemmas
+mod NoteLemmas
 mod RequestLemmas
 mod SessionLemmas

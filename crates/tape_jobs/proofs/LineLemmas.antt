@@ -25,7 +25,7 @@ use Rattle.tape_jobs.specs.declared.job.Job.{Job}
 use Rattle.tape_jobs.specs.declared.job.Job.TheVariants as job
 use Rattle.tape_jobs.specs.declared.words.values.Unreadable.TheVariants as unread
 use Rattle.tape_jobs.specs.declared.words.table.Subcommand.{Subcommand}
-use Rattle.tape_jobs.specs.declared.words.table.Subcommand.TheVariants.{Due, Info, Screen, Changes, Find, Reports, Save, Session}
+use Rattle.tape_jobs.specs.declared.words.table.Subcommand.TheVariants.{Due, Info, Check, Screen, Changes, Find, Reports, Save, Session}
 
 both_true : (a b : Bool) → a ≡ true → b ≡ true → (a && b) ≡ true
 both_true a b e f = ap₂ (λ x y. x && y) e f
@@ -235,6 +235,7 @@ enters : (s : Subcommand) (words : List Text)
 unfolding clap_on_literals typetool_app app_in name_in flags_in texts_in paths_in id_in rule_in
 enters Due words = halted_walk (built typetool_app).top.rules (names_of (built typetool_app)) (name_in Due) [] words
 enters Info words = halted_walk (built typetool_app).top.rules (names_of (built typetool_app)) (name_in Info) [] words
+enters Check words = halted_walk (built typetool_app).top.rules (names_of (built typetool_app)) (name_in Check) [] words
 enters Screen words = halted_walk (built typetool_app).top.rules (names_of (built typetool_app)) (name_in Screen) [] words
 enters Changes words = halted_walk (built typetool_app).top.rules (names_of (built typetool_app)) (name_in Changes) [] words
 enters Find words = halted_walk (built typetool_app).top.rules (names_of (built typetool_app)) (name_in Find) [] words
@@ -247,6 +248,7 @@ enter_passes : (s : Subcommand) (words : List Text)
 unfolding clap_on_literals typetool_app app_in name_in flags_in texts_in paths_in id_in rule_in
 enter_passes Due words = halted_passes (built typetool_app).top (names_of (built typetool_app)) (name_in Due) [] words
 enter_passes Info words = halted_passes (built typetool_app).top (names_of (built typetool_app)) (name_in Info) [] words
+enter_passes Check words = halted_passes (built typetool_app).top (names_of (built typetool_app)) (name_in Check) [] words
 enter_passes Screen words = halted_passes (built typetool_app).top (names_of (built typetool_app)) (name_in Screen) [] words
 enter_passes Changes words = halted_passes (built typetool_app).top (names_of (built typetool_app)) (name_in Changes) [] words
 enter_passes Find words = halted_passes (built typetool_app).top (names_of (built typetool_app)) (name_in Find) [] words
@@ -260,6 +262,7 @@ entered_leaf : (s : Subcommand) (words : List Text)
 unfolding typetool_app app_in name_in flags_in texts_in paths_in id_in rule_in
 entered_leaf Due words = refl
 entered_leaf Info words = refl
+entered_leaf Check words = refl
 entered_leaf Screen words = refl
 entered_leaf Changes words = refl
 entered_leaf Find words = refl
@@ -272,6 +275,7 @@ leaf_passes : (s : Subcommand) (words : List Text) → level_passes (leaf s) [] 
 unfolding typetool_app app_in name_in flags_in texts_in paths_in id_in rule_in
 leaf_passes Due words e = e
 leaf_passes Info words e = e
+leaf_passes Check words e = e
 leaf_passes Screen words e = e
 leaf_passes Changes words e = e
 leaf_passes Find words e = e
@@ -390,6 +394,13 @@ module _ (program script timing : Text) (p : IsPlain script) (q : IsPlain timing
   pub info_line : Asks (program ∷ codes "info" ∷ script ∷ timing ∷ []) job.Info [] paths
   unfolding clap_on_literals typetool_app app_in name_in flags_in texts_in paths_in id_in rule_in job_in text_in
   info_line = asks_by program Info files (p, (q, tt)) refl job.Info [] paths refl refl refl
+
+  pub check_line : (profile : Option Profile)
+      → Asks (program ∷ codes "check" ∷ (profile_words profile ++ paths)) (job.Check (profile_or_first profile)) [] paths
+  unfolding clap_on_literals typetool_app app_in name_in flags_in texts_in paths_in id_in rule_in job_in text_in profile_named
+  check_line None = asks_by program Check files (p, (q, tt)) refl (job.Check Vt100) [] paths refl refl refl
+  check_line (Some Vt100) = asks_by program Check as_vt100 (p, (q, tt)) refl (job.Check Vt100) [] paths refl refl refl
+  check_line (Some Vt102) = asks_by program Check as_vt102 (p, (q, tt)) refl (job.Check Vt102) [] paths refl refl refl
 
   pub save_line : (new_script new_timing : Text) → IsPlain new_script → IsPlain new_timing
       → Asks (program ∷ codes "save" ∷ script ∷ timing ∷ new_script ∷ new_timing ∷ []) job.Save [] (script ∷ timing ∷ new_script ∷ new_timing ∷ [])

@@ -17,7 +17,7 @@ use Rattle.tape_jobs.specs.declared.words.WordsFault.TheVariants.{Clap, Memory, 
 use Rattle.tape_jobs.specs.declared.words.table.Argument.{Argument}
 use Rattle.tape_jobs.specs.declared.words.table.Argument.TheVariants.{At, From, To, Until, Every, Profile, Escaped, Sought, Script, Timing, NewScript, NewTiming}
 use Rattle.tape_jobs.specs.declared.words.table.Subcommand.{Subcommand}
-use Rattle.tape_jobs.specs.declared.words.table.Subcommand.TheVariants.{Due, Info, Screen, Changes, Find, Reports, Save, Session}
+use Rattle.tape_jobs.specs.declared.words.table.Subcommand.TheVariants.{Due, Info, Check, Screen, Changes, Find, Reports, Save, Session}
 use Rattle.tape_jobs.specs.declared.words.values.Unreadable.{Unreadable}
 use Rattle.tape_jobs.specs.declared.words.values.Unreadable.TheVariants as unread
 use Rattle.vt_term.specs.declared.profile.Profile.{Profile as Played}
@@ -27,12 +27,13 @@ use Rattle.vt_term.specs.declared.profile.Profile.TheVariants.{Vt100, Vt102}
 
 -- the subcommands, in the order in which help tells them (ours)
 abbrev pub subcommands_in_order : List Subcommand
-subcommands_in_order = Due ∷ Info ∷ Screen ∷ Changes ∷ Find ∷ Reports ∷ Save ∷ Session ∷ []
+subcommands_in_order = Due ∷ Info ∷ Check ∷ Screen ∷ Changes ∷ Find ∷ Reports ∷ Save ∷ Session ∷ []
 
 -- the name of a subcommand (ours)
 unfoldable pub name_in : Subcommand → Text
 name_in Due = codes "due"
 name_in Info = codes "info"
+name_in Check = codes "check"
 name_in Screen = codes "screen"
 name_in Changes = codes "changes"
 name_in Find = codes "find"
@@ -44,6 +45,7 @@ name_in Session = codes "session"
 unfoldable pub flags_in : Subcommand → List Argument
 flags_in Due = At ∷ []
 flags_in Info = []
+flags_in Check = Profile ∷ []
 flags_in Screen = At ∷ Escaped ∷ Profile ∷ []
 flags_in Changes = From ∷ To ∷ Profile ∷ []
 flags_in Find = From ∷ Until ∷ Profile ∷ []
@@ -60,6 +62,7 @@ texts_in _ = []
 unfoldable pub paths_in : Subcommand → List Argument
 paths_in Due = Script ∷ Timing ∷ []
 paths_in Info = Script ∷ Timing ∷ []
+paths_in Check = Script ∷ Timing ∷ []
 paths_in Screen = Script ∷ Timing ∷ []
 paths_in Changes = Script ∷ Timing ∷ []
 paths_in Find = Script ∷ Timing ∷ []
@@ -203,6 +206,7 @@ switch_in id rows = bytes_eq (value_in id rows) (codes "true")
 unfoldable pub job_in : Subcommand → List Row → Result Job Unreadable
 job_in Due rows = after (moment_in (id_in At) rows) (λ at. Ok (job.Due at))
 job_in Info rows = Ok job.Info
+job_in Check rows = after (profile_in rows) (λ profile. Ok (job.Check profile))
 job_in Screen rows =
     after (moment_in (id_in At) rows) (λ at. after (profile_in rows) (λ profile.
     Ok (job.Screen at profile (switch_in (id_in Escaped) rows))))
@@ -308,6 +312,7 @@ meaning_read words =
 abbrev pub path_count : Job → ℕ
 path_count (job.Due at) = 2
 path_count job.Info = 2
+path_count (job.Check profile) = 2
 path_count (job.Screen at profile escaped) = 2
 path_count (job.Changes from to profile) = 2
 path_count (job.Find from to profile) = 2

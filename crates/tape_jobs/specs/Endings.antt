@@ -12,6 +12,8 @@
 use Rattle.std.specs.Prelude.{◌≡◌, ℕ, ◌⊎◌, Bool, true, false, List, Option, Some, None, MatchOption, Result, MatchResult, Ok, not}
 use Rattle.screen_print.specs.declared.walk.ChangesFault.{ChangesFault}
 use Rattle.screen_print.specs.declared.walk.ChangesFault.TheVariants as changes
+use Rattle.tape_check.specs.declared.check.CheckFault.{CheckFault}
+use Rattle.tape_check.specs.declared.check.CheckFault.TheVariants as check
 use Rattle.tape_core.specs.Devices.{Took, TookPart, has_failed, inner_of, is_flushed}
 use Rattle.tape_core.specs.declared.devices.Watched.{Watched}
 use Rattle.tape_core.specs.declared.fault.Fault.TheVariants as fault
@@ -122,6 +124,11 @@ abbrev pub fault_of_changes : ChangesFault → JobFault
 fault_of_changes changes.Write = File fault.WriteFault
 fault_of_changes changes.Memory = Memory
 
+-- why a check ends early, as a fault of a job (ours)
+abbrev pub fault_of_check : CheckFault → JobFault
+fault_of_check check.Write = File fault.WriteFault
+fault_of_check check.Memory = Memory
+
 -- ---- how a job ends on a recording
 
 -- what was written was flushed: the text, and the new timing where the job writes one (ours)
@@ -173,10 +180,10 @@ pub record IsWhole {S T R O P : Type 0} (readers : Readers S T R) (writers : Wri
   pub written : AreSound writers
   pub comes : OnFiles readers job (λ done. (outcome ≡ done.outcome) × TookBoth writers done)
 
--- the pair of files has a fault, or a request line is refused (ours)
-abbrev pub is_refused : Option JobFault → Bool
-is_refused None = false
-is_refused (Some f) = not (is_stopped (Some f))
+-- the fault is one of what the job was given: the pair of files has it, or a request line is refused (ours)
+abbrev pub is_of_input : Option JobFault → Bool
+is_of_input None = false
+is_of_input (Some f) = not (is_stopped (Some f))
 
 -- memory was refused: once the recording was read, or while the files were (ours)
 abbrev pub IsForMemory : Option JobFault → Type 0
@@ -219,7 +226,7 @@ pub record RunEnds {S T R O P : Type 0} (readers : Readers S T R) (writers : Wri
     (job : Job) (outcome : Outcome) : Type 0 where
   pub done : outcome.fault ≡ None
       → IsWhole readers writers job outcome × AreFlushed writers job
-  pub refused : is_refused outcome.fault ≡ true
+  pub refused : is_of_input outcome.fault ≡ true
       → IsWhole readers writers job outcome × IsUnwritten writers
   pub memory : IsForMemory outcome.fault → RunsOut readers writers job outcome.fault
   pub device : IsForDevice outcome.fault → IsBroken readers writers job outcome.fault

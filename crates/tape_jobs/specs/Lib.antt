@@ -3,6 +3,7 @@ pub mod Endings
 pub mod Info
 pub mod Lines
 pub mod Moment
+pub mod Notes
 pub mod Output
 pub mod Requests
 pub mod Session

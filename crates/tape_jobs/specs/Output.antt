@@ -2,6 +2,7 @@
 use Rattle.std.specs.Prelude.{◌≡◌, ℕ, ◌⊎◌, Bool, true, false, List, [], Option, Some, None, MatchOption, Result, Ok, Err, if◌then◌else◌}
 use Rattle.screen_print.specs.ChangeLines.{change_lines}
 use Rattle.screen_print.specs.FindLines.{find_lines}
+use Rattle.tape_check.specs.Lines.{check_text, is_noted}
 use Rattle.tape_core.specs.Due.{due}
 use Rattle.tape_core.specs.Faults.{is_stop}
 use Rattle.tape_core.specs.Reading.{fault_of, reads}
@@ -16,9 +17,9 @@ use Rattle.tape_jobs.specs.Moment.{hex_line, screen_text}
 use Rattle.tape_jobs.specs.Requests.{saved, started}
 use Rattle.tape_jobs.specs.Session.{answered, any_refused}
 use Rattle.tape_jobs.specs.declared.job.Job.{Job}
-use Rattle.tape_jobs.specs.declared.job.Job.TheVariants.{Due, Info, Screen, Changes, Find, Reports, Save, Session}
+use Rattle.tape_jobs.specs.declared.job.Job.TheVariants.{Due, Info, Check, Screen, Changes, Find, Reports, Save, Session}
 use Rattle.tape_jobs.specs.declared.job.Ending.{Ending}
-use Rattle.tape_jobs.specs.declared.job.Ending.TheVariants.{Clean, WithRefusals}
+use Rattle.tape_jobs.specs.declared.job.Ending.TheVariants.{Clean, WithRefusals, WithNotes}
 use Rattle.tape_jobs.specs.declared.job.JobFault.{JobFault}
 use Rattle.tape_jobs.specs.declared.job.JobFault.TheVariants.{File, Line, Memory}
 use Rattle.tape_jobs.specs.declared.job.Outcome.{Outcome}
@@ -70,25 +71,32 @@ saved_by tape requests = done_saving (saved 1 (started Vt100 tape) (lines_of req
 abbrev pub ending_by : Bool → Ending
 ending_by refused = if refused then WithRefusals else Clean
 
+-- how a check ends, by whether it noted anything, or found what isn't played (ours)
+abbrev pub ending_of_check : Bool → Ending
+ending_of_check noted = if noted then WithNotes else Clean
+
 -- the status of the program after a job that is done (ours)
 abbrev pub status_after : Ending → ℕ
 status_after Clean = 0
 status_after WithRefusals = 1
+status_after WithNotes = 1
 
--- what a session comes to: its answers, and status 1 where any line was refused (ours)
-abbrev pub done_answering : List ℕ → Bool → Done
-done_answering text refused = record {
+-- what a job comes to that is done with this text and ends so (ours)
+abbrev pub done_ending : List ℕ → Ending → Done
+done_ending text ending = record {
   text = text;
   timing = [];
-  outcome = record { status = status_after (ending_by refused); fault = None };
+  outcome = record { status = status_after ending; fault = None };
 }
 
 -- what a job comes to on a recording, request lines and a text: the bytes that are due, what the recording holds, what
--- the terminal shows, which lines of it each chunk changes, where the text came to stand and where it went, what the
+-- it says of itself and isn't played of it, what the terminal shows, which lines of it each chunk changes, where the text came to stand and where it went, what the
 -- terminal has sent by then, both files anew, or the answers to the lines (ours)
 abbrev pub done_on : Job → Tape → List ℕ → List ℕ → Done
 done_on (Due at) tape requests text = done_with (due tape.chunks at) []
 done_on Info tape requests text = done_with (info_text tape) []
+done_on (Check profile) tape requests text =
+    done_ending (check_text profile tape) (ending_of_check (is_noted profile tape))
 done_on (Screen at profile escaped) tape requests text =
     done_with (screen_text escaped (term_at profile tape at).console) []
 done_on (Changes from to profile) tape requests text =
@@ -99,10 +107,11 @@ done_on (Reports at profile) tape requests text =
     done_with (hex_line (term_at profile tape at).reports) []
 done_on Save tape requests text = saved_by tape requests
 done_on (Session every profile) tape requests text =
-    done_answering (answered (started profile tape) (lines_of requests))
-    (any_refused (started profile tape) (lines_of requests))
+    done_ending (answered (started profile tape) (lines_of requests))
+    (ending_by (any_refused (started profile tape) (lines_of requests)))
 
--- the jobs that may take memory once the recording is read: those that open a session (ours)
+-- the jobs that may take memory once the recording is read: those that open a session, and the one that counts
+-- sequences (ours)
 abbrev pub TakesMemory : Job → Type 0
 TakesMemory (Due at) = ⊥
 TakesMemory Info = ⊥
@@ -132,6 +141,7 @@ is_stopped (Some (Line line f)) = false
 -- the status of the program where a job is done (ours)
 abbrev pub IsDoneStatus : Job → ℕ → Type 0
 IsDoneStatus (Session every profile) status = (status ≡ 0) ⊎ (status ≡ 1)
+IsDoneStatus (Check profile) status = (status ≡ 0) ⊎ (status ≡ 1)
 IsDoneStatus _ status = status ≡ 0
 
 -- the status of the program where a job isn't done: 3 where a device or want of memory stopped it, and else 1 (ours)

@@ -5,21 +5,26 @@ ghost use Rattle.tape_core.specs.Devices.{inner_of, has_failed, StopsReading};
 ghost use Rattle.tape_core.specs.Faults.{is_stop};
 ghost use Rattle.tape_core.specs.Reading.{fault_of, reads};
 ghost use Rattle.tape_jobs.specs.Endings.{JobEnds, RunEnds, readers_of, used, writers_of};
+ghost use Rattle.tape_jobs.specs.Notes.{NoteEnds};
 ghost use Rattle.tape_jobs.specs.Output.{done_on, outcome_by, status_after, status_of, takes_requests, writes_timing};
 
 use crate::jobs::changes::write_changes;
+use crate::jobs::check::write_checked;
 use crate::jobs::due::write_due;
 use crate::jobs::find::write_found;
 use crate::jobs::info::write_info;
 use crate::jobs::moment::write_moment;
+use crate::jobs::note::tell_note;
 use crate::jobs::save::write_edited;
 use crate::jobs::session::write_answers;
 use crate::shared::answers::Asked;
 use crate::shared::editing::name_of;
 use screen_print::ChangesFault;
 use std::alloc::Global;
+use std::io;
 use std::io::{Read, Write};
 use std::mem::ManuallyDrop;
+use tape_check::CheckFault;
 use tape_core::laws::writers_join;
 use tape_core::{Fault, Recording, Watched, read_recording_of, slurp};
 use tape_seek::EditFault;
@@ -35,6 +40,10 @@ pub enum Job {
     },
     /// Write what the recording holds, in five lines.
     Info,
+    /// Write what the recording says of itself, and what a terminal can't show of it.
+    Check {
+        profile: Profile,
+    },
     /// Write the screen of a moment as plain text, or as a text that draws it again.
     Screen {
         at: u64,
@@ -76,16 +85,18 @@ pub enum Ending {
     Clean,
     /// A session has refused some line.
     WithRefusals,
+    /// A check has noted something, or found what isn't played.
+    WithNotes,
 }
 
 impl Ending {
-    /// The status of the program: 1 where a line was refused, and else 0.
+    /// The status of the program: 1 where a line was refused or something noted, and else 0.
     fn status(self) -> u8
         ensures { result ≡ status_after self }
     {
         match self {
             Ending::Clean => 0,
-            Ending::WithRefusals => 1,
+            Ending::WithRefusals | Ending::WithNotes => 1,
         }
     }
 }
@@ -140,6 +151,20 @@ impl From<ChangesFault> for JobFault {
     }
 }
 
+impl From<CheckFault> for JobFault {
+    ghost use Rattle.std.specs.Prelude.{◌≡◌};
+    ghost use Rattle.tape_jobs.specs.Endings.{fault_of_check};
+
+    ghost from_gives = { λ stop fault. fault ≡ fault_of_check stop };
+
+    fn from(stop: CheckFault) -> JobFault {
+        match stop {
+            CheckFault::Write => JobFault::File(Fault::WriteFault),
+            CheckFault::Memory => JobFault::Memory,
+        }
+    }
+}
+
 impl JobFault {
     /// The status of the program: 3 where a device or want of memory stopped the job, and else 1.
     pub fn status(self) -> u8
@@ -185,11 +210,24 @@ pub fn run<S: Read, T: Read, R: Read, O: Write, P: Write>(
         (used P.contents out_timing.old out_timing.new) in
         RunEnds readers writers job result }
 {
-    run_with(alloc, job, &[], script, timing, requests, out, out_timing)
+    run_with(
+        alloc,
+        job,
+        &[],
+        script,
+        timing,
+        requests,
+        out,
+        out_timing,
+        &mut Watched::new(io::sink()),
+    )
 }
 
-/// Does a job as `run` does, with a text beside it: what `find` looks for.
-pub fn run_with<S: Read, T: Read, R: Read, O: Write, P: Write>(
+/// Does a job as `run` does, with a text beside it, which is what `find` looks for, and tells the note of the recording.
+///
+/// Where a job plays a recording, the note says what of it this terminal plays otherwise than it was recorded. A note that
+/// can't be written, or not whole, changes neither the outcome nor the output.
+pub fn run_with<S: Read, T: Read, R: Read, O: Write, P: Write, N: Write>(
     alloc: Global,
     job: Job,
     text: &[char],
@@ -198,23 +236,32 @@ pub fn run_with<S: Read, T: Read, R: Read, O: Write, P: Write>(
     requests: &mut Watched<R>,
     out: &mut Watched<O>,
     out_timing: &mut Watched<P>,
+    notes: &mut Watched<N>,
 ) -> Outcome
     requires script { has_failed script.old ≡ false }
     requires timing { has_failed timing.old ≡ false }
     requires requests { has_failed requests.old ≡ false }
     requires out { has_failed out.old ≡ false }
     requires out_timing { has_failed out_timing.old ≡ false }
-    ensures { let readers = readers_of (used S.remaining script.old script.new)
+    requires notes { has_failed notes.old ≡ false }
+    ensures ends { let readers = readers_of (used S.remaining script.old script.new)
         (used T.remaining timing.old timing.new) (used R.remaining requests.old requests.new)
         text.now in
         let writers = writers_of (used O.contents out.old out.new)
         (used P.contents out_timing.old out_timing.new) in
         RunEnds readers writers job result }
+    ensures noted { let readers = readers_of (used S.remaining script.old script.new)
+        (used T.remaining timing.old timing.new) (used R.remaining requests.old requests.new)
+        text.now in
+        NoteEnds readers (used N.contents notes.old notes.new) job result.fault }
 {
     writers_join::<O>();
     writers_join::<P>();
     match read_files(alloc, job, script, timing, requests) {
-        Ok(given) => outcome_of(perform(alloc, job, text, given, out, out_timing)),
+        Ok(given) => {
+            tell_note(job, &given.recording, notes);
+            outcome_of(perform(alloc, job, text, given, out, out_timing))
+        }
         Err(fault) => outcome_of(Err(JobFault::File(fault))),
     }
 }
@@ -243,6 +290,9 @@ fn perform<O: Write, P: Write>(
     match job {
         Job::Due { at } => write_due(&ManuallyDrop::new(recording), at, out)?,
         Job::Info => write_info(&ManuallyDrop::new(recording), out)?,
+        Job::Check { profile } => {
+            return write_checked(alloc, &ManuallyDrop::new(recording), profile, out);
+        }
         Job::Screen {
             at,
             profile,
@@ -349,6 +399,7 @@ fn read_requests<R: Read>(
         Job::Save | Job::Session { .. } => slurp(alloc, requests),
         Job::Due { .. }
         | Job::Info
+        | Job::Check { .. }
         | Job::Screen { .. }
         | Job::Changes { .. }
         | Job::Find { .. }

@@ -1,9 +1,11 @@
 //! The jobs, one function each; `screen` and `reports` share theirs.
 
 pub mod changes;
+pub mod check;
 pub mod due;
 pub mod find;
 pub mod info;
 pub mod moment;
+pub mod note;
 pub mod save;
 pub mod session;

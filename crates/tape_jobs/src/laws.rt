@@ -35,6 +35,8 @@ pub fn plain_lines_are_read()
     ensures due { (at : Text) (moment : ℕ) → seconds_of at ≡ Some moment
         → LineAsks (codes "due") (codes "--at" ∷ at ∷ []) (job.Due moment) }
     ensures info { LineAsks (codes "info") [] job.Info }
+    ensures check { (profile : Option Profile) → LineAsks (codes "check")
+        (profile_words profile) (job.Check (profile_or_first profile)) }
     ensures screen { (at : Text) (moment : ℕ) → seconds_of at ≡ Some moment
         → (escaped : Bool) (profile : Option Profile) → LineAsks (codes "screen")
         (codes "--at" ∷ at ∷ (escaped_words escaped ++ profile_words profile))

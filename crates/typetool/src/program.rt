@@ -1,11 +1,11 @@
 //! The program around a job: its arguments, its files, and what it tells its user.
 
-ghost use Rattle.std.specs.Prelude.{◌≡◌, ◌⊎◌, ◌≢◌, ◌≤◌, false, IfErr, IfOk, vec_len};
+ghost use Rattle.std.specs.Prelude.{◌≡◌, ◌⊎◌, ◌≢◌, ◌≤◌, false, IfErr, IfOk, IfSome, None, vec_len};
 ghost use Rattle.clap.specs.Words.{kind_of};
 ghost use Rattle.tape_core.specs.Devices.{has_failed};
 ghost use Rattle.tape_jobs.specs.CommandLine.{path_count};
 ghost use Rattle.tape_jobs.specs.Endings.{HoldFiles, readers_of, used};
-ghost use Rattle.tape_jobs.specs.Output.{Files as Given, is_stopped};
+ghost use Rattle.tape_jobs.specs.Output.{Files as Given, is_stopped, status_of as fault_status};
 ghost use Rattle.typetool.specs.Program.{IsAnswer, IsNotCreated, IsNotOpen, IsOutcome, stop_status};
 
 use clap::error::ErrorKind;
@@ -82,31 +82,52 @@ fn status_of(stop: &Stop) -> u8
     }
 }
 
+/// How a job ended, and the note that it told of the recording.
+#[derive(Drop)]
+struct Ended {
+    outcome: Outcome,
+    note: Watched<Vec<u8>>,
+}
+
 /// Runs the program, and answers its status.
 pub fn start<R: Files + Env + Input + Print + Eprint + AllocGlobal>(rt: &R) -> u8
     ensures { result ≤ 3 }
 {
     match attempt(rt) {
-        Ok(
-            Outcome {
-                status,
-                fault: None,
-            },
-        ) => status,
-        Ok(
-            Outcome {
-                fault: Some(fault),
-                ..
-            },
-        ) => tell(rt, &Stop::Job(fault)),
+        Ok(ended) => end(rt, ended),
         Err(Stop::Words(WordsFault::Clap(error))) => show(rt, error),
         Err(stop) => tell(rt, &stop),
     }
 }
 
+/// Tells the fault of a job, if it has one, and behind it the note, and answers the status.
+fn end<R: Eprint>(rt: &R, ended: Ended) -> u8
+    ensures done { ended.outcome.fault ≡ None → result ≡ ended.outcome.status }
+    ensures stopped { IfSome ended.outcome.fault (λ fault. result ≡ fault_status fault) }
+{
+    let Ended { outcome, note } = ended;
+    let status = match outcome.fault {
+        None => outcome.status,
+        Some(fault) => tell(rt, &Stop::Job(fault)),
+    };
+    tell_note(rt, note);
+    status
+}
+
+/// Tells a note, if there is one that was kept whole.
+fn tell_note<R: Eprint>(rt: &R, note: Watched<Vec<u8>>) {
+    if note.failed() {
+        return;
+    }
+    let note = note.into_inner();
+    if let Ok(text) = str::from_utf8(note.as_slice()) {
+        let _ = rt.eprint(text);
+    }
+}
+
 /// Reads the command line, opens the files and does the job.
-fn attempt<R: Files + Env + Input + Print + AllocGlobal>(rt: &R) -> Result<Outcome, Stop>
-    ensures { IfOk result (λ outcome. (job : Job) × IsOutcome job outcome) }
+fn attempt<R: Files + Env + Input + Print + AllocGlobal>(rt: &R) -> Result<Ended, Stop>
+    ensures { IfOk result (λ ended. (job : Job) × IsOutcome job ended.outcome) }
 {
     let words = arguments(rt)?;
     let read = read_words(rt.alloc(), words.as_slice())?;
@@ -128,9 +149,9 @@ fn arguments<R: Env + AllocGlobal>(rt: &R) -> Result<Vec<String>, Stop>
 fn open_and_run<R: Files + Input + Print + AllocGlobal>(
     rt: &R,
     words: &Words,
-) -> Result<Outcome, Stop>
+) -> Result<Ended, Stop>
     requires { path_count words.now.job ≤ vec_len words.now.paths }
-    ensures outcome { IfOk result (IsOutcome words.now.job) }
+    ensures outcome { IfOk result (λ ended. IsOutcome words.now.job ended.outcome) }
     // Else a file or memory was refused.
     ensures stop { IfErr result (λ stop. stop_status stop ≡ 3) }
 {
@@ -162,20 +183,21 @@ fn print<R: Files + Print + AllocGlobal, Q: io::Read>(
     script: &mut Watched<R::File>,
     timing: &mut Watched<R::File>,
     requests: &mut Watched<Q>,
-) -> Result<Outcome, Stop>
+) -> Result<Ended, Stop>
     requires script { has_failed script.old ≡ false }
     requires timing { has_failed timing.old ≡ false }
     requires requests { has_failed requests.old ≡ false }
-    ensures outcome { IfOk result (IsOutcome job) }
+    ensures outcome { IfOk result (λ ended. IsOutcome job ended.outcome) }
     // Where nothing stopped the job, it is what the job comes to on these files.
     ensures answer { let readers = readers_of (used R.File.remaining script.old script.new)
         (used R.File.remaining timing.old timing.new)
         (used Q.remaining requests.old requests.new) text.now in
-        IfOk result (λ outcome. is_stopped outcome.fault ≡ false → (files : Given)
-        → HoldFiles readers job files → IsAnswer job files outcome) }
+        IfOk result (λ ended. is_stopped ended.outcome.fault ≡ false → (files : Given)
+        → HoldFiles readers job files → IsAnswer job files ended.outcome) }
     ensures stop { IfErr result (λ stop. stop ≡ Stop.Memory) }
 {
     let mut out = buffered(rt, io::writer(rt))?;
+    let mut note = Watched::new(Vec::new(rt.alloc()));
     let outcome = run_with(
         rt.alloc(),
         job,
@@ -185,9 +207,10 @@ fn print<R: Files + Print + AllocGlobal, Q: io::Read>(
         requests,
         &mut out,
         &mut Watched::new(io::sink()),
+        &mut note,
     );
     leave(out);
-    Ok(outcome)
+    Ok(Ended { outcome, note })
 }
 
 /// Saves what standard input asks for into two files that were created.
@@ -197,10 +220,10 @@ fn save_into<R: Files + Input + AllocGlobal>(
     timing: &mut Watched<R::File>,
     new_script: R::File,
     new_timing: R::File,
-) -> Result<Outcome, Stop>
+) -> Result<Ended, Stop>
     requires script { has_failed script.old ≡ false }
     requires timing { has_failed timing.old ≡ false }
-    ensures outcome { IfOk result (IsOutcome Job.Save) }
+    ensures outcome { IfOk result (λ ended. IsOutcome Job.Save ended.outcome) }
     ensures stop { IfErr result (λ stop. stop ≡ Stop.Memory) }
 {
     let mut out = buffered(rt, new_script)?;
@@ -216,7 +239,8 @@ fn save_into<R: Files + Input + AllocGlobal>(
     );
     leave(out);
     leave(out_timing);
-    Ok(outcome)
+    let note = Watched::new(Vec::new(rt.alloc()));
+    Ok(Ended { outcome, note })
 }
 
 /// Opens a file to be read.

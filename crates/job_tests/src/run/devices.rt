@@ -122,7 +122,7 @@ fn plain_case(job: Job, text: &'static [u8]) -> Case {
 const END: u64 = 500_000;
 
 /// Each job at the end of the recording.
-fn cases() -> [Case; 8] {
+fn cases() -> [Case; 9] {
     let profile = Profile::Vt100;
     let screen = Job::Screen {
         at: END,
@@ -140,6 +140,7 @@ fn cases() -> [Case; 8] {
             Job::Info,
             b"chunks 2\nbytes 2\nlength 0.500000\nheader 20\ntrailer 0\n",
         ),
+        plain_case(Job::Check { profile }, b"started X\n"),
         plain_case(
             screen,
             b"ab\n\n\n\n\n\n\n\n\n\n\n\n\n\n\n\n\n\n\n\n\n\n\n\n",
@@ -235,6 +236,7 @@ fn run_slowly<R: Abort + AllocGlobal>(
         &mut requests,
         &mut out,
         &mut out_timing,
+        &mut Watched::new(io::sink()),
     );
     Ran {
         outcome,
@@ -409,6 +411,7 @@ fn run_damaged<R: Abort + AllocGlobal>(rt: &R, case: &Case, call: usize) -> (Out
         &mut Watched::new(SCRIPT),
         &mut Watched::new(b"0.1".as_slice()),
         &mut requests,
+        &mut Watched::new(io::sink()),
         &mut Watched::new(io::sink()),
         &mut Watched::new(io::sink()),
     );

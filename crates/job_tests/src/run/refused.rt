@@ -50,6 +50,7 @@ fn room(rt: &impl Runtime<A = Global>) -> Result<Vec<u8>, Fail> {
 fn do_job(rt: &(impl Runtime<A = Global> + Abort), case: Case) -> Result<Ended, Fail> {
     let mut out = Watched::new(room(rt)?);
     let mut out_timing = Watched::new(room(rt)?);
+    let mut note = Watched::new(room(rt)?);
     let outcome = run_with(
         rt.alloc(),
         case.job,
@@ -59,12 +60,14 @@ fn do_job(rt: &(impl Runtime<A = Global> + Abort), case: Case) -> Result<Ended, 
         &mut Watched::new(case.requests),
         &mut out,
         &mut out_timing,
+        &mut note,
     );
     assert_eq!(rt; (out.failed(), out_timing.failed()), (false, false));
     Ok(Ended {
         outcome,
         text: out.into_inner(),
         new_timing: out_timing.into_inner(),
+        note: note.into_inner(),
     })
 }
 
@@ -117,6 +120,14 @@ fn compare_whole(rt: &(impl Runtime<A = Global> + Abort), case: Case, ended: &En
 fn run_due(rt: HostRuntime) -> Result<(), Fail> {
     let text = b"ab\x1b[6n\x1b[3;1Hcd\x1b[c";
     compare(&rt, plain_case(Job::Due { at: 1_000_000 }, text))
+}
+
+#[test]
+fn run_check(rt: HostRuntime) -> Result<(), Fail> {
+    let job = Job::Check {
+        profile: Profile::Vt100,
+    };
+    compare(&rt, plain_case(job, b"started X\n"))
 }
 
 #[test]

@@ -13,6 +13,8 @@ pub fn about_of<'a>(subcommand: Subcommand) -> &'a str {
     match subcommand {
         Subcommand::Due => "Write the raw bytes of all chunks that are due by a moment",
         Subcommand::Info => "Tell how many chunks and bytes the recording has, and how long it is",
+        Subcommand::Check =>
+            "Tell what the recording says of itself, and what this terminal can't show of it",
         Subcommand::Screen => "Write the screen as it is at a moment: 24 lines of text",
         Subcommand::Changes => "Tell which lines of the screen each chunk changes",
         Subcommand::Find => "Tell when a text came to stand on the screen, and when it went",
@@ -52,6 +54,16 @@ const SESSION_DETAILS: &str =
     E8 BadLine        a line of no known form\n\n\
     Example: printf 'cap 2\\nscreen 12.5\\n' | typetool session demo.script demo.timing";
 
+/// The lines that `check` writes, its status, and what other commands tell of them.
+const CHECK_DETAILS: &str =
+    "Lines, each only where it applies: when the recording was started, under which terminal and at which\n\
+    size; a note for each thing that makes the screen doubtful (another terminal or size, bytes from 128\n\
+    on, a trailer that isn't script's, further sessions in it); and unplayed N SEQUENCE for each control\n\
+    sequence that this terminal doesn't have, with how often it comes. The status is 0 where nothing is\n\
+    noted or unplayed, and else 1. No screen is played.\n\n\
+    The commands that play a recording tell the notes on size, terminal and sessions on standard error.\n\n\
+    Example: typetool check demo.script demo.timing";
+
 /// The lines that `find` writes, and what it doesn't find.
 const FIND_DETAILS: &str =
     "A line for each place at which the text came to stand (+) or from which it went (-): the sign, the\n\
@@ -75,6 +87,7 @@ pub fn details_of<'a>(subcommand: Subcommand) -> &'a str {
              decimals), header and trailer (bytes before the first chunk and after the last).\n\n\
              Example: typetool info demo.script demo.timing"
         }
+        Subcommand::Check => CHECK_DETAILS,
         Subcommand::Screen => {
             "UTF-8, without the spaces at the ends of lines. With --escaped a text for a terminal, without a\n\
              last line feed, that draws size, characters, renditions and cursor again.\n\n\

@@ -8,6 +8,7 @@ ghost use Rattle.tape_jobs.specs.CommandLine.{flags_in, id_in, name_in, paths_in
 pub enum Subcommand {
     Due,
     Info,
+    Check,
     Screen,
     Changes,
     Find,
@@ -46,12 +47,13 @@ pub enum Argument {
 }
 
 /// The subcommands, in the order in which help tells them.
-pub fn subcommands() -> [Subcommand; 8]
+pub fn subcommands() -> [Subcommand; 9]
     ensures { result ≡ subcommands_in_order }
 {
     [
         Subcommand::Due,
         Subcommand::Info,
+        Subcommand::Check,
         Subcommand::Screen,
         Subcommand::Changes,
         Subcommand::Find,
@@ -69,6 +71,7 @@ pub fn name_of<'a>(subcommand: Subcommand) -> &'a str
     match subcommand {
         Subcommand::Due => "due",
         Subcommand::Info => "info",
+        Subcommand::Check => "check",
         Subcommand::Screen => "screen",
         Subcommand::Changes => "changes",
         Subcommand::Find => "find",
@@ -85,6 +88,7 @@ pub fn flags_of(subcommand: Subcommand) -> &'static [Argument]
 {
     match subcommand {
         Subcommand::Due => &[Argument::At],
+        Subcommand::Check => &[Argument::Profile],
         Subcommand::Screen => &[Argument::At, Argument::Escaped, Argument::Profile],
         Subcommand::Changes => &[Argument::From, Argument::To, Argument::Profile],
         Subcommand::Find => &[Argument::From, Argument::Until, Argument::Profile],
@@ -103,6 +107,7 @@ pub fn texts_of(subcommand: Subcommand) -> &'static [Argument]
         Subcommand::Find => &[Argument::Sought],
         Subcommand::Due
         | Subcommand::Info
+        | Subcommand::Check
         | Subcommand::Screen
         | Subcommand::Changes
         | Subcommand::Reports
@@ -119,6 +124,7 @@ pub fn paths_of(subcommand: Subcommand) -> &'static [Argument]
     match subcommand {
         Subcommand::Due
         | Subcommand::Info
+        | Subcommand::Check
         | Subcommand::Screen
         | Subcommand::Changes
         | Subcommand::Find

@@ -41,6 +41,9 @@ pub fn read_job(subcommand: Subcommand, values: &ArgMatches<'_>) -> Result<Job, 
             at: read_moment(values, Argument::At)?,
         }),
         Subcommand::Info => Ok(Job::Info),
+        Subcommand::Check => Ok(Job::Check {
+            profile: read_profile(values)?,
+        }),
         Subcommand::Screen => Ok(Job::Screen {
             at: read_moment(values, Argument::At)?,
             profile: read_profile(values)?,

@@ -1,4 +1,4 @@
-use Rattle.tape_jobs.proofs.LineLemmas.{changes_from_line, changes_line, due_line, find_between_line, find_line, info_line, reports_line, save_line, screen_line, session_every_line, session_line}
+use Rattle.tape_jobs.proofs.LineLemmas.{changes_from_line, changes_line, check_line, due_line, find_between_line, find_line, info_line, reports_line, save_line, screen_line, session_every_line, session_line}
 use Rattle.tape_jobs.proofs.laws.plain_lines_are_read.Goals as goal
 
 pub returns-clause-due : goal.returns-clause-due
@@ -6,6 +6,9 @@ returns-clause-due c = λ at moment e program script timing p q. due_line progra
 
 pub returns-clause-info : goal.returns-clause-info
 returns-clause-info c = info_line
+
+pub returns-clause-check : goal.returns-clause-check
+returns-clause-check c = λ profile program script timing p q. check_line program script timing p q profile
 
 pub returns-clause-screen : goal.returns-clause-screen
 returns-clause-screen c = λ at moment e escaped profile program script timing p q. screen_line program script timing p q at moment e escaped profile

@@ -1,5 +1,5 @@
 use Rattle.std.proofs.Common.{◌≡◌, false, refl, not, Option, None, Some, sym, ◌∙◌, ap}
-use Rattle.tape_jobs.specs.Endings.{HoldFiles, Readers, RunEnds, Writers, is_refused}
+use Rattle.tape_jobs.specs.Endings.{HoldFiles, Readers, RunEnds, Writers, is_of_input}
 use Rattle.tape_jobs.specs.Output.{Files, is_stopped}
 use Rattle.tape_jobs.specs.declared.job.Job.{Job}
 use Rattle.tape_jobs.specs.declared.job.JobFault.{JobFault}
@@ -15,9 +15,9 @@ answered readers writers job outcome ends None is running files held =
     let answer = (ends.done (sym is)).0.comes files held in
     (answer.0, answer.1, answer.2.0)
 answered readers writers job outcome ends (Some f) is running files held =
-    let answer = (ends.refused (ap is_refused (sym is) ∙ ap not running)).0.comes files held in
+    let answer = (ends.refused (ap is_of_input (sym is) ∙ ap not running)).0.comes files held in
     (answer.0, answer.1, answer.2.0)
 
 pub returns-clause-answer : goal.returns-clause-answer
 returns-clause-answer g c = λ running files held.
-    answered _ _ _ _ c.run_with-outcome.ensures _ refl running files held
+    answered _ _ _ _ c.run_with-outcome.ensures.ends _ refl running files held

@@ -1,0 +1,81 @@
+-- Which faults of a job come once its recording was read.
+use Rattle.std.proofs.Common.{◌≡◌, ℕ, true, false, List, refl, ap, inl, inr, Option, Some, None, Result, Ok, Err}
+use Rattle.tape_core.specs.Tape.{Tape}
+use Rattle.tape_core.specs.Text.{lines_of}
+use Rattle.tape_core.specs.declared.fault.Fault.{Fault}
+use Rattle.tape_core.specs.declared.fault.Fault.TheVariants.{NoHeader, MultiStream, BadDelay, BadCount, DelayTooLarge, ChunkTooLong, TooManyChunks, TooManyBytes, ScriptShort, OutOfMemory, ReadFault, WriteFault}
+use Rattle.tape_seek.specs.declared.edits.EditFault.{EditFault}
+use Rattle.tape_jobs.specs.Endings.{JobEnds, Writers}
+use Rattle.tape_jobs.specs.Notes.{is_write_fault, was_read}
+use Rattle.tape_jobs.specs.Output.{Done, done_on, done_saving, outcome_by, refused_with}
+use Rattle.tape_jobs.specs.Requests.{saved, started}
+use Rattle.tape_jobs.specs.declared.job.Ending.{Ending}
+use Rattle.tape_jobs.specs.declared.job.Job.{Job}
+use Rattle.tape_jobs.specs.declared.job.Job.TheVariants as jobs
+use Rattle.tape_jobs.specs.declared.job.JobFault.{JobFault}
+use Rattle.tape_jobs.specs.declared.job.JobFault.TheVariants.{File, Line, Memory}
+use Rattle.vt_term.specs.declared.profile.Profile.TheVariants.{Vt100}
+
+none_some : {X : Type 0} (x : X) (o : Option X) → o ≡ None → o ≡ Some x → ⊥
+none_some x o e f = absurd (cc)
+
+unfaulted_done : (done : Done) (g : Fault) → done.outcome.fault ≡ None → done ≡ refused_with (File g) → ⊥
+unfaulted_done done g none e = none_some (File g) done.outcome.fault none (ap (λ (d : Done). d.outcome.fault) e)
+
+unfaulted_save : (saving : Result Tape (ℕ × EditFault)) (g : Fault) → done_saving saving ≡ refused_with (File g) → ⊥
+unfaulted_save (Ok tape) g e = unfaulted_done (done_saving (Ok tape)) g refl e
+unfaulted_save (Err refused) g e =
+    let same : Some (Line refused.0 refused.1) ≡ Some (File g) = ap (λ (d : Done). d.outcome.fault) e in
+    absurd (cc)
+
+-- on a recording that was read no job has a fault of the files
+unfaulted : (job : Job) (tape : Tape) (lines text : List ℕ) (g : Fault)
+    → done_on job tape lines text ≡ refused_with (File g) → ⊥
+unfaulted (jobs.Due at) tape lines text g e = unfaulted_done (done_on (jobs.Due at) tape lines text) g refl e
+unfaulted jobs.Info tape lines text g e = unfaulted_done (done_on jobs.Info tape lines text) g refl e
+unfaulted (jobs.Check profile) tape lines text g e =
+    unfaulted_done (done_on (jobs.Check profile) tape lines text) g refl e
+unfaulted (jobs.Screen at profile escaped) tape lines text g e =
+    unfaulted_done (done_on (jobs.Screen at profile escaped) tape lines text) g refl e
+unfaulted (jobs.Changes from to profile) tape lines text g e =
+    unfaulted_done (done_on (jobs.Changes from to profile) tape lines text) g refl e
+unfaulted (jobs.Find from to profile) tape lines text g e =
+    unfaulted_done (done_on (jobs.Find from to profile) tape lines text) g refl e
+unfaulted (jobs.Reports at profile) tape lines text g e =
+    unfaulted_done (done_on (jobs.Reports at profile) tape lines text) g refl e
+unfaulted jobs.Save tape lines text g e = unfaulted_save (saved 1 (started Vt100 tape) (lines_of lines)) g e
+unfaulted (jobs.Session every profile) tape lines text g e =
+    unfaulted_done (done_on (jobs.Session every profile) tape lines text) g refl e
+
+module _ (job : Job) (tape : Tape) (lines text : List ℕ) where
+  refused_after : (f : JobFault) → done_on job tape lines text ≡ refused_with f → was_read (Some f) ≡ true
+  refused_after (File g) same = absurd (unfaulted job tape lines text g same)
+  refused_after (Line line g) same = refl
+  refused_after Memory same = refl
+
+  -- so however a job on it ends, it was read
+  pub ended_after : {O P : Type 0} (writers : Writers O P) (r : Result Ending JobFault) → JobEnds writers job (done_on job tape lines text) r
+      → was_read (outcome_by r).fault ≡ true
+  ended_after writers (Ok ending) done = refl
+  ended_after writers (Err f) ends = elim ends [
+    | inl (e, wants) ↦ ap (λ x. was_read (Some x)) e
+    | inr later ↦ elim later [
+      | inl (e, stopped) ↦ ap (λ x. was_read (Some x)) e
+      | inr (unstopped, same, unwritten) ↦ refused_after f same
+    ]
+  ]
+
+-- a fault of the files that was met as they were read
+pub only_write : (f : Fault) → is_write_fault f ≡ true → f ≡ WriteFault
+only_write NoHeader e = absurd (cc)
+only_write (MultiStream line) e = absurd (cc)
+only_write (BadDelay line) e = absurd (cc)
+only_write (BadCount line) e = absurd (cc)
+only_write (DelayTooLarge line) e = absurd (cc)
+only_write (ChunkTooLong line) e = absurd (cc)
+only_write (TooManyChunks line) e = absurd (cc)
+only_write (TooManyBytes line) e = absurd (cc)
+only_write (ScriptShort chunk) e = absurd (cc)
+only_write OutOfMemory e = absurd (cc)
+only_write ReadFault e = absurd (cc)
+only_write WriteFault e = refl

@@ -1,0 +1,50 @@
+-- The note that a job tells beside its output, where it plays a recording that wasn't made for this terminal (ours).
+use Rattle.std.specs.Prelude.{◌≡◌, ℕ, ◌⊎◌, Bool, true, false, List, Option, Some, None, not}
+use Rattle.tape_check.specs.Lines.{note_line}
+use Rattle.tape_core.specs.Devices.{Took, TookPart, is_flushed}
+use Rattle.tape_core.specs.Reading.{reads}
+use Rattle.tape_core.specs.Tape.{Tape}
+use Rattle.tape_core.specs.declared.devices.Watched.{Watched}
+use Rattle.tape_core.specs.declared.fault.Fault.{Fault}
+use Rattle.tape_core.specs.declared.fault.Fault.TheVariants as fault
+use Rattle.tape_jobs.specs.Endings.{AsksNothing, Device, HoldFiles, Readers}
+use Rattle.tape_jobs.specs.Output.{Files}
+use Rattle.tape_jobs.specs.declared.job.Job.{Job}
+use Rattle.tape_jobs.specs.declared.job.Job.TheVariants.{Screen, Changes, Find, Reports, Session}
+use Rattle.tape_jobs.specs.declared.job.JobFault.{JobFault}
+use Rattle.tape_jobs.specs.declared.job.JobFault.TheVariants.{File}
+use Rattle.vt_term.specs.declared.profile.Profile.{Profile}
+
+-- as which terminal a job plays the recording, if it plays it (ours)
+abbrev pub played_by : Job → Option Profile
+played_by (Screen at profile escaped) = Some profile
+played_by (Changes from to profile) = Some profile
+played_by (Find from to profile) = Some profile
+played_by (Reports at profile) = Some profile
+played_by (Session every profile) = Some profile
+played_by _ = None
+
+-- whether a recording was read: of the faults of files, only a write fault comes behind that (ours)
+abbrev pub is_write_fault : Fault → Bool
+is_write_fault fault.WriteFault = true
+is_write_fault _ = false
+
+abbrev pub was_read : Option JobFault → Bool
+was_read (Some (File f)) = is_write_fault f
+was_read _ = true
+
+-- the writer has taken the note whole and was flushed, or has failed in it (ours)
+abbrev pub IsTold : {N : Type 0} → (N → Option (List ℕ)) → Watched N → Watched N → List ℕ → Type 0
+IsTold contents old new note =
+    (Took contents old new note × (is_flushed new ≡ true)) ⊎ TookPart contents old new note true
+
+-- what became of the note of a run: it was told where the job plays the recording that was read, and else the writer
+-- was asked for nothing. How the run ends says nothing of it, so a note changes neither outcome nor output (ours)
+pub record NoteEnds {S T R N : Type 0} (readers : Readers S T R) (notes : Device N) (job : Job)
+    (f : Option JobFault) : Type 0 where
+  pub told : was_read f ≡ true → (profile : Profile) → played_by job ≡ Some profile
+      → (files : Files) → HoldFiles readers job files
+      → (tape : Tape) × reads files.script files.timing tape
+      × IsTold notes.bytes notes.old notes.new (note_line profile tape)
+  pub silent : played_by job ≡ None → AsksNothing notes
+  pub unread : was_read f ≡ false → AsksNothing notes

@@ -1,0 +1,49 @@
+//! The job `check`: what a recording says of itself, and what a terminal can't show of it.
+
+ghost use Rattle.std.specs.Prelude.{◌≡◌, Err, false, true, IfOk, OnOk};
+ghost use Rattle.tape_check.specs.Lines.{check_text, is_noted};
+ghost use Rattle.tape_core.specs.Devices.{has_failed, is_flushed};
+ghost use Rattle.tape_jobs.specs.Endings.{JobPuts};
+ghost use Rattle.tape_jobs.specs.Output.{ending_of_check};
+
+use crate::job::{Ending, JobFault};
+use crate::laws::stops_join;
+use std::alloc::Global;
+use std::io::Write;
+use tape_check::write_check;
+use tape_core::laws::writers_join;
+use tape_core::{Recording, Watched};
+use vt_term::Profile;
+
+/// Writes the lines of a check, and flushes. Nothing is written where memory is refused.
+pub fn write_checked<O: Write>(
+    alloc: Global,
+    recording: &Recording,
+    profile: Profile,
+    out: &mut Watched<O>,
+) -> Result<Ending, JobFault>
+    requires { has_failed out.old ≡ false }
+    ensures puts { JobPuts O.contents out.old out.new
+        (check_text profile recording.now) result }
+    ensures ending { IfOk result (λ ending. ending
+        ≡ ending_of_check (is_noted profile recording.now)) }
+    ensures flushed { OnOk result (is_flushed out.new ≡ true) }
+    ensures unwritten { result ≡ Err JobFault.Memory → out.new ≡ out.old }
+{
+    stops_join::<O>();
+    writers_join::<O>();
+    let noted = write_check(alloc, recording, profile, out)?;
+    out.finish()?;
+    Ok(ending_of(noted))
+}
+
+/// How a check ends, by whether anything was noted.
+fn ending_of(noted: bool) -> Ending
+    ensures { result ≡ ending_of_check noted }
+{
+    if noted {
+        Ending::WithNotes
+    } else {
+        Ending::Clean
+    }
+}
