@@ -43,6 +43,7 @@ test: lint
 	tests/limits.py bin/typetool
 	tests/memory.py bin/typetool
 	tests/damage.py bin/typetool 500
+	tests/fuzz.py bin/typetool 2000
 	tests/refused.py 1 12 13
 	tests/browser.py bin/typetool
 
@@ -50,10 +51,12 @@ test: lint
 browser: bin/typetool
 	tests/browser.py bin/typetool
 
-# The long forms: more limits on memory, 20,000 damaged pairs, every growth refused in turn, and more wrong bodies.
+# The long forms: more limits on memory, 20,000 damaged pairs and random recordings, every growth refused in turn, and
+# more wrong bodies.
 soak: bin/typetool
 	tests/memory.py bin/typetool 16
 	tests/damage.py bin/typetool 20000
+	tests/fuzz.py bin/typetool 20000
 	tests/refused.py
 	tests/edits.sh
 

@@ -1,7 +1,7 @@
 //! Both files, recordings, and the devices round them.
 
-mod changes;
 mod devices;
+mod edits;
 mod faults;
 mod reading;
 mod refused;

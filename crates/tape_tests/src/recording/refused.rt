@@ -1,6 +1,6 @@
 //! Refused growths. `tests/refused.py` runs these with the first, second, .. growth of memory refused, until none is, and
 //! counts the lines `refused: WHAT`. After a refusal all is as it must be, and the same call then answers.
-use super::changes::{A, BB, EMPTY, NEW, SCRIPT, TIMING, compare_chunks};
+use super::edits::{A, BB, EMPTY, NEW, SCRIPT, TIMING, compare_chunks};
 use super::sharing::handed;
 use crate::once_more::{bytes, read};
 use std::io;

@@ -1,5 +1,5 @@
 //! Scripts that are handed over, and whose chunks are parts of them.
-use super::changes::compare_chunks;
+use super::edits::compare_chunks;
 use std::alloc::Global;
 use std::test::Fail;
 use tape_core::{Fault, Recording, read_recording_of};

@@ -1,3 +1,4 @@
+//! Edits of a recording, each call once, and what each refuses.
 use std::alloc::Global;
 use std::process::Abort;
 use std::test::Fail;

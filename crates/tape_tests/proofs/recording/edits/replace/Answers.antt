@@ -2,7 +2,7 @@ use Rattle.std.proofs.Common.{◌<◌, ◌≤◌, ◌+◌, [], length, get_or, a
 use Rattle.std.proofs.lemmas.List.{get_or_default}
 use Rattle.tape_core.specs.Tape.{body_len, longest_body}
 use Rattle.tape_core.specs.declared.chunk.Chunk.{Chunk}
-use Rattle.tape_tests.proofs.recording.changes.replace.Goals as goal
+use Rattle.tape_tests.proofs.recording.edits.replace.Goals as goal
 
 pub replace-requires-clause-bytes : goal.replace-requires-clause-bytes
 replace-requires-clause-bytes g c =

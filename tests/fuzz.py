@@ -1,0 +1,132 @@
+#!/usr/bin/env python3
+"""Plays random recordings by `find` and `check` in both profiles, and compares with plain readings of what they write.
+
+    tests/fuzz.py TYPETOOL [RECORDINGS [SEED]]
+
+The screens that find lines speak of are drawn by `screen --escaped` after each chunk of the same bytes a second apart,
+and read by plain_screen.py; plain_find.py says what stands there, check_reader.py what is told of the recording itself,
+and the note on standard error. The last line is 'N passed, M failed'.
+"""
+import concurrent.futures
+import os
+import random
+import subprocess
+import sys
+import tempfile
+
+import check_reader
+import plain_find
+import plain_reader
+import random_recordings
+
+program = os.path.abspath(sys.argv[1])
+count = int(sys.argv[2]) if len(sys.argv) > 2 else 200
+seed = int(sys.argv[3]) if len(sys.argv) > 3 else 1
+PATIENCE = 20
+TEXTS = [
+    "err",
+    "er",
+    "a",
+    "aa",
+    "ab",
+    "x",
+    "r o",
+    "a b",
+    "xx",
+    "─",
+    "│",
+    "◆▒",
+    "q",
+    ": no",
+    " a",
+    "a ",
+    "x" * 41,
+    "ra",
+    "-",
+]
+
+
+def run(folder, *words):
+    done = subprocess.run([program, *words], capture_output=True, cwd=folder, timeout=PATIENCE)
+    return done.returncode, done.stdout, done.stderr
+
+
+def written(folder, name, recording):
+    """Writes the pair of a recording under a name."""
+    for kind, text in zip(("script", "timing"), plain_reader.files_of(recording)):
+        with open(os.path.join(folder, f"{name}.{kind}"), "wb") as file:
+            file.write(text)
+    return f"{name}.script", f"{name}.timing"
+
+
+def screens_of(folder, profile, recording):
+    """What stands on the screen before the first chunk and after each, row by row."""
+    header, chunks, trailer = recording
+    pair = written(folder, "apart", (header, [(10**6, text) for _, text in chunks], trailer))
+    for after in range(len(chunks) + 1):
+        _, text, _ = run(folder, "screen", "--at", str(after), "--escaped", "--profile", profile, *pair)
+        yield plain_find.rows_of(text)
+
+
+def bounds_of(rng, moments):
+    """From and to, each now and then left out, in microseconds; now and then those of a chunk."""
+    near = [*moments, 0, 1, 10**6]
+    return tuple(rng.choice([None, rng.choice(near)]) for _ in range(2))
+
+
+def found(rng, folder, profile, recording, pair):
+    """What find writes, and what it is to write."""
+    moments, moment = [], 0
+    for delay, _ in recording[1]:
+        moment += delay
+        moments.append(moment)
+    first, last = bounds_of(rng, moments)
+    text = rng.choice(TEXTS)
+    asked = [
+        index for index, due in enumerate(moments) if (first is None or due > first) and (last is None or due <= last)
+    ]
+    dues = [plain_reader.written(due).decode() for due in moments]
+    wanted = plain_find.find_lines(list(screens_of(folder, profile, recording)), dues, asked, text).encode()
+    words = ["--profile", profile]
+    words += [] if first is None else ["--from", plain_reader.written(first).decode()]
+    words += [] if last is None else ["--to", plain_reader.written(last).decode()]
+    told = run(folder, "find", *words, "--", text, *pair)
+    return f"find {words} {text!r}", told, (0, wanted, check_reader.note_line(profile, recording[0], recording[2]))
+
+
+def checked(folder, profile, recording, pair):
+    """What check writes, and what it is to write."""
+    header, chunks, trailer = recording
+    text, status = check_reader.check(profile, header, b"".join(text for _, text in chunks), trailer)
+    return f"check {profile}", run(folder, "check", "--profile", profile, *pair), (status, text, b"")
+
+
+def one(number):
+    """What went wrong with a recording."""
+    rng = random.Random(seed * 1_000_003 + number)
+    recording = random_recordings.recording(rng)
+    problems = []
+    with tempfile.TemporaryDirectory(prefix="fuzz-") as folder:
+        pair = written(folder, "made", recording)
+        for profile in ("vt100", "vt102"):
+            for name, got, wanted in (
+                found(rng, folder, profile, recording, pair),
+                checked(folder, profile, recording, pair),
+            ):
+                if got != wanted:
+                    problems.append(f"{name}: got {got}, wanted {wanted}, of {recording}")
+    return number, problems
+
+
+def main():
+    failed = 0
+    with concurrent.futures.ThreadPoolExecutor(os.cpu_count()) as pool:
+        for number, problems in pool.map(one, range(count)):
+            failed += bool(problems)
+            for problem in problems:
+                print(f"FAILED recording {number}: {problem}")
+    print(f"random recordings: {count - failed} passed, {failed} failed")
+    return failed > 0
+
+
+sys.exit(main())
