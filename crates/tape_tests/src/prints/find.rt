@@ -80,3 +80,30 @@ fn tells_where_a_text_comes_and_goes(rt: HostRuntime) -> Result<(), Fail> {
     }
     Ok(())
 }
+
+/// Lines with two places each that scroll: each place comes once, and nothing is told of lines that leave at the top.
+#[test]
+fn a_body_that_scrolls_keeps_its_places(rt: HostRuntime) -> Result<(), Fail> {
+    let alloc = rt.alloc();
+    let mut chunks = Vec::new(alloc);
+    for _ in 0..30 {
+        chunks.extend_from_slice(b"err err\r\n|")?;
+    }
+    chunks.extend_from_slice(b"\x1b[2J")?;
+    let mut lines = String::new(alloc);
+    for row in 1u8..24 {
+        for column in [1u8, 5] {
+            let line = format!(in alloc; "+ {} 0.000000 {row} {column} err err\n", row - 1)?;
+            lines.push_str(line.as_str())?;
+        }
+    }
+    for row in 1u8..24 {
+        for column in [1u8, 5] {
+            let line = format!(in alloc; "- 30 0.000000 {row} {column} err err\n")?;
+            lines.push_str(line.as_str())?;
+        }
+    }
+    let got = found(&rt, chunks.as_slice(), "err")?;
+    assert_eq!(&rt; got.as_slice(), lines.as_bytes());
+    Ok(())
+}
