@@ -13,7 +13,7 @@ use Rattle.std.proofs.lemmas.List.{drop-append-le, drop-take, drop-map, get_or_a
 use Rattle.std.proofs.lemmas.List.Elements.{All-append, All-filter, All-get_or, All-map, All-nil, filter-append}
 use Rattle.vt_screen.specs.Cells.{blank, row_at}
 use Rattle.screen_print.specs.declared.standing.Place.{Place}
-use Rattle.screen_print.specs.FindLines.{begins, ends_line, find_text, is_less, left_of, less_line, less_lines, line_text_from, place_in, places_from, row_text, row_texts, standing}
+use Rattle.screen_print.specs.FindLines.{begins, ends_line, find_text, is_less, left_of, less_line, less_lines, line_text_from, place_in, places_from, places_in, row_text, row_texts, standing}
 use Rattle.screen_print.specs.Quiet.{BeginsUpTo, LineStays, LinesStay, RowStays, characters, columns_of}
 use Rattle.screen_print.specs.Stills.{Still}
 use Rattle.screen_print.proofs.FindLemmas.{line_ends, no_texts, texts_at}
@@ -112,6 +112,17 @@ spaced_stays text cells d some space =
     ended_stays text (characters cells)
     (eq-eqb _ 32 (ap (λ n. get_or (characters cells) (n - 1) 32) (length-map cells (λ cell. character cell.glyph))
     ∙ get_or-map (λ (cell : Cell). character cell.glyph) cells (length cells - 1) d 32 within ∙ space))
+
+-- a row in which the text begins nowhere has no place of it
+pub none_placed : (text : List ℕ) (still : Still) (line : ℕ) → length still.rows ≡ 24 → 1 ≤ line → line ≤ 24
+    → BeginsUpTo text 0 (row_text still.wide (row_at still.rows line))
+    → places_in text line (line_text_from (drop (line - 1) (row_texts still))) (length (row_text still.wide (row_at still.rows line))) ≡ []
+none_placed text still line whole low high none =
+    let row = row_text still.wide (row_at still.rows line) in
+    let rows = drop line (row_texts still) in
+    ap (λ l. places_in text line (line_text_from l) (length row)) (texts_at still line whole low high)
+    ∙ ap (map (place_in line)) (none_in (begins text (line_text_from (row ∷ rows))) 1 (length row) (λ column from to.
+    ap (λ l. begins text l column) (line_is row rows) ∙ none (cond (ends_line row) [] (line_text_from rows)) column (omega arith) (omega arith)))
 
 -- two rows told by their cells
 pub cells_stay : (text : List ℕ) (one other : List Cell) (d behind : ℕ) → 1 ≤ length text → d ≤ length one → d ≤ length other

@@ -82,7 +82,7 @@ fn stands_alone(text: &[char], cells: &[Cell]) -> bool
         return true;
     }
     let behind = (cells.len() + 1).saturating_sub(text.len());
-    !may_begin(text, cells, behind)
+    !may_begin_behind(text, cells, behind)
 }
 
 /// Whether what these lines show of a text surely stays, and with them all lines, which differ in these.
@@ -121,12 +121,15 @@ fn row_stays(text: &[char], one: &[Cell], other: &[Cell]) -> bool
     requires { 1 ≤ length text.now }
     ensures { result ≡ true → RowStays text.now (characters one.now) (characters other.now) }
 {
+    if lacks_first(text, one) && lacks_first(text, other) {
+        return true;
+    }
     let same = same_len(one, other);
     let behind = (same + 1).saturating_sub(text.len());
-    if may_begin(text, one, behind) {
+    if may_begin_behind(text, one, behind) {
         return false;
     }
-    !may_begin(text, other, behind)
+    !may_begin_behind(text, other, behind)
 }
 
 /// How many cells are read alike from the first on.
@@ -144,13 +147,20 @@ fn same_len(one: &[Cell], other: &[Cell]) -> usize
     least
 }
 
-/// Whether a text may begin in a row behind so many cells: as far as both go they are alike.
-fn may_begin(text: &[char], cells: &[Cell], behind: usize) -> bool
-    ensures { result ≡ false → BeginsUpTo text.now behind (characters cells.now) }
+/// Whether a text may begin in a row.
+pub(crate) fn may_begin(text: &[char], cells: &[Cell]) -> bool
+    ensures { result ≡ false → BeginsUpTo text.now 0 (characters cells.now) }
 {
     if lacks_first(text, cells) {
         return false;
     }
+    may_begin_behind(text, cells, 0)
+}
+
+/// Whether a text may begin in a row behind so many cells: as far as both go they are alike.
+fn may_begin_behind(text: &[char], cells: &[Cell], behind: usize) -> bool
+    ensures { result ≡ false → BeginsUpTo text.now behind (characters cells.now) }
+{
     for at in behind..cells.len() {
         if agrees(text, &cells[at..]) {
             return true;

@@ -9,6 +9,7 @@ ghost use Rattle.screen_print.specs.Places.{IsPlace};
 ghost use Rattle.screen_print.specs.Quiet.{characters};
 
 use crate::glyphs::character;
+use crate::quiet::may_begin;
 use crate::still::Still;
 use arrayvec::ArrayVec;
 use vt_screen::limits::{LINES, NARROW_COLUMNS, WIDE_COLUMNS};
@@ -40,8 +41,31 @@ pub(crate) fn standing(still: &Still, text: &[char]) -> ArrayVec<Place, CELLS>
     places
 }
 
-/// Puts the places of one row behind others.
+/// Puts the places of one row behind others. Where the text surely begins nowhere in the row its line isn't
+/// laid out.
 fn push_places(still: &Still, text: &[char], line: u8, places: &mut ArrayVec<Place, CELLS>)
+    requires low { 1 ≤ line }
+    requires high { line ≤ LINES }
+    requires room { length places.old.items + 132 ≤ CELLS }
+    requires before { All (IsPlace still.now) places.old.items }
+    ensures places { places.new.items ≡ places.old.items
+        ++ places_in text.now line (line_text_from (drop (line - 1) (row_texts still.now)))
+        (length (row_text still.now.wide (row_at still.now.rows line))) }
+    ensures short { length places.new.items ≤ length places.old.items + 132 }
+    ensures after { All (IsPlace still.now) places.new.items }
+{
+    still.sound();
+    let cells = cells_of(still.is_wide(), still.row(line));
+    if !may_begin(text, cells) {
+        return;
+    }
+    push_begun(still, text, line, places);
+}
+
+/// The same by laying out the line. Its variables are large, so it stands apart.
+#[cold]
+#[inline(never)]
+fn push_begun(still: &Still, text: &[char], line: u8, places: &mut ArrayVec<Place, CELLS>)
     requires low { 1 ≤ line }
     requires high { line ≤ LINES }
     requires room { length places.old.items + 132 ≤ CELLS }

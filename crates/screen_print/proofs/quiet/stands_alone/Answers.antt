@@ -9,6 +9,6 @@ returns-then-character-eq32 c = λ told.
 
 pub returns : goal.returns
 returns c = λ quiet.
-    let none = c.may_begin.ensures (not-true c.may_begin.result quiet) in
+    let none = c.may_begin_behind.ensures (not-true c.may_begin_behind.result quiet) in
     cells_stay c.args.text.now c.args.cells.now c.args.cells.now (length c.args.cells.now) c.saturating_sub-behind.result c.requires.text
     (omega arith) (omega arith) c.saturating_sub-behind.ensures refl none none

@@ -1,40 +1,17 @@
-use Rattle.std.proofs.Common.{◌≡◌, ◌-◌, [], ◌∷◌, ◌∙◌, ap, sym, arith, drop, length, append-nil}
-use Rattle.std.proofs.lemmas.List.Elements.{All-append}
-use Rattle.screen_print.specs.FindLines.{begins, line_text_from, place_in, row_texts}
-use Rattle.screen_print.specs.Places.{IsPlace}
-use Rattle.screen_print.proofs.FindLemmas.{columns_fit, place_alone, placed_step}
+use Rattle.std.proofs.Common.{◌≡◌, ◌++◌, ◌∙◌, ap, append-nil, subst, sym}
+use Rattle.screen_print.specs.FindLines.{row_text}
+use Rattle.screen_print.specs.Quiet.{BeginsUpTo, characters}
+use Rattle.vt_screen.specs.Cells.{row_at}
+use Rattle.screen_print.proofs.QuietLemmas.{none_placed}
 use Rattle.screen_print.proofs.standing.push_places.Goals as goal
-use Rattle.screen_print.proofs.standing.push_places.Goals.{then-begins, else-begins}
 
-pub begins-requires-clause-high : goal.begins-requires-clause-high
-begins-requires-clause-high c =
+pub returns-then-not-may_begin-clause-places : goal.returns-then-not-may_begin-clause-places
+returns-then-not-may_begin-clause-places c =
     let still = c.args.still.now in
-    let fit = columns_fit still c.args.line c.sound.ensures.whole c.requires.low c.requires.high in
-    omega (arith, fit, ap length (c.as_slice.ensures.value ∙ c.line_text-line_text.ensures), c.columns_of-columns.ensures.columns)
-
-pub loop-column-preserved : goal.loop-column-preserved
-loop-column-preserved c =
-    let still = c.args.still.now in
-    let line = c.args.line in
-    let column = c.loop-column.column in
     let text = c.args.text.now in
-    let lines = line_text_from (drop (line - 1) (row_texts still)) in
-    let before = c.loop-column.places.items in
-    let is : c.begins.result ≡ begins text lines column = c.begins.ensures ∙ ap (λ l. begins text l column) (c.as_slice.ensures.value ∙ c.line_text-line_text.ensures) in
-    record {
-      placed = placed_step text line lines column c.begins.result c.args.places.now.items before c.if-begins.places.items (omega arith) is c.loop-column.invariant.placed
-          (elim c.if-begins.branch [
-            | then-begins w ↦ rw (w.places-is, w.if-begins.true) w.push.ensures.items
-            | else-begins w ↦ rw (w.places-is, w.if-begins.false) (sym (append-nil before))
-          ]);
-      short = elim c.if-begins.branch [
-        | then-begins w ↦ rw w.places-is (omega (arith, w.push.ensures.len, c.loop-column.invariant.short))
-        | else-begins w ↦ rw w.places-is (omega (arith, c.loop-column.invariant.short))
-      ];
-      within = elim c.if-begins.branch [
-        | then-begins w ↦ rw (w.places-is, w.push.ensures.items)
-            (All-append (IsPlace still) before (place_in line column ∷ []) c.loop-column.invariant.within
-            (place_alone still (place_in line column) (record { line_low = c.requires.low; line_high = c.requires.high; column_low = omega arith; column_high = omega (arith, c.columns_of-columns.ensures.columns) })))
-        | else-begins w ↦ rw w.places-is c.loop-column.invariant.within
-      ];
-    }
+    let line = c.args.line in
+    let row_is : characters c.cells_of-cells.result.now ≡ row_text still.wide (row_at still.rows line) =
+    c.cells_of-cells.ensures.text ∙ ap (λ wide. row_text wide c.row.result.now) c.is_wide.ensures ∙ ap (row_text still.wide) c.row.ensures.value in
+    let none = subst (BeginsUpTo text 0) row_is (c.may_begin.ensures c.if-not-may_begin.true) in
+    sym (ap (λ more. c.args.places.now.items ++ more) (none_placed text still line c.sound.ensures.whole c.requires.low c.requires.high none)
+    ∙ append-nil c.args.places.now.items)

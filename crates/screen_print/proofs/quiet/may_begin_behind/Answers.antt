@@ -3,7 +3,7 @@ use Rattle.std.specs.List.{starts_with}
 use Rattle.std.proofs.lemmas.List.{length-drop, take_all}
 use Rattle.screen_print.specs.Quiet.{characters}
 use Rattle.screen_print.proofs.QuietLemmas.{begins_no_more}
-use Rattle.screen_print.proofs.quiet.may_begin.Goals as goal
+use Rattle.screen_print.proofs.quiet.may_begin_behind.Goals as goal
 
 pub loop-at-preserved : goal.loop-at-preserved
 loop-at-preserved c =

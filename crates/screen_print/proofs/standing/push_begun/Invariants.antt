@@ -1,7 +1,7 @@
 use Rattle.std.proofs.Common.{◌≡◌, ◌+◌, ◌-◌, ◌≤◌, ◌++◌, All, drop, length}
 use Rattle.screen_print.specs.FindLines.{line_text_from, places_in, row_texts}
 use Rattle.screen_print.specs.Places.{IsPlace}
-use Rattle.screen_print.proofs.standing.push_places.Given as goal
+use Rattle.screen_print.proofs.standing.push_begun.Given as goal
 
 -- the columns so far were tried
 abbrev pub invariant-loop-column : goal.invariant-loop-column
