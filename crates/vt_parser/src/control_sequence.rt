@@ -36,7 +36,7 @@ pub(crate) fn opens_control_sequence(mode: Mode, bytes: &[u8]) -> bool
 }
 
 /// ESC `[` in ANSI mode, and what follows of its text.
-#[inline]
+#[inline(always)]
 pub(crate) fn read_control_sequence(
     state: &mut ParserState,
     params: &mut Params,
@@ -60,7 +60,7 @@ pub(crate) fn read_control_sequence(
 }
 
 /// Reads the text of a control sequence from its first byte on.
-#[inline]
+#[inline(always)]
 pub(crate) fn read_first(
     state: &mut ParserState,
     params: &mut Params,
@@ -79,7 +79,7 @@ pub(crate) fn read_first(
 }
 
 // What stands before the first byte of a text, where that is a `?` behind it, and how many bytes that takes.
-#[inline]
+#[inline(always)]
 fn started(byte: u8) -> (Collected, usize)
     ensures { IsStarted byte result }
 {
@@ -95,7 +95,7 @@ fn started(byte: u8) -> (Collected, usize)
 }
 
 /// What a state holds, its parameters put into the array.
-#[inline]
+#[inline(always)]
 pub(crate) fn resumed(private: bool, before: &[u16], over: bool, params: &mut Params) -> Collected
     requires some { 0 < length before.now }
     requires few { length before.now ≤ MOST_PARAMS }
@@ -114,7 +114,7 @@ pub(crate) fn resumed(private: bool, before: &[u16], over: bool, params: &mut Pa
 }
 
 /// Reads the text of a control sequence from `from` on, to the final byte or as far as it goes.
-#[inline]
+#[inline(always)]
 pub(crate) fn read_text(
     state: &mut ParserState,
     params: &mut Params,
@@ -148,7 +148,7 @@ pub(crate) fn read_text(
 }
 
 // Reads digits and `;` from `from` on, and says where they end.
-#[inline]
+#[inline(always)]
 fn collect(text: Collected, params: &mut Params, bytes: &[u8], from: usize) -> (usize, Collected)
     requires counted { IsCounted text }
     requires within { from ≤ length bytes.now }
@@ -173,7 +173,7 @@ fn collect(text: Collected, params: &mut Params, bytes: &[u8], from: usize) -> (
 }
 
 // One more digit of the last parameter.
-#[inline]
+#[inline(always)]
 #[tactic(auto, using(crate::proofs::Joins::front_push, crate::proofs::Joins::final_push))]
 fn with_next_digit(text: Collected, digit: u8) -> Collected
     requires { 48 ≤ digit }
@@ -197,7 +197,7 @@ fn with_digit(value: u16, digit: u8) -> u16
 }
 
 // A further parameter, where one more counts.
-#[inline]
+#[inline(always)]
 fn with_next_param(text: Collected, params: &mut Params) -> Collected
     requires { IsCounted text }
     ensures counted { IsCounted result }
@@ -216,7 +216,7 @@ fn with_next_param(text: Collected, params: &mut Params) -> Collected
 }
 
 // The final byte of a control sequence.
-#[inline]
+#[inline(always)]
 fn finish(state: &mut ParserState, params: &mut Params, text: Collected, last: u8) -> Option<Event>
     requires { IsCounted text }
     ensures state { state.new ≡ ParserState.Ground }
@@ -234,7 +234,7 @@ fn finish(state: &mut ParserState, params: &mut Params, text: Collected, last: u
 }
 
 // Back to ground. Most control sequences came whole, so that the state stands there still, and nothing is written.
-#[inline]
+#[inline(always)]
 fn settle(state: &mut ParserState)
     ensures { state.new ≡ ParserState.Ground }
 {

@@ -17,7 +17,7 @@ use crate::tokens::Event;
 use crate::{Mode, ParserState, printable_run};
 
 /// How many bytes are shown just as they come: on ground the graphic ones, and none inside a sequence.
-#[inline]
+#[inline(always)]
 #[tactic(auto, using(crate::proofs::LawLemmas::runs_are_graphic))]
 pub(crate) fn run_at(state: &ParserState, bytes: &[u8]) -> usize
     requires { 0 < length bytes.now }
@@ -34,7 +34,7 @@ pub(crate) fn run_at(state: &ParserState, bytes: &[u8]) -> usize
 }
 
 /// Takes some of the bytes, at least one, and says how many and what they come to, where they are no run on ground.
-#[inline]
+#[inline(always)]
 pub(crate) fn read(
     state: &mut ParserState,
     params: &mut Params,
@@ -65,7 +65,7 @@ pub(crate) fn read(
 // ---- ahead of the table
 
 // A control character on ground that has an effect. The table says so too, and takes longer.
-#[inline]
+#[inline(always)]
 fn is_executed(state: &ParserState, byte: u8) -> bool
     ensures ground { result ≡ true → state.now ≡ ParserState.Ground }
     ensures effective { result ≡ true → is_within 8 15 byte ≡ true }
@@ -77,7 +77,7 @@ fn is_executed(state: &ParserState, byte: u8) -> bool
 }
 
 // How many NULs the bytes begin with.
-#[inline]
+#[inline(always)]
 fn nul_run(bytes: &[u8]) -> usize
     ensures within { result ≤ length bytes.now }
     ensures value { result ≡ prefix_len (λ byte. byte == 0) bytes.now }
@@ -90,7 +90,7 @@ fn nul_run(bytes: &[u8]) -> usize
 }
 
 // Bytes of which the first is a graphic character, where it isn't shown.
-#[inline]
+#[inline(always)]
 fn read_graphic(
     state: &mut ParserState,
     params: &mut Params,
@@ -122,7 +122,7 @@ fn read_graphic(
 // ---- by the table
 
 // A byte that is no graphic character.
-#[inline]
+#[inline(always)]
 #[tactic(auto, unfolding(crate::specs::Machine::stepped))]
 fn act(state: &mut ParserState, mode: Mode, byte: u8) -> Option<Event>
     requires { is_graphic byte ≡ false }
@@ -175,6 +175,7 @@ fn begun(mode: Mode) -> ParserState
 
 // A byte that joins a pending sequence, but for the text of a control sequence.
 #[tactic(auto, unfolding(crate::specs::Machine::joined))]
+#[inline(always)]
 fn join(state: &mut ParserState, byte: u8) -> Option<Event>
     requires { IsCollecting state.old → ⊥ }
     ensures lent { IsLent result }
@@ -202,7 +203,7 @@ fn join(state: &mut ParserState, byte: u8) -> Option<Event>
 }
 
 // ESC and this byte.
-#[inline]
+#[inline(always)]
 fn join_escape(state: &mut ParserState, byte: u8) -> Option<Event>
     ensures lent { IsLent result }
     ensures comes { IsTransition result state.new (escape_joined byte) }

@@ -86,7 +86,7 @@ pub(crate) enum Event {
 
 impl Event {
     /// The token, its parameters lent from the array.
-    #[inline]
+    #[inline(always)]
     pub(crate) fn token<'a>(self, params: &'a [u16]) -> Token<'a>
         requires lent { IsLent (Some self) }
         requires long { length params.now ≡ most_params }
@@ -112,7 +112,7 @@ impl Event {
 }
 
 /// What an event tells, its parameters lent from the array.
-#[inline]
+#[inline(always)]
 pub(crate) fn lent<'a>(event: Option<Event>, params: &'a [u16]) -> Option<Token<'a>>
     requires lent { IsLent event }
     requires long { length params.now ≡ most_params }
