@@ -33,7 +33,7 @@ use tape_core::laws::writers_join;
 use tape_core::{Fault, Watched, seconds_text};
 use vt_screen::Screen;
 use vt_screen::laws::screens_are_sound;
-use vt_screen::limits::{LINES, WIDE_COLUMNS};
+use vt_screen::limits::LINES;
 use vt_term::Terminal;
 
 /// The file's own style (ours).
@@ -84,7 +84,7 @@ fn put_front<W: Write>(terminal: &Terminal, at: u64, writer: &mut Watched<W>) ->
 {
     writers_join::<W>();
     put_first_line(terminal, at, writer)?;
-    let wide = is_wide(terminal.screen());
+    let wide = terminal.screen().is_wide();
     writer.put(sheet_text(wide, terminal.modes().reverse_screen).as_slice())?;
     Ok(())
 }
@@ -139,7 +139,7 @@ fn put_title<W: Write>(terminal: &Terminal, at: u64, writer: &mut Watched<W>) ->
     ensures { Puts W.contents writer.old writer.new
         (title_text at (still_of terminal.now.console)) result }
 {
-    let wide = is_wide(terminal.screen());
+    let wide = terminal.screen().is_wide();
     let opening = opening_text(wide, terminal.modes().reverse_screen);
     writer.put_all(&[
         opening.as_slice(),
@@ -235,11 +235,4 @@ fn width_text(wide: bool) -> &'static [u8]
     ensures short { length result.now ≤ 4 }
 {
     if wide { b"1340" } else { b"820" }
-}
-
-/// Whether a screen has 132 columns.
-fn is_wide(screen: &Screen) -> bool
-    ensures { result ≡ screen.now.picture.wide }
-{
-    screen.columns() == WIDE_COLUMNS
 }

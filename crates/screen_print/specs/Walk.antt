@@ -32,6 +32,10 @@ text_at text profile tape index =
     text index (due_time tape.chunks index) (still_after profile tape index)
     (still_after profile tape (index + 1))
 
+-- what is written of all chunks
+unfoldable pub whole_text : ChunkText → Profile → Tape → List ℕ
+whole_text text profile tape = flat_map (text_at text profile tape) (indices tape.chunks)
+
 -- what is written of the chunks that are asked for
 unfoldable pub walk_text : ChunkText → Profile → Tape → Option ℕ → ℕ → List ℕ
 walk_text text profile tape from to =

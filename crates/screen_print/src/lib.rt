@@ -18,4 +18,4 @@ pub use find_lines::find;
 pub use glyphs::character;
 pub use plain_print::{plain, trimmed};
 pub use still::Still;
-pub use walk::{ChangesFault, ChunkPrinter, put_chunks};
+pub use walk::{ChangesFault, ChunkPrinter, put_all_chunks, put_chunks};

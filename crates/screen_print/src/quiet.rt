@@ -30,7 +30,7 @@ ghost use Rattle.screen_print.specs.Stills.{still_of};
 
 use crate::glyphs::character;
 use crate::standing::cells_of;
-use crate::still::{Still, is_wide};
+use crate::still::Still;
 use vt_screen::Cell;
 use vt_screen::laws::screens_are_sound;
 use vt_screen::limits::LINES;
@@ -47,7 +47,7 @@ pub(crate) fn stays(text: &[char], before: &Still, after: &Terminal, lines: &[u8
     let screen = after.screen();
     screens_are_sound(screen);
     before.sound();
-    if text.is_empty() || before.is_wide() != is_wide(screen) {
+    if text.is_empty() || before.is_wide() != screen.is_wide() {
         return false;
     }
     if !rows_stand_alone(text, after) {
@@ -63,7 +63,7 @@ fn rows_stand_alone(text: &[char], after: &Terminal) -> bool
         → LinesStay text.now (still_of after.now.console) (still_of after.now.console) }
 {
     let screen = after.screen();
-    let wide = is_wide(screen);
+    let wide = screen.is_wide();
     for line in 1..LINES + 1 {
         if !stands_alone(text, cells_of(wide, screen.row(line))) {
             return false;
@@ -111,7 +111,7 @@ fn line_stays(text: &[char], before: &Still, after: &Terminal, line: u8) -> bool
 {
     let screen = after.screen();
     let one = cells_of(before.is_wide(), before.row(line));
-    let other = cells_of(is_wide(screen), screen.row(line));
+    let other = cells_of(screen.is_wide(), screen.row(line));
     row_stays(text, one, other)
 }
 

@@ -53,7 +53,7 @@ impl Still {
         let (line, column) = screen.cursor();
         Still {
             rows: rows_of(screen),
-            wide: is_wide(screen),
+            wide: screen.is_wide(),
             reversed: terminal.modes().reverse_screen,
             line,
             column,
@@ -105,7 +105,7 @@ impl Still {
             ≡ changed_lines self.now.rows terminal.now.console.picture.rows }
     {
         let screen = terminal.screen();
-        let narrow = !(self.wide || is_wide(screen));
+        let narrow = !(self.wide || screen.is_wide());
         changed_lines(&self.rows, screen, narrow)
     }
 
@@ -117,17 +117,10 @@ impl Still {
         let screen = terminal.screen();
         screens_are_sound(screen);
         copy_lines(&mut self.rows, screen, lines);
-        self.wide = is_wide(screen);
+        self.wide = screen.is_wide();
         self.reversed = terminal.modes().reverse_screen;
         (self.line, self.column) = screen.cursor();
     }
-}
-
-/// Whether a screen has 132 columns.
-pub(crate) fn is_wide(screen: &Screen) -> bool
-    ensures { result ≡ screen.now.picture.wide }
-{
-    screen.columns() == WIDE_COLUMNS
 }
 
 /// A copy of the screen's rows.

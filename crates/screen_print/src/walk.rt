@@ -23,7 +23,7 @@ ghost use Rattle.tape_seek.specs.State.{KeepsHistory, Leaves};
 ghost use Rattle.screen_print.specs.SameRows.{changed_lines};
 ghost use Rattle.screen_print.specs.Stills.{still_of};
 ghost use Rattle.screen_print.specs.Stops.{OnlySeeks, StopsWalk, first_asked};
-ghost use Rattle.screen_print.specs.Walk.{still_after, text_at, walk_text};
+ghost use Rattle.screen_print.specs.Walk.{still_after, text_at, walk_text, whole_text};
 
 use crate::still::Still;
 use std::io::Write;
@@ -116,6 +116,26 @@ pub fn put_chunks<P: ChunkPrinter, W: Write>(
     Ok(())
 }
 
+/// Writes what the printer writes of each chunk, and doesn't flush. What a fault leaves is that of `put_chunks`.
+#[tactic(auto, unfolding(crate::specs::Walk::whole_text))]
+pub fn put_all_chunks<P: ChunkPrinter, W: Write>(
+    session: &mut Session,
+    printer: &P,
+    writer: &mut Watched<W>,
+) -> Result<(), ChangesFault>
+    requires { has_failed writer.old ≡ false }
+    ensures ok { OnOk result (Took W.contents writer.old writer.new
+        (whole_text (P.text printer.now) session.old.profile session.old.recording)) }
+    ensures fault { IfErr result (StopsWalk W.contents writer.old writer.new
+        (whole_text (P.text printer.now) session.old.profile session.old.recording)) }
+    ensures stays { OnlySeeks session.old session.new }
+    ensures room { length session.old.recording.chunks ≤ session.old.marks.frontier
+        → result ≢ Err ChangesFault.Memory }
+{
+    let end = session.recording().chunks().len();
+    put_between(session, 0, end, printer, writer)
+}
+
 /// The first chunk that is due after the moment.
 fn first_asked(session: &Session, from: Option<u64>) -> usize
     ensures { result ≡ first_asked session.now.recording.chunks from }
@@ -134,7 +154,7 @@ fn put_between<P: ChunkPrinter, W: Write>(
     printer: &P,
     writer: &mut Watched<W>,
 ) -> Result<(), ChangesFault>
-    requires some { start < end }
+    requires rising { start ≤ end }
     requires within { end ≤ length session.old.recording.chunks }
     requires sound { has_failed writer.old ≡ false }
     ensures ok { OnOk result (Took W.contents writer.old writer.new

@@ -89,6 +89,13 @@ impl Screen {
         columns_of(self.wide)
     }
 
+    /// Whether it has 132 columns.
+    pub fn is_wide(&self) -> bool
+        ensures { result ≡ self.now.picture.wide }
+    {
+        self.wide
+    }
+
     /// The cell at a line and a column, also right of the right margin, where it is blank.
     pub fn cell(&self, row: u8, col: u8) -> Cell
         requires row_low { 1 ≤ row }
