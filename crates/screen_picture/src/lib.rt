@@ -14,3 +14,4 @@ mod texts;
 pub use letters::cells_of;
 pub use picture_file::picture;
 pub use runs::{Kind, Run, runs_of};
+pub use texts::{push_bytes, push_number};

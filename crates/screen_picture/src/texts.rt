@@ -7,7 +7,7 @@ use arrayvec::ArrayVec;
 use itoa::Buffer;
 
 /// Puts bytes behind a text.
-pub(crate) fn push_bytes<const N: usize>(text: &mut ArrayVec<u8, N>, bytes: &[u8])
+pub fn push_bytes<const N: usize>(text: &mut ArrayVec<u8, N>, bytes: &[u8])
     requires { length text.old.items + length bytes.now ≤ N }
     ensures { text.new.items ≡ text.old.items ++ bytes.now }
 {
@@ -15,7 +15,7 @@ pub(crate) fn push_bytes<const N: usize>(text: &mut ArrayVec<u8, N>, bytes: &[u8
 }
 
 /// Puts a number in decimal behind a text.
-pub(crate) fn push_number<const N: usize>(text: &mut ArrayVec<u8, N>, number: u16)
+pub fn push_number<const N: usize>(text: &mut ArrayVec<u8, N>, number: u16)
     requires room { length text.old.items + 5 ≤ N }
     ensures text { text.new.items ≡ text.old.items ++ decimal number }
     ensures short { length text.new.items ≤ length text.old.items + 5 }

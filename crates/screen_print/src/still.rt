@@ -153,7 +153,7 @@ fn changed_lines(rows: &[Row; ROWS], screen: &Screen, narrow: bool) -> ArrayVec<
 
 /// Whether two rows have the same size and the same cells. Rows of narrow screens are blank right of
 /// column 80, and aren't compared there.
-fn same_row(one: &Row, other: &Row, narrow: bool) -> bool
+pub fn same_row(one: &Row, other: &Row, narrow: bool) -> bool
     requires { narrow ≡ true → SoundRow false one.now × SoundRow false other.now }
     ensures { result ≡ same_row one.now other.now }
 {
