@@ -27,6 +27,7 @@ lint:
 	tests/edits_apply.py
 	tests/reading.py
 	tests/pages.py
+	assets/make_page.py --check
 	tests/manual.py
 	tests/lint.sh
 

@@ -1,3 +1,6 @@
 pub mod Entries
+pub mod EntryText
 pub mod Folded
 pub mod Law
+pub mod Page
+pub mod Parts

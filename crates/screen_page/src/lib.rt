@@ -1,4 +1,10 @@
 //! The page: a recording's screens as entries, which a browser folds.
 #![tactic(auto)]
 
+mod entry_printer;
 pub mod laws;
+mod page_file;
+mod player;
+mod rows;
+
+pub use page_file::page;

@@ -6,6 +6,7 @@ use vt_term::{Profile, Reports, Terminal};
 
 mod escaped;
 mod find;
+mod page;
 mod picture;
 mod plain;
 mod refused;

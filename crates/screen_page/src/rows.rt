@@ -1,0 +1,222 @@
+//! What a line is after a chunk: what another line was before it, or a row.
+
+ghost use Rattle.std.specs.Prelude.{◌≡◌, ◌≤◌, ◌++◌, ◌∷◌, ◌+◌, ◌*◌, All, decimal, length, false};
+ghost use Rattle.std.specs.List.{flat_map};
+ghost use Rattle.tape_core.specs.Devices.{Puts, has_failed};
+ghost use Rattle.vt_screen.specs.Cells.{row_at};
+ghost use Rattle.screen_print.specs.PlainText.{printed};
+ghost use Rattle.screen_print.specs.SameRows.{size_number};
+ghost use Rattle.screen_picture.specs.Runs.{IsRun, kind_number};
+ghost use Rattle.screen_page.specs.Entries.{line_of, shown, shown_run};
+ghost use Rattle.screen_page.specs.EntryText.{comma_number, row_text, run_text, string_byte};
+ghost use Rattle.screen_page.specs.Parts.{line_text};
+
+use arrayvec::ArrayVec;
+use itoa::Buffer;
+use screen_picture::{Run, cells_of, push_bytes, push_number, runs_of};
+use screen_print::{Still, character, same_row};
+use std::io::Write;
+use tape_core::laws::{pieces_join, writers_join};
+use tape_core::{Fault, Watched};
+use vt_screen::laws::screens_are_sound;
+use vt_screen::limits::{LINES, WIDE_COLUMNS};
+use vt_screen::{Cell, Row, Screen, Size};
+
+/// How many bytes a run takes at most: a comma, its number, a comma and quotes, and 18 for each character.
+const RUN_BYTES: usize = 2385;
+
+/// Writes what a line is that a chunk changes.
+pub(crate) fn put_line<W: Write>(
+    before: &Still,
+    screen: &Screen,
+    line: u8,
+    writer: &mut Watched<W>,
+) -> Result<(), Fault>
+    requires low { 1 ≤ line }
+    requires high { line ≤ LINES }
+    requires sound { has_failed writer.old ≡ false }
+    ensures { Puts W.contents writer.old writer.new
+        (line_text before.now.rows screen.now.picture.rows line) result }
+{
+    let row = screen.row(line);
+    match line_of(before, screen, line) {
+        Some(other) => put_numbers(line, other, writer),
+        None => put_row(line, row, writer),
+    }
+}
+
+/// The first line that was what a line of the screen is.
+fn line_of(before: &Still, screen: &Screen, line: u8) -> Option<u8>
+    requires low { 1 ≤ line }
+    requires high { line ≤ LINES }
+    ensures { result ≡ line_of before.now.rows (row_at screen.now.picture.rows line) }
+{
+    before.sound();
+    screens_are_sound(screen);
+    let narrow = !(before.is_wide() || screen.is_wide());
+    let row = screen.row(line);
+    for other in 1..LINES + 1 {
+        if same_row(before.row(other), row, narrow) {
+            return Some(other);
+        }
+    }
+    None
+}
+
+/// Writes the number of a line, and of the line that it is.
+fn put_numbers<W: Write>(line: u8, other: u8, writer: &mut Watched<W>) -> Result<(), Fault>
+    requires { has_failed writer.old ≡ false }
+    ensures { Puts W.contents writer.old writer.new
+        (comma_number line ++ comma_number other) result }
+{
+    let mut digits = Buffer::new();
+    let mut other_digits = Buffer::new();
+    writer.put_all(&[
+        b",",
+        digits.format(line).as_bytes(),
+        b",",
+        other_digits.format(other).as_bytes(),
+    ])
+}
+
+/// Writes the number of a line, and the row that it is.
+fn put_row<W: Write>(line: u8, row: &Row, writer: &mut Watched<W>) -> Result<(), Fault>
+    requires whole { length row.now.cells ≡ WIDE_COLUMNS }
+    requires sound { has_failed writer.old ≡ false }
+    ensures { Puts W.contents writer.old writer.new
+        (comma_number line ++ 44 ∷ row_text (shown row.now)) result }
+{
+    writers_join::<W>();
+    put_size(line, row.size, writer)?;
+    put_runs(row, writer)?;
+    writer.put(b"]")?;
+    Ok(())
+}
+
+/// Writes the number of a line, and the size of the row that it is.
+fn put_size<W: Write>(line: u8, size: Size, writer: &mut Watched<W>) -> Result<(), Fault>
+    requires { has_failed writer.old ≡ false }
+    ensures { Puts W.contents writer.old writer.new
+        (comma_number line ++ 44 ∷ 91 ∷ decimal (size_number size)) result }
+{
+    let mut digits = Buffer::new();
+    writer.put_all(&[
+        b",",
+        digits.format(line).as_bytes(),
+        b",[",
+        size_digit(size),
+    ])
+}
+
+/// A size as a number.
+fn size_digit(size: Size) -> &'static [u8]
+    ensures { result.now ≡ decimal (size_number size) }
+{
+    match size {
+        Size::Single => b"0",
+        Size::Double => b"1",
+        Size::Top => b"2",
+        Size::Bottom => b"3",
+    }
+}
+
+/// Writes the runs of a row.
+#[tactic(auto, unfolding(crate::specs::Entries::shown))]
+fn put_runs<W: Write>(row: &Row, writer: &mut Watched<W>) -> Result<(), Fault>
+    requires whole { length row.now.cells ≡ WIDE_COLUMNS }
+    requires sound { has_failed writer.old ≡ false }
+    ensures { Puts W.contents writer.old writer.new
+        (flat_map run_text (shown row.now).runs) result }
+{
+    put_each(row, runs_of(row).as_slice(), writer)
+}
+
+/// Writes runs of a row.
+fn put_each<W: Write>(row: &Row, runs: &[Run], writer: &mut Watched<W>) -> Result<(), Fault>
+    requires whole { length row.now.cells ≡ WIDE_COLUMNS }
+    requires runs { All IsRun runs.now }
+    requires sound { has_failed writer.old ≡ false }
+    ensures { Puts W.contents writer.old writer.new
+        (flat_map (λ run. run_text (shown_run row.now run)) runs.now) result }
+{
+    pieces_join::<W, Run>();
+    for run in runs {
+        put_run(row, *run, writer)?;
+    }
+    Ok(())
+}
+
+/// Writes a run of a row.
+fn put_run<W: Write>(row: &Row, run: Run, writer: &mut Watched<W>) -> Result<(), Fault>
+    requires whole { length row.now.cells ≡ WIDE_COLUMNS }
+    requires run { IsRun run }
+    requires sound { has_failed writer.old ≡ false }
+    ensures { Puts W.contents writer.old writer.new (run_text (shown_run row.now run)) result }
+{
+    writer.put(run_text(run, cells_of(row, run)).as_slice())
+}
+
+/// A run with these cells.
+fn run_text(run: Run, cells: &[Cell]) -> ArrayVec<u8, RUN_BYTES>
+    requires { length cells.now ≤ WIDE_COLUMNS }
+    ensures { result.items ≡ run_text
+        (record { kind = kind_number run.kind; characters = flat_map printed cells.now }) }
+{
+    let mut text = ArrayVec::new();
+    text.push(b',');
+    push_number(&mut text, u16::from(run.kind.number()));
+    push_bytes(&mut text, b",\"");
+    push_characters(&mut text, cells);
+    text.push(b'"');
+    text
+}
+
+/// Puts the characters of cells behind a text as they stand in a string.
+fn push_characters(text: &mut ArrayVec<u8, RUN_BYTES>, cells: &[Cell])
+    requires room { length text.old.items + 18 * length cells.now ≤ RUN_BYTES }
+    ensures text { text.new.items
+        ≡ text.old.items ++ flat_map string_byte (flat_map printed cells.now) }
+    ensures short { length text.new.items ≤ length text.old.items + 18 * length cells.now }
+{
+    for cell in cells {
+        push_character(text, *cell);
+    }
+}
+
+/// Puts the character of a cell behind a text as it stands in a string.
+fn push_character(text: &mut ArrayVec<u8, RUN_BYTES>, cell: Cell)
+    requires room { length text.old.items + 18 ≤ RUN_BYTES }
+    ensures text { text.new.items ≡ text.old.items ++ flat_map string_byte (printed cell) }
+    ensures short { length text.new.items ≤ length text.old.items + 18 }
+{
+    let mut bytes = [0; 4];
+    push_string(
+        text,
+        character(cell.glyph).encode_utf8(&mut bytes).as_bytes(),
+    );
+}
+
+/// Puts bytes behind a text as they stand in a string.
+fn push_string(text: &mut ArrayVec<u8, RUN_BYTES>, bytes: &[u8])
+    requires room { length text.old.items + 6 * length bytes.now ≤ RUN_BYTES }
+    ensures text { text.new.items ≡ text.old.items ++ flat_map string_byte bytes.now }
+    ensures short { length text.new.items ≤ length text.old.items + 6 * length bytes.now }
+{
+    for byte in bytes {
+        push_byte(text, *byte);
+    }
+}
+
+/// Puts a byte behind a text as it stands in a string.
+fn push_byte(text: &mut ArrayVec<u8, RUN_BYTES>, byte: u8)
+    requires room { length text.old.items + 6 ≤ RUN_BYTES }
+    ensures text { text.new.items ≡ text.old.items ++ string_byte byte }
+    ensures short { length text.new.items ≤ length text.old.items + 6 }
+{
+    match byte {
+        b'"' => push_bytes(text, b"\\\""),
+        b'\\' => push_bytes(text, b"\\\\"),
+        b'<' => push_bytes(text, b"\\u003c"),
+        _ => text.push(byte),
+    }
+}
