@@ -69,18 +69,11 @@ fn printed_line(screen: &Screen, line: u8) -> ArrayString<LINE_BYTES>
 pub fn trimmed(cells: &[Cell]) -> &[Cell]
     ensures { result.now ≡ trimmed cells.now }
 {
-    &cells[..printed_len(cells)]
-}
-
-/// How many of the cells are left without the spaces at their end.
-fn printed_len(cells: &[Cell]) -> usize
-    ensures { result + suffix_len is_space cells.now ≡ length cells.now }
-{
     let mut len = cells.len();
     while len > 0 && is_space(cells[len - 1]) {
         len -= 1;
     }
-    len
+    &cells[..len]
 }
 
 /// Whether a cell is printed as a space, whatever its rendition.

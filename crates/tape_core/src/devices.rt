@@ -2,14 +2,13 @@
 //!
 //! No fault is retried. After a fault the device is left alone: each call here asks for one that hasn't failed.
 
-ghost use Rattle.std.specs.Prelude.{◌≡◌, ◌<◌, ◌≤◌, true, false, [], length, map, take, vec_len, OnOk, IfOk, IfErr, OnErr, is_ok, is_err};
+ghost use Rattle.std.specs.Prelude.{◌≡◌, ◌<◌, ◌≤◌, true, false, [], length, map, take, vec_len, OnOk, IfOk, IfErr, OnErr, is_err};
 ghost use Rattle.tape_core.specs.Devices.{inner_of, has_failed, is_flushed, ToldAll, StopsReading, Took, TookPart, Puts, joined};
 ghost use Rattle.tape_core.specs.Steps.{Told};
 
 use crate::fault::Fault;
 use crate::laws::pieces_join;
 use std::alloc::{AllocError, Global};
-use std::io;
 use std::io::{Read, Write};
 
 /// How many bytes `slurp` asks a reader for at a time.
@@ -105,10 +104,10 @@ impl<W: Write> Watched<W> {
         ensures flushed { OnOk result (is_flushed self.new ≡ true) }
         ensures unflushed { OnErr result (is_flushed self.new ≡ false) }
     {
-        let answer = flush_answer(self.inner.flush());
+        let answer = self.inner.flush();
         self.flushed = answer.is_ok();
         self.failed = !self.flushed;
-        answer
+        answer.map_err(|_| Fault::WriteFault)
     }
 
     /// Offers the writer a nonempty piece once, and tells how many bytes it took.
@@ -129,17 +128,6 @@ impl<W: Write> Watched<W> {
                 Err(Fault::WriteFault)
             }
         }
-    }
-}
-
-/// The answer of a flush as an answer of the watched writer.
-fn flush_answer(answer: io::Result<()>) -> Result<(), Fault>
-    ensures ok { is_ok result ≡ is_ok answer }
-    ensures fault { IfErr result (λ fault. fault ≡ Fault.WriteFault) }
-{
-    match answer {
-        Ok(()) => Ok(()),
-        Err(_) => Err(Fault::WriteFault),
     }
 }
 

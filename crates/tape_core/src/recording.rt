@@ -1,6 +1,5 @@
 //! A recording, and when its chunks are due.
 ghost use Rattle.std.specs.Prelude.{◌≡◌, ◌<◌, ◌≤◌, All, IfOk, length};
-ghost use Rattle.std.specs.List.Sorted.{IsNonDecreasing, IsPartitionPoint};
 ghost use Rattle.tape_core.specs.Tape.{body_len, fits, longest_body, longest_delay, most_chunks};
 ghost use Rattle.tape_core.specs.Kept.{AreDueTimes};
 ghost use Rattle.tape_core.specs.Due.{due_count, due_time, play_length};
@@ -108,17 +107,8 @@ impl Recording {
         ensures count { result ≡ due_count self.now.chunks moment }
         ensures within { result ≤ length self.now.chunks }
     {
-        up_to(self.dues.as_slice(), moment)
+        self.dues.partition_point(|due| *due <= moment)
     }
-}
-
-/// How many of the due times, which rise, are at most the moment.
-fn up_to(dues: &[u64], moment: u64) -> usize
-    requires { IsNonDecreasing dues.now }
-    ensures within { result ≤ length dues.now }
-    ensures point { IsPartitionPoint (λ due. due ≤ moment) (λ due. moment < due) dues.now result }
-{
-    dues.partition_point(|due| *due <= moment)
 }
 
 /// When each chunk is due.

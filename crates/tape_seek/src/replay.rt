@@ -54,13 +54,6 @@ pub(crate) struct Replay {
     pub alloc: Global,
 }
 
-/// The terminal before the first chunk.
-fn first_terminal(profile: Profile) -> Terminal
-    ensures { Shows result (reset_term_as profile) }
-{
-    Terminal::reset_as(profile)
-}
-
 impl Replay {
     /// Nothing was played.
     pub(crate) fn new(alloc: Global, profile: Profile, every: usize) -> Result<Self, AllocError>
@@ -77,7 +70,7 @@ impl Replay {
             every,
             frontier: 0,
             head: 0,
-            working: first_terminal(profile),
+            working: Terminal::reset_as(profile),
             stored: Vec::new(alloc),
             reports: Reports::new(alloc),
             sent,
@@ -165,7 +158,7 @@ impl Replay {
     {
         let terminals = count / self.every;
         if terminals == 0 {
-            self.working = first_terminal(self.profile);
+            self.working = Terminal::reset_as(self.profile);
         } else {
             self.working.unpack(&self.stored[terminals - 1]);
         }

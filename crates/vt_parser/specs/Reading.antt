@@ -1,5 +1,5 @@
 -- Private: what the code reads of many bytes, on states.
-use Rattle.std.specs.Prelude.{◌≡◌, ◌==◌, ℕ, false, if◌then◌else◌, ◌-◌, ◌≤◌, ◌<◌, List, [], ◌∷◌, ◌++◌, take, length, slice_index, Option, Some, None}
+use Rattle.std.specs.Prelude.{◌≡◌, ℕ, ◌-◌, ◌≤◌, ◌<◌, List, [], ◌∷◌, ◌++◌, take, length, slice_index, Option, Some, None}
 use Rattle.arrayvec.specs.ArrayVec.{ArrayVec}
 use Rattle.vt_parser.specs.declared.commands.Mode.{Mode}
 use Rattle.vt_parser.specs.declared.commands.Command.{Command}
@@ -11,7 +11,7 @@ use Rattle.vt_parser.specs.declared.control_sequence.Collected.{Collected}
 use Rattle.vt_parser.specs.declared.states.ParserState.{ParserState}
 use Rattle.vt_parser.specs.declared.states.ParserState.TheVariants.{CsiStart, Csi as CsiState}
 use Rattle.vt_parser.specs.Syntax.{escape}
-use Rattle.vt_parser.specs.Forms.{bracket, question_mark, most_params, held}
+use Rattle.vt_parser.specs.Forms.{bracket, most_params, held}
 use Rattle.vt_parser.specs.Token.{command_of_token}
 use Rattle.vt_parser.specs.Machine.{Transition, moves_to, Arrives}
 
@@ -46,12 +46,6 @@ gathered text params = held (take (text.count - 1) params ++ text.last ∷ [])
 -- the state of what was collected
 abbrev pub collected : Collected → List ℕ → ParserState
 collected text params = CsiState text.private (gathered text params) text.over
-
--- what stands before the first byte of a text, or behind it where that is `?`, and how many bytes that is
-abbrev pub IsStarted : ℕ → Collected × ℕ → Type 0
-IsStarted byte start =
-    let text : Collected = record { private = byte == question_mark; count = 1; last = 0; over = false } in
-    (start.0 ≡ text) × (start.1 ≡ (if byte == question_mark then 1 else 0))
 
 -- ---- what the bytes come to
 

@@ -2,8 +2,8 @@
 ghost use Rattle.std.specs.Prelude.{◌≡◌, ℕ, ◌≤◌, ◌<◌, List, length, take, slice_index, true, false, Some};
 ghost use Rattle.vt_parser.specs.Syntax.{is_graphic};
 ghost use Rattle.vt_parser.specs.Forms.{most_params, held, is_plain};
-ghost use Rattle.vt_parser.specs.Machine.{with_digit, moves_to, digit_joined, semicolon_joined};
-ghost use Rattle.vt_parser.specs.Reading.{IsOpening, IsCounted, IsStarted, gathered, collected, event_command, event_transition, Reads, IsLent, GoesOn};
+ghost use Rattle.vt_parser.specs.Machine.{moves_to, digit_joined, semicolon_joined};
+ghost use Rattle.vt_parser.specs.Reading.{IsOpening, IsCounted, gathered, collected, event_command, event_transition, Reads, IsLent, GoesOn};
 
 use crate::forms::{
     BRACKET, QUESTION_MARK, SEMICOLON, is_control_sequence_final, is_control_sequence_text,
@@ -32,7 +32,7 @@ pub(crate) fn opens_control_sequence(mode: Mode, bytes: &[u8]) -> bool
     requires { 0 < length bytes.now }
     ensures { result ≡ true → (mode ≡ Mode.Ansi) × IsOpening bytes.now }
 {
-    is_escape(bytes[0]) && bytes.len() > 1 && bytes[1] == BRACKET && mode == Mode::Ansi
+    matches!(mode, Mode::Ansi) && is_escape(bytes[0]) && bytes.len() > 1 && bytes[1] == BRACKET
 }
 
 /// ESC `[` in ANSI mode, and what follows of its text.
@@ -74,24 +74,14 @@ pub(crate) fn read_first(
     ensures runs { (mode : Mode)
         → Reads ParserState.CsiStart mode bytes.now result params.new state.new }
 {
-    let (text, from) = started(bytes[0]);
-    read_text(state, params, text, bytes, from)
-}
-
-// What stands before the first byte of a text, where that is a `?` behind it, and how many bytes that takes.
-#[inline(always)]
-fn started(byte: u8) -> (Collected, usize)
-    ensures { IsStarted byte result }
-{
-    let private = byte == QUESTION_MARK;
-    let from = if private { 1 } else { 0 };
+    let private = bytes[0] == QUESTION_MARK;
     let text = Collected {
         private,
         count: 1,
         last: 0,
         over: false,
     };
-    (text, from)
+    read_text(state, params, text, bytes, usize::from(private))
 }
 
 /// What a state holds, its parameters put into the array.
@@ -183,17 +173,10 @@ fn with_next_digit(text: Collected, digit: u8) -> Collected
 {
     let mut text = text;
     if !text.over {
-        text.last = with_digit(text.last, digit);
+        let value = 10 * u32::from(text.last) + u32::from(digit - b'0');
+        text.last = value.min(GREATEST_PARAM) as u16;
     }
     text
-}
-
-#[inline]
-fn with_digit(value: u16, digit: u8) -> u16
-    requires { 48 ≤ digit }
-    ensures { result ≡ with_digit value digit }
-{
-    (10 * u32::from(value) + u32::from(digit - b'0')).min(GREATEST_PARAM) as u16
 }
 
 // A further parameter, where one more counts.
@@ -225,23 +208,15 @@ fn finish(state: &mut ParserState, params: &mut Params, text: Collected, last: u
         ≡ Some (Command.Csi text.private (gathered text params.old) last) }
 {
     params[text.count - 1] = text.last;
-    settle(state);
+    // Most control sequences come whole, so that the state stands on ground still, and nothing is written.
+    if !matches!(state, ParserState::Ground) {
+        *state = ParserState::Ground;
+    }
     Some(Event::Csi {
         private: text.private,
         count: text.count,
         last,
     })
-}
-
-// Back to ground. Most control sequences came whole, so that the state stands there still, and nothing is written.
-#[inline(always)]
-fn settle(state: &mut ParserState)
-    ensures { state.new ≡ ParserState.Ground }
-{
-    match state {
-        ParserState::Ground => {}
-        _ => *state = ParserState::Ground,
-    }
 }
 
 // The bytes end inside the text, or a byte comes that doesn't belong to it.

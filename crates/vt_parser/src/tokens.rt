@@ -84,42 +84,27 @@ pub(crate) enum Event {
     },
 }
 
-impl Event {
-    /// The token, its parameters lent from the array.
-    #[inline(always)]
-    pub(crate) fn token<'a>(self, params: &'a [u16]) -> Token<'a>
-        requires lent { IsLent (Some self) }
-        requires long { length params.now ≡ most_params }
-        ensures { event_command (Some self) params.now ≡ Some (command_of_token result) }
-    {
-        match self {
-            Event::Error => Token::Error,
-            Event::Control(byte) => Token::Control(byte),
-            Event::Esc { inter, last } => Token::Esc { inter, last },
-            Event::Csi {
-                private,
-                count,
-                last,
-            } => Token::Csi {
-                private,
-                params: &params[..count],
-                last,
-            },
-            Event::Vt52(last) => Token::Vt52(last),
-            Event::Vt52Address { line, column } => Token::Vt52Address { line, column },
-        }
-    }
-}
-
-/// What an event tells, its parameters lent from the array.
+/// The token of an event, if there is one, its parameters lent from the array.
 #[inline(always)]
 pub(crate) fn lent<'a>(event: Option<Event>, params: &'a [u16]) -> Option<Token<'a>>
     requires lent { IsLent event }
     requires long { length params.now ≡ most_params }
     ensures { event_command event params.now ≡ command_told result }
 {
-    match event {
-        Some(event) => Some(event.token(params)),
-        None => None,
-    }
+    Some(match event? {
+        Event::Error => Token::Error,
+        Event::Control(byte) => Token::Control(byte),
+        Event::Esc { inter, last } => Token::Esc { inter, last },
+        Event::Csi {
+            private,
+            count,
+            last,
+        } => Token::Csi {
+            private,
+            params: &params[..count],
+            last,
+        },
+        Event::Vt52(last) => Token::Vt52(last),
+        Event::Vt52Address { line, column } => Token::Vt52Address { line, column },
+    })
 }

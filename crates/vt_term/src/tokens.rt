@@ -1,6 +1,6 @@
 //! Tokens: the reply to each, and what it does.
 ghost use Rattle.std.specs.Prelude.{◌≡◌, ℕ, OnOk, OnErr, IsOk};
-ghost use Rattle.vt_term.specs.Effect.{token_effect, token_reply, IsProperToken, control_sequence_effect, control_sequence_reply};
+ghost use Rattle.vt_term.specs.Effect.{token_effect, token_reply, IsProperToken};
 ghost use Rattle.vt_term.specs.Console.{console_of, IsSafe};
 ghost use Rattle.vt_term.specs.Sink.{after_sending, HasRoom};
 
@@ -30,46 +30,18 @@ impl Console {
             Token::Control(byte) => self.control(byte),
             Token::Esc { inter, last } => return self.obey_escape(inter, last, sink),
             Token::Csi {
-                private,
+                private: true,
                 params,
                 last,
-            } => {
-                return self.obey_control_sequence(private, params, last, sink);
-            }
+            } => self.obey_private_sequence(last, params),
+            Token::Csi {
+                private: false,
+                params,
+                last,
+            } => return self.obey_plain_sequence(last, params, sink),
             Token::Vt52(last) => return self.obey_vt52(last, sink),
             Token::Vt52Address { line, column } => self.go_to_address(line, column),
         }
         Ok(())
-    }
-
-    /// Sends the reply to a control sequence, and does what it asks for. A refused growth changes
-    /// nothing.
-    #[inline]
-    pub(crate) fn obey_control_sequence(
-        &mut self,
-        private: bool,
-        params: &[u16],
-        last: u8,
-        sink: &mut Reports,
-    ) -> Result<(), OutOfMemory>
-        requires { IsSafe (console_of self.old) }
-        ensures done { OnOk result
-            (console_of self.new
-            ≡ control_sequence_effect private last params.now (console_of self.old)) }
-        ensures sent { OnOk result
-            (sink.new ≡ after_sending sink.old
-            (control_sequence_reply private last params.now (console_of self.old))) }
-        ensures err { OnErr result (console_of self.new ≡ console_of self.old) }
-        ensures err_sink { OnErr result (sink.new ≡ sink.old) }
-        ensures room { HasRoom sink.old
-            (control_sequence_reply private last params.now (console_of self.old))
-            → IsOk result }
-    {
-        if private {
-            self.obey_private_sequence(last, params);
-            Ok(())
-        } else {
-            self.obey_plain_sequence(last, params, sink)
-        }
     }
 }

@@ -1,15 +1,20 @@
-use Rattle.std.proofs.Common.{ap, ◌∙◌}
+use Rattle.std.proofs.Common.{◌≡◌, nat_le, ap, ◌∙◌, rules}
+use Rattle.std.proofs.lemmas.List.Sorted.{IsPartitionedBy-leb, IsPartitionPoint-from_clause}
+use Rattle.std.proofs.lemmas.Bool.{leb-true, leb-false}
 use Rattle.tape_core.specs.Due.{due_count}
 use Rattle.tape_core.proofs.DueLemmas.{dues_rise, counted}
 use Rattle.tape_core.proofs.recording.Recording.due_count.Goals as goal
 
-pub up_to-requires : goal.up_to-requires
-up_to-requires c = rw c.as_slice.ensures.value (dues_rise _ _ c.self.invariant.due)
-
 pub returns-clause-count : goal.returns-clause-count
 returns-clause-count c =
-    let dues = c.as_slice.ensures.value in
-    let e = c.up_to.ensures in
+    let dues = c.self.inside.dues.items in
+    let moment = c.args.moment in
+    let are = c.self.invariant.due in
+    let given : c.deref.result.now ≡ dues = c.deref.ensures.value in
+    let part = rw given at c.partition_point.ensures in
+    let point = IsPartitionPoint-from_clause (λ due. nat_le due moment) dues c.partition_point.result part.partitioned
+    (IsPartitionedBy-leb (λ due. due) dues moment (dues_rise _ _ are)) (λ a r f h. search rules) in
     let same = ap (λ tape. tape.chunks) c.self.view_is in
-    counted _ c.self.inside.dues.items c.args.moment c.up_to.result c.self.invariant.due (rw (← dues) e.within) (rw (← dues) e.point)
-    ∙ ap (λ chunks. due_count chunks c.args.moment) same
+    counted _ dues moment c.partition_point.result are part.bound
+    (λ k d low high. leb-true _ _ (point.0 k d low high), λ k d low high. leb-false _ _ (point.1 k d low high))
+    ∙ ap (λ chunks. due_count chunks moment) same

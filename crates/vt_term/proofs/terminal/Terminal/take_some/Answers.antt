@@ -1,7 +1,7 @@
 use Rattle.std.proofs.Common.{take, sym, ap, subst, ◌∙◌}
 use Rattle.std.proofs.lemmas.Bool.{false≢true}
 use Rattle.vt_term.specs.Console.{Console}
-use Rattle.vt_term.specs.Term.{play, sent}
+use Rattle.vt_term.specs.Term.{play}
 use Rattle.vt_term.specs.Seen.{Shows, IsTerminal, seen_of}
 use Rattle.vt_term.specs.Sink.{after_sending, HasRoom}
 use Rattle.vt_term.proofs.Feeding.{room_for_front}

@@ -1,7 +1,7 @@
 use Rattle.std.proofs.Common.{◌≡◌, ◌+◌, ◌≤◌, length, take}
 use Rattle.std.specs.List.{suffix_len}
 use Rattle.screen_print.specs.PlainText.{is_space}
-use Rattle.screen_print.proofs.plain_print.printed_len.Given as goal
+use Rattle.screen_print.proofs.plain_print.trimmed.Given as goal
 
 -- only spaces were passed
 abbrev pub invariant-loop-len : goal.invariant-loop-len
