@@ -171,6 +171,7 @@ class Damage:
             ["due", "--at", "1"],
             ["info"],
             ["screen", "--at", "1"],
+            ["picture", "--at", "1"],
             ["changes", "--to", "1"],
             ["find", "a"],
             ["check"],

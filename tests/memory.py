@@ -68,6 +68,7 @@ COMMANDS = [
     (["due", "--at", "99", "s", "t"], b""),
     (["info", "s", "t"], b""),
     (["screen", "--at", "99", "s", "t"], b""),
+    (["picture", "--at", "99", "s", "t"], b""),
     (["check", "s", "t"], b""),
     (["changes", "--to", "99", "s", "t"], b""),
     (["find", "line 5", "s", "t"], b""),

@@ -81,6 +81,7 @@ fn jobs_that_play_tell_a_note(rt: HostRuntime) {
             profile,
             escaped: false,
         },
+        Job::Picture { at, profile },
         Job::Changes { from, to, profile },
         Job::Find { from, to, profile },
         Job::Reports { at, profile },

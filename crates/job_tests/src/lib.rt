@@ -14,6 +14,8 @@ mod jobs;
 #[cfg(test)]
 mod moments;
 #[cfg(test)]
+mod picture;
+#[cfg(test)]
 mod run;
 #[cfg(test)]
 mod session;

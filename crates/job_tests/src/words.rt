@@ -65,6 +65,10 @@ const fn screen(at: u64, profile: Profile) -> Job {
     }
 }
 
+const fn picture(at: u64, profile: Profile) -> Job {
+    Job::Picture { at, profile }
+}
+
 const fn changes(from: Option<u64>, to: u64, profile: Profile) -> Job {
     Job::Changes { from, to, profile }
 }
@@ -83,6 +87,11 @@ fn reads_other_jobs(rt: HostRuntime) -> Result<(), Fail> {
         ("typetool save s t u v", Job::Save),
         ("typetool screen --at 0.5 s t", screen(500_000, vt100)),
         ("typetool screen s t --at=12", screen(12_000_000, vt100)),
+        ("typetool picture --at 0.5 s t", picture(500_000, vt100)),
+        (
+            "typetool picture s --at=12. -- t",
+            picture(12_000_000, vt100),
+        ),
         (
             "typetool changes --from 0 --to 2 s t",
             changes(Some(0), 2_000_000, vt100),
@@ -120,7 +129,7 @@ fn refuses_unreadable_seconds(rt: HostRuntime) -> Result<(), Fail> {
     for seconds in [
         "", ".5", ".", "-1", "+1", "1e3", "1,5", "1.5s", "\t1", "1\t", "0x1", "-",
     ] {
-        for name in ["due", "screen", "reports"] {
+        for name in ["due", "screen", "picture", "reports"] {
             let line = format!(in rt.alloc(); "typetool {name} --at={seconds} s t")?;
             let words = words_of(rt.alloc(), line.as_str())?;
             let told = told(rt.alloc(), words.as_slice())?;
@@ -169,7 +178,7 @@ pub fn compare_left(rt: &(impl Runtime<A = Global> + Abort), line: &str) -> Resu
 }
 
 /// Lines that are none of the program's.
-const MISTAKES: [&str; 29] = [
+const MISTAKES: [&str; 32] = [
     "typetool",
     "typetool dew",
     "typetool help dew",
@@ -188,6 +197,9 @@ const MISTAKES: [&str; 29] = [
     "typetool due --at -1 s t",
     "typetool screen s t",
     "typetool screen --from 1 s t",
+    "typetool picture s t",
+    "typetool picture --at 1 s",
+    "typetool picture --at 1 --to 1 s t",
     "typetool reports --at 1 s",
     "typetool reports --at 1 --escaped s t",
     "typetool changes s t",

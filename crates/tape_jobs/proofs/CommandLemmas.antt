@@ -27,7 +27,7 @@ use Rattle.tape_jobs.specs.declared.job.Job.TheVariants as jobs
 use Rattle.tape_jobs.specs.declared.words.table.Argument.{Argument}
 use Rattle.tape_jobs.specs.declared.words.table.Argument.TheVariants.{At, Escaped, From, To, Until}
 use Rattle.tape_jobs.specs.declared.words.table.Subcommand.{Subcommand}
-use Rattle.tape_jobs.specs.declared.words.table.Subcommand.TheVariants.{Due, Info, Check, Screen, Changes, Find, Reports, Save, Session}
+use Rattle.tape_jobs.specs.declared.words.table.Subcommand.TheVariants.{Due, Info, Check, Screen, Picture, Changes, Find, Reports, Save, Session}
 use Rattle.tape_jobs.specs.declared.words.values.Unreadable.{Unreadable}
 use Rattle.tape_jobs.specs.declared.words.values.Unreadable.TheVariants as unread
 use Rattle.vt_term.specs.declared.profile.Profile.{Profile}
@@ -172,6 +172,7 @@ first_named Due = refl
 first_named Info = refl
 first_named Check = refl
 first_named Screen = refl
+first_named Picture = refl
 first_named Changes = refl
 first_named Find = refl
 first_named Reports = refl
@@ -237,6 +238,9 @@ enough_paths Check rows job e = of_value _ (λ profile. jobs.Check profile) job 
 enough_paths Screen rows job e =
     after_read (moment_in (id_in At) rows) (λ at. after (profile_in rows) (λ p. Ok (jobs.Screen at p (switch_in (id_in Escaped) rows)))) job 2
     (λ at later. of_value (profile_in rows) (λ p. jobs.Screen at p (switch_in (id_in Escaped) rows)) job 2 (λ p. lit≤ tt) later) e
+enough_paths Picture rows job e =
+    after_read (moment_in (id_in At) rows) (λ at. after (profile_in rows) (λ p. Ok (jobs.Picture at p))) job 2
+    (λ at later. of_value (profile_in rows) (λ p. jobs.Picture at p) job 2 (λ p. lit≤ tt) later) e
 enough_paths Changes rows job e =
     after_read (moment_given_in (id_in From) rows)
     (λ from. after (moment_in (id_in To) rows) (λ to. after (profile_in rows) (λ p. Ok (jobs.Changes from to p)))) job 2

@@ -38,6 +38,7 @@ same_lines (jobs.Due at) tape one other text same = refl
 same_lines jobs.Info tape one other text same = refl
 same_lines (jobs.Check profile) tape one other text same = refl
 same_lines (jobs.Screen at profile escaped) tape one other text same = refl
+same_lines (jobs.Picture at profile) tape one other text same = refl
 same_lines (jobs.Changes from to profile) tape one other text same = refl
 same_lines (jobs.Find from to profile) tape one other text same = refl
 same_lines (jobs.Reports at profile) tape one other text same = refl

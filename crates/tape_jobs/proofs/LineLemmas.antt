@@ -25,7 +25,7 @@ use Rattle.tape_jobs.specs.declared.job.Job.{Job}
 use Rattle.tape_jobs.specs.declared.job.Job.TheVariants as job
 use Rattle.tape_jobs.specs.declared.words.values.Unreadable.TheVariants as unread
 use Rattle.tape_jobs.specs.declared.words.table.Subcommand.{Subcommand}
-use Rattle.tape_jobs.specs.declared.words.table.Subcommand.TheVariants.{Due, Info, Check, Screen, Changes, Find, Reports, Save, Session}
+use Rattle.tape_jobs.specs.declared.words.table.Subcommand.TheVariants.{Due, Info, Check, Screen, Picture, Changes, Find, Reports, Save, Session}
 
 both_true : (a b : Bool) → a ≡ true → b ≡ true → (a && b) ≡ true
 both_true a b e f = ap₂ (λ x y. x && y) e f
@@ -237,6 +237,7 @@ enters Due words = halted_walk (built typetool_app).top.rules (names_of (built t
 enters Info words = halted_walk (built typetool_app).top.rules (names_of (built typetool_app)) (name_in Info) [] words
 enters Check words = halted_walk (built typetool_app).top.rules (names_of (built typetool_app)) (name_in Check) [] words
 enters Screen words = halted_walk (built typetool_app).top.rules (names_of (built typetool_app)) (name_in Screen) [] words
+enters Picture words = halted_walk (built typetool_app).top.rules (names_of (built typetool_app)) (name_in Picture) [] words
 enters Changes words = halted_walk (built typetool_app).top.rules (names_of (built typetool_app)) (name_in Changes) [] words
 enters Find words = halted_walk (built typetool_app).top.rules (names_of (built typetool_app)) (name_in Find) [] words
 enters Reports words = halted_walk (built typetool_app).top.rules (names_of (built typetool_app)) (name_in Reports) [] words
@@ -250,6 +251,7 @@ enter_passes Due words = halted_passes (built typetool_app).top (names_of (built
 enter_passes Info words = halted_passes (built typetool_app).top (names_of (built typetool_app)) (name_in Info) [] words
 enter_passes Check words = halted_passes (built typetool_app).top (names_of (built typetool_app)) (name_in Check) [] words
 enter_passes Screen words = halted_passes (built typetool_app).top (names_of (built typetool_app)) (name_in Screen) [] words
+enter_passes Picture words = halted_passes (built typetool_app).top (names_of (built typetool_app)) (name_in Picture) [] words
 enter_passes Changes words = halted_passes (built typetool_app).top (names_of (built typetool_app)) (name_in Changes) [] words
 enter_passes Find words = halted_passes (built typetool_app).top (names_of (built typetool_app)) (name_in Find) [] words
 enter_passes Reports words = halted_passes (built typetool_app).top (names_of (built typetool_app)) (name_in Reports) [] words
@@ -264,6 +266,7 @@ entered_leaf Due words = refl
 entered_leaf Info words = refl
 entered_leaf Check words = refl
 entered_leaf Screen words = refl
+entered_leaf Picture words = refl
 entered_leaf Changes words = refl
 entered_leaf Find words = refl
 entered_leaf Reports words = refl
@@ -277,6 +280,7 @@ leaf_passes Due words e = e
 leaf_passes Info words e = e
 leaf_passes Check words e = e
 leaf_passes Screen words e = e
+leaf_passes Picture words e = e
 leaf_passes Changes words e = e
 leaf_passes Find words e = e
 leaf_passes Reports words e = e
@@ -432,6 +436,20 @@ module _ (program script timing : Text) (p : IsPlain script) (q : IsPlain timing
     due_line =
         asks_by program Due (literal (codes "--at") ∷ value_word at ∷ files) are_plain refl (job.Due moment) [] paths
         (moment_read (λ m. job.Due m)) refl refl
+
+    pub picture_line : (profile : Option Profile)
+        → Asks (program ∷ codes "picture" ∷ codes "--at" ∷ at ∷ (profile_words profile ++ paths))
+        (job.Picture moment (profile_or_first profile)) [] paths
+    unfolding clap_on_literals typetool_app app_in name_in flags_in texts_in paths_in id_in rule_in job_in text_in profile_named
+    picture_line None =
+        asks_by program Picture (literal (codes "--at") ∷ value_word at ∷ files) are_plain refl (job.Picture moment Vt100) [] paths
+        (moment_read (λ m. job.Picture m Vt100)) refl refl
+    picture_line (Some Vt100) =
+        asks_by program Picture (literal (codes "--at") ∷ value_word at ∷ as_vt100) are_plain refl
+        (job.Picture moment Vt100) [] paths (moment_read (λ m. job.Picture m Vt100)) refl refl
+    picture_line (Some Vt102) =
+        asks_by program Picture (literal (codes "--at") ∷ value_word at ∷ as_vt102) are_plain refl
+        (job.Picture moment Vt102) [] paths (moment_read (λ m. job.Picture m Vt102)) refl refl
 
     pub reports_line : (profile : Option Profile)
         → Asks (program ∷ codes "reports" ∷ codes "--at" ∷ at ∷ (profile_words profile ++ paths))

@@ -17,7 +17,7 @@ use Rattle.tape_jobs.specs.declared.words.WordsFault.TheVariants.{Clap, Memory, 
 use Rattle.tape_jobs.specs.declared.words.table.Argument.{Argument}
 use Rattle.tape_jobs.specs.declared.words.table.Argument.TheVariants.{At, From, To, Until, Every, Profile, Escaped, Sought, Script, Timing, NewScript, NewTiming}
 use Rattle.tape_jobs.specs.declared.words.table.Subcommand.{Subcommand}
-use Rattle.tape_jobs.specs.declared.words.table.Subcommand.TheVariants.{Due, Info, Check, Screen, Changes, Find, Reports, Save, Session}
+use Rattle.tape_jobs.specs.declared.words.table.Subcommand.TheVariants.{Due, Info, Check, Screen, Picture, Changes, Find, Reports, Save, Session}
 use Rattle.tape_jobs.specs.declared.words.values.Unreadable.{Unreadable}
 use Rattle.tape_jobs.specs.declared.words.values.Unreadable.TheVariants as unread
 use Rattle.vt_term.specs.declared.profile.Profile.{Profile as Played}
@@ -27,7 +27,7 @@ use Rattle.vt_term.specs.declared.profile.Profile.TheVariants.{Vt100, Vt102}
 
 -- the subcommands, in the order in which help tells them (ours)
 abbrev pub subcommands_in_order : List Subcommand
-subcommands_in_order = Due ∷ Info ∷ Check ∷ Screen ∷ Changes ∷ Find ∷ Reports ∷ Save ∷ Session ∷ []
+subcommands_in_order = Due ∷ Info ∷ Check ∷ Screen ∷ Picture ∷ Changes ∷ Find ∷ Reports ∷ Save ∷ Session ∷ []
 
 -- the name of a subcommand (ours)
 unfoldable pub name_in : Subcommand → Text
@@ -35,6 +35,7 @@ name_in Due = codes "due"
 name_in Info = codes "info"
 name_in Check = codes "check"
 name_in Screen = codes "screen"
+name_in Picture = codes "picture"
 name_in Changes = codes "changes"
 name_in Find = codes "find"
 name_in Reports = codes "reports"
@@ -47,6 +48,7 @@ flags_in Due = At ∷ []
 flags_in Info = []
 flags_in Check = Profile ∷ []
 flags_in Screen = At ∷ Escaped ∷ Profile ∷ []
+flags_in Picture = At ∷ Profile ∷ []
 flags_in Changes = From ∷ To ∷ Profile ∷ []
 flags_in Find = From ∷ Until ∷ Profile ∷ []
 flags_in Reports = At ∷ Profile ∷ []
@@ -64,6 +66,7 @@ paths_in Due = Script ∷ Timing ∷ []
 paths_in Info = Script ∷ Timing ∷ []
 paths_in Check = Script ∷ Timing ∷ []
 paths_in Screen = Script ∷ Timing ∷ []
+paths_in Picture = Script ∷ Timing ∷ []
 paths_in Changes = Script ∷ Timing ∷ []
 paths_in Find = Script ∷ Timing ∷ []
 paths_in Reports = Script ∷ Timing ∷ []
@@ -210,6 +213,9 @@ job_in Check rows = after (profile_in rows) (λ profile. Ok (job.Check profile))
 job_in Screen rows =
     after (moment_in (id_in At) rows) (λ at. after (profile_in rows) (λ profile.
     Ok (job.Screen at profile (switch_in (id_in Escaped) rows))))
+job_in Picture rows =
+    after (moment_in (id_in At) rows) (λ at. after (profile_in rows) (λ profile.
+    Ok (job.Picture at profile)))
 job_in Changes rows =
     after (moment_given_in (id_in From) rows) (λ from. after (moment_in (id_in To) rows) (λ to.
     after (profile_in rows) (λ profile. Ok (job.Changes from to profile))))
@@ -314,6 +320,7 @@ path_count (job.Due at) = 2
 path_count job.Info = 2
 path_count (job.Check profile) = 2
 path_count (job.Screen at profile escaped) = 2
+path_count (job.Picture at profile) = 2
 path_count (job.Changes from to profile) = 2
 path_count (job.Find from to profile) = 2
 path_count (job.Reports at profile) = 2

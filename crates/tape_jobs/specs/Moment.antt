@@ -1,8 +1,11 @@
 -- A screen and what a terminal sent, as texts.
-use Rattle.std.specs.Prelude.{ℕ, ◌++◌, ◌∷◌, Bool, true, false, List, []}
+use Rattle.std.specs.Prelude.{ℕ, min, ◌++◌, ◌∷◌, Bool, true, false, List, []}
 use Rattle.hex.specs.Hex.{encode_lower}
 use Rattle.screen_print.specs.EscapedText.{escaped_text}
 use Rattle.screen_print.specs.PlainText.{plain_text}
+use Rattle.screen_print.specs.Stills.{still_of}
+use Rattle.screen_picture.specs.Picture.{picture_text}
+use Rattle.tape_core.specs.Seconds.{last_moment}
 use Rattle.tape_jobs.specs.declared.shared.answers.Asked.{Asked}
 use Rattle.tape_jobs.specs.declared.shared.answers.Asked.TheVariants as asks
 use Rattle.vt_term.specs.Console.{Console}
@@ -12,6 +15,10 @@ use Rattle.vt_term.specs.Term.{Term}
 unfoldable pub screen_text : Bool → Console → List ℕ
 screen_text true s = escaped_text s
 screen_text false s = plain_text s.picture
+
+-- a screen as a picture with the moment in its title, which is at most the last one (ours)
+abbrev pub drawn_text : ℕ → Console → List ℕ
+drawn_text at s = picture_text (min at last_moment) (still_of s)
 
 -- bytes as a line: in lower-case hexadecimal, with LF (ours)
 abbrev pub hex_line : List ℕ → List ℕ

@@ -10,7 +10,7 @@ use Rattle.tape_core.specs.declared.fault.Fault.TheVariants as fault
 use Rattle.tape_jobs.specs.Endings.{AsksNothing, Device, HoldFiles, Readers}
 use Rattle.tape_jobs.specs.Output.{Files}
 use Rattle.tape_jobs.specs.declared.job.Job.{Job}
-use Rattle.tape_jobs.specs.declared.job.Job.TheVariants.{Screen, Changes, Find, Reports, Session}
+use Rattle.tape_jobs.specs.declared.job.Job.TheVariants.{Screen, Picture, Changes, Find, Reports, Session}
 use Rattle.tape_jobs.specs.declared.job.JobFault.{JobFault}
 use Rattle.tape_jobs.specs.declared.job.JobFault.TheVariants.{File}
 use Rattle.vt_term.specs.declared.profile.Profile.{Profile}
@@ -18,6 +18,7 @@ use Rattle.vt_term.specs.declared.profile.Profile.{Profile}
 -- as which terminal a job plays the recording, if it plays it (ours)
 abbrev pub played_by : Job → Option Profile
 played_by (Screen at profile escaped) = Some profile
+played_by (Picture at profile) = Some profile
 played_by (Changes from to profile) = Some profile
 played_by (Find from to profile) = Some profile
 played_by (Reports at profile) = Some profile

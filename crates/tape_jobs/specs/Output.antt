@@ -13,11 +13,11 @@ use Rattle.tape_seek.specs.Moments.{term_at}
 use Rattle.vt_term.specs.declared.profile.Profile.TheVariants.{Vt100}
 use Rattle.tape_seek.specs.declared.edits.EditFault.{EditFault}
 use Rattle.tape_jobs.specs.Info.{info_text}
-use Rattle.tape_jobs.specs.Moment.{hex_line, screen_text}
+use Rattle.tape_jobs.specs.Moment.{drawn_text, hex_line, screen_text}
 use Rattle.tape_jobs.specs.Requests.{saved, started}
 use Rattle.tape_jobs.specs.Session.{answered, any_refused}
 use Rattle.tape_jobs.specs.declared.job.Job.{Job}
-use Rattle.tape_jobs.specs.declared.job.Job.TheVariants.{Due, Info, Check, Screen, Changes, Find, Reports, Save, Session}
+use Rattle.tape_jobs.specs.declared.job.Job.TheVariants.{Due, Info, Check, Screen, Picture, Changes, Find, Reports, Save, Session}
 use Rattle.tape_jobs.specs.declared.job.Ending.{Ending}
 use Rattle.tape_jobs.specs.declared.job.Ending.TheVariants.{Clean, WithRefusals, WithNotes}
 use Rattle.tape_jobs.specs.declared.job.JobFault.{JobFault}
@@ -90,8 +90,8 @@ done_ending text ending = record {
 }
 
 -- what a job comes to on a recording, request lines and a text: the bytes that are due, what the recording holds, what
--- it says of itself and isn't played of it, what the terminal shows, which lines of it each chunk changes, where the text came to stand and where it went, what the
--- terminal has sent by then, both files anew, or the answers to the lines (ours)
+-- it says of itself and isn't played of it, what the terminal shows, as text or as a picture, which lines of it each chunk
+-- changes, where the text came to stand and where it went, what the terminal has sent by then, both files anew, or the answers to the lines (ours)
 abbrev pub done_on : Job → Tape → List ℕ → List ℕ → Done
 done_on (Due at) tape requests text = done_with (due tape.chunks at) []
 done_on Info tape requests text = done_with (info_text tape) []
@@ -99,6 +99,8 @@ done_on (Check profile) tape requests text =
     done_ending (check_text profile tape) (ending_of_check (is_noted profile tape))
 done_on (Screen at profile escaped) tape requests text =
     done_with (screen_text escaped (term_at profile tape at).console) []
+done_on (Picture at profile) tape requests text =
+    done_with (drawn_text at (term_at profile tape at).console) []
 done_on (Changes from to profile) tape requests text =
     done_with (change_lines profile tape from to) []
 done_on (Find from to profile) tape requests text =

@@ -15,6 +15,7 @@ use crate::jobs::find::write_found;
 use crate::jobs::info::write_info;
 use crate::jobs::moment::write_moment;
 use crate::jobs::note::tell_note;
+use crate::jobs::picture::write_picture;
 use crate::jobs::save::write_edited;
 use crate::jobs::session::write_answers;
 use crate::shared::answers::Asked;
@@ -49,6 +50,11 @@ pub enum Job {
         at: u64,
         profile: Profile,
         escaped: bool,
+    },
+    /// Write the screen of a moment as a picture.
+    Picture {
+        at: u64,
+        profile: Profile,
     },
     /// Write which lines of the screen each chunk changes, of those that are due after `from` (None: from chunk 0 on) and
     /// by `to`.
@@ -305,6 +311,7 @@ fn perform<O: Write, P: Write>(
             Asked::Screen { escaped },
             out,
         )?,
+        Job::Picture { at, profile } => write_picture(alloc, recording, profile, at, out)?,
         Job::Changes { from, to, profile } => {
             write_changes(alloc, recording, profile, from, to, out)?
         }
@@ -401,6 +408,7 @@ fn read_requests<R: Read>(
         | Job::Info
         | Job::Check { .. }
         | Job::Screen { .. }
+        | Job::Picture { .. }
         | Job::Changes { .. }
         | Job::Find { .. }
         | Job::Reports { .. } => Ok(Vec::new(alloc)),

@@ -7,5 +7,6 @@ pub mod find;
 pub mod info;
 pub mod moment;
 pub mod note;
+pub mod picture;
 pub mod save;
 pub mod session;

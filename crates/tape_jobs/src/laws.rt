@@ -41,6 +41,10 @@ pub fn plain_lines_are_read()
         → (escaped : Bool) (profile : Option Profile) → LineAsks (codes "screen")
         (codes "--at" ∷ at ∷ (escaped_words escaped ++ profile_words profile))
         (job.Screen moment (profile_or_first profile) escaped) }
+    ensures picture { (at : Text) (moment : ℕ) → seconds_of at ≡ Some moment
+        → (profile : Option Profile) → LineAsks (codes "picture")
+        (codes "--at" ∷ at ∷ profile_words profile)
+        (job.Picture moment (profile_or_first profile)) }
     ensures changes { (to : Text) (moment : ℕ) → seconds_of to ≡ Some moment
         → (profile : Option Profile) → LineAsks (codes "changes")
         (codes "--to" ∷ to ∷ profile_words profile)

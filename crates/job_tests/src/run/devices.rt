@@ -1,5 +1,6 @@
 //! Every job over devices that take or tell one byte a call, each of which fails in turn.
 use crate::in_memory::DONE;
+use crate::picture::AB_PICTURE;
 use std::io;
 use std::io::{ErrorKind, Read, Write};
 use std::process::Abort;
@@ -122,7 +123,7 @@ fn plain_case(job: Job, text: &'static [u8]) -> Case {
 const END: u64 = 500_000;
 
 /// Each job at the end of the recording.
-fn cases() -> [Case; 9] {
+fn cases() -> [Case; 10] {
     let profile = Profile::Vt100;
     let screen = Job::Screen {
         at: END,
@@ -145,6 +146,7 @@ fn cases() -> [Case; 9] {
             screen,
             b"ab\n\n\n\n\n\n\n\n\n\n\n\n\n\n\n\n\n\n\n\n\n\n\n\n",
         ),
+        plain_case(Job::Picture { at: END, profile }, AB_PICTURE.as_bytes()),
         plain_case(changes, b"0 0.000000 1\n1 0.500000 1\n"),
         find_case(profile),
         plain_case(Job::Reports { at: END, profile }, b"\n"),
@@ -460,10 +462,12 @@ fn compare_first<R: Abort + AllocGlobal>(rt: &R, case: &Case, failure: Failure, 
     assert_eq!(rt; Some(out.taken.as_slice()), case.text.get(..calls));
 }
 
+/// Each call fails in turn; of a picture's, which are many, some fifty of them.
 #[test]
 fn a_writer_that_fails_stops_the_job(rt: HostRuntime) {
     for case in &cases() {
-        for call in 0..case.text.len() {
+        let step = case.text.len() / 60 + 1;
+        for call in (0..case.text.len()).step_by(step) {
             compare_first(&rt, case, Failure::Write(call), call);
             compare_first(&rt, case, Failure::TakesNothing(call), call);
         }

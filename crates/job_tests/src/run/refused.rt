@@ -2,6 +2,7 @@
 //! counts the lines `refused: WHAT`. After a refusal a beginning has gone out, or nothing while the files are read, and
 //! the same job then answers.
 use crate::in_memory::{DONE, Ended};
+use crate::picture::AB_PICTURE;
 use std::alloc::Global;
 use std::process::Abort;
 use std::rt::Runtime;
@@ -36,13 +37,16 @@ fn plain_case(job: Job, text: &'static [u8]) -> Case {
     }
 }
 
+/// Bytes for the longest text, which is a picture.
+const ROOM: usize = 3000;
+
 /// Room for either text; where memory is refused, once more.
 fn room(rt: &impl Runtime<A = Global>) -> Result<Vec<u8>, Fail> {
-    match Vec::with_capacity(rt.alloc(), 300) {
+    match Vec::with_capacity(rt.alloc(), ROOM) {
         Ok(room) => Ok(room),
         Err(_) => {
             println!(rt; "refused: room for a writer")?;
-            Ok(Vec::with_capacity(rt.alloc(), 300)?)
+            Ok(Vec::with_capacity(rt.alloc(), ROOM)?)
         }
     }
 }
@@ -155,6 +159,15 @@ fn run_screen(rt: HostRuntime) -> Result<(), Fail> {
 fn run_escaped_screen(rt: HostRuntime) -> Result<(), Fail> {
     let text = b"\x1b[?7l\x1b)0\x1b[1;1Heb\x1b[3;1Hcd\x1b[0m\x0f\x1b[?7h\x1b[1;2H";
     compare(&rt, plain_case(screen(true), text))
+}
+
+#[test]
+fn run_picture(rt: HostRuntime) -> Result<(), Fail> {
+    let job = Job::Picture {
+        at: 500_000,
+        profile: Profile::Vt100,
+    };
+    compare(&rt, plain_case(job, AB_PICTURE.as_bytes()))
 }
 
 #[test]

@@ -1,5 +1,5 @@
 //! The flags `--profile` and `--escaped`, and with which subcommands they go.
-use super::{changes, compare_job, compare_left, reports, screen, told, words_of};
+use super::{changes, compare_job, compare_left, picture, reports, screen, told, words_of};
 use std::test::Fail;
 use tape_jobs::Job;
 use vt_term::Profile;
@@ -18,6 +18,10 @@ fn reads_profiles_and_the_escaped_print(rt: HostRuntime) -> Result<(), Fail> {
         (
             "typetool screen s t --profile vt102 --at=1",
             screen(1_000_000, vt102),
+        ),
+        (
+            "typetool picture --profile=vt102 --at=1 s t",
+            picture(1_000_000, vt102),
         ),
         (
             "typetool changes --profile=vt102 --to=1 s t",
@@ -61,6 +65,7 @@ fn leaves_misplaced_flags_to_clap(rt: HostRuntime) -> Result<(), Fail> {
         "typetool info --profile=vt100 s t",
         "typetool save --profile=vt100 s t u v",
         "typetool changes --to=1 --escaped s t",
+        "typetool picture --at=1 --escaped s t",
         "typetool reports --at=1 --escaped s t",
         "typetool session --escaped s t",
         "typetool screen --at=1 --escaped=true s t",

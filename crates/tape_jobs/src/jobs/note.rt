@@ -47,6 +47,7 @@ fn played_by(job: Job) -> Option<Profile>
 {
     match job {
         Job::Screen { profile, .. }
+        | Job::Picture { profile, .. }
         | Job::Changes { profile, .. }
         | Job::Find { profile, .. }
         | Job::Reports { profile, .. }

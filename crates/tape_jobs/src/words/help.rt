@@ -16,6 +16,7 @@ pub fn about_of<'a>(subcommand: Subcommand) -> &'a str {
         Subcommand::Check =>
             "Tell what the recording says of itself, and what this terminal can't show of it",
         Subcommand::Screen => "Write the screen as it is at a moment: 24 lines of text",
+        Subcommand::Picture => "Draw the screen as it is at a moment, as one SVG file",
         Subcommand::Changes => "Tell which lines of the screen each chunk changes",
         Subcommand::Find => "Tell when a text came to stand on the screen, and when it went",
         Subcommand::Reports => {
@@ -92,6 +93,11 @@ pub fn details_of<'a>(subcommand: Subcommand) -> &'a str {
             "UTF-8, without the spaces at the ends of lines. With --escaped a text for a terminal, without a\n\
              last line feed, that draws size, characters, renditions and cursor again.\n\n\
              Example: typetool screen --at 12.5 demo.script demo.timing"
+        }
+        Subcommand::Picture => {
+            "One file for browsers and programs that draw SVG, which needs nothing else: line drawing, double\n\
+             sizes, renditions and the cursor on an exact grid, and text that can be copied.\n\n\
+             Example: typetool picture --at 12.5 demo.script demo.timing >screen.svg"
         }
         Subcommand::Changes => {
             "A line for each chunk that changes the screen: the chunk (counted from 0), when it is due (seconds),\n\

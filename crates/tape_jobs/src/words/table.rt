@@ -10,6 +10,7 @@ pub enum Subcommand {
     Info,
     Check,
     Screen,
+    Picture,
     Changes,
     Find,
     Reports,
@@ -47,7 +48,7 @@ pub enum Argument {
 }
 
 /// The subcommands, in the order in which help tells them.
-pub fn subcommands() -> [Subcommand; 9]
+pub fn subcommands() -> [Subcommand; 10]
     ensures { result ≡ subcommands_in_order }
 {
     [
@@ -55,6 +56,7 @@ pub fn subcommands() -> [Subcommand; 9]
         Subcommand::Info,
         Subcommand::Check,
         Subcommand::Screen,
+        Subcommand::Picture,
         Subcommand::Changes,
         Subcommand::Find,
         Subcommand::Reports,
@@ -73,6 +75,7 @@ pub fn name_of<'a>(subcommand: Subcommand) -> &'a str
         Subcommand::Info => "info",
         Subcommand::Check => "check",
         Subcommand::Screen => "screen",
+        Subcommand::Picture => "picture",
         Subcommand::Changes => "changes",
         Subcommand::Find => "find",
         Subcommand::Reports => "reports",
@@ -92,7 +95,7 @@ pub fn flags_of(subcommand: Subcommand) -> &'static [Argument]
         Subcommand::Screen => &[Argument::At, Argument::Escaped, Argument::Profile],
         Subcommand::Changes => &[Argument::From, Argument::To, Argument::Profile],
         Subcommand::Find => &[Argument::From, Argument::Until, Argument::Profile],
-        Subcommand::Reports => &[Argument::At, Argument::Profile],
+        Subcommand::Picture | Subcommand::Reports => &[Argument::At, Argument::Profile],
         Subcommand::Session => &[Argument::Every, Argument::Profile],
         Subcommand::Info | Subcommand::Save => &[],
     }
@@ -109,6 +112,7 @@ pub fn texts_of(subcommand: Subcommand) -> &'static [Argument]
         | Subcommand::Info
         | Subcommand::Check
         | Subcommand::Screen
+        | Subcommand::Picture
         | Subcommand::Changes
         | Subcommand::Reports
         | Subcommand::Save
@@ -126,6 +130,7 @@ pub fn paths_of(subcommand: Subcommand) -> &'static [Argument]
         | Subcommand::Info
         | Subcommand::Check
         | Subcommand::Screen
+        | Subcommand::Picture
         | Subcommand::Changes
         | Subcommand::Find
         | Subcommand::Reports

@@ -49,6 +49,10 @@ pub fn read_job(subcommand: Subcommand, values: &ArgMatches<'_>) -> Result<Job, 
             profile: read_profile(values)?,
             escaped: is_given(values, Argument::Escaped),
         }),
+        Subcommand::Picture => Ok(Job::Picture {
+            at: read_moment(values, Argument::At)?,
+            profile: read_profile(values)?,
+        }),
         Subcommand::Changes => Ok(Job::Changes {
             from: read_moment_given(values, Argument::From)?,
             to: read_moment(values, Argument::To)?,

@@ -1,4 +1,4 @@
-use Rattle.tape_jobs.proofs.LineLemmas.{changes_from_line, changes_line, check_line, due_line, find_between_line, find_line, info_line, reports_line, save_line, screen_line, session_every_line, session_line}
+use Rattle.tape_jobs.proofs.LineLemmas.{changes_from_line, changes_line, check_line, due_line, find_between_line, find_line, info_line, picture_line, reports_line, save_line, screen_line, session_every_line, session_line}
 use Rattle.tape_jobs.proofs.laws.plain_lines_are_read.Goals as goal
 
 pub returns-clause-due : goal.returns-clause-due
@@ -12,6 +12,9 @@ returns-clause-check c = λ profile program script timing p q. check_line progra
 
 pub returns-clause-screen : goal.returns-clause-screen
 returns-clause-screen c = λ at moment e escaped profile program script timing p q. screen_line program script timing p q at moment e escaped profile
+
+pub returns-clause-picture : goal.returns-clause-picture
+returns-clause-picture c = λ at moment e profile program script timing p q. picture_line program script timing p q at moment e profile
 
 pub returns-clause-changes : goal.returns-clause-changes
 returns-clause-changes c = λ to moment e profile program script timing p q. changes_line program script timing p q to moment e profile
