@@ -45,6 +45,7 @@ test: lint
 	tests/memory.py bin/typetool
 	tests/damage.py bin/typetool 500
 	tests/fuzz.py bin/typetool 2000
+	tests/pictures.py bin/typetool
 	tests/refused.py 1 12 13
 	tests/browser.py bin/typetool
 

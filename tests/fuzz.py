@@ -1,11 +1,13 @@
 #!/usr/bin/env python3
-"""Plays random recordings by `find` and `check` in both profiles, and compares with plain readings of what they write.
+"""Plays random recordings by `find`, `picture` and `check` in both profiles, and compares with plain readings.
 
     tests/fuzz.py TYPETOOL [RECORDINGS [SEED]]
 
 The screens that find lines speak of are drawn by `screen --escaped` after each chunk of the same bytes a second apart,
-and read by plain_screen.py; plain_find.py says what stands there, check_reader.py what is told of the recording itself,
-and the note on standard error. The last line is 'N passed, M failed'.
+and read by plain_screen.py; plain_find.py says what stands there, plain_picture.py how a screen is drawn, and
+check_reader.py what is told of the recording itself, and the note on standard error.
+
+The last line is 'N passed, M failed'.
 """
 import concurrent.futures
 import os
@@ -16,7 +18,9 @@ import tempfile
 
 import check_reader
 import plain_find
+import plain_picture
 import plain_reader
+import plain_screen
 import random_recordings
 
 program = os.path.abspath(sys.argv[1])
@@ -74,12 +78,18 @@ def bounds_of(rng, moments):
     return tuple(rng.choice([None, rng.choice(near)]) for _ in range(2))
 
 
-def found(rng, folder, profile, recording, pair):
-    """What find writes, and what it is to write."""
+def moments_of(recording):
+    """When each chunk is due."""
     moments, moment = [], 0
     for delay, _ in recording[1]:
         moment += delay
         moments.append(moment)
+    return moments
+
+
+def found(rng, folder, profile, recording, pair):
+    """What find writes, and what it is to write."""
+    moments = moments_of(recording)
     first, last = bounds_of(rng, moments)
     text = rng.choice(TEXTS)
     asked = [
@@ -92,6 +102,16 @@ def found(rng, folder, profile, recording, pair):
     words += [] if last is None else ["--to", plain_reader.written(last).decode()]
     told = run(folder, "find", *words, "--", text, *pair)
     return f"find {words} {text!r}", told, (0, wanted, check_reader.note_line(profile, recording[0], recording[2]))
+
+
+def pictured(rng, folder, profile, recording, pair):
+    """What picture writes, and what it is to write."""
+    seconds = plain_reader.written(rng.choice([0, *moments_of(recording)])).decode()
+    words = ["--at", seconds, "--profile", profile, *pair]
+    screen = plain_screen.drawn(run(folder, "screen", "--escaped", *words)[1])
+    wanted = plain_picture.picture(screen, seconds).encode()
+    note = check_reader.note_line(profile, recording[0], recording[2])
+    return f"picture {words}", run(folder, "picture", *words), (0, wanted, note)
 
 
 def checked(folder, profile, recording, pair):
@@ -111,6 +131,7 @@ def one(number):
         for profile in ("vt100", "vt102"):
             for name, got, wanted in (
                 found(rng, folder, profile, recording, pair),
+                pictured(rng, folder, profile, recording, pair),
                 checked(folder, profile, recording, pair),
             ):
                 if got != wanted:
