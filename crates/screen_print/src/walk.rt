@@ -117,7 +117,7 @@ pub fn put_chunks<P: ChunkPrinter, W: Write>(
 }
 
 /// Writes what the printer writes of each chunk, and doesn't flush. What a fault leaves is that of `put_chunks`.
-#[tactic(auto, unfolding(crate::specs::Walk::whole_text))]
+#[tactic(auto, using(crate::proofs::WalkLemmas::seeks_keep_history), unfolding(crate::specs::Walk::whole_text))]
 pub fn put_all_chunks<P: ChunkPrinter, W: Write>(
     session: &mut Session,
     printer: &P,
@@ -129,6 +129,9 @@ pub fn put_all_chunks<P: ChunkPrinter, W: Write>(
     ensures fault { IfErr result (StopsWalk W.contents writer.old writer.new
         (whole_text (P.text printer.now) session.old.profile session.old.recording)) }
     ensures stays { OnlySeeks session.old session.new }
+    // Whatever recording the session was opened with: where its own is that one edited by the log,
+    // it is so still.
+    ensures history { KeepsHistory session.old session.new }
     ensures room { length session.old.recording.chunks ≤ session.old.marks.frontier
         → result ≢ Err ChangesFault.Memory }
 {

@@ -4,6 +4,7 @@ use std::alloc::Global;
 use std::test::Fail;
 use vt_term::{Profile, Reports, Terminal};
 
+mod cast;
 mod escaped;
 mod find;
 mod page;

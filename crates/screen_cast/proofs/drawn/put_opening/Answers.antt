@@ -1,0 +1,13 @@
+use Rattle.std.proofs.Common.{List, ℕ, arith, subst, codes, ap, ◌∙◌, ◌++◌}
+use Rattle.tape_core.specs.Devices.{Puts}
+use Rattle.screen_cast.proofs.JsonLemmas.{opening_is}
+use Rattle.screen_cast.proofs.drawn.put_opening.Goals as goal
+
+pub returns : goal.returns
+returns g c =
+    let opens : List ℕ = codes "\\u001b[" in
+    let rest : List ℕ = codes ";1H\\u001b[0m\\u001b[2K" in
+    let number = c.as_bytes.ensures.value ∙ c.format.ensures.text in
+    subst (λ t. Puts g.W.Write.contents c.args.writer.now c.put_all.new.self t c.put_all.result)
+    (ap (λ n. opens ++ (n ++ rest)) number ∙ opening_is c.args.line (omega (arith, c.ranges.line.fits)))
+    c.put_all.ensures.puts

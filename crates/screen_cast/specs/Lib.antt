@@ -1,0 +1,5 @@
+pub mod Drawn
+pub mod Events
+pub mod Json
+pub mod Parts
+pub mod Cast

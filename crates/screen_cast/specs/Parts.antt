@@ -1,0 +1,37 @@
+-- Private: what is drawn, as it stands in JSON part by part.
+use Rattle.std.specs.Prelude.{ℕ, Bool, List, ◌++◌}
+use Rattle.std.specs.List.{flat_map}
+use Rattle.vt_screen.specs.declared.cell.Row.{Row}
+use Rattle.vt_screen.specs.Attributes.{plain}
+use Rattle.vt_screen.specs.Cells.{row_at}
+use Rattle.vt_screen.specs.Picture.{columns}
+use Rattle.screen_print.specs.EscapedText.{rendition_set_text, text_where}
+use Rattle.screen_print.specs.Stills.{Still}
+use Rattle.screen_picture.specs.declared.runs.Run.{Run}
+use Rattle.screen_picture.specs.Runs.{runs_of}
+use Rattle.screen_cast.specs.Drawn.{cursor_text, ground_text, row_opening, run_text}
+use Rattle.screen_cast.specs.Json.{json}
+
+abbrev pub run_part : Bool → Row → Run → List ℕ
+run_part reversed row run = json (run_text reversed row run)
+
+-- a row to its last run ..
+unfoldable pub row_front : Bool → ℕ → Row → List ℕ
+row_front reversed line row = json (row_opening line) ++ flat_map (run_part reversed row) (runs_of row)
+
+-- .. and behind it
+unfoldable pub row_rest : ℕ → Bool → Row → List ℕ
+row_rest width reversed row =
+    json (text_where reversed (ground_text width row)) ++ json (rendition_set_text plain)
+
+abbrev pub row_part : ℕ → Bool → ℕ → Row → List ℕ
+row_part width reversed line row = row_front reversed line row ++ row_rest width reversed row
+
+-- the row of a line
+unfoldable pub line_part : Still → ℕ → List ℕ
+line_part still line = row_part (columns still.wide) still.reversed line (row_at still.rows line)
+
+-- these lines of a screen, and its cursor
+abbrev pub drawn_part : Still → List ℕ → List ℕ
+drawn_part still lines =
+    flat_map (line_part still) lines ++ json (cursor_text still.rows still.line still.column)

@@ -1,0 +1,320 @@
+//! Rows and the cursor, drawn for a player's terminal and written as they stand in a string of JSON.
+
+ghost use Rattle.std.specs.Prelude.{◌≡◌, ◌≤◌, ◌-◌, All, false, length, replicate};
+ghost use Rattle.std.specs.List.{flat_map};
+ghost use Rattle.tape_core.specs.Devices.{Puts, has_failed};
+ghost use Rattle.vt_screen.specs.Attributes.{plain};
+ghost use Rattle.screen_print.specs.EscapedText.{inked, placed_text, rendition_set_text, text_where};
+ghost use Rattle.screen_print.specs.Stills.{still_of};
+ghost use Rattle.screen_picture.specs.Runs.{IsRun};
+ghost use Rattle.screen_cast.specs.Drawn.{
+  attributes_in,
+  column_in,
+  columns_taken,
+  cursor_text,
+  drawn_text,
+  ground_text,
+  line_text,
+  row_opening,
+  row_text,
+  run_text,
+  spaces_text,
+};
+ghost use Rattle.screen_cast.specs.Json.{json};
+ghost use Rattle.screen_cast.specs.Parts.{drawn_part, line_part, row_front, row_part, row_rest, run_part};
+
+use crate::json::cells_text;
+use itoa::Buffer;
+use screen_picture::{Kind, Run, cells_of, runs_of};
+use screen_print::inked;
+use std::io::Write;
+use tape_core::laws::{pieces_join, writers_join};
+use tape_core::{Fault, Watched};
+use vt_screen::limits::{LINES, WIDE_COLUMNS};
+use vt_screen::{Row, Screen, Size};
+use vt_term::Terminal;
+
+/// The spaces of a line without characters.
+const SPACES: [u8; WIDE_COLUMNS as usize] = [b' '; WIDE_COLUMNS as usize];
+
+/// Writes these lines of a screen, and its cursor.
+pub(crate) fn put_drawn<W: Write>(
+    terminal: &Terminal,
+    lines: &[u8],
+    writer: &mut Watched<W>,
+) -> Result<(), Fault>
+    requires lines { All (λ line. (1 ≤ line) × (line ≤ LINES)) lines.now }
+    requires sound { has_failed writer.old ≡ false }
+    ensures { Puts W.contents writer.old writer.new
+        (json (drawn_text (still_of terminal.now.console) lines.now)) result }
+{
+    put_parts(terminal, lines, writer)
+}
+
+/// The same, part by part.
+fn put_parts<W: Write>(
+    terminal: &Terminal,
+    lines: &[u8],
+    writer: &mut Watched<W>,
+) -> Result<(), Fault>
+    requires lines { All (λ line. (1 ≤ line) × (line ≤ LINES)) lines.now }
+    requires sound { has_failed writer.old ≡ false }
+    ensures { Puts W.contents writer.old writer.new
+        (drawn_part (still_of terminal.now.console) lines.now) result }
+{
+    writers_join::<W>();
+    put_lines(terminal, lines, writer)?;
+    put_cursor(terminal.screen(), writer)?;
+    Ok(())
+}
+
+/// Writes these lines.
+fn put_lines<W: Write>(
+    terminal: &Terminal,
+    lines: &[u8],
+    writer: &mut Watched<W>,
+) -> Result<(), Fault>
+    requires lines { All (λ line. (1 ≤ line) × (line ≤ LINES)) lines.now }
+    requires sound { has_failed writer.old ≡ false }
+    ensures { Puts W.contents writer.old writer.new
+        (flat_map (line_part (still_of terminal.now.console)) lines.now) result }
+{
+    pieces_join::<W, u8>();
+    for line in lines {
+        put_line(terminal, *line, writer)?;
+    }
+    Ok(())
+}
+
+/// Writes a line.
+#[tactic(auto, unfolding(crate::specs::Parts::line_part))]
+fn put_line<W: Write>(terminal: &Terminal, line: u8, writer: &mut Watched<W>) -> Result<(), Fault>
+    requires low { 1 ≤ line }
+    requires high { line ≤ LINES }
+    requires sound { has_failed writer.old ≡ false }
+    ensures { Puts W.contents writer.old writer.new
+        (line_part (still_of terminal.now.console) line) result }
+{
+    let screen = terminal.screen();
+    let ground = Ground {
+        width: screen.columns(),
+        reversed: terminal.modes().reverse_screen,
+    };
+    put_row(ground, line, screen.row(line), writer)
+}
+
+/// What rows stand on: a screen of so many columns, and whether it is reversed.
+#[derive(Clone, Copy)]
+struct Ground {
+    width: u8,
+    reversed: bool,
+}
+
+/// Writes a row.
+fn put_row<W: Write>(
+    ground: Ground,
+    line: u8,
+    row: &Row,
+    writer: &mut Watched<W>,
+) -> Result<(), Fault>
+    requires width { ground.width ≤ WIDE_COLUMNS }
+    requires whole { length row.now.cells ≡ WIDE_COLUMNS }
+    requires sound { has_failed writer.old ≡ false }
+    ensures { Puts W.contents writer.old writer.new
+        (row_part ground.width ground.reversed line row.now) result }
+{
+    writers_join::<W>();
+    put_front(ground.reversed, line, row, writer)?;
+    put_rest(ground, row, writer)?;
+    Ok(())
+}
+
+/// Writes a row to its last run.
+#[tactic(auto, unfolding(crate::specs::Parts::row_front))]
+fn put_front<W: Write>(
+    reversed: bool,
+    line: u8,
+    row: &Row,
+    writer: &mut Watched<W>,
+) -> Result<(), Fault>
+    requires whole { length row.now.cells ≡ WIDE_COLUMNS }
+    requires sound { has_failed writer.old ≡ false }
+    ensures { Puts W.contents writer.old writer.new (row_front reversed line row.now) result }
+{
+    writers_join::<W>();
+    put_opening(line, writer)?;
+    put_runs(reversed, row, runs_of(row).as_slice(), writer)?;
+    Ok(())
+}
+
+/// Writes what stands behind a row's last run.
+#[tactic(auto, unfolding(crate::specs::Parts::row_rest))]
+fn put_rest<W: Write>(ground: Ground, row: &Row, writer: &mut Watched<W>) -> Result<(), Fault>
+    requires width { ground.width ≤ WIDE_COLUMNS }
+    requires whole { length row.now.cells ≡ WIDE_COLUMNS }
+    requires sound { has_failed writer.old ≡ false }
+    ensures { Puts W.contents writer.old writer.new
+        (row_rest ground.width ground.reversed row.now) result }
+{
+    writers_join::<W>();
+    put_ground(ground, row, writer)?;
+    put_closing(writer)?;
+    Ok(())
+}
+
+/// Writes how a row ends: no rendition.
+#[tactic(auto, unfolding(crate::specs::Json::json))]
+fn put_closing<W: Write>(writer: &mut Watched<W>) -> Result<(), Fault>
+    requires { has_failed writer.old ≡ false }
+    ensures { Puts W.contents writer.old writer.new (json (rendition_set_text plain)) result }
+{
+    writer.put(b"\\u001b[0m")
+}
+
+/// Writes how a row begins.
+fn put_opening<W: Write>(line: u8, writer: &mut Watched<W>) -> Result<(), Fault>
+    requires { has_failed writer.old ≡ false }
+    ensures { Puts W.contents writer.old writer.new (json (row_opening line)) result }
+{
+    writer.put_all(&[
+        b"\\u001b[",
+        Buffer::new().format(line).as_bytes(),
+        b";1H\\u001b[0m\\u001b[2K",
+    ])
+}
+
+/// Writes runs of a row.
+fn put_runs<W: Write>(
+    reversed: bool,
+    row: &Row,
+    runs: &[Run],
+    writer: &mut Watched<W>,
+) -> Result<(), Fault>
+    requires whole { length row.now.cells ≡ WIDE_COLUMNS }
+    requires runs { All IsRun runs.now }
+    requires sound { has_failed writer.old ≡ false }
+    ensures { Puts W.contents writer.old writer.new
+        (flat_map (run_part reversed row.now) runs.now) result }
+{
+    pieces_join::<W, Run>();
+    for run in runs {
+        put_run(reversed, row, *run, writer)?;
+    }
+    Ok(())
+}
+
+/// Writes a run: SGR, and its characters.
+#[tactic(auto, unfolding(crate::specs::Json::json))]
+fn put_run<W: Write>(
+    reversed: bool,
+    row: &Row,
+    run: Run,
+    writer: &mut Watched<W>,
+) -> Result<(), Fault>
+    requires whole { length row.now.cells ≡ WIDE_COLUMNS }
+    requires run { IsRun run }
+    requires sound { has_failed writer.old ≡ false }
+    ensures { Puts W.contents writer.old writer.new (run_part reversed row.now run) result }
+{
+    let Kind {
+        bold,
+        underscore,
+        blink,
+        reverse,
+        ..
+    } = run.kind;
+    writer.put_all(&[
+        b"\\u001b[0",
+        text_where(bold, b";1"),
+        text_where(underscore, b";4"),
+        text_where(blink, b";5"),
+        text_where(reverse != reversed, b";7"),
+        b"m",
+        cells_text(row.size, cells_of(row, run)).as_slice(),
+    ])
+}
+
+/// A text, or none.
+fn text_where(is_there: bool, text: &'static [u8]) -> &'static [u8]
+    ensures { result.now ≡ text_where is_there text.now }
+{
+    if is_there { text } else { b"" }
+}
+
+/// Writes the ground right of a row's inked cells, where the screen is reversed.
+#[tactic(auto, unfolding(crate::specs::Json::json))]
+fn put_ground<W: Write>(ground: Ground, row: &Row, writer: &mut Watched<W>) -> Result<(), Fault>
+    requires width { ground.width ≤ WIDE_COLUMNS }
+    requires whole { length row.now.cells ≡ WIDE_COLUMNS }
+    requires sound { has_failed writer.old ≡ false }
+    ensures { Puts W.contents writer.old writer.new
+        (json (text_where ground.reversed (ground_text ground.width row.now))) result }
+{
+    if !ground.reversed {
+        return writer.put(b"");
+    }
+    let taken = columns_taken(row.size, inked(&row.cells).len());
+    put_spaces(usize::from(ground.width).saturating_sub(taken), writer)
+}
+
+/// Writes so many columns of the ground of a reversed screen.
+fn put_spaces<W: Write>(count: usize, writer: &mut Watched<W>) -> Result<(), Fault>
+    requires few { count ≤ WIDE_COLUMNS }
+    requires sound { has_failed writer.old ≡ false }
+    ensures { Puts W.contents writer.old writer.new (json (spaces_text count)) result }
+{
+    writer.put_all(&[b"\\u001b[0;7m", spaces(count)])
+}
+
+/// So many spaces.
+fn spaces(count: usize) -> &'static [u8]
+    requires { count ≤ WIDE_COLUMNS }
+    ensures { result.now ≡ replicate count 32 }
+{
+    &SPACES[..count]
+}
+
+/// How many columns so many cells of a row take.
+fn columns_taken(size: Size, cells: usize) -> usize
+    requires { cells ≤ WIDE_COLUMNS }
+    ensures { result ≡ columns_taken size cells }
+{
+    if size.is_single() { cells } else { 2 * cells }
+}
+
+/// Writes the cursor.
+fn put_cursor<W: Write>(screen: &Screen, writer: &mut Watched<W>) -> Result<(), Fault>
+    requires { has_failed writer.old ≡ false }
+    ensures { let p = screen.now.picture in Puts W.contents writer.old writer.new
+        (json (cursor_text p.rows p.line p.column)) result }
+{
+    let (line, column) = screen.cursor();
+    put_place(line, column_in(screen.row(line).size, column), writer)
+}
+
+/// Writes a place.
+fn put_place<W: Write>(line: u8, column: u16, writer: &mut Watched<W>) -> Result<(), Fault>
+    requires { has_failed writer.old ≡ false }
+    ensures { Puts W.contents writer.old writer.new (json (placed_text line column)) result }
+{
+    writer.put_all(&[
+        b"\\u001b[",
+        Buffer::new().format(line).as_bytes(),
+        b";",
+        Buffer::new().format(column).as_bytes(),
+        b"H",
+    ])
+}
+
+/// The column that a column of a line of this size begins at.
+fn column_in(size: Size, column: u8) -> u16
+    requires { 1 ≤ column }
+    ensures { result ≡ column_in size column }
+{
+    let column = u16::from(column);
+    if size.is_single() {
+        column
+    } else {
+        2 * column - 1
+    }
+}

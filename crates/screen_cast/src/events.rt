@@ -1,0 +1,194 @@
+//! The events of a chunk.
+
+ghost use Rattle.std.specs.Prelude.{◌≡◌, ◌≤◌, ◌++◌, All, false};
+ghost use Rattle.std.specs.List.{flat_map};
+ghost use Rattle.tape_core.specs.Devices.{Puts, has_failed};
+ghost use Rattle.screen_print.specs.SameRows.{changed_lines};
+ghost use Rattle.screen_print.specs.Stills.{still_of};
+ghost use Rattle.screen_cast.specs.Cast.{event_closing, event_line, event_opening};
+ghost use Rattle.screen_cast.specs.Drawn.{drawn_text};
+ghost use Rattle.screen_cast.specs.Events.{
+  Output,
+  drawn_lines,
+  is_all_drawn,
+  output,
+  outputs,
+  resize,
+  resizes,
+  size_text,
+};
+
+use crate::drawn::put_drawn;
+use screen_print::{ChunkPrinter, Still};
+use std::io::Write;
+use tape_core::laws::writers_join;
+use tape_core::{Fault, Watched, seconds_text};
+use vt_screen::limits::LINES;
+use vt_term::Terminal;
+
+/// Every line.
+const EVERY_LINE: [u8; LINES as usize] = [
+    1, 2, 3, 4, 5, 6, 7, 8, 9, 10, 11, 12, 13, 14, 15, 16, 17, 18, 19, 20, 21, 22, 23, 24,
+];
+
+/// Writes the events of a chunk.
+pub(crate) struct EventPrinter;
+
+impl ChunkPrinter for EventPrinter {
+    ghost use Rattle.screen_cast.specs.Cast.{chunk_text};
+
+    ghost text = { λ _. chunk_text };
+
+    fn put<W: Write>(
+        &self,
+        _index: usize,
+        due: u64,
+        before: &Still,
+        after: &Terminal,
+        lines: &[u8],
+        writer: &mut Watched<W>,
+    ) -> Result<(), Fault> {
+        put_events(due, before, after, lines, writer)
+    }
+}
+
+/// Writes the events of a chunk by what stands before and after it, which differ in these lines.
+fn put_events<W: Write>(
+    due: u64,
+    before: &Still,
+    after: &Terminal,
+    lines: &[u8],
+    writer: &mut Watched<W>,
+) -> Result<(), Fault>
+    requires sound { has_failed writer.old ≡ false }
+    requires changed { lines.now
+        ≡ changed_lines before.now.rows after.now.console.picture.rows }
+    ensures { let after = still_of after.now.console in Puts W.contents writer.old writer.new
+        (flat_map event_line (resizes due before.now after)
+        ++ flat_map event_line (outputs due before.now after)) result }
+{
+    writers_join::<W>();
+    put_resize(due, before, after, writer)?;
+    put_output(due, before, after, lines, writer)?;
+    Ok(())
+}
+
+/// Writes the screen's new size, where the columns differ.
+fn put_resize<W: Write>(
+    due: u64,
+    before: &Still,
+    after: &Terminal,
+    writer: &mut Watched<W>,
+) -> Result<(), Fault>
+    requires { has_failed writer.old ≡ false }
+    ensures { Puts W.contents writer.old writer.new
+        (flat_map event_line (resizes due before.now (still_of after.now.console))) result }
+{
+    let wide = after.screen().is_wide();
+    if wide == before.is_wide() {
+        return writer.put(b"");
+    }
+    put_size(due, wide, writer)
+}
+
+/// Writes the event that tells the screen's size.
+fn put_size<W: Write>(due: u64, wide: bool, writer: &mut Watched<W>) -> Result<(), Fault>
+    requires { has_failed writer.old ≡ false }
+    ensures { Puts W.contents writer.old writer.new
+        (event_line (resize due (size_text wide))) result }
+{
+    writer.put_all(&[
+        b"[",
+        seconds_text(due).as_bytes(),
+        b", \"r\", \"",
+        size_text(wide),
+        b"\"]\n",
+    ])
+}
+
+/// Columns and lines of a screen.
+#[tactic(auto, unfolding(crate::specs::Events::size_text))]
+fn size_text(wide: bool) -> &'static [u8]
+    ensures { result.now ≡ size_text wide }
+{
+    if wide { b"132x24" } else { b"80x24" }
+}
+
+/// Writes what is drawn, where there is something to draw.
+fn put_output<W: Write>(
+    due: u64,
+    before: &Still,
+    after: &Terminal,
+    lines: &[u8],
+    writer: &mut Watched<W>,
+) -> Result<(), Fault>
+    requires sound { has_failed writer.old ≡ false }
+    requires changed { lines.now
+        ≡ changed_lines before.now.rows after.now.console.picture.rows }
+    ensures { Puts W.contents writer.old writer.new
+        (flat_map event_line (outputs due before.now (still_of after.now.console))) result }
+{
+    let drawn = drawn_lines(before, after, lines);
+    if drawn.is_empty() && before.cursor() == after.screen().cursor() {
+        return writer.put(b"");
+    }
+    put_drawing(due, after, drawn, writer)
+}
+
+/// The lines that are drawn: all, or those that differ.
+fn drawn_lines<'a>(before: &Still, after: &Terminal, lines: &'a [u8]) -> &'a [u8]
+    requires { lines.now ≡ changed_lines before.now.rows after.now.console.picture.rows }
+    ensures drawn { result.now ≡ drawn_lines before.now (still_of after.now.console) }
+    ensures lines { All (λ line. (1 ≤ line) × (line ≤ LINES)) result.now }
+{
+    if is_all_drawn(before, after) {
+        &EVERY_LINE
+    } else {
+        lines
+    }
+}
+
+/// Whether every row is drawn: the columns or the reversed flag differ.
+fn is_all_drawn(before: &Still, after: &Terminal) -> bool
+    ensures { result ≡ is_all_drawn before.now (still_of after.now.console) }
+{
+    before.is_wide() != after.screen().is_wide()
+        || before.is_reversed() != after.modes().reverse_screen
+}
+
+/// Writes the event that draws these lines and the cursor.
+fn put_drawing<W: Write>(
+    due: u64,
+    after: &Terminal,
+    lines: &[u8],
+    writer: &mut Watched<W>,
+) -> Result<(), Fault>
+    requires lines { All (λ line. (1 ≤ line) × (line ≤ LINES)) lines.now }
+    requires sound { has_failed writer.old ≡ false }
+    ensures { Puts W.contents writer.old writer.new
+        (event_line (output due (drawn_text (still_of after.now.console) lines.now))) result }
+{
+    writers_join::<W>();
+    put_opening(due, writer)?;
+    put_drawn(after, lines, writer)?;
+    put_closing(writer)?;
+    Ok(())
+}
+
+/// Writes how an event that draws begins.
+#[tactic(auto, unfolding(crate::specs::Cast::event_opening))]
+fn put_opening<W: Write>(due: u64, writer: &mut Watched<W>) -> Result<(), Fault>
+    requires { has_failed writer.old ≡ false }
+    ensures { Puts W.contents writer.old writer.new (event_opening due Output) result }
+{
+    writer.put_all(&[b"[", seconds_text(due).as_bytes(), b", \"o\", \""])
+}
+
+/// Writes how an event ends.
+#[tactic(auto, unfolding(crate::specs::Cast::event_closing))]
+fn put_closing<W: Write>(writer: &mut Watched<W>) -> Result<(), Fault>
+    requires { has_failed writer.old ≡ false }
+    ensures { Puts W.contents writer.old writer.new event_closing result }
+{
+    writer.put(b"\"]\n")
+}
