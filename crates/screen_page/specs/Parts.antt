@@ -2,7 +2,6 @@
 use Rattle.std.specs.Prelude.{ℕ, ◌≤◌, List, ◌∷◌, ◌++◌}
 use Rattle.vt_screen.specs.declared.cell.Row.{Row}
 use Rattle.vt_screen.specs.Limits.{line_count}
-use Rattle.screen_print.specs.Stills.{Still}
 use Rattle.screen_print.specs.Walk.{ChunkText}
 use Rattle.screen_page.specs.Entries.{change_of, entry_of, first_entry}
 use Rattle.screen_page.specs.EntryText.{entry_text, named_text, next_text}

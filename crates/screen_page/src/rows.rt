@@ -1,20 +1,20 @@
 //! What a line is after a chunk: what another line was before it, or a row.
 
-ghost use Rattle.std.specs.Prelude.{◌≡◌, ◌≤◌, ◌++◌, ◌∷◌, ◌+◌, ◌*◌, All, decimal, length, false};
+ghost use Rattle.std.specs.Prelude.{◌≡◌, ◌≤◌, ◌++◌, ◌∷◌, ◌+◌, ◌*◌, All, decimal, encode_utf8, length, false, true};
 ghost use Rattle.std.specs.List.{flat_map};
 ghost use Rattle.tape_core.specs.Devices.{Puts, has_failed};
 ghost use Rattle.vt_screen.specs.Cells.{row_at};
+ghost use Rattle.vt_screen.specs.Picture.{SoundRow};
 ghost use Rattle.screen_print.specs.PlainText.{printed};
-ghost use Rattle.screen_print.specs.SameRows.{size_number};
+ghost use Rattle.screen_print.specs.SameRows.{same_row, size_number};
 ghost use Rattle.screen_picture.specs.Runs.{IsRun, kind_number};
 ghost use Rattle.screen_page.specs.Entries.{line_of, shown, shown_run};
 ghost use Rattle.screen_page.specs.EntryText.{comma_number, row_text, run_text, string_byte};
 ghost use Rattle.screen_page.specs.Parts.{line_text};
 
 use arrayvec::ArrayVec;
-use itoa::Buffer;
 use screen_picture::{Run, cells_of, push_bytes, push_number, runs_of};
-use screen_print::{Still, character, same_row};
+use screen_print::{Still, character, same_first, same_row};
 use std::io::Write;
 use tape_core::laws::{pieces_join, writers_join};
 use tape_core::{Fault, Watched};
@@ -22,8 +22,14 @@ use vt_screen::laws::screens_are_sound;
 use vt_screen::limits::{LINES, WIDE_COLUMNS};
 use vt_screen::{Cell, Row, Screen, Size};
 
-/// How many bytes a run takes at most: a comma, its number, a comma and quotes, and 18 for each character.
-const RUN_BYTES: usize = 2385;
+/// How many bytes a run takes at most: a comma, its number, a comma and quotes, and six for each character.
+const RUN_BYTES: usize = 801;
+
+/// How many bytes stand at most before the runs of a line: commas, two numbers of up to five digits, a bracket.
+const LINE_BYTES: usize = 13;
+
+/// How many cells tell most rows apart.
+const FIRST_CELLS: usize = 16;
 
 /// Writes what a line is that a chunk changes.
 pub(crate) fn put_line<W: Write>(
@@ -56,11 +62,19 @@ fn line_of(before: &Still, screen: &Screen, line: u8) -> Option<u8>
     let narrow = !(before.is_wide() || screen.is_wide());
     let row = screen.row(line);
     for other in 1..LINES + 1 {
-        if same_row(before.row(other), row, narrow) {
+        if is_same(before.row(other), row, narrow) {
             return Some(other);
         }
     }
     None
+}
+
+/// Whether two rows are the same, of which most aren't: their first cells are compared first.
+fn is_same(one: &Row, other: &Row, narrow: bool) -> bool
+    requires { narrow ≡ true → SoundRow false one.now × SoundRow false other.now }
+    ensures { result ≡ same_row one.now other.now }
+{
+    same_first::<FIRST_CELLS>(&one.cells, &other.cells) && same_row(one, other, narrow)
 }
 
 /// Writes the number of a line, and of the line that it is.
@@ -69,14 +83,12 @@ fn put_numbers<W: Write>(line: u8, other: u8, writer: &mut Watched<W>) -> Result
     ensures { Puts W.contents writer.old writer.new
         (comma_number line ++ comma_number other) result }
 {
-    let mut digits = Buffer::new();
-    let mut other_digits = Buffer::new();
-    writer.put_all(&[
-        b",",
-        digits.format(line).as_bytes(),
-        b",",
-        other_digits.format(other).as_bytes(),
-    ])
+    let mut text = ArrayVec::<u8, LINE_BYTES>::new();
+    text.push(b',');
+    push_number(&mut text, u16::from(line));
+    text.push(b',');
+    push_number(&mut text, u16::from(other));
+    writer.put(text.as_slice())
 }
 
 /// Writes the number of a line, and the row that it is.
@@ -99,24 +111,23 @@ fn put_size<W: Write>(line: u8, size: Size, writer: &mut Watched<W>) -> Result<(
     ensures { Puts W.contents writer.old writer.new
         (comma_number line ++ 44 ∷ 91 ∷ decimal (size_number size)) result }
 {
-    let mut digits = Buffer::new();
-    writer.put_all(&[
-        b",",
-        digits.format(line).as_bytes(),
-        b",[",
-        size_digit(size),
-    ])
+    let mut text = ArrayVec::<u8, LINE_BYTES>::new();
+    text.push(b',');
+    push_number(&mut text, u16::from(line));
+    push_bytes(&mut text, b",[");
+    push_number(&mut text, size_number(size));
+    writer.put(text.as_slice())
 }
 
 /// A size as a number.
-fn size_digit(size: Size) -> &'static [u8]
-    ensures { result.now ≡ decimal (size_number size) }
+fn size_number(size: Size) -> u16
+    ensures { result ≡ size_number size }
 {
     match size {
-        Size::Single => b"0",
-        Size::Double => b"1",
-        Size::Top => b"2",
-        Size::Bottom => b"3",
+        Size::Single => 0,
+        Size::Double => 1,
+        Size::Top => 2,
+        Size::Bottom => 3,
     }
 }
 
@@ -173,37 +184,30 @@ fn run_text(run: Run, cells: &[Cell]) -> ArrayVec<u8, RUN_BYTES>
 
 /// Puts the characters of cells behind a text as they stand in a string.
 fn push_characters(text: &mut ArrayVec<u8, RUN_BYTES>, cells: &[Cell])
-    requires room { length text.old.items + 18 * length cells.now ≤ RUN_BYTES }
+    requires room { length text.old.items + 6 * length cells.now ≤ RUN_BYTES }
     ensures text { text.new.items
         ≡ text.old.items ++ flat_map string_byte (flat_map printed cells.now) }
-    ensures short { length text.new.items ≤ length text.old.items + 18 * length cells.now }
+    ensures short { length text.new.items ≤ length text.old.items + 6 * length cells.now }
 {
     for cell in cells {
-        push_character(text, *cell);
+        push_character(text, character(cell.glyph));
     }
 }
 
-/// Puts the character of a cell behind a text as it stands in a string.
-fn push_character(text: &mut ArrayVec<u8, RUN_BYTES>, cell: Cell)
-    requires room { length text.old.items + 18 ≤ RUN_BYTES }
-    ensures text { text.new.items ≡ text.old.items ++ flat_map string_byte (printed cell) }
-    ensures short { length text.new.items ≤ length text.old.items + 18 }
+/// Puts a character behind a text as it stands in a string. Of those that take more than a byte none is escaped.
+#[tactic(auto, using(crate::proofs::StringLemmas::wide_character, crate::proofs::StringLemmas::narrow_character))]
+fn push_character(text: &mut ArrayVec<u8, RUN_BYTES>, character: char)
+    requires three { length (encode_utf8 character) ≤ 3 }
+    requires room { length text.old.items + 6 ≤ RUN_BYTES }
+    ensures text { text.new.items
+        ≡ text.old.items ++ flat_map string_byte (encode_utf8 character) }
+    ensures short { length text.new.items ≤ length text.old.items + 6 }
 {
-    let mut bytes = [0; 4];
-    push_string(
-        text,
-        character(cell.glyph).encode_utf8(&mut bytes).as_bytes(),
-    );
-}
-
-/// Puts bytes behind a text as they stand in a string.
-fn push_string(text: &mut ArrayVec<u8, RUN_BYTES>, bytes: &[u8])
-    requires room { length text.old.items + 6 * length bytes.now ≤ RUN_BYTES }
-    ensures text { text.new.items ≡ text.old.items ++ flat_map string_byte bytes.now }
-    ensures short { length text.new.items ≤ length text.old.items + 6 * length bytes.now }
-{
-    for byte in bytes {
-        push_byte(text, *byte);
+    if character.is_ascii() {
+        push_byte(text, character as u8);
+    } else {
+        let mut bytes = [0; 4];
+        push_bytes(text, character.encode_utf8(&mut bytes).as_bytes());
     }
 }
 

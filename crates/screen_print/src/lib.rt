@@ -17,5 +17,5 @@ pub use escaped_print::{escaped, inked};
 pub use find_lines::find;
 pub use glyphs::character;
 pub use plain_print::{plain, trimmed};
-pub use still::{Still, same_row};
+pub use still::{Still, same_first, same_row};
 pub use walk::{ChangesFault, ChunkPrinter, put_all_chunks, put_chunks};

@@ -173,7 +173,7 @@ fn same_cells(one: &Row, other: &Row, narrow: bool) -> bool
 
 /// Whether the first N cells are the same. Each is compared, whatever those before it came to, so that
 /// many are compared at once.
-fn same_first<const N: usize>(one: &[Cell; WIDE], other: &[Cell; WIDE]) -> bool
+pub fn same_first<const N: usize>(one: &[Cell; WIDE], other: &[Cell; WIDE]) -> bool
     requires { N ≤ WIDE }
     ensures same { result ≡ pointwise same_cell (take N one.now) (take N other.now) }
     ensures whole { length one.now ≡ WIDE }

@@ -83,8 +83,9 @@ fn holds_the_entries_of_its_recording(rt: HostRuntime) -> Result<(), Fail> {
 fn stops_where_the_writer_fails(rt: HostRuntime) -> Result<(), Fail> {
     let chunks = ROWS[1].0;
     let whole = page_of(&rt, chunks)?;
-    let data = whole.len() - 15_000;
-    for room in [0, 1, 2_000, data, whole.len() - 1, whole.len()] {
+    let len = whole.len();
+    let data = len.saturating_sub(15_000);
+    for room in [0, 1, 2_000, data, len.saturating_sub(1), len] {
         for flush_fails in [false, true] {
             let mut session = session_of(&rt, chunks)?;
             let mut writer = Watched::new(small_writer(rt.alloc(), room, flush_fails));

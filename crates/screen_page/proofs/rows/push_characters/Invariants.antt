@@ -8,5 +8,5 @@ use Rattle.screen_page.proofs.rows.push_characters.Given as goal
 abbrev pub invariant-loop-cell : goal.invariant-loop-cell
 invariant-loop-cell l = record {
   told : l.text.items ≡ l.fn.text.items ++ flat_map string_byte (flat_map printed (take l.cell-index l.cells));
-  short : length l.text.items ≤ length l.fn.text.items + 18 * l.cell-index;
+  short : length l.text.items ≤ length l.fn.text.items + 6 * l.cell-index;
 }

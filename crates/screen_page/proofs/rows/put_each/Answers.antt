@@ -1,7 +1,6 @@
-use Rattle.std.proofs.Common.{get_or, true}
+use Rattle.std.proofs.Common.{true}
 use Rattle.std.proofs.lemmas.List.{get_or_default}
 use Rattle.std.proofs.lemmas.Result.{err_from_is_err_and}
-use Rattle.screen_picture.specs.declared.runs.Run.{Run}
 use Rattle.screen_page.specs.Entries.{shown_run}
 use Rattle.screen_page.specs.EntryText.{run_text}
 use Rattle.screen_page.proofs.rows.put_each.Goals as goal
