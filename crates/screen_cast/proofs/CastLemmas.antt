@@ -8,7 +8,7 @@ use Rattle.tape_core.specs.Due.{indices}
 use Rattle.tape_core.specs.Tape.{Tape}
 use Rattle.vt_term.specs.declared.profile.Profile.{Profile}
 use Rattle.screen_print.specs.Stills.{Still}
-use Rattle.screen_print.specs.Walk.{text_at, whole_text}
+use Rattle.screen_print.specs.Walk.{whole_text}
 use Rattle.vt_screen.specs.declared.cell.Row.{Row}
 use Rattle.vt_screen.specs.Attributes.{plain}
 use Rattle.vt_screen.specs.Cells.{row_at}

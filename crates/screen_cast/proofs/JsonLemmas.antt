@@ -1,5 +1,5 @@
 -- Texts as they stand in JSON, part by part.
-use Rattle.std.proofs.Common.{◌≡◌, ℕ, zero, suc, ◌^◌, ◌<◌, ◌≤◌, All, Bool, true, false, List, [], ◌∷◌, ◌++◌, append_assoc, ap, sym, refl, ◌∙◌, arith, codes, decimal, get_or, replicate}
+use Rattle.std.proofs.Common.{◌≡◌, ℕ, zero, suc, ◌^◌, ◌<◌, ◌≤◌, All, Bool, true, false, List, [], ◌∷◌, ◌++◌, append_assoc, ap, sym, refl, ◌∙◌, arith, codes, decimal, replicate}
 use Rattle.std.specs.List.{flat_map}
 use Rattle.std.proofs.lemmas.Bool.Decides.{nat_tests}
 use Rattle.std.proofs.lemmas.Fmt.{decimal_is_IsNumeral}
@@ -9,7 +9,7 @@ use Rattle.std.proofs.lemmas.List.Elements.{All-head, All-tail}
 use Rattle.std.proofs.lemmas.Str.Parse.{digit_at}
 use Rattle.tape_core.specs.Written.{seconds_form}
 use Rattle.vt_parser.specs.Syntax.{escape}
-use Rattle.vt_screen.specs.Attributes.{Attributes, plain}
+use Rattle.vt_screen.specs.Attributes.{plain}
 use Rattle.screen_print.specs.EscapedText.{placed_text, rendition_set_text}
 use Rattle.screen_cast.specs.Cast.{event_closing, event_line, event_opening}
 use Rattle.screen_cast.specs.Drawn.{row_opening, spaces_text}
