@@ -4,7 +4,7 @@ _typetool() {
     local word=${COMP_WORDS[COMP_CWORD]} last=${COMP_WORDS[COMP_CWORD - 1]} flags
     local -A taken=(
         [due]='--at --help' [info]='--help' [check]='--profile --help' [screen]='--at --escaped --profile --help' [save]='--help'
-        [picture]='--at --profile --help'
+        [picture]='--at --profile --help' [page]='--profile --help' [cast]='--profile --help'
         [changes]='--from --to --profile --help' [find]='--from --to --profile --help' [reports]='--at --profile --help' [session]='--every --profile --help'
     )
     if [ "$COMP_CWORD" = 1 ]; then

@@ -175,6 +175,8 @@ class Damage:
             ["changes", "--to", "1"],
             ["find", "a"],
             ["check"],
+            ["page"],
+            ["cast"],
             ["reports", "--at", "1"],
             ["session"],
         ):

@@ -73,6 +73,8 @@ COMMANDS = [
     (["changes", "--to", "99", "s", "t"], b""),
     (["find", "line 5", "s", "t"], b""),
     (["reports", "--at", "99", "s", "t"], b""),
+    (["page", "s", "t"], b""),
+    (["cast", "s", "t"], b""),
     (["save", "s", "t", "s2", "t2"], REQUESTS),
     (["session", "s", "t"], REQUESTS + b"screen 99\nreports 99\nchanges - 99\nscreen 0\nlog\ninfo\n"),
 ]

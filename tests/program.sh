@@ -77,7 +77,7 @@ check 'an answer' 0 '1b5b3f313b3263\n' '' reports --at 0 asks.script asks.timing
 # refused NAME STATUS ERR SCRIPT TIMING: a damaged pair, which is only told, whatever the command.
 refused() {
     local command words
-    for command in 'due --at 1' info 'screen --at 1' 'picture --at 1' check 'changes --to 1' 'find a' 'reports --at 1' session; do
+    for command in 'due --at 1' info 'screen --at 1' 'picture --at 1' check 'changes --to 1' 'find a' 'reports --at 1' page cast session; do
         read -ra words <<<"$command"
         check "$1: ${words[0]}" "$2" '' "typetool: $3\n" "${words[@]}" "$4" "$5" </dev/null
     done
@@ -291,6 +291,10 @@ verdict 'a session into a full device' 3 $? '' 'typetool: write fault\n'
 verdict 'changes into a full device' 3 $? '' 'typetool: write fault\n'
 "$program" picture --at 1 ab.script ab.timing >/dev/full 2>err.txt
 verdict 'a picture into a full device' 3 $? '' 'typetool: write fault\n'
+"$program" page ab.script ab.timing >/dev/full 2>err.txt
+verdict 'a page into a full device' 3 $? '' 'typetool: write fault\n'
+"$program" cast ab.script ab.timing >/dev/full 2>err.txt
+verdict 'a cast into a full device' 3 $? '' 'typetool: write fault\n'
 "$program" find a ab.script ab.timing >/dev/full 2>err.txt
 verdict 'find into a full device' 3 $? '' 'typetool: write fault\n'
 printf 'info\n' | "$program" session ab.script ab.timing >&- 2>err.txt

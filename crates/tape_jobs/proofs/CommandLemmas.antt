@@ -27,7 +27,7 @@ use Rattle.tape_jobs.specs.declared.job.Job.TheVariants as jobs
 use Rattle.tape_jobs.specs.declared.words.table.Argument.{Argument}
 use Rattle.tape_jobs.specs.declared.words.table.Argument.TheVariants.{At, Escaped, From, To, Until}
 use Rattle.tape_jobs.specs.declared.words.table.Subcommand.{Subcommand}
-use Rattle.tape_jobs.specs.declared.words.table.Subcommand.TheVariants.{Due, Info, Check, Screen, Picture, Changes, Find, Reports, Save, Session}
+use Rattle.tape_jobs.specs.declared.words.table.Subcommand.TheVariants.{Due, Info, Check, Screen, Picture, Changes, Find, Reports, Page, Cast, Save, Session}
 use Rattle.tape_jobs.specs.declared.words.values.Unreadable.{Unreadable}
 use Rattle.tape_jobs.specs.declared.words.values.Unreadable.TheVariants as unread
 use Rattle.vt_term.specs.declared.profile.Profile.{Profile}
@@ -176,6 +176,8 @@ first_named Picture = refl
 first_named Changes = refl
 first_named Find = refl
 first_named Reports = refl
+first_named Page = refl
+first_named Cast = refl
 first_named Save = refl
 first_named Session = refl
 
@@ -235,6 +237,8 @@ unfolding paths_in job_in
 enough_paths Due rows job e = of_value _ (λ at. jobs.Due at) job 2 (λ at. lit≤ tt) e
 enough_paths Info rows job e = let same : jobs.Info ≡ job = cc in subst (λ j. path_count j ≤ 2) same (lit≤ tt)
 enough_paths Check rows job e = of_value _ (λ profile. jobs.Check profile) job 2 (λ profile. lit≤ tt) e
+enough_paths Page rows job e = of_value _ (λ profile. jobs.Page profile) job 2 (λ profile. lit≤ tt) e
+enough_paths Cast rows job e = of_value _ (λ profile. jobs.Cast profile) job 2 (λ profile. lit≤ tt) e
 enough_paths Screen rows job e =
     after_read (moment_in (id_in At) rows) (λ at. after (profile_in rows) (λ p. Ok (jobs.Screen at p (switch_in (id_in Escaped) rows)))) job 2
     (λ at later. of_value (profile_in rows) (λ p. jobs.Screen at p (switch_in (id_in Escaped) rows)) job 2 (λ p. lit≤ tt) later) e

@@ -42,6 +42,8 @@ same_lines (jobs.Picture at profile) tape one other text same = refl
 same_lines (jobs.Changes from to profile) tape one other text same = refl
 same_lines (jobs.Find from to profile) tape one other text same = refl
 same_lines (jobs.Reports at profile) tape one other text same = refl
+same_lines (jobs.Page profile) tape one other text same = refl
+same_lines (jobs.Cast profile) tape one other text same = refl
 same_lines jobs.Save tape one other text same = ap (λ r. done_on jobs.Save tape r text) (same refl)
 same_lines (jobs.Session every profile) tape one other text same =
     ap (λ r. done_on (jobs.Session every profile) tape r text) (same refl)

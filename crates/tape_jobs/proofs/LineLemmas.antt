@@ -25,7 +25,7 @@ use Rattle.tape_jobs.specs.declared.job.Job.{Job}
 use Rattle.tape_jobs.specs.declared.job.Job.TheVariants as job
 use Rattle.tape_jobs.specs.declared.words.values.Unreadable.TheVariants as unread
 use Rattle.tape_jobs.specs.declared.words.table.Subcommand.{Subcommand}
-use Rattle.tape_jobs.specs.declared.words.table.Subcommand.TheVariants.{Due, Info, Check, Screen, Picture, Changes, Find, Reports, Save, Session}
+use Rattle.tape_jobs.specs.declared.words.table.Subcommand.TheVariants.{Due, Info, Check, Screen, Picture, Changes, Find, Reports, Page, Cast, Save, Session}
 
 both_true : (a b : Bool) → a ≡ true → b ≡ true → (a && b) ≡ true
 both_true a b e f = ap₂ (λ x y. x && y) e f
@@ -241,6 +241,8 @@ enters Picture words = halted_walk (built typetool_app).top.rules (names_of (bui
 enters Changes words = halted_walk (built typetool_app).top.rules (names_of (built typetool_app)) (name_in Changes) [] words
 enters Find words = halted_walk (built typetool_app).top.rules (names_of (built typetool_app)) (name_in Find) [] words
 enters Reports words = halted_walk (built typetool_app).top.rules (names_of (built typetool_app)) (name_in Reports) [] words
+enters Page words = halted_walk (built typetool_app).top.rules (names_of (built typetool_app)) (name_in Page) [] words
+enters Cast words = halted_walk (built typetool_app).top.rules (names_of (built typetool_app)) (name_in Cast) [] words
 enters Save words = halted_walk (built typetool_app).top.rules (names_of (built typetool_app)) (name_in Save) [] words
 enters Session words = halted_walk (built typetool_app).top.rules (names_of (built typetool_app)) (name_in Session) [] words
 
@@ -255,6 +257,8 @@ enter_passes Picture words = halted_passes (built typetool_app).top (names_of (b
 enter_passes Changes words = halted_passes (built typetool_app).top (names_of (built typetool_app)) (name_in Changes) [] words
 enter_passes Find words = halted_passes (built typetool_app).top (names_of (built typetool_app)) (name_in Find) [] words
 enter_passes Reports words = halted_passes (built typetool_app).top (names_of (built typetool_app)) (name_in Reports) [] words
+enter_passes Page words = halted_passes (built typetool_app).top (names_of (built typetool_app)) (name_in Page) [] words
+enter_passes Cast words = halted_passes (built typetool_app).top (names_of (built typetool_app)) (name_in Cast) [] words
 enter_passes Save words = halted_passes (built typetool_app).top (names_of (built typetool_app)) (name_in Save) [] words
 enter_passes Session words = halted_passes (built typetool_app).top (names_of (built typetool_app)) (name_in Session) [] words
 
@@ -270,6 +274,8 @@ entered_leaf Picture words = refl
 entered_leaf Changes words = refl
 entered_leaf Find words = refl
 entered_leaf Reports words = refl
+entered_leaf Page words = refl
+entered_leaf Cast words = refl
 entered_leaf Save words = refl
 entered_leaf Session words = refl
 
@@ -284,6 +290,8 @@ leaf_passes Picture words e = e
 leaf_passes Changes words e = e
 leaf_passes Find words e = e
 leaf_passes Reports words e = e
+leaf_passes Page words e = e
+leaf_passes Cast words e = e
 leaf_passes Save words e = e
 leaf_passes Session words e = e
 
@@ -405,6 +413,20 @@ module _ (program script timing : Text) (p : IsPlain script) (q : IsPlain timing
   check_line None = asks_by program Check files (p, (q, tt)) refl (job.Check Vt100) [] paths refl refl refl
   check_line (Some Vt100) = asks_by program Check as_vt100 (p, (q, tt)) refl (job.Check Vt100) [] paths refl refl refl
   check_line (Some Vt102) = asks_by program Check as_vt102 (p, (q, tt)) refl (job.Check Vt102) [] paths refl refl refl
+
+  pub cast_line : (profile : Option Profile)
+      → Asks (program ∷ codes "cast" ∷ (profile_words profile ++ paths)) (job.Cast (profile_or_first profile)) [] paths
+  unfolding clap_on_literals typetool_app app_in name_in flags_in texts_in paths_in id_in rule_in job_in text_in profile_named
+  cast_line None = asks_by program Cast files (p, (q, tt)) refl (job.Cast Vt100) [] paths refl refl refl
+  cast_line (Some Vt100) = asks_by program Cast as_vt100 (p, (q, tt)) refl (job.Cast Vt100) [] paths refl refl refl
+  cast_line (Some Vt102) = asks_by program Cast as_vt102 (p, (q, tt)) refl (job.Cast Vt102) [] paths refl refl refl
+
+  pub page_line : (profile : Option Profile)
+      → Asks (program ∷ codes "page" ∷ (profile_words profile ++ paths)) (job.Page (profile_or_first profile)) [] paths
+  unfolding clap_on_literals typetool_app app_in name_in flags_in texts_in paths_in id_in rule_in job_in text_in profile_named
+  page_line None = asks_by program Page files (p, (q, tt)) refl (job.Page Vt100) [] paths refl refl refl
+  page_line (Some Vt100) = asks_by program Page as_vt100 (p, (q, tt)) refl (job.Page Vt100) [] paths refl refl refl
+  page_line (Some Vt102) = asks_by program Page as_vt102 (p, (q, tt)) refl (job.Page Vt102) [] paths refl refl refl
 
   pub save_line : (new_script new_timing : Text) → IsPlain new_script → IsPlain new_timing
       → Asks (program ∷ codes "save" ∷ script ∷ timing ∷ new_script ∷ new_timing ∷ []) job.Save [] (script ∷ timing ∷ new_script ∷ new_timing ∷ [])

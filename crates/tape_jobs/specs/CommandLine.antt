@@ -17,7 +17,7 @@ use Rattle.tape_jobs.specs.declared.words.WordsFault.TheVariants.{Clap, Memory, 
 use Rattle.tape_jobs.specs.declared.words.table.Argument.{Argument}
 use Rattle.tape_jobs.specs.declared.words.table.Argument.TheVariants.{At, From, To, Until, Every, Profile, Escaped, Sought, Script, Timing, NewScript, NewTiming}
 use Rattle.tape_jobs.specs.declared.words.table.Subcommand.{Subcommand}
-use Rattle.tape_jobs.specs.declared.words.table.Subcommand.TheVariants.{Due, Info, Check, Screen, Picture, Changes, Find, Reports, Save, Session}
+use Rattle.tape_jobs.specs.declared.words.table.Subcommand.TheVariants.{Due, Info, Check, Screen, Picture, Changes, Find, Reports, Page, Cast, Save, Session}
 use Rattle.tape_jobs.specs.declared.words.values.Unreadable.{Unreadable}
 use Rattle.tape_jobs.specs.declared.words.values.Unreadable.TheVariants as unread
 use Rattle.vt_term.specs.declared.profile.Profile.{Profile as Played}
@@ -27,7 +27,7 @@ use Rattle.vt_term.specs.declared.profile.Profile.TheVariants.{Vt100, Vt102}
 
 -- the subcommands, in the order in which help tells them (ours)
 abbrev pub subcommands_in_order : List Subcommand
-subcommands_in_order = Due ∷ Info ∷ Check ∷ Screen ∷ Picture ∷ Changes ∷ Find ∷ Reports ∷ Save ∷ Session ∷ []
+subcommands_in_order = Due ∷ Info ∷ Check ∷ Screen ∷ Picture ∷ Changes ∷ Find ∷ Reports ∷ Page ∷ Cast ∷ Save ∷ Session ∷ []
 
 -- the name of a subcommand (ours)
 unfoldable pub name_in : Subcommand → Text
@@ -39,6 +39,8 @@ name_in Picture = codes "picture"
 name_in Changes = codes "changes"
 name_in Find = codes "find"
 name_in Reports = codes "reports"
+name_in Page = codes "page"
+name_in Cast = codes "cast"
 name_in Save = codes "save"
 name_in Session = codes "session"
 
@@ -52,6 +54,8 @@ flags_in Picture = At ∷ Profile ∷ []
 flags_in Changes = From ∷ To ∷ Profile ∷ []
 flags_in Find = From ∷ Until ∷ Profile ∷ []
 flags_in Reports = At ∷ Profile ∷ []
+flags_in Page = Profile ∷ []
+flags_in Cast = Profile ∷ []
 flags_in Save = []
 flags_in Session = Every ∷ Profile ∷ []
 
@@ -70,6 +74,8 @@ paths_in Picture = Script ∷ Timing ∷ []
 paths_in Changes = Script ∷ Timing ∷ []
 paths_in Find = Script ∷ Timing ∷ []
 paths_in Reports = Script ∷ Timing ∷ []
+paths_in Page = Script ∷ Timing ∷ []
+paths_in Cast = Script ∷ Timing ∷ []
 paths_in Save = Script ∷ Timing ∷ NewScript ∷ NewTiming ∷ []
 paths_in Session = Script ∷ Timing ∷ []
 
@@ -226,6 +232,8 @@ job_in Find rows =
 job_in Reports rows =
     after (moment_in (id_in At) rows) (λ at. after (profile_in rows) (λ profile.
     Ok (job.Reports at profile)))
+job_in Page rows = after (profile_in rows) (λ profile. Ok (job.Page profile))
+job_in Cast rows = after (profile_in rows) (λ profile. Ok (job.Cast profile))
 job_in Save rows = Ok job.Save
 job_in Session rows =
     after (every_in rows) (λ every. after (profile_in rows) (λ profile.
@@ -324,6 +332,8 @@ path_count (job.Picture at profile) = 2
 path_count (job.Changes from to profile) = 2
 path_count (job.Find from to profile) = 2
 path_count (job.Reports at profile) = 2
+path_count (job.Page profile) = 2
+path_count (job.Cast profile) = 2
 path_count job.Save = 4
 path_count (job.Session every profile) = 2
 

@@ -10,7 +10,7 @@ use Rattle.tape_core.specs.declared.fault.Fault.TheVariants as fault
 use Rattle.tape_jobs.specs.Endings.{AsksNothing, Device, HoldFiles, Readers}
 use Rattle.tape_jobs.specs.Output.{Files}
 use Rattle.tape_jobs.specs.declared.job.Job.{Job}
-use Rattle.tape_jobs.specs.declared.job.Job.TheVariants.{Screen, Picture, Changes, Find, Reports, Session}
+use Rattle.tape_jobs.specs.declared.job.Job.TheVariants.{Screen, Picture, Changes, Find, Reports, Page, Cast, Session}
 use Rattle.tape_jobs.specs.declared.job.JobFault.{JobFault}
 use Rattle.tape_jobs.specs.declared.job.JobFault.TheVariants.{File}
 use Rattle.vt_term.specs.declared.profile.Profile.{Profile}
@@ -22,6 +22,8 @@ played_by (Picture at profile) = Some profile
 played_by (Changes from to profile) = Some profile
 played_by (Find from to profile) = Some profile
 played_by (Reports at profile) = Some profile
+played_by (Page profile) = Some profile
+played_by (Cast profile) = Some profile
 played_by (Session every profile) = Some profile
 played_by _ = None
 

@@ -1,5 +1,7 @@
 -- What a job comes to: a function of its files, with no device and no want of memory in it.
 use Rattle.std.specs.Prelude.{◌≡◌, ℕ, ◌⊎◌, Bool, true, false, List, [], Option, Some, None, MatchOption, Result, Ok, Err, if◌then◌else◌}
+use Rattle.screen_cast.specs.Cast.{cast_text}
+use Rattle.screen_page.specs.Page.{page_text}
 use Rattle.screen_print.specs.ChangeLines.{change_lines}
 use Rattle.screen_print.specs.FindLines.{find_lines}
 use Rattle.tape_check.specs.Lines.{check_text, is_noted}
@@ -17,7 +19,7 @@ use Rattle.tape_jobs.specs.Moment.{drawn_text, hex_line, screen_text}
 use Rattle.tape_jobs.specs.Requests.{saved, started}
 use Rattle.tape_jobs.specs.Session.{answered, any_refused}
 use Rattle.tape_jobs.specs.declared.job.Job.{Job}
-use Rattle.tape_jobs.specs.declared.job.Job.TheVariants.{Due, Info, Check, Screen, Picture, Changes, Find, Reports, Save, Session}
+use Rattle.tape_jobs.specs.declared.job.Job.TheVariants.{Due, Info, Check, Screen, Picture, Changes, Find, Reports, Page, Cast, Save, Session}
 use Rattle.tape_jobs.specs.declared.job.Ending.{Ending}
 use Rattle.tape_jobs.specs.declared.job.Ending.TheVariants.{Clean, WithRefusals, WithNotes}
 use Rattle.tape_jobs.specs.declared.job.JobFault.{JobFault}
@@ -91,7 +93,8 @@ done_ending text ending = record {
 
 -- what a job comes to on a recording, request lines and a text: the bytes that are due, what the recording holds, what
 -- it says of itself and isn't played of it, what the terminal shows, as text or as a picture, which lines of it each chunk
--- changes, where the text came to stand and where it went, what the terminal has sent by then, both files anew, or the answers to the lines (ours)
+-- changes, where the text came to stand and where it went, what the terminal has sent by then, the
+-- page, the asciicast, both files anew, or the answers to the lines (ours)
 abbrev pub done_on : Job → Tape → List ℕ → List ℕ → Done
 done_on (Due at) tape requests text = done_with (due tape.chunks at) []
 done_on Info tape requests text = done_with (info_text tape) []
@@ -107,6 +110,8 @@ done_on (Find from to profile) tape requests text =
     done_with (find_lines profile tape from to text) []
 done_on (Reports at profile) tape requests text =
     done_with (hex_line (term_at profile tape at).reports) []
+done_on (Page profile) tape requests text = done_with (page_text profile tape) []
+done_on (Cast profile) tape requests text = done_with (cast_text profile tape) []
 done_on Save tape requests text = saved_by tape requests
 done_on (Session every profile) tape requests text =
     done_ending (answered (started profile tape) (lines_of requests))
@@ -123,6 +128,8 @@ TakesMemory _ = Unit {0}
 abbrev pub writes_last : Job → Bool
 writes_last (Changes from to profile) = false
 writes_last (Find from to profile) = false
+writes_last (Page profile) = false
+writes_last (Cast profile) = false
 writes_last (Session every profile) = false
 writes_last _ = true
 

@@ -8,6 +8,7 @@ ghost use Rattle.tape_jobs.specs.Endings.{JobEnds, RunEnds, readers_of, used, wr
 ghost use Rattle.tape_jobs.specs.Notes.{NoteEnds};
 ghost use Rattle.tape_jobs.specs.Output.{done_on, outcome_by, status_after, status_of, takes_requests, writes_timing};
 
+use crate::jobs::cast::write_cast;
 use crate::jobs::changes::write_changes;
 use crate::jobs::check::write_checked;
 use crate::jobs::due::write_due;
@@ -15,6 +16,7 @@ use crate::jobs::find::write_found;
 use crate::jobs::info::write_info;
 use crate::jobs::moment::write_moment;
 use crate::jobs::note::tell_note;
+use crate::jobs::page::write_page;
 use crate::jobs::picture::write_picture;
 use crate::jobs::save::write_edited;
 use crate::jobs::session::write_answers;
@@ -73,6 +75,14 @@ pub enum Job {
     /// Write in hexadecimal what the terminal has sent by a moment.
     Reports {
         at: u64,
+        profile: Profile,
+    },
+    /// Write the whole recording as one file for a browser, which plays it.
+    Page {
+        profile: Profile,
+    },
+    /// Write the recording as an asciicast.
+    Cast {
         profile: Profile,
     },
     /// Make the edits of request lines, and write both files anew.
@@ -321,6 +331,8 @@ fn perform<O: Write, P: Write>(
         Job::Reports { at, profile } => {
             write_moment(alloc, recording, profile, at, Asked::Reports, out)?
         }
+        Job::Page { profile } => write_page(alloc, recording, profile, out)?,
+        Job::Cast { profile } => write_cast(alloc, recording, profile, out)?,
         Job::Save => return write_edited(alloc, recording, &requests, out, out_timing),
         Job::Session { every, profile } => {
             return write_answers(alloc, recording, profile, every, &requests, out);
@@ -411,6 +423,8 @@ fn read_requests<R: Read>(
         | Job::Picture { .. }
         | Job::Changes { .. }
         | Job::Find { .. }
-        | Job::Reports { .. } => Ok(Vec::new(alloc)),
+        | Job::Reports { .. }
+        | Job::Page { .. }
+        | Job::Cast { .. } => Ok(Vec::new(alloc)),
     }
 }

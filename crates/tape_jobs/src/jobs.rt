@@ -1,5 +1,6 @@
 //! The jobs, one function each; `screen` and `reports` share theirs.
 
+pub mod cast;
 pub mod changes;
 pub mod check;
 pub mod due;
@@ -7,6 +8,7 @@ pub mod find;
 pub mod info;
 pub mod moment;
 pub mod note;
+pub mod page;
 pub mod picture;
 pub mod save;
 pub mod session;

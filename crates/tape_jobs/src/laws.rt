@@ -64,6 +64,10 @@ pub fn plain_lines_are_read()
         → (profile : Option Profile) → LineAsks (codes "reports")
         (codes "--at" ∷ at ∷ profile_words profile)
         (job.Reports moment (profile_or_first profile)) }
+    ensures page { (profile : Option Profile) → LineAsks (codes "page")
+        (profile_words profile) (job.Page (profile_or_first profile)) }
+    ensures cast { (profile : Option Profile) → LineAsks (codes "cast")
+        (profile_words profile) (job.Cast (profile_or_first profile)) }
     ensures save { (program script timing : Text) → IsPlain script → IsPlain timing
         → (new_script new_timing : Text) → IsPlain new_script → IsPlain new_timing
         → Asks (program ∷ codes "save" ∷ script ∷ timing ∷ new_script ∷ new_timing ∷ [])

@@ -51,6 +51,8 @@ fn played_by(job: Job) -> Option<Profile>
         | Job::Changes { profile, .. }
         | Job::Find { profile, .. }
         | Job::Reports { profile, .. }
+        | Job::Page { profile }
+        | Job::Cast { profile }
         | Job::Session { profile, .. } => Some(profile),
         Job::Due { .. } | Job::Info | Job::Check { .. } | Job::Save => None,
     }

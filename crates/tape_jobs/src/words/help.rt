@@ -22,6 +22,9 @@ pub fn about_of<'a>(subcommand: Subcommand) -> &'a str {
         Subcommand::Reports => {
             "Write all that the terminal has answered by a moment, in hexadecimal"
         }
+        Subcommand::Page =>
+            "Write the whole recording as one HTML file that plays it and seeks in it",
+        Subcommand::Cast => "Write the recording as an asciicast, version 2",
         Subcommand::Save =>
             "Make the edits that standard input asks for, and write both files anew",
         Subcommand::Session => "Answer the requests of standard input, each in turn",
@@ -76,6 +79,21 @@ const FIND_DETAILS: &str =
     Example: typetool find 'No such file' demo.script demo.timing\n\
     Example: typetool find --from 12.5 -- --help demo.script demo.timing";
 
+/// What a page offers.
+const PAGE_DETAILS: &str =
+    "One file for a browser, which needs nothing else and fetches nothing. It plays, pauses and seeks, steps\n\
+    from chunk to chunk, cuts idle time, finds a text on the screen, and copies what stands there. It holds\n\
+    what this terminal shows after each chunk. In the address, #t=12.5 is a moment and #n=70 the screen\n\
+    after 70 chunks.\n\n\
+    Example: typetool page demo.script demo.timing >demo.html";
+
+/// The lines that `cast` writes.
+const CAST_DETAILS: &str =
+    "For asciinema and other players. A line with the size, and then one for each chunk that changes what is\n\
+    shown: when it is due, and a text that draws it. Players without double sizes, VT52 mode or reversed\n\
+    screens show the right text; on lines of double size a space stands behind each character.\n\n\
+    Example: typetool cast demo.script demo.timing >demo.cast";
+
 /// What help tells of a subcommand after its arguments: more of what it does, and an example.
 pub fn details_of<'a>(subcommand: Subcommand) -> &'a str {
     match subcommand {
@@ -109,6 +127,8 @@ pub fn details_of<'a>(subcommand: Subcommand) -> &'a str {
             "One line of lower-case digits, empty where nothing was answered.\n\n\
              Example: typetool reports --at 12.5 demo.script demo.timing"
         }
+        Subcommand::Page => PAGE_DETAILS,
+        Subcommand::Cast => CAST_DETAILS,
         Subcommand::Save => SAVE_DETAILS,
         Subcommand::Session => SESSION_DETAILS,
     }

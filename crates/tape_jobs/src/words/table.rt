@@ -14,6 +14,8 @@ pub enum Subcommand {
     Changes,
     Find,
     Reports,
+    Page,
+    Cast,
     Save,
     Session,
 }
@@ -48,7 +50,7 @@ pub enum Argument {
 }
 
 /// The subcommands, in the order in which help tells them.
-pub fn subcommands() -> [Subcommand; 10]
+pub fn subcommands() -> [Subcommand; 12]
     ensures { result ≡ subcommands_in_order }
 {
     [
@@ -60,6 +62,8 @@ pub fn subcommands() -> [Subcommand; 10]
         Subcommand::Changes,
         Subcommand::Find,
         Subcommand::Reports,
+        Subcommand::Page,
+        Subcommand::Cast,
         Subcommand::Save,
         Subcommand::Session,
     ]
@@ -79,6 +83,8 @@ pub fn name_of<'a>(subcommand: Subcommand) -> &'a str
         Subcommand::Changes => "changes",
         Subcommand::Find => "find",
         Subcommand::Reports => "reports",
+        Subcommand::Page => "page",
+        Subcommand::Cast => "cast",
         Subcommand::Save => "save",
         Subcommand::Session => "session",
     }
@@ -91,7 +97,7 @@ pub fn flags_of(subcommand: Subcommand) -> &'static [Argument]
 {
     match subcommand {
         Subcommand::Due => &[Argument::At],
-        Subcommand::Check => &[Argument::Profile],
+        Subcommand::Check | Subcommand::Page | Subcommand::Cast => &[Argument::Profile],
         Subcommand::Screen => &[Argument::At, Argument::Escaped, Argument::Profile],
         Subcommand::Changes => &[Argument::From, Argument::To, Argument::Profile],
         Subcommand::Find => &[Argument::From, Argument::Until, Argument::Profile],
@@ -115,6 +121,8 @@ pub fn texts_of(subcommand: Subcommand) -> &'static [Argument]
         | Subcommand::Picture
         | Subcommand::Changes
         | Subcommand::Reports
+        | Subcommand::Page
+        | Subcommand::Cast
         | Subcommand::Save
         | Subcommand::Session => &[],
     }
@@ -134,6 +142,8 @@ pub fn paths_of(subcommand: Subcommand) -> &'static [Argument]
         | Subcommand::Changes
         | Subcommand::Find
         | Subcommand::Reports
+        | Subcommand::Page
+        | Subcommand::Cast
         | Subcommand::Session => &[Argument::Script, Argument::Timing],
         Subcommand::Save => &[
             Argument::Script,

@@ -63,6 +63,12 @@ pub fn read_job(subcommand: Subcommand, values: &ArgMatches<'_>) -> Result<Job, 
             at: read_moment(values, Argument::At)?,
             profile: read_profile(values)?,
         }),
+        Subcommand::Page => Ok(Job::Page {
+            profile: read_profile(values)?,
+        }),
+        Subcommand::Cast => Ok(Job::Cast {
+            profile: read_profile(values)?,
+        }),
         Subcommand::Save => Ok(Job::Save),
         Subcommand::Session => Ok(Job::Session {
             every: read_every(values)?,

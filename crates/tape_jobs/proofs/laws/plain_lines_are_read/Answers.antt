@@ -1,4 +1,4 @@
-use Rattle.tape_jobs.proofs.LineLemmas.{changes_from_line, changes_line, check_line, due_line, find_between_line, find_line, info_line, picture_line, reports_line, save_line, screen_line, session_every_line, session_line}
+use Rattle.tape_jobs.proofs.LineLemmas.{cast_line, changes_from_line, changes_line, check_line, due_line, find_between_line, find_line, info_line, page_line, picture_line, reports_line, save_line, screen_line, session_every_line, session_line}
 use Rattle.tape_jobs.proofs.laws.plain_lines_are_read.Goals as goal
 
 pub returns-clause-due : goal.returns-clause-due
@@ -32,6 +32,12 @@ returns-clause-find_between c = λ from start d to end e profile text r found pr
 
 pub returns-clause-reports : goal.returns-clause-reports
 returns-clause-reports c = λ at moment e profile program script timing p q. reports_line program script timing p q at moment e profile
+
+pub returns-clause-page : goal.returns-clause-page
+returns-clause-page c = λ profile program script timing p q. page_line program script timing p q profile
+
+pub returns-clause-cast : goal.returns-clause-cast
+returns-clause-cast c = λ profile program script timing p q. cast_line program script timing p q profile
 
 pub returns-clause-save : goal.returns-clause-save
 returns-clause-save c = save_line

@@ -1,0 +1,34 @@
+//! The job `cast`: the recording as an asciicast.
+
+ghost use Rattle.std.specs.Prelude.{◌≡◌, false, true, OnOk};
+ghost use Rattle.screen_cast.specs.Cast.{cast_text};
+ghost use Rattle.tape_core.specs.Devices.{has_failed, is_flushed};
+ghost use Rattle.tape_jobs.specs.Endings.{JobPuts};
+
+use crate::job::JobFault;
+use crate::laws::stops_join;
+use crate::shared::opening::{EVERY, open_session};
+use screen_cast::cast;
+use std::alloc::Global;
+use std::io::Write;
+use std::mem::ManuallyDrop;
+use tape_core::{Recording, Watched};
+use vt_term::Profile;
+
+/// Writes the cast, and flushes. Where memory is refused, a beginning of it has gone out.
+pub fn write_cast<O: Write>(
+    alloc: Global,
+    recording: Recording,
+    profile: Profile,
+    out: &mut Watched<O>,
+) -> Result<(), JobFault>
+    requires { has_failed out.old ≡ false }
+    ensures puts { JobPuts O.contents out.old out.new
+        (cast_text profile recording) result }
+    ensures flushed { OnOk result (is_flushed out.new ≡ true) }
+{
+    stops_join::<O>();
+    let session = open_session(alloc, recording, EVERY, profile)?;
+    cast(&mut ManuallyDrop::new(session), out)?;
+    Ok(())
+}
