@@ -18,9 +18,10 @@ bin/typetool: $(SOURCES)
 	mkdir -p bin
 	cp crates/typetool/out/typetool bin/typetool
 
-# What stood on the screen of the shipped recording ten seconds after its start.
+# The shipped recording as a page, which any browser opens.
 demo: bin/typetool
-	bin/typetool screen --at 10 examples/tour.script examples/tour.timing
+	bin/typetool page examples/tour.script examples/tour.timing >bin/tour.html
+	@echo "file://$(CURDIR)/bin/tour.html"
 
 # A look over shell, Python, layout, the pages and the edits, in seconds and without the program.
 lint:
@@ -46,6 +47,8 @@ test: lint
 	tests/damage.py bin/typetool 500
 	tests/fuzz.py bin/typetool 2000
 	tests/pictures.py bin/typetool
+	tests/page_data.py bin/typetool
+	tests/cast.py bin/typetool
 	tests/refused.py 1 12 13
 	tests/browser.py bin/typetool
 

@@ -3,8 +3,8 @@
 
     tests/browser.py TYPETOOL [FOLDER]
 
-The entries are those of a plain reading (plain_picture.py) of what `screen --escaped` prints. Each count of a
-recording, in random order, shows the text of `screen` and the elements of the picture; each key and control does what
+The pages are those that `page` writes; tests/page_data.py compares their entries. Each count of a recording, in random
+order, shows the text of `screen` and the elements of the picture; each key and control does what
 it says; nothing is fetched; the address shows the moment and is read; what a screen reader is told has the controls'
 names; a page of 100,000 chunks opens and seeks in time. With a FOLDER screenshots are left there. The last line is
 'N passed, M failed'.
@@ -58,7 +58,7 @@ class Recording:
     """A recording's chunks, and its screens before the first one and after each."""
 
     def __init__(self, program, chunks):
-        self.chunks = chunks
+        self.program, self.chunks = program, chunks
         self.dues = [sum(delay for delay, _ in chunks[: place + 1]) for place in range(len(chunks))]
         self.escaped = functools.lru_cache(None)(functools.partial(self.printed, program))
 
@@ -81,9 +81,14 @@ class Recording:
         return plain.written(self.dues[count - 1] if count else 0).decode()
 
     def page(self, folder, name):
-        screens = [self.screen(count) for count in range(len(self.chunks) + 1)]
-        data = plain_picture.data(screens, [self.seconds(count + 1) for count in range(len(self.chunks))])
-        return page_of(folder, name, data)
+        """The address of the page that the program writes."""
+        paths = [os.path.join(folder, f"{name}.{kind}") for kind in ("script", "timing", "html")]
+        for path, content in zip(paths, plain.files_of((HEADER, self.chunks, b""))):
+            with open(path, "wb") as file:
+                file.write(content)
+        with open(paths[2], "wb") as file:
+            subprocess.run([self.program, "page", *paths[:2]], check=True, stdout=file)
+        return f"file://{paths[2]}"
 
 
 def page_of(folder, name, data):
