@@ -6,6 +6,7 @@ mod WalkLemmas
 mod ChangeLemmas
 mod FindLemmas
 mod QuietLemmas
+mod StartLemmas
 mod EscapedLemmas
 mod InkLemmas
 mod Redrawn

@@ -6,10 +6,11 @@ use Rattle.std.proofs.lemmas.Bool.{cases_Bool, cases_lt, eq-eqb, false≢true, l
 use Rattle.std.proofs.lemmas.Bool.Decides.{Decides-eqb}
 use Rattle.std.proofs.lemmas.Slice.Eq.{slice_eq-Decides}
 use Rattle.vt_screen.specs.declared.cell.Cell.{Cell}
-use Rattle.screen_print.specs.Glyphs.{character, special_graphics}
+use Rattle.vt_screen.specs.declared.cell.Row.{Row}
+use Rattle.screen_print.specs.Glyphs.{character}
 use Rattle.std.proofs.lemmas.List.FromFn.{length-range_with_len}
 use Rattle.std.proofs.lemmas.List.Sums.{AllPass-from_list_all, count_by_more_yes, length-filter, sum_by-take-le}
-use Rattle.std.proofs.lemmas.List.{drop-append-le, drop-take, drop-map, get_or_append_left, get_or_default, get_or-drop, get_or-map, get_or-take, length-map, take-append-le, take-take, take_more}
+use Rattle.std.proofs.lemmas.List.{drop-append-le, drop-take, drop-map, get_or_append_left, get_or_default, get_or-drop, get_or-map, get_or-take, length-map, take-append-le, take-map, take-take, take_all, take_more, take_rest}
 use Rattle.std.proofs.lemmas.List.Elements.{All-append, All-filter, All-get_or, All-map, All-nil, filter-append}
 use Rattle.vt_screen.specs.Cells.{blank, row_at}
 use Rattle.screen_print.specs.declared.standing.Place.{Place}
@@ -96,6 +97,13 @@ alike_stays text one other d some fits fits' same none none' =
           sym (take-take (column - 1) d one low) ∙ ap (take (column - 1)) same ∙ take-take (column - 1) d other low));
     }
 
+-- two rows in which the text begins nowhere
+pub neither_stays : (text one other : List ℕ) → 1 ≤ length text → BeginsUpTo text 0 one → BeginsUpTo text 0 other → RowStays text one other
+neither_stays text one other some none none' =
+    let front : 0 ≡ 0 + 1 - length text = omega arith in
+    alike_stays text one other 0 some (omega arith) (omega arith) refl
+    (subst (λ n. BeginsUpTo text n one) front none) (subst (λ n. BeginsUpTo text n other) front none')
+
 -- a row that ends its line
 pub ended_stays : (text row : List ℕ) → ends_line row ≡ true → RowStays text row row
 ended_stays text row ends = record {
@@ -136,14 +144,14 @@ cells_stay text one other d behind some fits fits' is same none none' =
 -- ---- cells
 
 -- cells that are read alike, and one more of each
-pub alike_more : (one other : List Cell) (k : ℕ) (d e : Cell) → k < length one → k < length other → (get_or one k d).glyph ≡ (get_or other k e).glyph
+pub alike_more : (one other : List Cell) (k : ℕ) (d e : Cell) → k < length one → k < length other → character (get_or one k d).glyph ≡ character (get_or other k e).glyph
     → take k (characters one) ≡ take k (characters other) → take (k + 1) (characters one) ≡ take (k + 1) (characters other)
 alike_more one other k d e lt lt' same before =
     let read : Cell → ℕ = λ cell. character cell.glyph in
     take_more (characters one) k 0 (omega (arith, length-map one read))
     ∙ ap (λ l. l ++ get_or (characters one) k 0 ∷ []) before
     ∙ ap (λ x. take k (characters other) ++ x ∷ [])
-    (get_or-map read one k d 0 lt ∙ ap character same ∙ sym (get_or-map read other k e 0 lt'))
+    (get_or-map read one k d 0 lt ∙ same ∙ sym (get_or-map read other k e 0 lt'))
     ∙ sym (take_more (characters other) k 0 (omega (arith, length-map other read)))
 
 -- a text that differs from a line in one character
@@ -179,51 +187,75 @@ begins_no_more text cells at behind lt here before rest column low high = elim (
   | inr less ↦ before rest column low less
 ]
 
--- cells of which none has a glyph, and one more
-pub lacks_more : (cells : List Cell) (glyph i : ℕ) (has : Bool) (e : Cell) → i < length cells
-    → (has ≡ false → (k : ℕ) (d : Cell) → k < i → (get_or cells k d).glyph ≡ glyph → ⊥) → (has || nat_eq (get_or cells i e).glyph glyph) ≡ false
-    → (k : ℕ) (d : Cell) → k < i + 1 → (get_or cells k d).glyph ≡ glyph → ⊥
-lacks_more cells glyph i true e lt before none k d less same = absurd (false≢true (sym none))
-lacks_more cells glyph i false e lt before none k d less same = elim (cases_lt k i) [
-  | inl more ↦ before refl k d more same
-  | inr past ↦
-      let at : k ≡ i = omega arith in
-      let here : (get_or cells i e).glyph ≡ glyph =
-      ap (λ (c : Cell). c.glyph) (sym (get_or_default cells i d e lt) ∙ ap (λ n. get_or cells n d) (sym at)) ∙ same in
-      absurd (false≢true (sym none ∙ eq-eqb (get_or cells i e).glyph glyph here))
-]
+-- cells that agree with a text, and one more
+pub agrees_more : (text : List ℕ) (cells : List Cell) (k : ℕ) (d : Cell) (e : ℕ) → k < length text → k < length cells
+    → character (get_or cells k d).glyph ≡ get_or text k e → take k (characters cells) ≡ take k text → take (k + 1) (characters cells) ≡ take (k + 1) text
+agrees_more text cells k d e lt lt' same before =
+    let read : Cell → ℕ = λ cell. character cell.glyph in
+    take_more (characters cells) k 0 (omega (arith, length-map cells read))
+    ∙ ap (λ l. l ++ get_or (characters cells) k 0 ∷ []) before
+    ∙ ap (λ x. take k text ++ x ∷ []) (get_or-map read cells k d 0 lt' ∙ same ∙ sym (get_or_default text k 0 e lt))
+    ∙ sym (take_more text k 0 lt)
 
-out_of : (c : ℕ) → 33 ≤ c → c < 127 → (nat_lt c 33 || nat_lt 126 c) ≡ true → ⊥
-out_of c low high out =
-    let no : nat_lt c 33 ≡ false = le-ltb c 33 low in
-    let nor : nat_lt 126 c ≡ false = le-ltb 126 c (omega arith) in
-    false≢true (sym (rw (no, nor) refl) ∙ out)
+itself : (l : List ℕ) → pointwise nat_eq l l ≡ true
+itself [] = refl
+itself (x ∷ xs) = rw (eq-eqb x x refl) (itself xs)
 
--- a character of ASCII behind the space is shown by one glyph
-graphic : (glyph c : ℕ) → 33 ≤ c → c < 127 → character glyph ≡ c → glyph ≡ c
-graphic glyph c low high is = elim (cases_lt glyph 32) [
-  | inl lt ↦
-      let special : slice_index special_graphics glyph ≡ c = rw (lt-ltb glyph 32 lt) at is in
-      let all : AllPass (λ x. nat_lt x 33 || nat_lt 126 x) special_graphics =
-      AllPass-from_list_all (λ x. nat_lt x 33 || nat_lt 126 x) special_graphics refl in
-      let out : (nat_lt (slice_index special_graphics glyph) 33 || nat_lt 126 (slice_index special_graphics glyph)) ≡ true =
-      All-get_or (λ x. (nat_lt x 33 || nat_lt 126 x) ≡ true) special_graphics glyph 0 lt all in
-      absurd (out_of c low high (rw special at out))
-  | inr ge ↦ rw (le-ltb glyph 32 ge) at is
-]
+-- cells that are read apart, and alike
+pub reads_apart : (one other : List Cell) (k : ℕ) (d e : Cell) → k < length one → k < length other
+    → (character (get_or one k d).glyph ≡ character (get_or other k e).glyph → ⊥) → false ≡ pointwise nat_eq (characters one) (characters other)
+reads_apart one other k d e lt lt' differs =
+    let read : Cell → ℕ = λ cell. character cell.glyph in
+    let decided = slice_eq-Decides Decides-eqb (characters one) (characters other) (pointwise nat_eq (characters one) (characters other)) refl in
+    elim (cases_Bool (pointwise nat_eq (characters one) (characters other))) [
+      | inl t ↦ absurd (differs (sym (get_or-map read one k d 0 lt) ∙ ap (λ (l : List ℕ). get_or l k 0) (decided.0 t) ∙ get_or-map read other k e 0 lt'))
+      | inr f ↦ sym f
+    ]
 
-pub never_begins : (text : List ℕ) (cells : List Cell) (glyph e : ℕ) → 0 < length text → get_or text 0 e ≡ glyph → 33 ≤ glyph → glyph < 127
-    → All (λ cell. cell.glyph ≡ glyph → ⊥) cells → BeginsUpTo text 0 (characters cells)
-never_begins text cells glyph e some is low high lacks rest column here within =
-    let read : Cell → ℕ = λ c. character c.glyph in
+pub reads_alike : (one other : List Cell) (k : ℕ) → length one ≤ k → length one ≡ length other → take k (characters one) ≡ take k (characters other)
+    → true ≡ pointwise nat_eq (characters one) (characters other)
+reads_alike one other k whole long same =
+    let read : Cell → ℕ = λ cell. character cell.glyph in
+    let are : characters other ≡ characters one =
+    sym (take_all k (characters other) (omega (arith, length-map other read, long))) ∙ sym same ∙ take_all k (characters one) (omega (arith, length-map one read)) in
+    sym (ap (pointwise nat_eq (characters one)) are ∙ itself (characters one))
+
+-- what stands left of a place
+pub left_read : (still : Still) (place : Place) (cells : List Cell) (wide : Bool) (row : Row) (n : ℕ) → characters cells ≡ row_text wide row → wide ≡ still.wide
+    → row ≡ row_at still.rows place.line → n ≡ place.column - 1 → characters (take n cells) ≡ left_of still place
+left_read still place cells wide row n same width is at =
+    sym (take-map (λ (cell : Cell). character cell.glyph) n cells)
+    ∙ ap (take n) (same ∙ ap (λ w. row_text w row) width ∙ ap (row_text still.wide) is)
+    ∙ ap (λ m. take m (row_text still.wide (row_at still.rows place.line))) at
+
+-- the whole text
+pub agrees_all : (text : List ℕ) (cells : List Cell) (rest : List ℕ) (k : ℕ) → length text ≤ length cells → length text ≤ k
+    → take k (characters cells) ≡ take k text → starts_with nat_eq (characters cells ++ rest) text ≡ true
+agrees_all text cells rest k fits whole same =
+    let read : Cell → ℕ = λ cell. character cell.glyph in
+    let front : take (length text) (characters cells ++ rest) ≡ text =
+    take-append-le (length text) (characters cells) rest (omega (arith, length-map cells read))
+    ∙ sym (take-take (length text) k (characters cells) whole) ∙ ap (take (length text)) same ∙ take-take (length text) k text whole
+    ∙ take_all (length text) text (omega arith) in
+    ap (pointwise nat_eq text) front ∙ itself text
+
+-- where a text begins in a line is told by the cells of its first row, as far as they go
+pub begins_in : (text : List ℕ) (still : Still) (line column : ℕ) (cells : List Cell) (here : Bool) → length still.rows ≡ 24 → 1 ≤ line → line ≤ 24
+    → 1 ≤ column → column ≤ length cells → characters cells ≡ row_text still.wide (row_at still.rows line)
+    → ((rest : List ℕ) → starts_with nat_eq (characters (take (length cells - (column - 1)) (drop (column - 1) cells)) ++ rest) text ≡ here)
+    → begins text (line_text_from (drop (line - 1) (row_texts still))) column ≡ here
+begins_in text still line column cells here whole low high left right same told =
+    let read : Cell → ℕ = λ cell. character cell.glyph in
     let at = column - 1 in
-    let inside : at < length cells = omega (arith, length-map cells read) in
-    let same : at + 0 ≡ at = omega arith in
-    let first : get_or (drop at (characters cells ++ rest)) 0 0 ≡ character (get_or cells at blank).glyph =
-    get_or-drop at (characters cells ++ rest) 0 0 ∙ ap (λ n. get_or (characters cells ++ rest) n 0) same
-    ∙ get_or_append_left (characters cells) rest 0 at (omega (arith, length-map cells read)) ∙ get_or-map read cells at blank 0 inside in
-    mismatch text (drop at (characters cells ++ rest)) 0 some
-    (λ h. lacks at blank inside (graphic (get_or cells at blank).glyph glyph low high (sym first ∙ h ∙ get_or_default text 0 0 e some ∙ is)))
+    let rows = drop line (row_texts still) in
+    let row = row_text still.wide (row_at still.rows line) in
+    let rest = cond (ends_line row) [] (line_text_from rows) in
+    ap (λ l. begins text (line_text_from l) column) (texts_at still line whole low high)
+    ∙ ap (λ l. begins text l column) (line_is row rows)
+    ∙ ap (λ l. begins text (l ++ rest) column) (sym same)
+    ∙ ap (λ l. starts_with nat_eq l text) (drop-append-le at (characters cells) rest (omega (arith, length-map cells read)) ∙ ap (λ l. l ++ rest) (drop-map read at cells))
+    ∙ ap (λ l. starts_with nat_eq (characters l ++ rest) text) (sym (take_rest cells at))
+    ∙ told rest
 
 -- ---- screens
 
@@ -278,10 +310,6 @@ filter_alike p q (x ∷ xs) h =
 
 count_alike : {X : Type 0} (p q : X → Bool) (xs : List X) → All (λ x. p x ≡ q x) xs → count_by p xs ≡ count_by q xs
 count_alike p q xs h = sym (length-filter p xs) ∙ ap length (filter_alike p q xs h) ∙ length-filter q xs
-
-itself : (l : List ℕ) → pointwise nat_eq l l ≡ true
-itself [] = refl
-itself (x ∷ xs) = rw (eq-eqb x x refl) (itself xs)
 
 -- a place is no less where all places stand on the other screen too, with the same to the left: it isn't among those before it
 not_less : (one other : Still) (places : List Place) (n : ℕ) → n < length places → All (λ place. left_of one place ≡ left_of other place) places

@@ -10,4 +10,5 @@ pub mod ChangeLines
 pub mod FindLines
 pub mod Places
 pub mod Quiet
+pub mod Start
 pub mod Stops

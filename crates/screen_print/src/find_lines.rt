@@ -43,11 +43,13 @@ ghost use Rattle.screen_print.specs.FindLines.{
   place_in,
 };
 ghost use Rattle.screen_print.specs.Places.{IsPlace};
+ghost use Rattle.screen_print.specs.Quiet.{characters};
 ghost use Rattle.screen_print.specs.Stills.{still_of};
 ghost use Rattle.screen_print.specs.Stops.{OnlySeeks, StopsWalk};
 
+use crate::glyphs::character;
 use crate::quiet::stays;
-use crate::standing::{Place, found_rows, row_text, standing};
+use crate::standing::{Place, cells_of, found_rows, standing};
 use crate::still::Still;
 use crate::walk::{ChangesFault, ChunkPrinter, put_chunks};
 use itoa::Buffer;
@@ -55,6 +57,7 @@ use std::io::Write;
 use tape_core::laws::{pieces_join, writers_join};
 use tape_core::{Fault, Watched, seconds_text};
 use tape_seek::Session;
+use vt_screen::Cell;
 use vt_term::Terminal;
 
 /// Writes, for each chunk that is due after `from` (None: from chunk 0 on) and by `to`, at which places of
@@ -269,9 +272,22 @@ fn same_left(still: &Still, place: Place, other: &Still, there: Place) -> bool
         return false;
     }
     let left = place.column as usize - 1;
-    let row = row_text(still, place.line);
-    let other_row = row_text(other, there.line);
-    row.as_slice()[..left] == other_row.as_slice()[..left]
+    let one = cells_of(still.is_wide(), still.row(place.line));
+    let other = cells_of(other.is_wide(), other.row(there.line));
+    reads_alike(&one[..left], &other[..left])
+}
+
+/// Whether cells are read alike.
+fn reads_alike(one: &[Cell], other: &[Cell]) -> bool
+    requires { length one.now ≡ length other.now }
+    ensures { result ≡ pointwise nat_eq (characters one.now) (characters other.now) }
+{
+    for at in 0..one.len() {
+        if character(one[at].glyph) != character(other[at].glyph) {
+            return false;
+        }
+    }
+    true
 }
 
 /// Writes a find line.

@@ -9,6 +9,7 @@ pub mod laws;
 mod plain_print;
 mod quiet;
 mod standing;
+mod start;
 mod still;
 mod walk;
 

@@ -2,10 +2,9 @@
 
 ghost use Rattle.std.specs.Prelude.{
   ◌≡◌,
-  ◌≢◌,
-  All,
   ◌≤◌,
   ◌<◌,
+  ◌+◌,
   ◌++◌,
   ℕ,
   List,
@@ -17,7 +16,7 @@ ghost use Rattle.std.specs.Prelude.{
   true,
 };
 ghost use Rattle.std.specs.List.{starts_with};
-ghost use Rattle.screen_print.specs.FindLines.{find_text};
+ghost use Rattle.screen_print.specs.FindLines.{find_text, row_text};
 ghost use Rattle.screen_print.specs.Quiet.{
   BeginsUpTo,
   LineStays,
@@ -26,15 +25,23 @@ ghost use Rattle.screen_print.specs.Quiet.{
   characters,
 };
 ghost use Rattle.screen_print.specs.SameRows.{changed_lines};
+ghost use Rattle.screen_print.specs.Start.{starts_at};
 ghost use Rattle.screen_print.specs.Stills.{still_of};
 
 use crate::glyphs::character;
 use crate::standing::cells_of;
+use crate::start::{Start, may_start};
 use crate::still::Still;
-use vt_screen::Cell;
 use vt_screen::laws::screens_are_sound;
-use vt_screen::limits::LINES;
+use vt_screen::limits::{LINES, NARROW_COLUMNS, WIDE_COLUMNS};
+use vt_screen::{Cell, Row};
 use vt_term::Terminal;
+
+/// In how many cells of a row of at most 80 columns the first of three side by side is looked for.
+const NARROW_STARTS: usize = NARROW_COLUMNS as usize;
+
+/// In how many of one of 132: all that have two more behind them.
+const WIDE_STARTS: usize = WIDE_COLUMNS as usize - 2;
 
 /// Whether a chunk that changes these lines surely leaves a text where it stands: in what it changes the
 /// text begins nowhere. It answers in a fraction of the time in which screens are laid out.
@@ -105,25 +112,35 @@ fn lines_stay(text: &[char], before: &Still, after: &Terminal, lines: &[u8]) -> 
 /// Whether what a line shows of a text surely stays.
 fn line_stays(text: &[char], before: &Still, after: &Terminal, line: u8) -> bool
     requires text { 1 ≤ length text.now }
+    requires wide { before.now.wide ≡ after.now.console.picture.wide }
     requires low { 1 ≤ line }
     requires high { line ≤ LINES }
     ensures { result ≡ true → LineStays text.now before.now (still_of after.now.console) line }
 {
     let screen = after.screen();
-    let one = cells_of(before.is_wide(), before.row(line));
-    let other = cells_of(screen.is_wide(), screen.row(line));
-    row_stays(text, one, other)
+    row_stays(text, screen.is_wide(), before.row(line), screen.row(line))
+}
+
+/// Whether a text surely begins at the same columns of two rows, with the same to the left: it begins in
+/// neither, or nowhere where they differ.
+fn row_stays(text: &[char], wide: bool, one: &Row, other: &Row) -> bool
+    requires text { 1 ≤ length text.now }
+    requires one { length one.now.cells ≡ WIDE_COLUMNS }
+    requires other { length other.now.cells ≡ WIDE_COLUMNS }
+    ensures { result ≡ true → RowStays text.now (row_text wide one.now) (row_text wide other.now) }
+{
+    if may_begin(text, wide, one) || may_begin(text, wide, other) {
+        return cells_stay(text, cells_of(wide, one), cells_of(wide, other));
+    }
+    true
 }
 
 /// Whether a text surely begins at the same columns of two rows, with the same to the left: where they
 /// differ it begins nowhere.
-fn row_stays(text: &[char], one: &[Cell], other: &[Cell]) -> bool
+fn cells_stay(text: &[char], one: &[Cell], other: &[Cell]) -> bool
     requires { 1 ≤ length text.now }
     ensures { result ≡ true → RowStays text.now (characters one.now) (characters other.now) }
 {
-    if lacks_first(text, one) && lacks_first(text, other) {
-        return true;
-    }
     let same = same_len(one, other);
     let behind = (same + 1).saturating_sub(text.len());
     if may_begin_behind(text, one, behind) {
@@ -147,14 +164,29 @@ fn same_len(one: &[Cell], other: &[Cell]) -> usize
     least
 }
 
-/// Whether a text may begin in a row.
-pub(crate) fn may_begin(text: &[char], cells: &[Cell]) -> bool
-    ensures { result ≡ false → BeginsUpTo text.now 0 (characters cells.now) }
+/// Whether a text may begin in a row: its first characters may stand in it, or it may run on behind it.
+pub(crate) fn may_begin(text: &[char], wide: bool, row: &Row) -> bool
+    requires { length row.now.cells ≡ WIDE_COLUMNS }
+    ensures { result ≡ false → BeginsUpTo text.now 0 (row_text wide row.now) }
 {
-    if lacks_first(text, cells) {
-        return false;
+    if may_start_in(&Start::of(text), wide, row) {
+        return true;
     }
-    may_begin_behind(text, cells, 0)
+    let cells = cells_of(wide, row);
+    may_begin_behind(text, cells, cells.len().saturating_sub(2))
+}
+
+/// Whether the first characters of a text may stand in a row.
+fn may_start_in(start: &Start, wide: bool, row: &Row) -> bool
+    requires { length row.now.cells ≡ WIDE_COLUMNS }
+    ensures { result ≡ false → (k : ℕ) → k + 2 < length (row_text wide row.now)
+        → starts_at start.now row.now.cells k ≡ false }
+{
+    if wide {
+        may_start::<WIDE_STARTS>(start, &row.cells)
+    } else {
+        may_start::<NARROW_STARTS>(start, &row.cells)
+    }
 }
 
 /// Whether a text may begin in a row behind so many cells: as far as both go they are alike.
@@ -169,35 +201,12 @@ fn may_begin_behind(text: &[char], cells: &[Cell], behind: usize) -> bool
     false
 }
 
-/// Whether surely no cell is read as the first character of a text: one of ASCII, which one glyph shows.
-fn lacks_first(text: &[char], cells: &[Cell]) -> bool
-    ensures { result ≡ true → BeginsUpTo text.now 0 (characters cells.now) }
-{
-    if text.is_empty() {
-        return false;
-    }
-    let first = text[0] as u32;
-    if first < 33 || 126 < first {
-        return false;
-    }
-    !has_glyph(cells, first as u8)
-}
-
-/// Whether a cell has a glyph. Each is looked at, so that many are at once.
-fn has_glyph(cells: &[Cell], glyph: u8) -> bool
-    ensures { result ≡ false → All (λ cell. cell.glyph ≢ glyph) cells.now }
-{
-    let mut has = false;
-    for at in 0..cells.len() {
-        has |= cells[at].glyph == glyph;
-    }
-    has
-}
-
 /// Whether cells are read as a text begins, as far as both go.
-fn agrees(text: &[char], cells: &[Cell]) -> bool
-    ensures { result ≡ false → (rest : List ℕ)
+pub(crate) fn agrees(text: &[char], cells: &[Cell]) -> bool
+    ensures no { result ≡ false → (rest : List ℕ)
         → starts_with nat_eq (characters cells.now ++ rest) text.now ≡ false }
+    ensures yes { result ≡ true → length text.now ≤ length cells.now → (rest : List ℕ)
+        → starts_with nat_eq (characters cells.now ++ rest) text.now ≡ true }
 {
     for at in 0..text.len().min(cells.len()) {
         if character(cells[at].glyph) != text[at] {

@@ -1,6 +1,6 @@
 //! Where a text stands on a screen.
 
-ghost use Rattle.std.specs.Prelude.{◌≡◌, ◌+◌, ◌-◌, ◌*◌, ◌≤◌, ◌++◌, All, drop, length, ◌==◌};
+ghost use Rattle.std.specs.Prelude.{◌≡◌, ◌+◌, ◌-◌, ◌*◌, ◌≤◌, ◌++◌, All, drop, length, take, ◌==◌};
 ghost use Rattle.std.specs.List.{suffix_len};
 ghost use Rattle.vt_screen.specs.Cells.{row_at};
 ghost use Rattle.vt_screen.specs.Picture.{margin_of};
@@ -9,7 +9,7 @@ ghost use Rattle.screen_print.specs.Places.{IsPlace};
 ghost use Rattle.screen_print.specs.Quiet.{characters};
 
 use crate::glyphs::character;
-use crate::quiet::may_begin;
+use crate::quiet::{agrees, may_begin};
 use crate::still::Still;
 use arrayvec::ArrayVec;
 use vt_screen::limits::{LINES, NARROW_COLUMNS, WIDE_COLUMNS};
@@ -55,16 +55,12 @@ fn push_places(still: &Still, text: &[char], line: u8, places: &mut ArrayVec<Pla
     ensures after { All (IsPlace still.now) places.new.items }
 {
     still.sound();
-    let cells = cells_of(still.is_wide(), still.row(line));
-    if !may_begin(text, cells) {
-        return;
+    if may_begin(text, still.is_wide(), still.row(line)) {
+        push_begun(still, text, line, places);
     }
-    push_begun(still, text, line, places);
 }
 
-/// The same by laying out the line. Its variables are large, so it stands apart.
-#[cold]
-#[inline(never)]
+/// The same, column by column.
 fn push_begun(still: &Still, text: &[char], line: u8, places: &mut ArrayVec<Place, CELLS>)
     requires low { 1 ≤ line }
     requires high { line ≤ LINES }
@@ -77,17 +73,50 @@ fn push_begun(still: &Still, text: &[char], line: u8, places: &mut ArrayVec<Plac
     ensures after { All (IsPlace still.now) places.new.items }
 {
     still.sound();
+    let cells = cells_of(still.is_wide(), still.row(line));
     let columns = columns_of(still, line);
-    let line_text = line_text(still, line);
     for column in 1..columns + 1 {
-        if begins(text, line_text.as_slice(), column) {
+        if begins(still, text, line, cells, column) {
             places.push(Place { line, column });
         }
     }
 }
 
+/// Whether a text begins in a line at a column of its first row, which has these cells. The line is laid out
+/// only where the row ends before the text does.
+fn begins(still: &Still, text: &[char], line: u8, cells: &[Cell], column: u8) -> bool
+    requires low { 1 ≤ line }
+    requires high { line ≤ LINES }
+    requires left { 1 ≤ column }
+    requires right { column ≤ length cells.now }
+    requires cells { characters cells.now ≡ row_text still.now.wide (row_at still.now.rows line) }
+    ensures { result ≡ begins text.now (line_text_from (drop (line - 1) (row_texts still.now))) column }
+{
+    still.sound();
+    let cells = &cells[column as usize - 1..];
+    if !agrees(text, cells) {
+        return false;
+    }
+    text.len() <= cells.len() || runs_on(still, text, line, column)
+}
+
+/// The same by laying out the line. Its variables are large, so it stands apart.
+#[cold]
+#[inline(never)]
+fn runs_on(still: &Still, text: &[char], line: u8, column: u8) -> bool
+    requires low { 1 ≤ line }
+    requires high { line ≤ LINES }
+    requires left { 1 ≤ column }
+    requires right { column ≤ length (row_text still.now.wide (row_at still.now.rows line)) }
+    ensures { result ≡ begins text.now (line_text_from (drop (line - 1) (row_texts still.now))) column }
+{
+    still.sound();
+    let line_text = line_text(still, line);
+    begins_at(text, line_text.as_slice(), column)
+}
+
 /// Whether a text begins in a line at a column of its first row.
-fn begins(text: &[char], line: &[char], column: u8) -> bool
+fn begins_at(text: &[char], line: &[char], column: u8) -> bool
     requires low { 1 ≤ column }
     requires high { column ≤ length line.now }
     ensures { result ≡ begins text.now line.now column }
@@ -191,6 +220,7 @@ pub(crate) fn row_text(still: &Still, line: u8) -> ArrayVec<char, ROW>
 /// The cells of a row from column 1 to its right margin.
 pub(crate) fn cells_of(wide: bool, row: &Row) -> &[Cell]
     requires { length row.now.cells ≡ WIDE_COLUMNS }
+    ensures cells { result.now ≡ take (margin_of wide row.now.size) row.now.cells }
     ensures text { characters result.now ≡ row_text wide row.now }
     ensures some { 1 ≤ length result.now }
 {

@@ -12,5 +12,5 @@ loop-at-preserved c =
     let at = c.loop-at.at in
     begins_no_more text cells at c.args.behind c.loop-at-test.true
     (λ rest. ap (λ l. starts_with nat_eq (characters l ++ rest) text) (sym (take_all (length cells - at) (drop at cells) (omega (arith, length-drop at cells))))
-    ∙ c.agrees.ensures c.if-agrees.false rest)
+    ∙ c.agrees.ensures.no c.if-agrees.false rest)
     c.loop-at.invariant

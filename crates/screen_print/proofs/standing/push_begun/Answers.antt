@@ -1,16 +1,27 @@
 use Rattle.std.proofs.Common.{◌≡◌, ◌-◌, [], ◌∷◌, ◌∙◌, ap, sym, arith, drop, length, append-nil}
+use Rattle.std.proofs.lemmas.List.{length-map}
 use Rattle.std.proofs.lemmas.List.Elements.{All-append}
-use Rattle.screen_print.specs.FindLines.{begins, line_text_from, place_in, row_texts}
+use Rattle.vt_screen.specs.declared.cell.Cell.{Cell}
+use Rattle.vt_screen.specs.Cells.{row_at}
+use Rattle.screen_print.specs.FindLines.{begins, line_text_from, place_in, row_text, row_texts}
+use Rattle.screen_print.specs.Glyphs.{character}
 use Rattle.screen_print.specs.Places.{IsPlace}
-use Rattle.screen_print.proofs.FindLemmas.{columns_fit, place_alone, placed_step}
+use Rattle.screen_print.specs.Quiet.{characters}
+use Rattle.screen_print.proofs.FindLemmas.{place_alone, placed_step}
 use Rattle.screen_print.proofs.standing.push_begun.Goals as goal
 use Rattle.screen_print.proofs.standing.push_begun.Goals.{then-begins, else-begins}
 
-pub begins-requires-clause-high : goal.begins-requires-clause-high
-begins-requires-clause-high c =
+pub begins-requires-clause-right : goal.begins-requires-clause-right
+begins-requires-clause-right c =
     let still = c.args.still.now in
-    let fit = columns_fit still c.args.line c.sound.ensures.whole c.requires.low c.requires.high in
-    omega (arith, fit, ap length (c.as_slice.ensures.value ∙ c.line_text-line_text.ensures), c.columns_of-columns.ensures.columns)
+    let is : characters c.cells_of-cells.result.now ≡ row_text still.wide (row_at still.rows c.args.line) =
+    c.cells_of-cells.ensures.text ∙ ap (λ wide. row_text wide c.row.result.now) c.is_wide.ensures ∙ ap (row_text still.wide) c.row.ensures.value in
+    omega (arith, ap length is, length-map c.cells_of-cells.result.now (λ (cell : Cell). character cell.glyph), c.columns_of-columns.ensures.columns)
+
+pub begins-requires-clause-cells : goal.begins-requires-clause-cells
+begins-requires-clause-cells c =
+    let still = c.args.still.now in
+    c.cells_of-cells.ensures.text ∙ ap (λ wide. row_text wide c.row.result.now) c.is_wide.ensures ∙ ap (row_text still.wide) c.row.ensures.value
 
 pub loop-column-preserved : goal.loop-column-preserved
 loop-column-preserved c =
@@ -20,7 +31,7 @@ loop-column-preserved c =
     let text = c.args.text.now in
     let lines = line_text_from (drop (line - 1) (row_texts still)) in
     let before = c.loop-column.places.items in
-    let is : c.begins.result ≡ begins text lines column = c.begins.ensures ∙ ap (λ l. begins text l column) (c.as_slice.ensures.value ∙ c.line_text-line_text.ensures) in
+    let is : c.begins.result ≡ begins text lines column = c.begins.ensures in
     record {
       placed = placed_step text line lines column c.begins.result c.args.places.now.items before c.if-begins.places.items (omega arith) is c.loop-column.invariant.placed
           (elim c.if-begins.branch [

@@ -1,0 +1,110 @@
+-- Rows in which a text begins nowhere, told by the glyphs of three cells side by side.
+use Rattle.std.proofs.Common.{◌≡◌, ℕ, ◌+◌, ◌*◌, ◌%◌, ◌-◌, ◌<◌, ◌≤◌, Bool, true, false, List, ◌++◌, length, get_or, take, drop, map, nat_eq, nat_lt, refl, ap, sym, ◌∙◌, subst, arith, ◌||◌, ◌&&◌, inl, inr, ◌⊎◌, slice_index}
+use Rattle.std.specs.Int.Bits.{and_zero_r, bit_and}
+use Rattle.std.specs.List.{AllPass, starts_with}
+use Rattle.std.proofs.lemmas.Bool.{cases_lt, eq-eqb, false≢true, le-ltb, lt-ltb}
+use Rattle.std.proofs.lemmas.List.{drop-append-le, drop-map, get_or-drop, get_or-take, length-drop, length-map, length-take}
+use Rattle.std.proofs.lemmas.List.Elements.{All-get_or}
+use Rattle.std.proofs.lemmas.Nat.{and_mask}
+use Rattle.std.proofs.lemmas.List.Sums.{AllPass-from_list_all}
+use Rattle.vt_screen.specs.declared.cell.Cell.{Cell}
+use Rattle.vt_screen.specs.declared.cell.Row.{Row}
+use Rattle.vt_screen.specs.Attributes.{byte_of}
+use Rattle.vt_screen.specs.Cells.{blank}
+use Rattle.vt_screen.specs.Picture.{margin_of}
+use Rattle.screen_print.specs.declared.start.Start.{Start}
+use Rattle.screen_print.specs.declared.start.Wanted.{Wanted}
+use Rattle.screen_print.specs.FindLines.{begins, row_text}
+use Rattle.screen_print.specs.Glyphs.{character, special_graphics}
+use Rattle.screen_print.specs.Quiet.{BeginsUpTo, characters}
+use Rattle.screen_print.specs.Start.{IsStart, Wants, fits, starts_at}
+use Rattle.screen_print.proofs.QuietLemmas.{differs_at}
+
+-- ---- what is wanted
+
+out_of : (c : ℕ) → 33 ≤ c → c < 127 → (nat_lt c 33 || nat_lt 126 c) ≡ true → ⊥
+out_of c low high out =
+    let no : nat_lt c 33 ≡ false = le-ltb c 33 low in
+    let nor : nat_lt 126 c ≡ false = le-ltb 126 c (omega arith) in
+    false≢true (sym (rw (no, nor) refl) ∙ out)
+
+-- a character of ASCII behind the space is shown by one glyph
+pub graphic : (glyph c : ℕ) → 33 ≤ c → c < 127 → character glyph ≡ c → glyph ≡ c
+graphic glyph c low high is = elim (cases_lt glyph 32) [
+  | inl lt ↦
+      let special : slice_index special_graphics glyph ≡ c = rw (lt-ltb glyph 32 lt) at is in
+      let all : AllPass (λ x. nat_lt x 33 || nat_lt 126 x) special_graphics =
+      AllPass-from_list_all (λ x. nat_lt x 33 || nat_lt 126 x) special_graphics refl in
+      let out : (nat_lt (slice_index special_graphics glyph) 33 || nat_lt 126 (slice_index special_graphics glyph)) ≡ true =
+      All-get_or (λ x. (nat_lt x 33 || nat_lt 126 x) ≡ true) special_graphics glyph 0 lt all in
+      absurd (out_of c low high (rw special at out))
+  | inr ge ↦ rw (le-ltb glyph 32 ge) at is
+]
+
+-- where any cell has what is wanted
+pub any_fits : (cell : Cell) → fits (record { mask = 0; bits = 0 }) cell ≡ true
+any_fits cell = eq-eqb _ 0 (and_zero_r (256 * byte_of cell.rendition + cell.glyph))
+
+-- a cell that shows a character of ASCII behind the space has its number
+pub shown_fits : (cell : Cell) (c : ℕ) → 33 ≤ c → c < 127 → character cell.glyph ≡ c → fits (record { mask = 255; bits = c }) cell ≡ true
+shown_fits cell c low high shown =
+    let glyph = graphic cell.glyph c low high shown in
+    let n = 256 * byte_of cell.rendition + cell.glyph in
+    let rest : n % 256 ≡ c = omega (arith, glyph) in
+    eq-eqb (bit_and n 255) c (and_mask n 8 ∙ rest)
+
+-- ---- three cells
+
+-- cells in which it starts nowhere, and one more
+pub none_more : (start : Start) (cells : List Cell) (at : ℕ) (has here : Bool) → here ≡ starts_at start cells at → (has || here) ≡ false
+    → (has ≡ false → (k : ℕ) → k < at → starts_at start cells k ≡ false) → (k : ℕ) → k < at + 1 → starts_at start cells k ≡ false
+none_more start cells at true here is none before k less = absurd (false≢true (sym none))
+none_more start cells at false here is none before k less = elim (cases_lt k at) [
+  | inl more ↦ before refl k more
+  | inr past ↦
+      let same : k ≡ at = omega arith in
+      ap (starts_at start cells) same ∙ sym is ∙ none
+]
+
+one_fails : (a b c : Bool) → ((a && b) && c) ≡ false → (a ≡ false) ⊎ ((b ≡ false) ⊎ (c ≡ false))
+one_fails false b c h = inl refl
+one_fails true false c h = inr (inl refl)
+one_fails true true c h = inr (inr h)
+
+-- a cell that hasn't what is wanted
+unfit : (text : List ℕ) (cells all : List Cell) (m at place : ℕ) (rest : List ℕ) (wanted : Wanted) → cells ≡ take m all → at + place < length cells
+    → Wants text place wanted → fits wanted (get_or all (at + place) blank) ≡ false → starts_with nat_eq (characters (drop at cells) ++ rest) text ≡ false
+unfit text cells all m at place rest wanted are within wants fails =
+    let says = wants (get_or all (at + place) blank) fails in
+    let front : at + place < m = omega (arith, ap length are, length-take m all) in
+    let cell : get_or (drop at cells) place blank ≡ get_or all (at + place) blank =
+    get_or-drop at cells place blank ∙ ap (λ l. get_or l (at + place) blank) are ∙ get_or-take m all (at + place) blank front in
+    differs_at text (drop at cells) rest place blank 0 says.0 (omega (arith, length-drop at cells))
+    (λ shown. says.1 (ap (λ (c : Cell). character c.glyph) (sym cell) ∙ shown))
+
+starts_not : (text : List ℕ) (start : Start) (cells all : List Cell) (m at : ℕ) (rest : List ℕ) → IsStart text start → cells ≡ take m all
+    → at + 2 < length cells → starts_at start all at ≡ false → starts_with nat_eq (characters (drop at cells) ++ rest) text ≡ false
+starts_not text start cells all m at rest is are within fails =
+    let here : at + 0 ≡ at = omega arith in
+    elim (one_fails (fits start.first (get_or all at blank)) (fits start.second (get_or all (at + 1) blank)) (fits start.third (get_or all (at + 2) blank)) fails) [
+      | inl first ↦ unfit text cells all m at 0 rest start.first are (omega arith) is.first (ap (λ n. fits start.first (get_or all n blank)) here ∙ first)
+      | inr (inl second) ↦ unfit text cells all m at 1 rest start.second are (omega arith) is.second second
+      | inr (inr third) ↦ unfit text cells all m at 2 rest start.third are (omega arith) is.third third
+    ]
+
+-- a row in which a text starts nowhere but in its last two cells, and there begins nowhere either
+pub begins_nowhere : (text : List ℕ) (start : Start) (wide : Bool) (row : Row) (cells : List Cell) (behind : ℕ) → IsStart text start
+    → cells ≡ take (margin_of wide row.size) row.cells → characters cells ≡ row_text wide row → behind ≡ length cells - 2
+    → ((k : ℕ) → k + 2 < length (row_text wide row) → starts_at start row.cells k ≡ false)
+    → BeginsUpTo text behind (characters cells) → BeginsUpTo text 0 (row_text wide row)
+begins_nowhere text start wide row cells behind is are same at_end none tail =
+    let read : Cell → ℕ = λ c. character c.glyph in
+    let long : length cells ≡ length (row_text wide row) = sym (length-map cells read) ∙ ap length same in
+    subst (BeginsUpTo text 0) same (λ rest column low high. elim (cases_lt behind column) [
+      | inl more ↦ tail rest column more high
+      | inr less ↦
+          let at = column - 1 in
+          let within : at + 2 < length cells = omega arith in
+          ap (λ l. starts_with nat_eq l text) (drop-append-le at (characters cells) rest (omega (arith, length-map cells read)) ∙ ap (λ l. l ++ rest) (drop-map read at cells))
+          ∙ starts_not text start cells row.cells (margin_of wide row.size) at rest is are within (none at (omega (arith, long)))
+    ])

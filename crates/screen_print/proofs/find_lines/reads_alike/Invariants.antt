@@ -1,0 +1,7 @@
+use Rattle.std.proofs.Common.{◌≡◌, take}
+use Rattle.screen_print.specs.Quiet.{characters}
+use Rattle.screen_print.proofs.find_lines.reads_alike.Given as goal
+
+-- the cells so far are read alike
+abbrev pub invariant-loop-at : goal.invariant-loop-at
+invariant-loop-at l = take l.at (characters l.one) ≡ take l.at (characters l.other)
