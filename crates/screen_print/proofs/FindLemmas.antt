@@ -113,7 +113,7 @@ joined_all still at text whole rows high before =
     sym (append-nil text) ∙ ap (λ t. text ++ line_text_from t) (sym (no_texts still (at - 1) rows (omega arith))) ∙ before
 
 -- the same of rows that have so many characters
-enough : (n : ℕ) (row : List ℕ) (rows : List (List ℕ)) → nat_le n (length row) ≡ true → row ≡ rows_reaching n (row ∷ rows)
+pub enough : (n : ℕ) (row : List ℕ) (rows : List (List ℕ)) → nat_le n (length row) ≡ true → row ≡ rows_reaching n (row ∷ rows)
 unfolding rows_reaching
 enough n row rows ends = rw ends (sym (append-nil row))
 

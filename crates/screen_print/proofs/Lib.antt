@@ -5,6 +5,7 @@ mod StillLemmas
 mod WalkLemmas
 mod ChangeLemmas
 mod FindLemmas
+mod FoundLemmas
 mod QuietLemmas
 mod StartLemmas
 mod EscapedLemmas

@@ -35,6 +35,7 @@ ghost use Rattle.screen_print.specs.FindLines.{
   find_lines,
   find_text,
   found_line,
+  found_rows,
   heading,
   is_less,
   left_of,
@@ -48,6 +49,7 @@ ghost use Rattle.screen_print.specs.Stills.{still_of};
 ghost use Rattle.screen_print.specs.Stops.{OnlySeeks, StopsWalk};
 
 use crate::glyphs::character;
+use crate::plain_print::printed_row;
 use crate::quiet::stays;
 use crate::standing::{Place, cells_of, found_rows, standing};
 use crate::still::Still;
@@ -305,7 +307,50 @@ fn put_found<W: Write>(
 {
     writers_join::<W>();
     put_heading(sign, chunk, place, writer)?;
-    let rows = found_rows(still, place, chunk.len);
+    put_rows(still, place, chunk.len, writer)?;
+    Ok(())
+}
+
+/// Writes the rows of a found text of so many characters, and LF. Where it stands in one row that is the row
+/// as it is printed.
+fn put_rows<W: Write>(
+    still: &Still,
+    place: Place,
+    len: usize,
+    writer: &mut Watched<W>,
+) -> Result<(), Fault>
+    requires place { IsPlace still.now place }
+    requires sound { has_failed writer.old ≡ false }
+    ensures { Puts W.contents writer.old writer.new
+        (flat_map encode_utf8 (found_rows len still.now place) ++ 10 ∷ []) result }
+{
+    still.sound();
+    let row = still.row(place.line);
+    let columns = cells_of(still.is_wide(), row).len();
+    let least = len as u128 + u128::from(place.column) - 1;
+    if least <= columns as u128 {
+        let text = printed_row(still.is_wide(), row);
+        return writer.put(text.as_str().as_bytes());
+    }
+    put_joined_rows(still, place, len, writer)
+}
+
+/// The same by joining the rows. Its variables are large, so it stands apart.
+#[cold]
+#[inline(never)]
+fn put_joined_rows<W: Write>(
+    still: &Still,
+    place: Place,
+    len: usize,
+    writer: &mut Watched<W>,
+) -> Result<(), Fault>
+    requires place { IsPlace still.now place }
+    requires sound { has_failed writer.old ≡ false }
+    ensures { Puts W.contents writer.old writer.new
+        (flat_map encode_utf8 (found_rows len still.now place) ++ 10 ∷ []) result }
+{
+    writers_join::<W>();
+    let rows = found_rows(still, place, len);
     put_chars(rows.as_slice(), writer)?;
     writer.put(b"\n")?;
     Ok(())

@@ -7,12 +7,13 @@ ghost use Rattle.tape_core.specs.Devices.{Puts, has_failed, is_flushed};
 ghost use Rattle.screen_print.specs.PlainText.{is_space, plain_text, printed_line, trimmed};
 
 use crate::glyphs::character;
+use crate::standing::cells_of;
 use arrayvec::ArrayString;
 use std::io::Write;
 use tape_core::laws::{pieces_join, writers_join};
 use tape_core::{Fault, Watched};
 use vt_screen::laws::screens_are_sound;
-use vt_screen::limits::LINES;
+use vt_screen::limits::{LINES, WIDE_COLUMNS};
 use vt_screen::{Cell, Row, Screen};
 use vt_term::Terminal;
 
@@ -55,8 +56,16 @@ fn printed_line(screen: &Screen, line: u8) -> ArrayString<LINE_BYTES>
     ensures { result.bytes
         ≡ printed_line screen.now.picture.wide (row_at screen.now.picture.rows line) }
 {
-    let margin = screen.right_margin(line) as usize;
-    let cells = &screen.row(line).cells[..margin];
+    screens_are_sound(screen);
+    printed_row(screen.is_wide(), screen.row(line))
+}
+
+/// A row as it is printed, and LF.
+pub(crate) fn printed_row(wide: bool, row: &Row) -> ArrayString<LINE_BYTES>
+    requires { length row.now.cells ≡ WIDE_COLUMNS }
+    ensures { result.bytes ≡ printed_line wide row.now }
+{
+    let cells = cells_of(wide, row);
     let mut text = ArrayString::new();
     for cell in trimmed(cells) {
         text.push(character(cell.glyph));

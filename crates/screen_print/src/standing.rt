@@ -221,6 +221,7 @@ pub(crate) fn row_text(still: &Still, line: u8) -> ArrayVec<char, ROW>
 pub(crate) fn cells_of(wide: bool, row: &Row) -> &[Cell]
     requires { length row.now.cells ≡ WIDE_COLUMNS }
     ensures cells { result.now ≡ take (margin_of wide row.now.size) row.now.cells }
+    ensures few { length result.now ≤ WIDE_COLUMNS }
     ensures text { characters result.now ≡ row_text wide row.now }
     ensures some { 1 ≤ length result.now }
 {

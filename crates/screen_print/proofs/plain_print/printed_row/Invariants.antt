@@ -1,7 +1,7 @@
 use Rattle.std.proofs.Common.{◌≡◌, ◌*◌, ◌≤◌, length, take}
 use Rattle.std.specs.List.{flat_map}
 use Rattle.screen_print.specs.PlainText.{printed}
-use Rattle.screen_print.proofs.plain_print.printed_line.Given as goal
+use Rattle.screen_print.proofs.plain_print.printed_row.Given as goal
 
 -- the cells so far are printed, and there is room for the others
 abbrev pub invariant-loop-cell : goal.invariant-loop-cell
