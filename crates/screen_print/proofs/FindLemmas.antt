@@ -1,8 +1,8 @@
 -- Row texts, lines, and the places of a text.
-use Rattle.std.proofs.Common.{◌≡◌, ℕ, zero, suc, ◌+◌, ◌-◌, ◌<◌, ◌≤◌, Bool, true, false, List, [], ◌∷◌, ◌++◌, length, get_or, take, drop, filter, map, nat_le, refl, ap, sym, ◌∙◌, subst, arith, append_assoc, append-nil, cond}
+use Rattle.std.proofs.Common.{◌≡◌, ℕ, zero, suc, ◌+◌, ◌-◌, ◌<◌, ◌≤◌, Bool, true, false, List, [], ◌∷◌, ◌++◌, length, get_or, take, drop, filter, map, nat_le, refl, ap, sym, ◌∙◌, arith, append_assoc, append-nil, cond}
 use Rattle.std.specs.List.{range_with_len}
 use Rattle.std.proofs.lemmas.Bool.{le-leb, lt-leb}
-use Rattle.std.proofs.lemmas.List.{drop_all, drop_more, get_or-map, take_all, length-append, length-map, length-take-le, map-append}
+use Rattle.std.proofs.lemmas.List.{drop_all, drop_more, get_or-map, take_all, length-map, length-take-le, map-append}
 use Rattle.std.proofs.lemmas.List.Elements.{filter-append}
 use Rattle.vt_screen.specs.declared.cell.Row.{Row}
 use Rattle.vt_screen.specs.Cells.{blank_row, row_at}
@@ -45,14 +45,6 @@ pub line_ends : (row : List ℕ) (rows : List (List ℕ)) → ends_line row ≡ 
 unfolding line_text_from
 line_ends row rows ends = rw ends (sym (append-nil row))
 
-pub line_runs_on : (row : List ℕ) (rows : List (List ℕ)) → ends_line row ≡ false → row ++ line_text_from rows ≡ line_text_from (row ∷ rows)
-unfolding line_text_from
-line_runs_on row rows goes = rw goes refl
-
-pub row_fits : (row : List ℕ) (rows : List (List ℕ)) → length row ≤ length (line_text_from (row ∷ rows))
-unfolding line_text_from
-row_fits row rows = omega (arith, length-append row (cond (ends_line row) [] (line_text_from rows)))
-
 -- ---- places
 
 places_one : (text : List ℕ) (line : ℕ) (lines : List ℕ) (column : ℕ) (here : Bool) → here ≡ begins text lines column
@@ -86,33 +78,7 @@ places_row text still line whole low high = rw (texts_at still line whole low hi
 here_again : (still : Still) (at : ℕ) → drop (at + 1 - 1) (row_texts still) ≡ drop at (row_texts still)
 here_again still at = ap (λ n. drop n (row_texts still)) (omega arith)
 
-pub joined_more : (still : Still) (at : ℕ) (text row whole : List ℕ) → length still.rows ≡ 24 → 1 ≤ at → at ≤ 24
-    → row ≡ row_text still.wide (row_at still.rows at) → ends_line row ≡ false
-    → text ++ line_text_from (drop (at - 1) (row_texts still)) ≡ whole → (text ++ row) ++ line_text_from (drop (at + 1 - 1) (row_texts still)) ≡ whole
-joined_more still at text row whole rows low high is goes before =
-    append_assoc text row (line_text_from (drop (at + 1 - 1) (row_texts still)))
-    ∙ ap (λ t. text ++ (row ++ line_text_from t)) (here_again still at)
-    ∙ ap (λ t. text ++ t) (line_runs_on row (drop at (row_texts still)) goes
-    ∙ ap (λ r. line_text_from (r ∷ drop at (row_texts still))) is
-    ∙ ap line_text_from (sym (texts_at still at rows low high)))
-    ∙ before
-
-pub joined_end : (still : Still) (at : ℕ) (text row whole : List ℕ) → length still.rows ≡ 24 → 1 ≤ at → at ≤ 24
-    → row ≡ row_text still.wide (row_at still.rows at) → ends_line row ≡ true
-    → text ++ line_text_from (drop (at - 1) (row_texts still)) ≡ whole → text ++ row ≡ whole
-joined_end still at text row whole rows low high is ends before =
-    ap (λ t. text ++ t) (line_ends row (drop at (row_texts still)) ends
-    ∙ ap (λ r. line_text_from (r ∷ drop at (row_texts still))) is
-    ∙ ap line_text_from (sym (texts_at still at rows low high)))
-    ∙ before
-
-pub joined_all : (still : Still) (at : ℕ) (text whole : List ℕ) → length still.rows ≡ 24 → 24 < at
-    → text ++ line_text_from (drop (at - 1) (row_texts still)) ≡ whole → text ≡ whole
-unfolding line_text_from
-joined_all still at text whole rows high before =
-    sym (append-nil text) ∙ ap (λ t. text ++ line_text_from t) (sym (no_texts still (at - 1) rows (omega arith))) ∙ before
-
--- the same of rows that have so many characters
+-- rows that have so many characters
 pub enough : (n : ℕ) (row : List ℕ) (rows : List (List ℕ)) → nat_le n (length row) ≡ true → row ≡ rows_reaching n (row ∷ rows)
 unfolding rows_reaching
 enough n row rows ends = rw ends (sym (append-nil row))
@@ -165,12 +131,6 @@ pub standing_all : (text : List ℕ) (still : Still) (line : ℕ) (places : List
 unfolding places_from
 standing_all text still line places rows high before =
     sym (append-nil places) ∙ ap (λ t. places ++ places_from text line t) (sym (no_texts still (line - 1) rows (omega arith))) ∙ before
-
-pub columns_fit : (still : Still) (line : ℕ) → length still.rows ≡ 24 → 1 ≤ line → line ≤ 24
-    → length (row_text still.wide (row_at still.rows line)) ≤ length (line_text_from (drop (line - 1) (row_texts still)))
-columns_fit still line rows low high =
-    subst (λ l. length (row_text still.wide (row_at still.rows line)) ≤ length (line_text_from l)) (sym (texts_at still line rows low high))
-    (row_fits (row_text still.wide (row_at still.rows line)) (drop line (row_texts still)))
 
 -- places, a column more
 pub placed_step : (text : List ℕ) (line : ℕ) (lines : List ℕ) (column : ℕ) (here : Bool) (old before new : List Place)

@@ -13,7 +13,7 @@ use Rattle.screen_print.specs.declared.standing.Place.{Place}
 use Rattle.screen_print.specs.FindLines.{found_rows, row_text, row_texts, rows_at, rows_reaching}
 use Rattle.screen_print.specs.Glyphs.{character, special_graphics}
 use Rattle.screen_print.specs.Places.{IsPlace}
-use Rattle.screen_print.specs.PlainText.{is_space, printed, printed_line, trimmed}
+use Rattle.screen_print.specs.PlainText.{is_space, printed_line, trimmed}
 use Rattle.screen_print.specs.Stills.{Still}
 use Rattle.screen_print.proofs.FindLemmas.{enough, texts_at}
 

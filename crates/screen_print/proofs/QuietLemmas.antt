@@ -1,18 +1,18 @@
 -- Chunks that leave a text where it stands.
-use Rattle.std.proofs.Common.{◌≡◌, ℕ, zero, suc, ◌+◌, ◌-◌, ◌<◌, ◌≤◌, Bool, true, false, List, [], ◌∷◌, ◌++◌, length, get_or, take, drop, filter, map, nat_eq, refl, ap, sym, ◌∙◌, subst, arith, append-nil, cond, inl, inr, ◌||◌, nat_lt, slice_index}
+use Rattle.std.proofs.Common.{◌≡◌, ℕ, zero, suc, ◌+◌, ◌-◌, ◌<◌, ◌≤◌, Bool, true, false, List, [], ◌∷◌, ◌++◌, length, get_or, take, drop, filter, map, nat_eq, refl, ap, sym, ◌∙◌, subst, arith, append-nil, cond, inl, inr}
 use Rattle.std.specs.Cmp.Lexicographic.{pointwise}
-use Rattle.std.specs.List.{All, AllPass, count_by, flat_map, range_with_len, starts_with}
-use Rattle.std.proofs.lemmas.Bool.{cases_Bool, cases_lt, eq-eqb, false≢true, le-ltb, lt-leb, lt-ltb}
+use Rattle.std.specs.List.{All, count_by, flat_map, range_with_len, starts_with}
+use Rattle.std.proofs.lemmas.Bool.{cases_Bool, cases_lt, eq-eqb, lt-leb}
 use Rattle.std.proofs.lemmas.Bool.Decides.{Decides-eqb}
 use Rattle.std.proofs.lemmas.Slice.Eq.{slice_eq-Decides}
 use Rattle.vt_screen.specs.declared.cell.Cell.{Cell}
 use Rattle.vt_screen.specs.declared.cell.Row.{Row}
 use Rattle.screen_print.specs.Glyphs.{character}
 use Rattle.std.proofs.lemmas.List.FromFn.{length-range_with_len}
-use Rattle.std.proofs.lemmas.List.Sums.{AllPass-from_list_all, count_by_more_yes, length-filter, sum_by-take-le}
-use Rattle.std.proofs.lemmas.List.{drop-append-le, drop-take, drop-map, get_or_append_left, get_or_default, get_or-drop, get_or-map, get_or-take, length-map, take-append-le, take-map, take-take, take_all, take_more, take_rest}
-use Rattle.std.proofs.lemmas.List.Elements.{All-append, All-filter, All-get_or, All-map, All-nil, filter-append}
-use Rattle.vt_screen.specs.Cells.{blank, row_at}
+use Rattle.std.proofs.lemmas.List.Sums.{count_by_more_yes, length-filter, sum_by-take-le}
+use Rattle.std.proofs.lemmas.List.{drop-append-le, drop-take, drop-map, get_or_append_left, get_or_default, get_or-map, get_or-take, length-map, take-append-le, take-map, take-take, take_all, take_more, take_rest}
+use Rattle.std.proofs.lemmas.List.Elements.{All-append, All-filter, All-map, All-nil, filter-append}
+use Rattle.vt_screen.specs.Cells.{row_at}
 use Rattle.screen_print.specs.declared.standing.Place.{Place}
 use Rattle.screen_print.specs.FindLines.{begins, ends_line, find_text, is_less, left_of, less_line, less_lines, line_text_from, place_in, places_from, places_in, row_text, row_texts, standing}
 use Rattle.screen_print.specs.Quiet.{BeginsUpTo, LineStays, LinesStay, RowStays, characters, columns_of}
@@ -50,7 +50,7 @@ begins_alike : (text one other : List ℕ) (column d : ℕ) → column - 1 + len
 begins_alike text one other column d within same =
     ap (pointwise nat_eq text) (window one other (column - 1) (length text) d within same)
 
-line_is : (row : List ℕ) (rows : List (List ℕ)) → line_text_from (row ∷ rows) ≡ row ++ cond (ends_line row) [] (line_text_from rows)
+pub line_is : (row : List ℕ) (rows : List (List ℕ)) → line_text_from (row ∷ rows) ≡ row ++ cond (ends_line row) [] (line_text_from rows)
 unfolding line_text_from
 line_is row rows = refl
 
@@ -238,6 +238,14 @@ agrees_all text cells rest k fits whole same =
     ∙ sym (take-take (length text) k (characters cells) whole) ∙ ap (take (length text)) same ∙ take-take (length text) k text whole
     ∙ take_all (length text) text (omega arith) in
     ap (pointwise nat_eq text) front ∙ itself text
+
+-- the front of a text
+pub agrees_front : (text : List ℕ) (cells : List Cell) (k : ℕ) → length cells ≤ length text → length cells ≤ k
+    → take k (characters cells) ≡ take k text → characters cells ≡ take (length cells) text
+agrees_front text cells k fits whole same =
+    let read : Cell → ℕ = λ cell. character cell.glyph in
+    sym (take_all (length cells) (characters cells) (omega (arith, length-map cells read)))
+    ∙ sym (take-take (length cells) k (characters cells) whole) ∙ ap (take (length cells)) same ∙ take-take (length cells) k text whole
 
 -- where a text begins in a line is told by the cells of its first row, as far as they go
 pub begins_in : (text : List ℕ) (still : Still) (line column : ℕ) (cells : List Cell) (here : Bool) → length still.rows ≡ 24 → 1 ≤ line → line ≤ 24

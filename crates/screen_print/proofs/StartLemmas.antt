@@ -1,5 +1,5 @@
 -- Rows in which a text begins nowhere, told by the glyphs of three cells side by side.
-use Rattle.std.proofs.Common.{◌≡◌, ℕ, ◌+◌, ◌*◌, ◌%◌, ◌-◌, ◌<◌, ◌≤◌, Bool, true, false, List, ◌++◌, length, get_or, take, drop, map, nat_eq, nat_lt, refl, ap, sym, ◌∙◌, subst, arith, ◌||◌, ◌&&◌, inl, inr, ◌⊎◌, slice_index}
+use Rattle.std.proofs.Common.{◌≡◌, ℕ, ◌+◌, ◌*◌, ◌%◌, ◌-◌, ◌<◌, ◌≤◌, Bool, true, false, List, ◌++◌, length, get_or, take, drop, nat_eq, nat_lt, refl, ap, sym, ◌∙◌, subst, arith, ◌||◌, ◌&&◌, inl, inr, ◌⊎◌, slice_index}
 use Rattle.std.specs.Int.Bits.{and_zero_r, bit_and}
 use Rattle.std.specs.List.{AllPass, starts_with}
 use Rattle.std.proofs.lemmas.Bool.{cases_lt, eq-eqb, false≢true, le-ltb, lt-ltb}
@@ -14,7 +14,7 @@ use Rattle.vt_screen.specs.Cells.{blank}
 use Rattle.vt_screen.specs.Picture.{margin_of}
 use Rattle.screen_print.specs.declared.start.Start.{Start}
 use Rattle.screen_print.specs.declared.start.Wanted.{Wanted}
-use Rattle.screen_print.specs.FindLines.{begins, row_text}
+use Rattle.screen_print.specs.FindLines.{row_text}
 use Rattle.screen_print.specs.Glyphs.{character, special_graphics}
 use Rattle.screen_print.specs.Quiet.{BeginsUpTo, characters}
 use Rattle.screen_print.specs.Start.{IsStart, Wants, fits, starts_at}

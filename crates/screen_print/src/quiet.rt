@@ -207,6 +207,8 @@ pub(crate) fn agrees(text: &[char], cells: &[Cell]) -> bool
         → starts_with nat_eq (characters cells.now ++ rest) text.now ≡ false }
     ensures yes { result ≡ true → length text.now ≤ length cells.now → (rest : List ℕ)
         → starts_with nat_eq (characters cells.now ++ rest) text.now ≡ true }
+    ensures front { result ≡ true → length cells.now ≤ length text.now
+        → characters cells.now ≡ take (length cells.now) text.now }
 {
     for at in 0..text.len().min(cells.len()) {
         if character(cells[at].glyph) != text[at] {

@@ -82,8 +82,7 @@ fn push_begun(still: &Still, text: &[char], line: u8, places: &mut ArrayVec<Plac
     }
 }
 
-/// Whether a text begins in a line at a column of its first row, which has these cells. The line is laid out
-/// only where the row ends before the text does.
+/// Whether a text begins in a line at a column of its first row, which has these cells.
 fn begins(still: &Still, text: &[char], line: u8, cells: &[Cell], column: u8) -> bool
     requires low { 1 ≤ line }
     requires high { line ≤ LINES }
@@ -100,9 +99,8 @@ fn begins(still: &Still, text: &[char], line: u8, cells: &[Cell], column: u8) ->
     text.len() <= cells.len() || runs_on(still, text, line, column)
 }
 
-/// The same by laying out the line. Its variables are large, so it stands apart.
+/// The same row by row, where the row ends before the text does.
 #[cold]
-#[inline(never)]
 fn runs_on(still: &Still, text: &[char], line: u8, column: u8) -> bool
     requires low { 1 ≤ line }
     requires high { line ≤ LINES }
@@ -111,35 +109,24 @@ fn runs_on(still: &Still, text: &[char], line: u8, column: u8) -> bool
     ensures { result ≡ begins text.now (line_text_from (drop (line - 1) (row_texts still.now))) column }
 {
     still.sound();
-    let line_text = line_text(still, line);
-    begins_at(text, line_text.as_slice(), column)
-}
-
-/// Whether a text begins in a line at a column of its first row.
-fn begins_at(text: &[char], line: &[char], column: u8) -> bool
-    requires low { 1 ≤ column }
-    requires high { column ≤ length line.now }
-    ensures { result ≡ begins text.now line.now column }
-{
-    line[column as usize - 1..].starts_with(text)
-}
-
-/// The line's text from a row on.
-fn line_text(still: &Still, line: u8) -> ArrayVec<char, CELLS>
-    requires low { 1 ≤ line }
-    requires high { line ≤ LINES }
-    ensures { result.items ≡ line_text_from (drop (line - 1) (row_texts still.now)) }
-{
-    still.sound();
-    let mut text = ArrayVec::new();
+    let mut rest = text;
+    let mut from = column as usize - 1;
     for at in line..LINES + 1 {
-        let row = row_text(still, at);
-        push_chars(&mut text, row.as_slice());
-        if ends_line(row.as_slice()) {
-            return text;
+        let cells = cells_of(still.is_wide(), still.row(at));
+        let part = &cells[from..];
+        if !agrees(rest, part) {
+            return false;
         }
+        if rest.len() <= part.len() {
+            return true;
+        }
+        if ends_line(cells) {
+            return false;
+        }
+        rest = &rest[part.len()..];
+        from = 0;
     }
-    text
+    false
 }
 
 /// The rows of a found text of so many characters, from its first character's to its last one's, without
@@ -186,11 +173,11 @@ fn rows_reaching(still: &Still, line: u8, least: u128) -> ArrayVec<char, CELLS>
 }
 
 /// Whether a row ends its line.
-fn ends_line(row: &[char]) -> bool
+fn ends_line(row: &[Cell]) -> bool
     requires { 1 ≤ length row.now }
-    ensures { result ≡ ends_line row.now }
+    ensures { result ≡ ends_line (characters row.now) }
 {
-    row[row.len() - 1] == ' '
+    character(row[row.len() - 1].glyph) == ' '
 }
 
 fn push_chars(text: &mut ArrayVec<char, CELLS>, chars: &[char])

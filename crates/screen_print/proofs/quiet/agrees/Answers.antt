@@ -1,5 +1,5 @@
 use Rattle.std.proofs.Common.{◌∙◌, arith, sym}
-use Rattle.screen_print.proofs.QuietLemmas.{agrees_all, agrees_more, differs_at}
+use Rattle.screen_print.proofs.QuietLemmas.{agrees_all, agrees_front, agrees_more, differs_at}
 use Rattle.screen_print.proofs.quiet.agrees.Goals as goal
 
 pub returns-then-character-text-clause-no : goal.returns-then-character-text-clause-no
@@ -14,3 +14,6 @@ loop-at-preserved c =
 
 pub returns-clause-yes : goal.returns-clause-yes
 returns-clause-yes c = λ told fits rest. agrees_all c.args.text.now c.args.cells.now rest c.loop-at.at fits (omega arith) c.loop-at.invariant
+
+pub returns-clause-front : goal.returns-clause-front
+returns-clause-front c = λ told fits. agrees_front c.args.text.now c.args.cells.now c.loop-at.at fits (omega arith) c.loop-at.invariant

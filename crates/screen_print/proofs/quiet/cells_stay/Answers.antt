@@ -1,4 +1,3 @@
-use Rattle.std.proofs.Common.{arith}
 use Rattle.std.proofs.lemmas.Bool.{not-true}
 use Rattle.screen_print.proofs.QuietLemmas.{cells_stay}
 use Rattle.screen_print.proofs.quiet.cells_stay.Goals as goal
