@@ -85,6 +85,8 @@ fn jobs_that_play_tell_a_note(rt: HostRuntime) {
         Job::Changes { from, to, profile },
         Job::Find { from, to, profile },
         Job::Reports { at, profile },
+        Job::Page { profile },
+        Job::Cast { profile },
         Job::Session { every: 1, profile },
     ];
     for job in &told {

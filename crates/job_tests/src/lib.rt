@@ -4,6 +4,8 @@
 #![tactic(auto)]
 
 #[cfg(test)]
+mod cast;
+#[cfg(test)]
 mod check;
 #[cfg(test)]
 mod find;
@@ -13,6 +15,8 @@ mod in_memory;
 mod jobs;
 #[cfg(test)]
 mod moments;
+#[cfg(test)]
+mod page;
 #[cfg(test)]
 mod picture;
 #[cfg(test)]

@@ -84,6 +84,8 @@ fn reads_other_jobs(rt: HostRuntime) -> Result<(), Fail> {
         ("typetool info s t", Job::Info),
         ("typetool info -- s t", Job::Info),
         ("typetool check s t", Job::Check { profile: vt100 }),
+        ("typetool page -- s t", Job::Page { profile: vt100 }),
+        ("typetool cast s t", Job::Cast { profile: vt100 }),
         ("typetool save s t u v", Job::Save),
         ("typetool screen --at 0.5 s t", screen(500_000, vt100)),
         ("typetool screen s t --at=12", screen(12_000_000, vt100)),
@@ -178,7 +180,7 @@ pub fn compare_left(rt: &(impl Runtime<A = Global> + Abort), line: &str) -> Resu
 }
 
 /// Lines that are none of the program's.
-const MISTAKES: [&str; 32] = [
+const MISTAKES: [&str; 37] = [
     "typetool",
     "typetool dew",
     "typetool help dew",
@@ -207,6 +209,11 @@ const MISTAKES: [&str; 32] = [
     "typetool changes --at 1 --to 1 s t",
     "typetool changes --from=1 --from=1 --to=1 s t",
     "typetool changes --to=1 s t u",
+    "typetool page s",
+    "typetool page --at 1 s t",
+    "typetool page s t u",
+    "typetool cast s",
+    "typetool cast --to 1 s t",
     "typetool save s t",
     "typetool save --at 1 s t u v",
     "typetool session --at 1 s t",

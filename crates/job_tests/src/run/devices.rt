@@ -1,5 +1,5 @@
 //! Every job over devices that take or tell one byte a call, each of which fails in turn.
-use crate::in_memory::DONE;
+use crate::in_memory::{DONE, do_job};
 use crate::picture::AB_PICTURE;
 use std::io;
 use std::io::{ErrorKind, Read, Write};
@@ -98,17 +98,17 @@ const TIMING: &[u8] = b"0.000000 1\n0.500000 1\n";
 /// A job with the text beside it and its request lines, over two chunks of a byte each: whether it reads the lines, and
 /// both texts.
 #[derive(Clone, Copy)]
-struct Case {
+struct Case<'a> {
     job: Job,
     sought: &'static [char],
     requests: &'static [u8],
     reads_requests: bool,
-    text: &'static [u8],
+    text: &'a [u8],
     new_timing: &'static [u8],
 }
 
 /// A job that reads no request lines and writes one text.
-fn plain_case(job: Job, text: &'static [u8]) -> Case {
+fn plain_case<'a>(job: Job, text: &'a [u8]) -> Case<'a> {
     Case {
         job,
         sought: &[],
@@ -123,7 +123,7 @@ fn plain_case(job: Job, text: &'static [u8]) -> Case {
 const END: u64 = 500_000;
 
 /// Each job at the end of the recording.
-fn cases() -> [Case; 10] {
+fn cases() -> [Case<'static>; 11] {
     let profile = Profile::Vt100;
     let screen = Job::Screen {
         at: END,
@@ -150,13 +150,14 @@ fn cases() -> [Case; 10] {
         plain_case(changes, b"0 0.000000 1\n1 0.500000 1\n"),
         find_case(profile),
         plain_case(Job::Reports { at: END, profile }, b"\n"),
+        cast_case(profile),
         save_case(),
         session_case(profile),
     ]
 }
 
 /// The second chunk's character.
-fn find_case(profile: Profile) -> Case {
+fn find_case(profile: Profile) -> Case<'static> {
     let job = Job::Find {
         from: None,
         to: END,
@@ -168,8 +169,18 @@ fn find_case(profile: Profile) -> Case {
     }
 }
 
+/// Both chunks draw the first line.
+fn cast_case(profile: Profile) -> Case<'static> {
+    plain_case(
+        Job::Cast { profile },
+        b"{\"version\": 2, \"width\": 80, \"height\": 24}\n\
+            [0.000000, \"o\", \"\\u001b[1;1H\\u001b[0m\\u001b[2K\\u001b[0ma\\u001b[0m\\u001b[1;2H\"]\n\
+            [0.500000, \"o\", \"\\u001b[1;1H\\u001b[0m\\u001b[2K\\u001b[0mab\\u001b[0m\\u001b[1;3H\"]\n",
+    )
+}
+
 /// Another chunk goes in, and both files are written.
-fn save_case() -> Case {
+fn save_case() -> Case<'static> {
     Case {
         job: Job::Save,
         sought: &[],
@@ -181,7 +192,7 @@ fn save_case() -> Case {
 }
 
 /// A chunk goes out, and what is left is told.
-fn session_case(profile: Profile) -> Case {
+fn session_case(profile: Profile) -> Case<'static> {
     Case {
         job: Job::Session { every: 1, profile },
         sought: &[],
@@ -219,7 +230,7 @@ struct Ran {
 
 fn run_slowly<R: Abort + AllocGlobal>(
     rt: &R,
-    case: &Case,
+    case: &Case<'_>,
     failing: Failing,
     out: Failure,
     out_timing: Failure,
@@ -276,7 +287,7 @@ fn stopped(fault: Fault) -> Outcome {
 }
 
 /// A run over sound devices: both texts go out whole, with one flush, and request lines are read where the job takes them.
-fn compare_sound<R: Abort + AllocGlobal>(rt: &R, case: &Case) {
+fn compare_sound<R: Abort + AllocGlobal>(rt: &R, case: &Case<'_>) {
     let ran = run_slowly(rt, case, NONE_FAILS, Failure::None, Failure::None);
     assert_eq!(rt;
         (ran.outcome, ran.requests_calls > 0),
@@ -311,7 +322,7 @@ fn is_not_retried(ran: &Ran, failing: Failing) -> bool {
 }
 
 /// A run whose reader fails: no call comes after the failed one, and nothing is written.
-fn compare_unread<R: Abort + AllocGlobal>(rt: &R, case: &Case, failing: Failing) {
+fn compare_unread<R: Abort + AllocGlobal>(rt: &R, case: &Case<'_>, failing: Failing) {
     let ran = run_slowly(rt, case, failing, Failure::None, Failure::None);
     assert_eq!(rt; ran.outcome, stopped(Fault::ReadFault), "{:?}", case.job);
     assert!(rt; is_not_retried(&ran, failing), "{:?} calls again", case.job);
@@ -367,7 +378,7 @@ fn requests_that_fail_stop_the_job(rt: HostRuntime) {
 /// How often timing and request lines are called where a call of the script fails.
 fn calls_behind_a_script<R: Abort + AllocGlobal>(
     rt: &R,
-    case: &Case,
+    case: &Case<'_>,
     call: usize,
 ) -> (usize, usize) {
     let failing = Failing {
@@ -381,7 +392,7 @@ fn calls_behind_a_script<R: Abort + AllocGlobal>(
 /// How often script and request lines are called where a call of the timing fails.
 fn calls_round_a_timing<R: Abort + AllocGlobal>(
     rt: &R,
-    case: &Case,
+    case: &Case<'_>,
     call: usize,
 ) -> (usize, usize) {
     let failing = Failing {
@@ -404,7 +415,7 @@ fn readers_are_read_in_order(rt: HostRuntime) {
 }
 
 /// A run over a pair with a fault, whose request lines fail at a call: how it ended, and the calls of the request lines.
-fn run_damaged<R: Abort + AllocGlobal>(rt: &R, case: &Case, call: usize) -> (Outcome, usize) {
+fn run_damaged<R: Abort + AllocGlobal>(rt: &R, case: &Case<'_>, call: usize) -> (Outcome, usize) {
     let mut requests = Watched::new(slow_reader(case.requests, call));
     let outcome = run_with(
         rt.alloc(),
@@ -444,7 +455,7 @@ fn requests_are_read_before_the_recording_is_judged(rt: HostRuntime) {
 
 /// A run whose first writer fails: a beginning of its text went out, nothing is tried again, and nothing of the second
 /// text is written.
-fn compare_first<R: Abort + AllocGlobal>(rt: &R, case: &Case, failure: Failure, calls: usize) {
+fn compare_first<R: Abort + AllocGlobal>(rt: &R, case: &Case<'_>, failure: Failure, calls: usize) {
     let ran = run_slowly(rt, case, NONE_FAILS, failure, Failure::None);
     assert_eq!(rt;
         ran.outcome,
@@ -466,16 +477,35 @@ fn compare_first<R: Abort + AllocGlobal>(rt: &R, case: &Case, failure: Failure, 
 #[test]
 fn a_writer_that_fails_stops_the_job(rt: HostRuntime) {
     for case in &cases() {
-        let step = case.text.len() / 60 + 1;
-        for call in (0..case.text.len()).step_by(step) {
-            compare_first(&rt, case, Failure::Write(call), call);
-            compare_first(&rt, case, Failure::TakesNothing(call), call);
-        }
+        compare_calls(&rt, case);
     }
 }
 
+/// A run for each of some calls of the first writer, which fails at it.
+fn compare_calls<R: Abort + AllocGlobal>(rt: &R, case: &Case<'_>) {
+    let step = case.text.len() / 60 + 1;
+    for call in (0..case.text.len()).step_by(step) {
+        compare_first(rt, case, Failure::Write(call), call);
+        compare_first(rt, case, Failure::TakesNothing(call), call);
+    }
+}
+
+/// A page's text is long, and what it is to be stands in page.rt.
+#[test]
+fn a_page_over_devices_that_fail(rt: HostRuntime) {
+    let job = Job::Page {
+        profile: Profile::Vt100,
+    };
+    let whole = do_job(rt.alloc(), job, SCRIPT, TIMING, b"");
+    let case = plain_case(job, whole.text.as_slice());
+    compare_sound(&rt, &case);
+    compare_calls(&rt, &case);
+    compare_unflushed(&rt, &case, Failure::FirstFlush);
+    compare_unflushed(&rt, &case, Failure::EachFlush);
+}
+
 /// A run whose first writer fails at its flush: its text is whole, and no flush is tried again.
-fn compare_unflushed<R: Abort + AllocGlobal>(rt: &R, case: &Case, failure: Failure) {
+fn compare_unflushed<R: Abort + AllocGlobal>(rt: &R, case: &Case<'_>, failure: Failure) {
     let ran = run_slowly(rt, case, NONE_FAILS, failure, Failure::None);
     assert_eq!(rt; ran.outcome, stopped(Fault::WriteFault), "{:?}", case.job);
     let (out, out_timing) = (ran.out.into_inner(), ran.out_timing.into_inner());
@@ -494,7 +524,7 @@ fn a_flush_that_fails_stops_the_job(rt: HostRuntime) {
 }
 
 /// A run whose second writer fails: the first text is whole.
-fn compare_second<R: Abort + AllocGlobal>(rt: &R, case: &Case, failure: Failure, taken: usize) {
+fn compare_second<R: Abort + AllocGlobal>(rt: &R, case: &Case<'_>, failure: Failure, taken: usize) {
     let ran = run_slowly(rt, case, NONE_FAILS, Failure::None, failure);
     assert_eq!(rt;
         ran.outcome,

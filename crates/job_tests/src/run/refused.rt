@@ -2,6 +2,7 @@
 //! counts the lines `refused: WHAT`. After a refusal a beginning has gone out, or nothing while the files are read, and
 //! the same job then answers.
 use crate::in_memory::{DONE, Ended};
+use crate::page::data_of;
 use crate::picture::AB_PICTURE;
 use std::alloc::Global;
 use std::process::Abort;
@@ -18,16 +19,16 @@ const TIMING: &[u8] = b"0.5 6\n0.5 11\n0.5 7\n";
 
 /// A job with the text beside it and its request lines, and both texts that it writes.
 #[derive(Clone, Copy)]
-struct Case {
+struct Case<'a> {
     job: Job,
     sought: &'static [char],
     requests: &'static [u8],
-    text: &'static [u8],
+    text: &'a [u8],
     new_timing: &'static [u8],
 }
 
 /// A job that reads no request lines and writes one text.
-fn plain_case(job: Job, text: &'static [u8]) -> Case {
+fn plain_case<'a>(job: Job, text: &'a [u8]) -> Case<'a> {
     Case {
         job,
         sought: &[],
@@ -37,8 +38,8 @@ fn plain_case(job: Job, text: &'static [u8]) -> Case {
     }
 }
 
-/// Bytes for the longest text, which is a picture.
-const ROOM: usize = 3000;
+/// Bytes for the longest text, which is a page.
+const ROOM: usize = 30_000;
 
 /// Room for either text; where memory is refused, once more.
 fn room(rt: &impl Runtime<A = Global>) -> Result<Vec<u8>, Fail> {
@@ -51,7 +52,7 @@ fn room(rt: &impl Runtime<A = Global>) -> Result<Vec<u8>, Fail> {
     }
 }
 
-fn do_job(rt: &(impl Runtime<A = Global> + Abort), case: Case) -> Result<Ended, Fail> {
+fn do_job(rt: &(impl Runtime<A = Global> + Abort), case: Case<'_>) -> Result<Ended, Fail> {
     let mut out = Watched::new(room(rt)?);
     let mut out_timing = Watched::new(room(rt)?);
     let mut note = Watched::new(room(rt)?);
@@ -76,7 +77,7 @@ fn do_job(rt: &(impl Runtime<A = Global> + Abort), case: Case) -> Result<Ended, 
 }
 
 /// Does a job; where memory is refused to it, sees what went out and does it once more.
-fn compare(rt: &(impl Runtime<A = Global> + Abort), case: Case) -> Result<(), Fail> {
+fn compare(rt: &(impl Runtime<A = Global> + Abort), case: Case<'_>) -> Result<(), Fail> {
     let ended = do_job(rt, case)?;
     let Some(fault) = ended.outcome.fault else {
         compare_whole(rt, case, &ended);
@@ -89,10 +90,23 @@ fn compare(rt: &(impl Runtime<A = Global> + Abort), case: Case) -> Result<(), Fa
     Ok(())
 }
 
+/// The text of a job: where memory is refused to it, that of a second run, of which the first one wrote a beginning.
+fn text_of(rt: &(impl Runtime<A = Global> + Abort), job: Job) -> Result<Vec<u8>, Fail> {
+    let ended = do_job(rt, plain_case(job, b""))?;
+    let Some(fault) = ended.outcome.fault else {
+        return Ok(ended.text);
+    };
+    println!(rt; "refused: a job")?;
+    let again = do_job(rt, plain_case(job, b""))?;
+    compare_begun(rt, plain_case(job, again.text.as_slice()), &ended, fault);
+    assert_eq!(rt; again.outcome, DONE);
+    Ok(again.text)
+}
+
 /// Sees that a beginning of the text went out, or nothing where memory was refused as the files were read.
 fn compare_begun(
     rt: &(impl Runtime<A = Global> + Abort),
-    case: Case,
+    case: Case<'_>,
     ended: &Ended,
     fault: JobFault,
 ) {
@@ -168,6 +182,31 @@ fn run_picture(rt: HostRuntime) -> Result<(), Fail> {
         profile: Profile::Vt100,
     };
     compare(&rt, plain_case(job, AB_PICTURE.as_bytes()))
+}
+
+#[test]
+fn run_page(rt: HostRuntime) -> Result<(), Fail> {
+    let job = Job::Page {
+        profile: Profile::Vt102,
+    };
+    let page = text_of(&rt, job)?;
+    assert_eq!(rt;
+        data_of(page.as_slice()),
+        "[[0.000000,0,1,1],\n[0.500000,0,1,3,1,[0,0,\"ab\"]],\n[1.000000,0,3,3,3,[0,0,\"cd\"]],\n[1.500000,0,1,2,1,[0,0,\"eb\"]]]"
+    );
+    Ok(())
+}
+
+#[test]
+fn run_cast(rt: HostRuntime) -> Result<(), Fail> {
+    let job = Job::Cast {
+        profile: Profile::Vt102,
+    };
+    let text = b"{\"version\": 2, \"width\": 80, \"height\": 24}\n\
+        [0.500000, \"o\", \"\\u001b[1;1H\\u001b[0m\\u001b[2K\\u001b[0mab\\u001b[0m\\u001b[1;3H\"]\n\
+        [1.000000, \"o\", \"\\u001b[3;1H\\u001b[0m\\u001b[2K\\u001b[0mcd\\u001b[0m\\u001b[3;3H\"]\n\
+        [1.500000, \"o\", \"\\u001b[1;1H\\u001b[0m\\u001b[2K\\u001b[0meb\\u001b[0m\\u001b[1;2H\"]\n";
+    compare(&rt, plain_case(job, text))
 }
 
 #[test]

@@ -31,6 +31,14 @@ fn reads_profiles_and_the_escaped_print(rt: HostRuntime) -> Result<(), Fail> {
             "typetool reports --profile=vt100 --at=1 s t",
             reports(1_000_000, vt100),
         ),
+        (
+            "typetool page --profile=vt102 s t",
+            Job::Page { profile: vt102 },
+        ),
+        (
+            "typetool cast s --profile vt102 t",
+            Job::Cast { profile: vt102 },
+        ),
         ("typetool session s t", session(100, vt100)),
         (
             "typetool session --every 007 --profile=vt102 s t",
@@ -67,6 +75,7 @@ fn leaves_misplaced_flags_to_clap(rt: HostRuntime) -> Result<(), Fail> {
         "typetool changes --to=1 --escaped s t",
         "typetool picture --at=1 --escaped s t",
         "typetool reports --at=1 --escaped s t",
+        "typetool page --escaped s t",
         "typetool session --escaped s t",
         "typetool screen --at=1 --escaped=true s t",
         "typetool screen --at=1 --profile=vt100 --profile=vt100 s t",
