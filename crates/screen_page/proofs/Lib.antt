@@ -1,3 +1,5 @@
 mod PageLemmas
+mod ReadBack
+mod ReadLemmas
 mod Replays
 mod StringLemmas

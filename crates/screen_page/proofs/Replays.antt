@@ -54,7 +54,7 @@ named_out f p a (suc n) k is =
 -- ---- the first line that was a row
 
 -- a number that passes, of a range, or none
-abbrev IsFirst : (ℕ → Bool) → ℕ → ℕ → Option ℕ → Type 0
+abbrev pub IsFirst : (ℕ → Bool) → ℕ → ℕ → Option ℕ → Type 0
 IsFirst p low high None = Unit {0}
 IsFirst p low high (Some line) = (p line ≡ true) × (low ≤ line) × (line < high)
 
@@ -63,7 +63,7 @@ first_below : (p : ℕ → Bool) (a n : ℕ) (first : Option ℕ) → IsFirst p 
 first_below p a n None is = tt
 first_below p a n (Some line) is = (is.0, omega (arith, is.1), omega (arith, is.2))
 
-first_is : (p : ℕ → Bool) (a n : ℕ) → IsFirst p a (a + n) (first_of (filter p (range_with_len a n)))
+pub first_is : (p : ℕ → Bool) (a n : ℕ) → IsFirst p a (a + n) (first_of (filter p (range_with_len a n)))
 first_is p a zero = tt
 first_is p a (suc n) = elim (cases_Bool (p a)) [
   | inl t ↦ rw t (t, omega arith, omega arith)
@@ -166,7 +166,7 @@ unfolding empty_rows table
 first_tells = table_same (shown_at empty_rows) (λ _. empty_row) 1 24 empty_at
 
 -- the laws of a terminal that this stands on
-record Safe : Type 0 where
+pub record Safe : Type 0 where
   pub reset : (profile : Profile) → IsSafe (reset_term_as profile).console
   pub played : StaysSafe
 

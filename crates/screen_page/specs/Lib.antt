@@ -4,3 +4,4 @@ pub mod Folded
 pub mod Law
 pub mod Page
 pub mod Parts
+pub mod Reading
