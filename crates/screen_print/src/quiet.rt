@@ -25,7 +25,7 @@ ghost use Rattle.screen_print.specs.Quiet.{
   characters,
 };
 ghost use Rattle.screen_print.specs.SameRows.{changed_lines};
-ghost use Rattle.screen_print.specs.Start.{starts_at};
+ghost use Rattle.screen_print.specs.Start.{IsStart, starts_at};
 ghost use Rattle.screen_print.specs.Stills.{still_of};
 
 use crate::glyphs::character;
@@ -60,7 +60,7 @@ pub(crate) fn stays(text: &[char], before: &Still, after: &Terminal, lines: &[u8
     if !rows_stand_alone(text, after) {
         return false;
     }
-    lines_stay(text, before, after, lines)
+    lines_stay(text, &Start::of(text), before, after, lines)
 }
 
 /// Whether no row of a screen has a text that surely runs on into the next row.
@@ -93,8 +93,9 @@ fn stands_alone(text: &[char], cells: &[Cell]) -> bool
 }
 
 /// Whether what these lines show of a text surely stays, and with them all lines, which differ in these.
-fn lines_stay(text: &[char], before: &Still, after: &Terminal, lines: &[u8]) -> bool
+fn lines_stay(text: &[char], start: &Start, before: &Still, after: &Terminal, lines: &[u8]) -> bool
     requires text { 1 ≤ length text.now }
+    requires start { IsStart text.now start.now }
     requires wide { before.now.wide ≡ after.now.console.picture.wide }
     requires changed { lines.now
         ≡ changed_lines before.now.rows after.now.console.picture.rows }
@@ -102,7 +103,7 @@ fn lines_stay(text: &[char], before: &Still, after: &Terminal, lines: &[u8]) -> 
     ensures { result ≡ true → LinesStay text.now before.now (still_of after.now.console) }
 {
     for line in lines {
-        if !line_stays(text, before, after, *line) {
+        if !line_stays(text, start, before, after, *line) {
             return false;
         }
     }
@@ -110,26 +111,34 @@ fn lines_stay(text: &[char], before: &Still, after: &Terminal, lines: &[u8]) -> 
 }
 
 /// Whether what a line shows of a text surely stays.
-fn line_stays(text: &[char], before: &Still, after: &Terminal, line: u8) -> bool
+fn line_stays(text: &[char], start: &Start, before: &Still, after: &Terminal, line: u8) -> bool
     requires text { 1 ≤ length text.now }
+    requires start { IsStart text.now start.now }
     requires wide { before.now.wide ≡ after.now.console.picture.wide }
     requires low { 1 ≤ line }
     requires high { line ≤ LINES }
     ensures { result ≡ true → LineStays text.now before.now (still_of after.now.console) line }
 {
     let screen = after.screen();
-    row_stays(text, screen.is_wide(), before.row(line), screen.row(line))
+    row_stays(
+        text,
+        start,
+        screen.is_wide(),
+        before.row(line),
+        screen.row(line),
+    )
 }
 
 /// Whether a text surely begins at the same columns of two rows, with the same to the left: it begins in
 /// neither, or nowhere where they differ.
-fn row_stays(text: &[char], wide: bool, one: &Row, other: &Row) -> bool
+fn row_stays(text: &[char], start: &Start, wide: bool, one: &Row, other: &Row) -> bool
     requires text { 1 ≤ length text.now }
+    requires start { IsStart text.now start.now }
     requires one { length one.now.cells ≡ WIDE_COLUMNS }
     requires other { length other.now.cells ≡ WIDE_COLUMNS }
     ensures { result ≡ true → RowStays text.now (row_text wide one.now) (row_text wide other.now) }
 {
-    if may_begin(text, wide, one) || may_begin(text, wide, other) {
+    if may_begin(text, start, wide, one) || may_begin(text, start, wide, other) {
         return cells_stay(text, cells_of(wide, one), cells_of(wide, other));
     }
     true
@@ -165,11 +174,12 @@ fn same_len(one: &[Cell], other: &[Cell]) -> usize
 }
 
 /// Whether a text may begin in a row: its first characters may stand in it, or it may run on behind it.
-pub(crate) fn may_begin(text: &[char], wide: bool, row: &Row) -> bool
-    requires { length row.now.cells ≡ WIDE_COLUMNS }
+pub(crate) fn may_begin(text: &[char], start: &Start, wide: bool, row: &Row) -> bool
+    requires start { IsStart text.now start.now }
+    requires cells { length row.now.cells ≡ WIDE_COLUMNS }
     ensures { result ≡ false → BeginsUpTo text.now 0 (row_text wide row.now) }
 {
-    if may_start_in(&Start::of(text), wide, row) {
+    if may_start_in(start, wide, row) {
         return true;
     }
     let cells = cells_of(wide, row);

@@ -7,9 +7,11 @@ ghost use Rattle.vt_screen.specs.Picture.{margin_of};
 ghost use Rattle.screen_print.specs.FindLines.{begins, ends_line, found_rows, line_text_from, places_in, row_text, row_texts, rows_reaching, standing};
 ghost use Rattle.screen_print.specs.Places.{IsPlace};
 ghost use Rattle.screen_print.specs.Quiet.{characters};
+ghost use Rattle.screen_print.specs.Start.{IsStart};
 
 use crate::glyphs::character;
 use crate::quiet::{agrees, may_begin};
+use crate::start::Start;
 use crate::still::Still;
 use arrayvec::ArrayVec;
 use vt_screen::limits::{LINES, NARROW_COLUMNS, WIDE_COLUMNS};
@@ -34,16 +36,24 @@ pub(crate) fn standing(still: &Still, text: &[char]) -> ArrayVec<Place, CELLS>
     ensures within { All (IsPlace still.now) result.items }
 {
     still.sound();
+    let start = Start::of(text);
     let mut places = ArrayVec::new();
     for line in 1..LINES + 1 {
-        push_places(still, text, line, &mut places);
+        push_places(still, text, &start, line, &mut places);
     }
     places
 }
 
 /// Puts the places of one row behind others. Where the text surely begins nowhere in the row its line isn't
 /// laid out.
-fn push_places(still: &Still, text: &[char], line: u8, places: &mut ArrayVec<Place, CELLS>)
+fn push_places(
+    still: &Still,
+    text: &[char],
+    start: &Start,
+    line: u8,
+    places: &mut ArrayVec<Place, CELLS>,
+)
+    requires start { IsStart text.now start.now }
     requires low { 1 ≤ line }
     requires high { line ≤ LINES }
     requires room { length places.old.items + 132 ≤ CELLS }
@@ -55,7 +65,7 @@ fn push_places(still: &Still, text: &[char], line: u8, places: &mut ArrayVec<Pla
     ensures after { All (IsPlace still.now) places.new.items }
 {
     still.sound();
-    if may_begin(text, still.is_wide(), still.row(line)) {
+    if may_begin(text, start, still.is_wide(), still.row(line)) {
         push_begun(still, text, line, places);
     }
 }
