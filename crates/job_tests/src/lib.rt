@@ -14,6 +14,8 @@ mod in_memory;
 #[cfg(test)]
 mod jobs;
 #[cfg(test)]
+mod mending;
+#[cfg(test)]
 mod moments;
 #[cfg(test)]
 mod page;

@@ -1,5 +1,5 @@
 -- What a job comes to, and how a run of it ends.
-use Rattle.std.proofs.Common.{◌≡◌, ◌≢◌, ◌⊎◌, ℕ, Bool, true, false, List, [], refl, sym, ap, ◌∙◌, subst, inl, inr, not, Some, MatchOption, Result, Ok, Err, true≢false, if◌then◌else◌}
+use Rattle.std.proofs.Common.{◌≡◌, ◌≢◌, ◌⊎◌, ℕ, Bool, true, false, List, [], refl, sym, ap, ◌∙◌, subst, inl, inr, not, Option, Some, None, MatchOption, Result, Ok, Err, true≢false, if◌then◌else◌}
 use Rattle.tape_core.specs.Devices.{Took, has_failed}
 use Rattle.tape_core.specs.Faults.{is_stop}
 use Rattle.tape_core.specs.Reading.{fault_of, reads}
@@ -7,29 +7,35 @@ use Rattle.tape_core.specs.Tape.{Tape}
 use Rattle.tape_core.specs.declared.fault.Fault.{Fault}
 use Rattle.tape_core.specs.declared.fault.Fault.TheVariants.{OutOfMemory, ReadFault, WriteFault}
 use Rattle.tape_jobs.specs.Endings.{AreRead, AreSound, AsksNothing, HasFailed, HoldFiles, IsDone, IsUndone, IsUnwritten, JobEnds, OnFiles, Readers, RunEnds, TookBoth, TookPartOfBoth, WantsMemory, Writers}
-use Rattle.tape_jobs.specs.Output.{Comes, Done, Files, done_on, is_stopped, outcome_by, refused_with, takes_requests, writes_timing}
+use Rattle.tape_jobs.specs.Output.{Comes, ComesBy, Done, Files, done_on, is_stopped, mends, outcome_by, refused_with, takes_requests, writes_timing}
 use Rattle.tape_jobs.specs.declared.job.Ending.{Ending}
 use Rattle.tape_jobs.specs.declared.job.Job.{Job}
 use Rattle.tape_jobs.specs.declared.job.Job.TheVariants as jobs
 use Rattle.tape_jobs.specs.declared.job.JobFault.{JobFault}
 use Rattle.tape_jobs.specs.declared.job.JobFault.TheVariants.{File, Line, Memory}
+use Rattle.tape_mend.specs.declared.opening.Header.{Header}
+
+-- what a job comes to that reads a recording, and what one comes to that mends
+pub comes_by : (job : Job) (files : Files) (done : Done) (o : Option Header) → mends job ≡ o → ComesBy o job files done
+    → Comes job files done
+comes_by job files done o e comes = subst (λ x. ComesBy x job files done) (sym e) comes
 
 -- a pair with a fault
-comes_refused : (job : Job) (files : Files) (f : Fault) → fault_of files.script files.timing ≡ Some f
+pub comes_refused : (job : Job) (files : Files) (f : Fault) → mends job ≡ None → fault_of files.script files.timing ≡ Some f
     → Comes job files (refused_with (File f))
-comes_refused job files f e =
-    subst (λ o. MatchOption o
+comes_refused job files f reading e =
+    comes_by job files (refused_with (File f)) None reading (subst (λ o. MatchOption o
     ((tape : Tape) × reads files.script files.timing tape × (refused_with (File f) ≡ done_on job tape files.requests files.text))
-    (λ g. refused_with (File f) ≡ refused_with (File g))) (sym e) refl
+    (λ g. refused_with (File f) ≡ refused_with (File g))) (sym e) refl)
 
 -- a pair that is read
-comes_done : (job : Job) (files : Files) (tape : Tape) → reads files.script files.timing tape
+comes_done : (job : Job) (files : Files) (tape : Tape) → mends job ≡ None → reads files.script files.timing tape
     → Comes job files (done_on job tape files.requests files.text)
-comes_done job files tape h =
+comes_done job files tape reading h =
     let done = done_on job tape files.requests files.text in
-    subst (λ o. MatchOption o
+    comes_by job files done None reading (subst (λ o. MatchOption o
     ((other : Tape) × reads files.script files.timing other × (done ≡ done_on job other files.requests files.text))
-    (λ g. done ≡ refused_with (File g))) (sym h.faultless) (tape, h, refl)
+    (λ g. done ≡ refused_with (File g))) (sym h.faultless) (tape, h, refl))
 
 -- where a job takes no request lines, it comes to the same whatever they are
 same_lines : (job : Job) (tape : Tape) (one other text : List ℕ) → (takes_requests job ≡ true → one ≡ other)
@@ -44,6 +50,7 @@ same_lines (jobs.Find from to profile) tape one other text same = refl
 same_lines (jobs.Reports at profile) tape one other text same = refl
 same_lines (jobs.Page profile) tape one other text same = refl
 same_lines (jobs.Cast profile) tape one other text same = refl
+same_lines (jobs.Mend how) tape one other text same = refl
 same_lines jobs.Save tape one other text same = ap (λ r. done_on jobs.Save tape r text) (same refl)
 same_lines (jobs.Session every profile) tape one other text same =
     ap (λ r. done_on (jobs.Session every profile) tape r text) (same refl)
@@ -54,12 +61,21 @@ same_done : (job : Job) (tape : Tape) (one other text same_text : List ℕ) → 
 same_done job tape one other text same_text same e =
     same_lines job tape one other text same ∙ ap (done_on job tape other) (sym e)
 
-is_not : (b : Bool) → not b ≡ true → b ≡ false
+-- what a job comes to on the recording that was read
+pub comes_read : {S T R : Type 0} {readers : Readers S T R} {job : Job} (tape : Tape) (lines : List ℕ) → mends job ≡ None
+    → (files : Files) → HoldFiles readers job files
+    → reads files.script files.timing tape × (takes_requests job ≡ true → lines ≡ files.requests)
+    → Comes job files (done_on job tape lines readers.text)
+comes_read {readers = readers} {job = job} tape lines reading files held known =
+    subst (Comes job files) (sym (same_done job tape lines files.requests readers.text files.text known.1 held.text))
+    (comes_done job files tape reading known.0)
+
+pub is_not : (b : Bool) → not b ≡ true → b ≡ false
 is_not true e = absurd (cc)
 is_not false e = refl
 
 -- a fault that stops a job refuses nothing
-stops : (f g : JobFault) → is_stopped (Some g) ≡ true → f ≡ g → is_stopped (Some f) ≡ false → ⊥
+pub stops : (f g : JobFault) → is_stopped (Some g) ≡ true → f ≡ g → is_stopped (Some f) ≡ false → ⊥
 stops f g stop same unstopped = true≢false (sym stop ∙ ap (λ x. is_stopped (Some x)) (sym same) ∙ unstopped)
 
 -- the status of a fault that doesn't
@@ -87,13 +103,13 @@ module _ {O P : Type 0} {writers : Writers O P} (before : IsBefore writers) wher
 module _ {S T R O P : Type 0} {readers : Readers S T R} {writers : Writers O P} {job : Job} (before : IsBefore writers) where
   -- a job whose files aren't read
   pub ends_unread : (f : Fault)
-      → (is_stop f ≡ false → (files : Files) → HoldFiles readers job files → fault_of files.script files.timing ≡ Some f)
+      → (is_stop f ≡ false → (files : Files) → HoldFiles readers job files → Comes job files (refused_with (File f)))
       → (f ≢ ReadFault → AreRead readers)
       → (f ≡ ReadFault → HasFailed readers.script ⊎ (HasFailed readers.timing ⊎ HasFailed readers.requests))
       → f ≢ WriteFault
       → (takes_requests job ≡ false → AsksNothing readers.requests) → IsUnwritten writers
       → RunEnds readers writers job (outcome_by (Err (File f)))
-  ends_unread f fault read failed other alone unwritten = record {
+  ends_unread f comes read failed other alone unwritten = record {
     done = λ e. absurd (cc);
     refused = λ e.
         let unstopped = is_not _ e in (
@@ -102,7 +118,7 @@ module _ {S T R O P : Type 0} {readers : Readers S T R} {writers : Writers O P} 
             written = both_sound before unwritten;
             comes = λ files held. (
               refused_with (File f),
-              comes_refused job files f (fault unstopped files held),
+              comes unstopped files held,
               (refused_outcome (File f) unstopped, took_none before unwritten (File f)),
             );
           },
@@ -130,22 +146,14 @@ module _ {S T R O P : Type 0} {readers : Readers S T R} {writers : Writers O P} 
     out_timing = λ _. unwritten.1;
   }
 
-  -- a job on the recording that was read
-  module _ (tape : Tape) (lines : List ℕ)
-      (is_read : (files : Files) → HoldFiles readers job files
-      → reads files.script files.timing tape × (takes_requests job ≡ true → lines ≡ files.requests))
+  -- a job whose files were read, which comes to this on them
+  module _ (done : Done) (comes : (files : Files) → HoldFiles readers job files → Comes job files done)
       (read : AreRead readers) (alone : takes_requests job ≡ false → AsksNothing readers.requests)
       (alone_timing : writes_timing job ≡ false → AsksNothing writers.out_timing) where
-    on_files : {Is : Done → Type 0} → Is (done_on job tape lines readers.text) → OnFiles readers job Is
-    on_files {Is} is = λ files held.
-        let known = is_read files held in (
-          done_on job tape lines readers.text,
-          subst (Comes job files) (sym (same_done job tape lines files.requests readers.text files.text known.1 held.text))
-              (comes_done job files tape known.0),
-          is,
-        )
+    on_files : {Is : Done → Type 0} → Is done → OnFiles readers job Is
+    on_files {Is} is = λ files held. (done, comes files held, is)
 
-    ends_done : (ending : Ending) → IsDone writers job (done_on job tape lines readers.text) ending
+    ends_done : (ending : Ending) → IsDone writers job done ending
         → RunEnds readers writers job (outcome_by (Ok ending))
     ends_done ending is = record {
       done = λ _. (
@@ -166,20 +174,20 @@ module _ {S T R O P : Type 0} {readers : Readers S T R} {writers : Writers O P} 
       out_timing = alone_timing;
     }
 
-    begun_sound : (done : Done) → TookPartOfBoth writers done false → AreSound writers
-    begun_sound done begun = elim begun [
+    begun_sound : TookPartOfBoth writers done false → AreSound writers
+    begun_sound begun = elim begun [
       | inl (first, stays) ↦ (first.failing, subst (λ x. has_failed x ≡ false) (sym stays) before.nothing_timing.sound)
       | inr (whole, second) ↦ (whole.sound, second.failing)
     ]
 
-    ends_for_memory : WantsMemory writers job (done_on job tape lines readers.text)
+    ends_for_memory : WantsMemory writers job done
         → RunEnds readers writers job (outcome_by (Err Memory))
     ends_for_memory wants = record {
       done = λ e. absurd (cc);
       refused = λ e. absurd (cc);
       memory = λ m. record {
         read = read;
-        written = begun_sound (done_on job tape lines readers.text) wants.begun;
+        written = begun_sound wants.begun;
         reading = λ e. absurd (cc);
         takes = λ _. wants.takes;
         begun = λ _. on_files wants.begun;
@@ -194,14 +202,14 @@ module _ {S T R O P : Type 0} {readers : Readers S T R} {writers : Writers O P} 
       out_timing = alone_timing;
     }
 
-    stopped_failed : (done : Done) → TookPartOfBoth writers done true
+    stopped_failed : TookPartOfBoth writers done true
         → HasFailed writers.out ⊎ HasFailed writers.out_timing
-    stopped_failed done stopped = elim stopped [
+    stopped_failed stopped = elim stopped [
       | inl (first, stays) ↦ inl (first.failing)
       | inr (whole, second) ↦ inr (second.failing)
     ]
 
-    ends_at_a_writer : TookPartOfBoth writers (done_on job tape lines readers.text) true
+    ends_at_a_writer : TookPartOfBoth writers done true
         → RunEnds readers writers job (outcome_by (Err (File WriteFault)))
     ends_at_a_writer stopped = record {
       done = λ e. absurd (cc);
@@ -213,7 +221,7 @@ module _ {S T R O P : Type 0} {readers : Readers S T R} {writers : Writers O P} 
       device = λ d. record {
         reader = λ e. absurd (cc);
         unwritten = λ e. absurd (cc);
-        writer = λ _. stopped_failed (done_on job tape lines readers.text) stopped;
+        writer = λ _. stopped_failed stopped;
         stopped = λ _. on_files stopped;
       };
       status = refl;
@@ -221,7 +229,7 @@ module _ {S T R O P : Type 0} {readers : Readers S T R} {writers : Writers O P} 
       out_timing = alone_timing;
     }
 
-    ends_refused : (f : JobFault) → is_stopped (Some f) ≡ false → done_on job tape lines readers.text ≡ refused_with f
+    ends_refused : (f : JobFault) → is_stopped (Some f) ≡ false → done ≡ refused_with f
         → IsUnwritten writers → RunEnds readers writers job (outcome_by (Err f))
     ends_refused f unstopped same unwritten = record {
       done = λ e. absurd (cc);
@@ -249,7 +257,7 @@ module _ {S T R O P : Type 0} {readers : Readers S T R} {writers : Writers O P} 
       out_timing = λ _. unwritten.1;
     }
 
-    ends_at : (f : JobFault) → IsUndone writers job (done_on job tape lines readers.text) f
+    ends_at : (f : JobFault) → IsUndone writers job done f
         → RunEnds readers writers job (outcome_by (Err f))
     ends_at f ends = elim ends [
       | inl (e, wants) ↦ subst (λ g. RunEnds readers writers job (outcome_by (Err g))) (sym e) (ends_for_memory wants)
@@ -259,7 +267,7 @@ module _ {S T R O P : Type 0} {readers : Readers S T R} {writers : Writers O P} 
       ]
     ]
 
-    pub ends_performed : (r : Result Ending JobFault) → JobEnds writers job (done_on job tape lines readers.text) r
+    pub ends_performed : (r : Result Ending JobFault) → JobEnds writers job done r
         → RunEnds readers writers job (outcome_by r)
-    ends_performed (Ok ending) done = ends_done ending done
+    ends_performed (Ok ending) is = ends_done ending is
     ends_performed (Err f) fault = ends_at f fault

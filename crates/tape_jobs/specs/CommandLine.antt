@@ -335,6 +335,7 @@ path_count (job.Reports at profile) = 2
 path_count (job.Page profile) = 2
 path_count (job.Cast profile) = 2
 path_count job.Save = 4
+path_count (job.Mend how) = 4
 path_count (job.Session every profile) = 2
 
 -- Private: the fault of words that clap takes and that aren't readable (ours)

@@ -2,6 +2,7 @@ pub mod CommandLine
 pub mod Endings
 pub mod Info
 pub mod Lines
+pub mod Mending
 pub mod Moment
 pub mod Notes
 pub mod Output

@@ -7,10 +7,14 @@ use Rattle.screen_print.specs.FindLines.{find_lines}
 use Rattle.tape_check.specs.Lines.{check_text, is_noted}
 use Rattle.tape_core.specs.Due.{due}
 use Rattle.tape_core.specs.Faults.{is_stop}
-use Rattle.tape_core.specs.Reading.{fault_of, reads}
+use Rattle.tape_core.specs.Reading.{fault_of, has_header, reads}
 use Rattle.tape_core.specs.Tape.{Tape}
 use Rattle.tape_core.specs.Text.{lines_of}
 use Rattle.tape_core.specs.Written.{script_text, timing_text}
+use Rattle.tape_core.specs.declared.fault.Fault.TheVariants.{NoHeader}
+use Rattle.tape_mend.specs.Mended.{Remains, mended, seen}
+use Rattle.tape_mend.specs.Told.{is_damaged}
+use Rattle.tape_mend.specs.declared.opening.Header.{Header}
 use Rattle.tape_seek.specs.Moments.{term_at}
 use Rattle.vt_term.specs.declared.profile.Profile.TheVariants.{Vt100}
 use Rattle.tape_seek.specs.declared.edits.EditFault.{EditFault}
@@ -19,9 +23,9 @@ use Rattle.tape_jobs.specs.Moment.{drawn_text, hex_line, screen_text}
 use Rattle.tape_jobs.specs.Requests.{saved, started}
 use Rattle.tape_jobs.specs.Session.{answered, any_refused}
 use Rattle.tape_jobs.specs.declared.job.Job.{Job}
-use Rattle.tape_jobs.specs.declared.job.Job.TheVariants.{Due, Info, Check, Screen, Picture, Changes, Find, Reports, Page, Cast, Save, Session}
+use Rattle.tape_jobs.specs.declared.job.Job.TheVariants.{Due, Info, Check, Screen, Picture, Changes, Find, Reports, Page, Cast, Save, Mend, Session}
 use Rattle.tape_jobs.specs.declared.job.Ending.{Ending}
-use Rattle.tape_jobs.specs.declared.job.Ending.TheVariants.{Clean, WithRefusals, WithNotes}
+use Rattle.tape_jobs.specs.declared.job.Ending.TheVariants.{Clean, WithRefusals, WithNotes, WithLosses}
 use Rattle.tape_jobs.specs.declared.job.JobFault.{JobFault}
 use Rattle.tape_jobs.specs.declared.job.JobFault.TheVariants.{File, Line, Memory}
 use Rattle.tape_jobs.specs.declared.job.Outcome.{Outcome}
@@ -48,7 +52,13 @@ takes_requests _ = false
 -- whether a job writes a new timing (ours)
 abbrev pub writes_timing : Job → Bool
 writes_timing Save = true
+writes_timing (Mend how) = true
 writes_timing _ = false
+
+-- which line a job takes as the header that mends a pair of files, if it does; the others read a recording (ours)
+abbrev pub mends : Job → Option Header
+mends (Mend how) = Some how
+mends _ = None
 
 -- what a job comes to that is done with these texts (ours)
 abbrev pub done_with : List ℕ → List ℕ → Done
@@ -77,11 +87,16 @@ ending_by refused = if refused then WithRefusals else Clean
 abbrev pub ending_of_check : Bool → Ending
 ending_of_check noted = if noted then WithNotes else Clean
 
+-- how mending ends, by whether a line or a chunk was left out or cut (ours)
+abbrev pub ending_of_mend : Bool → Ending
+ending_of_mend damaged = if damaged then WithLosses else Clean
+
 -- the status of the program after a job that is done (ours)
 abbrev pub status_after : Ending → ℕ
 status_after Clean = 0
 status_after WithRefusals = 1
 status_after WithNotes = 1
+status_after WithLosses = 1
 
 -- what a job comes to that is done with this text and ends so (ours)
 abbrev pub done_ending : List ℕ → Ending → Done
@@ -113,15 +128,30 @@ done_on (Reports at profile) tape requests text =
 done_on (Page profile) tape requests text = done_with (page_text profile tape) []
 done_on (Cast profile) tape requests text = done_with (cast_text profile tape) []
 done_on Save tape requests text = saved_by tape requests
+done_on (Mend how) tape requests text = done_with (script_text tape) (timing_text tape)
 done_on (Session every profile) tape requests text =
     done_ending (answered (started profile tape) (lines_of requests))
     (ending_by (any_refused (started profile tape) (lines_of requests)))
+
+-- what `mend` comes to on a pair of files: both anew of all that can be read of them; and where no line of the
+-- typescript can be its header, the fault of that, with nothing written (ours)
+abbrev pub done_mending : Remains → Done
+done_mending remains = record {
+  text = script_text remains.tape;
+  timing = timing_text remains.tape;
+  outcome = record { status = status_after (ending_of_mend (is_damaged remains.losses)); fault = None };
+}
+
+abbrev pub mended_by : Header → List ℕ → List ℕ → Done
+mended_by how script timing =
+    if has_header (seen how script) then done_mending (mended how script timing) else refused_with (File NoHeader)
 
 -- the jobs that may take memory once the recording is read: those that open a session, and the one that counts
 -- sequences (ours)
 abbrev pub TakesMemory : Job → Type 0
 TakesMemory (Due at) = ⊥
 TakesMemory Info = ⊥
+TakesMemory (Mend how) = ⊥
 TakesMemory _ = Unit {0}
 
 -- the jobs that take all their memory before they write anything: the others write as they go (ours)
@@ -133,12 +163,16 @@ writes_last (Cast profile) = false
 writes_last (Session every profile) = false
 writes_last _ = true
 
--- a job comes to this on these files: the fault of the pair where it has one, and else what it comes to on the
--- recording (ours)
-abbrev pub Comes : Job → Files → Done → Type 0
-Comes job files done = MatchOption (fault_of files.script files.timing)
+-- a job comes to this on these files: what mending them comes to, where it mends; else the fault of the pair where it
+-- has one, and else what it comes to on the recording (ours)
+abbrev pub ComesBy : Option Header → Job → Files → Done → Type 0
+ComesBy (Some how) job files done = done ≡ mended_by how files.script files.timing
+ComesBy None job files done = MatchOption (fault_of files.script files.timing)
     ((tape : Tape) × reads files.script files.timing tape × (done ≡ done_on job tape files.requests files.text))
     (λ f. done ≡ refused_with (File f))
+
+abbrev pub Comes : Job → Files → Done → Type 0
+Comes job files done = ComesBy (mends job) job files done
 
 -- a device or want of memory stopped the job (ours)
 abbrev pub is_stopped : Option JobFault → Bool
@@ -151,6 +185,7 @@ is_stopped (Some (Line line f)) = false
 abbrev pub IsDoneStatus : Job → ℕ → Type 0
 IsDoneStatus (Session every profile) status = (status ≡ 0) ⊎ (status ≡ 1)
 IsDoneStatus (Check profile) status = (status ≡ 0) ⊎ (status ≡ 1)
+IsDoneStatus (Mend how) status = (status ≡ 0) ⊎ (status ≡ 1)
 IsDoneStatus _ status = status ≡ 0
 
 -- the status of the program where a job isn't done: 3 where a device or want of memory stopped it, and else 1 (ours)

@@ -6,7 +6,7 @@ ghost use Rattle.tape_core.specs.Faults.{is_stop};
 ghost use Rattle.tape_core.specs.Reading.{fault_of, reads};
 ghost use Rattle.tape_jobs.specs.Endings.{JobEnds, RunEnds, readers_of, used, writers_of};
 ghost use Rattle.tape_jobs.specs.Notes.{NoteEnds};
-ghost use Rattle.tape_jobs.specs.Output.{done_on, outcome_by, status_after, status_of, takes_requests, writes_timing};
+ghost use Rattle.tape_jobs.specs.Output.{done_on, mends, outcome_by, status_after, status_of, takes_requests, writes_timing};
 
 use crate::jobs::cast::write_cast;
 use crate::jobs::changes::write_changes;
@@ -14,6 +14,7 @@ use crate::jobs::check::write_checked;
 use crate::jobs::due::write_due;
 use crate::jobs::find::write_found;
 use crate::jobs::info::write_info;
+use crate::jobs::mend::{mends, read_remains, write_remains};
 use crate::jobs::moment::write_moment;
 use crate::jobs::note::tell_note;
 use crate::jobs::page::write_page;
@@ -30,6 +31,7 @@ use std::mem::ManuallyDrop;
 use tape_check::CheckFault;
 use tape_core::laws::writers_join;
 use tape_core::{Fault, Recording, Watched, read_recording_of, slurp};
+use tape_mend::Header;
 use tape_seek::EditFault;
 use thiserror::Error;
 use vt_term::{OutOfMemory, Profile};
@@ -87,6 +89,10 @@ pub enum Job {
     },
     /// Make the edits of request lines, and write both files anew.
     Save,
+    /// Write both files anew of all that can be read of them, in whatever state they are.
+    Mend {
+        header: Header,
+    },
     /// Answer request lines. A terminal is stored at every so many chunks, of 1 to 1,000,000.
     Session {
         every: usize,
@@ -103,16 +109,18 @@ pub enum Ending {
     WithRefusals,
     /// A check has noted something, or found what isn't played.
     WithNotes,
+    /// Of a pair of files that was mended a line or a chunk was left out or cut.
+    WithLosses,
 }
 
 impl Ending {
-    /// The status of the program: 1 where a line was refused or something noted, and else 0.
+    /// The status of the program: 1 where a line was refused, something noted or something lost, and else 0.
     fn status(self) -> u8
         ensures { result ≡ status_after self }
     {
         match self {
             Ending::Clean => 0,
-            Ending::WithRefusals | Ending::WithNotes => 1,
+            Ending::WithRefusals | Ending::WithNotes | Ending::WithLosses => 1,
         }
     }
 }
@@ -273,6 +281,12 @@ pub fn run_with<S: Read, T: Read, R: Read, O: Write, P: Write, N: Write>(
 {
     writers_join::<O>();
     writers_join::<P>();
+    if let Some(header) = mends(job) {
+        return match read_remains(alloc, header, script, timing) {
+            Ok(mended) => { outcome_of(write_remains(&ManuallyDrop::new(mended), out, out_timing)) }
+            Err(fault) => outcome_of(Err(JobFault::File(fault))),
+        };
+    }
     match read_files(alloc, job, script, timing, requests) {
         Ok(given) => {
             tell_note(job, &given.recording, notes);
@@ -282,8 +296,8 @@ pub fn run_with<S: Read, T: Read, R: Read, O: Write, P: Write, N: Write>(
     }
 }
 
-/// Does a job on what it is given, and flushes what it writes. The program ends with its job: to free a million chunks one
-/// by one would take as long as to write them.
+/// Does a job on the recording that it is given, and flushes what it writes. The program ends with its job: to free a
+/// million chunks one by one would take as long as to write them.
 fn perform<O: Write, P: Write>(
     alloc: Global,
     job: Job,
@@ -292,6 +306,7 @@ fn perform<O: Write, P: Write>(
     out: &mut Watched<O>,
     out_timing: &mut Watched<P>,
 ) -> Result<Ending, JobFault>
+    requires reads { mends job ≡ None }
     requires out { has_failed out.old ≡ false }
     requires out_timing { has_failed out_timing.old ≡ false }
     ensures ends { let writers = writers_of (used O.contents out.old out.new)
@@ -334,6 +349,7 @@ fn perform<O: Write, P: Write>(
         Job::Page { profile } => write_page(alloc, recording, profile, out)?,
         Job::Cast { profile } => write_cast(alloc, recording, profile, out)?,
         Job::Save => return write_edited(alloc, recording, &requests, out, out_timing),
+        Job::Mend { .. } => unreachable!(),
         Job::Session { every, profile } => {
             return write_answers(alloc, recording, profile, every, &requests, out);
         }
@@ -342,7 +358,7 @@ fn perform<O: Write, P: Write>(
 }
 
 /// How a job ends that is done, or isn't for this fault.
-fn outcome_of(done: Result<Ending, JobFault>) -> Outcome
+pub fn outcome_of(done: Result<Ending, JobFault>) -> Outcome
     ensures { result ≡ outcome_by done }
 {
     match done {
@@ -425,6 +441,7 @@ fn read_requests<R: Read>(
         | Job::Find { .. }
         | Job::Reports { .. }
         | Job::Page { .. }
-        | Job::Cast { .. } => Ok(Vec::new(alloc)),
+        | Job::Cast { .. }
+        | Job::Mend { .. } => Ok(Vec::new(alloc)),
     }
 }

@@ -6,6 +6,7 @@ pub mod check;
 pub mod due;
 pub mod find;
 pub mod info;
+pub mod mend;
 pub mod moment;
 pub mod note;
 pub mod page;

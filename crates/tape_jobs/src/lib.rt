@@ -8,4 +8,5 @@ mod shared;
 mod words;
 
 pub use job::{Ending, Job, JobFault, Outcome, run, run_with};
+pub use jobs::mend::mend;
 pub use words::{Words, WordsFault, read_words};

@@ -105,8 +105,9 @@ fn put_lines<W: Write>(left: Option<LinesLeft>, writer: &mut Watched<W>) -> Resu
     requires { has_failed writer.old ≡ false }
     ensures { Puts W.contents writer.old writer.new (lines_text left) result }
 {
+    writers_join::<W>();
     let Some(left) = left else {
-        return writer.put(b"");
+        return Ok(());
     };
     writer.put_all(&[
         b"timing line ",
@@ -123,8 +124,9 @@ fn put_streams<W: Write>(inputs: u64, signals: u64, writer: &mut Watched<W>) -> 
     requires { has_failed writer.old ≡ false }
     ensures { Puts W.contents writer.old writer.new (streams_text inputs signals) result }
 {
+    writers_join::<W>();
     if inputs == 0 && signals == 0 {
-        return writer.put(b"");
+        return Ok(());
     }
     put_streams_line(inputs, signals, writer)
 }
@@ -151,8 +153,9 @@ fn put_cut<W: Write>(cut: Option<Cut>, writer: &mut Watched<W>) -> Result<(), Fa
     requires { has_failed writer.old ≡ false }
     ensures { Puts W.contents writer.old writer.new (cut_text cut) result }
 {
+    writers_join::<W>();
     let Some(cut) = cut else {
-        return writer.put(b"");
+        return Ok(());
     };
     writer.put_all(&[
         b"chunk ",
@@ -170,8 +173,9 @@ fn put_chunks<W: Write>(count: u64, writer: &mut Watched<W>) -> Result<(), Fault
     requires { has_failed writer.old ≡ false }
     ensures { Puts W.contents writer.old writer.new (chunks_text count) result }
 {
+    writers_join::<W>();
     if count == 0 {
-        return writer.put(b"");
+        return Ok(());
     }
     put_chunks_line(count, writer)
 }

@@ -11,7 +11,7 @@ use tape_core::text::position_of;
 use tape_core::{Bytes, Fault};
 
 /// Which line is taken as the header. script(1).
-#[derive(Clone, Copy, Debug)]
+#[derive(Clone, Copy, Debug, PartialEq, Eq)]
 pub enum Header {
     /// The first line, whatever it says.
     Kept,

@@ -8,6 +8,8 @@ use tape_core::{Fault, Watched};
 use tape_jobs::{Job, JobFault, Outcome, run_with};
 use vt_term::Profile;
 
+mod mending;
+
 /// A call that never comes: the device is sound.
 const NEVER: usize = usize::MAX;
 

@@ -10,6 +10,7 @@ use std::rt::Runtime;
 use std::test::Fail;
 use tape_core::{Fault, Watched};
 use tape_jobs::{Job, JobFault, run_with};
+use tape_mend::Header;
 use vt_term::Profile;
 
 /// Three chunks, half a second apart, on lines 1, 3 and 1, and the first two with reports.
@@ -253,6 +254,19 @@ fn run_save(rt: HostRuntime) -> Result<(), Fail> {
         requests: b"insert 0 0.125 78\ndelete 1 2\nreplace 2 79\nretime 1 2\ncap 1\n",
         text: b"Script started on X\nx\x1b[3;1Hcd\x1b[cy",
         new_timing: b"0.125000 1\n1.000000 11\n0.500000 1\n",
+    };
+    compare(&rt, case)
+}
+
+/// A pair that is whole is mended as it is.
+#[test]
+fn run_mend(rt: HostRuntime) -> Result<(), Fail> {
+    let job = Job::Mend {
+        header: Header::Kept,
+    };
+    let case = Case {
+        new_timing: b"0.500000 6\n0.500000 11\n0.500000 7\n",
+        ..plain_case(job, SCRIPT)
     };
     compare(&rt, case)
 }

@@ -54,6 +54,6 @@ fn played_by(job: Job) -> Option<Profile>
         | Job::Page { profile }
         | Job::Cast { profile }
         | Job::Session { profile, .. } => Some(profile),
-        Job::Due { .. } | Job::Info | Job::Check { .. } | Job::Save => None,
+        Job::Due { .. } | Job::Info | Job::Check { .. } | Job::Save | Job::Mend { .. } => None,
     }
 }

@@ -1,25 +1,34 @@
-use Rattle.std.proofs.Common.{false, true, sym, ◌∙◌, refl, true≢false}
-use Rattle.tape_jobs.specs.Endings.{used, writers_of}
-use Rattle.tape_jobs.proofs.JobLemmas.{IsBefore, ends_performed, ends_unread}
+use Rattle.std.proofs.Common.{◌≡◌, false, true, ap, sym, inl, inr, ◌∙◌, refl, rules, subst, true≢false, Some, None}
+use Rattle.tape_jobs.specs.Endings.{JobEnds, used, writers_of}
+use Rattle.tape_jobs.specs.Mending.{remains_of}
+use Rattle.tape_jobs.specs.Output.{done_mending, done_on, mends, writes_timing}
+use Rattle.tape_jobs.specs.declared.job.Job.TheVariants.{Mend}
+use Rattle.tape_jobs.proofs.JobLemmas.{IsBefore, comes_by, comes_read, comes_refused, ends_performed, ends_unread}
+use Rattle.tape_jobs.proofs.MendLemmas.{comes_remade, comes_unmended, is_mend}
 use Rattle.tape_jobs.proofs.NoteLemmas.{ended_after, only_write}
-use Rattle.tape_jobs.specs.Notes.{was_read}
 use Rattle.tape_jobs.proofs.job.run_with.Goals as goal
 
 pub returns-in-Ok-clause-ends : goal.returns-in-Ok-clause-ends
 returns-in-Ok-clause-ends g c =
-    let before : IsBefore (writers_of (used g.O.Write.contents c.args.out.now c.perform.new.out)
-    (used g.P.Write.contents c.args.out_timing.now c.perform.new.out_timing)) = record {
+    let writers = writers_of (used g.O.Write.contents c.args.out.now c.write_remains.new.out)
+    (used g.P.Write.contents c.args.out_timing.now c.write_remains.new.out_timing) in
+    let before : IsBefore writers = record {
       nothing = c.writers_join.ensures.nothing _ c.requires.out;
       nothing_timing = c.writers_join-2.ensures.nothing _ c.requires.out_timing;
     } in
+    let asked : mends c.args.job ≡ Some c.in-Some.header = search rules in
+    let same : c.deref.result.now ≡ c.in-Ok.mended = search rules in
+    let done = done_mending (remains_of c.in-Ok.mended) in
+    let ends = subst (λ job. JobEnds writers job done c.write_remains.result) (sym (is_mend c.args.job c.in-Some.header asked))
+    (subst (λ m. JobEnds writers (Mend c.in-Some.header) (done_mending (remains_of m)) c.write_remains.result) same
+    (c.write_remains.ensures.ends c.in-Some.header)) in
     rw c.outcome_of.ensures
-    (ends_performed before c.in-Ok.given.recording c.in-Ok.given.requests.items
-    (λ files held. (
-      c.in-Ok.ensures.ok files.script files.timing held.script held.timing,
-      λ takes. c.in-Ok.ensures.requests takes files.requests (held.requests takes),
-    ))
-    (c.in-Ok.ensures.sound (λ e. absurd (cc))) c.in-Ok.ensures.alone c.perform.ensures.alone
-    c.perform.result c.perform.ensures.ends)
+    (ends_performed before done
+    (λ files held. comes_remade c.args.job c.in-Some.header files (remains_of c.in-Ok.mended) asked
+    (c.in-Ok.ensures.ok files.script files.timing held.script held.timing))
+    (let read = c.in-Ok.ensures.sound (λ e. absurd (cc)) in (read.0, read.1, c.requires.requests))
+    (λ _. refl) (λ alone. absurd (true≢false (sym (ap writes_timing (is_mend c.args.job c.in-Some.header asked)) ∙ alone)))
+    c.write_remains.result ends)
 
 pub returns-in-Err-clause-ends : goal.returns-in-Err-clause-ends
 returns-in-Err-clause-ends g c =
@@ -28,30 +37,60 @@ returns-in-Err-clause-ends g c =
       nothing = c.writers_join.ensures.nothing _ c.requires.out;
       nothing_timing = c.writers_join-2.ensures.nothing _ c.requires.out_timing;
     } in
+    let asked : mends c.args.job ≡ Some c.in-Some.header = search rules in
     rw c.outcome_of-in-Err.ensures
     (ends_unread before c.in-Err.fault
-    (λ unstopped files held. c.in-Err.ensures.fault unstopped files.script files.timing held.script held.timing)
-    (λ other. c.in-Err.ensures.sound (λ e. other (cc))) c.in-Err.ensures.read_fault c.in-Err.ensures.no_write_fault
-    c.in-Err.ensures.alone (refl, refl))
+    (λ unstopped files held. comes_unmended c.args.job c.in-Some.header files c.in-Err.fault asked
+    (c.in-Err.ensures.fault unstopped).0 ((c.in-Err.ensures.fault unstopped).1 files.script held.script))
+    (λ other. let read = c.in-Err.ensures.sound (λ e. other (cc)) in (read.0, read.1, c.requires.requests))
+    (λ e. elim (c.in-Err.ensures.read_fault e) [
+      | inl script ↦ inl script
+      | inr timing ↦ inr (inl timing)
+    ]) c.in-Err.ensures.no_write_fault (λ _. refl) (refl, refl))
 
-pub returns-in-Ok-clause-noted : goal.returns-in-Ok-clause-noted
-returns-in-Ok-clause-noted g c =
-    let given = c.in-Ok.given in
-    rw c.outcome_of.ensures (record {
+pub returns-in-Ok-read_files-clause-ends : goal.returns-in-Ok-read_files-clause-ends
+returns-in-Ok-read_files-clause-ends g c =
+    let before : IsBefore (writers_of (used g.O.Write.contents c.args.out.now c.perform.new.out)
+    (used g.P.Write.contents c.args.out_timing.now c.perform.new.out_timing)) = record {
+      nothing = c.writers_join.ensures.nothing _ c.requires.out;
+      nothing_timing = c.writers_join-2.ensures.nothing _ c.requires.out_timing;
+    } in
+    let given = c.in-Ok-read_files.given in
+    let reading : mends c.args.job ≡ None = search rules in
+    rw c.outcome_of-in-Ok-read_files.ensures
+    (ends_performed before (done_on c.args.job given.recording given.requests.items c.args.text.now)
+    (λ files held. comes_read given.recording given.requests.items reading files held (
+      c.in-Ok-read_files.ensures.ok files.script files.timing held.script held.timing,
+      λ takes. c.in-Ok-read_files.ensures.requests takes files.requests (held.requests takes),
+    ))
+    (c.in-Ok-read_files.ensures.sound (λ e. absurd (cc))) c.in-Ok-read_files.ensures.alone c.perform.ensures.alone
+    c.perform.result c.perform.ensures.ends)
+
+pub returns-in-Err-read_files-clause-ends : goal.returns-in-Err-read_files-clause-ends
+returns-in-Err-read_files-clause-ends g c =
+    let before : IsBefore (writers_of (used g.O.Write.contents c.args.out.now c.args.out.now)
+    (used g.P.Write.contents c.args.out_timing.now c.args.out_timing.now)) = record {
+      nothing = c.writers_join.ensures.nothing _ c.requires.out;
+      nothing_timing = c.writers_join-2.ensures.nothing _ c.requires.out_timing;
+    } in
+    let unread = c.in-Err-read_files.ensures in
+    let reading : mends c.args.job ≡ None = search rules in
+    rw c.outcome_of-in-Err-read_files.ensures
+    (ends_unread before c.in-Err-read_files.fault
+    (λ unstopped files held. comes_refused c.args.job files c.in-Err-read_files.fault reading
+    (unread.fault unstopped files.script files.timing held.script held.timing))
+    (λ other. unread.sound (λ e. other (cc))) unread.read_fault unread.no_write_fault unread.alone (refl, refl))
+
+pub returns-in-Ok-read_files-clause-noted : goal.returns-in-Ok-read_files-clause-noted
+returns-in-Ok-read_files-clause-noted g c =
+    let given = c.in-Ok-read_files.given in
+    rw c.outcome_of-in-Ok-read_files.ensures (record {
       told = λ was profile plays files held. (
         given.recording,
-        c.in-Ok.ensures.ok files.script files.timing held.script held.timing,
+        c.in-Ok-read_files.ensures.ok files.script files.timing held.script held.timing,
         c.tell_note.ensures.told profile plays,
       );
       silent = c.tell_note.ensures.silent;
       unread = λ e. absurd (true≢false
           (sym (ended_after c.args.job given.recording given.requests.items c.args.text.now _ c.perform.result c.perform.ensures.ends) ∙ e));
-    })
-
-pub returns-in-Err-clause-noted : goal.returns-in-Err-clause-noted
-returns-in-Err-clause-noted g c =
-    rw c.outcome_of-in-Err.ensures (record {
-      told = λ was profile plays files held. absurd (c.in-Err.ensures.no_write_fault (only_write c.in-Err.fault was));
-      silent = λ none. refl;
-      unread = λ e. refl;
     })

@@ -1,0 +1,157 @@
+-- What mending comes to, and how it ends.
+use Rattle.std.proofs.Common.{◌≡◌, ◌≢◌, ◌⊎◌, Bool, ℕ, true, false, List, [], refl, sym, ap, ◌∙◌, subst, inl, inr, Option, Some, None, Result, Ok, Err, if◌then◌else◌}
+use Rattle.tape_core.specs.Devices.{Took, inner_of}
+use Rattle.tape_core.specs.Faults.{is_stop}
+use Rattle.tape_core.specs.Reading.{has_header}
+use Rattle.tape_core.specs.declared.fault.Fault.{Fault}
+use Rattle.tape_core.specs.declared.fault.Fault.TheVariants.{NoHeader, OutOfMemory, ReadFault, WriteFault}
+use Rattle.tape_jobs.proofs.JobLemmas.{comes_by, is_not, stops}
+use Rattle.tape_jobs.specs.Endings.{Device, HasFailed, IsDone, TookBoth, TookPartOfBoth, Writers}
+use Rattle.tape_jobs.specs.Mending.{AWriterFailed, IsRead, IsSilent, MendEnds, OnPair, Pair, StoppedInThree, ThreeEnd, told_by}
+use Rattle.tape_jobs.specs.Notes.{played_by}
+use Rattle.tape_jobs.specs.Output.{Comes, Done, Files, done_mending, mended_by, mends, outcome_by, refused_with}
+use Rattle.tape_jobs.specs.declared.job.Ending.{Ending}
+use Rattle.tape_jobs.specs.declared.job.Job.{Job}
+use Rattle.tape_jobs.specs.declared.job.Job.TheVariants as jobs
+use Rattle.tape_jobs.specs.declared.job.JobFault.{JobFault}
+use Rattle.tape_jobs.specs.declared.job.JobFault.TheVariants.{File}
+use Rattle.tape_mend.specs.Mended.{Remains, mended, seen}
+use Rattle.tape_mend.specs.Told.{losses_text}
+use Rattle.tape_mend.specs.declared.opening.Header.{Header}
+use Rattle.vt_term.specs.declared.profile.Profile.{Profile}
+
+-- where a writer of both files stopped, it has failed
+pub one_failed : {O P L : Type 0} (writers : Writers O P) (told : Device L) (done : Done) → TookPartOfBoth writers done true
+    → AWriterFailed writers told
+one_failed writers told done stopped = elim stopped [
+  | inl (first, stays) ↦ inl first.failing
+  | inr (whole, second) ↦ inr (inl second.failing)
+]
+
+-- the one job that mends
+pub is_mend : (job : Job) (how : Header) → mends job ≡ Some how → job ≡ jobs.Mend how
+is_mend (jobs.Due at) how e = absurd (cc)
+is_mend jobs.Info how e = absurd (cc)
+is_mend (jobs.Check profile) how e = absurd (cc)
+is_mend (jobs.Screen at profile escaped) how e = absurd (cc)
+is_mend (jobs.Picture at profile) how e = absurd (cc)
+is_mend (jobs.Changes from to profile) how e = absurd (cc)
+is_mend (jobs.Find from to profile) how e = absurd (cc)
+is_mend (jobs.Reports at profile) how e = absurd (cc)
+is_mend (jobs.Page profile) how e = absurd (cc)
+is_mend (jobs.Cast profile) how e = absurd (cc)
+is_mend jobs.Save how e = absurd (cc)
+is_mend (jobs.Mend other) how e = let same : other ≡ how = cc in ap (λ h. jobs.Mend h) same
+is_mend (jobs.Session every profile) how e = absurd (cc)
+
+-- it plays nothing
+pub plays_nothing : (job : Job) (how : Header) → mends job ≡ Some how → played_by job ≡ None
+plays_nothing job how e = ap played_by (is_mend job how e)
+
+module _ (how : Header) (script timing : List ℕ) where
+  -- where no line can be the header
+  pub unmended : has_header (seen how script) ≡ false → mended_by how script timing ≡ refused_with (File NoHeader)
+  unmended none = ap (λ b. if b then done_mending (mended how script timing) else refused_with (File NoHeader)) none
+
+  module _ (remains : Remains) (some : has_header (seen how script) ≡ true) (e : mended how script timing ≡ remains) where
+    pub remade : mended_by how script timing ≡ done_mending remains
+    remade =
+        ap (λ b. if b then done_mending (mended how script timing) else refused_with (File NoHeader)) some ∙ ap done_mending e
+
+    pub retold : told_by how script timing ≡ losses_text remains.losses
+    retold =
+        ap (λ b. if b then losses_text (mended how script timing).losses else []) some
+        ∙ ap (λ (r : Remains). losses_text r.losses) e
+
+-- what the job comes to on files
+pub comes_remade : (job : Job) (how : Header) (files : Files) (remains : Remains) → mends job ≡ Some how
+    → (has_header (seen how files.script) ≡ true) × (mended how files.script files.timing ≡ remains)
+    → Comes job files (done_mending remains)
+comes_remade job how files remains asked known =
+    comes_by job files (done_mending remains) (Some how) asked
+    (sym (remade how files.script files.timing remains known.0 known.1))
+
+pub comes_unmended : (job : Job) (how : Header) (files : Files) (f : Fault) → mends job ≡ Some how → f ≡ NoHeader
+    → has_header (seen how files.script) ≡ false → Comes job files (refused_with (File f))
+comes_unmended job how files f asked same none =
+    comes_by job files (refused_with (File f)) (Some how) asked
+    (ap (λ g. refused_with (File g)) same ∙ sym (unmended how files.script files.timing none))
+
+module _ {S T O P L : Type 0} (pair : Pair S T) (writers : Writers O P) (told : Device L) (how : Header) where
+  -- a pair that isn't read
+  pub mend_unread : (f : Fault)
+      → (is_stop f ≡ false → (f ≡ NoHeader)
+      × ((s : List ℕ) → pair.script.bytes (inner_of pair.script.old) ≡ Some s → has_header (seen how s) ≡ false))
+      → (f ≢ ReadFault → IsRead pair) → (f ≡ ReadFault → HasFailed pair.script ⊎ HasFailed pair.timing)
+      → f ≢ WriteFault → IsSilent writers told → MendEnds pair writers told how (outcome_by (Err (File f)))
+  mend_unread f header read failed other silent = record {
+    done = λ e. absurd (cc);
+    refused = λ e.
+        let unstopped = is_not _ e in
+        let same = (header unstopped).0 in (
+          read (λ r. stops (File f) (File ReadFault) refl (ap (λ x. File x) r) unstopped),
+          silent,
+          ap (λ g. Some (File g)) same,
+          λ script timing held held_timing. ap (λ g. outcome_by (Err (File g))) same
+              ∙ ap (λ (d : Done). d.outcome) (sym (unmended how script timing ((header unstopped).1 script held))),
+        );
+    memory = λ m. (
+      read (λ r. elim m [
+        | inl e ↦ cc
+        | inr e ↦ cc
+      ]),
+      silent,
+    );
+    reader = λ e. (failed (cc), silent);
+    writer = λ e. absurd (other (cc));
+    status = refl;
+  }
+
+  -- one that is, and of which this is left
+  module _ (remains : Remains)
+      (on : (s t : List ℕ) → pair.script.bytes (inner_of pair.script.old) ≡ Some s
+      → pair.timing.bytes (inner_of pair.timing.old) ≡ Some t
+      → (has_header (seen how s) ≡ true) × (mended how s t ≡ remains))
+      (read : IsRead pair) where
+    on_pair : (Is : Done → List ℕ → Type 0) → Is (done_mending remains) (losses_text remains.losses) → OnPair pair how Is
+    on_pair Is is = λ s t held held_timing.
+        let known = on s t held held_timing in
+        subst (λ d. Is d (told_by how s t)) (sym (remade how s t remains known.0 known.1))
+        (subst (λ x. Is (done_mending remains) x) (sym (retold how s t remains known.0 known.1)) is)
+
+    at_writer : AWriterFailed writers told → StoppedInThree writers told (done_mending remains) (losses_text remains.losses)
+        → MendEnds pair writers told how (outcome_by (Err (File WriteFault)))
+    at_writer failed stopped = record {
+      done = λ e. absurd (cc);
+      refused = λ e. absurd (cc);
+      memory = λ m. elim m [
+        | inl e ↦ absurd (cc)
+        | inr e ↦ absurd (cc)
+      ];
+      reader = λ e. absurd (cc);
+      writer = λ _. (failed, on_pair (StoppedInThree writers told) stopped);
+      status = refl;
+    }
+
+    pub mend_written : (r : Result Ending JobFault) → ThreeEnd writers told how remains r
+        → MendEnds pair writers told how (outcome_by r)
+    mend_written (Ok ending) (is, took, flushed) = record {
+      done = λ _. record {
+        read = read;
+        wrote = on_pair
+            (λ done text. (outcome_by (Ok ending) ≡ done.outcome) × TookBoth writers done × Took told.bytes told.old told.new text)
+            (sym is.outcome, is.wrote, took);
+        flushed = (is.flushed, is.flushed_timing);
+        flushed_told = flushed;
+      };
+      refused = λ e. absurd (cc);
+      memory = λ m. elim m [
+        | inl e ↦ absurd (cc)
+        | inr e ↦ absurd (cc)
+      ];
+      reader = λ e. absurd (cc);
+      writer = λ e. absurd (cc);
+      status = is.status;
+    }
+    mend_written (Err f) (e, failed, stopped) =
+        subst (λ g. MendEnds pair writers told how (outcome_by (Err g))) (sym e) (at_writer failed stopped)

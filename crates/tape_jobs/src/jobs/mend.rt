@@ -1,0 +1,165 @@
+//! The job `mend`: both files anew of all that can be read of them, and then what was lost.
+
+ghost use Rattle.std.specs.Prelude.{◌≡◌, ◌⊎◌, ◌≢◌, ℕ, List, OnOk, Some, false, true, IfErr, IfOk};
+ghost use Rattle.tape_core.specs.Devices.{Puts, has_failed, inner_of, is_flushed};
+ghost use Rattle.tape_core.specs.Faults.{is_stop};
+ghost use Rattle.tape_core.specs.Reading.{has_header};
+ghost use Rattle.tape_core.specs.declared.fault.Fault.TheVariants as fault;
+ghost use Rattle.tape_jobs.specs.Endings.{JobEnds, TookPartOfBoth, used, writers_of};
+ghost use Rattle.tape_jobs.specs.Mending.{MendEnds, ThreeEnd, pair_of, remains_of};
+ghost use Rattle.tape_jobs.specs.Output.{done_mending, ending_of_mend, mends};
+ghost use Rattle.tape_mend.specs.Mended.{mended, seen};
+ghost use Rattle.tape_mend.specs.Told.{losses_text};
+ghost use Rattle.tape_mend.specs.declared.opening.Header.{Header as How};
+
+use crate::job::{Ending, Job, JobFault, Outcome, outcome_of};
+use std::alloc::Global;
+use std::io::{Read, Write};
+use std::mem::ManuallyDrop;
+use tape_core::laws::writers_join;
+use tape_core::{Fault, Watched, slurp, write_script, write_timing};
+use tape_mend::{Header, Losses, Mended, put_losses};
+
+/// Mends a pair of files: reads both whole, writes the typescript anew and then its timing, and tells what was lost
+/// behind them.
+///
+/// It is done, with status 1 where a line or a chunk was left out or cut; or refused, where no line of the typescript can
+/// be its header: then nothing is written. It ends for want of memory, or as a device fails: then a beginning of the three
+/// texts has gone out, the timing not before the typescript is whole, and what is told not before both files are; and
+/// nothing, where it ended while the files were read. No fault is retried.
+pub fn mend<S: Read, T: Read, O: Write, P: Write, L: Write>(
+    alloc: Global,
+    header: Header,
+    script: &mut Watched<S>,
+    timing: &mut Watched<T>,
+    out: &mut Watched<O>,
+    out_timing: &mut Watched<P>,
+    told: &mut Watched<L>,
+) -> Outcome
+    requires script { has_failed script.old ≡ false }
+    requires timing { has_failed timing.old ≡ false }
+    requires out { has_failed out.old ≡ false }
+    requires out_timing { has_failed out_timing.old ≡ false }
+    requires told { has_failed told.old ≡ false }
+    ensures { let pair = pair_of (used S.remaining script.old script.new)
+        (used T.remaining timing.old timing.new) in
+        let writers = writers_of (used O.contents out.old out.new)
+        (used P.contents out_timing.old out_timing.new) in
+        MendEnds pair writers (used L.contents told.old told.new) header result }
+{
+    match read_remains(alloc, header, script, timing) {
+        Ok(mended) => outcome_of(write_and_tell(&ManuallyDrop::new(mended), out, out_timing, told)),
+        Err(fault) => outcome_of(Err(JobFault::File(fault))),
+    }
+}
+
+/// Which line a job takes as the header that mends a pair of files, if it does.
+pub fn mends(job: Job) -> Option<Header>
+    ensures { result ≡ mends job }
+{
+    match job {
+        Job::Mend { header } => Some(header),
+        Job::Due { .. }
+        | Job::Info
+        | Job::Check { .. }
+        | Job::Screen { .. }
+        | Job::Picture { .. }
+        | Job::Changes { .. }
+        | Job::Find { .. }
+        | Job::Reports { .. }
+        | Job::Page { .. }
+        | Job::Cast { .. }
+        | Job::Save
+        | Job::Session { .. } => None,
+    }
+}
+
+/// Reads both files whole, and then all that can be read of them.
+pub fn read_remains<S: Read, T: Read>(
+    alloc: Global,
+    header: Header,
+    script: &mut Watched<S>,
+    timing: &mut Watched<T>,
+) -> Result<Mended, Fault>
+    requires script { has_failed script.old ≡ false }
+    requires timing { has_failed timing.old ≡ false }
+    ensures ok { IfOk result (λ m. (s : List ℕ) (t : List ℕ)
+        → S.remaining (inner_of script.old) ≡ Some s → T.remaining (inner_of timing.old) ≡ Some t
+        → (has_header (seen header s) ≡ true) × (mended header s t ≡ remains_of m)) }
+    ensures fault { IfErr result (λ f. is_stop f ≡ false → (f ≡ fault.NoHeader)
+        × ((s : List ℕ) → S.remaining (inner_of script.old) ≡ Some s
+        → has_header (seen header s) ≡ false)) }
+    ensures sound { result ≢ Err Fault.ReadFault
+        → (has_failed script.new ≡ false) × (has_failed timing.new ≡ false) }
+    ensures read_fault { IfErr result (λ f. f ≡ fault.ReadFault
+        → (has_failed script.new ≡ true) ⊎ (has_failed timing.new ≡ true)) }
+    ensures no_write_fault { IfErr result (λ f. f ≢ fault.WriteFault) }
+{
+    let script = slurp(alloc, script)?;
+    let timing = slurp(alloc, timing)?;
+    tape_mend::mend(alloc, script, &timing, header)
+}
+
+/// Writes the whole script, and after it the timing, and flushes both.
+pub fn write_remains<O: Write, P: Write>(
+    mended: &Mended,
+    out: &mut Watched<O>,
+    out_timing: &mut Watched<P>,
+) -> Result<Ending, JobFault>
+    requires out { has_failed out.old ≡ false }
+    requires out_timing { has_failed out_timing.old ≡ false }
+    ensures ends { (how : How) → let writers = writers_of (used O.contents out.old out.new)
+        (used P.contents out_timing.old out_timing.new) in
+        JobEnds writers (Job.Mend how) (done_mending (remains_of mended.now)) result }
+    ensures stopped { let writers = writers_of (used O.contents out.old out.new)
+        (used P.contents out_timing.old out_timing.new) in
+        IfErr result (λ f. (f ≡ JobFault.File fault.WriteFault)
+        × TookPartOfBoth writers (done_mending (remains_of mended.now)) true) }
+{
+    writers_join::<O>();
+    write_script(&mended.recording, out)?;
+    write_timing(&mended.recording, out_timing)?;
+    Ok(ending_of(mended.losses.is_damaged()))
+}
+
+/// How mending ends, by whether a line or a chunk was left out or cut.
+fn ending_of(damaged: bool) -> Ending
+    ensures { result ≡ ending_of_mend damaged }
+{
+    if damaged {
+        Ending::WithLosses
+    } else {
+        Ending::Clean
+    }
+}
+
+/// Writes both files, and when they are whole tells what was lost.
+fn write_and_tell<O: Write, P: Write, L: Write>(
+    mended: &Mended,
+    out: &mut Watched<O>,
+    out_timing: &mut Watched<P>,
+    told: &mut Watched<L>,
+) -> Result<Ending, JobFault>
+    requires out { has_failed out.old ≡ false }
+    requires out_timing { has_failed out_timing.old ≡ false }
+    requires told { has_failed told.old ≡ false }
+    ensures ends { (how : How) → let writers = writers_of (used O.contents out.old out.new)
+        (used P.contents out_timing.old out_timing.new) in
+        ThreeEnd writers (used L.contents told.old told.new) how (remains_of mended.now) result }
+{
+    let ending = write_remains(mended, out, out_timing)?;
+    tell(&mended.losses, told)?;
+    Ok(ending)
+}
+
+/// Tells what was lost, and flushes.
+fn tell<L: Write>(losses: &Losses, told: &mut Watched<L>) -> Result<(), Fault>
+    requires { has_failed told.old ≡ false }
+    ensures puts { Puts L.contents told.old told.new (losses_text losses.now) result }
+    ensures flushed { OnOk result (is_flushed told.new ≡ true) }
+{
+    writers_join::<L>();
+    put_losses(losses, told)?;
+    told.finish()?;
+    Ok(())
+}
