@@ -45,6 +45,8 @@ test: lint
 	tests/limits.py bin/typetool
 	tests/memory.py bin/typetool
 	tests/damage.py bin/typetool 500
+	tests/mend_fuzz.py bin/typetool 8000
+	tests/make_recordings.py bin/typetool
 	tests/fuzz.py bin/typetool 2000
 	tests/pictures.py bin/typetool
 	tests/page_data.py bin/typetool
@@ -61,6 +63,7 @@ browser: bin/typetool
 soak: bin/typetool
 	tests/memory.py bin/typetool 16
 	tests/damage.py bin/typetool 20000
+	tests/mend_fuzz.py bin/typetool 20000
 	tests/fuzz.py bin/typetool 20000
 	tests/refused.py
 	tests/edits.sh

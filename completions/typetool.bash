@@ -5,6 +5,7 @@ _typetool() {
     local -A taken=(
         [due]='--at --help' [info]='--help' [check]='--profile --help' [screen]='--at --escaped --profile --help' [save]='--help'
         [picture]='--at --profile --help' [page]='--profile --help' [cast]='--profile --help'
+        [mend]='--last --headless --help'
         [changes]='--from --to --profile --help' [find]='--from --to --profile --help' [reports]='--at --profile --help' [session]='--every --profile --help'
     )
     if [ "$COMP_CWORD" = 1 ]; then

@@ -11,7 +11,6 @@ that the plain readers come to, where they know it (check_reader.py: of checks, 
 The last line is 'N passed, M failed'.
 """
 import concurrent.futures
-import glob
 import os
 import random
 import subprocess
@@ -19,9 +18,9 @@ import sys
 import tempfile
 
 import check_reader
+import harm
 import plain_reader as plain
 
-here = os.path.dirname(os.path.abspath(__file__))
 program = os.path.abspath(sys.argv[1])
 pairs = int(sys.argv[2]) if len(sys.argv) > 2 else 200
 seed = int(sys.argv[3]) if len(sys.argv) > 3 else 1
@@ -29,62 +28,13 @@ seed = int(sys.argv[3]) if len(sys.argv) > 3 else 1
 PATIENCE = 20
 
 
-def recordings():
-    """The real recordings, each cut to its first chunks, so that many can be played."""
-    found = []
-    for script in sorted(
-        glob.glob(os.path.join(here, "recordings", "*.script"))
-        + glob.glob(os.path.join(here, "..", "examples", "*.script"))
-    ):
-        with open(script, "rb") as one, open(script[:-7] + ".timing", "rb") as two:
-            header, chunks, trailer = plain.read(one.read(), two.read())
-        found.append((header, chunks, trailer))
-    return found
-
-
-def piece(rng, whole):
-    """A recording of some chunks in turn of a real one."""
-    header, chunks, trailer = rng.choice(whole)
-    start = rng.randrange(len(chunks))
-    return plain.files_of((header, chunks[start : start + rng.randint(1, 12)], trailer))
-
-
-def flipped(rng, text):
-    out = bytearray(text)
-    for _ in range(rng.randint(1, 4)):
-        if out:
-            out[rng.randrange(len(out))] = rng.choice([rng.randrange(256), 10, 27, 32, 45, 46, 48, 57, 65])
-    return bytes(out)
-
-
-def cut(rng, text):
-    return text[: rng.randint(0, len(text))]
-
-
-def doubled(rng, text):
-    start = rng.randint(0, len(text))
-    end = rng.randint(start, min(len(text), start + 40))
-    return text[:end] + text[start:end] + text[end:]
-
-
-def dropped(rng, text):
-    start = rng.randint(0, len(text))
-    return text[:start] + text[start + rng.randint(0, 8) :]
-
-
 def damaged(rng, whole):
     """A pair, most often with something wrong."""
-    script, timing = piece(rng, whole)
+    script, timing = plain.files_of(harm.piece(rng, whole))
     if rng.random() < 0.2:
-        more = piece(rng, whole)
+        more = plain.files_of(harm.piece(rng, whole))
         script, timing = script + more[0], timing + more[1]
-    for _ in range(rng.randint(0, 3)):
-        harm = rng.choice([flipped, cut, doubled, dropped])
-        if rng.random() < 0.5:
-            script = harm(rng, script)
-        else:
-            timing = harm(rng, timing)
-    return script, timing
+    return harm.harmed(rng, script, timing)
 
 
 def moment(rng):
@@ -272,7 +222,7 @@ def one(folder, number, whole):
 
 
 def main():
-    whole, runs, failed = recordings(), 0, 0
+    whole, runs, failed = harm.recordings(), 0, 0
     folder = tempfile.mkdtemp(prefix="damage-")
     with concurrent.futures.ThreadPoolExecutor(os.cpu_count()) as pool:
         for number, done, problems in pool.map(lambda n: one(folder, n, whole), range(pairs)):

@@ -11,6 +11,7 @@ import subprocess
 import sys
 import tempfile
 
+import mend_reader
 import plain_reader as plain
 
 program = os.path.abspath(sys.argv[1])
@@ -105,6 +106,76 @@ def limits_of_files():
     chunk_count("the longest delay", 2, 0)
     pair(HEADER, b"1000000.000001 0\n")
     check("a microsecond more", run(["info", "s", "t"]), told("timing line 1: delay too large"))
+
+
+def mended(name, how=""):
+    """Mends the pair, as the plain reading does."""
+    new = ("s2", "t2")
+    answer = run(["mend", *filter(None, [how]), "s", "t", *new])
+    script, timing = open_all("s", "t")
+    wanted = mend_reader.mend(how, script, timing)
+    if wanted is None:
+        check(f"mend {how} {name}", (answer, open_all(*new)), (told("typescript has no header line"), [b"", b""]))
+    else:
+        new_script, new_timing, losses, status = wanted
+        check(
+            f"mend {how} {name}", (answer, open_all(*new)), ((status, losses.encode(), b""), [new_script, new_timing])
+        )
+    for path in new:
+        os.remove(path)
+
+
+def open_all(*names):
+    texts = []
+    for name in names:
+        with open(name, "rb") as file:
+            texts.append(file.read())
+    return texts
+
+
+def mended_everywhere():
+    """A pair of either format, cut at every byte and mended with each flag."""
+    classic = b"0.000000 1\n0.250000 1\n0.500000 1\n"
+    streams = b"H 0 OUTPUT_LOG x\nH 0 INPUT_LOG x\nO 0.5 1\nI 0.25 1\nS 1 WINCH\nO 0.25 1\n"
+    for timing in (classic, streams):
+        for n in range(24):
+            pair((HEADER + b"aXb")[:n], timing)
+            for how in ("", "--last", "--headless"):
+                mended(f"script of {n} bytes", how)
+        for n in range(len(timing)):
+            pair(HEADER + b"aXb", timing[:n])
+            mended(f"timing of {n} bytes")
+
+
+def limits_of_mending():
+    """Each limit at its value and one past it: what is past it is left out, and the rest is read."""
+    for name, line, count, fault in [
+        ("chunks", b"0 0\n", 1_000_001, "too many chunks"),
+        ("outputs", b"O 0 0\n", 1_000_001, "too many chunks"),
+        ("bodies", b"0 1048576\n", 1025, "too many bytes"),
+    ]:
+        pair(HEADER, line * (count - 1))
+        mended(f"{name} up to the limit")
+        pair(HEADER, line * count)
+        check(
+            f"mend {name} past the limit",
+            run(["mend", "s", "t", "s2", "t2"])[1].split(b"\n")[0],
+            f"timing line {count}: {fault}, 1 lines left out".encode(),
+        )
+        os.remove("s2")
+        os.remove("t2")
+    for timing in [
+        b"0 1048576\n",
+        b"0 1048577\n",
+        b"1000000 0\n",
+        b"1000000.000001 0\n",
+        b"S 600000 x\nO 400000 0\nO 1000000 0\n",
+        b"S 600000 x\nO 400000.000001 0\n",
+        b"I 0 1048576\n",
+        b"I 0 1048577\n",
+    ]:
+        pair(HEADER, timing)
+        mended(timing.decode())
 
 
 def saved(lines):
@@ -226,7 +297,9 @@ def main():
         cut_scripts()
         cut_timings()
         cut_both(recordings)
+        mended_everywhere()
         limits_of_files()
+        limits_of_mending()
         limits_of_edits()
         full_body()
         limits_of_words()

@@ -1,12 +1,13 @@
 #!/usr/bin/env python3
-"""Makes real recordings with util-linux's script(1), of every kind that it writes, and mends them by the plain reading.
+"""Makes real recordings with util-linux's script(1), of every kind that it writes, and mends them.
 
-    tests/make_recordings.py FOLDER
+    tests/make_recordings.py TYPETOOL [FOLDER]
 
-For each NAME it leaves NAME.script and NAME.timing in the folder, in NAME.how the flag that mending takes (or nothing),
-and the pair that tests/mend_reader.py makes of them as NAME-mended.script and NAME-mended.timing. That pair has to be
-read without a fault, and what it plays has to be what the recorded command wrote, or, where the recording was killed, a
-beginning of it. Where script isn't installed, nothing is done. The last line is 'N passed, M failed'.
+For each NAME it leaves NAME.script and NAME.timing in the folder, and what `typetool mend` makes of them with the flag
+that the kind takes as NAME-mended.script and NAME-mended.timing. That has to be what the plain reading
+(mend_reader.py) makes of them. What `screen` shows of it at its end, and what scriptreplay plays of it and of what
+`save` writes of it, has to be what the recorded command wrote, or, where the recording was killed, a beginning of it.
+Where script isn't installed, nothing is done. The last line is 'N passed, M failed'.
 """
 import fcntl
 import os
@@ -16,11 +17,13 @@ import signal
 import struct
 import subprocess
 import sys
+import tempfile
 import termios
 import time
 
 import mend_reader
 
+program = os.path.abspath(sys.argv[1])
 COMMAND = r"""printf 'one\ntwo\n'; sleep 0.1; printf 'three\n'; read -r line; printf 'got %s\n' "$line" """
 PLAYED = [b"one", b"two", b"three", b"got typed"]
 SLOW = "for word in one two three four; do printf '%s ' $word; sleep 0.1; done; sleep 5"
@@ -89,52 +92,81 @@ def read(path):
         return file.read()
 
 
-def fault_of(folder, name, how, words, signals):
-    """What is wrong with a recording that was mended, or None."""
-    path = os.path.join(folder, name)
+class Wrong(Exception):
+    """What is wrong with a recording that was mended."""
+
+
+def run(*words):
+    done = subprocess.run([program, *filter(None, words)], stdin=subprocess.DEVNULL, capture_output=True, timeout=60)
+    return done.returncode, done.stdout, done.stderr
+
+
+def mend(path, how):
+    """Mends a recording as the plain reading does, and gives what is told and the status."""
     mended = mend_reader.mend(how, read(f"{path}.script"), read(f"{path}.timing"))
     if mended is None:
-        return "no header"
+        raise Wrong("no header")
     script, timing, told, status = mended
-    for text, kind in ((script, "script"), (timing, "timing")):
-        with open(f"{path}-mended.{kind}", "wb") as file:
-            file.write(text)
-    with open(f"{path}.how", "w", encoding="ascii") as file:
-        file.write(how)
-    again = mend_reader.mend("", script, timing)
-    if again != (script, timing, "", 0):
-        return "what was mended is mended again to something else"
-    replayed = subprocess.run(
-        ["scriptreplay", "-d", "1000", "-t", f"{path}-mended.timing", f"{path}-mended.script"], capture_output=True
-    )
+    got = run("mend", how, f"{path}.script", f"{path}.timing", f"{path}-mended.script", f"{path}-mended.timing")
+    if got != (status, told.encode(), b""):
+        raise Wrong(f"mend answers {got}, wanted {status}, {told!r}")
+    if (read(f"{path}-mended.script"), read(f"{path}-mended.timing")) != (script, timing):
+        raise Wrong("what was mended isn't what the plain reading comes to")
+    return told, status
+
+
+def in_order(words, text, where):
     at = 0
     for word in words:
-        at = replayed.stdout.find(word, at)
+        at = text.find(word, at)
         if at < 0:
-            return f"{word.decode()} isn't played where it belongs: {replayed.stdout!r}"
+            raise Wrong(f"{word.decode()} isn't {where}: {text!r}")
+
+
+def played(path, words):
+    """Plays a pair to its end."""
+    pair = f"{path}.script", f"{path}.timing"
+    status, screen, errors = run("screen", "--at", "1000000", *pair)
+    if status or b"typetool: note" not in errors and errors:
+        raise Wrong(f"screen answers {status}, {errors!r}")
+    in_order(words, screen, "on the screen")
+    replay = ["scriptreplay", "-d", "1000", "-t", pair[1], pair[0]]
+    in_order(words, subprocess.run(replay, capture_output=True, timeout=60).stdout, "played by scriptreplay")
+
+
+def tried(path, name, how, words, signals):
+    told, status = mend(path, how)
     if signals and f" and {signals} signals left out" not in told:
-        return f"{signals} signals aren't told: {told!r}"
+        raise Wrong(f"{signals} signals aren't told: {told!r}")
     if status and name != "killed":
-        return f"something was lost: {told!r}"
-    return None
+        raise Wrong(f"something was lost: {told!r}")
+    played(f"{path}-mended", words)
+    saved = run(
+        "save", *(f"{path}-{kind}" for kind in ("mended.script", "mended.timing", "saved.script", "saved.timing"))
+    )
+    if saved != (0, b"", b""):
+        raise Wrong(f"save answers {saved}")
+    played(f"{path}-saved", words)
 
 
 def main():
-    folder = sys.argv[1]
+    folder = sys.argv[2] if len(sys.argv) > 2 else tempfile.mkdtemp(prefix="recordings-")
     if not shutil.which("script"):
-        print("script isn't installed: 0 passed, 0 failed")
+        print("recordings of script(1): passed over, since script isn't installed")
         return 0
     os.makedirs(folder, exist_ok=True)
     passed = failed = 0
     for name, how, words, signals in make(folder):
-        fault = fault_of(folder, name, how, words, signals)
-        if fault:
-            failed += 1
-            print(f"FAILED {name}: {fault}")
-        else:
+        try:
+            tried(os.path.join(folder, name), name, how, words, signals)
             passed += 1
-    print(f"{passed} passed, {failed} failed")
-    return failed > 0
+        except Wrong as wrong:
+            failed += 1
+            print(f"FAILED {name} in {folder}: {wrong}")
+    if not failed and len(sys.argv) < 3:
+        shutil.rmtree(folder)
+    print(f"recordings of script(1): {passed} passed, {failed} failed")
+    return failed > 0 or not passed
 
 
 if __name__ == "__main__":

@@ -214,6 +214,72 @@ got=$?
 verdict 'a limit on file size' 3 $got '' 'typetool: write fault\n'
 holds 'no timing before the script is whole' new.timing ''
 
+# mended NAME STATUS OUT ERR SCRIPT TIMING [FLAG..]: mends a pair into new.script and new.timing.
+mended() {
+    rm -f new.script new.timing
+    "$program" mend "${@:7}" "$5" "$6" new.script new.timing </dev/null >out.txt 2>err.txt
+    verdict "$1" "$2" $? "$3" "$4"
+}
+
+printf '%baX' "$head" >cut.script
+printf '0.000000 1\n0.250000 1\n0.500000 1\n' >axb.timing
+mended 'a script that ends early' 1 '1 chunks left out\n' '' cut.script axb.timing
+holds 'a script that ends early' new.script "$head"aX
+holds 'a script that ends early' new.timing '0.000000 1\n0.250000 1\n'
+check 'what was mended is read' 0 'aX' '' due --at 1 new.script new.timing
+timing 'O 0.5 1\nI 0.25 1\nO 0.25 1\n'
+mended 'inputs in a log of their own' 0 '1 inputs and 0 signals left out\n' '' ab.script bad.timing
+holds 'inputs in a log of their own' new.script "$head"ab
+holds 'inputs in a log of their own' new.timing '0.500000 1\n0.500000 1\n'
+printf '%baib' "$head" >aib.script
+timing 'H 0 OUTPUT_LOG x\nH 0 INPUT_LOG x\nO 0.5 1\nI 0.25 1\nO 0.25 1\n'
+mended 'inputs in the typescript' 0 '1 inputs and 0 signals left out\n' '' aib.script bad.timing
+holds 'inputs in the typescript' new.script "$head"ab
+holds 'inputs in the typescript' new.timing '0.500000 1\n0.500000 1\n'
+timing '0.5 1\nzero\n'
+mended 'a line that is none' 1 'timing line 2: multi-stream format, 1 lines left out\n' '' ab.script bad.timing
+holds 'a line that is none' new.script "$head"ab
+holds 'a line that is none' new.timing '0.500000 1\n'
+mended 'a whole pair' 0 '' '' ab.script ab.timing
+holds 'a whole pair' new.script "$head"ab
+holds 'a whole pair' new.timing '0.000000 1\n0.500000 1\n'
+mended 'no header line' 1 '' 'typetool: typescript has no header line\n' headless.script ab.timing
+holds 'no header line' new.script ''
+holds 'no header line' new.timing ''
+mended 'a header that is made' 0 '' '' headless.script ab.timing --headless
+holds 'a header that is made' new.script 'Script started\nno line'
+printf '%bold\nScript done on X\n%bab' "$head" 'Script started on Y\n' >appended.script
+mended 'a typescript that was appended to' 0 '' '' appended.script ab.timing --last
+holds 'a typescript that was appended to' new.script 'Script started on Y\nab'
+check 'both headers' 2 '' 'typetool: --last and --headless exclude each other\n' mend --last --headless nowhere nowhere none none
+status 'mend with a profile' 2 mend --profile vt100 ab.script ab.timing none none
+rm -f new.script new.timing
+"$program" mend ab.script ab.timing there new.timing </dev/null >out.txt 2>err.txt
+verdict 'mending over a script that exists' 3 $? '' 'typetool: cannot create there\n'
+holds 'mending over a script that exists' there 'kept\n'
+absent 'mending over a script that exists' new.timing
+"$program" mend nowhere ab.timing new.script new.timing </dev/null >out.txt 2>err.txt
+verdict 'mending a missing script' 3 $? '' 'typetool: cannot open nowhere\n'
+absent 'mending a missing script' new.script
+"$program" mend ab.script ab.timing new.script new.timing 0>>there >out.txt 2>err.txt
+verdict 'mending reads no standard input' 0 $? '' ''
+rm -f new.script new.timing
+"$program" mend cut.script axb.timing new.script new.timing >/dev/full 2>err.txt
+got=$?
+: >out.txt
+verdict 'losses told to a full device' 3 $got '' 'typetool: write fault\n'
+holds 'losses told to a full device' new.timing '0.000000 1\n0.250000 1\n'
+rm -f new.script new.timing
+"$program" mend cut.script axb.timing new.script new.timing >&- 2>err.txt
+verdict 'losses told to a closed output' 3 $? '' 'typetool: write fault\n'
+rm -f new.script new.timing
+{ printf '%b' "$head"; head -c 4000 /dev/zero; } >zero.script
+(ulimit -f 1; trap '' XFSZ; exec "$program" mend zero.script axb.timing new.script new.timing >out.txt 2>err.txt)
+got=$?
+: >out.txt
+verdict 'mending under a limit on file size' 3 $got '' 'typetool: write fault\n'
+holds 'no mended timing before the script is whole' new.timing ''
+
 printf '%b%b' "$head" "a${E}[m${E}[3;1Hb" >three.script
 printf '0 1\n0 3\n1.5 7\n' >three.timing
 check 'changes by a moment' 0 '0 0.000000 1\n2 1.500000 3\n' '' changes --to 2 three.script three.timing

@@ -8,6 +8,7 @@ use vt_term::Profile;
 mod every;
 mod find;
 mod flags;
+mod mend;
 
 /// The words of a command line, with one space between.
 pub fn words_of(alloc: Global, line: &str) -> Result<Vec<String>, AllocError> {

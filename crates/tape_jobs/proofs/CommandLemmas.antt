@@ -27,7 +27,7 @@ use Rattle.tape_jobs.specs.declared.job.Job.TheVariants as jobs
 use Rattle.tape_jobs.specs.declared.words.table.Argument.{Argument}
 use Rattle.tape_jobs.specs.declared.words.table.Argument.TheVariants.{At, Escaped, From, To, Until}
 use Rattle.tape_jobs.specs.declared.words.table.Subcommand.{Subcommand}
-use Rattle.tape_jobs.specs.declared.words.table.Subcommand.TheVariants.{Due, Info, Check, Screen, Picture, Changes, Find, Reports, Page, Cast, Save, Session}
+use Rattle.tape_jobs.specs.declared.words.table.Subcommand.TheVariants.{Due, Info, Check, Screen, Picture, Changes, Find, Reports, Page, Cast, Save, Mend, Session}
 use Rattle.tape_jobs.specs.declared.words.values.Unreadable.{Unreadable}
 use Rattle.tape_jobs.specs.declared.words.values.Unreadable.TheVariants as unread
 use Rattle.vt_term.specs.declared.profile.Profile.{Profile}
@@ -179,6 +179,7 @@ first_named Reports = refl
 first_named Page = refl
 first_named Cast = refl
 first_named Save = refl
+first_named Mend = refl
 first_named Session = refl
 
 -- what words mean by the subcommand that clap finds in them
@@ -215,6 +216,7 @@ fails_unread words unread.Seconds taken meant = (taken, meant)
 fails_unread words unread.Every taken meant = (taken, meant)
 fails_unread words unread.Profile taken meant = (taken, meant)
 fails_unread words unread.Text taken meant = (taken, meant)
+fails_unread words unread.Headers taken meant = (taken, meant)
 
 -- a job from a value that was read
 after_read : {A : Type 0} (read : Result A Unreadable) (next : A → Result Job Unreadable) (job : Job) (n : ℕ)
@@ -263,6 +265,7 @@ enough_paths Reports rows job e =
 enough_paths Session rows job e =
     after_read (every_in rows) (λ every. after (profile_in rows) (λ p. Ok (jobs.Session every p))) job 2
     (λ every later. of_value (profile_in rows) (λ p. jobs.Session every p) job 2 (λ p. lit≤ tt) later) e
+enough_paths Mend rows job e = of_value _ (λ how. jobs.Mend how) job 4 (λ how. lit≤ tt) e
 enough_paths Save rows job e = let same : jobs.Save ≡ job = cc in subst (λ j. path_count j ≤ 4) same (lit≤ tt)
 
 -- a name that is none of those in a list is named by none of their commands

@@ -17,15 +17,17 @@ use Rattle.clap.proofs.OnLiterals.{clap_on_literals}
 use Rattle.tape_jobs.proofs.CommandLemmas.{is_simple_app, means, means_job}
 use Rattle.tape_core.specs.Seconds.{last_moment, micros, seconds_of}
 use Rattle.tape_jobs.specs.CommandLine.{typetool_app, clap_takes, every_allowed, every_of, after, readable, job_in, is_searchable, moment_if, moment_or_last, profile_named, searchable, value_in, subcommand_in, app_in, name_in, id_in, rule_in, flags_in, texts_in, text_in, paths_in}
-use Rattle.tape_jobs.specs.Lines.{Asks, IsPlain, escaped_words, profile_or_first, profile_words}
+use Rattle.tape_jobs.specs.Lines.{Asks, IsPlain, escaped_words, header_words, profile_or_first, profile_words}
 use Rattle.tape_jobs.specs.Stored.{usual_every}
+use Rattle.tape_mend.specs.declared.opening.Header.{Header}
+use Rattle.tape_mend.specs.declared.opening.Header.TheVariants.{Kept, Last, Made}
 use Rattle.vt_term.specs.declared.profile.Profile.{Profile}
 use Rattle.vt_term.specs.declared.profile.Profile.TheVariants.{Vt100, Vt102}
 use Rattle.tape_jobs.specs.declared.job.Job.{Job}
 use Rattle.tape_jobs.specs.declared.job.Job.TheVariants as job
 use Rattle.tape_jobs.specs.declared.words.values.Unreadable.TheVariants as unread
 use Rattle.tape_jobs.specs.declared.words.table.Subcommand.{Subcommand}
-use Rattle.tape_jobs.specs.declared.words.table.Subcommand.TheVariants.{Due, Info, Check, Screen, Picture, Changes, Find, Reports, Page, Cast, Save, Session}
+use Rattle.tape_jobs.specs.declared.words.table.Subcommand.TheVariants.{Due, Info, Check, Screen, Picture, Changes, Find, Reports, Page, Cast, Save, Mend, Session}
 
 both_true : (a b : Bool) → a ≡ true → b ≡ true → (a && b) ≡ true
 both_true a b e f = ap₂ (λ x y. x && y) e f
@@ -244,6 +246,7 @@ enters Reports words = halted_walk (built typetool_app).top.rules (names_of (bui
 enters Page words = halted_walk (built typetool_app).top.rules (names_of (built typetool_app)) (name_in Page) [] words
 enters Cast words = halted_walk (built typetool_app).top.rules (names_of (built typetool_app)) (name_in Cast) [] words
 enters Save words = halted_walk (built typetool_app).top.rules (names_of (built typetool_app)) (name_in Save) [] words
+enters Mend words = halted_walk (built typetool_app).top.rules (names_of (built typetool_app)) (name_in Mend) [] words
 enters Session words = halted_walk (built typetool_app).top.rules (names_of (built typetool_app)) (name_in Session) [] words
 
 enter_passes : (s : Subcommand) (words : List Text)
@@ -260,6 +263,7 @@ enter_passes Reports words = halted_passes (built typetool_app).top (names_of (b
 enter_passes Page words = halted_passes (built typetool_app).top (names_of (built typetool_app)) (name_in Page) [] words
 enter_passes Cast words = halted_passes (built typetool_app).top (names_of (built typetool_app)) (name_in Cast) [] words
 enter_passes Save words = halted_passes (built typetool_app).top (names_of (built typetool_app)) (name_in Save) [] words
+enter_passes Mend words = halted_passes (built typetool_app).top (names_of (built typetool_app)) (name_in Mend) [] words
 enter_passes Session words = halted_passes (built typetool_app).top (names_of (built typetool_app)) (name_in Session) [] words
 
 -- what is entered is the subcommand
@@ -277,6 +281,7 @@ entered_leaf Reports words = refl
 entered_leaf Page words = refl
 entered_leaf Cast words = refl
 entered_leaf Save words = refl
+entered_leaf Mend words = refl
 entered_leaf Session words = refl
 
 leaf_passes : (s : Subcommand) (words : List Text) → level_passes (leaf s) [] nothing_held words false ≡ true
@@ -293,6 +298,7 @@ leaf_passes Reports words e = e
 leaf_passes Page words e = e
 leaf_passes Cast words e = e
 leaf_passes Save words e = e
+leaf_passes Mend words e = e
 leaf_passes Session words e = e
 
 above_passes : settles (built typetool_app).top nothing_held true ≡ true
@@ -434,6 +440,22 @@ module _ (program script timing : Text) (p : IsPlain script) (q : IsPlain timing
   save_line new_script new_timing r t =
       asks_by program Save (value_word script ∷ value_word timing ∷ value_word new_script ∷ value_word new_timing ∷ [])
       (p, (q, (r, (t, tt)))) refl job.Save [] (script ∷ timing ∷ new_script ∷ new_timing ∷ []) refl refl refl
+
+  pub mend_line : (how : Header) (new_script new_timing : Text) → IsPlain new_script → IsPlain new_timing
+      → Asks (program ∷ codes "mend" ∷ (header_words how ++ script ∷ timing ∷ new_script ∷ new_timing ∷ [])) (job.Mend how) []
+      (script ∷ timing ∷ new_script ∷ new_timing ∷ [])
+  unfolding clap_on_literals typetool_app app_in name_in flags_in texts_in paths_in id_in rule_in job_in text_in
+  mend_line Kept new_script new_timing r t =
+      asks_by program Mend (value_word script ∷ value_word timing ∷ value_word new_script ∷ value_word new_timing ∷ [])
+      (p, (q, (r, (t, tt)))) refl (job.Mend Kept) [] (script ∷ timing ∷ new_script ∷ new_timing ∷ []) refl refl refl
+  mend_line Last new_script new_timing r t =
+      asks_by program Mend
+      (literal (codes "--last") ∷ value_word script ∷ value_word timing ∷ value_word new_script ∷ value_word new_timing ∷ [])
+      (p, (q, (r, (t, tt)))) refl (job.Mend Last) [] (script ∷ timing ∷ new_script ∷ new_timing ∷ []) refl refl refl
+  mend_line Made new_script new_timing r t =
+      asks_by program Mend
+      (literal (codes "--headless") ∷ value_word script ∷ value_word timing ∷ value_word new_script ∷ value_word new_timing ∷ [])
+      (p, (q, (r, (t, tt)))) refl (job.Mend Made) [] (script ∷ timing ∷ new_script ∷ new_timing ∷ []) refl refl refl
 
   pub session_line : (profile : Option Profile)
       → Asks (program ∷ codes "session" ∷ (profile_words profile ++ paths)) (job.Session usual_every (profile_or_first profile)) [] paths

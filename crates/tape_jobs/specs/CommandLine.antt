@@ -13,13 +13,16 @@ use Rattle.tape_jobs.specs.declared.job.Job.{Job}
 use Rattle.tape_jobs.specs.declared.job.Job.TheVariants as job
 use Rattle.tape_jobs.specs.declared.words.Words.{Words}
 use Rattle.tape_jobs.specs.declared.words.WordsFault.{WordsFault}
-use Rattle.tape_jobs.specs.declared.words.WordsFault.TheVariants.{Clap, Memory, BadSeconds, BadEvery, BadProfile, BadText}
+use Rattle.tape_jobs.specs.declared.words.WordsFault.TheVariants.{Clap, Memory, BadSeconds, BadEvery, BadProfile, BadText, BothHeaders}
 use Rattle.tape_jobs.specs.declared.words.table.Argument.{Argument}
-use Rattle.tape_jobs.specs.declared.words.table.Argument.TheVariants.{At, From, To, Until, Every, Profile, Escaped, Sought, Script, Timing, NewScript, NewTiming}
+use Rattle.tape_jobs.specs.declared.words.table.Argument.TheVariants.{At, From, To, Until, Every, Profile, Escaped, Last, Headless, Sought, Script, Timing, AnyTiming, NewScript, NewTiming}
 use Rattle.tape_jobs.specs.declared.words.table.Subcommand.{Subcommand}
-use Rattle.tape_jobs.specs.declared.words.table.Subcommand.TheVariants.{Due, Info, Check, Screen, Picture, Changes, Find, Reports, Page, Cast, Save, Session}
+use Rattle.tape_jobs.specs.declared.words.table.Subcommand.TheVariants.{Due, Info, Check, Screen, Picture, Changes, Find, Reports, Page, Cast, Save, Mend, Session}
 use Rattle.tape_jobs.specs.declared.words.values.Unreadable.{Unreadable}
 use Rattle.tape_jobs.specs.declared.words.values.Unreadable.TheVariants as unread
+use Rattle.tape_mend.specs.declared.opening.Header.{Header}
+use Rattle.tape_mend.specs.declared.opening.Header.TheVariants.{Kept, Made}
+use Rattle.tape_mend.specs.declared.opening.Header.TheVariants as header
 use Rattle.vt_term.specs.declared.profile.Profile.{Profile as Played}
 use Rattle.vt_term.specs.declared.profile.Profile.TheVariants.{Vt100, Vt102}
 
@@ -27,7 +30,7 @@ use Rattle.vt_term.specs.declared.profile.Profile.TheVariants.{Vt100, Vt102}
 
 -- the subcommands, in the order in which help tells them (ours)
 abbrev pub subcommands_in_order : List Subcommand
-subcommands_in_order = Due ∷ Info ∷ Check ∷ Screen ∷ Picture ∷ Changes ∷ Find ∷ Reports ∷ Page ∷ Cast ∷ Save ∷ Session ∷ []
+subcommands_in_order = Due ∷ Info ∷ Check ∷ Screen ∷ Picture ∷ Changes ∷ Find ∷ Reports ∷ Page ∷ Cast ∷ Save ∷ Mend ∷ Session ∷ []
 
 -- the name of a subcommand (ours)
 unfoldable pub name_in : Subcommand → Text
@@ -42,6 +45,7 @@ name_in Reports = codes "reports"
 name_in Page = codes "page"
 name_in Cast = codes "cast"
 name_in Save = codes "save"
+name_in Mend = codes "mend"
 name_in Session = codes "session"
 
 -- the flags of a subcommand (ours)
@@ -57,6 +61,7 @@ flags_in Reports = At ∷ Profile ∷ []
 flags_in Page = Profile ∷ []
 flags_in Cast = Profile ∷ []
 flags_in Save = []
+flags_in Mend = Last ∷ Headless ∷ []
 flags_in Session = Every ∷ Profile ∷ []
 
 -- the texts of a subcommand, which stand before its paths (ours)
@@ -77,6 +82,7 @@ paths_in Reports = Script ∷ Timing ∷ []
 paths_in Page = Script ∷ Timing ∷ []
 paths_in Cast = Script ∷ Timing ∷ []
 paths_in Save = Script ∷ Timing ∷ NewScript ∷ NewTiming ∷ []
+paths_in Mend = Script ∷ AnyTiming ∷ NewScript ∷ NewTiming ∷ []
 paths_in Session = Script ∷ Timing ∷ []
 
 -- the name of an argument (ours)
@@ -88,9 +94,12 @@ id_in Until = codes "to"
 id_in Every = codes "every"
 id_in Profile = codes "profile"
 id_in Escaped = codes "escaped"
+id_in Last = codes "last"
+id_in Headless = codes "headless"
 id_in Sought = codes "text"
 id_in Script = codes "script"
 id_in Timing = codes "timing"
+id_in AnyTiming = codes "timing"
 id_in NewScript = codes "new-script"
 id_in NewTiming = codes "new-timing"
 
@@ -120,9 +129,12 @@ rule_in Until = optional_rule (id_in Until)
 rule_in Every = optional_rule (id_in Every)
 rule_in Profile = optional_rule (id_in Profile)
 rule_in Escaped = switch_rule (id_in Escaped)
+rule_in Last = switch_rule (id_in Last)
+rule_in Headless = switch_rule (id_in Headless)
 rule_in Sought = positional_rule (id_in Sought)
 rule_in Script = positional_rule (id_in Script)
 rule_in Timing = positional_rule (id_in Timing)
+rule_in AnyTiming = positional_rule (id_in AnyTiming)
 rule_in NewScript = positional_rule (id_in NewScript)
 rule_in NewTiming = positional_rule (id_in NewTiming)
 
@@ -211,6 +223,16 @@ searched_in rows = readable unread.Text (searchable (chars (value_in (id_in Soug
 abbrev pub switch_in : Text → List Row → Bool
 switch_in id rows = bytes_eq (value_in id rows) (codes "true")
 
+-- which line mending takes as the header, by whether `--last` and `--headless` are given: they exclude each other (ours)
+abbrev pub header_by : Bool → Bool → Result Header Unreadable
+header_by false false = Ok Kept
+header_by true false = Ok header.Last
+header_by false true = Ok Made
+header_by true true = Err unread.Headers
+
+abbrev pub header_in : List Row → Result Header Unreadable
+header_in rows = header_by (switch_in (id_in Last) rows) (switch_in (id_in Headless) rows)
+
 -- the job that a subcommand's values mean, or what of them isn't readable (ours)
 unfoldable pub job_in : Subcommand → List Row → Result Job Unreadable
 job_in Due rows = after (moment_in (id_in At) rows) (λ at. Ok (job.Due at))
@@ -235,6 +257,7 @@ job_in Reports rows =
 job_in Page rows = after (profile_in rows) (λ profile. Ok (job.Page profile))
 job_in Cast rows = after (profile_in rows) (λ profile. Ok (job.Cast profile))
 job_in Save rows = Ok job.Save
+job_in Mend rows = after (header_in rows) (λ how. Ok (job.Mend how))
 job_in Session rows =
     after (every_in rows) (λ every. after (profile_in rows) (λ profile.
     Ok (job.Session every profile)))
@@ -344,6 +367,7 @@ fault_of_unread unread.Seconds = BadSeconds
 fault_of_unread unread.Every = BadEvery
 fault_of_unread unread.Profile = BadProfile
 fault_of_unread unread.Text = BadText
+fault_of_unread unread.Headers = BothHeaders
 
 -- clap reads these words, and this of them isn't readable (ours)
 abbrev pub IsUnreadable : List Text → Unreadable → Type 0
@@ -351,7 +375,8 @@ IsUnreadable words fault =
     (clap_faults words ≡ []) × (meaning_of_words words ≡ Some (Err fault))
 
 -- why words aren't a job: clap finds a fault of that kind in them and doesn't promise to take them, or it reads them
--- and some seconds aren't readable, or the number of chunks, the profile, or the text; memory may always be refused (ours)
+-- and some seconds aren't readable, or the number of chunks, the profile, or the text, or two headers are asked for;
+-- memory may always be refused (ours)
 abbrev pub FailsFor : List Text → WordsFault → Type 0
 FailsFor words (Clap e) = IsAmong (kind_of e) (clap_faults words) × (clap_takes words ≡ false)
 FailsFor words Memory = Unit {0}
@@ -359,3 +384,4 @@ FailsFor words BadSeconds = IsUnreadable words unread.Seconds
 FailsFor words BadEvery = IsUnreadable words unread.Every
 FailsFor words BadProfile = IsUnreadable words unread.Profile
 FailsFor words BadText = IsUnreadable words unread.Text
+FailsFor words BothHeaders = IsUnreadable words unread.Headers

@@ -3,6 +3,8 @@ use Rattle.std.specs.Prelude.{◌≡◌, ℕ, chars, ◌==◌, ◌++◌, Bool, t
 use Rattle.clap.specs.Words.{Text}
 use Rattle.tape_jobs.specs.CommandLine.{clap_takes, is_searchable, meaning_of_words}
 use Rattle.tape_jobs.specs.declared.job.Job.{Job}
+use Rattle.tape_mend.specs.declared.opening.Header.{Header}
+use Rattle.tape_mend.specs.declared.opening.Header.TheVariants.{Kept, Last, Made}
 use Rattle.vt_term.specs.declared.profile.Profile.{Profile}
 use Rattle.vt_term.specs.declared.profile.Profile.TheVariants.{Vt100, Vt102}
 
@@ -33,6 +35,12 @@ profile_words (Some profile) = codes "--profile" ∷ profile_name profile ∷ []
 abbrev pub profile_or_first : Option Profile → Profile
 profile_or_first None = Vt100
 profile_or_first (Some profile) = profile
+
+-- the flag that says which line mending takes as the header (ours)
+abbrev pub header_words : Header → List Text
+header_words Kept = []
+header_words Last = codes "--last" ∷ []
+header_words Made = codes "--headless" ∷ []
 
 -- clap takes these words, and they mean this job over these paths, with this text beside it: so they are read as that,
 -- or memory is refused (ours)

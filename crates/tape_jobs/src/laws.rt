@@ -4,8 +4,9 @@ ghost use Rattle.std.specs.Prelude.{◌≡◌, ◌++◌, ◌∷◌, [], ℕ, Boo
 ghost use Rattle.clap.specs.Words.{Text};
 ghost use Rattle.tape_core.specs.Seconds.{last_moment, seconds_of};
 ghost use Rattle.tape_jobs.specs.CommandLine.{every_of};
-ghost use Rattle.tape_jobs.specs.Lines.{Asks, FindAsks, IsPlain, LineAsks, escaped_words, profile_or_first, profile_words};
+ghost use Rattle.tape_jobs.specs.Lines.{Asks, FindAsks, IsPlain, LineAsks, escaped_words, header_words, profile_or_first, profile_words};
 ghost use Rattle.tape_jobs.specs.Stored.{usual_every};
+ghost use Rattle.tape_mend.specs.declared.opening.Header.{Header};
 ghost use Rattle.vt_term.specs.declared.profile.Profile.{Profile};
 ghost use Rattle.tape_jobs.specs.declared.job.Job.TheVariants as job;
 ghost use Rattle.tape_core.specs.Devices.{Took, has_failed};
@@ -72,6 +73,11 @@ pub fn plain_lines_are_read()
         → (new_script new_timing : Text) → IsPlain new_script → IsPlain new_timing
         → Asks (program ∷ codes "save" ∷ script ∷ timing ∷ new_script ∷ new_timing ∷ [])
         job.Save [] (script ∷ timing ∷ new_script ∷ new_timing ∷ []) }
+    ensures mend { (how : Header) (program script timing : Text) → IsPlain script → IsPlain timing
+        → (new_script new_timing : Text) → IsPlain new_script → IsPlain new_timing
+        → Asks (program ∷ codes "mend"
+        ∷ (header_words how ++ script ∷ timing ∷ new_script ∷ new_timing ∷ []))
+        (job.Mend how) [] (script ∷ timing ∷ new_script ∷ new_timing ∷ []) }
     ensures session { (profile : Option Profile) → LineAsks (codes "session")
         (profile_words profile) (job.Session usual_every (profile_or_first profile)) }
     ensures session_every { (every : Text) (count : ℕ) → every_of every ≡ Some count

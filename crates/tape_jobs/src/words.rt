@@ -48,6 +48,9 @@ pub enum WordsFault {
     /// The text that is looked for has spaces alone, or a control character.
     #[error("bad text")]
     BadText,
+    /// Both flags are given that say which header mending takes.
+    #[error("--last and --headless exclude each other")]
+    BothHeaders,
 }
 
 impl From<AllocError> for WordsFault {
@@ -90,6 +93,7 @@ fn fault_of_unread(unread: Unreadable) -> WordsFault
         Unreadable::Every => WordsFault::BadEvery,
         Unreadable::Profile => WordsFault::BadProfile,
         Unreadable::Text => WordsFault::BadText,
+        Unreadable::Headers => WordsFault::BothHeaders,
     }
 }
 

@@ -15,7 +15,8 @@ use std::io::BufWriter;
 use std::rt::{Env, Files};
 use std::{env, fs, io};
 use tape_core::{Fault, Watched};
-use tape_jobs::{Job, JobFault, Outcome, Words, WordsFault, read_words, run, run_with};
+use tape_jobs::{Job, JobFault, Outcome, Words, WordsFault, mend, read_words, run, run_with};
+use tape_mend::Header;
 use thiserror::Error;
 
 /// How many bytes of standard output are held back before they are written.
@@ -71,7 +72,8 @@ fn status_of(stop: &Stop) -> u8
             WordsFault::BadSeconds
             | WordsFault::BadEvery
             | WordsFault::BadProfile
-            | WordsFault::BadText,
+            | WordsFault::BadText
+            | WordsFault::BothHeaders,
         )
         | Stop::NotText => 2,
         Stop::Words(WordsFault::Memory)
@@ -164,6 +166,11 @@ fn open_and_run<R: Files + Input + Print + AllocGlobal>(
             let out_timing = create(rt, words.paths[3].as_str())?;
             save_into(rt, &mut script, &mut timing, out, out_timing)
         }
+        Job::Mend { header } => {
+            let out = create(rt, words.paths[2].as_str())?;
+            let out_timing = create(rt, words.paths[3].as_str())?;
+            mend_into(rt, header, &mut script, &mut timing, out, out_timing)
+        }
         Job::Session { .. } => {
             let mut requests = Watched::new(rt.reader());
             print(rt, job, text, &mut script, &mut timing, &mut requests)
@@ -239,6 +246,39 @@ fn save_into<R: Files + Input + AllocGlobal>(
     );
     leave(out);
     leave(out_timing);
+    let note = Watched::new(Vec::new(rt.alloc()));
+    Ok(Ended { outcome, note })
+}
+
+/// Mends a pair of files into two that were created, and tells over standard output what was lost.
+fn mend_into<R: Files + Print + AllocGlobal>(
+    rt: &R,
+    header: Header,
+    script: &mut Watched<R::File>,
+    timing: &mut Watched<R::File>,
+    new_script: R::File,
+    new_timing: R::File,
+) -> Result<Ended, Stop>
+    requires script { has_failed script.old ≡ false }
+    requires timing { has_failed timing.old ≡ false }
+    ensures outcome { IfOk result (λ ended. IsOutcome (Job.Mend header) ended.outcome) }
+    ensures stop { IfErr result (λ stop. stop ≡ Stop.Memory) }
+{
+    let mut out = buffered(rt, new_script)?;
+    let mut out_timing = buffered(rt, new_timing)?;
+    let mut told = buffered(rt, io::writer(rt))?;
+    let outcome = mend(
+        rt.alloc(),
+        header,
+        script,
+        timing,
+        &mut out,
+        &mut out_timing,
+        &mut told,
+    );
+    leave(out);
+    leave(out_timing);
+    leave(told);
     let note = Watched::new(Vec::new(rt.alloc()));
     Ok(Ended { outcome, note })
 }

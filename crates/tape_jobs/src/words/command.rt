@@ -96,10 +96,13 @@ fn arg_of<'a>(alloc: Global, argument: Argument) -> Arg<'a>
             value_name_of(argument),
             help_of(argument),
         ),
-        Argument::Escaped => switch(alloc, id_of(argument), help_of(argument)),
+        Argument::Escaped | Argument::Last | Argument::Headless => {
+            switch(alloc, id_of(argument), help_of(argument))
+        }
         Argument::Sought
         | Argument::Script
         | Argument::Timing
+        | Argument::AnyTiming
         | Argument::NewScript
         | Argument::NewTiming => positional(
             alloc,

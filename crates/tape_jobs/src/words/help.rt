@@ -27,6 +27,8 @@ pub fn about_of<'a>(subcommand: Subcommand) -> &'a str {
         Subcommand::Cast => "Write the recording as an asciicast, version 2",
         Subcommand::Save =>
             "Make the edits that standard input asks for, and write both files anew",
+        Subcommand::Mend =>
+            "Write both files anew of all that can be read of them, and tell what was lost",
         Subcommand::Session => "Answer the requests of standard input, each in turn",
     }
 }
@@ -67,6 +69,19 @@ const CHECK_DETAILS: &str =
     noted or unplayed, and else 1. No screen is played.\n\n\
     The commands that play a recording tell the notes on size, terminal and sessions on standard error.\n\n\
     Example: typetool check demo.script demo.timing";
+
+/// What `mend` reads, what it tells, and its status.
+const MEND_DETAILS: &str =
+    "For recordings that the other commands refuse: a timing file in the multi-stream format (of script's\n\
+    -B, -I, or -m advanced), a typescript that was cut short, appended to (-a) or kept without its first\n\
+    line, a timing file that is damaged. Reading ends before the first line with a fault. The new pair is\n\
+    in the classic format, and is read without a fault; what stands behind the last byte taken becomes\n\
+    its trailer. Input and signals have no place in it, and are left out.\n\n\
+    Both new files are created before anything is read, and must not exist. Then it is told, each only\n\
+    where it is so: timing line N: FAULT, K lines left out; N inputs and M signals left out; chunk I cut\n\
+    to B of C bytes; K chunks left out. Status 1 where a line or a chunk was left out or cut, or where\n\
+    the typescript has no header line (then nothing is written).\n\n\
+    Example: typetool mend demo.script demo.timing new.script new.timing";
 
 /// The lines that `find` writes, and what it doesn't find.
 const FIND_DETAILS: &str =
@@ -130,6 +145,7 @@ pub fn details_of<'a>(subcommand: Subcommand) -> &'a str {
         Subcommand::Page => PAGE_DETAILS,
         Subcommand::Cast => CAST_DETAILS,
         Subcommand::Save => SAVE_DETAILS,
+        Subcommand::Mend => MEND_DETAILS,
         Subcommand::Session => SESSION_DETAILS,
     }
 }
@@ -140,10 +156,10 @@ pub fn value_name_of<'a>(argument: Argument) -> &'a str {
         Argument::At | Argument::From | Argument::To | Argument::Until => "SECONDS",
         Argument::Every => "CHUNKS",
         Argument::Profile => "PROFILE",
-        Argument::Escaped => "",
+        Argument::Escaped | Argument::Last | Argument::Headless => "",
         Argument::Sought => "TEXT",
         Argument::Script => "SCRIPT",
-        Argument::Timing => "TIMING",
+        Argument::Timing | Argument::AnyTiming => "TIMING",
         Argument::NewScript => "NEWSCRIPT",
         Argument::NewTiming => "NEWTIMING",
     }
@@ -169,6 +185,13 @@ pub fn help_of<'a>(argument: Argument) -> &'a str {
         Argument::Escaped => {
             "Write a text that draws the screen again on a reset terminal, with renditions and sizes"
         }
+        Argument::Last => {
+            "Begin at the last line that begins with 'Script started on ', for a typescript that was appended \
+             to: its timing is the last session's"
+        }
+        Argument::Headless => {
+            "Put a line 'Script started' before the typescript, for one that has lost its first line"
+        }
         Argument::Sought =>
             "What to look for: characters as they stand on the screen, not only spaces",
         Argument::Script => "The typescript that script(1) wrote: the bytes themselves",
@@ -176,6 +199,7 @@ pub fn help_of<'a>(argument: Argument) -> &'a str {
             "Its timing file, in the classic format: a line of a delay and a count for each chunk. \
              (A typescript given here is told as 'multi-stream format'.)"
         }
+        Argument::AnyTiming => "Its timing file, in the classic or in the multi-stream format",
         Argument::NewScript => "The typescript to be written; it must not exist",
         Argument::NewTiming => "Its timing file, to be written; it must not exist",
     }

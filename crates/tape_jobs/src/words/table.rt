@@ -17,6 +17,7 @@ pub enum Subcommand {
     Page,
     Cast,
     Save,
+    Mend,
     Session,
 }
 
@@ -37,12 +38,18 @@ pub enum Argument {
     Profile,
     /// A text that draws the screen again is asked for.
     Escaped,
+    /// The last session of the typescript is asked for.
+    Last,
+    /// The typescript has no header.
+    Headless,
     /// The text that is looked for.
     Sought,
     /// The typescript.
     Script,
-    /// Its timing file.
+    /// Its timing file, in the classic format.
     Timing,
+    /// Its timing file, in either format.
+    AnyTiming,
     /// The typescript that is to be written.
     NewScript,
     /// The timing file that is to be written.
@@ -50,7 +57,7 @@ pub enum Argument {
 }
 
 /// The subcommands, in the order in which help tells them.
-pub fn subcommands() -> [Subcommand; 12]
+pub fn subcommands() -> [Subcommand; 13]
     ensures { result ≡ subcommands_in_order }
 {
     [
@@ -65,6 +72,7 @@ pub fn subcommands() -> [Subcommand; 12]
         Subcommand::Page,
         Subcommand::Cast,
         Subcommand::Save,
+        Subcommand::Mend,
         Subcommand::Session,
     ]
 }
@@ -86,6 +94,7 @@ pub fn name_of<'a>(subcommand: Subcommand) -> &'a str
         Subcommand::Page => "page",
         Subcommand::Cast => "cast",
         Subcommand::Save => "save",
+        Subcommand::Mend => "mend",
         Subcommand::Session => "session",
     }
 }
@@ -102,6 +111,7 @@ pub fn flags_of(subcommand: Subcommand) -> &'static [Argument]
         Subcommand::Changes => &[Argument::From, Argument::To, Argument::Profile],
         Subcommand::Find => &[Argument::From, Argument::Until, Argument::Profile],
         Subcommand::Picture | Subcommand::Reports => &[Argument::At, Argument::Profile],
+        Subcommand::Mend => &[Argument::Last, Argument::Headless],
         Subcommand::Session => &[Argument::Every, Argument::Profile],
         Subcommand::Info | Subcommand::Save => &[],
     }
@@ -124,6 +134,7 @@ pub fn texts_of(subcommand: Subcommand) -> &'static [Argument]
         | Subcommand::Page
         | Subcommand::Cast
         | Subcommand::Save
+        | Subcommand::Mend
         | Subcommand::Session => &[],
     }
 }
@@ -151,6 +162,12 @@ pub fn paths_of(subcommand: Subcommand) -> &'static [Argument]
             Argument::NewScript,
             Argument::NewTiming,
         ],
+        Subcommand::Mend => &[
+            Argument::Script,
+            Argument::AnyTiming,
+            Argument::NewScript,
+            Argument::NewTiming,
+        ],
     }
 }
 
@@ -166,9 +183,11 @@ pub fn id_of<'a>(argument: Argument) -> &'a str
         Argument::Every => "every",
         Argument::Profile => "profile",
         Argument::Escaped => "escaped",
+        Argument::Last => "last",
+        Argument::Headless => "headless",
         Argument::Sought => "text",
         Argument::Script => "script",
-        Argument::Timing => "timing",
+        Argument::Timing | Argument::AnyTiming => "timing",
         Argument::NewScript => "new-script",
         Argument::NewTiming => "new-timing",
     }

@@ -5,7 +5,7 @@ ghost use Rattle.std.specs.Option.{option_map};
 ghost use Rattle.std.specs.Char.{is_control};
 ghost use Rattle.std.specs.List.{list_all, list_any};
 ghost use Rattle.clap.specs.Words.{first_of, found_of, rows_of};
-ghost use Rattle.tape_jobs.specs.CommandLine.{every_allowed, every_in, every_of, id_in, is_searchable, job_in, moment_in, moment_given_in, moment_or_last_in, paths_in, profile_in, profile_named, switch_in, text_in, value_in};
+ghost use Rattle.tape_jobs.specs.CommandLine.{every_allowed, every_in, every_of, header_in, id_in, is_searchable, job_in, moment_in, moment_given_in, moment_or_last_in, paths_in, profile_in, profile_named, switch_in, text_in, value_in};
 ghost use Rattle.tape_jobs.specs.declared.words.table.Subcommand.TheVariants.{Find as find};
 
 use super::table::{Argument, Subcommand, id_of, paths_of};
@@ -16,6 +16,7 @@ use std::alloc::{AllocError, Global};
 use tape_core::limits::LAST_MOMENT;
 use tape_core::read_seconds;
 use tape_core::text::read_number;
+use tape_mend::Header;
 use vt_term::Profile;
 
 /// What of a command line isn't readable, where clap takes the words.
@@ -29,6 +30,8 @@ pub enum Unreadable {
     Profile,
     /// The text that is looked for.
     Text,
+    /// Which header mending takes: both flags that say it are given.
+    Headers,
 }
 
 /// The job that a subcommand's values mean.
@@ -70,6 +73,9 @@ pub fn read_job(subcommand: Subcommand, values: &ArgMatches<'_>) -> Result<Job, 
             profile: read_profile(values)?,
         }),
         Subcommand::Save => Ok(Job::Save),
+        Subcommand::Mend => Ok(Job::Mend {
+            header: read_header(values)?,
+        }),
         Subcommand::Session => Ok(Job::Session {
             every: read_every(values)?,
             profile: read_profile(values)?,
@@ -193,6 +199,20 @@ fn profile_named(name: &str) -> Option<Profile>
         Some(Profile::Vt102)
     } else {
         None
+    }
+}
+
+/// Which line mending is to take as the header.
+fn read_header(values: &ArgMatches<'_>) -> Result<Header, Unreadable>
+    ensures { result ≡ header_in (rows_of (found_of values.now)) }
+{
+    let last = is_given(values, Argument::Last);
+    let headless = is_given(values, Argument::Headless);
+    match (last, headless) {
+        (false, false) => Ok(Header::Kept),
+        (true, false) => Ok(Header::Last),
+        (false, true) => Ok(Header::Made),
+        (true, true) => Err(Unreadable::Headers),
     }
 }
 

@@ -1,4 +1,4 @@
-use Rattle.tape_jobs.proofs.LineLemmas.{cast_line, changes_from_line, changes_line, check_line, due_line, find_between_line, find_line, info_line, page_line, picture_line, reports_line, save_line, screen_line, session_every_line, session_line}
+use Rattle.tape_jobs.proofs.LineLemmas.{cast_line, changes_from_line, changes_line, check_line, due_line, find_between_line, find_line, info_line, mend_line, page_line, picture_line, reports_line, save_line, screen_line, session_every_line, session_line}
 use Rattle.tape_jobs.proofs.laws.plain_lines_are_read.Goals as goal
 
 pub returns-clause-due : goal.returns-clause-due
@@ -41,6 +41,9 @@ returns-clause-cast c = λ profile program script timing p q. cast_line program 
 
 pub returns-clause-save : goal.returns-clause-save
 returns-clause-save c = save_line
+
+pub returns-clause-mend : goal.returns-clause-mend
+returns-clause-mend c = λ how program script timing p q. mend_line program script timing p q how
 
 pub returns-clause-session : goal.returns-clause-session
 returns-clause-session c = λ profile program script timing p q. session_line program script timing p q profile

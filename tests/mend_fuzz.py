@@ -1,0 +1,149 @@
+#!/usr/bin/env python3
+"""Mends damaged pairs of both formats and compares with a plain reading of what that comes to.
+
+    tests/mend_fuzz.py TYPETOOL [PAIRS [SEED]]
+
+Each pair is pieces of real recordings, in the classic or in the multi-stream format, with inputs in the typescript or
+in a log of their own, signals and header lines, one session behind another, with and without a header line; bytes of
+it were flipped, cut, doubled and dropped. `mend`, with each of its flags, has to write just the pair that the plain
+reader (mend_reader.py) comes to, and tell just that, with its status; where the typescript that is read has no LF, it
+has to say so and write nothing. What it wrote `info` and `check` have to read without a fault. The last line is
+'N passed, M failed'.
+"""
+import concurrent.futures
+import os
+import random
+import subprocess
+import sys
+import tempfile
+
+import harm
+import mend_reader
+
+program = os.path.abspath(sys.argv[1])
+pairs = int(sys.argv[2]) if len(sys.argv) > 2 else 200
+seed = int(sys.argv[3]) if len(sys.argv) > 3 else 1
+# Far above what any of these files takes: a command that isn't done by then is stuck.
+PATIENCE = 20
+FLAGS = ["", "", "--last", "--headless"]
+
+
+def seconds(rng, us):
+    """A delay, now and then spelled in another way."""
+    return rng.choice(
+        [b"%d.%06d" % divmod(us, 10**6)] * 8 + [b"-1", b"%d" % (us // 10**6), b"999999.9999999", b"1e3"]
+    )
+
+
+def classic(rng, chunks):
+    """The timing of chunks in the classic format, and the bytes that it counts."""
+    lines = [b"%s %d" % (seconds(rng, delay), len(text)) for delay, text in chunks]
+    return b"".join(text for _, text in chunks), lines
+
+
+def streams(rng, chunks):
+    """The same in the multi-stream format, with inputs and signals between."""
+    body, lines, shared = b"", [b"H 0.000000 START_TIME now", b"H 0 OUTPUT_LOG  one"], rng.random() < 0.5
+    lines.append(rng.choice([b"H 0 INPUT_LOG one", b"H\t0 INPUT_LOG one "]) if shared else b"H 0 INPUT_LOG two")
+    for delay, text in chunks:
+        if rng.random() < 0.3:
+            typed = bytes(rng.randrange(32, 127) for _ in range(rng.randint(0, 5)))
+            lines.append(b"I %s %d" % (seconds(rng, 1000), len(typed)))
+            body += typed if shared else b""
+        if rng.random() < 0.2:
+            lines.append(b"S 0.000100 SIGWINCH ROWS=24 COLS=80")
+        body += text
+        lines.append(b"O %s %d" % (seconds(rng, delay), len(text)))
+    return body, lines
+
+
+def session(rng, whole):
+    """A typescript and its timing."""
+    header, chunks, trailer = harm.piece(rng, whole)
+    body, lines = rng.choice([classic, streams])(rng, chunks)
+    if rng.random() < 0.1:
+        lines.insert(
+            rng.randint(0, len(lines)), rng.choice([b"", b" \t", b"O", b"0 1", b"X 0 1", b"I 0 1", b"0 1048577"])
+        )
+    timing = b"\n".join(lines) + (b"\n" if rng.random() < 0.9 else b"")
+    return (header if rng.random() < 0.8 else b"") + body + trailer, timing
+
+
+def damaged(rng, whole):
+    """A pair, most often with something wrong."""
+    script, timing = session(rng, whole)
+    if rng.random() < 0.2:
+        script = session(rng, whole)[0] + script
+    return harm.harmed(rng, script, timing)
+
+
+class Mending:
+    def __init__(self, folder, number):
+        self.rng = random.Random(seed * 1_000_003 + number)
+        self.folder = os.path.join(folder, str(number))
+        self.problems = []
+        os.mkdir(self.folder)
+
+    def path(self, name):
+        return os.path.join(self.folder, name)
+
+    def run(self, *words):
+        words = [program, *filter(None, words)]
+        done = subprocess.run(words, stdin=subprocess.DEVNULL, capture_output=True, cwd=self.folder, timeout=PATIENCE)
+        return done.returncode, done.stdout, done.stderr
+
+    def expect(self, name, got, wanted):
+        if got != wanted:
+            self.problems.append(f"{name}: got {str(got)[:300]}, wanted {str(wanted)[:300]}")
+
+    def text(self, name):
+        with open(self.path(name), "rb") as file:
+            return file.read()
+
+    def everything(self, script, timing):
+        for name, text in (("s", script), ("t", timing)):
+            with open(self.path(name), "wb") as file:
+                file.write(text)
+        how = self.rng.choice(FLAGS)
+        got = self.run("mend", how, "s", "t", "s2", "t2")
+        mended = mend_reader.mend(how, script, timing)
+        if mended is None:
+            self.expect(f"mend {how}", got, (1, b"", b"typetool: typescript has no header line\n"))
+            self.expect("what is left", (self.text("s2"), self.text("t2")), (b"", b""))
+            return
+        new_script, new_timing, told, status = mended
+        self.expect(f"mend {how}", got, (status, told.encode(), b""))
+        self.expect("the new pair", (self.text("s2"), self.text("t2")), (new_script, new_timing))
+        self.expect("what info says of it", self.run("info", "s2", "t2")[::2], (0, b""))
+        status, _, errors = self.run("check", "s2", "t2")
+        self.expect("what check says of it", (status in (0, 1), errors), (True, b""))
+
+
+def one(folder, number, whole):
+    mending = Mending(folder, number)
+    script, timing = damaged(mending.rng, whole)
+    try:
+        mending.everything(script, timing)
+    except subprocess.TimeoutExpired as stuck:
+        mending.problems.append(f"stuck: {stuck.cmd}")
+    if not mending.problems:
+        for name in os.listdir(mending.folder):
+            os.remove(mending.path(name))
+    return number, mending.problems
+
+
+def main():
+    whole, failed = harm.recordings(), 0
+    folder = tempfile.mkdtemp(prefix="mending-")
+    with concurrent.futures.ThreadPoolExecutor(os.cpu_count()) as pool:
+        for number, problems in pool.map(lambda n: one(folder, n, whole), range(pairs)):
+            failed += bool(problems)
+            for problem in problems:
+                print(f"FAILED pair {number} in {folder}: {problem}")
+    if not failed:
+        subprocess.run(["rm", "-rf", folder], check=True)
+    print(f"mended pairs: {pairs - failed} passed, {failed} failed")
+    return failed > 0
+
+
+sys.exit(main())
