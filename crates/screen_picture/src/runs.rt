@@ -2,7 +2,7 @@
 
 ghost use Rattle.std.specs.Prelude.{◌≡◌, ◌≤◌, ◌<◌, All, length};
 ghost use Rattle.std.specs.List.{prefix_len};
-ghost use Rattle.screen_picture.specs.Runs.{begins, is_like, IsRun, kind_number, kind_of, run_at, runs_of};
+ghost use Rattle.screen_picture.specs.Runs.{is_like, IsRun, kind_number, kind_of, run_at, runs_of};
 
 use crate::outlines::is_drawn;
 use arrayvec::ArrayVec;
@@ -53,20 +53,13 @@ pub fn runs_of(row: &Row) -> ArrayVec<Run, CELLS>
 {
     let cells = inked(&row.cells);
     let mut runs = ArrayVec::new();
-    for before in 0..cells.len() {
-        if begins(cells, before) {
-            runs.push(run_at(cells, before));
-        }
+    let mut before = 0;
+    while before < cells.len() {
+        let run = run_at(cells, before);
+        runs.push(run);
+        before += usize::from(run.len);
     }
     runs
-}
-
-/// Whether a run begins behind so many cells.
-fn begins(cells: &[Cell], before: usize) -> bool
-    requires { before < length cells.now }
-    ensures { result ≡ begins cells.now before }
-{
-    before == 0 || !is_like(cells[before - 1], cells[before])
 }
 
 /// The run that begins behind so many cells.
@@ -97,7 +90,7 @@ fn like_len(one: &Cell, cells: &[Cell]) -> usize
 fn is_like(one: Cell, other: Cell) -> bool
     ensures { result ≡ is_like one other }
 {
-    kind_of(one).number() == kind_of(other).number()
+    one.rendition == other.rendition && is_drawn(one.glyph) == is_drawn(other.glyph)
 }
 
 fn kind_of(cell: Cell) -> Kind
