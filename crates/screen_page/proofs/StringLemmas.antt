@@ -1,15 +1,23 @@
 -- Rows that begin differently, and characters as they stand in a string.
-use Rattle.std.proofs.Common.{◌≡◌, ℕ, zero, suc, ◌<◌, ◌≤◌, Bool, true, false, List, [], ◌∷◌, ◌++◌, All, ◌&&◌, length, take, get_or, encode_utf8, refl, ap, sym, ◌∙◌, arith, append-nil, inl, inr}
+use Rattle.std.proofs.Common.{◌≡◌, ℕ, zero, suc, ◌<◌, ◌≤◌, Bool, true, false, List, [], ◌∷◌, ◌++◌, All, ◌&&◌, length, drop, take, get_or, subst, encode_utf8, refl, ap, sym, ◌∙◌, arith, append-nil, inl, inr}
 use Rattle.std.specs.Cmp.Lexicographic.{pointwise}
-use Rattle.std.specs.List.{flat_map}
+use Rattle.std.specs.List.{AllPass, flat_map, list_all}
 use Rattle.std.proofs.lemmas.Bool.{cases_Bool, cases_lt}
 use Rattle.std.proofs.lemmas.Bool.Decides.{nat_tests}
-use Rattle.std.proofs.lemmas.List.{get_or_default}
-use Rattle.std.proofs.lemmas.List.Elements.{All-head, All-tail}
+use Rattle.std.proofs.lemmas.List.{drop-map, get_or_default, take-map}
+use Rattle.std.proofs.lemmas.List.Elements.{All-drop, All-head, All-tail, All-take}
+use Rattle.std.proofs.lemmas.List.Concat.{flat_map-append}
+use Rattle.std.proofs.lemmas.List.Sums.{AllPass-from_list_all}
 use Rattle.std.proofs.lemmas.Str.{encode_ascii, inside_one}
+use Rattle.vt_screen.specs.declared.cell.Cell.{Cell}
 use Rattle.vt_screen.specs.declared.cell.Row.{Row}
+use Rattle.screen_print.specs.Glyphs.{character}
+use Rattle.screen_print.specs.PlainText.{printed}
 use Rattle.screen_print.specs.SameRows.{same_cell, same_row}
+use Rattle.screen_picture.specs.declared.runs.Run.{Run}
+use Rattle.screen_picture.specs.Runs.{cells_of}
 use Rattle.screen_page.specs.EntryText.{string_byte}
+use Rattle.screen_page.specs.Plain.{glyphs_of, is_plain}
 
 -- ---- rows
 
@@ -67,3 +75,36 @@ wide_character c high = high_bytes (encode_utf8 c) (λ k d below. high_inside c 
 -- and one of ASCII is one byte
 pub narrow_character : (c : ℕ) → c < 128 → flat_map string_byte (encode_utf8 c) ≡ string_byte c
 narrow_character c low = ap (flat_map string_byte) (encode_ascii c low) ∙ append-nil (string_byte c)
+
+-- ---- plain glyphs
+
+-- a plain glyph is a character of ASCII that stands for itself
+plain_cell : (cell : Cell) → is_plain cell.glyph ≡ true → flat_map string_byte (printed cell) ≡ cell.glyph ∷ []
+plain_cell cell plain =
+    let low : 32 ≤ cell.glyph = grind (arith, nat_tests, plain) in
+    let high : cell.glyph < 128 = grind (arith, nat_tests, plain) in
+    let is : character cell.glyph ≡ cell.glyph = grind (arith, nat_tests, low) in
+    let itself : string_byte cell.glyph ≡ cell.glyph ∷ [] = grind (arith, nat_tests, plain) in
+    ap (λ c. flat_map string_byte (encode_utf8 c)) is ∙ narrow_character cell.glyph high ∙ itself
+
+plain_cells : (cells : List Cell) → AllPass is_plain (glyphs_of cells)
+    → flat_map string_byte (flat_map printed cells) ≡ glyphs_of cells
+plain_cells [] plain = refl
+plain_cells (cell ∷ cells) plain =
+    let here : is_plain cell.glyph ≡ true = All-head (λ g. is_plain g ≡ true) cell.glyph (glyphs_of cells) plain in
+    let rest = All-tail (λ g. is_plain g ≡ true) cell.glyph (glyphs_of cells) plain in
+    flat_map-append string_byte (printed cell) (flat_map printed cells)
+    ∙ ap (λ l. l ++ flat_map string_byte (flat_map printed cells)) (plain_cell cell here)
+    ∙ ap (λ l. cell.glyph ∷ l) (plain_cells cells rest)
+
+-- so the characters of a run of such a row are its glyphs
+pub plain_run : (row : Row) (run : Run) → list_all is_plain (glyphs_of row.cells) ≡ true
+    → flat_map string_byte (flat_map printed (cells_of row run)) ≡ take run.len (drop run.before (glyphs_of row.cells))
+plain_run row run plain =
+    let glyph : Cell → ℕ = λ cell. cell.glyph in
+    let behind : glyphs_of (cells_of row run) ≡ take run.len (drop run.before (glyphs_of row.cells)) =
+    sym (take-map glyph run.len (drop run.before row.cells)) ∙ ap (take run.len) (sym (drop-map glyph run.before row.cells)) in
+    let whole = AllPass-from_list_all is_plain (glyphs_of row.cells) plain in
+    let part =
+    All-take (λ g. is_plain g ≡ true) run.len (drop run.before (glyphs_of row.cells)) (All-drop (λ g. is_plain g ≡ true) run.before (glyphs_of row.cells) whole) in
+    plain_cells (cells_of row run) (subst (AllPass is_plain) (sym behind) part) ∙ behind

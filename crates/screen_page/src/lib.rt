@@ -2,6 +2,7 @@
 #![tactic(auto)]
 
 mod entry_printer;
+mod glyphs;
 pub mod laws;
 mod page_file;
 mod player;

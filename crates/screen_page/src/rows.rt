@@ -7,11 +7,13 @@ ghost use Rattle.vt_screen.specs.Cells.{row_at};
 ghost use Rattle.vt_screen.specs.Picture.{SoundRow};
 ghost use Rattle.screen_print.specs.PlainText.{printed};
 ghost use Rattle.screen_print.specs.SameRows.{same_row, size_number};
-ghost use Rattle.screen_picture.specs.Runs.{IsRun, kind_number};
+ghost use Rattle.screen_picture.specs.Runs.{IsRun, cells_of};
 ghost use Rattle.screen_page.specs.Entries.{line_of, shown, shown_run};
 ghost use Rattle.screen_page.specs.EntryText.{comma_number, row_text, run_text, string_byte};
 ghost use Rattle.screen_page.specs.Parts.{line_text};
+ghost use Rattle.screen_page.specs.Plain.{AreGlyphs};
 
+use crate::glyphs::Glyphs;
 use arrayvec::ArrayVec;
 use screen_picture::{Run, cells_of, push_bytes, push_number, runs_of};
 use screen_print::{Still, character, same_first, same_row};
@@ -151,35 +153,52 @@ fn put_each<W: Write>(row: &Row, runs: &[Run], writer: &mut Watched<W>) -> Resul
         (flat_map (λ run. run_text (shown_run row.now run)) runs.now) result }
 {
     pieces_join::<W, Run>();
+    let glyphs = Glyphs::of(row);
+    let mut text = ArrayVec::new();
     for run in runs {
-        put_run(row, *run, writer)?;
+        put_run(row, &glyphs, *run, &mut text, writer)?;
     }
     Ok(())
 }
 
-/// Writes a run of a row.
-fn put_run<W: Write>(row: &Row, run: Run, writer: &mut Watched<W>) -> Result<(), Fault>
+/// Writes a run of a row. It is laid out in an array that serves all of them.
+fn put_run<W: Write>(
+    row: &Row,
+    glyphs: &Glyphs,
+    run: Run,
+    text: &mut ArrayVec<u8, RUN_BYTES>,
+    writer: &mut Watched<W>,
+) -> Result<(), Fault>
     requires whole { length row.now.cells ≡ WIDE_COLUMNS }
+    requires glyphs { AreGlyphs row.now.cells glyphs.now }
     requires run { IsRun run }
     requires sound { has_failed writer.old ≡ false }
     ensures { Puts W.contents writer.old writer.new (run_text (shown_run row.now run)) result }
 {
-    writer.put(run_text(run, cells_of(row, run)).as_slice())
+    text.clear();
+    text.push(b',');
+    push_number(text, u16::from(run.kind.number()));
+    push_bytes(text, b",\"");
+    push_run(text, row, glyphs, run);
+    text.push(b'"');
+    writer.put(text.as_slice())
 }
 
-/// A run with these cells.
-fn run_text(run: Run, cells: &[Cell]) -> ArrayVec<u8, RUN_BYTES>
-    requires { length cells.now ≤ WIDE_COLUMNS }
-    ensures { result.items ≡ run_text
-        (record { kind = kind_number run.kind; characters = flat_map printed cells.now }) }
+/// Puts the characters of a run behind a text as they stand in a string.
+fn push_run(text: &mut ArrayVec<u8, RUN_BYTES>, row: &Row, glyphs: &Glyphs, run: Run)
+    requires whole { length row.now.cells ≡ WIDE_COLUMNS }
+    requires glyphs { AreGlyphs row.now.cells glyphs.now }
+    requires run { IsRun run }
+    requires room { length text.old.items + 6 * run.len ≤ RUN_BYTES }
+    ensures text { text.new.items ≡ text.old.items
+        ++ flat_map string_byte (flat_map printed (cells_of row.now run)) }
+    ensures short { length text.new.items ≤ length text.old.items + 6 * run.len }
 {
-    let mut text = ArrayVec::new();
-    text.push(b',');
-    push_number(&mut text, u16::from(run.kind.number()));
-    push_bytes(&mut text, b",\"");
-    push_characters(&mut text, cells);
-    text.push(b'"');
-    text
+    if glyphs.are_plain {
+        push_bytes(text, glyphs.of_run(run));
+    } else {
+        push_characters(text, cells_of(row, run));
+    }
 }
 
 /// Puts the characters of cells behind a text as they stand in a string.
