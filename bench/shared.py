@@ -1,9 +1,9 @@
 #!/usr/bin/env python3
 """What the benches share: recordings to run on, and what a run of a command takes.
 
-    shared.py repeat SCRIPT TIMING BYTES OUT_SCRIPT OUT_TIMING    repeats a recording until its body has so many bytes
-    shared.py measure IN OUT COMMAND..                            seconds of user and system, and the peak in KiB
-    shared.py figure NAME ONE OTHER GOAL                          one over the other, and whether that meets the goal
+    shared.py shipped FOLDER NAME BYTES CHUNK    writes so many bytes of the shipped recordings, in chunks of a length
+    shared.py measure IN OUT COMMAND..           seconds of user and system, and the peak in KiB
+    shared.py figure NAME ONE OTHER GOAL         one over the other, and whether that meets the goal
 
 A measured command reads the file IN and writes the file OUT.
 """
@@ -68,21 +68,10 @@ def figure(name, value, goal, note=""):
     print(f"{name:<34}{value:9.4g}  goal {goal:<6g}  {met:<6}  {note}".rstrip(), flush=True)
 
 
-def repeat(script, timing, least, out_script, out_timing):
-    header, rest = read(script).split(b"\n", 1)
-    lines = read(timing)
-    text = rest[: sum(int(line.split()[1]) for line in lines.splitlines())]
-    rounds = -(-int(least) // len(text))
-    with open(out_script, "wb") as out:
-        out.write(header + b"\n" + text * rounds)
-    with open(out_timing, "wb") as out:
-        out.write(lines * rounds)
-    print(f"{rounds} rounds, {len(text) * rounds} bytes, {len(lines.splitlines()) * rounds} chunks")
-
-
 def main(job, *words):
-    if job == "repeat":
-        repeat(*words)
+    if job == "shipped":
+        folder, name, size, chunk = words
+        write_recording(folder, name, shipped(int(size)), int(chunk))
     elif job == "figure":
         name, one, other, goal = words
         figure(name, float(one) / float(other), float(goal), f"({one} over {other})")
