@@ -7,6 +7,7 @@ mod ChangeLemmas
 mod FindLemmas
 mod FoundLemmas
 mod QuietLemmas
+mod ShortLemmas
 mod RunLemmas
 mod StartLemmas
 mod EscapedLemmas

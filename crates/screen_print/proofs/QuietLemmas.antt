@@ -15,7 +15,7 @@ use Rattle.std.proofs.lemmas.List.Elements.{All-append, All-filter, All-map, All
 use Rattle.vt_screen.specs.Cells.{row_at}
 use Rattle.screen_print.specs.declared.standing.Place.{Place}
 use Rattle.screen_print.specs.FindLines.{begins, ends_line, find_text, is_less, left_of, less_line, less_lines, line_text_from, place_in, places_from, places_in, row_text, row_texts, standing}
-use Rattle.screen_print.specs.Quiet.{BeginsUpTo, LineStays, LinesStay, RowStays, characters, columns_of}
+use Rattle.screen_print.specs.Quiet.{AllPlacesStay, BeginsUpTo, LineStays, PlacesStay, RowStays, characters, columns_in, columns_of}
 use Rattle.screen_print.specs.Stills.{Still}
 use Rattle.screen_print.proofs.FindLemmas.{line_ends, no_texts, texts_at}
 use Rattle.screen_print.proofs.StillLemmas.{in_range}
@@ -24,7 +24,7 @@ use Rattle.screen_print.proofs.WalkLemmas.{none_in, range_split}
 -- ---- columns
 
 -- tests that agree on numbers from one on
-same_in : (p q : ℕ → Bool) (a n : ℕ) → ((i : ℕ) → a ≤ i → i < a + n → p i ≡ q i) → filter p (range_with_len a n) ≡ filter q (range_with_len a n)
+pub same_in : (p q : ℕ → Bool) (a n : ℕ) → ((i : ℕ) → a ≤ i → i < a + n → p i ≡ q i) → filter p (range_with_len a n) ≡ filter q (range_with_len a n)
 same_in p q a zero h = refl
 same_in p q a (suc n) h =
     rw (h a (omega arith) (omega arith)) (ap (λ l. cond (q a) (a ∷ l) l) (same_in p q (a + 1) n (λ i low high. h i (omega arith) (omega arith))))
@@ -45,7 +45,7 @@ window one other at len d within same =
     sym (drop-take at len one) ∙ ap (drop at) (sym (take-take (at + len) d one within) ∙ ap (take (at + len)) same ∙ take-take (at + len) d other within)
     ∙ drop-take at len other
 
-begins_alike : (text one other : List ℕ) (column d : ℕ) → column - 1 + length text ≤ d → take d one ≡ take d other
+pub begins_alike : (text one other : List ℕ) (column d : ℕ) → column - 1 + length text ≤ d → take d one ≡ take d other
     → begins text one column ≡ begins text other column
 begins_alike text one other column d within same =
     ap (pointwise nat_eq text) (window one other (column - 1) (length text) d within same)
@@ -267,20 +267,39 @@ begins_in text still line column cells here whole low high left right same told 
 
 -- ---- screens
 
+pub texts_same : (one other : Still) (line : ℕ) → one.wide ≡ other.wide → row_at one.rows line ≡ row_at other.rows line
+    → row_text one.wide (row_at one.rows line) ≡ row_text other.wide (row_at other.rows line)
+texts_same one other line wide same = ap (λ w. row_text w (row_at one.rows line)) wide ∙ ap (row_text other.wide) same
+
 -- a row that is the same on both
 pub same_row_stays : (text : List ℕ) (one other : Still) (line : ℕ) → one.wide ≡ other.wide → row_at one.rows line ≡ row_at other.rows line
     → LineStays text other other line → LineStays text one other line
 same_row_stays text one other line wide same h =
     subst (λ row. RowStays text row (row_text other.wide (row_at other.rows line)))
-    (sym (ap (λ w. row_text w (row_at one.rows line)) wide ∙ ap (row_text other.wide) same)) h
+    (sym (texts_same one other line wide same)) h
 
-lefts_on : (text : List ℕ) (one other : Still) (line : ℕ) (rows : List (List ℕ)) → LineStays text one other line
-    → All (λ place. left_of one place ≡ left_of other place) (map (place_in line) (columns_of text (row_text one.wide (row_at one.rows line)) rows))
-lefts_on text one other line rows h =
-    All-map (λ place. left_of one place ≡ left_of other place) (place_in line) (columns_of text (row_text one.wide (row_at one.rows line)) rows) (h.lefts rows)
+-- what stays whatever rows stand behind it stays where its own do
+pub row_places : (text : List ℕ) (one other : Still) (line : ℕ) → LineStays text one other line → PlacesStay text one other line
+row_places text one other line h = record {
+  columns = h.columns (drop line (row_texts one)) (drop line (row_texts other));
+  lefts = h.lefts (drop line (row_texts one));
+}
+
+-- a line that has the same row on both, and behind it rows before which the text begins at the same columns
+pub same_places : (text : List ℕ) (one other : Still) (line : ℕ) → row_text one.wide (row_at one.rows line) ≡ row_text other.wide (row_at other.rows line)
+    → columns_of text (row_text other.wide (row_at other.rows line)) (drop line (row_texts one)) ≡ columns_in text other line → PlacesStay text one other line
+same_places text one other line same h = record {
+  columns = ap (λ row. columns_of text row (drop line (row_texts one))) same ∙ h;
+  lefts = λ k d lt. ap (take (get_or (columns_in text one line) k d - 1)) same;
+}
+
+lefts_on : (text : List ℕ) (one other : Still) (line : ℕ) → PlacesStay text one other line
+    → All (λ place. left_of one place ≡ left_of other place) (map (place_in line) (columns_in text one line))
+lefts_on text one other line h =
+    All-map (λ place. left_of one place ≡ left_of other place) (place_in line) (columns_in text one line) h.lefts
 
 stands_on : (text : List ℕ) (one other : Still) (n line : ℕ) → length one.rows ≡ 24 → length other.rows ≡ 24 → line + n ≡ 25 → 1 ≤ line
-    → LinesStay text one other
+    → AllPlacesStay text one other
     → (places_from text line (drop (line - 1) (row_texts one)) ≡ places_from text line (drop (line - 1) (row_texts other)))
     × All (λ place. left_of one place ≡ left_of other place) (places_from text line (drop (line - 1) (row_texts one)))
 unfolding places_from
@@ -299,10 +318,10 @@ stands_on text one other (suc n) line whole whole' at low h =
     rw next at later.1 in
     let here = h line low high in
     rw (texts_at one line whole low high, texts_at other line whole' low high) (
-      ap (λ l. map (place_in line) l ++ places_from text (line + 1) (drop line (row_texts one))) (here.columns (drop line (row_texts one)) (drop line (row_texts other)))
+      ap (λ l. map (place_in line) l ++ places_from text (line + 1) (drop line (row_texts one))) here.columns
           ∙ ap (λ l. map (place_in line) (columns_of text row' (drop line (row_texts other))) ++ l) later_same,
       All-append (λ place. left_of one place ≡ left_of other place) (map (place_in line) (columns_of text row (drop line (row_texts one)))) (places_from text (line + 1) (drop line (row_texts one)))
-          (lefts_on text one other line (drop line (row_texts one)) here) later_left,
+          (lefts_on text one other line here) later_left,
     )
 
 -- ---- what went and what came
@@ -341,7 +360,7 @@ none_less sign index due len one other places others same h =
 
 -- then nothing is written of the chunk
 pub nothing_moves : (text : List ℕ) (index due : ℕ) (one other : Still) → length one.rows ≡ 24 → length other.rows ≡ 24
-    → LinesStay text one other → find_text text index due one other ≡ []
+    → AllPlacesStay text one other → find_text text index due one other ≡ []
 unfolding find_text
 nothing_moves text index due one other whole whole' h =
     let stands = stands_on text one other 24 1 whole whole' (omega arith) (omega arith) h in

@@ -3,7 +3,7 @@ use Rattle.std.proofs.Common.{◌≡◌, ℕ, ◌+◌, ◌*◌, ◌%◌, ◌-◌
 use Rattle.std.specs.Int.Bits.{and_zero_r, bit_and}
 use Rattle.std.specs.List.{AllPass, starts_with}
 use Rattle.std.proofs.lemmas.Bool.{cases_lt, eq-eqb, false≢true, le-ltb, lt-ltb}
-use Rattle.std.proofs.lemmas.List.{drop-append-le, drop-map, get_or-drop, get_or-take, length-drop, length-map, length-take}
+use Rattle.std.proofs.lemmas.List.{drop-append-le, drop-map, get_or_default, get_or-drop, get_or-take, length-drop, length-map, length-take, take_all}
 use Rattle.std.proofs.lemmas.List.Elements.{All-get_or}
 use Rattle.std.proofs.lemmas.Nat.{and_mask}
 use Rattle.std.proofs.lemmas.List.Sums.{AllPass-from_list_all}
@@ -17,7 +17,7 @@ use Rattle.screen_print.specs.declared.start.Wanted.{Wanted}
 use Rattle.screen_print.specs.FindLines.{row_text}
 use Rattle.screen_print.specs.Glyphs.{character, special_graphics}
 use Rattle.screen_print.specs.Quiet.{BeginsUpTo, characters}
-use Rattle.screen_print.specs.Start.{IsStart, Wants, fits, starts_at}
+use Rattle.screen_print.specs.Start.{IsStart, Wants, fits, starts_at, starts_at_end}
 use Rattle.screen_print.proofs.QuietLemmas.{differs_at}
 
 -- ---- what is wanted
@@ -55,17 +55,6 @@ shown_fits cell c low high shown =
 
 -- ---- three cells
 
--- cells in which it starts nowhere, and one more
-pub none_more : (start : Start) (cells : List Cell) (at : ℕ) (has here : Bool) → here ≡ starts_at start cells at → (has || here) ≡ false
-    → (has ≡ false → (k : ℕ) → k < at → starts_at start cells k ≡ false) → (k : ℕ) → k < at + 1 → starts_at start cells k ≡ false
-none_more start cells at true here is none before k less = absurd (false≢true (sym none))
-none_more start cells at false here is none before k less = elim (cases_lt k at) [
-  | inl more ↦ before refl k more
-  | inr past ↦
-      let same : k ≡ at = omega arith in
-      ap (starts_at start cells) same ∙ sym is ∙ none
-]
-
 one_fails : (a b c : Bool) → ((a && b) && c) ≡ false → (a ≡ false) ⊎ ((b ≡ false) ⊎ (c ≡ false))
 one_fails false b c h = inl refl
 one_fails true false c h = inr (inl refl)
@@ -82,6 +71,16 @@ unfit text cells all m at place rest wanted are within wants fails =
     differs_at text (drop at cells) rest place blank 0 says.0 (omega (arith, length-drop at cells))
     (λ shown. says.1 (ap (λ (c : Cell). character c.glyph) (sym cell) ∙ shown))
 
+-- a cell that hasn't what the first character wants
+pub first_not : (text : List ℕ) (start : Start) (cells : List Cell) (at : ℕ) (d : Cell) (rest : List ℕ) → IsStart text start → at < length cells
+    → fits start.first (get_or cells at d) ≡ false → starts_with nat_eq (characters (take (length cells - at) (drop at cells)) ++ rest) text ≡ false
+first_not text start cells at d rest is within fails =
+    let n = length cells in
+    let here : at + 0 ≡ at = omega arith in
+    ap (λ l. starts_with nat_eq (characters l ++ rest) text) (take_all (n - at) (drop at cells) (omega (arith, length-drop at cells)))
+    ∙ unfit text cells cells n at 0 rest start.first (sym (take_all n cells (omega arith))) (omega arith) is.first
+    (ap (λ k. fits start.first (get_or cells k blank)) here ∙ ap (fits start.first) (get_or_default cells at blank d within) ∙ fails)
+
 starts_not : (text : List ℕ) (start : Start) (cells all : List Cell) (m at : ℕ) (rest : List ℕ) → IsStart text start → cells ≡ take m all
     → at + 2 < length cells → starts_at start all at ≡ false → starts_with nat_eq (characters (drop at cells) ++ rest) text ≡ false
 starts_not text start cells all m at rest is are within fails =
@@ -92,19 +91,51 @@ starts_not text start cells all m at rest is are within fails =
       | inr (inr third) ↦ unfit text cells all m at 2 rest start.third are (omega arith) is.third third
     ]
 
--- a row in which a text starts nowhere but in its last two cells, and there begins nowhere either
-pub begins_nowhere : (text : List ℕ) (start : Start) (wide : Bool) (row : Row) (cells : List Cell) (behind : ℕ) → IsStart text start
-    → cells ≡ take (margin_of wide row.size) row.cells → characters cells ≡ row_text wide row → behind ≡ length cells - 2
+-- the last two cells
+neither : (a b : Bool) → (a || b) ≡ false → (a ≡ false) × (b ≡ false)
+neither true b h = absurd (false≢true (sym h))
+neither false b h = (refl, h)
+
+one_or_other : (a b : Bool) → (a && b) ≡ false → (a ≡ false) ⊎ (b ≡ false)
+one_or_other false b h = inl refl
+one_or_other true b h = inr h
+
+ends_not : (text : List ℕ) (start : Start) (cells : List Cell) (at : ℕ) (rest : List ℕ) → IsStart text start → length cells ≤ at + 2 → at < length cells
+    → starts_at_end start cells ≡ false → starts_with nat_eq (characters (drop at cells) ++ rest) text ≡ false
+ends_not text start cells at rest is near within fails =
+    let n = length cells in
+    let last = get_or cells (n - 1) blank in
+    let before = get_or cells (n - 2) blank in
+    let whole : cells ≡ take n cells = sym (take_all n cells (omega arith)) in
+    let both = neither (fits start.first last) (fits start.first before && fits start.second last) fails in
+    let here : at + 0 ≡ at = omega arith in
+    elim (cases_lt (at + 1) n) [
+      | inl more ↦
+          let first_is : n - 2 ≡ at + 0 = omega arith in
+          let second_is : n - 1 ≡ at + 1 = omega arith in
+          elim (one_or_other (fits start.first before) (fits start.second last) both.1) [
+            | inl first ↦ unfit text cells cells n at 0 rest start.first whole (omega arith) is.first (ap (λ k. fits start.first (get_or cells k blank)) (sym first_is) ∙ first)
+            | inr second ↦ unfit text cells cells n at 1 rest start.second whole (omega arith) is.second (ap (λ k. fits start.second (get_or cells k blank)) (sym second_is) ∙ second)
+          ]
+      | inr end ↦
+          let last_is : n - 1 ≡ at + 0 = omega arith in
+          unfit text cells cells n at 0 rest start.first whole (omega arith) is.first (ap (λ k. fits start.first (get_or cells k blank)) (sym last_is) ∙ both.0)
+    ]
+
+-- a row in which a text starts nowhere
+pub begins_nowhere : (text : List ℕ) (start : Start) (wide : Bool) (row : Row) (cells : List Cell) → IsStart text start
+    → cells ≡ take (margin_of wide row.size) row.cells → characters cells ≡ row_text wide row
     → ((k : ℕ) → k + 2 < length (row_text wide row) → starts_at start row.cells k ≡ false)
-    → BeginsUpTo text behind (characters cells) → BeginsUpTo text 0 (row_text wide row)
-begins_nowhere text start wide row cells behind is are same at_end none tail =
+    → starts_at_end start cells ≡ false → BeginsUpTo text 0 (row_text wide row)
+begins_nowhere text start wide row cells is are same none ends =
     let read : Cell → ℕ = λ c. character c.glyph in
     let long : length cells ≡ length (row_text wide row) = sym (length-map cells read) ∙ ap length same in
-    subst (BeginsUpTo text 0) same (λ rest column low high. elim (cases_lt behind column) [
-      | inl more ↦ tail rest column more high
-      | inr less ↦
-          let at = column - 1 in
-          let within : at + 2 < length cells = omega arith in
-          ap (λ l. starts_with nat_eq l text) (drop-append-le at (characters cells) rest (omega (arith, length-map cells read)) ∙ ap (λ l. l ++ rest) (drop-map read at cells))
-          ∙ starts_not text start cells row.cells (margin_of wide row.size) at rest is are within (none at (omega (arith, long)))
+    subst (BeginsUpTo text 0) same (λ rest column low high.
+    let at = column - 1 in
+    let within : at < length cells = omega (arith, length-map cells read) in
+    let parts = drop-append-le at (characters cells) rest (omega (arith, length-map cells read)) ∙ ap (λ l. l ++ rest) (drop-map read at cells) in
+    ap (λ l. starts_with nat_eq l text) parts
+    ∙ elim (cases_lt (at + 2) (length cells)) [
+      | inl more ↦ starts_not text start cells row.cells (margin_of wide row.size) at rest is are more (none at (omega (arith, long)))
+      | inr near ↦ ends_not text start cells at rest is near within ends
     ])

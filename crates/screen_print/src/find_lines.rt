@@ -43,8 +43,10 @@ ghost use Rattle.screen_print.specs.FindLines.{
   less_lines,
   place_in,
 };
+ghost use Rattle.screen_print.specs.Glyphs.{character};
 ghost use Rattle.screen_print.specs.Places.{IsPlace};
 ghost use Rattle.screen_print.specs.Quiet.{characters};
+ghost use Rattle.screen_print.specs.Start.{IsStart};
 ghost use Rattle.screen_print.specs.Stills.{still_of};
 ghost use Rattle.screen_print.specs.Stops.{OnlySeeks, StopsWalk};
 
@@ -52,6 +54,7 @@ use crate::glyphs::character;
 use crate::plain_print::printed_row;
 use crate::quiet::stays;
 use crate::standing::{Place, cells_of, found_rows, standing};
+use crate::start::Start;
 use crate::still::Still;
 use crate::walk::{ChangesFault, ChunkPrinter, put_chunks};
 use itoa::Buffer;
@@ -88,7 +91,8 @@ pub fn find<W: Write>(
         → result ≢ Err ChangesFault.Memory }
 {
     writers_join::<W>();
-    put_chunks(session, from, to, &Finder { text }, writer)?;
+    let start = Start::of(text);
+    put_chunks(session, from, to, &Finder { text, start }, writer)?;
     writer.finish()?;
     Ok(())
 }
@@ -97,6 +101,8 @@ pub fn find<W: Write>(
 #[derive(Drop)]
 struct Finder<'a> {
     text: &'a [char],
+    start: Start,
+    ghost begins: { IsStart text.now start },
 }
 
 impl<'a> ChunkPrinter for Finder<'a> {
@@ -114,7 +120,7 @@ impl<'a> ChunkPrinter for Finder<'a> {
         writer: &mut Watched<W>,
     ) -> Result<(), Fault> {
         writers_join::<W>();
-        if stays(self.text, before, after, lines) {
+        if stays(self.text, &self.start, before, after, lines) {
             return Ok(());
         }
         put_laid_out(self.text, index, due, before, after, writer)
@@ -285,11 +291,19 @@ fn reads_alike(one: &[Cell], other: &[Cell]) -> bool
     ensures { result ≡ pointwise nat_eq (characters one.now) (characters other.now) }
 {
     for at in 0..one.len() {
-        if character(one[at].glyph) != character(other[at].glyph) {
+        if !read_alike(one[at].glyph, other[at].glyph) {
             return false;
         }
     }
     true
+}
+
+/// Whether two glyphs are read alike.
+fn read_alike(one: u8, other: u8) -> bool
+    ensures yes { result ≡ true → character one ≡ character other }
+    ensures no { result ≡ false → character one ≢ character other }
+{
+    one == other || character(one) == character(other)
 }
 
 /// Writes a find line.

@@ -5,7 +5,9 @@ ghost use Rattle.std.specs.Prelude.{
   ◌≤◌,
   ◌<◌,
   ◌+◌,
+  ◌-◌,
   ◌++◌,
+  All,
   ℕ,
   List,
   [],
@@ -18,10 +20,12 @@ ghost use Rattle.std.specs.Prelude.{
 ghost use Rattle.std.specs.List.{starts_with};
 ghost use Rattle.screen_print.specs.FindLines.{find_text, row_text};
 ghost use Rattle.screen_print.specs.Quiet.{
+  AllPlacesStay,
   BeginsUpTo,
   LineStays,
   LinesStay,
   RowStays,
+  SamePlacesStay,
   characters,
 };
 ghost use Rattle.screen_print.specs.SameRows.{changed_lines};
@@ -30,7 +34,7 @@ ghost use Rattle.screen_print.specs.Stills.{still_of};
 
 use crate::glyphs::character;
 use crate::standing::cells_of;
-use crate::start::{Start, may_start};
+use crate::start::{Start, may_start, may_start_at_end};
 use crate::still::Still;
 use vt_screen::laws::screens_are_sound;
 use vt_screen::limits::{LINES, NARROW_COLUMNS, WIDE_COLUMNS};
@@ -43,27 +47,100 @@ const NARROW_STARTS: usize = NARROW_COLUMNS as usize;
 /// In how many of one of 132: all that have two more behind them.
 const WIDE_STARTS: usize = WIDE_COLUMNS as usize - 2;
 
+/// A text of no more characters that begins in a row ends in the next one at the latest: no row has under 40.
+const SHORT: usize = NARROW_COLUMNS as usize / 2 + 1;
+
 /// Whether a chunk that changes these lines surely leaves a text where it stands: in what it changes the
 /// text begins nowhere. It answers in a fraction of the time in which screens are laid out.
-#[tactic(auto, using(crate::proofs::QuietLemmas::nothing_moves))]
-pub(crate) fn stays(text: &[char], before: &Still, after: &Terminal, lines: &[u8]) -> bool
-    requires { lines.now ≡ changed_lines before.now.rows after.now.console.picture.rows }
+pub(crate) fn stays(
+    text: &[char],
+    start: &Start,
+    before: &Still,
+    after: &Terminal,
+    lines: &[u8],
+) -> bool
+    requires start { IsStart text.now start.now }
+    requires changed { lines.now
+        ≡ changed_lines before.now.rows after.now.console.picture.rows }
     ensures { result ≡ true → (index due : ℕ)
         → find_text text.now index due before.now (still_of after.now.console) ≡ [] }
 {
     let screen = after.screen();
     screens_are_sound(screen);
     before.sound();
-    if text.is_empty() || before.is_wide() != screen.is_wide() {
+    if text.is_empty() {
         return false;
     }
-    if !rows_stand_alone(text, after) {
+    if before.is_wide() != screen.is_wide() {
+        return all_lines_stay(text, start, before, after);
+    }
+    if !same_rows_stay(text, before, after, lines) {
         return false;
     }
-    lines_stay(text, &Start::of(text), before, after, lines)
+    lines_stay(text, start, before, after, lines)
 }
 
-/// Whether no row of a screen has a text that surely runs on into the next row.
+/// Whether what each line shows of a text surely stays, whatever rows stand behind it.
+fn all_lines_stay(text: &[char], start: &Start, before: &Still, after: &Terminal) -> bool
+    requires text { 1 ≤ length text.now }
+    requires start { IsStart text.now start.now }
+    ensures { result ≡ true → LinesStay text.now before.now (still_of after.now.console) }
+{
+    for line in 1..LINES + 1 {
+        if !line_stays(text, start, before, after, line) {
+            return false;
+        }
+    }
+    true
+}
+
+/// Whether what the lines that a chunk doesn't change show of a text surely stays. From them a short text runs on
+/// into a line that it changes only where that is the next one.
+fn same_rows_stay(text: &[char], before: &Still, after: &Terminal, lines: &[u8]) -> bool
+    requires text { 1 ≤ length text.now }
+    requires wide { before.now.wide ≡ after.now.console.picture.wide }
+    requires changed { lines.now
+        ≡ changed_lines before.now.rows after.now.console.picture.rows }
+    ensures { result ≡ true → SamePlacesStay text.now before.now (still_of after.now.console) }
+{
+    screens_are_sound(after.screen());
+    before.sound();
+    if text.len() <= SHORT {
+        return rows_above_stand_alone(text, after, lines);
+    }
+    rows_stand_alone(text, after)
+}
+
+/// Whether from no row right above one of these lines a text may run on into it.
+fn rows_above_stand_alone(text: &[char], after: &Terminal, lines: &[u8]) -> bool
+    requires text { 1 ≤ length text.now }
+    requires lines { All (λ line. line ≤ LINES) lines.now }
+    ensures { result ≡ true → All (λ line. 1 < line → LineStays text.now
+        (still_of after.now.console) (still_of after.now.console) (line - 1)) lines.now }
+{
+    for line in lines {
+        if !row_above_stands_alone(text, after, *line) {
+            return false;
+        }
+    }
+    true
+}
+
+/// Whether from the row right above a line no text may run on into it.
+fn row_above_stands_alone(text: &[char], after: &Terminal, line: u8) -> bool
+    requires text { 1 ≤ length text.now }
+    requires high { line ≤ LINES }
+    ensures { result ≡ true → 1 < line → LineStays text.now
+        (still_of after.now.console) (still_of after.now.console) (line - 1) }
+{
+    if line <= 1 {
+        return true;
+    }
+    let screen = after.screen();
+    stands_alone(text, cells_of(screen.is_wide(), screen.row(line - 1)))
+}
+
+/// Whether from no row of a screen a text may run on into the next one.
 fn rows_stand_alone(text: &[char], after: &Terminal) -> bool
     requires { 1 ≤ length text.now }
     ensures { result ≡ true
@@ -96,11 +173,10 @@ fn stands_alone(text: &[char], cells: &[Cell]) -> bool
 fn lines_stay(text: &[char], start: &Start, before: &Still, after: &Terminal, lines: &[u8]) -> bool
     requires text { 1 ≤ length text.now }
     requires start { IsStart text.now start.now }
-    requires wide { before.now.wide ≡ after.now.console.picture.wide }
     requires changed { lines.now
         ≡ changed_lines before.now.rows after.now.console.picture.rows }
-    requires alone { LinesStay text.now (still_of after.now.console) (still_of after.now.console) }
-    ensures { result ≡ true → LinesStay text.now before.now (still_of after.now.console) }
+    requires others { SamePlacesStay text.now before.now (still_of after.now.console) }
+    ensures { result ≡ true → AllPlacesStay text.now before.now (still_of after.now.console) }
 {
     for line in lines {
         if !line_stays(text, start, before, after, *line) {
@@ -110,36 +186,19 @@ fn lines_stay(text: &[char], start: &Start, before: &Still, after: &Terminal, li
     true
 }
 
-/// Whether what a line shows of a text surely stays.
+/// Whether what a line shows of a text surely stays: it begins in neither of its rows, or nowhere where they differ.
 fn line_stays(text: &[char], start: &Start, before: &Still, after: &Terminal, line: u8) -> bool
     requires text { 1 ≤ length text.now }
     requires start { IsStart text.now start.now }
-    requires wide { before.now.wide ≡ after.now.console.picture.wide }
     requires low { 1 ≤ line }
     requires high { line ≤ LINES }
     ensures { result ≡ true → LineStays text.now before.now (still_of after.now.console) line }
 {
     let screen = after.screen();
-    row_stays(
-        text,
-        start,
-        screen.is_wide(),
-        before.row(line),
-        screen.row(line),
-    )
-}
-
-/// Whether a text surely begins at the same columns of two rows, with the same to the left: it begins in
-/// neither, or nowhere where they differ.
-fn row_stays(text: &[char], start: &Start, wide: bool, one: &Row, other: &Row) -> bool
-    requires text { 1 ≤ length text.now }
-    requires start { IsStart text.now start.now }
-    requires one { length one.now.cells ≡ WIDE_COLUMNS }
-    requires other { length other.now.cells ≡ WIDE_COLUMNS }
-    ensures { result ≡ true → RowStays text.now (row_text wide one.now) (row_text wide other.now) }
-{
-    if may_begin(text, start, wide, one) || may_begin(text, start, wide, other) {
-        return cells_stay(text, cells_of(wide, one), cells_of(wide, other));
+    let (wide, row) = (before.is_wide(), before.row(line));
+    let (wide_after, row_after) = (screen.is_wide(), screen.row(line));
+    if may_begin(start, wide, row) || may_begin(start, wide_after, row_after) {
+        return cells_stay(text, cells_of(wide, row), cells_of(wide_after, row_after));
     }
     true
 }
@@ -173,17 +232,16 @@ fn same_len(one: &[Cell], other: &[Cell]) -> usize
     least
 }
 
-/// Whether a text may begin in a row: its first characters may stand in it, or it may run on behind it.
-pub(crate) fn may_begin(text: &[char], start: &Start, wide: bool, row: &Row) -> bool
-    requires start { IsStart text.now start.now }
-    requires cells { length row.now.cells ≡ WIDE_COLUMNS }
-    ensures { result ≡ false → BeginsUpTo text.now 0 (row_text wide row.now) }
+/// Whether a text that begins so may begin in a row: its first characters may stand in it, or at its end.
+pub(crate) fn may_begin(start: &Start, wide: bool, row: &Row) -> bool
+    requires { length row.now.cells ≡ WIDE_COLUMNS }
+    ensures { result ≡ false → (text : List ℕ) → IsStart text start.now
+        → BeginsUpTo text 0 (row_text wide row.now) }
 {
     if may_start_in(start, wide, row) {
         return true;
     }
-    let cells = cells_of(wide, row);
-    may_begin_behind(text, cells, cells.len().saturating_sub(2))
+    may_start_at_end(start, cells_of(wide, row))
 }
 
 /// Whether the first characters of a text may stand in a row.

@@ -65,13 +65,20 @@ fn push_places(
     ensures after { All (IsPlace still.now) places.new.items }
 {
     still.sound();
-    if may_begin(text, start, still.is_wide(), still.row(line)) {
-        push_begun(still, text, line, places);
+    if may_begin(start, still.is_wide(), still.row(line)) {
+        push_begun(still, text, start, line, places);
     }
 }
 
 /// The same, column by column.
-fn push_begun(still: &Still, text: &[char], line: u8, places: &mut ArrayVec<Place, CELLS>)
+fn push_begun(
+    still: &Still,
+    text: &[char],
+    start: &Start,
+    line: u8,
+    places: &mut ArrayVec<Place, CELLS>,
+)
+    requires start { IsStart text.now start.now }
     requires low { 1 ≤ line }
     requires high { line ≤ LINES }
     requires room { length places.old.items + 132 ≤ CELLS }
@@ -86,14 +93,15 @@ fn push_begun(still: &Still, text: &[char], line: u8, places: &mut ArrayVec<Plac
     let cells = cells_of(still.is_wide(), still.row(line));
     let columns = columns_of(still, line);
     for column in 1..columns + 1 {
-        if begins(still, text, line, cells, column) {
+        if begins(still, text, start, line, cells, column) {
             places.push(Place { line, column });
         }
     }
 }
 
 /// Whether a text begins in a line at a column of its first row, which has these cells.
-fn begins(still: &Still, text: &[char], line: u8, cells: &[Cell], column: u8) -> bool
+fn begins(still: &Still, text: &[char], start: &Start, line: u8, cells: &[Cell], column: u8) -> bool
+    requires start { IsStart text.now start.now }
     requires low { 1 ≤ line }
     requires high { line ≤ LINES }
     requires left { 1 ≤ column }
@@ -102,6 +110,9 @@ fn begins(still: &Still, text: &[char], line: u8, cells: &[Cell], column: u8) ->
     ensures { result ≡ begins text.now (line_text_from (drop (line - 1) (row_texts still.now))) column }
 {
     still.sound();
+    if !start.may_begin_at(cells[column as usize - 1]) {
+        return false;
+    }
     let cells = &cells[column as usize - 1..];
     if !agrees(text, cells) {
         return false;
@@ -220,7 +231,7 @@ pub(crate) fn cells_of(wide: bool, row: &Row) -> &[Cell]
     ensures cells { result.now ≡ take (margin_of wide row.now.size) row.now.cells }
     ensures few { length result.now ≤ WIDE_COLUMNS }
     ensures text { characters result.now ≡ row_text wide row.now }
-    ensures some { 1 ≤ length result.now }
+    ensures some { 40 ≤ length result.now }
 {
     &row.cells[..margin_of(wide, row.size) as usize]
 }

@@ -1,7 +1,8 @@
 //! How a text begins, told by the glyphs of three cells side by side.
 
-ghost use Rattle.std.specs.Prelude.{◌≡◌, ◌+◌, ◌<◌, ◌≤◌, ℕ, false, length};
-ghost use Rattle.screen_print.specs.Start.{IsStart, Wants, fits, starts_at};
+ghost use Rattle.std.specs.Prelude.{◌≡◌, ◌+◌, ◌<◌, ◌≤◌, ℕ, false, length, slice_index_or};
+ghost use Rattle.vt_screen.specs.Cells.{blank};
+ghost use Rattle.screen_print.specs.Start.{IsStart, Wants, fits, starts_at, starts_at_end, three_fit};
 
 use vt_screen::Cell;
 use vt_screen::limits::WIDE_COLUMNS;
@@ -37,6 +38,13 @@ impl Start {
             third: wanted_at(text, 2),
         }
     }
+
+    /// Whether a cell may show the first character.
+    pub(crate) fn may_begin_at(&self, cell: Cell) -> bool
+        ensures { result ≡ fits self.now.first cell }
+    {
+        fits(self.first, cell)
+    }
 }
 
 /// What the character of a text at a place wants.
@@ -62,17 +70,41 @@ fn fits(wanted: Wanted, cell: Cell) -> bool
     cell.number() & wanted.mask == wanted.bits
 }
 
-/// Whether a text may begin in one of the first N cells of a row, told by that and two more. Each is looked
-/// at, so that many are at once: their numbers stand side by side in memory, their glyphs don't.
+/// Whether a text may begin in one of the first N cells of a row, told by that and two more.
 pub(crate) fn may_start<const N: usize>(start: &Start, cells: &[Cell; ROW]) -> bool
     requires { N + 2 ≤ ROW }
     ensures { result ≡ false → (k : ℕ) → k < N → starts_at start.now cells.now k ≡ false }
 {
-    let mut may = false;
+    let cells = &cells[..];
+    any_three::<N>(start, &cells[..N], &cells[1..N + 1], &cells[2..N + 2])
+}
+
+/// Whether at one of N places the cells of three slices have what is wanted. All are looked at, so that many are at
+/// once: their numbers stand side by side in memory, their glyphs don't. The compiler isn't told that the slices
+/// overlap: it would load each cell once, and shift it into place at more cost.
+#[inline(never)]
+fn any_three<const N: usize>(start: &Start, one: &[Cell], two: &[Cell], three: &[Cell]) -> bool
+    requires one { length one.now ≡ N }
+    requires two { length two.now ≡ N }
+    requires three { length three.now ≡ N }
+    ensures { result ≡ false → (k : ℕ) → k < N → three_fit start.now (slice_index_or one.now k blank)
+        (slice_index_or two.now k blank) (slice_index_or three.now k blank) ≡ false }
+{
+    let mut any = false;
     for at in 0..N {
-        may |= fits(start.first, cells[at])
-            & fits(start.second, cells[at + 1])
-            & fits(start.third, cells[at + 2]);
+        any |= fits(start.first, one[at])
+            & fits(start.second, two[at])
+            & fits(start.third, three[at]);
     }
-    may
+    any
+}
+
+/// Whether a text may begin in the last two cells of a row, told by its characters there.
+pub(crate) fn may_start_at_end(start: &Start, cells: &[Cell]) -> bool
+    requires { 2 ≤ length cells.now }
+    ensures { result ≡ starts_at_end start.now cells.now }
+{
+    let last = cells.len() - 1;
+    fits(start.first, cells[last])
+        | fits(start.first, cells[last - 1]) & fits(start.second, cells[last])
 }

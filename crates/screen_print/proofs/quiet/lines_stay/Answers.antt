@@ -1,8 +1,8 @@
 use Rattle.std.proofs.Common.{arith, get_or, subst, sym}
 use Rattle.std.proofs.lemmas.List.{get_or_default}
-use Rattle.screen_print.specs.Quiet.{LineStays}
+use Rattle.screen_print.specs.Quiet.{PlacesStay}
 use Rattle.screen_print.specs.Stills.{still_of}
-use Rattle.screen_print.proofs.QuietLemmas.{same_row_stays}
+use Rattle.screen_print.proofs.QuietLemmas.{row_places}
 use Rattle.screen_print.proofs.StillLemmas.{IsIn, copied_all, differs_or_same, in_map, line_within, listed_more}
 use Rattle.screen_print.proofs.quiet.lines_stay.Goals as goal
 
@@ -17,9 +17,8 @@ line_stays-requires-clause-high c =
 pub loop-line-init : goal.loop-line-init
 loop-line-init c = λ k low high.
     let after = still_of c.args.after.now.console in
-    subst (λ l. IsIn l k (LineStays c.args.text.now c.args.before.now after k)) (sym c.requires.changed)
-    (in_map _ k (λ same. same_row_stays c.args.text.now c.args.before.now after k c.requires.wide same (c.requires.alone k low high))
-    (differs_or_same c.args.before.now.rows after.rows k low high))
+    subst (λ l. IsIn l k (PlacesStay c.args.text.now c.args.before.now after k)) (sym c.requires.changed)
+    (in_map _ k (c.requires.others k low high) (differs_or_same c.args.before.now.rows after.rows k low high))
 
 pub loop-line-preserved : goal.loop-line-preserved
 loop-line-preserved c = λ k low high.
@@ -28,7 +27,8 @@ loop-line-preserved c = λ k low high.
     let line = get_or lines i 0 in
     let after = still_of c.args.after.now.console in
     listed_more lines i line k c.loop-line-test.true (get_or_default lines i 0 line c.loop-line-test.true)
-    (λ e. subst (LineStays c.args.text.now c.args.before.now after) (sym e) (c.line_stays.ensures c.if-not-line_stays.false))
+    (λ e. subst (PlacesStay c.args.text.now c.args.before.now after) (sym e)
+    (row_places c.args.text.now c.args.before.now after line (c.line_stays.ensures c.if-not-line_stays.false)))
     (c.loop-line.invariant k low high)
 
 pub returns : goal.returns
