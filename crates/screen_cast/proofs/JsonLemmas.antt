@@ -1,16 +1,20 @@
 -- Texts as they stand in JSON, part by part.
-use Rattle.std.proofs.Common.{◌≡◌, ℕ, zero, suc, ◌^◌, ◌<◌, ◌≤◌, All, Bool, true, false, List, [], ◌∷◌, ◌++◌, append_assoc, ap, sym, refl, ◌∙◌, arith, codes, decimal, replicate}
+use Rattle.std.proofs.Common.{◌≡◌, ℕ, zero, suc, ◌^◌, ◌<◌, ◌≤◌, All, Bool, true, false, List, [], ◌∷◌, ◌++◌, append-nil, append_assoc, ap, sym, refl, ◌∙◌, ◌==◌, ◌&&◌, ◌≢◌, arith, codes, decimal, encode_utf8, get_or, inl, inr, length, nat_lt, not, replicate, slice_index}
 use Rattle.std.specs.List.{flat_map}
+use Rattle.std.proofs.lemmas.Bool.{cases_lt}
 use Rattle.std.proofs.lemmas.Bool.Decides.{nat_tests}
 use Rattle.std.proofs.lemmas.Fmt.{decimal_is_IsNumeral}
 use Rattle.std.proofs.lemmas.List.{get_or_default}
 use Rattle.std.proofs.lemmas.List.Concat.{flat_map-append}
-use Rattle.std.proofs.lemmas.List.Elements.{All-head, All-tail}
+use Rattle.std.proofs.lemmas.List.Elements.{All-get_or, All-head, All-tail}
+use Rattle.std.proofs.lemmas.List.Sums.{AllPass-from_list_all}
+use Rattle.std.proofs.lemmas.Str.{encode_ascii, inside_one}
 use Rattle.std.proofs.lemmas.Str.Parse.{digit_at}
 use Rattle.tape_core.specs.Written.{seconds_form}
 use Rattle.vt_parser.specs.Syntax.{escape}
 use Rattle.vt_screen.specs.Attributes.{plain}
 use Rattle.screen_print.specs.EscapedText.{placed_text, rendition_set_text}
+use Rattle.screen_print.specs.Glyphs.{character, special_graphics}
 use Rattle.screen_cast.specs.Cast.{event_closing, event_line, event_opening}
 use Rattle.screen_cast.specs.Drawn.{row_opening, spaces_text}
 use Rattle.screen_cast.specs.Events.{resize, size_text}
@@ -21,30 +25,95 @@ pub joined_twice : {X Y : Type 0} (f : Y → List ℕ) (g : X → List Y) (xs : 
 joined_twice f g [] = refl
 joined_twice f g (x ∷ xs) = flat_map-append f (g x) (flat_map g xs) ∙ ap (λ t. flat_map f (g x) ++ t) (joined_twice f g xs)
 
+-- ---- what stands as it is
+
+bytes_stand : (text : List ℕ) → All (λ b. json_byte b ≡ b ∷ []) text → json text ≡ text
+unfolding json
+bytes_stand [] stand = refl
+bytes_stand (b ∷ bs) stand =
+    ap (λ t. t ++ json bs) (All-head (λ b. json_byte b ≡ b ∷ []) b bs stand)
+    ∙ ap (λ t. b ∷ t) (bytes_stand bs (All-tail (λ b. json_byte b ≡ b ∷ []) b bs stand))
+
 digit_stands : (b : ℕ) → (48 ≤ b) × (b ≤ 57) → json_byte b ≡ b ∷ []
 digit_stands b digit = grind (arith, nat_tests)
 
-digits_stand : (text : List ℕ) → All (λ b. (48 ≤ b) × (b ≤ 57)) text → json text ≡ text
-unfolding json
-digits_stand [] digits = refl
-digits_stand (b ∷ bs) digits =
-    ap (λ t. t ++ json bs) (digit_stands b (All-head (λ b. (48 ≤ b) × (b ≤ 57)) b bs digits))
-    ∙ ap (λ t. b ∷ t) (digits_stand bs (All-tail (λ b. (48 ≤ b) × (b ≤ 57)) b bs digits))
+high_stands : (b : ℕ) → 128 ≤ b → json_byte b ≡ b ∷ []
+high_stands b high = grind (arith, nat_tests)
 
-digits_of : (n : ℕ) → n < 2 ^ 64 → All (λ b. (48 ≤ b) × (b ≤ 57)) (decimal n)
-digits_of n small = λ k d lt. rw (get_or_default (decimal n) k d 0 lt) (digit_at (decimal n) k (decimal_is_IsNumeral n small).0.1 lt)
+number_stands : (n : ℕ) → n < 2 ^ 64 → json (decimal n) ≡ decimal n
+number_stands n small =
+    let digits = (decimal_is_IsNumeral n small).0.1 in
+    bytes_stand (decimal n)
+    (λ k d lt. rw (get_or_default (decimal n) k d 0 lt) (digit_stands (get_or (decimal n) k 0) (digit_at (decimal n) k digits lt)))
+
+high_inside : (c k d : ℕ) → 128 ≤ c → k < length (encode_utf8 c) → 128 ≤ get_or (encode_utf8 c) k d
+high_inside c k d high below =
+    let bytes = encode_utf8 c in
+    let is = get_or_default bytes k d 0 below in
+    elim (cases_lt (get_or bytes k 0) 128) [
+      | inl lt ↦ let same = inside_one c [] bytes k (sym (append-nil bytes)) below lt in absurd (omega (arith, same, lt, high))
+      | inr ge ↦ omega (arith, is, ge)
+    ]
+
+wide_character : (c : ℕ) → 128 ≤ c → json (encode_utf8 c) ≡ encode_utf8 c
+wide_character c high = bytes_stand (encode_utf8 c) (λ k d below. high_stands (get_or (encode_utf8 c) k d) (high_inside c k d high below))
+
+narrow_character : (c : ℕ) → c < 128 → json (encode_utf8 c) ≡ json_byte c
+unfolding json
+narrow_character c low = ap json (encode_ascii c low) ∙ append-nil (json_byte c)
+
+-- whether a byte is no control, quotation mark or backslash
+abbrev stands : ℕ → Bool
+stands byte = nat_lt 31 byte && (not (byte == 34) && not (byte == 92))
+
+byte_stands : (byte : ℕ) → stands byte ≡ true → json_byte byte ≡ byte ∷ []
+byte_stands byte is = grind (arith, nat_tests)
+
+character_stands : (c : ℕ) → stands c ≡ true → json (encode_utf8 c) ≡ encode_utf8 c
+character_stands c is = elim (cases_lt c 128) [
+  | inl low ↦ narrow_character c low ∙ byte_stands c is ∙ sym (encode_ascii c low)
+  | inr high ↦ wide_character c high
+]
+
+special_stands : (glyph : ℕ) → glyph < 32 → stands (slice_index special_graphics glyph) ≡ true
+special_stands glyph within =
+    All-get_or (λ c. stands c ≡ true) special_graphics glyph 0 within (AllPass-from_list_all stands special_graphics refl)
+
+-- a glyph that is no quotation mark or backslash stands as its character ..
+pub glyph_stands : (glyph : ℕ) → glyph ≢ 34 → glyph ≢ 92 → json (encode_utf8 (character glyph)) ≡ encode_utf8 (character glyph)
+glyph_stands glyph mark slash = elim (cases_lt glyph 32) [
+  | inl special ↦
+      let is : character glyph ≡ slice_index special_graphics glyph = grind (arith, nat_tests) in
+      rw is (character_stands (slice_index special_graphics glyph) (special_stands glyph special))
+  | inr plain ↦
+      let is : character glyph ≡ glyph = grind (arith, nat_tests) in
+      rw is (character_stands glyph (grind (arith, nat_tests)))
+]
+
+-- .. and one of ASCII is one byte
+pub ascii_glyph_is : (glyph : ℕ) → 32 ≤ glyph → glyph < 128 → json (encode_utf8 (character glyph)) ≡ json_byte glyph
+ascii_glyph_is glyph low high =
+    let is : character glyph ≡ glyph = grind (arith, nat_tests) in
+    ap (λ c. json (encode_utf8 c)) is ∙ narrow_character glyph high
+
+pub ascii_glyph_stands : (glyph : ℕ) → 32 ≤ glyph → glyph < 128 → encode_utf8 (character glyph) ≡ glyph ∷ []
+ascii_glyph_stands glyph low high =
+    let is : character glyph ≡ glyph = grind (arith, nat_tests) in
+    ap encode_utf8 is ∙ encode_ascii glyph high
 
 -- a number stands as it is ..
 pub json_number : (n : ℕ) (rest : List ℕ) → n < 2 ^ 64 → json (decimal n ++ rest) ≡ decimal n ++ json rest
 unfolding json
 json_number n rest small =
-    flat_map-append json_byte (decimal n) rest ∙ ap (λ t. t ++ json rest) (digits_stand (decimal n) (digits_of n small))
+    flat_map-append json_byte (decimal n) rest ∙ ap (λ t. t ++ json rest) (number_stands n small)
 
 -- .. and so do spaces
 pub json_spaces : (n : ℕ) → json (replicate n 32) ≡ replicate n 32
 unfolding json
 json_spaces zero = refl
 json_spaces (suc n) = ap (λ t. 32 ∷ t) (json_spaces n)
+
+-- ---- parts of what is drawn
 
 -- how a row begins
 pub opening_is : (line : ℕ) → line < 2 ^ 64 → codes "\\u001b[" ++ (decimal line ++ codes ";1H\\u001b[0m\\u001b[2K") ≡ json (row_opening line)

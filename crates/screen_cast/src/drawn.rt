@@ -6,9 +6,7 @@ ghost use Rattle.tape_core.specs.Devices.{Puts, has_failed};
 ghost use Rattle.vt_screen.specs.Attributes.{plain};
 ghost use Rattle.screen_print.specs.EscapedText.{inked, placed_text, rendition_set_text, text_where};
 ghost use Rattle.screen_print.specs.Stills.{still_of};
-ghost use Rattle.screen_picture.specs.Runs.{IsRun};
 ghost use Rattle.screen_cast.specs.Drawn.{
-  attributes_in,
   column_in,
   columns_taken,
   cursor_text,
@@ -17,15 +15,16 @@ ghost use Rattle.screen_cast.specs.Drawn.{
   line_text,
   row_opening,
   row_text,
-  run_text,
   spaces_text,
 };
 ghost use Rattle.screen_cast.specs.Json.{json};
-ghost use Rattle.screen_cast.specs.Parts.{drawn_part, line_part, row_front, row_part, row_rest, run_part};
+ghost use Rattle.screen_cast.specs.Parts.{drawn_part, line_part, row_front, row_part, row_rest};
 
-use crate::json::cells_text;
+use crate::json::push_bytes;
+use crate::runs::{RUN_BYTES, put_runs};
+use arrayvec::ArrayVec;
 use itoa::Buffer;
-use screen_picture::{Kind, Run, cells_of, runs_of};
+use screen_picture::runs_of;
 use screen_print::inked;
 use std::io::Write;
 use tape_core::laws::{pieces_join, writers_join};
@@ -80,15 +79,21 @@ fn put_lines<W: Write>(
         (flat_map (line_part (still_of terminal.now.console)) lines.now) result }
 {
     pieces_join::<W, u8>();
+    let mut text = ArrayVec::new();
     for line in lines {
-        put_line(terminal, *line, writer)?;
+        put_line(terminal, *line, &mut text, writer)?;
     }
     Ok(())
 }
 
-/// Writes a line.
+/// Writes a line, part by part, each made in the text.
 #[tactic(auto, unfolding(crate::specs::Parts::line_part))]
-fn put_line<W: Write>(terminal: &Terminal, line: u8, writer: &mut Watched<W>) -> Result<(), Fault>
+fn put_line<W: Write>(
+    terminal: &Terminal,
+    line: u8,
+    text: &mut ArrayVec<u8, RUN_BYTES>,
+    writer: &mut Watched<W>,
+) -> Result<(), Fault>
     requires low { 1 ≤ line }
     requires high { line ≤ LINES }
     requires sound { has_failed writer.old ≡ false }
@@ -100,7 +105,7 @@ fn put_line<W: Write>(terminal: &Terminal, line: u8, writer: &mut Watched<W>) ->
         width: screen.columns(),
         reversed: terminal.modes().reverse_screen,
     };
-    put_row(ground, line, screen.row(line), writer)
+    put_row(ground, line, screen.row(line), text, writer)
 }
 
 /// What rows stand on: a screen of so many columns, and whether it is reversed.
@@ -115,6 +120,7 @@ fn put_row<W: Write>(
     ground: Ground,
     line: u8,
     row: &Row,
+    text: &mut ArrayVec<u8, RUN_BYTES>,
     writer: &mut Watched<W>,
 ) -> Result<(), Fault>
     requires width { ground.width ≤ WIDE_COLUMNS }
@@ -124,7 +130,7 @@ fn put_row<W: Write>(
         (row_part ground.width ground.reversed line row.now) result }
 {
     writers_join::<W>();
-    put_front(ground.reversed, line, row, writer)?;
+    put_front(ground.reversed, line, row, text, writer)?;
     put_rest(ground, row, writer)?;
     Ok(())
 }
@@ -135,6 +141,7 @@ fn put_front<W: Write>(
     reversed: bool,
     line: u8,
     row: &Row,
+    text: &mut ArrayVec<u8, RUN_BYTES>,
     writer: &mut Watched<W>,
 ) -> Result<(), Fault>
     requires whole { length row.now.cells ≡ WIDE_COLUMNS }
@@ -142,8 +149,8 @@ fn put_front<W: Write>(
     ensures { Puts W.contents writer.old writer.new (row_front reversed line row.now) result }
 {
     writers_join::<W>();
-    put_opening(line, writer)?;
-    put_runs(reversed, row, runs_of(row).as_slice(), writer)?;
+    put_opening(line, text, writer)?;
+    put_runs(reversed, row, runs_of(row).as_slice(), text, writer)?;
     Ok(())
 }
 
@@ -172,73 +179,19 @@ fn put_closing<W: Write>(writer: &mut Watched<W>) -> Result<(), Fault>
 }
 
 /// Writes how a row begins.
-fn put_opening<W: Write>(line: u8, writer: &mut Watched<W>) -> Result<(), Fault>
+fn put_opening<W: Write>(
+    line: u8,
+    text: &mut ArrayVec<u8, RUN_BYTES>,
+    writer: &mut Watched<W>,
+) -> Result<(), Fault>
     requires { has_failed writer.old ≡ false }
     ensures { Puts W.contents writer.old writer.new (json (row_opening line)) result }
 {
-    writer.put_all(&[
-        b"\\u001b[",
-        Buffer::new().format(line).as_bytes(),
-        b";1H\\u001b[0m\\u001b[2K",
-    ])
-}
-
-/// Writes runs of a row.
-fn put_runs<W: Write>(
-    reversed: bool,
-    row: &Row,
-    runs: &[Run],
-    writer: &mut Watched<W>,
-) -> Result<(), Fault>
-    requires whole { length row.now.cells ≡ WIDE_COLUMNS }
-    requires runs { All IsRun runs.now }
-    requires sound { has_failed writer.old ≡ false }
-    ensures { Puts W.contents writer.old writer.new
-        (flat_map (run_part reversed row.now) runs.now) result }
-{
-    pieces_join::<W, Run>();
-    for run in runs {
-        put_run(reversed, row, *run, writer)?;
-    }
-    Ok(())
-}
-
-/// Writes a run: SGR, and its characters.
-#[tactic(auto, unfolding(crate::specs::Json::json))]
-fn put_run<W: Write>(
-    reversed: bool,
-    row: &Row,
-    run: Run,
-    writer: &mut Watched<W>,
-) -> Result<(), Fault>
-    requires whole { length row.now.cells ≡ WIDE_COLUMNS }
-    requires run { IsRun run }
-    requires sound { has_failed writer.old ≡ false }
-    ensures { Puts W.contents writer.old writer.new (run_part reversed row.now run) result }
-{
-    let Kind {
-        bold,
-        underscore,
-        blink,
-        reverse,
-        ..
-    } = run.kind;
-    writer.put_all(&[
-        b"\\u001b[0",
-        text_where(bold, b";1"),
-        text_where(underscore, b";4"),
-        text_where(blink, b";5"),
-        text_where(reverse != reversed, b";7"),
-        b"m",
-        cells_text(row.size, cells_of(row, run)).as_slice(),
-    ])
-}
-
-/// A text, or none.
-fn text_where(is_there: bool, text: &'static [u8]) -> &'static [u8]
-    ensures { result.now ≡ text_where is_there text.now }
-{
-    if is_there { text } else { b"" }
+    text.clear();
+    push_bytes(text, b"\\u001b[");
+    push_bytes(text, Buffer::new().format(line).as_bytes());
+    push_bytes(text, b";1H\\u001b[0m\\u001b[2K");
+    writer.put(text.as_slice())
 }
 
 /// Writes the ground right of a row's inked cells, where the screen is reversed.
@@ -250,8 +203,9 @@ fn put_ground<W: Write>(ground: Ground, row: &Row, writer: &mut Watched<W>) -> R
     ensures { Puts W.contents writer.old writer.new
         (json (text_where ground.reversed (ground_text ground.width row.now))) result }
 {
+    writers_join::<W>();
     if !ground.reversed {
-        return writer.put(b"");
+        return Ok(());
     }
     let taken = columns_taken(row.size, inked(&row.cells).len());
     put_spaces(usize::from(ground.width).saturating_sub(taken), writer)

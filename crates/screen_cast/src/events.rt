@@ -84,9 +84,10 @@ fn put_resize<W: Write>(
     ensures { Puts W.contents writer.old writer.new
         (flat_map event_line (resizes due before.now (still_of after.now.console))) result }
 {
+    writers_join::<W>();
     let wide = after.screen().is_wide();
     if wide == before.is_wide() {
-        return writer.put(b"");
+        return Ok(());
     }
     put_size(due, wide, writer)
 }
@@ -128,9 +129,10 @@ fn put_output<W: Write>(
     ensures { Puts W.contents writer.old writer.new
         (flat_map event_line (outputs due before.now (still_of after.now.console))) result }
 {
+    writers_join::<W>();
     let drawn = drawn_lines(before, after, lines);
     if drawn.is_empty() && before.cursor() == after.screen().cursor() {
-        return writer.put(b"");
+        return Ok(());
     }
     put_drawing(due, after, drawn, writer)
 }

@@ -1,73 +1,49 @@
 //! Characters as they stand in a string of JSON.
 
-ghost use Rattle.std.specs.Prelude.{◌≡◌, ◌≤◌, ◌++◌, ◌+◌, ◌*◌, length};
-ghost use Rattle.std.specs.List.{flat_map};
-ghost use Rattle.screen_cast.specs.Drawn.{cell_text};
-ghost use Rattle.screen_cast.specs.Json.{json, json_byte};
+ghost use Rattle.std.specs.Prelude.{◌≡◌, ◌≤◌, ◌++◌, ◌+◌, encode_utf8, length};
+ghost use Rattle.screen_print.specs.EscapedText.{text_where};
+ghost use Rattle.screen_print.specs.Glyphs.{character};
+ghost use Rattle.screen_cast.specs.Json.{json};
 
+use crate::runs::RUN_BYTES;
 use arrayvec::ArrayVec;
 use screen_print::character;
-use vt_screen::limits::WIDE_COLUMNS;
-use vt_screen::{Cell, Size};
 
-/// How many bytes a cell takes at most: a character's three, each by its number, and a space.
-const CELL_BYTES: usize = 19;
+/// How many bytes a glyph takes at most.
+pub(crate) const GLYPH_BYTES: usize = 3;
 
-/// How many bytes the cells of a row take at most.
-pub(crate) const CELLS_BYTES: usize = 2508;
-
-/// The characters of a run's cells, on a line of this size.
-#[tactic(auto, unfolding(crate::specs::Json::json))]
-pub(crate) fn cells_text(size: Size, cells: &[Cell]) -> ArrayVec<u8, CELLS_BYTES>
-    requires { length cells.now ≤ WIDE_COLUMNS }
-    ensures { result.items ≡ json (flat_map (cell_text size) cells.now) }
+/// Puts the character of a glyph behind a text. Only two are escaped, and none is a control character.
+#[tactic(auto, using(crate::proofs::JsonLemmas::glyph_stands, crate::proofs::JsonLemmas::ascii_glyph_stands))]
+pub(crate) fn push_glyph(text: &mut ArrayVec<u8, RUN_BYTES>, glyph: u8)
+    requires { length text.old.items + GLYPH_BYTES ≤ RUN_BYTES }
+    ensures text { text.new.items ≡ text.old.items ++ json (encode_utf8 (character glyph)) }
+    ensures short { length text.new.items ≤ length text.old.items + GLYPH_BYTES }
 {
-    let mut text = ArrayVec::new();
-    for cell in cells {
-        push_cell(&mut text, size, *cell);
-    }
-    text
-}
-
-/// Puts the character of a cell behind a text, and a space behind it on the double sizes.
-#[tactic(auto, unfolding(crate::specs::Json::json))]
-fn push_cell(text: &mut ArrayVec<u8, CELLS_BYTES>, size: Size, cell: Cell)
-    requires room { length text.old.items + CELL_BYTES ≤ CELLS_BYTES }
-    ensures text { text.new.items ≡ text.old.items ++ json (cell_text size cell) }
-    ensures short { length text.new.items ≤ length text.old.items + CELL_BYTES }
-{
-    let mut bytes = [0; 4];
-    push_bytes(
-        text,
-        character(cell.glyph).encode_utf8(&mut bytes).as_bytes(),
-    );
-    if !size.is_single() {
-        text.push(b' ');
+    match glyph {
+        b'"' => push_bytes(text, b"\\\""),
+        b'\\' => push_bytes(text, b"\\\\"),
+        b' '..=b'~' => text.push(glyph),
+        _ => {
+            let mut bytes = [0; 4];
+            push_bytes(text, character(glyph).encode_utf8(&mut bytes).as_bytes());
+        }
     }
 }
 
-/// Puts bytes behind a text.
-#[tactic(auto, unfolding(crate::specs::Json::json))]
-fn push_bytes(text: &mut ArrayVec<u8, CELLS_BYTES>, bytes: &[u8])
-    requires { length text.old.items + 6 * length bytes.now ≤ CELLS_BYTES }
-    ensures text { text.new.items ≡ text.old.items ++ json bytes.now }
-    ensures short { length text.new.items ≤ length text.old.items + 6 * length bytes.now }
+/// Puts bytes behind a text as they are.
+pub(crate) fn push_bytes(text: &mut ArrayVec<u8, RUN_BYTES>, bytes: &[u8])
+    requires { length text.old.items + length bytes.now ≤ RUN_BYTES }
+    ensures { text.new.items ≡ text.old.items ++ bytes.now }
 {
-    for byte in bytes {
-        push_byte(text, *byte);
-    }
+    let _ = text.try_extend_from_slice(bytes);
 }
 
-/// Puts a byte behind a text.
-fn push_byte(text: &mut ArrayVec<u8, CELLS_BYTES>, byte: u8)
-    requires { length text.old.items + 6 ≤ CELLS_BYTES }
-    ensures text { text.new.items ≡ text.old.items ++ json_byte byte }
-    ensures short { length text.new.items ≤ length text.old.items + 6 }
+/// Puts bytes behind a text as they are, or none.
+pub(crate) fn push_bytes_where(text: &mut ArrayVec<u8, RUN_BYTES>, holds: bool, bytes: &[u8])
+    requires { length text.old.items + length bytes.now ≤ RUN_BYTES }
+    ensures { text.new.items ≡ text.old.items ++ text_where holds bytes.now }
 {
-    let _ = match byte {
-        b'"' => text.try_extend_from_slice(b"\\\""),
-        b'\\' => text.try_extend_from_slice(b"\\\\"),
-        0x1b => text.try_extend_from_slice(b"\\u001b"),
-        _ => text.try_extend_from_slice(&[byte]),
-    };
+    if holds {
+        push_bytes(text, bytes);
+    }
 }

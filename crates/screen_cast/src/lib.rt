@@ -5,5 +5,6 @@ mod cast_file;
 mod drawn;
 mod events;
 mod json;
+mod runs;
 
 pub use cast_file::cast;

@@ -8,6 +8,8 @@ returns g c =
     let opens : List ℕ = codes "\\u001b[" in
     let rest : List ℕ = codes ";1H\\u001b[0m\\u001b[2K" in
     let number = c.as_bytes.ensures.value ∙ c.format.ensures.text in
-    subst (λ t. Puts g.W.Write.contents c.args.writer.now c.put_all.new.self t c.put_all.result)
-    (ap (λ n. opens ++ (n ++ rest)) number ∙ opening_is c.args.line (omega (arith, c.ranges.line.fits)))
-    c.put_all.ensures.puts
+    let opened = c.push_bytes.ensures ∙ ap (λ t. t ++ opens) c.clear.ensures in
+    let numbered = c.push_bytes-2.ensures ∙ ap (λ t. t ++ c.as_bytes.result.now) opened ∙ ap (λ n. opens ++ n) number in
+    subst (λ t. Puts g.W.Write.contents c.args.writer.now c.put.new.self t c.put.result)
+    (c.as_slice.ensures.value ∙ c.push_bytes-3.ensures ∙ ap (λ t. t ++ rest) numbered ∙ opening_is c.args.line (omega (arith, c.ranges.line.fits)))
+    c.put.ensures.puts

@@ -2,7 +2,7 @@ use Rattle.std.proofs.Common.{take}
 use Rattle.std.specs.List.{flat_map}
 use Rattle.tape_core.specs.Devices.{Took}
 use Rattle.screen_cast.specs.Parts.{run_part}
-use Rattle.screen_cast.proofs.drawn.put_runs.Given as goal
+use Rattle.screen_cast.proofs.runs.put_runs.Given as goal
 
 -- the runs so far have gone out
 abbrev pub invariant-loop-run : goal.invariant-loop-run
