@@ -12,7 +12,6 @@ fn reads_profiles_and_the_escaped_print(rt: HostRuntime) -> Result<(), Fail> {
         profile: vt100,
         escaped: true,
     };
-    let session = |every, profile| Job::Session { every, profile };
     let rows = [
         ("typetool screen --at=1 --escaped s t", escaped),
         (
@@ -31,6 +30,18 @@ fn reads_profiles_and_the_escaped_print(rt: HostRuntime) -> Result<(), Fail> {
             "typetool reports --profile=vt100 --at=1 s t",
             reports(1_000_000, vt100),
         ),
+    ];
+    for (line, job) in &rows {
+        compare_job(&rt, line, *job)?;
+    }
+    Ok(())
+}
+
+#[test]
+fn reads_profiles_of_whole_recordings(rt: HostRuntime) -> Result<(), Fail> {
+    let (vt100, vt102) = (Profile::Vt100, Profile::Vt102);
+    let session = |every, profile| Job::Session { every, profile };
+    let rows = [
         (
             "typetool page --profile=vt102 s t",
             Job::Page { profile: vt102 },

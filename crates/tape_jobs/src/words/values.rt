@@ -6,7 +6,7 @@ ghost use Rattle.std.specs.Char.{is_control};
 ghost use Rattle.std.specs.List.{list_all, list_any};
 ghost use Rattle.clap.specs.Words.{first_of, found_of, rows_of};
 ghost use Rattle.tape_jobs.specs.CommandLine.{every_allowed, every_in, every_of, header_in, id_in, is_searchable, job_in, moment_in, moment_given_in, moment_or_last_in, paths_in, profile_in, profile_named, switch_in, text_in, value_in};
-ghost use Rattle.tape_jobs.specs.declared.words.table.Subcommand.TheVariants.{Find as find};
+ghost use Rattle.tape_jobs.specs.declared.words.table.Subcommand.TheVariants.{Find as find, Screen as screen};
 
 use super::table::{Argument, Subcommand, id_of, paths_of};
 use crate::job::Job;
@@ -47,11 +47,7 @@ pub fn read_job(subcommand: Subcommand, values: &ArgMatches<'_>) -> Result<Job, 
         Subcommand::Check => Ok(Job::Check {
             profile: read_profile(values)?,
         }),
-        Subcommand::Screen => Ok(Job::Screen {
-            at: read_moment(values, Argument::At)?,
-            profile: read_profile(values)?,
-            escaped: is_given(values, Argument::Escaped),
-        }),
+        Subcommand::Screen => read_screen(values),
         Subcommand::Picture => Ok(Job::Picture {
             at: read_moment(values, Argument::At)?,
             profile: read_profile(values)?,
@@ -108,6 +104,18 @@ fn read_moment_or_last(values: &ArgMatches<'_>, flag: Argument) -> Result<u64, U
 {
     let given = read_moment_given(values, flag)?;
     Ok(given.unwrap_or(LAST_MOMENT))
+}
+
+/// The job `screen` that the values mean.
+#[tactic(auto, unfolding(crate::specs::CommandLine::job_in))]
+fn read_screen(values: &ArgMatches<'_>) -> Result<Job, Unreadable>
+    ensures { result ≡ job_in screen (rows_of (found_of values.now)) }
+{
+    Ok(Job::Screen {
+        at: read_moment(values, Argument::At)?,
+        profile: read_profile(values)?,
+        escaped: is_given(values, Argument::Escaped),
+    })
 }
 
 /// The job `find` that the values mean.
