@@ -549,13 +549,18 @@ fn compare_second<R: Abort + AllocGlobal>(rt: &R, case: &Case<'_>, failure: Fail
 #[test]
 fn a_second_writer_that_fails_stops_the_job(rt: HostRuntime) {
     for case in &cases() {
-        for call in 0..case.new_timing.len() {
-            compare_second(&rt, case, Failure::Write(call), call);
-            compare_second(&rt, case, Failure::TakesNothing(call), call);
-        }
-        if !case.new_timing.is_empty() {
-            compare_second(&rt, case, Failure::FirstFlush, case.new_timing.len());
-            compare_second(&rt, case, Failure::EachFlush, case.new_timing.len());
-        }
+        compare_second_calls(&rt, case);
+    }
+}
+
+/// A run for each call of the second writer, which fails at it, and for its flush.
+fn compare_second_calls<R: Abort + AllocGlobal>(rt: &R, case: &Case<'_>) {
+    for call in 0..case.new_timing.len() {
+        compare_second(rt, case, Failure::Write(call), call);
+        compare_second(rt, case, Failure::TakesNothing(call), call);
+    }
+    if !case.new_timing.is_empty() {
+        compare_second(rt, case, Failure::FirstFlush, case.new_timing.len());
+        compare_second(rt, case, Failure::EachFlush, case.new_timing.len());
     }
 }

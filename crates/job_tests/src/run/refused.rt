@@ -9,7 +9,7 @@ use std::process::Abort;
 use std::rt::Runtime;
 use std::test::Fail;
 use tape_core::{Fault, Watched};
-use tape_jobs::{Job, JobFault, run_with};
+use tape_jobs::{Job, JobFault, Outcome, mend, run_with};
 use tape_mend::Header;
 use vt_term::Profile;
 
@@ -269,6 +269,61 @@ fn run_mend(rt: HostRuntime) -> Result<(), Fail> {
         ..plain_case(job, SCRIPT)
     };
     compare(&rt, case)
+}
+
+/// Mends a pair that ends inside its last chunk, by the call that tells so: what is told stands as the note.
+fn mend_cut(rt: &impl Runtime<A = Global>) -> Result<Ended, Fail> {
+    let mut out = Watched::new(room(rt)?);
+    let mut out_timing = Watched::new(room(rt)?);
+    let mut told = Watched::new(room(rt)?);
+    let outcome = mend(
+        rt.alloc(),
+        Header::Kept,
+        &mut Watched::new(SCRIPT),
+        &mut Watched::new(b"0.5 6\n0.5 11\n0.5 9\n".as_slice()),
+        &mut out,
+        &mut out_timing,
+        &mut told,
+    );
+    Ok(Ended {
+        outcome,
+        text: out.into_inner(),
+        new_timing: out_timing.into_inner(),
+        note: told.into_inner(),
+    })
+}
+
+/// Compares how mending ended, both files, and what was told.
+fn compare_mended(rt: &impl Abort, ended: &Ended, outcome: Outcome, texts: [&[u8]; 3]) {
+    let written = [
+        ended.text.as_slice(),
+        ended.new_timing.as_slice(),
+        ended.note.as_slice(),
+    ];
+    assert_eq!(rt; (ended.outcome, written), (outcome, texts));
+}
+
+/// Where memory is refused to it, nothing goes out.
+#[test]
+fn mend_and_tell(rt: HostRuntime) -> Result<(), Fail> {
+    let mut ended = mend_cut(&rt)?;
+    if ended.outcome.fault.is_some() {
+        println!(rt; "refused: mend")?;
+        let refused = Outcome {
+            status: 3,
+            fault: Some(JobFault::File(Fault::OutOfMemory)),
+        };
+        compare_mended(&rt, &ended, refused, [b"", b"", b""]);
+        ended = mend_cut(&rt)?;
+    }
+    let damaged = Outcome {
+        status: 1,
+        fault: None,
+    };
+    let timing = b"0.500000 6\n0.500000 11\n0.500000 7\n";
+    let told = b"chunk 2 cut to 7 of 9 bytes\n";
+    compare_mended(&rt, &ended, damaged, [SCRIPT, timing, told]);
+    Ok(())
 }
 
 /// Seeks, an edit before what was sought, and seeks again.

@@ -1,8 +1,12 @@
-//! The call `mend` over such devices.
-use super::{Failure, NEVER, SlowWriter, slow_reader, slow_writer, stopped};
+//! The call `mend` over such devices, and the job of its name.
+use super::{
+    Case, Failing, Failure, NEVER, NONE_FAILS, SlowWriter, compare_calls, compare_second_calls,
+    compare_sound, compare_unflushed, compare_unread, plain_case, slow_reader, slow_writer,
+    stopped,
+};
 use std::process::Abort;
 use tape_core::{Fault, Watched};
-use tape_jobs::{Outcome, mend};
+use tape_jobs::{Job, Outcome, mend};
 use tape_mend::Header;
 
 /// A recording of two chunks, the second of which is cut.
@@ -133,4 +137,43 @@ fn a_writer_that_fails_stops_mending(rt: HostRuntime) {
         compare_failed(&rt, writer, Failure::FirstFlush, text.len());
         compare_failed(&rt, writer, Failure::EachFlush, text.len());
     }
+}
+
+/// The job, of a pair that is whole: both files are written as they were.
+fn whole_case() -> Case<'static> {
+    let job = Job::Mend {
+        header: Header::Kept,
+    };
+    Case {
+        new_timing: super::TIMING,
+        ..plain_case(job, super::SCRIPT)
+    }
+}
+
+/// Both files have 22 bytes, each a call, and the 23rd call finds the end.
+#[test]
+fn a_reader_that_fails_stops_the_job_mend(rt: HostRuntime) {
+    let case = whole_case();
+    for call in 0..=22 {
+        let script = Failing {
+            script: call,
+            ..NONE_FAILS
+        };
+        compare_unread(&rt, &case, script);
+        let timing = Failing {
+            timing: call,
+            ..NONE_FAILS
+        };
+        compare_unread(&rt, &case, timing);
+    }
+}
+
+#[test]
+fn a_writer_that_fails_stops_the_job_mend(rt: HostRuntime) {
+    let case = whole_case();
+    compare_sound(&rt, &case);
+    compare_calls(&rt, &case);
+    compare_unflushed(&rt, &case, Failure::FirstFlush);
+    compare_unflushed(&rt, &case, Failure::EachFlush);
+    compare_second_calls(&rt, &case);
 }
