@@ -143,6 +143,9 @@ class Damage:
         self.expect("screen", (status, screen.count(b"\n"), errors), (0, 24, self.note))
         status, reports, errors = self.run(["reports", "--at", at, "s", "t"])
         self.expect("reports", (status, len(reports) % 2, errors), (0, 1, self.note))
+        for words in (["picture", "--at", at], ["find", "a"], ["page"], ["cast"]):
+            status, _, errors = self.run([*words, "s", "t"])
+            self.expect(words[0], (status, errors), (0, self.note))
         self.changed(recording, at, us)
 
     def changed(self, recording, at, us):

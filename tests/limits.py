@@ -3,14 +3,15 @@
 
     tests/limits.py TYPETOOL
 
-What is expected is written out here, or comes from the plain reader (plain_reader.py). The last line is
-'N passed, M failed'.
+What is expected is written out here, or comes from the plain readers (plain_reader.py, mend_reader.py,
+check_reader.py). The last line is 'N passed, M failed'.
 """
 import os
 import subprocess
 import sys
 import tempfile
 
+import check_reader
 import mend_reader
 import plain_reader as plain
 
@@ -277,6 +278,54 @@ def limits_of_words():
         check(f"every {every}", run(["session", f"--every={every}", "s", "t"])[0], status)
 
 
+def found_texts():
+    """The longest texts that a screen can show, and one more character; a text of which there is nothing to find."""
+    for columns, wide in ((80, b""), (132, b"\x1b[?3h")):
+        full = wide + b"x" * (24 * columns)
+        pair(HEADER + full, b"0 %d\n" % len(full))
+        line = b"+ 0 0.000000 1 1 " + b"x" * (24 * columns) + b"\n"
+        check(f"a screen of {columns} columns", run(["find", "x" * (24 * columns), "s", "t"]), (0, line, b""))
+        check(f"more than {columns} columns", run(["find", "x" * (24 * columns + 1), "s", "t"]), (0, b"", b""))
+    for text in ("", " " * 9, "a\x1f", "\x7f", "a\u0080", "\u009f"):
+        check(f"find {text!r}", run(["find", text, "nowhere", "nowhere"]), (2, b"", b"typetool: bad text\n"))
+    for text in ("~", "\u00a0", "\U0010ffff", "x" * 100_000):
+        check(f"find {text[:9]!r}", run(["find", text, "s", "t"]), (0, b"", b""))
+
+
+def shown_moments():
+    """The greatest moment, and whatever is above it."""
+    pair(HEADER + b"ab", b"0 1\n0.5 1\n")
+    for at in ("1000000000000", "1000000000000.000001", "9" * 60):
+        status, picture, errors = run(["picture", "--at", at, "s", "t"])
+        title = b"<title>Screen at 1000000000000.000000 s</title>"
+        check(f"picture at {at}", (status, title in picture, errors), (0, True, b""))
+        check(f"find by {at}", run(["find", "--to", at, "b", "s", "t"])[1], b"+ 1 0.500000 1 2 ab\n")
+        check(f"find after {at}", run(["find", "--from", at, "b", "s", "t"]), (0, b"", b""))
+
+
+def counted_sequences():
+    """Each name of a switch of modes that there is, and as many sequences as there may be chunks."""
+    switches = b"".join(b"\x1b[%dh\x1b[?%dl" % (n, n) for n in range(10_001))
+    pair(HEADER + switches, b"0 %d\n" % len(switches))
+    script, timing = open_all("s", "t")
+    header, chunks, trailer = plain.read(script, timing)
+    for profile in ("vt100", "vt102"):
+        text, status = check_reader.check(profile, header, chunks[0][1], trailer)
+        check("each switch", run(["check", "--profile", profile, "s", "t"]), (status, text, b""))
+    pair(HEADER + b"\x1bN" * 1_000_000, b"0 2\n" * 1_000_000)
+    check("a million sequences", run(["check", "s", "t"]), (1, b"started X\nunplayed 1000000 ESC N\n", b""))
+
+
+def most_chunks():
+    """A page and a cast of as many chunks as there may be, which show nothing."""
+    pair(HEADER, b"0 0\n" * 1_000_000)
+    status, page, errors = run(["page", "s", "t"])
+    check("a page of 1,000,000 chunks", (status, page.count(b"\n[0.000000,0,1,1]"), errors), (0, 1_000_000, b""))
+    cast = b'{"version": 2, "width": 80, "height": 24}\n'
+    check("a cast of 1,000,000 chunks", run(["cast", "s", "t"]), (0, cast, b""))
+    check("find in 1,000,000 chunks", run(["find", "a", "s", "t"]), (0, b"", b""))
+
+
 def parameters():
     """The 16 parameters that count, each at most 9,999."""
     bold = b"\x1b[" + b"0;" * 15 + b"20h" + b"a\n" + b"\x1b[" + b"0;" * 16 + b"20lb\nc"
@@ -303,6 +352,10 @@ def main():
         limits_of_edits()
         full_body()
         limits_of_words()
+        found_texts()
+        shown_moments()
+        counted_sequences()
+        most_chunks()
         parameters()
     print(f"limits: {passed} passed, {failed} failed")
     return failed > 0
