@@ -81,6 +81,8 @@ const MEND_DETAILS: &str =
     where it is so: timing line N: FAULT, K lines left out; N inputs and M signals left out; chunk I cut\n\
     to B of C bytes; K chunks left out. Status 1 where a line or a chunk was left out or cut, or where\n\
     the typescript has no header line (then nothing is written).\n\n\
+    No one can bring back bytes that a file no longer has, when bytes came that no line counts or only one\n\
+    behind a fault, and what a lost first line said.\n\n\
     Example: typetool mend demo.script demo.timing new.script new.timing";
 
 /// The lines that `find` writes, and what it doesn't find.
