@@ -19,7 +19,6 @@ import subprocess
 import sys
 import tempfile
 import termios
-import time
 
 import mend_reader
 
@@ -35,25 +34,28 @@ def record(words, command, typed=b"typed\n"):
     subprocess.run(["script", "-q", *words, "-c", command], input=typed, stdout=subprocess.DEVNULL, check=True)
 
 
-def record_on_terminal(words, command, act):
-    """Runs script on a terminal of its own, and does something to it meanwhile."""
+def record_on_terminal(words, command, awaited, act):
+    """Runs script on a terminal of its own, and does something to it once the command has written what is awaited."""
     child, terminal = pty.fork()
     if child == 0:
         os.execvp("script", ["script", "-q", *words, "-c", command])
-    time.sleep(0.25)
-    act(child, terminal)
+    written = b""
+    acted = False
     try:
-        while os.read(terminal, 65536):
-            pass
+        while piece := os.read(terminal, 65536):
+            written += piece
+            if not acted and awaited in written:
+                act(child, terminal)
+                acted = True
     except OSError:
         pass
     os.close(terminal)
     os.waitpid(child, 0)
 
 
-def resize(child, terminal):
+def resize(_child, terminal):
+    """Gives the terminal another size, of which the kernel tells script by a signal."""
     fcntl.ioctl(terminal, termios.TIOCSWINSZ, struct.pack("HHHH", 30, 100, 0, 0))
-    os.kill(child, signal.SIGWINCH)
 
 
 def kill(child, _terminal):
@@ -81,9 +83,9 @@ def make(folder):
     with open(at("headless", "script"), "wb") as file:
         file.write(text[text.index(b"\n") + 1 :])
     yield "headless", "--headless", PLAYED, 0
-    record_on_terminal(["-f", *pair("killed")], SLOW, kill)
+    record_on_terminal(["-f", *pair("killed")], SLOW, b"three", kill)
     yield "killed", "", [b"one", b"two"], 0
-    record_on_terminal(["-m", "advanced", *pair("resized")], RESIZED, resize)
+    record_on_terminal(["-m", "advanced", *pair("resized")], RESIZED, b"before", resize)
     yield "resized", "", [b"before", b"after"], 1
 
 
