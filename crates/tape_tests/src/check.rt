@@ -1,6 +1,6 @@
 //! Lines of a check: what a recording says of itself, and what its terminal can't show of it.
 
-use crate::devices::{compare_taken, small_writer};
+use crate::devices::{Writing, small_writer};
 use crate::once_more::read;
 use std::alloc::Global;
 use std::process::Abort;
@@ -286,7 +286,12 @@ fn stops_where_the_writer_fails(rt: HostRuntime) -> Result<(), Fail> {
             Err(CheckFault::Write) => Err(Fault::WriteFault),
             Err(CheckFault::Memory) => Err(Fault::OutOfMemory),
         };
-        compare_taken(&rt, answer, writer, ALL.as_bytes());
+        let writing = Writing::of(answer, writer);
+        assert_eq!(rt;
+            writing.told(),
+            writing.wanted(ALL.as_bytes()),
+            "room for {room}"
+        );
     }
     Ok(())
 }

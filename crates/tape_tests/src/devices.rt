@@ -1,20 +1,19 @@
-//! A writer that the tests of prints and of written logs share.
+//! A writer that fails, and what writing to it comes to.
 use std::alloc::Global;
 use std::io;
 use std::io::{ErrorKind, Write};
-use std::process::Abort;
 use tape_core::{Fault, Watched};
 
 /// A writer that takes at most three bytes a call, and that fails once it holds so many. A flush fails where it is to.
 #[derive(Drop)]
-pub(crate) struct SmallWriter {
-    pub(crate) taken: Vec<u8>,
+pub struct SmallWriter {
+    taken: Vec<u8>,
     room: usize,
     flush_fails: bool,
 }
 
 /// Such a writer that holds nothing yet.
-pub(crate) fn small_writer(alloc: Global, room: usize, flush_fails: bool) -> SmallWriter {
+pub fn small_writer(alloc: Global, room: usize, flush_fails: bool) -> SmallWriter {
     SmallWriter {
         taken: Vec::new(alloc),
         room,
@@ -22,27 +21,36 @@ pub(crate) fn small_writer(alloc: Global, room: usize, flush_fails: bool) -> Sma
     }
 }
 
-/// Compares what writing a text to such a writer answered, whether it has failed, and what it took.
-pub(crate) fn compare_taken(
-    rt: &impl Abort,
+/// What writing a text to such a writer came to.
+#[derive(Drop)]
+pub struct Writing {
     answer: Result<(), Fault>,
-    writer: Watched<SmallWriter>,
-    whole: &[u8],
-) {
-    let failed = writer.failed();
-    let writer = writer.into_inner();
-    let wanted = wanted_of(whole, writer.room, writer.flush_fails);
-    let told = (answer, failed, writer.taken.as_slice());
-    assert_eq!(rt; told, wanted, "room for {}", writer.room);
+    failed: bool,
+    writer: SmallWriter,
 }
 
-/// What writing a text to such a writer is to answer, whether it is to have failed, and what it is to have taken.
-fn wanted_of(whole: &[u8], room: usize, flush_fails: bool) -> (Result<(), Fault>, bool, &[u8]) {
-    let taken = &whole[..room.min(whole.len())];
-    if room < whole.len() || flush_fails {
-        (Err(Fault::WriteFault), true, taken)
-    } else {
-        (Ok(()), false, taken)
+impl Writing {
+    pub fn of(answer: Result<(), Fault>, writer: Watched<SmallWriter>) -> Writing {
+        Writing {
+            answer,
+            failed: writer.failed(),
+            writer: writer.into_inner(),
+        }
+    }
+
+    /// What it answered, whether the writer has failed, and what that took.
+    pub fn told(&self) -> (Result<(), Fault>, bool, &[u8]) {
+        (self.answer, self.failed, self.writer.taken.as_slice())
+    }
+
+    /// What that is to be where this is the whole text.
+    pub fn wanted<'a>(&self, whole: &'a [u8]) -> (Result<(), Fault>, bool, &'a [u8]) {
+        let taken = &whole[..self.writer.room.min(whole.len())];
+        if self.writer.room < whole.len() || self.writer.flush_fails {
+            (Err(Fault::WriteFault), true, taken)
+        } else {
+            (Ok(()), false, taken)
+        }
     }
 }
 

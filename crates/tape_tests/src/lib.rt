@@ -1,18 +1,15 @@
-//! Tests of recordings, sessions and prints, which call what their crates make public.
+//! Tests of recordings, sessions, checks and mending, which call what their crates make public.
 //!
 //! They stand in a crate of their own, so that the gate proves those crates once, and tests see no more than other crates do.
+//! What the tests of prints need of them too is public.
 #![tactic(auto)]
 
 #[cfg(test)]
 mod check;
-#[cfg(test)]
-mod devices;
+pub mod devices;
 #[cfg(test)]
 mod mending;
-#[cfg(test)]
-mod once_more;
-#[cfg(test)]
-mod prints;
+pub mod once_more;
 #[cfg(test)]
 mod recording;
 #[cfg(test)]

@@ -1,5 +1,5 @@
 //! What pairs of files are mended to: rows by hand.
-use crate::devices::{compare_taken, small_writer};
+use crate::devices::{Writing, small_writer};
 use std::alloc::Global;
 use std::process::Abort;
 use std::rt::Runtime;
@@ -250,7 +250,8 @@ fn losses_to_a_writer_that_fails(rt: HostRuntime) -> Result<(), Fail> {
     for room in 0..20 {
         let mut writer = Watched::new(small_writer(rt.alloc(), room, false));
         let answer = put_losses(&mended.losses, &mut writer);
-        compare_taken(&rt, answer, writer, whole);
+        let writing = Writing::of(answer, writer);
+        assert_eq!(rt; writing.told(), writing.wanted(whole), "room for {room}");
     }
     Ok(())
 }

@@ -5,7 +5,7 @@ use std::test::Fail;
 use tape_core::{Bytes, Recording, read_recording};
 
 /// Reads a recording.
-pub(crate) fn read(
+pub fn read(
     rt: &impl Runtime<A = Global>,
     script: &[u8],
     timing: &[u8],
@@ -20,7 +20,7 @@ pub(crate) fn read(
 }
 
 /// Copies bytes.
-pub(crate) fn bytes(rt: &impl Runtime<A = Global>, text: &[u8]) -> Result<Bytes, Fail> {
+pub fn bytes(rt: &impl Runtime<A = Global>, text: &[u8]) -> Result<Bytes, Fail> {
     match Bytes::copy_of(rt.alloc(), text) {
         Ok(bytes) => Ok(bytes),
         Err(_) => {

@@ -1,4 +1,4 @@
-use crate::devices::{compare_taken, small_writer};
+use crate::devices::{Writing, small_writer};
 use std::alloc::Global;
 use std::process::Abort;
 use std::test::Fail;
@@ -92,7 +92,8 @@ fn compare_in_rooms<R: Abort + AllocGlobal>(rt: &R, edits: &[Edit]) {
         for flush_fails in [false, true] {
             let mut writer = Watched::new(small_writer(rt.alloc(), room, flush_fails));
             let answer = write_log(edits, &mut writer);
-            compare_taken(rt, answer, writer, WHOLE);
+            let writing = Writing::of(answer, writer);
+            assert_eq!(rt; writing.told(), writing.wanted(WHOLE), "room for {room}");
         }
     }
 }

@@ -1,9 +1,9 @@
-use super::{fed, fed_as};
-use crate::devices::{compare_taken, small_writer};
+use crate::fed::{fed, fed_as};
 use screen_print::escaped;
 use std::alloc::Global;
 use std::test::Fail;
 use tape_core::Watched;
+use tape_tests::devices::{Writing, small_writer};
 use vt_parser::ParserState;
 use vt_term::{Profile, Reports, Terminal};
 
@@ -181,7 +181,8 @@ fn a_failing_writer_holds_a_beginning(rt: HostRuntime) -> Result<(), Fail> {
         for flush_fails in [false, true] {
             let mut writer = Watched::new(small_writer(rt.alloc(), room, flush_fails));
             let answer = escaped(&terminal, &mut writer);
-            compare_taken(&rt, answer, writer, whole);
+            let writing = Writing::of(answer, writer);
+            assert_eq!(rt; writing.told(), writing.wanted(whole), "room for {room}");
         }
     }
     Ok(())

@@ -1,9 +1,9 @@
-use super::fed;
-use crate::devices::{compare_taken, small_writer};
+use crate::fed::fed;
 use screen_picture::{cells_of, picture, runs_of};
 use std::alloc::Global;
 use std::test::Fail;
 use tape_core::Watched;
+use tape_tests::devices::{Writing, small_writer};
 
 /// What is fed, and the parts of the picture that it makes.
 struct Drawn {
@@ -187,7 +187,12 @@ fn a_failing_writer_holds_a_beginning_of_the_picture(rt: HostRuntime) -> Result<
         for flush_fails in [false, true] {
             let mut writer = Watched::new(small_writer(rt.alloc(), room, flush_fails));
             let answer = picture(&terminal, 500_000, &mut writer);
-            compare_taken(&rt, answer, writer, whole.as_slice());
+            let writing = Writing::of(answer, writer);
+            assert_eq!(rt;
+                writing.told(),
+                writing.wanted(whole.as_slice()),
+                "room for {room}"
+            );
         }
     }
     Ok(())

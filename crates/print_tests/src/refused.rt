@@ -1,6 +1,5 @@
 //! Refused growths. `tests/refused.py` runs these with the first, second, .. growth of memory refused, until none is, and
 //! counts the lines `refused: WHAT`. After a refusal all is as it must be, and the same call then answers.
-use crate::once_more::read;
 use screen_print::{ChangesFault, changes};
 use std::alloc::Global;
 use std::process::Abort;
@@ -8,6 +7,7 @@ use std::rt::Runtime;
 use std::test::Fail;
 use tape_core::Watched;
 use tape_seek::Session;
+use tape_tests::once_more::read;
 
 /// Three chunks, half a second apart, on lines 1, 3 and 1, and the first two with reports.
 const SCRIPT: &[u8] = b"\nab\x1b[6n\x1b[3;1Hcd\x1b[c\x1b[1;1He";

@@ -1,6 +1,5 @@
 //! The cast.
 
-use crate::once_more::read;
 use screen_cast::cast;
 use std::alloc::Global;
 use std::process::Abort;
@@ -8,6 +7,7 @@ use std::rt::Runtime;
 use std::test::Fail;
 use tape_core::Watched;
 use tape_seek::Session;
+use tape_tests::once_more::read;
 
 /// The first line, and then nothing.
 const NO_EVENTS: &str = "{\"version\": 2, \"width\": 80, \"height\": 24}\n";

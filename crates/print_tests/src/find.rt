@@ -1,6 +1,5 @@
 //! Find lines.
 
-use crate::once_more::read;
 use screen_print::find;
 use std::alloc::Global;
 use std::process::Abort;
@@ -8,6 +7,7 @@ use std::rt::Runtime;
 use std::test::Fail;
 use tape_core::Watched;
 use tape_seek::Session;
+use tape_tests::once_more::read;
 
 /// Chunks without delays, divided by bars, a text, and its find lines.
 const ROWS: [(&[u8], &str, &str); 9] = [

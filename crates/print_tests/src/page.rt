@@ -1,7 +1,5 @@
 //! Pages.
 
-use crate::devices::{compare_taken, small_writer};
-use crate::once_more::read;
 use screen_page::page;
 use screen_print::ChangesFault;
 use std::alloc::Global;
@@ -10,6 +8,8 @@ use std::rt::Runtime;
 use std::test::Fail;
 use tape_core::{Fault, Watched};
 use tape_seek::Session;
+use tape_tests::devices::{Writing, small_writer};
+use tape_tests::once_more::read;
 
 /// Chunks, each half a second behind the one before it, divided by bars, and the entries of their page.
 const ROWS: [(&[u8], &str); 6] = [
@@ -93,7 +93,12 @@ fn stops_where_the_writer_fails(rt: HostRuntime) -> Result<(), Fail> {
                 ChangesFault::Write => Fault::WriteFault,
                 ChangesFault::Memory => Fault::OutOfMemory,
             });
-            compare_taken(&rt, answer, writer, whole.as_slice());
+            let writing = Writing::of(answer, writer);
+            assert_eq!(rt;
+                writing.told(),
+                writing.wanted(whole.as_slice()),
+                "room for {room}"
+            );
         }
     }
     Ok(())

@@ -1,9 +1,9 @@
-use super::fed;
-use crate::devices::{compare_taken, small_writer};
+use crate::fed::fed;
 use screen_print::plain;
 use std::alloc::Global;
 use std::test::Fail;
 use tape_core::Watched;
+use tape_tests::devices::{Writing, small_writer};
 
 /// What is fed, and what is printed before empty lines fill the 24 up. Worked rows stand in crates/job_tests.
 const TEXTS: [(&[u8], &str); 8] = [
@@ -73,7 +73,8 @@ fn a_failing_writer_holds_a_beginning(rt: HostRuntime) -> Result<(), Fail> {
         for flush_fails in [false, true] {
             let mut writer = Watched::new(small_writer(rt.alloc(), room, flush_fails));
             let answer = plain(&terminal, &mut writer);
-            compare_taken(&rt, answer, writer, whole);
+            let writing = Writing::of(answer, writer);
+            assert_eq!(rt; writing.told(), writing.wanted(whole), "room for {room}");
         }
     }
     Ok(())
