@@ -1,9 +1,9 @@
 #!/usr/bin/env bash
 # Processor times of the jobs on 64 MiB of the shipped recordings in chunks of 80 bytes, each over another job's on the
 # same pair: `changes` over the whole recording over `screen` at its end, `find` over `changes` for a text that never
-# stands there and for one that comes and goes, `picture` and `check` over `screen`, `page` over `changes`, `info` over
-# reading the pair (`due` at a moment before its first chunk), `save` without edits over `due` at the end, and `screen`
-# at the end over a session that stores no terminals. Usage: bench/jobs.sh [PROGRAM]
+# stands there and for one that comes and goes, `picture` and `check` over `screen`, `page` and `cast` over `changes`,
+# `info` over reading the pair (`due` at a moment before its first chunk), `save` without edits over `due` at the end,
+# and `screen` at the end over a session that stores no terminals. Usage: bench/jobs.sh [PROGRAM]
 set -euo pipefail
 here=$(realpath "$(dirname "$0")")
 program=$(realpath "${1:-$here/../bin/typetool}")
@@ -31,8 +31,10 @@ for _ in 1 2 3 4 5; do
     measure find_some end.requests "$program" find 'Seek to' big.script big.timing
     measure picture end.requests "$program" picture "${end[@]}"
     measure page end.requests "$program" page big.script big.timing
-    # It ends with 1, since it notes sequences that nothing plays.
-    measure check end.requests sh -c "$program check big.script big.timing || true"
+    measure cast end.requests "$program" cast big.script big.timing
+    # It ends with 1, since it notes sequences that nothing plays, and with nothing else.
+    # shellcheck disable=SC2016
+    measure check end.requests sh -c '"$0" check big.script big.timing || [ $? -eq 1 ]' "$program"
     measure save /dev/null "$program" save big.script big.timing new.script new.timing
     rm -f new.script new.timing
 done
@@ -51,6 +53,7 @@ ratio find_none changes 1.5
 ratio find_some changes 1.5
 ratio picture screen 1.05
 ratio page changes 2.5
+ratio cast changes 2.5
 ratio check screen 1
 ratio info read 1.1
 ratio save due 1.5
