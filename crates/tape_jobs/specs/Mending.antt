@@ -1,6 +1,6 @@
 -- What mending a pair of files comes to beside the pair, and how it ends (ours). A mending has the readers of the pair
 -- alone, and three writers: of the new pair, and of what is told of it.
-use Rattle.std.specs.Prelude.{◌≡◌, ℕ, ◌⊎◌, Bool, true, List, [], Some, None, MatchOption, Result, MatchResult, if◌then◌else◌}
+use Rattle.std.specs.Prelude.{◌≡◌, ℕ, ◌⊎◌, true, List, [], Some, None, MatchOption, Result, MatchResult, if◌then◌else◌}
 use Rattle.tape_core.specs.Devices.{Took, TookPart, inner_of, is_flushed}
 use Rattle.tape_core.specs.Reading.{has_header}
 use Rattle.tape_core.specs.declared.fault.Fault.TheVariants as fault

@@ -6,8 +6,8 @@ use Rattle.screen_print.specs.PlainText.{plain_text}
 use Rattle.screen_print.specs.Stills.{still_of}
 use Rattle.screen_picture.specs.Picture.{picture_text}
 use Rattle.tape_core.specs.Seconds.{last_moment}
-use Rattle.tape_jobs.specs.declared.shared.answers.Asked.{Asked}
-use Rattle.tape_jobs.specs.declared.shared.answers.Asked.TheVariants as asks
+use Rattle.tape_jobs.specs.declared.shared.Asked.{Asked}
+use Rattle.tape_jobs.specs.declared.shared.Asked.TheVariants as asks
 use Rattle.vt_term.specs.Console.{Console}
 use Rattle.vt_term.specs.Term.{Term}
 

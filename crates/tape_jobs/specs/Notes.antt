@@ -1,5 +1,5 @@
 -- The note that a job tells beside its output, where it plays a recording that wasn't made for this terminal (ours).
-use Rattle.std.specs.Prelude.{◌≡◌, ℕ, ◌⊎◌, Bool, true, false, List, Option, Some, None, not}
+use Rattle.std.specs.Prelude.{◌≡◌, ℕ, ◌⊎◌, Bool, true, false, List, Option, Some, None}
 use Rattle.tape_check.specs.Lines.{note_line}
 use Rattle.tape_core.specs.Devices.{Took, TookPart, is_flushed}
 use Rattle.tape_core.specs.Reading.{reads}

@@ -1,7 +1,7 @@
 //! The jobs: each reads its files whole and then writes its text.
 
 ghost use Rattle.std.specs.Prelude.{[], ◌≡◌, ◌⊎◌, ◌≢◌, ℕ, List, true, false, Some, IfOk, IfErr};
-ghost use Rattle.tape_core.specs.Devices.{inner_of, has_failed, StopsReading};
+ghost use Rattle.tape_core.specs.Devices.{inner_of, has_failed};
 ghost use Rattle.tape_core.specs.Faults.{is_stop};
 ghost use Rattle.tape_core.specs.Reading.{fault_of, reads};
 ghost use Rattle.tape_jobs.specs.Endings.{JobEnds, RunEnds, readers_of, used, writers_of};
@@ -14,15 +14,14 @@ use crate::jobs::check::write_checked;
 use crate::jobs::due::write_due;
 use crate::jobs::find::write_found;
 use crate::jobs::info::write_info;
-use crate::jobs::mend::{mends, read_remains, write_remains};
+use crate::jobs::mend::{read_remains, write_remains};
 use crate::jobs::moment::write_moment;
 use crate::jobs::note::tell_note;
 use crate::jobs::page::write_page;
 use crate::jobs::picture::write_picture;
 use crate::jobs::save::write_edited;
 use crate::jobs::session::write_answers;
-use crate::shared::answers::Asked;
-use crate::shared::editing::name_of;
+use crate::shared::{Asked, name_of};
 use screen_print::ChangesFault;
 use std::alloc::Global;
 use std::io;
@@ -281,7 +280,7 @@ pub fn run_with<S: Read, T: Read, R: Read, O: Write, P: Write, N: Write>(
 {
     writers_join::<O>();
     writers_join::<P>();
-    if let Some(header) = mends(job) {
+    if let Job::Mend { header } = job {
         return match read_remains(alloc, header, script, timing) {
             Ok(mended) => { outcome_of(write_remains(&ManuallyDrop::new(mended), out, out_timing)) }
             Err(fault) => outcome_of(Err(JobFault::File(fault))),
@@ -409,39 +408,13 @@ fn read_files<S: Read, T: Read, R: Read>(
 {
     let script = slurp(alloc, script)?;
     let timing = slurp(alloc, timing)?;
-    let requests = read_requests(alloc, job, requests)?;
+    let requests = match job {
+        Job::Save | Job::Session { .. } => slurp(alloc, requests)?,
+        _ => Vec::new(alloc),
+    };
     let recording = read_recording_of(alloc, script, &timing)?;
     Ok(Given {
         recording,
         requests,
     })
-}
-
-/// Reads the request lines whole where the job takes them.
-fn read_requests<R: Read>(
-    alloc: Global,
-    job: Job,
-    requests: &mut Watched<R>,
-) -> Result<Vec<u8>, Fault>
-    requires { has_failed requests.old ≡ false }
-    ensures ok { IfOk result (λ text. takes_requests job ≡ true → (r : List ℕ)
-        → R.remaining (inner_of requests.old) ≡ Some r → text.items ≡ r) }
-    ensures sound { IfOk result (λ text. has_failed requests.new ≡ false) }
-    ensures fault { IfErr result (λ fault. StopsReading fault (has_failed requests.new)) }
-    ensures alone { takes_requests job ≡ false → requests.new ≡ requests.old }
-{
-    match job {
-        Job::Save | Job::Session { .. } => slurp(alloc, requests),
-        Job::Due { .. }
-        | Job::Info
-        | Job::Check { .. }
-        | Job::Screen { .. }
-        | Job::Picture { .. }
-        | Job::Changes { .. }
-        | Job::Find { .. }
-        | Job::Reports { .. }
-        | Job::Page { .. }
-        | Job::Cast { .. }
-        | Job::Mend { .. } => Ok(Vec::new(alloc)),
-    }
 }

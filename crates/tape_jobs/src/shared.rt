@@ -1,5 +1,162 @@
-//! What several jobs share: sessions, edits and their faults, and the texts that a job writes and a session answers.
+//! What several jobs share: a session, its edits and their faults, and the texts that a job writes and a session answers.
 
-pub mod answers;
-pub mod editing;
-pub mod opening;
+ghost use Rattle.std.specs.Prelude.{◌≡◌, ◌≤◌, Err, IfErr, IfOk, OnOk, false, true};
+ghost use Rattle.std.specs.Fmt.{decimal};
+ghost use Rattle.tape_core.specs.Devices.{Puts, has_failed, is_flushed};
+ghost use Rattle.tape_seek.specs.Edits.{edit_fault};
+ghost use Rattle.tape_seek.specs.Moments.{term_at};
+ghost use Rattle.tape_seek.specs.State.{opened};
+ghost use Rattle.tape_jobs.specs.Endings.{JobPuts};
+ghost use Rattle.tape_jobs.specs.Info.{info_line, info_text};
+ghost use Rattle.tape_jobs.specs.Moment.{asked_text, hex_line};
+ghost use Rattle.tape_jobs.specs.Requests.{after_judging, course_of, fault_name};
+ghost use Rattle.tape_jobs.specs.Stored.{least_every, most_every};
+
+use crate::job::JobFault;
+use crate::laws::stops_join;
+use itoa::Buffer;
+use screen_print::{escaped, plain};
+use std::alloc::Global;
+use std::io::Write;
+use tape_core::laws::writers_join;
+use tape_core::{Fault, Recording, Watched, seconds_text};
+use tape_seek::{Edit, EditFault, Session, put_hex};
+use vt_term::{OutOfMemory, Profile};
+
+// ---- a session
+
+/// How many chunks lie between the terminals that a session stores, where the command line doesn't say.
+pub const EVERY: usize = 100;
+
+/// The fewest and the most that may lie between them.
+pub const LEAST_EVERY: usize = 1;
+
+pub const MOST_EVERY: usize = 1_000_000;
+
+/// Opens a session. Want of memory stops the job.
+pub fn open_session(
+    alloc: Global,
+    recording: Recording,
+    every: usize,
+    profile: Profile,
+) -> Result<Session, JobFault>
+    requires low { least_every ≤ every }
+    requires high { every ≤ most_every }
+    ensures ok { IfOk result (λ session. session ≡ opened profile recording every) }
+    ensures fault { IfErr result (λ fault. fault ≡ JobFault.Memory) }
+{
+    Session::open_as(alloc, recording, every, profile).map_err(|_| JobFault::Memory)
+}
+
+/// Makes an edit, or tells why it is refused, with nothing changed.
+pub fn make_edit(session: &mut Session, edit: Edit) -> Result<Option<EditFault>, OutOfMemory>
+    ensures fault { IfOk result (λ fault. fault ≡ edit_fault session.old.recording edit) }
+    ensures course { OnOk result (course_of session.new
+        ≡ after_judging (course_of session.old) edit (edit_fault session.old.recording edit)) }
+{
+    match session.apply(edit) {
+        Ok(()) => Ok(None),
+        Err(refused) => match refused.fault {
+            EditFault::OutOfMemory => Err(OutOfMemory),
+            fault => Ok(Some(fault)),
+        },
+    }
+}
+
+/// The code and the name of a fault.
+#[tactic(auto, unfolding(crate::specs::Requests::fault_name))]
+pub fn name_of(fault: EditFault) -> &'static str
+    ensures { result.now ≡ fault_name fault }
+{
+    match fault {
+        EditFault::NoSuchChunk => "E1 NoSuchChunk",
+        EditFault::DelayTooLarge => "E2 DelayTooLarge",
+        EditFault::ChunkTooLong => "E3 ChunkTooLong",
+        EditFault::TooManyChunks => "E4 TooManyChunks",
+        EditFault::TooManyBytes => "E5 TooManyBytes",
+        EditFault::BadRange => "E6 BadRange",
+        EditFault::OutOfMemory => "E7 OutOfMemory",
+        EditFault::BadLine => "E8 BadLine",
+    }
+}
+
+// ---- texts
+
+/// What is asked of a terminal at a moment.
+#[derive(Clone, Copy, Debug, PartialEq, Eq)]
+pub enum Asked {
+    /// Its screen, as plain text or as a text that draws it again.
+    Screen { escaped: bool },
+    /// All that it has sent.
+    Reports,
+}
+
+/// Writes what is asked of the terminal at the moment, and flushes. Nothing is written where memory is refused.
+#[tactic(auto, unfolding(crate::specs::Moment::screen_text))]
+pub fn put_moment<O: Write>(
+    session: &mut Session,
+    at: u64,
+    asked: Asked,
+    out: &mut Watched<O>,
+) -> Result<(), JobFault>
+    requires { has_failed out.old ≡ false }
+    ensures puts { JobPuts O.contents out.old out.new
+        (asked_text asked (term_at session.old.profile session.old.recording at)) result }
+    ensures flushed { OnOk result (is_flushed out.new ≡ true) }
+    ensures unwritten { result ≡ Err JobFault.Memory → out.new ≡ out.old }
+    ensures stays { course_of session.new ≡ course_of session.old }
+{
+    stops_join::<O>();
+    let view = session.seek(at)?;
+    match asked {
+        Asked::Screen { escaped: true } => escaped(view.terminal(), out)?,
+        Asked::Screen { escaped: false } => plain(view.terminal(), out)?,
+        Asked::Reports => put_hex_line(view.reports(), out)?,
+    }
+    Ok(())
+}
+
+/// Writes bytes in lower-case hexadecimal and then LF, and flushes.
+fn put_hex_line<O: Write>(bytes: &[u8], out: &mut Watched<O>) -> Result<(), Fault>
+    requires { has_failed out.old ≡ false }
+    ensures puts { Puts O.contents out.old out.new (hex_line bytes.now) result }
+    ensures flushed { OnOk result (is_flushed out.new ≡ true) }
+{
+    writers_join::<O>();
+    put_hex(bytes, out)?;
+    out.put(b"\n")?;
+    out.finish()?;
+    Ok(())
+}
+
+/// Writes the five lines.
+#[tactic(auto, unfolding(crate::specs::Info::info_text))]
+pub fn put_info<O: Write>(recording: &Recording, out: &mut Watched<O>) -> Result<(), Fault>
+    requires { has_failed out.old ≡ false }
+    ensures { Puts O.contents out.old out.new (info_text recording.now) result }
+{
+    writers_join::<O>();
+    put_number(b"chunks ", recording.chunks().len() as u64, out)?;
+    put_number(b"bytes ", recording.body_len(), out)?;
+    put_line(b"length ", seconds_text(recording.length()).as_bytes(), out)?;
+    put_number(b"header ", recording.header().len() as u64, out)?;
+    put_number(b"trailer ", recording.trailer().len() as u64, out)?;
+    Ok(())
+}
+
+/// Writes a line of a name and a number.
+fn put_number<O: Write>(name: &[u8], number: u64, out: &mut Watched<O>) -> Result<(), Fault>
+    requires { has_failed out.old ≡ false }
+    ensures { Puts O.contents out.old out.new (info_line name.now (decimal number)) result }
+{
+    put_line(name, Buffer::new().format(number).as_bytes(), out)
+}
+
+/// Writes a line of a name and a value.
+#[tactic(auto, unfolding(crate::specs::Info::info_line))]
+pub fn put_line<O: Write>(name: &[u8], value: &[u8], out: &mut Watched<O>) -> Result<(), Fault>
+    requires { has_failed out.old ≡ false }
+    ensures { Puts O.contents out.old out.new (info_line name.now value.now) result }
+{
+    out.put_all(&[name, value, b"\n"])
+}

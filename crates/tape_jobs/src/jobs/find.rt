@@ -7,7 +7,7 @@ ghost use Rattle.tape_jobs.specs.Endings.{JobPuts};
 
 use crate::job::JobFault;
 use crate::laws::stops_join;
-use crate::shared::opening::{EVERY, open_session};
+use crate::shared::{EVERY, open_session};
 use screen_print::find;
 use std::alloc::Global;
 use std::io::Write;

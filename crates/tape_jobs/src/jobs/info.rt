@@ -4,7 +4,7 @@ ghost use Rattle.std.specs.Prelude.{◌≡◌, false, true, OnOk};
 ghost use Rattle.tape_core.specs.Devices.{Puts, has_failed, is_flushed};
 ghost use Rattle.tape_jobs.specs.Info.{info_text};
 
-use crate::shared::answers::put_info;
+use crate::shared::put_info;
 use std::io::Write;
 use tape_core::laws::writers_join;
 use tape_core::{Fault, Recording, Watched};

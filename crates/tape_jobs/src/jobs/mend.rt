@@ -7,7 +7,7 @@ ghost use Rattle.tape_core.specs.Reading.{has_header};
 ghost use Rattle.tape_core.specs.declared.fault.Fault.TheVariants as fault;
 ghost use Rattle.tape_jobs.specs.Endings.{JobEnds, TookPartOfBoth, used, writers_of};
 ghost use Rattle.tape_jobs.specs.Mending.{MendEnds, ThreeEnd, pair_of, remains_of};
-ghost use Rattle.tape_jobs.specs.Output.{done_mending, ending_of_mend, mends};
+ghost use Rattle.tape_jobs.specs.Output.{done_mending, ending_of_mend};
 ghost use Rattle.tape_mend.specs.Mended.{mended, seen};
 ghost use Rattle.tape_mend.specs.Told.{losses_text};
 ghost use Rattle.tape_mend.specs.declared.opening.Header.{Header as How};
@@ -50,27 +50,6 @@ pub fn mend<S: Read, T: Read, O: Write, P: Write, L: Write>(
     match read_remains(alloc, header, script, timing) {
         Ok(mended) => outcome_of(write_and_tell(&ManuallyDrop::new(mended), out, out_timing, told)),
         Err(fault) => outcome_of(Err(JobFault::File(fault))),
-    }
-}
-
-/// Which line a job takes as the header that mends a pair of files, if it does.
-pub fn mends(job: Job) -> Option<Header>
-    ensures { result ≡ mends job }
-{
-    match job {
-        Job::Mend { header } => Some(header),
-        Job::Due { .. }
-        | Job::Info
-        | Job::Check { .. }
-        | Job::Screen { .. }
-        | Job::Picture { .. }
-        | Job::Changes { .. }
-        | Job::Find { .. }
-        | Job::Reports { .. }
-        | Job::Page { .. }
-        | Job::Cast { .. }
-        | Job::Save
-        | Job::Session { .. } => None,
     }
 }
 

@@ -8,8 +8,7 @@ ghost use Rattle.tape_jobs.specs.Moment.{asked_text};
 
 use crate::job::JobFault;
 use crate::laws::stops_join;
-use crate::shared::answers::{Asked, put_moment};
-use crate::shared::opening::{EVERY, open_session};
+use crate::shared::{Asked, EVERY, open_session, put_moment};
 use std::alloc::Global;
 use std::io::Write;
 use std::mem::ManuallyDrop;

@@ -8,7 +8,7 @@ ghost use Rattle.tape_jobs.specs.Moment.{drawn_text};
 
 use crate::job::JobFault;
 use crate::laws::stops_join;
-use crate::shared::opening::{EVERY, open_session};
+use crate::shared::{EVERY, open_session};
 use screen_picture::picture;
 use std::alloc::Global;
 use std::io::Write;

@@ -9,8 +9,7 @@ ghost use Rattle.tape_jobs.specs.Output.{saved_by};
 ghost use Rattle.tape_jobs.specs.Requests.{StopsEditing, course_after, course_of, edit_asked, refusal_of, saved};
 
 use crate::job::{Ending, Job, JobFault};
-use crate::shared::editing::make_edit;
-use crate::shared::opening::{EVERY, open_session};
+use crate::shared::{EVERY, make_edit, open_session};
 use std::alloc::Global;
 use std::io::Write;
 use std::mem::ManuallyDrop;

@@ -15,9 +15,10 @@ ghost use Rattle.tape_jobs.specs.Stored.{least_every, most_every};
 
 use crate::job::{Ending, JobFault};
 use crate::laws::stops_join;
-use crate::shared::answers::{Asked, put_info, put_line, put_moment};
-use crate::shared::editing::{make_edit, name_of};
-use crate::shared::opening::{LEAST_EVERY, MOST_EVERY, open_session};
+use crate::shared::{
+    Asked, LEAST_EVERY, MOST_EVERY, make_edit, name_of, open_session, put_info, put_line,
+    put_moment,
+};
 use screen_print::changes;
 use std::alloc::Global;
 use std::io::Write;

@@ -10,7 +10,7 @@ ghost use Rattle.tape_jobs.specs.declared.words.table.Subcommand.TheVariants.{Fi
 
 use super::table::{Argument, Subcommand, id_of, paths_of};
 use crate::job::Job;
-use crate::shared::opening::{EVERY, LEAST_EVERY, MOST_EVERY};
+use crate::shared::{EVERY, LEAST_EVERY, MOST_EVERY};
 use clap::ArgMatches;
 use std::alloc::{AllocError, Global};
 use tape_core::limits::LAST_MOMENT;

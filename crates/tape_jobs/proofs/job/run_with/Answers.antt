@@ -3,9 +3,9 @@ use Rattle.tape_jobs.specs.Endings.{JobEnds, used, writers_of}
 use Rattle.tape_jobs.specs.Mending.{remains_of}
 use Rattle.tape_jobs.specs.Output.{done_mending, done_on, mends, writes_timing}
 use Rattle.tape_jobs.specs.declared.job.Job.TheVariants.{Mend}
-use Rattle.tape_jobs.proofs.JobLemmas.{IsBefore, comes_by, comes_read, comes_refused, ends_performed, ends_unread}
+use Rattle.tape_jobs.proofs.JobLemmas.{IsBefore, comes_read, comes_refused, ends_performed, ends_unread}
 use Rattle.tape_jobs.proofs.MendLemmas.{comes_remade, comes_unmended, is_mend}
-use Rattle.tape_jobs.proofs.NoteLemmas.{ended_after, only_write}
+use Rattle.tape_jobs.proofs.NoteLemmas.{ended_after}
 use Rattle.tape_jobs.proofs.job.run_with.Goals as goal
 
 pub returns-in-Ok-clause-ends : goal.returns-in-Ok-clause-ends
@@ -16,18 +16,18 @@ returns-in-Ok-clause-ends g c =
       nothing = c.writers_join.ensures.nothing _ c.requires.out;
       nothing_timing = c.writers_join-2.ensures.nothing _ c.requires.out_timing;
     } in
-    let asked : mends c.args.job ≡ Some c.in-Some.header = search rules in
+    let asked : mends c.args.job ≡ Some c.in-Mend.header = search rules in
     let same : c.deref.result.now ≡ c.in-Ok.mended = search rules in
     let done = done_mending (remains_of c.in-Ok.mended) in
-    let ends = subst (λ job. JobEnds writers job done c.write_remains.result) (sym (is_mend c.args.job c.in-Some.header asked))
-    (subst (λ m. JobEnds writers (Mend c.in-Some.header) (done_mending (remains_of m)) c.write_remains.result) same
-    (c.write_remains.ensures.ends c.in-Some.header)) in
+    let ends = subst (λ job. JobEnds writers job done c.write_remains.result) (sym (is_mend c.args.job c.in-Mend.header asked))
+    (subst (λ m. JobEnds writers (Mend c.in-Mend.header) (done_mending (remains_of m)) c.write_remains.result) same
+    (c.write_remains.ensures.ends c.in-Mend.header)) in
     rw c.outcome_of.ensures
     (ends_performed before done
-    (λ files held. comes_remade c.args.job c.in-Some.header files (remains_of c.in-Ok.mended) asked
+    (λ files held. comes_remade c.args.job c.in-Mend.header files (remains_of c.in-Ok.mended) asked
     (c.in-Ok.ensures.ok files.script files.timing held.script held.timing))
     (let read = c.in-Ok.ensures.sound (λ e. absurd (cc)) in (read.0, read.1, c.requires.requests))
-    (λ _. refl) (λ alone. absurd (true≢false (sym (ap writes_timing (is_mend c.args.job c.in-Some.header asked)) ∙ alone)))
+    (λ _. refl) (λ alone. absurd (true≢false (sym (ap writes_timing (is_mend c.args.job c.in-Mend.header asked)) ∙ alone)))
     c.write_remains.result ends)
 
 pub returns-in-Err-clause-ends : goal.returns-in-Err-clause-ends
@@ -37,10 +37,10 @@ returns-in-Err-clause-ends g c =
       nothing = c.writers_join.ensures.nothing _ c.requires.out;
       nothing_timing = c.writers_join-2.ensures.nothing _ c.requires.out_timing;
     } in
-    let asked : mends c.args.job ≡ Some c.in-Some.header = search rules in
+    let asked : mends c.args.job ≡ Some c.in-Mend.header = search rules in
     rw c.outcome_of-in-Err.ensures
     (ends_unread before c.in-Err.fault
-    (λ unstopped files held. comes_unmended c.args.job c.in-Some.header files c.in-Err.fault asked
+    (λ unstopped files held. comes_unmended c.args.job c.in-Mend.header files c.in-Err.fault asked
     (c.in-Err.ensures.fault unstopped).0 ((c.in-Err.ensures.fault unstopped).1 files.script held.script))
     (λ other. let read = c.in-Err.ensures.sound (λ e. other (cc)) in (read.0, read.1, c.requires.requests))
     (λ e. elim (c.in-Err.ensures.read_fault e) [

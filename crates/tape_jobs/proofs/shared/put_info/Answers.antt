@@ -4,7 +4,7 @@ use Rattle.std.specs.Fmt.{decimal}
 use Rattle.tape_core.specs.Devices.{TookPart}
 use Rattle.tape_core.specs.declared.chunk.Chunk.{Chunk}
 use Rattle.tape_jobs.specs.Info.{info_line, info_text}
-use Rattle.tape_jobs.proofs.shared.answers.put_info.Goals as goal
+use Rattle.tape_jobs.proofs.shared.put_info.Goals as goal
 
 pub returns-in_err-put_number : goal.returns-in_err-put_number
 unfolding info_text
