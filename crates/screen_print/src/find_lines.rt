@@ -51,9 +51,9 @@ ghost use Rattle.screen_print.specs.Stills.{still_of};
 ghost use Rattle.screen_print.specs.Stops.{OnlySeeks, StopsWalk};
 
 use crate::glyphs::character;
-use crate::plain_print::printed_row;
+use crate::plain_print::{cells_of, printed_row};
 use crate::quiet::stays;
-use crate::standing::{Place, cells_of, found_rows, standing};
+use crate::standing::{Place, found_rows, standing};
 use crate::start::Start;
 use crate::still::Still;
 use crate::walk::{ChangesFault, ChunkPrinter, put_chunks};

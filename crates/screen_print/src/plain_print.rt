@@ -1,20 +1,21 @@
 //! The plain print: what stands on the screen, as text without renditions.
 
-ghost use Rattle.std.specs.Prelude.{◌≡◌, ◌+◌, ◌≤◌, length, OnOk, true, false};
+ghost use Rattle.std.specs.Prelude.{◌≡◌, ◌+◌, ◌≤◌, length, take, OnOk, true, false};
 ghost use Rattle.std.specs.List.{suffix_len};
-ghost use Rattle.vt_screen.specs.Cells.{row_at};
+ghost use Rattle.vt_screen.specs.Picture.{margin_of};
 ghost use Rattle.tape_core.specs.Devices.{Puts, has_failed, is_flushed};
+ghost use Rattle.screen_print.specs.FindLines.{row_text};
 ghost use Rattle.screen_print.specs.PlainText.{is_space, plain_text, printed_line, trimmed};
+ghost use Rattle.screen_print.specs.Quiet.{characters};
 
 use crate::glyphs::character;
-use crate::standing::cells_of;
 use arrayvec::ArrayString;
 use std::io::Write;
 use tape_core::laws::{pieces_join, writers_join};
 use tape_core::{Fault, Watched};
 use vt_screen::laws::screens_are_sound;
 use vt_screen::limits::{LINES, WIDE_COLUMNS};
-use vt_screen::{Cell, Row, Screen};
+use vt_screen::{Cell, Row, Screen, margin_of};
 use vt_term::Terminal;
 
 /// How many bytes a printed line has at most: three for each of 132 glyphs, and LF.
@@ -43,21 +44,10 @@ fn put_lines<W: Write>(screen: &Screen, writer: &mut Watched<W>) -> Result<(), F
     writers_join::<W>();
     screens_are_sound(screen);
     for line in 1..LINES + 1 {
-        let text = printed_line(screen, line);
+        let text = printed_row(screen.is_wide(), screen.row(line));
         writer.put(text.as_str().as_bytes())?;
     }
     Ok(())
-}
-
-/// A line of the screen as it is printed.
-fn printed_line(screen: &Screen, line: u8) -> ArrayString<LINE_BYTES>
-    requires low { 1 ≤ line }
-    requires high { line ≤ LINES }
-    ensures { result.bytes
-        ≡ printed_line screen.now.picture.wide (row_at screen.now.picture.rows line) }
-{
-    screens_are_sound(screen);
-    printed_row(screen.is_wide(), screen.row(line))
 }
 
 /// A row as it is printed, and LF.
@@ -72,6 +62,17 @@ pub(crate) fn printed_row(wide: bool, row: &Row) -> ArrayString<LINE_BYTES>
     }
     text.push('\n');
     text
+}
+
+/// The cells of a row from column 1 to its right margin.
+pub(crate) fn cells_of(wide: bool, row: &Row) -> &[Cell]
+    requires { length row.now.cells ≡ WIDE_COLUMNS }
+    ensures cells { result.now ≡ take (margin_of wide row.now.size) row.now.cells }
+    ensures few { length result.now ≤ WIDE_COLUMNS }
+    ensures text { characters result.now ≡ row_text wide row.now }
+    ensures some { 40 ≤ length result.now }
+{
+    &row.cells[..margin_of(wide, row.size) as usize]
 }
 
 /// The cells without the spaces at their end, whatever rendition those have.

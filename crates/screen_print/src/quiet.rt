@@ -33,7 +33,7 @@ ghost use Rattle.screen_print.specs.Start.{IsStart, starts_at};
 ghost use Rattle.screen_print.specs.Stills.{still_of};
 
 use crate::glyphs::character;
-use crate::standing::cells_of;
+use crate::plain_print::cells_of;
 use crate::start::{Start, may_start, may_start_at_end};
 use crate::still::Still;
 use vt_screen::laws::screens_are_sound;

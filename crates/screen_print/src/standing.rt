@@ -1,21 +1,21 @@
 //! Where a text stands on a screen.
 
-ghost use Rattle.std.specs.Prelude.{◌≡◌, ◌+◌, ◌-◌, ◌*◌, ◌≤◌, ◌++◌, All, drop, length, take, ◌==◌};
+ghost use Rattle.std.specs.Prelude.{◌≡◌, ◌+◌, ◌-◌, ◌*◌, ◌≤◌, ◌++◌, All, drop, length, ◌==◌};
 ghost use Rattle.std.specs.List.{suffix_len};
 ghost use Rattle.vt_screen.specs.Cells.{row_at};
-ghost use Rattle.vt_screen.specs.Picture.{margin_of};
 ghost use Rattle.screen_print.specs.FindLines.{begins, ends_line, found_rows, line_text_from, places_in, row_text, row_texts, rows_reaching, standing};
 ghost use Rattle.screen_print.specs.Places.{IsPlace};
 ghost use Rattle.screen_print.specs.Quiet.{characters};
 ghost use Rattle.screen_print.specs.Start.{IsStart};
 
 use crate::glyphs::character;
+use crate::plain_print::cells_of;
 use crate::quiet::{agrees, may_begin};
 use crate::start::Start;
 use crate::still::Still;
 use arrayvec::ArrayVec;
-use vt_screen::limits::{LINES, NARROW_COLUMNS, WIDE_COLUMNS};
-use vt_screen::{Cell, Row, Size};
+use vt_screen::limits::{LINES, WIDE_COLUMNS};
+use vt_screen::{Cell, margin_of};
 
 /// How many cells a row has.
 const ROW: usize = WIDE_COLUMNS as usize;
@@ -225,17 +225,6 @@ pub(crate) fn row_text(still: &Still, line: u8) -> ArrayVec<char, ROW>
     text
 }
 
-/// The cells of a row from column 1 to its right margin.
-pub(crate) fn cells_of(wide: bool, row: &Row) -> &[Cell]
-    requires { length row.now.cells ≡ WIDE_COLUMNS }
-    ensures cells { result.now ≡ take (margin_of wide row.now.size) row.now.cells }
-    ensures few { length result.now ≤ WIDE_COLUMNS }
-    ensures text { characters result.now ≡ row_text wide row.now }
-    ensures some { 40 ≤ length result.now }
-{
-    &row.cells[..margin_of(wide, row.size) as usize]
-}
-
 /// How many characters a row has as text.
 fn columns_of(still: &Still, line: u8) -> u8
     requires low { 1 ≤ line }
@@ -244,18 +233,4 @@ fn columns_of(still: &Still, line: u8) -> u8
     ensures high { result ≤ WIDE_COLUMNS }
 {
     margin_of(still.is_wide(), still.row(line).size)
-}
-
-/// The right margin of a row of a size.
-fn margin_of(wide: bool, size: Size) -> u8
-    ensures value { result ≡ margin_of wide size }
-    ensures low { 40 ≤ result }
-    ensures high { result ≤ WIDE_COLUMNS }
-{
-    let columns = if wide { WIDE_COLUMNS } else { NARROW_COLUMNS };
-    if size.is_single() {
-        columns
-    } else {
-        columns / 2
-    }
 }

@@ -207,9 +207,11 @@ pub(crate) fn columns_of(wide: bool) -> u8
     if wide { WIDE_COLUMNS } else { NARROW_COLUMNS }
 }
 
-/// The right margin of a line of a size.
-pub(crate) fn margin_of(wide: bool, size: Size) -> u8
-    ensures { result ≡ margin_of wide size }
+/// The right margin of a line of a size: the number of columns, or half of it on a double size (EK-VT100-UG chapter 3).
+pub fn margin_of(wide: bool, size: Size) -> u8
+    ensures value { result ≡ margin_of wide size }
+    ensures low { 40 ≤ result }
+    ensures high { result ≤ WIDE_COLUMNS }
 {
     if size.is_single() {
         columns_of(wide)

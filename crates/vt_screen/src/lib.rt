@@ -10,6 +10,6 @@ pub mod limits;
 mod rendition;
 mod screen;
 
-pub use cell::{Cell, Row, Size};
+pub use cell::{Cell, Row, Size, margin_of};
 pub use rendition::Rendition;
 pub use screen::{PackedScreen, Screen};

@@ -18,7 +18,7 @@ returns c =
       | then-is_single+then-not-is_single w ↦
           let cuts : is_single row.size && not (is_single size) ≡ true = grind arith in
           ap sized (w.self-is ∙ w.fill.ensures
-          ∙ ap (λ (n : ℕ). filled (n + 1) 132 w.blank.result row) w.margin_of.ensures
+          ∙ ap (λ (n : ℕ). filled (n + 1) 132 w.blank.result row) w.margin_of.ensures.value
           ∙ ap (λ (e : Cell). filled (margin_of c.args.wide size + 1) 132 e row) w.blank.ensures)
           ∙ resized_cut row c.args.wide size cuts
       | else-is_single w ↦

@@ -19,7 +19,7 @@ is_sized c =
     let p = picture_of c.self.inside in
     ap₂ (λ (rows : List Row) (k : ℕ). let q : Picture = record p { rows = rows; column = k; wrap = false } in q)
     (c.set_row.ensures.rows ∙ ap (λ (r : Row). with_row p.line r p.rows) (c.resize.ensures ∙ ap (resized p.wide c.args.size) c.row.ensures.value))
-    (c.min-self-inside.ensures ∙ ap (min p.column) c.margin_of.ensures)
+    (c.min-self-inside.ensures ∙ ap (min p.column) c.margin_of.ensures.value)
 
 pub invariant_of-self : goal.invariant_of-self
 invariant_of-self c = subst Sound (sym (is_sized c)) (sound_size_set (picture_of c.self.inside) c.self.invariant c.args.size)
