@@ -84,6 +84,3 @@ pub ink_within : (row : Row) → length row.cells ≡ 132 → (margin : ℕ)
 ink_within row full margin right =
     tail_is_longest is_blank row.cells blank margin
     (λ k low high. ap is_blank (sym (cell_next row k) ∙ right (k + 1) (omega arith)))
-
-pub ink_fits : (row : Row) → length row.cells ≡ 132 → ink row ≤ 132
-ink_fits row full = omega arith

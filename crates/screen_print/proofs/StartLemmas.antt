@@ -1,6 +1,6 @@
 -- Rows in which a text begins nowhere, told by the glyphs of three cells side by side.
 use Rattle.std.proofs.Common.{◌≡◌, ℕ, ◌+◌, ◌*◌, ◌%◌, ◌-◌, ◌<◌, ◌≤◌, Bool, true, false, List, ◌++◌, length, get_or, take, drop, nat_eq, nat_lt, refl, ap, sym, ◌∙◌, subst, arith, ◌||◌, ◌&&◌, inl, inr, ◌⊎◌, slice_index}
-use Rattle.std.specs.Int.Bits.{and_zero_r, bit_and}
+use Rattle.std.specs.Int.Bits.{bit_and}
 use Rattle.std.specs.List.{AllPass, starts_with}
 use Rattle.std.proofs.lemmas.Bool.{cases_lt, eq-eqb, false≢true, le-ltb, lt-ltb}
 use Rattle.std.proofs.lemmas.List.{drop-append-le, drop-map, get_or_default, get_or-drop, get_or-take, length-drop, length-map, length-take, take_all}
@@ -40,10 +40,6 @@ graphic glyph c low high is = elim (cases_lt glyph 32) [
       absurd (out_of c low high (rw special at out))
   | inr ge ↦ rw (le-ltb glyph 32 ge) at is
 ]
-
--- where any cell has what is wanted
-pub any_fits : (cell : Cell) → fits (record { mask = 0; bits = 0 }) cell ≡ true
-any_fits cell = eq-eqb _ 0 (and_zero_r (256 * byte_of cell.rendition + cell.glyph))
 
 -- a cell that shows a character of ASCII behind the space has its number
 pub shown_fits : (cell : Cell) (c : ℕ) → 33 ≤ c → c < 127 → character cell.glyph ≡ c → fits (record { mask = 255; bits = c }) cell ≡ true

@@ -1,5 +1,5 @@
 -- The texts of chunks, one after another.
-use Rattle.std.proofs.Common.{◌≡◌, ℕ, zero, suc, ◌+◌, ◌-◌, ◌<◌, ◌≤◌, Bool, true, false, ◌&&◌, List, [], ◌∷◌, ◌++◌, length, filter, nat_le, nat_lt, Option, None, Some, Result, Ok, Err, refl, ap, sym, ◌∙◌, arith, inl, inr, add-zero, append-nil}
+use Rattle.std.proofs.Common.{◌≡◌, ℕ, zero, suc, ◌+◌, ◌-◌, ◌<◌, ◌≤◌, Bool, true, false, ◌&&◌, List, [], ◌∷◌, ◌++◌, length, filter, nat_le, nat_lt, Option, None, Some, refl, ap, sym, ◌∙◌, arith, inl, inr, add-zero, append-nil}
 use Rattle.std.specs.List.{flat_map, range_with_len}
 use Rattle.std.proofs.lemmas.Bool.{cases_lt, lt-ltb, le-ltb, le-leb, lt-leb}
 use Rattle.std.proofs.lemmas.List.Concat.{flat_map-append}
@@ -11,7 +11,7 @@ use Rattle.tape_core.specs.Due.{due_count, due_time}
 use Rattle.tape_core.specs.Tape.{Tape}
 use Rattle.tape_core.specs.Law.{DueIsBelowTheCount}
 use Rattle.tape_seek.specs.Edits.{edited_all}
-use Rattle.tape_seek.specs.State.{KeepsHistory, Leaves, State}
+use Rattle.tape_seek.specs.State.{KeepsHistory, State}
 use Rattle.vt_term.specs.declared.profile.Profile.{Profile}
 use Rattle.screen_print.specs.Walk.{ChunkText, is_asked, still_after, text_at, walk_text}
 use Rattle.screen_print.specs.declared.walk.ChangesFault.{ChangesFault}
@@ -21,9 +21,6 @@ use Rattle.screen_print.proofs.RowLemmas.{range_more}
 
 -- ---- seeks
 
-pub only_seeks_none : (s : State) → OnlySeeks s s
-only_seeks_none s = record { profile = refl; recording = refl; log = refl; every = refl; frontier = omega arith }
-
 pub only_seeks_more : {a b c : State} → OnlySeeks a b → OnlySeeks b c → OnlySeeks a c
 only_seeks_more h k = record {
   profile = k.profile ∙ h.profile;
@@ -31,22 +28,6 @@ only_seeks_more h k = record {
   log = k.log ∙ h.log;
   every = k.every ∙ h.every;
   frontier = omega (arith, h.frontier, k.frontier);
-}
-
-pub leaves_only_seeks : {T E : Type 0} (result : Result T E) (count : ℕ) (old new : State) → Leaves result count old new → OnlySeeks old new
-leaves_only_seeks (Ok x) count old new h = record {
-  profile = ap (λ (s : State). s.profile) h;
-  recording = ap (λ (s : State). s.recording) h;
-  log = ap (λ (s : State). s.log) h;
-  every = ap (λ (s : State). s.every) h;
-  frontier = rw h (omega arith);
-}
-leaves_only_seeks (Err e) count old new h = record {
-  profile = ap (λ (s : State). s.profile) h;
-  recording = ap (λ (s : State). s.recording) h;
-  log = ap (λ (s : State). s.log) h;
-  every = ap (λ (s : State). s.every) h;
-  frontier = rw h (omega arith);
 }
 
 pub seeks_keep_history : (old new : State) → OnlySeeks old new → KeepsHistory old new

@@ -100,15 +100,6 @@ scanned_piece old mid new s f pieces i d within one two =
     ∙ ap (λ (l : List ℕ). flat_map f (take i pieces) ++ l) (append-nil (f (get_or pieces i d)))))
     (scanned_append old mid new s (flat_map f (take i pieces)) (f (get_or pieces i d)) one two)
 
--- one more parameter
-pub counted_piece : {X : Type 0} (start : List (List ℕ × ℕ)) (f : X → List (List ℕ)) (pieces : List X) (i : ℕ) (d : X) → i < length pieces
-    → fold counted start (flat_map f (take (i + 1) pieces)) ≡ fold counted (fold counted start (flat_map f (take i pieces))) (f (get_or pieces i d))
-counted_piece start f pieces i d within =
-    ap (fold counted start) (ap (flat_map f) (take_more pieces i d within)
-    ∙ flat_map-append f (take i pieces) (get_or pieces i d ∷ [])
-    ∙ ap (λ (l : List (List ℕ)). flat_map f (take i pieces) ++ l) (append-nil (f (get_or pieces i d))))
-    ∙ fold-append counted start (flat_map f (take i pieces)) (f (get_or pieces i d))
-
 -- ---- what the parser takes
 
 pub first_taken : (n : ℕ) (bytes : List ℕ) → 0 < n → get_or (take n bytes) 0 0 ≡ get_or bytes 0 0

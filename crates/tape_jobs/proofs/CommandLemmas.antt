@@ -15,7 +15,7 @@ use Rattle.clap.specs.declared.parser.matches.ArgMatches.TheViews.{out-SubComman
 use Rattle.clap.specs.declared.parser.matches.SubCommand.{SubCommand}
 use Rattle.clap.specs.declared.Error.{Error}
 use Rattle.clap.specs.declared.error.ErrorKind.TheVariants.{OutOfMemory}
-use Rattle.std.proofs.Common.{ℕ, ◌+◌, ◌<◌, ◌≤◌, ◌++◌, map, take, length, get_or, Ok, Err, arith, append-nil, append_assoc, lit≤, suc, below_more}
+use Rattle.std.proofs.Common.{ℕ, ◌+◌, ◌<◌, ◌≤◌, ◌++◌, map, take, length, get_or, Ok, Err, arith, append_assoc, lit≤, suc, below_more}
 use Rattle.std.specs.Option.{option_and_then}
 use Rattle.std.specs.Str.{bytes_eq}
 use Rattle.std.proofs.lemmas.List.{get_or_default, map-append, take_all, take_more}
@@ -130,10 +130,6 @@ pub named_by : (words : List Text) (m : ArgMatches) → clap_faults words ≡ []
 named_by words m taken e some =
     let found = (out-ArgMatches m).subcommand in
     named_if (subcommand_name_of m) (subcommand_rows_of m) words taken (name_and_rows found) (sym (has_rows found) ∙ some) e
-
--- a command with no further argument
-pub with_rules_none : (a : App) → a ≡ with_rules a []
-with_rules_none a = ap (λ l. record a { top = record a.top { rules = l } }) (sym (append-nil a.top.rules))
 
 -- a command with one argument more
 pub with_rules_more : (a b : App) (arguments : List Argument) (i : ℕ) (d : Argument) (r : Rule)

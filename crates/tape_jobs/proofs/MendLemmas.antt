@@ -1,14 +1,13 @@
 -- What mending comes to, and how it ends.
-use Rattle.std.proofs.Common.{◌≡◌, ◌≢◌, ◌⊎◌, Bool, ℕ, true, false, List, [], refl, sym, ap, ◌∙◌, subst, inl, inr, Option, Some, None, Result, Ok, Err, if◌then◌else◌}
+use Rattle.std.proofs.Common.{◌≡◌, ◌≢◌, ◌⊎◌, ℕ, true, false, List, [], refl, sym, ap, ◌∙◌, subst, inl, inr, Some, Result, Ok, Err, if◌then◌else◌}
 use Rattle.tape_core.specs.Devices.{Took, inner_of}
 use Rattle.tape_core.specs.Faults.{is_stop}
 use Rattle.tape_core.specs.Reading.{has_header}
 use Rattle.tape_core.specs.declared.fault.Fault.{Fault}
-use Rattle.tape_core.specs.declared.fault.Fault.TheVariants.{NoHeader, OutOfMemory, ReadFault, WriteFault}
+use Rattle.tape_core.specs.declared.fault.Fault.TheVariants.{NoHeader, ReadFault, WriteFault}
 use Rattle.tape_jobs.proofs.JobLemmas.{comes_by, is_not, stops}
-use Rattle.tape_jobs.specs.Endings.{Device, HasFailed, IsDone, TookBoth, TookPartOfBoth, Writers}
+use Rattle.tape_jobs.specs.Endings.{Device, HasFailed, TookBoth, TookPartOfBoth, Writers}
 use Rattle.tape_jobs.specs.Mending.{AWriterFailed, IsRead, IsSilent, MendEnds, OnPair, Pair, StoppedInThree, ThreeEnd, told_by}
-use Rattle.tape_jobs.specs.Notes.{played_by}
 use Rattle.tape_jobs.specs.Output.{Comes, Done, Files, done_mending, mended_by, mends, outcome_by, refused_with}
 use Rattle.tape_jobs.specs.declared.job.Ending.{Ending}
 use Rattle.tape_jobs.specs.declared.job.Job.{Job}
@@ -18,7 +17,6 @@ use Rattle.tape_jobs.specs.declared.job.JobFault.TheVariants.{File}
 use Rattle.tape_mend.specs.Mended.{Remains, mended, seen}
 use Rattle.tape_mend.specs.Told.{losses_text}
 use Rattle.tape_mend.specs.declared.opening.Header.{Header}
-use Rattle.vt_term.specs.declared.profile.Profile.{Profile}
 
 -- where a writer of both files stopped, it has failed
 pub one_failed : {O P L : Type 0} (writers : Writers O P) (told : Device L) (done : Done) → TookPartOfBoth writers done true
@@ -43,10 +41,6 @@ is_mend (jobs.Cast profile) how e = absurd (cc)
 is_mend jobs.Save how e = absurd (cc)
 is_mend (jobs.Mend other) how e = let same : other ≡ how = cc in ap (λ h. jobs.Mend h) same
 is_mend (jobs.Session every profile) how e = absurd (cc)
-
--- it plays nothing
-pub plays_nothing : (job : Job) (how : Header) → mends job ≡ Some how → played_by job ≡ None
-plays_nothing job how e = ap played_by (is_mend job how e)
 
 module _ (how : Header) (script timing : List ℕ) where
   -- where no line can be the header

@@ -1,5 +1,5 @@
 -- Which faults of a job come once its recording was read.
-use Rattle.std.proofs.Common.{◌≡◌, ℕ, true, false, List, refl, ap, inl, inr, Option, Some, None, Result, Ok, Err}
+use Rattle.std.proofs.Common.{◌≡◌, ℕ, true, List, refl, ap, inl, inr, Option, Some, None, Result, Ok, Err}
 use Rattle.tape_core.specs.Tape.{Tape}
 use Rattle.tape_core.specs.Text.{lines_of}
 use Rattle.tape_core.specs.declared.fault.Fault.{Fault}

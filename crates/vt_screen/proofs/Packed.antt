@@ -7,13 +7,12 @@ use Rattle.std.proofs.lemmas.List.{length-set, get_or-set_same, get_or-set_other
 use Rattle.vt_screen.specs.declared.cell.Cell.{Cell}
 use Rattle.vt_screen.specs.declared.cell.Row.{Row}
 use Rattle.vt_screen.specs.declared.cell.Size.{Size}
-use Rattle.vt_screen.specs.declared.cell.Size.TheVariants.{Single}
 use Rattle.vt_screen.specs.declared.screen.packed.PackedScreen.TheInside.{Inside as Fields}
 use Rattle.vt_screen.specs.declared.screen.packed.Part.{Part}
 use Rattle.vt_screen.specs.Attributes.{Attributes, bit, byte_of, plain}
 use Rattle.vt_screen.specs.Table.{table, nth}
 use Rattle.vt_screen.specs.Cells.{blank, blank_cells, blank_row, cell_at, row_at, rows_by}
-use Rattle.vt_screen.specs.Packed.{ArePacked, AreUsed, IsPacked, IsPart, IsUsed, packed_picture, part_at, unpacked}
+use Rattle.vt_screen.specs.Packed.{ArePacked, AreUsed, IsPart, IsUsed, packed_picture, part_at, unpacked}
 use Rattle.vt_screen.specs.Puts.{with_row}
 use Rattle.vt_screen.specs.Slots.{Held, rows_of}
 use Rattle.vt_screen.proofs.Rows.{blank_whole, row_is}
@@ -180,13 +179,6 @@ packed_all held cells parts packed =
     let rows = rows_of held in
     table_ext 24 (λ line. unpacked cells (part_at parts line)) (row_at rows) (λ k low high. packed.row k low (omega arith))
     ∙ sym (table_is blank_row 24 rows (length-table 24 _))
-
--- a row of a packed screen, by its part
-pub part_read : (s : Fields) (line : ℕ) (part : Part) → IsPacked s → 1 ≤ line → line ≤ 24
-    → part ≡ get_or s.parts (line - 1) part → part ≡ part_at s.parts line
-part_read s line part packed low high is =
-    is ∙ get_or_default s.parts (line - 1) part (record { size = Single; from = 0; len = 0 }) (omega (arith, packed.parts))
-    ∙ sym (nth_is (record { size = Single; from = 0; len = 0 }) s.parts line)
 
 pub row_read : (s : Fields) (line : ℕ) → 1 ≤ line → line ≤ 24
     → row_at (packed_picture s).rows line ≡ unpacked s.cells.items (part_at s.parts line)

@@ -2,7 +2,7 @@
 use Rattle.std.specs.Prelude.{ℕ, Bool, true, false, List, replicate}
 use Rattle.vt_screen.specs.declared.cell.Cell.{Cell}
 use Rattle.vt_screen.specs.declared.cell.Size.{Size}
-use Rattle.vt_screen.specs.declared.cell.Size.TheVariants.{Single, Double, Top, Bottom}
+use Rattle.vt_screen.specs.declared.cell.Size.TheVariants.{Single}
 use Rattle.vt_screen.specs.declared.cell.Row.{Row}
 use Rattle.vt_screen.specs.Attributes.{plain}
 use Rattle.vt_screen.specs.Table.{table, nth}

@@ -1,6 +1,6 @@
-use Rattle.std.proofs.Common.{◌<◌, ◌≤◌, ◌+◌, [], length, get_or, ap, arith}
+use Rattle.std.proofs.Common.{◌<◌, [], length, get_or, ap, arith}
 use Rattle.std.proofs.lemmas.List.{get_or_default}
-use Rattle.tape_core.specs.Tape.{body_len, longest_body}
+use Rattle.tape_core.specs.Tape.{body_len}
 use Rattle.tape_core.specs.declared.chunk.Chunk.{Chunk}
 use Rattle.tape_tests.proofs.recording.edits.replace.Goals as goal
 
