@@ -15,7 +15,7 @@ use Rattle.vt_parser.specs.Forms.{is_control_sequence_text, is_control_sequence_
 use Rattle.vt_parser.specs.Machine.{Transition, moves_to, gives, digit_joined, semicolon_joined, control_sequence_joined, joined, stepped, formless_at, Runs, Passes, Arrives}
 use Rattle.vt_parser.specs.Reading.{GoesOn}
 use Rattle.vt_parser.proofs.ManyBytes.{arrives_more, arrives_push, runs_more}
-use Rattle.vt_parser.proofs.Table.{control_actions}
+use Rattle.vt_parser.proofs.Table.{control_on_ground}
 use Rattle.vt_parser.proofs.Whole.{joins, escape_begins}
 
 -- ---- bytes of a text
@@ -98,7 +98,7 @@ runs_one state mode (byte ∷ rest) step some is = record { runs = is; passes = 
 control_steps : (mode : Mode) (byte : ℕ) → is_within 8 15 byte ≡ true
     → stepped Ground mode byte ≡ record { state = Ground; command = Some (command.Control byte) }
 unfolding stepped
-control_steps mode byte is = let kind = control_actions byte is in simp (kind, is)
+control_steps mode byte is = let kind = control_on_ground byte is in simp (kind, is)
 
 pub control_runs : (state : ParserState) (mode : Mode) (bytes : List ℕ) → 0 < length bytes → state ≡ Ground
     → is_within 8 15 (get_or bytes 0 0) ≡ true

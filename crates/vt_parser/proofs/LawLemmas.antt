@@ -17,7 +17,7 @@ use Rattle.vt_parser.specs.Forms.{is_intermediate, is_escape_final, is_control_s
 use Rattle.vt_parser.specs.Step.{context_of, command_by, pending_by, command_of, pending_after}
 use Rattle.vt_parser.specs.Law.{IsFrom, IsProper, is_sequence, fewest_bytes, fewest_of, CommandsAreProper, FinishedLeavesNothing, PendingPays, GraphicIsShown, ControlIsGiven}
 use Rattle.vt_parser.proofs.Joins.{whole_with, meaning_with, is_whole_push, meaning_push}
-use Rattle.vt_parser.proofs.Table.{fits, fit, graphic_actions, control_actions}
+use Rattle.vt_parser.proofs.Table.{fits, fit, graphic_on_ground, control_on_ground}
 use Rattle.vt_parser.proofs.Agrees.{same_context}
 use Rattle.vt_parser.proofs.Shapes.{shows_none}
 
@@ -120,12 +120,12 @@ finished_leaves_nothing m p byte command gives =
 
 pub graphic_is_shown : GraphicIsShown
 unfolding command_of pending_after
-graphic_is_shown m byte is = let kind = graphic_actions byte is in let at = same_context m [] _ (shows_none m) in (simp (kind, at), simp (kind, at))
+graphic_is_shown m byte is = let kind = graphic_on_ground byte is in let at = same_context m [] _ (shows_none m) in (simp (kind, at), simp (kind, at))
 
 pub control_is_given : ControlIsGiven
 unfolding command_of pending_after
 control_is_given m byte is =
-    let kind = control_actions byte is in let at = same_context m [] _ (shows_none m) in (simp (kind, at, is), simp (kind, at))
+    let kind = control_on_ground byte is in let at = same_context m [] _ (shows_none m) in (simp (kind, at, is), simp (kind, at))
 
 -- no byte of a run is anything but a graphic character
 pub runs_are_graphic : (bytes : List ℕ) (n : ℕ) → n ≤ prefix_len is_graphic bytes → list_all is_graphic (take n bytes) ≡ true

@@ -5,7 +5,7 @@ use Rattle.vt_parser.specs.declared.syntax.Context.{Context}
 use Rattle.vt_parser.specs.declared.syntax.Context.TheVariants.{Ground, Sequence, Text}
 use Rattle.vt_parser.specs.declared.syntax.Action.{Action}
 use Rattle.vt_parser.specs.declared.syntax.Action.TheVariants.{Print, Execute, Ignore, Begin, Join, End, Cancel}
-use Rattle.vt_parser.specs.Syntax.{escape, is_within, is_graphic, actions_by, actions_of, action_of}
+use Rattle.vt_parser.specs.Syntax.{escape, is_within, is_graphic, actions_of, action_of}
 use Rattle.vt_parser.specs.Ahead.{is_print, is_join, is_begin, Idles}
 
 abbrev pub is_sequence : Context → Bool
@@ -26,11 +26,17 @@ fit Ground byte = grind (arith, nat_tests)
 fit Sequence byte = grind (arith, nat_tests)
 fit Text byte = grind (arith, nat_tests)
 
-pub graphic_actions : (byte : ℕ) → is_graphic byte ≡ true → actions_of byte ≡ actions_by Print Join Ignore
-graphic_actions byte is = grind (arith, nat_tests)
+pub graphic_on_ground : (byte : ℕ) → is_graphic byte ≡ true → action_of Ground byte ≡ Print
+graphic_on_ground byte is = grind (arith, nat_tests)
 
-pub control_actions : (byte : ℕ) → is_within 8 15 byte ≡ true → actions_of byte ≡ actions_by Execute Execute Ignore
-control_actions byte is = grind (arith, nat_tests)
+pub graphic_in_sequence : (byte : ℕ) → is_graphic byte ≡ true → action_of Sequence byte ≡ Join
+graphic_in_sequence byte is = grind (arith, nat_tests)
+
+pub graphic_in_string : (byte : ℕ) → is_graphic byte ≡ true → action_of Text byte ≡ Ignore
+graphic_in_string byte is = grind (arith, nat_tests)
+
+pub control_on_ground : (byte : ℕ) → is_within 8 15 byte ≡ true → action_of Ground byte ≡ Execute
+control_on_ground byte is = grind (arith, nat_tests)
 
 -- ---- what is decided ahead of the table
 

@@ -27,7 +27,7 @@ use Rattle.vt_parser.proofs.LawLemmas.{commands_are_proper, graphic_is_shown}
 use Rattle.vt_parser.proofs.Agrees.{same_command, ground_is_empty}
 use Rattle.vt_parser.proofs.Endings.{none_behind}
 use Rattle.vt_parser.proofs.ManyBytes.{runs_agree}
-use Rattle.vt_parser.proofs.Table.{graphic_actions}
+use Rattle.vt_parser.proofs.Table.{graphic_on_ground}
 
 -- ---- states
 
@@ -57,7 +57,7 @@ leads state given bytes step runs = λ mode pending view. (runs_agree given mode
 
 ground_stays : (given : Mode) (byte : ℕ) → is_graphic byte ≡ true → (stepped Ground given byte).state ≡ Ground
 unfolding stepped
-ground_stays given byte is = let kind = graphic_actions byte is in simp kind
+ground_stays given byte is = let kind = graphic_on_ground byte is in simp kind
 
 none_stays : (given mode : Mode) (bytes : List ℕ) → list_all is_graphic bytes ≡ true → pending_after_bytes given mode [] bytes ≡ []
 none_stays given mode [] graphic = refl

@@ -21,21 +21,21 @@ use Rattle.vt_parser.proofs.Agrees.{ground_is_empty}
 use Rattle.vt_parser.proofs.Growing.{control_sequence_joins}
 use Rattle.vt_parser.proofs.ManyBytes.{runs_more, runs_agree}
 use Rattle.vt_parser.proofs.Shapes.{shows_none}
-use Rattle.vt_parser.proofs.Table.{graphic_actions}
+use Rattle.vt_parser.proofs.Table.{graphic_in_sequence, graphic_in_string}
 
 -- ---- steps of the machine
 
 pub joins : (state : ParserState) (mode : Mode) (byte : ℕ) → context_in state ≡ context.Sequence
     → is_graphic byte ≡ true → stepped state mode byte ≡ joined state byte
 unfolding stepped
-joins state mode byte inside graphic = let kind = graphic_actions byte graphic in simp (inside, kind)
+joins state mode byte inside graphic = let kind = graphic_in_sequence byte graphic in simp (inside, kind)
 
 -- a graphic character where it isn't shown; in a string it is skipped
 pub joins_off : (state : ParserState) (mode : Mode) (byte : ℕ) → (state ≡ Ground → ⊥) → is_graphic byte ≡ true
     → stepped state mode byte ≡ joined state byte
 unfolding stepped joined
 joins_off Ground mode byte off graphic = absurd (off refl)
-joins_off Text mode byte off graphic = let kind = graphic_actions byte graphic in simp kind
+joins_off Text mode byte off graphic = let kind = graphic_in_string byte graphic in simp kind
 joins_off state mode byte off graphic = joins state mode byte refl graphic
 
 -- ESC begins a sequence wherever it comes

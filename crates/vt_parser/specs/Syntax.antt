@@ -4,7 +4,6 @@ use Rattle.vt_parser.specs.declared.syntax.Context.{Context}
 use Rattle.vt_parser.specs.declared.syntax.Context.TheVariants.{Ground, Sequence, Text}
 use Rattle.vt_parser.specs.declared.syntax.Action.{Action}
 use Rattle.vt_parser.specs.declared.syntax.Action.TheVariants.{Ignore, Execute, Print, Mark, Begin, Join, End, Cancel}
-use Rattle.vt_parser.specs.declared.syntax.Actions.{Actions}
 
 -- the byte ESC (ECMA-48 section 5.2)
 abbrev pub escape : ℕ
@@ -19,9 +18,10 @@ abbrev pub is_graphic : ℕ → Bool
 is_graphic byte = is_within 32 126 byte
 
 -- what is done with a byte on ground, inside a sequence and inside a string
-abbrev pub actions_by : Action → Action → Action → Actions
-actions_by on_ground in_sequence in_string =
-    record { on_ground = on_ground; in_sequence = in_sequence; in_string = in_string }
+pub record Actions : Type 0 where
+  pub on_ground : Action
+  pub in_sequence : Action
+  pub in_string : Action
 
 -- a row of the table: the bytes from first to last, and what is done with each of them
 pub record SyntaxRow : Type 0 where
@@ -32,7 +32,11 @@ pub record SyntaxRow : Type 0 where
 -- the same, cell by cell
 abbrev pub row : ℕ → ℕ → Action → Action → Action → SyntaxRow
 row first last on_ground in_sequence in_string =
-    record { first = first; last = last; actions = actions_by on_ground in_sequence in_string }
+    record {
+      first = first;
+      last = last;
+      actions = record { on_ground = on_ground; in_sequence = in_sequence; in_string = in_string };
+    }
 
 -- The table of the control syntax (EK-VT100-UG chapter 3; BEL in a string, CAN and SUB, and the bytes from 128 on:
 -- ours).
@@ -54,19 +58,15 @@ table =
 
 -- the row of a list that has a byte
 abbrev pub actions_in : List SyntaxRow → ℕ → Actions
-actions_in [] byte = actions_by Ignore Ignore Ignore
+actions_in [] byte = record { on_ground = Ignore; in_sequence = Ignore; in_string = Ignore }
 actions_in (row ∷ rest) byte = if is_within row.first row.last byte then row.actions else actions_in rest byte
 
 -- the row of the table that has a byte
 abbrev pub actions_of : ℕ → Actions
 actions_of byte = actions_in table byte
 
--- its cell for where the byte comes
-abbrev pub action_at : Actions → Context → Action
-action_at actions Ground = actions.on_ground
-action_at actions Sequence = actions.in_sequence
-action_at actions Text = actions.in_string
-
--- what is done with a byte
+-- what is done with a byte, by where it comes
 abbrev pub action_of : Context → ℕ → Action
-action_of context byte = action_at (actions_of byte) context
+action_of Ground byte = (actions_of byte).on_ground
+action_of Sequence byte = (actions_of byte).in_sequence
+action_of Text byte = (actions_of byte).in_string

@@ -3,7 +3,7 @@
 //! `specs/Syntax` has the same table, row by row. What is decided ahead of it, for speed, stands below it: `machine`
 //! and `runs` name no byte of their own.
 ghost use Rattle.std.specs.Prelude.{◌≡◌, ◌==◌, true};
-ghost use Rattle.vt_parser.specs.Syntax.{escape, is_within, is_graphic, actions_by, actions_of, action_at, action_of};
+ghost use Rattle.vt_parser.specs.Syntax.{escape, is_within, is_graphic, actions_of, action_of};
 ghost use Rattle.vt_parser.specs.Ahead.{is_print, is_join, is_begin, Idles};
 
 /// Where a byte comes.
@@ -37,25 +37,6 @@ pub enum Action {
 
 use Action::{Begin, Cancel, End, Execute, Ignore, Join, Mark, Print};
 
-/// A row of the table, without its bytes.
-#[derive(Clone, Copy)]
-pub struct Actions {
-    pub on_ground: Action,
-    pub in_sequence: Action,
-    pub in_string: Action,
-}
-
-#[inline]
-fn actions_by(on_ground: Action, in_sequence: Action, in_string: Action) -> Actions
-    ensures { result ≡ actions_by on_ground in_sequence in_string }
-{
-    Actions {
-        on_ground,
-        in_sequence,
-        in_string,
-    }
-}
-
 // ---- the table
 
 const NUL: u8 = 0;
@@ -88,43 +69,29 @@ const TILDE: u8 = 126;
 
 const DEL: u8 = 127;
 
-// On ground, inside a sequence, in a string.
-#[inline]
-fn actions_of(byte: u8) -> Actions
-    ensures { result ≡ actions_of byte }
-{
-    match byte {
-        NUL..=ACK => actions_by(Execute, Execute, Ignore),
-        BEL => actions_by(Ignore, Ignore, End),
-        BS..=ETB => actions_by(Execute, Execute, Ignore),
-        CAN => actions_by(Ignore, Cancel, Cancel),
-        EM => actions_by(Execute, Execute, Ignore),
-        SUB => actions_by(Ignore, Cancel, Cancel),
-        ESC => actions_by(Begin, Begin, Begin),
-        FS..=US => actions_by(Execute, Execute, Ignore),
-        SPACE..=TILDE => actions_by(Print, Join, Ignore),
-        DEL => actions_by(Ignore, Ignore, Ignore),
-        128..=255 => actions_by(Mark, Ignore, Ignore),
-    }
-}
-
-#[inline]
-fn action_at(actions: Actions, context: Context) -> Action
-    ensures { result ≡ action_at actions context }
-{
-    match context {
-        Context::Ground => actions.on_ground,
-        Context::Sequence => actions.in_sequence,
-        Context::Text => actions.in_string,
-    }
-}
-
-/// What is done with a byte that comes in a context.
+/// What is done with a byte that comes in a context. The table says it on ground, inside a sequence, and in a string.
 #[inline]
 pub(crate) fn action_of(context: Context, byte: u8) -> Action
     ensures { result ≡ action_of context byte }
 {
-    action_at(actions_of(byte), context)
+    let (on_ground, in_sequence, in_string) = match byte {
+        NUL..=ACK => (Execute, Execute, Ignore),
+        BEL => (Ignore, Ignore, End),
+        BS..=ETB => (Execute, Execute, Ignore),
+        CAN => (Ignore, Cancel, Cancel),
+        EM => (Execute, Execute, Ignore),
+        SUB => (Ignore, Cancel, Cancel),
+        ESC => (Begin, Begin, Begin),
+        FS..=US => (Execute, Execute, Ignore),
+        SPACE..=TILDE => (Print, Join, Ignore),
+        DEL => (Ignore, Ignore, Ignore),
+        128..=255 => (Mark, Ignore, Ignore),
+    };
+    match context {
+        Context::Ground => on_ground,
+        Context::Sequence => in_sequence,
+        Context::Text => in_string,
+    }
 }
 
 // ---- what is decided ahead of the table, and what the table says of it
@@ -145,7 +112,7 @@ pub(crate) fn is_graphic(byte: u8) -> bool
 
 /// A control character that has an effect, BS to SI: the table executes it on ground.
 #[inline]
-#[tactic(auto, using(crate::proofs::Table::control_actions))]
+#[tactic(auto, using(crate::proofs::Table::control_on_ground))]
 pub(crate) fn is_effective(byte: u8) -> bool
     ensures value { result ≡ is_within 8 15 byte }
     ensures executed { result ≡ true → (actions_of byte).on_ground ≡ Action.Execute }
