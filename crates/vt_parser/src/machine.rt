@@ -2,7 +2,7 @@
 //! the top: bytes go by the table of the control syntax, and the text of a control sequence by `control_sequence`.
 ghost use Rattle.std.specs.Prelude.{◌≡◌, ◌≢◌, ◌==◌, ℕ, ◌≤◌, ◌<◌, List, length, take, slice_index, true, false, None};
 ghost use Rattle.std.specs.List.{list_all, prefix_len};
-ghost use Rattle.vt_parser.specs.Syntax.{is_within, is_graphic};
+ghost use Rattle.vt_parser.specs.Syntax.{is_graphic};
 ghost use Rattle.vt_parser.specs.Forms.{most_params};
 ghost use Rattle.vt_parser.specs.Step.{control_of};
 ghost use Rattle.vt_parser.specs.Machine.{context_in, begun, escape_joined, joined, stepped};
@@ -15,6 +15,10 @@ use crate::forms::{
 use crate::syntax::{Action, Context, action_of, is_effective, is_graphic, is_nul};
 use crate::tokens::Event;
 use crate::{Mode, ParserState, printable_run};
+use ParserState::{
+    Csi, CsiIgnored, CsiStart, Escape, EscapeMany, EscapeOne, Ground, Text, Vt52Column, Vt52Escape,
+    Vt52Line,
+};
 
 /// How many bytes are shown just as they come: on ground the graphic ones, and none inside a sequence.
 #[inline(always)]
@@ -28,7 +32,7 @@ pub(crate) fn run_at(state: &ParserState, bytes: &[u8]) -> usize
         → state.now ≢ ParserState.Ground }
 {
     match state {
-        ParserState::Ground if is_graphic(bytes[0]) => printable_run(bytes),
+        Ground if is_graphic(bytes[0]) => printable_run(bytes),
         _ => 0,
     }
 }
@@ -53,7 +57,8 @@ pub(crate) fn read(
     let byte = bytes[0];
     if is_graphic(byte) {
         read_graphic(state, params, bytes)
-    } else if is_executed(state, byte) {
+    } else if matches!(state, Ground) && is_effective(byte) {
+        // The table says so too, and takes longer.
         (1, Some(Event::Control(byte)))
     } else if is_nul(byte) {
         (nul_run(bytes), None)
@@ -63,18 +68,6 @@ pub(crate) fn read(
 }
 
 // ---- ahead of the table
-
-// A control character on ground that has an effect. The table says so too, and takes longer.
-#[inline(always)]
-fn is_executed(state: &ParserState, byte: u8) -> bool
-    ensures ground { result ≡ true → state.now ≡ ParserState.Ground }
-    ensures effective { result ≡ true → is_within 8 15 byte ≡ true }
-{
-    match state {
-        ParserState::Ground => is_effective(byte),
-        _ => false,
-    }
-}
 
 // How many NULs the bytes begin with.
 #[inline(always)]
@@ -106,8 +99,8 @@ fn read_graphic(
     ensures runs { (mode : Mode) → Reads state.old mode bytes.now result params.new state.new }
 {
     match state {
-        ParserState::CsiStart => read_first(state, params, bytes),
-        ParserState::Csi {
+        CsiStart => read_first(state, params, bytes),
+        Csi {
             private,
             params: held,
             over,
@@ -133,9 +126,9 @@ fn act(state: &mut ParserState, mode: Mode, byte: u8) -> Option<Event>
         Action::Ignore => None,
         Action::Execute => control_of(byte),
         Action::Mark => Some(Event::Error),
-        Action::Begin => go_to(state, begun(mode)),
-        Action::End => end(state, None),
-        Action::Cancel => end(state, Some(Event::Error)),
+        Action::Begin => go_to(state, begun(mode), None),
+        Action::End => go_to(state, Ground, None),
+        Action::Cancel => go_to(state, Ground, Some(Event::Error)),
         Action::Print | Action::Join => unreachable!(),
     }
 }
@@ -145,8 +138,8 @@ fn context_in(state: &ParserState) -> Context
     ensures { result ≡ context_in state.now }
 {
     match state {
-        ParserState::Ground => Context::Ground,
-        ParserState::Text => Context::Text,
+        Ground => Context::Ground,
+        Text => Context::Text,
         _ => Context::Sequence,
     }
 }
@@ -168,8 +161,8 @@ fn begun(mode: Mode) -> ParserState
     ensures { result ≡ begun mode }
 {
     match mode {
-        Mode::Ansi => ParserState::Escape,
-        Mode::Vt52 => ParserState::Vt52Escape,
+        Mode::Ansi => Escape,
+        Mode::Vt52 => Vt52Escape,
     }
 }
 
@@ -182,21 +175,21 @@ fn join(state: &mut ParserState, byte: u8) -> Option<Event>
     ensures comes { IsTransition result state.new (joined state.old byte) }
 {
     match state {
-        ParserState::Escape => join_escape(state, byte),
-        ParserState::EscapeOne(_) if is_intermediate(byte) => go_to(state, ParserState::EscapeMany),
-        ParserState::EscapeOne(inter) => {
+        Escape => join_escape(state, byte),
+        EscapeOne(_) if is_intermediate(byte) => go_to(state, EscapeMany, None),
+        EscapeOne(inter) => {
             let inter = Some(*inter);
-            end(state, Some(Event::Esc { inter, last: byte }))
+            go_to(state, Ground, Some(Event::Esc { inter, last: byte }))
         }
-        ParserState::EscapeMany if !is_intermediate(byte) => end(state, None),
-        ParserState::CsiIgnored if is_control_sequence_final(byte) => end(state, None),
-        ParserState::Vt52Escape if byte == ADDRESS => go_to(state, ParserState::Vt52Line),
-        ParserState::Vt52Escape => end(state, Some(Event::Vt52(byte))),
-        ParserState::Vt52Line => go_to(state, ParserState::Vt52Column(byte)),
-        ParserState::Vt52Column(line) => {
+        EscapeMany if !is_intermediate(byte) => go_to(state, Ground, None),
+        CsiIgnored if is_control_sequence_final(byte) => go_to(state, Ground, None),
+        Vt52Escape if byte == ADDRESS => go_to(state, Vt52Line, None),
+        Vt52Escape => go_to(state, Ground, Some(Event::Vt52(byte))),
+        Vt52Line => go_to(state, Vt52Column(byte), None),
+        Vt52Column(line) => {
             let line = line.saturating_sub(ADDRESS_OFFSET);
             let column = byte.saturating_sub(ADDRESS_OFFSET);
-            end(state, Some(Event::Vt52Address { line, column }))
+            go_to(state, Ground, Some(Event::Vt52Address { line, column }))
         }
         _ => None,
     }
@@ -209,31 +202,22 @@ fn join_escape(state: &mut ParserState, byte: u8) -> Option<Event>
     ensures comes { IsTransition result state.new (escape_joined byte) }
 {
     if is_intermediate(byte) {
-        go_to(state, ParserState::EscapeOne(byte))
+        go_to(state, EscapeOne(byte), None)
     } else if byte == BRACKET {
-        go_to(state, ParserState::CsiStart)
+        go_to(state, CsiStart, None)
     } else if begins_string(byte) {
-        go_to(state, ParserState::Text)
+        go_to(state, Text, None)
     } else {
         let inter = None;
-        end(state, Some(Event::Esc { inter, last: byte }))
+        go_to(state, Ground, Some(Event::Esc { inter, last: byte }))
     }
 }
 
 #[inline]
-fn end(state: &mut ParserState, event: Option<Event>) -> Option<Event>
-    ensures state { state.new ≡ ParserState.Ground }
+fn go_to(state: &mut ParserState, next: ParserState, event: Option<Event>) -> Option<Event>
+    ensures state { state.new ≡ next }
     ensures event { result ≡ event }
 {
-    *state = ParserState::Ground;
-    event
-}
-
-#[inline]
-fn go_to(state: &mut ParserState, next: ParserState) -> Option<Event>
-    ensures state { state.new ≡ next }
-    ensures event { result ≡ None }
-{
     *state = next;
-    None
+    event
 }
