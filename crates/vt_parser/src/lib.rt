@@ -13,7 +13,6 @@ ghost use Rattle.vt_parser.specs.Token.{command_of_token, TellsOf};
 
 mod commands;
 mod control_sequence;
-mod forms;
 pub mod laws;
 pub mod limits;
 mod machine;

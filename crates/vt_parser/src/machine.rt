@@ -9,10 +9,10 @@ ghost use Rattle.vt_parser.specs.Machine.{context_in, begun, escape_joined, join
 ghost use Rattle.vt_parser.specs.Reading.{HasParams, IsCollecting, event_command, Reads, IsTransition, IsLent};
 
 use crate::control_sequence::{Params, read_first, read_text, resumed};
-use crate::forms::{
-    ADDRESS, ADDRESS_OFFSET, BRACKET, begins_string, is_control_sequence_final, is_intermediate,
+use crate::syntax::{
+    ADDRESS, ADDRESS_OFFSET, Action, BRACKET, Context, action_of, begins_string,
+    is_control_sequence_final, is_effective, is_graphic, is_intermediate, is_nul,
 };
-use crate::syntax::{Action, Context, action_of, is_effective, is_graphic, is_nul};
 use crate::tokens::Event;
 use crate::{Mode, ParserState, printable_run};
 use ParserState::{

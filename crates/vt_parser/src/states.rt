@@ -5,8 +5,8 @@ ghost use Rattle.vt_parser.specs.Formless.{formless_of};
 ghost use Rattle.vt_parser.specs.Machine.{formless_at};
 
 use crate::Mode;
-use crate::forms::{is_control_sequence_final, is_escape_final};
 use crate::limits::MOST_PARAMS;
+use crate::syntax::{is_control_sequence_final, is_escape_final};
 use arrayvec::ArrayVec;
 
 /// How far the pending sequence has come.
