@@ -15,7 +15,7 @@ use Rattle.std.proofs.lemmas.List.Sums.{fold-append}
 use Rattle.arrayvec.specs.ArrayVec.{ArrayVec}
 use Rattle.vt_parser.specs.declared.commands.Mode.{Mode}
 use Rattle.vt_parser.specs.declared.states.ParserState.{ParserState}
-use Rattle.vt_parser.specs.declared.tokens.Token.{Token}
+use Rattle.vt_parser.specs.declared.commands.Token.{Token}
 use Rattle.vt_parser.specs.View.{parser_view}
 use Rattle.vt_parser.specs.Fold.{mode_after_bytes, pending_after_bytes}
 use Rattle.vt_parser.specs.Formless.{formless_of, NoneEndsBehind}

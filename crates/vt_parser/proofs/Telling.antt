@@ -6,10 +6,10 @@ use Rattle.std.proofs.lemmas.Bool.Decides.{nat_tests}
 use Rattle.vt_parser.specs.declared.commands.Mode.{Mode}
 use Rattle.vt_parser.specs.declared.commands.Command.{Command}
 use Rattle.vt_parser.specs.declared.commands.Command.TheVariants as commands
-use Rattle.vt_parser.specs.declared.tokens.Event.{Event}
-use Rattle.vt_parser.specs.declared.tokens.Event.TheVariants.{Error}
-use Rattle.vt_parser.specs.declared.tokens.Token.{Token}
-use Rattle.vt_parser.specs.declared.tokens.Token.TheVariants as tokens
+use Rattle.vt_parser.specs.declared.commands.Event.{Event}
+use Rattle.vt_parser.specs.declared.commands.Event.TheVariants.{Error}
+use Rattle.vt_parser.specs.declared.commands.Token.{Token}
+use Rattle.vt_parser.specs.declared.commands.Token.TheVariants as tokens
 use Rattle.vt_parser.specs.declared.states.ParserState.{ParserState}
 use Rattle.vt_parser.specs.declared.states.ParserState.TheVariants.{Ground, Csi}
 use Rattle.vt_parser.specs.Syntax.{is_graphic}

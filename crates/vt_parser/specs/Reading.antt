@@ -4,9 +4,9 @@ use Rattle.arrayvec.specs.ArrayVec.{ArrayVec}
 use Rattle.vt_parser.specs.declared.commands.Mode.{Mode}
 use Rattle.vt_parser.specs.declared.commands.Command.{Command}
 use Rattle.vt_parser.specs.declared.commands.Command.TheVariants as command
-use Rattle.vt_parser.specs.declared.tokens.Event.{Event}
-use Rattle.vt_parser.specs.declared.tokens.Event.TheVariants.{Error, Control, Esc, Csi, Vt52, Vt52Address}
-use Rattle.vt_parser.specs.declared.tokens.Token.{Token}
+use Rattle.vt_parser.specs.declared.commands.Event.{Event}
+use Rattle.vt_parser.specs.declared.commands.Event.TheVariants.{Error, Control, Esc, Csi, Vt52, Vt52Address}
+use Rattle.vt_parser.specs.declared.commands.Token.{Token}
 use Rattle.vt_parser.specs.declared.control_sequence.Collected.{Collected}
 use Rattle.vt_parser.specs.declared.states.ParserState.{ParserState}
 use Rattle.vt_parser.specs.declared.states.ParserState.TheVariants.{CsiStart, Csi as CsiState}

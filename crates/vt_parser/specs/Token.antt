@@ -4,8 +4,8 @@ use Rattle.std.specs.List.{list_all}
 use Rattle.vt_parser.specs.declared.commands.Mode.{Mode}
 use Rattle.vt_parser.specs.declared.commands.Command.{Command}
 use Rattle.vt_parser.specs.declared.commands.Command.TheVariants as command
-use Rattle.vt_parser.specs.declared.tokens.Token.{Token}
-use Rattle.vt_parser.specs.declared.tokens.Token.TheVariants.{Show, Error, Control, Esc, Csi, Vt52, Vt52Address}
+use Rattle.vt_parser.specs.declared.commands.Token.{Token}
+use Rattle.vt_parser.specs.declared.commands.Token.TheVariants.{Show, Error, Control, Esc, Csi, Vt52, Vt52Address}
 use Rattle.vt_parser.specs.declared.states.ParserState.{ParserState}
 use Rattle.vt_parser.specs.Syntax.{is_graphic}
 use Rattle.vt_parser.specs.Forms.{held}

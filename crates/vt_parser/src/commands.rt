@@ -1,5 +1,13 @@
-//! What a parser is told and what it tells: modes and commands.
+//! What a parser is told, the mode, and what it tells of the bytes: commands, which have all of theirs, and tokens, which
+//! lend it.
+ghost use Rattle.std.specs.Prelude.{◌≡◌, Some, length};
+ghost use Rattle.vt_parser.specs.Forms.{most_params};
+ghost use Rattle.vt_parser.specs.Law.{IsProper};
+ghost use Rattle.vt_parser.specs.Token.{command_of_token};
+ghost use Rattle.vt_parser.specs.Reading.{event_command, command_told, IsLent};
+
 use crate::limits::MOST_PARAMS;
+use crate::states::copied;
 use arrayvec::ArrayVec;
 
 /// How sequences are read: as the VT100's ANSI mode or as its VT52 mode (EK-VT100-UG chapter 3).
@@ -37,4 +45,105 @@ pub enum Command {
         line: u8,
         column: u8,
     },
+}
+
+/// What bytes ask a terminal for: a run of graphic characters, or what a command asks for, the parameters lent.
+#[derive(Clone, Copy, Debug)]
+pub enum Token<'a> {
+    /// Show these graphic characters, 32 to 126, one after another.
+    Show(&'a [u8]),
+    /// Show the error character.
+    Error,
+    /// A control character that has an effect, 8 (BS) to 15 (SI).
+    Control(u8),
+    /// An escape sequence: its intermediate, if it has one, and its final byte.
+    Esc {
+        inter: Option<u8>,
+        last: u8,
+    },
+    /// A control sequence: whether it began with `?`, its parameters, and its final byte.
+    Csi {
+        private: bool,
+        params: &'a [u16],
+        last: u8,
+    },
+    /// A sequence of VT52 mode by its final byte.
+    Vt52(u8),
+    /// A direct cursor address of VT52 mode.
+    Vt52Address {
+        line: u8,
+        column: u8,
+    },
+}
+
+impl Token<'_> {
+    /// The command of a token of one byte or of one sequence.
+    pub(crate) fn command(self) -> Command
+        requires { IsProper (command_of_token self) }
+        ensures { result ≡ command_of_token self.entry }
+    {
+        match self {
+            Token::Show(run) => Command::Show(run[0]),
+            Token::Error => Command::Error,
+            Token::Control(byte) => Command::Control(byte),
+            Token::Esc { inter, last } => Command::Esc { inter, last },
+            Token::Csi {
+                private,
+                params,
+                last,
+            } => Command::Csi {
+                private,
+                params: copied(params),
+                last,
+            },
+            Token::Vt52(last) => Command::Vt52(last),
+            Token::Vt52Address { line, column } => Command::Vt52Address { line, column },
+        }
+    }
+}
+
+/// A token that is no run, before it borrows its parameters: they are the first `count` of an array.
+#[derive(Clone, Copy)]
+pub(crate) enum Event {
+    Error,
+    Control(u8),
+    Esc {
+        inter: Option<u8>,
+        last: u8,
+    },
+    Csi {
+        private: bool,
+        count: usize,
+        last: u8,
+    },
+    Vt52(u8),
+    Vt52Address {
+        line: u8,
+        column: u8,
+    },
+}
+
+/// The token of an event, if there is one, its parameters lent from the array.
+#[inline(always)]
+pub(crate) fn lent<'a>(event: Option<Event>, params: &'a [u16]) -> Option<Token<'a>>
+    requires lent { IsLent event }
+    requires long { length params.now ≡ most_params }
+    ensures { event_command event params.now ≡ command_told result }
+{
+    Some(match event? {
+        Event::Error => Token::Error,
+        Event::Control(byte) => Token::Control(byte),
+        Event::Esc { inter, last } => Token::Esc { inter, last },
+        Event::Csi {
+            private,
+            count,
+            last,
+        } => Token::Csi {
+            private,
+            params: &params[..count],
+            last,
+        },
+        Event::Vt52(last) => Token::Vt52(last),
+        Event::Vt52Address { line, column } => Token::Vt52Address { line, column },
+    })
 }

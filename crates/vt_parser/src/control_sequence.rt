@@ -5,13 +5,13 @@ ghost use Rattle.vt_parser.specs.Forms.{most_params, held, is_plain};
 ghost use Rattle.vt_parser.specs.Machine.{moves_to, digit_joined, semicolon_joined};
 ghost use Rattle.vt_parser.specs.Reading.{IsOpening, IsCounted, gathered, collected, event_command, event_transition, Reads, IsLent, GoesOn};
 
+use crate::commands::Event;
 use crate::limits::{GREATEST_PARAM, MOST_PARAMS};
 use crate::states::copied;
 use crate::syntax::{
     BRACKET, QUESTION_MARK, SEMICOLON, is_control_sequence_final, is_control_sequence_text,
     is_escape, is_graphic,
 };
-use crate::tokens::Event;
 use crate::{Command, Mode, ParserState};
 
 /// Where the parameters of a control sequence lie.

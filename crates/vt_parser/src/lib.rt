@@ -19,16 +19,14 @@ mod machine;
 mod runs;
 mod states;
 mod syntax;
-mod tokens;
 
-pub use commands::{Command, Mode};
+use commands::lent;
+pub use commands::{Command, Mode, Token};
 use control_sequence::{opens_control_sequence, read_control_sequence};
 use limits::MOST_PARAMS;
 pub use runs::printable_run;
 pub use states::{Formless, ParserState};
 use std::marker::Model;
-pub use tokens::Token;
-use tokens::lent;
 
 /// Where a reader of terminal output stands in the control syntax.
 #[derive(Debug, Drop)]

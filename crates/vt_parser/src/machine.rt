@@ -8,12 +8,12 @@ ghost use Rattle.vt_parser.specs.Step.{control_of};
 ghost use Rattle.vt_parser.specs.Machine.{context_in, begun, escape_joined, joined, stepped};
 ghost use Rattle.vt_parser.specs.Reading.{HasParams, IsCollecting, event_command, Reads, IsTransition, IsLent};
 
+use crate::commands::Event;
 use crate::control_sequence::{Params, read_first, read_text, resumed};
 use crate::syntax::{
     ADDRESS, ADDRESS_OFFSET, Action, BRACKET, Context, action_of, begins_string,
     is_control_sequence_final, is_effective, is_graphic, is_intermediate, is_nul,
 };
-use crate::tokens::Event;
 use crate::{Mode, ParserState, printable_run};
 use ParserState::{
     Csi, CsiIgnored, CsiStart, Escape, EscapeMany, EscapeOne, Ground, Text, Vt52Column, Vt52Escape,

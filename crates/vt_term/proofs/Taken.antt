@@ -6,8 +6,8 @@ use Rattle.std.proofs.lemmas.Bool.{and_parts}
 use Rattle.vt_parser.specs.declared.commands.Mode.{Mode}
 use Rattle.vt_parser.specs.declared.states.ParserState.{ParserState}
 use Rattle.vt_parser.specs.declared.states.ParserState.TheVariants.{Ground}
-use Rattle.vt_parser.specs.declared.tokens.Token.{Token}
-use Rattle.vt_parser.specs.declared.tokens.Token.TheVariants.{Show}
+use Rattle.vt_parser.specs.declared.commands.Token.{Token}
+use Rattle.vt_parser.specs.declared.commands.Token.TheVariants.{Show}
 use Rattle.vt_parser.specs.Syntax.{is_graphic}
 use Rattle.vt_parser.specs.View.{parser_view}
 use Rattle.vt_parser.specs.Step.{mode_after}

@@ -2,8 +2,8 @@
 use Rattle.std.specs.Prelude.{ℕ, ◌≤◌, Bool, true, false, List, [], map, fold, All, Option, Some, None, if◌then◌else◌}
 use Rattle.vt_parser.specs.declared.commands.Command.{Command}
 use Rattle.vt_parser.specs.declared.commands.Command.TheVariants.{Show, Error, Control, Esc, Csi, Vt52, Vt52Address}
-use Rattle.vt_parser.specs.declared.tokens.Token.{Token}
-use Rattle.vt_parser.specs.declared.tokens.Token.TheVariants as token
+use Rattle.vt_parser.specs.declared.commands.Token.{Token}
+use Rattle.vt_parser.specs.declared.commands.Token.TheVariants as token
 use Rattle.vt_parser.specs.Token.{command_of_token}
 use Rattle.vt_parser.specs.Law.{IsProper}
 use Rattle.vt_screen.specs.Attributes.{Attributes}

@@ -1,5 +1,5 @@
 use Rattle.std.proofs.Common.{Option, Some, IfSome, sym, ap, ◌∙◌, subst}
-use Rattle.vt_parser.specs.declared.tokens.Token.{Token}
+use Rattle.vt_parser.specs.declared.commands.Token.{Token}
 use Rattle.vt_parser.specs.Law.{IsProper}
 use Rattle.vt_parser.specs.Token.{command_of_token}
 use Rattle.vt_parser.specs.Reading.{command_told}
