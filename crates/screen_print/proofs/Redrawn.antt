@@ -31,7 +31,7 @@ use Rattle.vt_term.specs.declared.profile.Profile.{Profile}
 use Rattle.vt_term.specs.Console.{Console, first_modes, reset_console}
 use Rattle.vt_term.specs.Effect.{effect, glyphs_shown}
 use Rattle.vt_term.specs.Printing.{Brings, NothingBrings, PartsBring, CharactersBring, ControlsBring, DesignationsBring, ControlSequencesBring, PrivateSequencesBring}
-use Rattle.vt_term.specs.Sequences.{counted, rendition_set}
+use Rattle.vt_term.specs.Sequences.{param_or, rendition_set}
 use Rattle.vt_term.specs.Sets.{glyph_of, set_in}
 use Rattle.vt_term.specs.Term.{Term}
 use Rattle.screen_print.specs.declared.escaped_print.Pen.{Pen}
@@ -176,12 +176,12 @@ graphic_alone byte graphic = simp graphic refl
 brings_as : (s : Console) {bytes others : List ℕ} {t u : Console} → Brings s bytes t → bytes ≡ others → t ≡ u → Brings s others u
 brings_as s {bytes = bytes} {u = u} brings text same = subst (λ b. Brings s b u) text (subst (λ v. Brings s bytes v) same brings)
 
--- CUP's text and its counts
+-- CUP's text and its parameters
 place_text : (line column : ℕ) → escape ∷ 91 ∷ (params_text (line ∷ column ∷ []) ++ 72 ∷ []) ≡ placed_text line column
 place_text line column = ap (λ (t : List ℕ). escape ∷ 91 ∷ (t ++ 72 ∷ [])) (sym (append_assoc (decimal line) (59 ∷ []) (decimal column)))
 
-counted_is : (n : ℕ) → 1 ≤ n → counted n ≡ n
-counted_is n some = grind (arith, nat_tests)
+param_is : (n : ℕ) → 1 ≤ n → param_or (n ∷ []) 0 1 ≡ n
+param_is n some = grind (arith, nat_tests)
 
 -- the cursor goes to a place
 place_brings : (laws : LawsBelow) (s : Console) (line column : ℕ) → s.modes.mode ≡ Ansi → s.modes.origin ≡ false
@@ -189,13 +189,14 @@ place_brings : (laws : LawsBelow) (s : Console) (line column : ℕ) → s.modes.
     → Brings s (placed_text line column) (record s { picture = record s.picture { line = line; column = column; wrap = false } })
 place_brings laws s line column ansi origin low high left within =
     let fits = laws.margin_high s.picture line in
-    let there : placed (counted line) (counted column) s.modes.origin s.picture ≡ record s.picture { line = line; column = column; wrap = false } =
-    ap (λ (i : ℕ). placed i (counted column) s.modes.origin s.picture) (counted_is line low)
-    ∙ ap (λ (j : ℕ). placed line j s.modes.origin s.picture) (counted_is column left)
+    let params = line ∷ column ∷ [] in
+    let there : placed (param_or params 0 1) (param_or params 1 1) s.modes.origin s.picture ≡ record s.picture { line = line; column = column; wrap = false } =
+    ap (λ (i : ℕ). placed i (param_or params 1 1) s.modes.origin s.picture) (param_is line low)
+    ∙ ap (λ (j : ℕ). placed line j s.modes.origin s.picture) (param_is column left)
     ∙ ap (λ (o : Bool). placed line column o s.picture) origin
     ∙ laws.to_place line column s.picture high within in
     brings_as s
-    (laws.sequences s (line ∷ column ∷ []) 72 ansi (place_params line column (omega arith) (omega arith)) refl refl)
+    (laws.sequences s params 72 ansi (place_params line column (omega arith) (omega arith)) refl refl)
     (place_text line column)
     (ap (λ (p : Picture). let t : Console = record s { picture = p } in t) there)
 

@@ -13,7 +13,7 @@ use Rattle.vt_term.specs.Profile.{has_editing}
 use Rattle.vt_term.specs.Rows.{named}
 use Rattle.vt_term.specs.Console.{Console, effect_of, on_picture}
 use Rattle.vt_term.specs.Escapes.{Escape, Decrc, escape_named, escape_effect, restored}
-use Rattle.vt_term.specs.Sequences.{Sequence, Il, Dl, Dch, Sm, Rm, sequence_named, sequence_effect, counted, first_of, is_row_of, AnsiMode, Irm, Lnm, ansi_modes, is_mode_of, ansi_mode_done, ansi_mode_set}
+use Rattle.vt_term.specs.Sequences.{Sequence, Il, Dl, Dch, Sm, Rm, sequence_named, sequence_effect, param_or, is_row_of, AnsiMode, Irm, Lnm, ansi_modes, is_mode_of, ansi_mode_done, ansi_mode_set}
 use Rattle.vt_term.specs.PrivateModes.{PrivateMode, Decanm, private_modes, switches, mode_effect, mode_set, modes_set}
 use Rattle.vt_term.specs.Vt52.{Vt52Sequence, EnterAnsi, vt52_named, vt52_effect}
 use Rattle.vt_term.specs.Replies.{escape_reply, sequence_reply, vt52_reply, reply_of}
@@ -36,9 +36,9 @@ rowless_sequence : (row : Option Sequence) (params : List ℕ) (s : Console)
     → has_row_of (is_row_of s.profile) row ≡ false
     → (effect_of (λ r. sequence_effect r params) row s ≡ s) × (reply_of (λ r. sequence_reply r params s) row ≡ [])
 rowless_sequence None params s none = (refl, refl)
-rowless_sequence (Some Il) params s none = (unedited (on_picture (lines_inserted (counted (first_of params)))) s none, refl)
-rowless_sequence (Some Dl) params s none = (unedited (on_picture (lines_deleted (counted (first_of params)))) s none, refl)
-rowless_sequence (Some Dch) params s none = (unedited (on_picture (cells_deleted (counted (first_of params)))) s none, refl)
+rowless_sequence (Some Il) params s none = (unedited (on_picture (lines_inserted (param_or params 0 1))) s none, refl)
+rowless_sequence (Some Dl) params s none = (unedited (on_picture (lines_deleted (param_or params 0 1))) s none, refl)
+rowless_sequence (Some Dch) params s none = (unedited (on_picture (cells_deleted (param_or params 0 1))) s none, refl)
 rowless_sequence (Some _) params s none = absurd cc
 
 pub rowless_commands_do_nothing : RowlessDoNothing
@@ -95,9 +95,9 @@ ansi_modes_kept profile value (param ∷ params) modes =
 sequence_mode : (row : Option Sequence) (params : List ℕ) (s : Console)
     → (effect_of (λ r. sequence_effect r params) row s).modes.mode ≡ s.modes.mode
 sequence_mode None params s = refl
-sequence_mode (Some Il) params s = edited_mode (has_editing s.profile) (lines_inserted (counted (first_of params))) s
-sequence_mode (Some Dl) params s = edited_mode (has_editing s.profile) (lines_deleted (counted (first_of params))) s
-sequence_mode (Some Dch) params s = edited_mode (has_editing s.profile) (cells_deleted (counted (first_of params))) s
+sequence_mode (Some Il) params s = edited_mode (has_editing s.profile) (lines_inserted (param_or params 0 1)) s
+sequence_mode (Some Dl) params s = edited_mode (has_editing s.profile) (lines_deleted (param_or params 0 1)) s
+sequence_mode (Some Dch) params s = edited_mode (has_editing s.profile) (cells_deleted (param_or params 0 1)) s
 sequence_mode (Some Sm) params s = ansi_modes_kept s.profile true params s.modes
 sequence_mode (Some Rm) params s = ansi_modes_kept s.profile false params s.modes
 sequence_mode (Some _) params s = refl

@@ -28,7 +28,7 @@ use Rattle.vt_term.specs.Console.{Console, IsSafe, IsSavedWell, reset_console, o
 use Rattle.vt_term.specs.Rows.{named}
 use Rattle.vt_term.specs.Controls.{Control, Bs, Ht, Lf, Cr, So, Si, control_named, control_effect, line_fed, invoked}
 use Rattle.vt_term.specs.Escapes.{Escape, Ind, Nel, Ri, Hts, Decid, Ris, Decsc, Decrc, Deckpam, Deckpnm, DecdhlTop, DecdhlBottom, Decswl, Decdwl, Decaln, Scs, escape_named, escape_effect, restored}
-use Rattle.vt_term.specs.Sequences.{Sequence, Cuu, Cud, Cuf, Cub, Cup, Ed, El, Il, Dl, Dch, Decstbm, Tbc, Sgr, Sm, Rm, Decll, sequence_named, sequence_effect, first_of, second_of, counted, or_default, leds_set, AnsiMode, Irm, Lnm, ansi_modes, ansi_mode_done, ansi_mode_set}
+use Rattle.vt_term.specs.Sequences.{Sequence, Cuu, Cud, Cuf, Cub, Cup, Ed, El, Il, Dl, Dch, Decstbm, Tbc, Sgr, Sm, Rm, Decll, sequence_named, sequence_effect, param_or, leds_set, AnsiMode, Irm, Lnm, ansi_modes, ansi_mode_done, ansi_mode_set}
 use Rattle.vt_term.specs.PrivateModes.{PrivateMode, Decanm, Deccolm, Decom, Decawm, private_modes, switches, mode_effect, mode_set, modes_set, private_effect}
 use Rattle.vt_term.specs.Vt52.{Vt52Sequence, Up, Down, Right, Left, Home, ReverseIndex, EraseDisplay, EraseLine, vt52_named, vt52_effect}
 use Rattle.vt_term.specs.Effect.{effect, glyph_shown, glyph_for, control_sequence_effect}
@@ -129,8 +129,8 @@ glyph_high _ byte high = grind (arith, nat_tests)
 
 -- ---- what needs no law of the screen
 
-counted_low : (param : ℕ) → 1 ≤ counted param
-counted_low param = grind (arith, nat_tests)
+param_low : (params : List ℕ) (index : ℕ) → 1 ≤ param_or params index 1
+param_low params index = grind (arith, nat_tests)
 
 leds_kept : (params : List ℕ) (leds : List Bool) → length leds ≡ 4 → length (fold leds_set leds params) ≡ 4
 leds_kept [] leds four = four
@@ -221,14 +221,14 @@ module _ (laws : ScreenLaws) where
   safe_sequence Cuf params s safe = safe_on s _ (laws.right _) safe
   safe_sequence Cub params s safe = safe_on s _ (laws.left _) safe
   safe_sequence Cup params s safe =
-      safe_goes s _ (placed (counted (first_of params)) (counted (second_of params)))
-      (laws.place (counted (first_of params)) (counted (second_of params)) (counted_low (first_of params)) (counted_low (second_of params))) refl refl refl safe
+      safe_goes s _ (placed (param_or params 0 1) (param_or params 1 1))
+      (laws.place (param_or params 0 1) (param_or params 1 1) (param_low params 0) (param_low params 1)) refl refl refl safe
   safe_sequence Ed params s safe = safe_on s _ (keeps_if _ _ _ (laws.erase_display _) keeps_none) safe
   safe_sequence El params s safe = safe_on s _ (keeps_if _ _ _ (laws.erase_line _) keeps_none) safe
   safe_sequence Il params s safe = safe_edited _ _ s (laws.insert_lines _) safe
   safe_sequence Dl params s safe = safe_edited _ _ s (laws.delete_lines _) safe
   safe_sequence Dch params s safe = safe_edited _ _ s (laws.delete_cells _) safe
-  safe_sequence Decstbm params s safe = safe_by s _ (laws.margins (or_default 1 (first_of params)) (or_default 24 (second_of params))) safe
+  safe_sequence Decstbm params s safe = safe_by s _ (laws.margins (param_or params 0 1) (param_or params 1 24)) safe
   safe_sequence Tbc params s safe = safe_on s _ (keeps_if _ _ _ (laws.set_tab false) (keeps_if _ _ _ laws.clear_tabs keeps_none)) safe
   safe_sequence Sgr params s safe = safe_else s _ refl refl refl refl safe
   safe_sequence Sm params s safe = safe_else s _ refl (origin_kept s.profile true params s.modes) refl refl safe

@@ -5,7 +5,7 @@ use Rattle.vt_term.specs.declared.profile.Profile.{Profile}
 use Rattle.vt_term.specs.declared.profile.Profile.TheVariants.{Vt100, Vt102}
 use Rattle.vt_term.specs.Escapes.{Escape, Decid}
 use Rattle.vt_term.specs.Vt52.{Vt52Sequence, Identify}
-use Rattle.vt_term.specs.Sequences.{Sequence, Da, Dsr, Decreqtparm, first_of}
+use Rattle.vt_term.specs.Sequences.{Sequence, Da, Dsr, Decreqtparm, param_or}
 use Rattle.vt_term.specs.Console.{Console}
 
 -- DA: a VT100 with the Advanced Video Option (EK-VT100-UG chapter 3), or a VT102 (VT102 User Guide)
@@ -63,9 +63,9 @@ parameters_reply param =
 
 -- the table of the replies to control sequences
 abbrev pub sequence_reply : Sequence → List ℕ → Console → List ℕ
-sequence_reply Da params s = attributes_reply s.profile (first_of params)
-sequence_reply Dsr params s = status_reply (first_of params) s
-sequence_reply Decreqtparm params s = parameters_reply (first_of params)
+sequence_reply Da params s = attributes_reply s.profile (param_or params 0 0)
+sequence_reply Dsr params s = status_reply (param_or params 0 0) s
+sequence_reply Decreqtparm params s = parameters_reply (param_or params 0 0)
 sequence_reply _ params s = []
 
 -- the identification of VT52 mode (EK-VT100-UG chapter 3)

@@ -54,20 +54,12 @@ is_row_of profile Dl = has_editing profile
 is_row_of profile Dch = has_editing profile
 is_row_of profile _ = true
 
--- the first and the second parameter; a missing one is 0 (ECMA-48 section 5.4.2)
-abbrev pub first_of : List ℕ → ℕ
-first_of params = slice_index params 0
-
-abbrev pub second_of : List ℕ → ℕ
-second_of params = slice_index params 1
-
--- a parameter that stands for a default where it is 0 (EK-VT100-UG chapter 3)
-abbrev pub or_default : ℕ → ℕ → ℕ
-or_default value param = if param == 0 then value else param
-
--- Pn: counted as 1 where it is 0 (EK-VT100-UG chapter 3)
-abbrev pub counted : ℕ → ℕ
-counted param = or_default 1 param
+-- the parameter at an index, from 0 on, or a default where it is missing or 0 (ECMA-48 section 5.4.2, EK-VT100-UG
+-- chapter 3)
+abbrev pub param_or : List ℕ → ℕ → ℕ → ℕ
+param_or params index default =
+    let param = slice_index params index in
+    if param == 0 then default else param
 
 -- ED and EL have the parts 0, 1 and 2; another does nothing (EK-VT100-UG chapter 3)
 abbrev pub erased : (ℕ → Picture → Picture) → ℕ → Picture → Picture
@@ -134,22 +126,22 @@ leds_set leds param =
 -- The table of their effects. SGR, SM, RM and DECLL take every parameter, from left to right; the others take the first
 -- one, or two, and drop the rest (ours). DA, DSR and DECREQTPARM reply and have no effect.
 abbrev pub sequence_effect : Sequence → List ℕ → Console → Console
-sequence_effect Cuu params s = on_picture (stepped_up (counted (first_of params))) s
-sequence_effect Cud params s = on_picture (stepped_down (counted (first_of params))) s
-sequence_effect Cuf params s = on_picture (stepped_right (counted (first_of params))) s
-sequence_effect Cub params s = on_picture (stepped_left (counted (first_of params))) s
+sequence_effect Cuu params s = on_picture (stepped_up (param_or params 0 1)) s
+sequence_effect Cud params s = on_picture (stepped_down (param_or params 0 1)) s
+sequence_effect Cuf params s = on_picture (stepped_right (param_or params 0 1)) s
+sequence_effect Cub params s = on_picture (stepped_left (param_or params 0 1)) s
 sequence_effect Cup params s =
-    on_picture (placed (counted (first_of params)) (counted (second_of params)) s.modes.origin) s
-sequence_effect Ed params s = on_picture (erased display_erased (first_of params)) s
-sequence_effect El params s = on_picture (erased line_erased (first_of params)) s
-sequence_effect Il params s = where_it_edits (lines_inserted (counted (first_of params))) s
-sequence_effect Dl params s = where_it_edits (lines_deleted (counted (first_of params))) s
-sequence_effect Dch params s = where_it_edits (cells_deleted (counted (first_of params))) s
+    on_picture (placed (param_or params 0 1) (param_or params 1 1) s.modes.origin) s
+sequence_effect Ed params s = on_picture (erased display_erased (param_or params 0 0)) s
+sequence_effect El params s = on_picture (erased line_erased (param_or params 0 0)) s
+sequence_effect Il params s = where_it_edits (lines_inserted (param_or params 0 1)) s
+sequence_effect Dl params s = where_it_edits (lines_deleted (param_or params 0 1)) s
+sequence_effect Dch params s = where_it_edits (cells_deleted (param_or params 0 1)) s
 sequence_effect Decstbm params s =
-    let top = or_default 1 (first_of params) in
-    let bottom = or_default line_count (second_of params) in
+    let top = param_or params 0 1 in
+    let bottom = param_or params 1 line_count in
     on_picture (margins_set top bottom s.modes.origin) s
-sequence_effect Tbc params s = on_picture (tabs_taken (first_of params)) s
+sequence_effect Tbc params s = on_picture (tabs_taken (param_or params 0 0)) s
 sequence_effect Sgr params s = record s { rendition = fold rendition_set s.rendition params }
 sequence_effect Sm params s = on_modes (λ modes. fold (ansi_mode_set s.profile true) modes params) s
 sequence_effect Rm params s = on_modes (λ modes. fold (ansi_mode_set s.profile false) modes params) s

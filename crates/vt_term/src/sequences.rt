@@ -2,10 +2,8 @@
 ghost use Rattle.std.specs.Prelude.{◌≡◌, ◌≤◌, fold, slice_index, true, false, length, OnOk, OnErr, IsOk};
 ghost use Rattle.vt_screen.specs.CellEdits.{cells_deleted};
 ghost use Rattle.vt_screen.specs.Erasures.{display_erased, line_erased};
-ghost use Rattle.vt_screen.specs.Moves.{placed};
-ghost use Rattle.vt_screen.specs.Lines.{margins_set};
 ghost use Rattle.vt_screen.specs.Scrolls.{lines_inserted, lines_deleted};
-ghost use Rattle.vt_term.specs.Sequences.{Sgr, Decll, sequence_effect, first_of, second_of, counted, or_default, erased, tabs_taken, rendition_set, ansi_mode_set, where_it_edits, leds_set};
+ghost use Rattle.vt_term.specs.Sequences.{Sgr, Decll, sequence_effect, param_or, erased, tabs_taken, rendition_set, ansi_mode_set, where_it_edits, leds_set};
 ghost use Rattle.vt_term.specs.Effect.{control_sequence_effect, control_sequence_reply};
 ghost use Rattle.vt_term.specs.Console.{console_of, on_picture, on_modes};
 ghost use Rattle.vt_term.specs.Sink.{after_sending, HasRoom};
@@ -16,28 +14,14 @@ use crate::{OutOfMemory, Reports};
 use vt_screen::Rendition;
 use vt_screen::limits::LINES;
 
-/// The first parameter, 0 where it is missing.
+// The parameter at an index, or the default where it is missing or 0.
 #[inline]
-pub(crate) fn first_of(params: &[u16]) -> u16
-    ensures { result ≡ first_of params.now }
+fn param_or(params: &[u16], index: usize, default: u16) -> u16
+    ensures value { result ≡ param_or params.now index default }
+    ensures low { 1 ≤ default → 1 ≤ result }
 {
-    params.first().copied().unwrap_or(0)
-}
-
-#[inline]
-fn second_of(params: &[u16]) -> u16
-    ensures { result ≡ second_of params.now }
-{
-    params.get(1).copied().unwrap_or(0)
-}
-
-// A parameter that stands for a default where it is 0.
-#[inline]
-fn or_default(value: u16, param: u16) -> u16
-    ensures value { result ≡ or_default value param }
-    ensures low { 1 ≤ value → 1 ≤ result }
-{
-    if param == 0 { value } else { param }
+    let param = params.get(index).copied().unwrap_or(0);
+    if param == 0 { default } else { param }
 }
 
 // A rendition with what one parameter of SGR adds.
@@ -82,42 +66,40 @@ impl Console {
             (control_sequence_reply false last params.now (console_of self.old))
             → IsOk result }
     {
-        let first = first_of(params);
         match last {
-            b'A' => self.screen.step_up(or_default(1, first)), // CUU
-            b'B' => self.screen.step_down(or_default(1, first)), // CUD
-            b'C' => self.screen.step_right(or_default(1, first)), // CUF
-            b'D' => self.screen.step_left(or_default(1, first)), // CUB
-            b'H' | b'f' => self.place(first, second_of(params)), // CUP, HVP
-            b'J' => self.erase_display(first), // ED
-            b'K' => self.erase_line(first), // EL
-            b'L' => self.insert_lines(or_default(1, first)), // IL
-            b'M' => self.delete_lines(or_default(1, first)), // DL
-            b'P' => self.delete_cells(or_default(1, first)), // DCH
-            b'r' => self.set_margins(first, second_of(params)), // DECSTBM
-            b'g' => self.take_tabs(first), // TBC
+            b'A' => self.screen.step_up(param_or(params, 0, 1)), // CUU
+            b'B' => self.screen.step_down(param_or(params, 0, 1)), // CUD
+            b'C' => self.screen.step_right(param_or(params, 0, 1)), // CUF
+            b'D' => self.screen.step_left(param_or(params, 0, 1)), // CUB
+            b'H' | b'f' => self.screen.place(
+                param_or(params, 0, 1),
+                param_or(params, 1, 1),
+                self.modes.origin,
+            ), // CUP, HVP
+            b'J' => self.erase_display(param_or(params, 0, 0)), // ED
+            b'K' => self.erase_line(param_or(params, 0, 0)), // EL
+            b'L' => self.insert_lines(param_or(params, 0, 1)), // IL
+            b'M' => self.delete_lines(param_or(params, 0, 1)), // DL
+            b'P' => self.delete_cells(param_or(params, 0, 1)), // DCH
+            b'r' => {
+                // Margins that are none are refused, and nothing changes.
+                let _accepted = self.screen.set_margins(
+                    param_or(params, 0, 1),
+                    param_or(params, 1, u16::from(LINES)),
+                    self.modes.origin,
+                );
+            } // DECSTBM
+            b'g' => self.take_tabs(param_or(params, 0, 0)), // TBC
             b'm' => self.set_rendition(params), // SGR
             b'h' => self.set_ansi_modes(true, params), // SM
             b'l' => self.set_ansi_modes(false, params), // RM
             b'q' => self.set_leds(params), // DECLL
-            b'c' => return self.send_attributes(first, sink), // DA
-            b'n' => return self.send_status(first, sink), // DSR
-            b'x' => return send_parameters(first, sink), // DECREQTPARM
+            b'c' => return self.send_attributes(param_or(params, 0, 0), sink), // DA
+            b'n' => return self.send_status(param_or(params, 0, 0), sink), // DSR
+            b'x' => return send_parameters(param_or(params, 0, 0), sink), // DECREQTPARM
             _ => {}
         }
         Ok(())
-    }
-
-    fn place(&mut self, line: u16, column: u16)
-        ensures { console_of self.new
-            ≡ on_picture (placed (counted line) (counted column) self.old.modes.origin)
-            (console_of self.old) }
-    {
-        self.screen.place(
-            or_default(1, line),
-            or_default(1, column),
-            self.modes.origin,
-        );
     }
 
     fn erase_display(&mut self, part: u16)
@@ -159,20 +141,6 @@ impl Console {
         if self.profile.has_editing() {
             self.screen.delete_cells(n);
         }
-    }
-
-    // Margins that are none are refused, and nothing changes.
-    fn set_margins(&mut self, top: u16, bottom: u16)
-        ensures { console_of self.new
-            ≡ on_picture
-            (margins_set (or_default 1 top) (or_default LINES bottom) self.old.modes.origin)
-            (console_of self.old) }
-    {
-        let _accepted = self.screen.set_margins(
-            or_default(1, top),
-            or_default(u16::from(LINES), bottom),
-            self.modes.origin,
-        );
     }
 
     fn take_tabs(&mut self, param: u16)
