@@ -19,8 +19,8 @@ use Rattle.vt_parser.specs.Formless.{formless_of, NoneEndsBehind}
 use Rattle.vt_parser.specs.Token.{command_of_token, TellsOf}
 use Rattle.vt_parser.specs.Law.{is_sequence}
 use Rattle.vt_term.specs.declared.profile.Profile.{Profile}
-use Rattle.vt_term.specs.Console.{Console}
-use Rattle.vt_term.specs.Effect.{effect_if}
+use Rattle.vt_term.specs.Console.{Console, effect_of}
+use Rattle.vt_term.specs.Effect.{effect}
 use Rattle.vt_term.specs.Term.{mode_of, play, step}
 use Rattle.vt_term.specs.Played.{mode_left, ModeGoesAlone}
 use Rattle.tape_check.specs.Unplayed.{command_names, formless_names}
@@ -29,7 +29,7 @@ use Rattle.tape_check.specs.Counting.{LawsBelow}
 
 -- ---- the law
 
-mode_by : (alone : ModeGoesAlone) (command : Option Command) (k : Console) → mode_left_by command k.modes.mode ≡ (effect_if command k).modes.mode
+mode_by : (alone : ModeGoesAlone) (command : Option Command) (k : Console) → mode_left_by command k.modes.mode ≡ (effect_of effect command k).modes.mode
 mode_by alone None k = refl
 mode_by alone (Some command) k = sym (alone command k)
 

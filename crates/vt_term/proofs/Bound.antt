@@ -16,7 +16,7 @@ use Rattle.vt_term.specs.Escapes.{Escape, Decid, escape_named}
 use Rattle.vt_term.specs.Sequences.{Sequence, Da, Dsr, Decreqtparm, sequence_named}
 use Rattle.vt_term.specs.Vt52.{Vt52Sequence, Identify, vt52_named}
 use Rattle.vt_term.specs.Replies.{escape_reply, sequence_reply, vt52_reply, reply_of, cursor_position, reported_line, device_attributes}
-use Rattle.vt_term.specs.Effect.{reply, reply_if, control_sequence_reply}
+use Rattle.vt_term.specs.Effect.{reply, control_sequence_reply}
 use Rattle.vt_term.specs.Term.{Term, reset_term_as, mode_of, reply_to, step, sent}
 use Rattle.vt_term.specs.Law.{LawsBelow}
 use Rattle.vt_term.proofs.Steps.{safe_step}
@@ -38,13 +38,13 @@ attributes_short Vt100 = omega arith
 attributes_short Vt102 = omega arith
 
 -- at most seven bytes answer the shorter sequences
-escape_short : (profile : Profile) (escape : Option Escape) → length (reply_of (escape_reply profile) escape) ≤ 7
-escape_short profile (Some Decid) = attributes_short profile
-escape_short profile _ = omega arith
+escape_short : (escape : Option Escape) (s : Console) → length (reply_of escape_reply escape s) ≤ 7
+escape_short (Some Decid) s = attributes_short s.profile
+escape_short _ s = omega arith
 
-vt52_short : (sequence : Option Vt52Sequence) → length (reply_of vt52_reply sequence) ≤ 7
-vt52_short (Some Identify) = omega arith
-vt52_short _ = omega arith
+vt52_short : (sequence : Option Vt52Sequence) (s : Console) → length (reply_of vt52_reply sequence s) ≤ 7
+vt52_short (Some Identify) s = omega arith
+vt52_short _ s = omega arith
 
 -- ---- what stands on the laws of the parser and of the screen
 
@@ -60,7 +60,7 @@ module _ (laws : LawsBelow) where
 
   -- and at most twenty a control sequence
   short_sequence : (sequence : Option Sequence) (params : List ℕ) (s : Console) → IsSafe s
-      → length (reply_of (λ row. sequence_reply row params s) sequence) ≤ 20
+      → length (reply_of (λ row. sequence_reply row params) sequence s) ≤ 20
   short_sequence (Some Da) params s safe = grind (arith, nat_tests, attributes_short s.profile)
   short_sequence (Some Dsr) params s safe = grind (arith, nat_tests, short_position s safe)
   short_sequence (Some Decreqtparm) params s safe = grind (arith, nat_tests)
@@ -74,16 +74,16 @@ module _ (laws : LawsBelow) where
   -- a reply is paid by the bytes that its command takes at least
   reply_paid : (command : Command) (s : Console) → IsSafe s → 3 * length (reply command s) ≤ 20 * fewest_bytes command
   unfolding reply
-  reply_paid (Esc inter last) s safe = omega (arith, escape_short s.profile (escape_named inter last))
+  reply_paid (Esc inter last) s safe = omega (arith, escape_short (escape_named inter last) s)
   reply_paid (Csi private params last) s safe =
       let short = short_control_sequence private last params.items s safe in
       omega arith
-  reply_paid (Vt52 last) s safe = omega (arith, vt52_short (vt52_named last))
+  reply_paid (Vt52 last) s safe = omega (arith, vt52_short (vt52_named last) s)
   reply_paid _ s safe = omega arith
 
   -- ---- all replies
 
-  reply_paid_if : (command : Option Command) (s : Console) → IsSafe s → 3 * length (reply_if command s) ≤ 20 * fewest_of command
+  reply_paid_if : (command : Option Command) (s : Console) → IsSafe s → 3 * length (reply_of reply command s) ≤ 20 * fewest_of command
   reply_paid_if None s safe = omega arith
   reply_paid_if (Some command) s safe = reply_paid command s safe
 

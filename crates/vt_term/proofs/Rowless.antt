@@ -13,7 +13,7 @@ use Rattle.vt_term.specs.Profile.{has_editing}
 use Rattle.vt_term.specs.Rows.{named}
 use Rattle.vt_term.specs.Console.{Console, effect_of, on_picture}
 use Rattle.vt_term.specs.Escapes.{Escape, Decrc, escape_named, escape_effect, restored}
-use Rattle.vt_term.specs.Sequences.{Sequence, Il, Dl, Dch, Sm, Rm, sequence_named, sequence_effect, param_or, is_row_of, AnsiMode, Irm, Lnm, ansi_modes, is_mode_of, ansi_mode_done, ansi_mode_set}
+use Rattle.vt_term.specs.Sequences.{Sequence, Il, Dl, Dch, Sm, Rm, sequence_named, sequence_effect, param_or, is_row_of, AnsiMode, Irm, Lnm, ansi_modes, is_mode_of, ansi_mode_effect, ansi_mode_set}
 use Rattle.vt_term.specs.PrivateModes.{PrivateMode, Decanm, private_modes, switches, mode_effect, mode_set, modes_set}
 use Rattle.vt_term.specs.Vt52.{Vt52Sequence, EnterAnsi, vt52_named, vt52_effect}
 use Rattle.vt_term.specs.Replies.{escape_reply, sequence_reply, vt52_reply, reply_of}
@@ -23,8 +23,8 @@ use Rattle.vt_term.proofs.Steps.{effect_mode}
 
 -- ---- what has no row
 
-rowless : {Name : Type 0} (change : Name → Console → Console) (answer : Name → List ℕ) (row : Option Name) (s : Console)
-    → is_some row ≡ false → (effect_of change row s ≡ s) × (reply_of answer row ≡ [])
+rowless : {Name : Type 0} (change : Name → Console → Console) (answer : Name → Console → List ℕ) (row : Option Name) (s : Console)
+    → is_some row ≡ false → (effect_of change row s ≡ s) × (reply_of answer row s ≡ [])
 rowless change answer None s none = (refl, refl)
 rowless change answer (Some row) s none = absurd cc
 
@@ -34,7 +34,7 @@ unedited change s none = simp none refl
 
 rowless_sequence : (row : Option Sequence) (params : List ℕ) (s : Console)
     → has_row_of (is_row_of s.profile) row ≡ false
-    → (effect_of (λ r. sequence_effect r params) row s ≡ s) × (reply_of (λ r. sequence_reply r params s) row ≡ [])
+    → (effect_of (λ r. sequence_effect r params) row s ≡ s) × (reply_of (λ r. sequence_reply r params) row s ≡ [])
 rowless_sequence None params s none = (refl, refl)
 rowless_sequence (Some Il) params s none = (unedited (on_picture (lines_inserted (param_or params 0 1))) s none, refl)
 rowless_sequence (Some Dl) params s none = (unedited (on_picture (lines_deleted (param_or params 0 1))) s none, refl)
@@ -43,18 +43,18 @@ rowless_sequence (Some _) params s none = absurd cc
 
 pub rowless_commands_do_nothing : RowlessDoNothing
 unfolding effect reply
-rowless_commands_do_nothing (Esc inter last) s none = rowless escape_effect (escape_reply s.profile) (escape_named inter last) s none
+rowless_commands_do_nothing (Esc inter last) s none = rowless escape_effect escape_reply (escape_named inter last) s none
 rowless_commands_do_nothing (Csi true params last) s none =
-    ((rowless (modes_set params.items) (λ _. []) (named switches last) s none).0, refl)
+    ((rowless (modes_set params.items) (λ _ _. []) (named switches last) s none).0, refl)
 rowless_commands_do_nothing (Csi false params last) s none = rowless_sequence (sequence_named last) params.items s none
 rowless_commands_do_nothing (Vt52 last) s none = rowless vt52_effect vt52_reply (vt52_named last) s none
 rowless_commands_do_nothing _ s none = absurd cc
 
 pub rowless_modes_stay : RowlessModesStay
-rowless_modes_stay value s param none = (rowless (mode_effect value) (λ _. []) (named private_modes param) s none).0
+rowless_modes_stay value s param none = (rowless (mode_effect value) (λ _ _. []) (named private_modes param) s none).0
 
 rowless_mode : (profile : Profile) (value : Bool) (row : Option AnsiMode) (modes : Modes)
-    → has_row_of (is_mode_of profile) row ≡ false → ansi_mode_done profile value row modes ≡ modes
+    → has_row_of (is_mode_of profile) row ≡ false → effect_of (ansi_mode_effect profile value) row modes ≡ modes
 rowless_mode profile value None modes none = refl
 rowless_mode profile value (Some Lnm) modes none = absurd cc
 rowless_mode profile value (Some Irm) modes none = simp none refl
@@ -79,7 +79,7 @@ edited_mode true change s = refl
 edited_mode false change s = refl
 
 ansi_mode_kept : (profile : Profile) (value : Bool) (row : Option AnsiMode) (modes : Modes)
-    → (ansi_mode_done profile value row modes).mode ≡ modes.mode
+    → (effect_of (ansi_mode_effect profile value) row modes).mode ≡ modes.mode
 ansi_mode_kept profile value None modes = refl
 ansi_mode_kept profile value (Some Lnm) modes = refl
 ansi_mode_kept Vt100 value (Some Irm) modes = refl

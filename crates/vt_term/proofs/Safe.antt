@@ -28,7 +28,7 @@ use Rattle.vt_term.specs.Console.{Console, IsSafe, IsSavedWell, reset_console, o
 use Rattle.vt_term.specs.Rows.{named}
 use Rattle.vt_term.specs.Controls.{Control, Bs, Ht, Lf, Cr, So, Si, control_named, control_effect, line_fed, invoked}
 use Rattle.vt_term.specs.Escapes.{Escape, Ind, Nel, Ri, Hts, Decid, Ris, Decsc, Decrc, Deckpam, Deckpnm, DecdhlTop, DecdhlBottom, Decswl, Decdwl, Decaln, Scs, escape_named, escape_effect, restored}
-use Rattle.vt_term.specs.Sequences.{Sequence, Cuu, Cud, Cuf, Cub, Cup, Ed, El, Il, Dl, Dch, Decstbm, Tbc, Sgr, Sm, Rm, Decll, sequence_named, sequence_effect, param_or, leds_set, AnsiMode, Irm, Lnm, ansi_modes, ansi_mode_done, ansi_mode_set}
+use Rattle.vt_term.specs.Sequences.{Sequence, Cuu, Cud, Cuf, Cub, Cup, Ed, El, Il, Dl, Dch, Decstbm, Tbc, Sgr, Sm, Rm, Decll, sequence_named, sequence_effect, param_or, leds_set, AnsiMode, Irm, Lnm, ansi_modes, ansi_mode_effect, ansi_mode_set}
 use Rattle.vt_term.specs.PrivateModes.{PrivateMode, Decanm, Deccolm, Decom, Decawm, private_modes, switches, mode_effect, mode_set, modes_set, private_effect}
 use Rattle.vt_term.specs.Vt52.{Vt52Sequence, Up, Down, Right, Left, Home, ReverseIndex, EraseDisplay, EraseLine, vt52_named, vt52_effect}
 use Rattle.vt_term.specs.Effect.{effect, glyph_shown, glyph_for, control_sequence_effect}
@@ -137,7 +137,7 @@ leds_kept [] leds four = four
 leds_kept (param ∷ params) leds four = leds_kept params (leds_set leds param) (grind (arith, nat_tests, length-set {A = Bool}))
 
 ansi_mode_origin : (profile : Profile) (value : Bool) (mode : Option AnsiMode) (modes : Modes)
-    → (ansi_mode_done profile value mode modes).origin ≡ modes.origin
+    → (effect_of (ansi_mode_effect profile value) mode modes).origin ≡ modes.origin
 ansi_mode_origin profile value None modes = refl
 ansi_mode_origin profile value (Some Lnm) modes = refl
 ansi_mode_origin Vt100 value (Some Irm) modes = refl

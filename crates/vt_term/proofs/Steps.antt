@@ -17,7 +17,8 @@ use Rattle.vt_parser.specs.Law.{IsProper, is_sequence}
 use Rattle.vt_term.specs.declared.sets.Slot.{Slot}
 use Rattle.vt_term.specs.Console.{Console, IsSafe, effect_of}
 use Rattle.vt_term.specs.Controls.{Control, So, Si, control_named, control_effect, invoked}
-use Rattle.vt_term.specs.Effect.{effect, effect_if, reply_if}
+use Rattle.vt_term.specs.Replies.{reply_of}
+use Rattle.vt_term.specs.Effect.{effect, reply}
 use Rattle.vt_term.specs.Term.{Term, mode_of, reply_to, step, play, sent}
 use Rattle.vt_term.specs.Seen.{Seen, Shows}
 use Rattle.vt_term.specs.Law.{PlaysInParts, SendsInParts, SentIsAppended, SeenDecides, StaysSafe, LawsBelow}
@@ -78,8 +79,8 @@ term s pending reports = record { console = s; pending = pending; reports = repo
 -- Bytes that give one command with their last, or none, play to its effect and to what is pending after them, and send its reply.
 pub played : (given mode : Mode) (s : Console) (pending reports bytes : List ℕ) (command : Option Command)
     → s.modes.mode ≡ given → mode ≡ given → Gives given mode pending bytes command
-    → (play (term s pending reports) bytes ≡ term (effect_if command s) (pending_after_bytes given mode pending bytes) (reports ++ reply_if command s))
-    × (sent (term s pending reports) bytes ≡ reply_if command s)
+    → (play (term s pending reports) bytes ≡ term (effect_of effect command s) (pending_after_bytes given mode pending bytes) (reports ++ reply_of reply command s))
+    × (sent (term s pending reports) bytes ≡ reply_of reply command s)
 unfolding play sent
 played given mode s pending reports [] command shown same gives = (simp (gives, append-nil), simp gives)
 played given mode s pending reports (byte ∷ []) command shown same gives =
@@ -108,7 +109,7 @@ module _ (laws : LawsBelow) where
   view_then : (given mode : Mode) (s : Console) (pending bytes : List ℕ) (command : Option Command) (state : ParserState)
       → s.modes.mode ≡ given → Gives given mode pending bytes command
       → parser_view given (pending_after_bytes given mode pending bytes) ≡ Some state
-      → parser_view (effect_if command s).modes.mode (pending_after_bytes given mode pending bytes) ≡ Some state
+      → parser_view (effect_of effect command s).modes.mode (pending_after_bytes given mode pending bytes) ≡ Some state
   view_then given mode s pending bytes None state same gives view =
       ap (λ (m : Mode). parser_view m (pending_after_bytes given mode pending bytes)) same ∙ view
   view_then given mode s pending bytes (Some command) state same gives view = elim (cases_Bool (is_sequence command)) [
@@ -126,18 +127,18 @@ module _ (laws : LawsBelow) where
       → parser_view (mode_after_bytes seen.console.modes.mode (mode_of x) bytes)
       (pending_after_bytes seen.console.modes.mode (mode_of x) x.pending bytes)
       ≡ Some state
-      → Shows (record { console = effect_if command seen.console; state = state }) (play x bytes) × (sent x bytes ≡ reply_if command seen.console)
+      → Shows (record { console = effect_of effect command seen.console; state = state }) (play x bytes) × (sent x bytes ≡ reply_of reply command seen.console)
   shows_given seen x bytes command state shows gives view =
       let given = seen.console.modes.mode in
       let mode : mode_of x ≡ given = mode_shown seen x shows in
       let after = played given (mode_of x) x.console x.pending x.reports bytes command mode mode gives in
       let stays = mode_stays given (mode_of x) bytes mode in
       let pending = pending_after_bytes given (mode_of x) x.pending bytes in
-      let there : Shows (record { console = effect_if command seen.console; state = state }) (term (effect_if command x.console) pending (x.reports ++ reply_if command x.console)) = record {
-        console = ap (effect_if command) shows.console;
+      let there : Shows (record { console = effect_of effect command seen.console; state = state }) (term (effect_of effect command x.console) pending (x.reports ++ reply_of reply command x.console)) = record {
+        console = ap (effect_of effect command) shows.console;
         state = view_then given (mode_of x) x.console x.pending bytes command state mode gives (ap (λ (m : Mode). parser_view m pending) (sym stays) ∙ view);
       } in
-      (subst (Shows (record { console = effect_if command seen.console; state = state })) (sym after.0) there, after.1 ∙ ap (reply_if command) shows.console)
+      (subst (Shows (record { console = effect_of effect command seen.console; state = state })) (sym after.0) there, after.1 ∙ ap (reply_of reply command) shows.console)
 
   -- terms of which the same is seen
   pub seen_decides : SeenDecides
@@ -150,13 +151,13 @@ module _ (laws : LawsBelow) where
       let command = command_of (mode_of x) x.pending byte in
       let after_x = shows_given seen x (byte ∷ []) command next.0 shows_x refl next.1 in
       let after_y = shows_given seen y (byte ∷ []) command next.0 shows_y same.0 (same.1 ∙ next.1) in
-      let rest = seen_decides (record { console = effect_if command seen.console; state = next.0 }) (step x byte) (step y byte) bytes after_x.0 after_y.0 in
+      let rest = seen_decides (record { console = effect_of effect command seen.console; state = next.0 }) (step x byte) (step y byte) bytes after_x.0 after_y.0 in
       let answers : reply_to x byte ≡ reply_to y byte = sym (append-nil (reply_to x byte)) ∙ after_x.1 ∙ sym after_y.1 ∙ append-nil (reply_to y byte) in
       (rest.0, ap₂ (λ (l m : List ℕ). l ++ m) answers rest.1)
 
   -- ---- every term from the reset term is safe
 
-  safe_if : (command : Option Command) (s : Console) → IfSome command IsProper → IsSafe s → IsSafe (effect_if command s)
+  safe_if : (command : Option Command) (s : Console) → IfSome command IsProper → IsSafe s → IsSafe (effect_of effect command s)
   safe_if None s proper safe = safe
   safe_if (Some command) s proper safe = laws.commands_keep_safe command s proper safe
 

@@ -15,8 +15,9 @@ use Rattle.vt_parser.specs.Fold.{mode_after_bytes, pending_after_bytes}
 use Rattle.vt_parser.specs.Token.{command_of_token, IsRun, TellsOf, Leads}
 use Rattle.vt_parser.specs.Law.{IsProper}
 use Rattle.vt_term.specs.declared.profile.Profile.{Profile}
-use Rattle.vt_term.specs.Console.{Console, IsSafe, reset_console}
-use Rattle.vt_term.specs.Effect.{glyphs_shown, glyph_for, token_effect_if, token_reply_if, IsProperToken}
+use Rattle.vt_term.specs.Console.{Console, IsSafe, reset_console, effect_of}
+use Rattle.vt_term.specs.Replies.{reply_of}
+use Rattle.vt_term.specs.Effect.{glyphs_shown, glyph_for, token_effect, token_reply, IsProperToken}
 use Rattle.vt_term.specs.Term.{Term, reset_term_as, mode_of, play, sent}
 use Rattle.vt_term.specs.Seen.{Seen, Shows, IsTerminal}
 use Rattle.vt_term.specs.Law.{LawsBelow}
@@ -74,7 +75,7 @@ module _ (laws : LawsBelow) where
 
   shows_told : (seen : Seen) (x : Term) (bytes : List ℕ) (token : Option Token) (state : ParserState) → Shows seen x
       → TellsOf seen.console.modes.mode (mode_of x) x.pending bytes token → Leads seen.state seen.console.modes.mode bytes state
-      → Shows (record { console = token_effect_if token seen.console; state = state }) (play x bytes) × (sent x bytes ≡ token_reply_if token seen.console)
+      → Shows (record { console = effect_of token_effect token seen.console; state = state }) (play x bytes) × (sent x bytes ≡ reply_of token_reply token seen.console)
   shows_told seen x bytes None state shows told leads = shows_given laws seen x bytes None state shows told (leads (mode_of x) x.pending shows.state)
   shows_told seen x bytes (Some (Show run)) state shows told leads = shows_many seen x bytes run.now state shows told leads
   shows_told seen x bytes (Some token) state shows told leads =
@@ -85,7 +86,7 @@ module _ (laws : LawsBelow) where
       → seen ≡ now → given ≡ token → Shows now x
       → ((mode : Mode) (pending : List ℕ) → parser_view mode pending ≡ Some seen.state → TellsOf seen.console.modes.mode mode pending bytes given)
       → Leads seen.state seen.console.modes.mode bytes state
-      → Shows (record { console = token_effect_if token seen.console; state = state }) (play x bytes) × (sent x bytes ≡ token_reply_if token seen.console)
+      → Shows (record { console = effect_of token_effect token seen.console; state = state }) (play x bytes) × (sent x bytes ≡ reply_of token_reply token seen.console)
   shows_next seen now x bytes given token state same is shows told leads =
       let inside : Shows seen x = subst (λ (it : Seen). Shows it x) (sym same) shows in
       shows_told seen x bytes token state inside
@@ -95,7 +96,7 @@ module _ (laws : LawsBelow) where
   pub told_terminal : (seen : Seen) (bytes : List ℕ) (given token : Option Token) (state : ParserState) → given ≡ token → IsTerminal seen
       → ((mode : Mode) (pending : List ℕ) → parser_view mode pending ≡ Some seen.state → TellsOf seen.console.modes.mode mode pending bytes given)
       → Leads seen.state seen.console.modes.mode bytes state
-      → IsTerminal (record { console = token_effect_if token seen.console; state = state })
+      → IsTerminal (record { console = effect_of token_effect token seen.console; state = state })
   told_terminal seen bytes given token state same is told leads =
       let x = is.term.0 in
       let after = (shows_next seen seen x bytes given token state refl same is.term.1 told leads).0 in

@@ -71,8 +71,8 @@ on_modes change s = record s { modes = change s.modes }
 abbrev pub on_sets : (Sets → Sets) → Console → Console
 on_sets change s = record s { sets = change s.sets }
 
--- What stands in no table has no effect (ours).
-abbrev pub effect_of : {Name : Type 0} → (Name → Console → Console) → Option Name → Console → Console
+-- What stands in no table has no effect (ours), nor has a byte that gives no command.
+abbrev pub effect_of : {Name State : Type 0} → (Name → State → State) → Option Name → State → State
 effect_of effect None s = s
 effect_of effect (Some row) s = effect row s
 

@@ -1,5 +1,5 @@
 -- What a command does to a terminal, and what the terminal replies.
-use Rattle.std.specs.Prelude.{ℕ, ◌≤◌, Bool, true, false, List, [], map, fold, All, Option, Some, None, if◌then◌else◌}
+use Rattle.std.specs.Prelude.{ℕ, ◌≤◌, Bool, true, false, List, [], map, fold, All, if◌then◌else◌}
 use Rattle.vt_parser.specs.declared.commands.Command.{Command}
 use Rattle.vt_parser.specs.declared.commands.Command.TheVariants.{Show, Error, Control, Esc, Csi, Vt52, Vt52Address}
 use Rattle.vt_parser.specs.declared.commands.Token.{Token}
@@ -61,23 +61,14 @@ effect (Vt52Address line column) s = address_effect line column s
 -- the reply to a control sequence: to none with `?`
 abbrev pub control_sequence_reply : Bool → ℕ → List ℕ → Console → List ℕ
 control_sequence_reply true last params s = []
-control_sequence_reply false last params s = reply_of (λ row. sequence_reply row params s) (sequence_named last)
+control_sequence_reply false last params s = reply_of (λ row. sequence_reply row params) (sequence_named last) s
 
 -- the reply to a command, which is sent before its effect; the others have none
 unfoldable pub reply : Command → Console → List ℕ
-reply (Esc inter last) s = reply_of (escape_reply s.profile) (escape_named inter last)
+reply (Esc inter last) s = reply_of escape_reply (escape_named inter last) s
 reply (Csi private params last) s = control_sequence_reply private last params.items s
-reply (Vt52 last) s = reply_of vt52_reply (vt52_named last)
+reply (Vt52 last) s = reply_of vt52_reply (vt52_named last) s
 reply _ s = []
-
--- where a byte gives no command, nothing changes and there is no reply
-abbrev pub effect_if : Option Command → Console → Console
-effect_if None s = s
-effect_if (Some command) s = effect command s
-
-abbrev pub reply_if : Option Command → Console → List ℕ
-reply_if None s = []
-reply_if (Some command) s = reply command s
 
 -- Private: the effect of a token: of a run the glyphs of its characters, of any other that of its command
 abbrev pub token_effect : Token → Console → Console
@@ -88,16 +79,6 @@ token_effect other s = effect (command_of_token other) s
 abbrev pub token_reply : Token → Console → List ℕ
 token_reply (token.Show run) s = []
 token_reply other s = reply (command_of_token other) s
-
--- Private: the same where the bytes come to none
-abbrev pub token_effect_if : Option Token → Console → Console
-token_effect_if None s = s
-token_effect_if (Some told) s = token_effect told s
-
--- Private: the reply to it
-abbrev pub token_reply_if : Option Token → Console → List ℕ
-token_reply_if None s = []
-token_reply_if (Some told) s = token_reply told s
 
 -- Private: the numbers of a token are in their ranges
 abbrev pub IsProperToken : Token → Type 0

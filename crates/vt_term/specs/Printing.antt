@@ -60,14 +60,14 @@ abbrev pub EscapesBring : Type 0
 EscapesBring =
     (s : Console) (last : ℕ) → s.modes.mode ≡ Ansi
     → is_escape_final last ≡ true → begins_control_sequence last ≡ false → begins_string last ≡ false
-    → reply_of (escape_reply s.profile) (escape_named None last) ≡ []
+    → reply_of escape_reply (escape_named None last) s ≡ []
     → Brings s (escape ∷ last ∷ []) (effect_of escape_effect (escape_named None last) s)
 
 -- .. or with an intermediate byte between them, ..
 abbrev pub DesignationsBring : Type 0
 DesignationsBring =
     (s : Console) (inter last : ℕ) → s.modes.mode ≡ Ansi → is_intermediate inter ≡ true → is_escape_final last ≡ true
-    → reply_of (escape_reply s.profile) (escape_named (Some inter) last) ≡ []
+    → reply_of escape_reply (escape_named (Some inter) last) s ≡ []
     → Brings s (escape ∷ inter ∷ last ∷ []) (effect_of escape_effect (escape_named (Some inter) last) s)
 
 -- .. ESC [, numbers in decimal and a final byte, ..

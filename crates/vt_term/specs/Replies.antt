@@ -35,9 +35,9 @@ abbrev pub vt52_identity : List ℕ
 vt52_identity = escape ∷ codes "/Z"
 
 -- DECID (EK-VT100-UG chapter 3)
-abbrev pub escape_reply : Profile → Escape → List ℕ
-escape_reply profile Decid = device_attributes profile
-escape_reply profile _ = []
+abbrev pub escape_reply : Escape → Console → List ℕ
+escape_reply Decid s = device_attributes s.profile
+escape_reply _ s = []
 
 -- DA 0 (EK-VT100-UG chapter 3)
 abbrev pub attributes_reply : Profile → ℕ → List ℕ
@@ -69,11 +69,11 @@ sequence_reply Decreqtparm params s = parameters_reply (param_or params 0 0)
 sequence_reply _ params s = []
 
 -- the identification of VT52 mode (EK-VT100-UG chapter 3)
-abbrev pub vt52_reply : Vt52Sequence → List ℕ
-vt52_reply Identify = vt52_identity
-vt52_reply _ = []
+abbrev pub vt52_reply : Vt52Sequence → Console → List ℕ
+vt52_reply Identify s = vt52_identity
+vt52_reply _ s = []
 
--- what stands in no table has no reply
-abbrev pub reply_of : {Name : Type 0} → (Name → List ℕ) → Option Name → List ℕ
-reply_of reply None = []
-reply_of reply (Some row) = reply row
+-- What stands in no table has no reply, nor has a byte that gives no command.
+abbrev pub reply_of : {Name : Type 0} → (Name → Console → List ℕ) → Option Name → Console → List ℕ
+reply_of reply None s = []
+reply_of reply (Some row) s = reply row s

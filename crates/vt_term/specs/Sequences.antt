@@ -1,5 +1,5 @@
 -- Control sequences of ANSI mode without `?` (EK-VT100-UG chapter 3).
-use Rattle.std.specs.Prelude.{ℕ, ◌-◌, Bool, true, false, List, [], ◌∷◌, Option, Some, None, ◌==◌, nat_le, fold, slice_index, slice_set, if◌then◌else◌}
+use Rattle.std.specs.Prelude.{ℕ, ◌-◌, Bool, true, false, List, [], ◌∷◌, Option, ◌==◌, nat_le, fold, slice_index, slice_set, if◌then◌else◌}
 use Rattle.vt_screen.specs.Attributes.{Attributes, plain}
 use Rattle.vt_screen.specs.Picture.{Picture}
 use Rattle.vt_screen.specs.Moves.{stepped_up, stepped_down, stepped_right, stepped_left, placed}
@@ -13,7 +13,7 @@ use Rattle.vt_term.specs.declared.modes.Modes.{Modes}
 use Rattle.vt_term.specs.declared.profile.Profile.{Profile}
 use Rattle.vt_term.specs.Rows.{named}
 use Rattle.vt_term.specs.Profile.{has_editing}
-use Rattle.vt_term.specs.Console.{Console, dark, on_picture, on_modes}
+use Rattle.vt_term.specs.Console.{Console, dark, on_picture, on_modes, effect_of}
 
 -- the control sequences that have an effect or a reply; HVP is read as CUP (EK-VT100-UG chapter 3)
 pub data Sequence : Type 0 where
@@ -103,14 +103,9 @@ abbrev pub ansi_mode_effect : Profile → Bool → AnsiMode → Modes → Modes
 ansi_mode_effect profile value Irm modes = if has_editing profile then record modes { insert = value } else modes
 ansi_mode_effect profile value Lnm modes = record modes { newline = value }
 
--- the same where a parameter may name none; then nothing is done
-abbrev pub ansi_mode_done : Profile → Bool → Option AnsiMode → Modes → Modes
-ansi_mode_done profile value None modes = modes
-ansi_mode_done profile value (Some mode) modes = ansi_mode_effect profile value mode modes
-
 -- SM and RM of one parameter
 abbrev pub ansi_mode_set : Profile → Bool → Modes → ℕ → Modes
-ansi_mode_set profile value modes param = ansi_mode_done profile value (named ansi_modes param) modes
+ansi_mode_set profile value modes param = effect_of (ansi_mode_effect profile value) (named ansi_modes param) modes
 
 -- IL, DL and DCH do nothing where the profile hasn't them (ours)
 abbrev pub where_it_edits : (Picture → Picture) → Console → Console

@@ -4,8 +4,9 @@ use Rattle.vt_parser.specs.declared.commands.Mode.{Mode}
 use Rattle.vt_parser.specs.Step.{command_of, pending_after}
 use Rattle.vt_term.specs.declared.profile.Profile.{Profile}
 use Rattle.vt_term.specs.declared.profile.Profile.TheVariants.{Vt100}
-use Rattle.vt_term.specs.Console.{Console, reset_console}
-use Rattle.vt_term.specs.Effect.{effect_if, reply_if}
+use Rattle.vt_term.specs.Console.{Console, reset_console, effect_of}
+use Rattle.vt_term.specs.Replies.{reply_of}
+use Rattle.vt_term.specs.Effect.{effect, reply}
 
 -- what it shows, the bytes of the sequence that isn't finished from its ESC on, and all bytes sent so far
 pub record Term : Type 0 where
@@ -27,12 +28,12 @@ mode_of x = x.console.modes.mode
 
 -- the reply to one byte
 abbrev pub reply_to : Term → ℕ → List ℕ
-reply_to x byte = reply_if (command_of (mode_of x) x.pending byte) x.console
+reply_to x byte = reply_of reply (command_of (mode_of x) x.pending byte) x.console
 
 -- the step of a byte
 abbrev pub step : Term → ℕ → Term
 step x byte = record {
-  console = effect_if (command_of (mode_of x) x.pending byte) x.console;
+  console = effect_of effect (command_of (mode_of x) x.pending byte) x.console;
   pending = pending_after (mode_of x) x.pending byte;
   reports = x.reports ++ reply_to x byte;
 }

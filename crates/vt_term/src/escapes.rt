@@ -41,11 +41,11 @@ impl Console {
             ≡ effect_of escape_effect (escape_named inter last) (console_of self.old)) }
         ensures sent { OnOk result
             (sink.new ≡ after_sending sink.old
-            (reply_of (escape_reply self.old.profile) (escape_named inter last))) }
+            (reply_of escape_reply (escape_named inter last) (console_of self.old))) }
         ensures err { OnErr result (console_of self.new ≡ console_of self.old) }
         ensures err_sink { OnErr result (sink.new ≡ sink.old) }
         ensures room { HasRoom sink.old
-            (reply_of (escape_reply self.old.profile) (escape_named inter last))
+            (reply_of escape_reply (escape_named inter last) (console_of self.old))
             → IsOk result }
     {
         match inter {
@@ -67,11 +67,11 @@ impl Console {
             ≡ effect_of escape_effect (named plain_escapes last) (console_of self.old)) }
         ensures sent { OnOk result
             (sink.new ≡ after_sending sink.old
-            (reply_of (escape_reply self.old.profile) (named plain_escapes last))) }
+            (reply_of escape_reply (named plain_escapes last) (console_of self.old))) }
         ensures err { OnErr result (console_of self.new ≡ console_of self.old) }
         ensures err_sink { OnErr result (sink.new ≡ sink.old) }
         ensures room { HasRoom sink.old
-            (reply_of (escape_reply self.old.profile) (named plain_escapes last))
+            (reply_of escape_reply (named plain_escapes last) (console_of self.old))
             → IsOk result }
     {
         match last {
@@ -94,7 +94,7 @@ impl Console {
     fn change_line(&mut self, last: u8)
         ensures done { console_of self.new
             ≡ effect_of escape_effect (named line_escapes last) (console_of self.old) }
-        ensures silent { reply_of (escape_reply self.old.profile) (named line_escapes last) ≡ [] }
+        ensures silent { reply_of escape_reply (named line_escapes last) (console_of self.old) ≡ [] }
     {
         match last {
             b'3' => self.screen.set_size(Size::Top), // DECDHL
@@ -110,7 +110,7 @@ impl Console {
     fn designate(&mut self, slot: Slot, last: u8)
         ensures done { console_of self.new
             ≡ effect_of escape_effect (designation_named slot last) (console_of self.old) }
-        ensures silent { reply_of (escape_reply self.old.profile) (designation_named slot last)
+        ensures silent { reply_of escape_reply (designation_named slot last) (console_of self.old)
             ≡ [] }
     {
         if let Some(set) = set_named(last) {

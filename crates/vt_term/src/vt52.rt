@@ -17,10 +17,12 @@ impl Console {
         ensures done { OnOk result
             (console_of self.new ≡ effect_of vt52_effect (vt52_named last) (console_of self.old)) }
         ensures sent { OnOk result
-            (sink.new ≡ after_sending sink.old (reply_of vt52_reply (vt52_named last))) }
+            (sink.new ≡ after_sending sink.old
+            (reply_of vt52_reply (vt52_named last) (console_of self.old))) }
         ensures err { OnErr result (console_of self.new ≡ console_of self.old) }
         ensures err_sink { OnErr result (sink.new ≡ sink.old) }
-        ensures room { HasRoom sink.old (reply_of vt52_reply (vt52_named last)) → IsOk result }
+        ensures room { HasRoom sink.old (reply_of vt52_reply (vt52_named last) (console_of self.old))
+            → IsOk result }
     {
         match last {
             b'A' => self.screen.step_up(1),
