@@ -13,7 +13,7 @@ use Rattle.vt_term.specs.declared.profile.Profile.{Profile}
 use Rattle.vt_term.specs.declared.profile.Profile.TheVariants.{Vt100, Vt102}
 use Rattle.vt_term.specs.Console.{Console, IsSafe}
 use Rattle.vt_term.specs.Escapes.{Escape, Decid, escape_named}
-use Rattle.vt_term.specs.Sequences.{Sequence, Da, Dsr, Decreqtparm, sequence_named}
+use Rattle.vt_term.specs.Sequences.{Sequence, Da, Dsr, Decreqtparm, sequence_named, param_or}
 use Rattle.vt_term.specs.Vt52.{Vt52Sequence, Identify, vt52_named}
 use Rattle.vt_term.specs.Replies.{escape_reply, sequence_reply, vt52_reply, reply_of, cursor_position, reported_line, device_attributes}
 use Rattle.vt_term.specs.Effect.{reply, control_sequence_reply}
@@ -59,17 +59,17 @@ module _ (laws : LawsBelow) where
       omega arith
 
   -- and at most twenty a control sequence
-  short_sequence : (sequence : Option Sequence) (params : List ℕ) (s : Console) → IsSafe s
-      → length (reply_of (λ row. sequence_reply row params) sequence s) ≤ 20
-  short_sequence (Some Da) params s safe = grind (arith, nat_tests, attributes_short s.profile)
-  short_sequence (Some Dsr) params s safe = grind (arith, nat_tests, short_position s safe)
-  short_sequence (Some Decreqtparm) params s safe = grind (arith, nat_tests)
-  short_sequence _ params s safe = omega arith
+  short_sequence : (sequence : Option Sequence) (param : ℕ) (s : Console) → IsSafe s
+      → length (reply_of (λ row. sequence_reply row param) sequence s) ≤ 20
+  short_sequence (Some Da) param s safe = grind (arith, nat_tests, attributes_short s.profile)
+  short_sequence (Some Dsr) param s safe = grind (arith, nat_tests, short_position s safe)
+  short_sequence (Some Decreqtparm) param s safe = grind (arith, nat_tests)
+  short_sequence _ param s safe = omega arith
 
   short_control_sequence : (private : Bool) (last : ℕ) (params : List ℕ) (s : Console) → IsSafe s
       → length (control_sequence_reply private last params s) ≤ 20
   short_control_sequence true last params s safe = omega arith
-  short_control_sequence false last params s safe = short_sequence (sequence_named last) params s safe
+  short_control_sequence false last params s safe = short_sequence (sequence_named last) (param_or params 0 0) s safe
 
   -- a reply is paid by the bytes that its command takes at least
   reply_paid : (command : Command) (s : Console) → IsSafe s → 3 * length (reply command s) ≤ 20 * fewest_bytes command

@@ -34,7 +34,7 @@ unedited change s none = simp none refl
 
 rowless_sequence : (row : Option Sequence) (params : List ℕ) (s : Console)
     → has_row_of (is_row_of s.profile) row ≡ false
-    → (effect_of (λ r. sequence_effect r params) row s ≡ s) × (reply_of (λ r. sequence_reply r params) row s ≡ [])
+    → (effect_of (λ r. sequence_effect r params) row s ≡ s) × (reply_of (λ r. sequence_reply r (param_or params 0 0)) row s ≡ [])
 rowless_sequence None params s none = (refl, refl)
 rowless_sequence (Some Il) params s none = (unedited (on_picture (lines_inserted (param_or params 0 1))) s none, refl)
 rowless_sequence (Some Dl) params s none = (unedited (on_picture (lines_deleted (param_or params 0 1))) s none, refl)

@@ -16,7 +16,7 @@ use Rattle.vt_term.specs.Console.{Console, on_picture, effect_of}
 use Rattle.vt_term.specs.Sets.{glyph_of, checkerboard, set_in_use}
 use Rattle.vt_term.specs.Controls.{control_named, control_effect}
 use Rattle.vt_term.specs.Escapes.{escape_named, escape_effect}
-use Rattle.vt_term.specs.Sequences.{sequence_named, sequence_effect}
+use Rattle.vt_term.specs.Sequences.{sequence_named, sequence_effect, param_or}
 use Rattle.vt_term.specs.PrivateModes.{private_effect}
 use Rattle.vt_term.specs.Vt52.{vt52_named, vt52_effect, address_effect}
 use Rattle.vt_term.specs.Replies.{escape_reply, sequence_reply, vt52_reply, reply_of}
@@ -61,7 +61,8 @@ effect (Vt52Address line column) s = address_effect line column s
 -- the reply to a control sequence: to none with `?`
 abbrev pub control_sequence_reply : Bool → ℕ → List ℕ → Console → List ℕ
 control_sequence_reply true last params s = []
-control_sequence_reply false last params s = reply_of (λ row. sequence_reply row params) (sequence_named last) s
+control_sequence_reply false last params s =
+    reply_of (λ row. sequence_reply row (param_or params 0 0)) (sequence_named last) s
 
 -- the reply to a command, which is sent before its effect; the others have none
 unfoldable pub reply : Command → Console → List ℕ

@@ -5,7 +5,7 @@ use Rattle.vt_term.specs.declared.profile.Profile.{Profile}
 use Rattle.vt_term.specs.declared.profile.Profile.TheVariants.{Vt100, Vt102}
 use Rattle.vt_term.specs.Escapes.{Escape, Decid}
 use Rattle.vt_term.specs.Vt52.{Vt52Sequence, Identify}
-use Rattle.vt_term.specs.Sequences.{Sequence, Da, Dsr, Decreqtparm, param_or}
+use Rattle.vt_term.specs.Sequences.{Sequence, Da, Dsr, Decreqtparm}
 use Rattle.vt_term.specs.Console.{Console}
 
 -- DA: a VT100 with the Advanced Video Option (EK-VT100-UG chapter 3), or a VT102 (VT102 User Guide)
@@ -30,47 +30,28 @@ cursor_position line column =
 abbrev pub terminal_parameters : List ℕ → List ℕ
 terminal_parameters solicited = escape ∷ codes "[" ++ solicited ++ codes ";1;1;112;112;1;0x"
 
--- a VT100 that acts as a VT52 (EK-VT100-UG chapter 3)
-abbrev pub vt52_identity : List ℕ
-vt52_identity = escape ∷ codes "/Z"
-
 -- DECID (EK-VT100-UG chapter 3)
 abbrev pub escape_reply : Escape → Console → List ℕ
 escape_reply Decid s = device_attributes s.profile
 escape_reply _ s = []
 
--- DA 0 (EK-VT100-UG chapter 3)
-abbrev pub attributes_reply : Profile → ℕ → List ℕ
-attributes_reply profile param = if param == 0 then device_attributes profile else []
-
--- CPR of where the cursor is (EK-VT100-UG chapter 3)
-abbrev pub position_reply : Console → List ℕ
-position_reply s = cursor_position (reported_line s.modes.origin s.picture.line s.picture.top) s.picture.column
-
--- DSR 5 and 6 (EK-VT100-UG chapter 3)
-abbrev pub status_reply : ℕ → Console → List ℕ
-status_reply param s =
+-- the table of the replies to control sequences, by the first parameter (EK-VT100-UG chapter 3)
+abbrev pub sequence_reply : Sequence → ℕ → Console → List ℕ
+sequence_reply Da param s = if param == 0 then device_attributes s.profile else []
+sequence_reply Dsr param s =
+    let line = reported_line s.modes.origin s.picture.line s.picture.top in
     if param == 5 then ready
-    else (if param == 6 then position_reply s
+    else (if param == 6 then cursor_position line s.picture.column
     else [])
-
--- DECREQTPARM 0 and 1 (EK-VT100-UG chapter 3)
-abbrev pub parameters_reply : ℕ → List ℕ
-parameters_reply param =
+sequence_reply Decreqtparm param s =
     if param == 0 then terminal_parameters (codes "2")
     else (if param == 1 then terminal_parameters (codes "3")
     else [])
+sequence_reply _ param s = []
 
--- the table of the replies to control sequences
-abbrev pub sequence_reply : Sequence → List ℕ → Console → List ℕ
-sequence_reply Da params s = attributes_reply s.profile (param_or params 0 0)
-sequence_reply Dsr params s = status_reply (param_or params 0 0) s
-sequence_reply Decreqtparm params s = parameters_reply (param_or params 0 0)
-sequence_reply _ params s = []
-
--- the identification of VT52 mode (EK-VT100-UG chapter 3)
+-- the identification of VT52 mode: a VT100 that acts as a VT52 (EK-VT100-UG chapter 3)
 abbrev pub vt52_reply : Vt52Sequence → Console → List ℕ
-vt52_reply Identify s = vt52_identity
+vt52_reply Identify s = escape ∷ codes "/Z"
 vt52_reply _ s = []
 
 -- What stands in no table has no reply, nor has a byte that gives no command.

@@ -1,6 +1,7 @@
 //! What a terminal replies.
 ghost use Rattle.std.specs.Prelude.{◌≡◌, ◌≤◌, OnOk, OnErr, IsOk};
-ghost use Rattle.vt_term.specs.Replies.{device_attributes, attributes_reply, status_reply, parameters_reply, cursor_position, reported_line, position_reply};
+ghost use Rattle.vt_term.specs.Replies.{device_attributes, sequence_reply, cursor_position, reported_line};
+ghost use Rattle.vt_term.specs.Sequences.{Da, Dsr, Decreqtparm};
 ghost use Rattle.vt_term.specs.Console.{console_of, IsSafe};
 ghost use Rattle.vt_term.specs.Sink.{after_sending, HasRoom};
 
@@ -61,26 +62,13 @@ fn reported_line(origin: bool, line: u8, top: u8) -> u8
     }
 }
 
-/// DECREQTPARM.
-pub(crate) fn send_parameters(param: u16, sink: &mut Reports) -> Result<(), OutOfMemory>
-    ensures ok { OnOk result (sink.new ≡ after_sending sink.old (parameters_reply param)) }
-    ensures err { OnErr result (sink.new ≡ sink.old) }
-    ensures room { HasRoom sink.old (parameters_reply param) → IsOk result }
-{
-    match param {
-        0 => sink.send(UNSOLICITED_PARAMETERS),
-        1 => sink.send(SOLICITED_PARAMETERS),
-        _ => Ok(()),
-    }
-}
-
 impl Console {
     /// DA.
     pub(crate) fn send_attributes(&self, param: u16, sink: &mut Reports) -> Result<(), OutOfMemory>
         ensures ok { OnOk result
-            (sink.new ≡ after_sending sink.old (attributes_reply self.now.profile param)) }
+            (sink.new ≡ after_sending sink.old (sequence_reply Da param (console_of self.now))) }
         ensures err { OnErr result (sink.new ≡ sink.old) }
-        ensures room { HasRoom sink.old (attributes_reply self.now.profile param) → IsOk result }
+        ensures room { HasRoom sink.old (sequence_reply Da param (console_of self.now)) → IsOk result }
     {
         match param {
             0 => sink.send(device_attributes(self.profile)),
@@ -91,27 +79,35 @@ impl Console {
     /// DSR.
     pub(crate) fn send_status(&self, param: u16, sink: &mut Reports) -> Result<(), OutOfMemory>
         ensures ok { OnOk result
-            (sink.new ≡ after_sending sink.old (status_reply param (console_of self.now))) }
+            (sink.new ≡ after_sending sink.old (sequence_reply Dsr param (console_of self.now))) }
         ensures err { OnErr result (sink.new ≡ sink.old) }
-        ensures room { HasRoom sink.old (status_reply param (console_of self.now)) → IsOk result }
+        ensures room { HasRoom sink.old (sequence_reply Dsr param (console_of self.now)) → IsOk result }
     {
         match param {
             5 => sink.send(READY),
-            6 => self.send_position(sink),
+            6 => {
+                let (line, column) = self.screen.cursor();
+                let (top, _) = self.screen.margins();
+                let reported = reported_line(self.modes.origin, line, top);
+                sink.send(cursor_position(reported, column).as_slice())
+            }
             _ => Ok(()),
         }
     }
 
-    // DSR 6.
-    fn send_position(&self, sink: &mut Reports) -> Result<(), OutOfMemory>
+    /// DECREQTPARM.
+    pub(crate) fn send_parameters(&self, param: u16, sink: &mut Reports) -> Result<(), OutOfMemory>
         ensures ok { OnOk result
-            (sink.new ≡ after_sending sink.old (position_reply (console_of self.now))) }
+            (sink.new ≡ after_sending sink.old
+            (sequence_reply Decreqtparm param (console_of self.now))) }
         ensures err { OnErr result (sink.new ≡ sink.old) }
-        ensures room { HasRoom sink.old (position_reply (console_of self.now)) → IsOk result }
+        ensures room { HasRoom sink.old (sequence_reply Decreqtparm param (console_of self.now))
+            → IsOk result }
     {
-        let (line, column) = self.screen.cursor();
-        let (top, _) = self.screen.margins();
-        let reported = reported_line(self.modes.origin, line, top);
-        sink.send(cursor_position(reported, column).as_slice())
+        match param {
+            0 => sink.send(UNSOLICITED_PARAMETERS),
+            1 => sink.send(SOLICITED_PARAMETERS),
+            _ => Ok(()),
+        }
     }
 }

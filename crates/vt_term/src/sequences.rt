@@ -9,7 +9,6 @@ ghost use Rattle.vt_term.specs.Console.{console_of, on_picture, on_modes};
 ghost use Rattle.vt_term.specs.Sink.{after_sending, HasRoom};
 
 use crate::console::Console;
-use crate::replies::send_parameters;
 use crate::{OutOfMemory, Reports};
 use vt_screen::Rendition;
 use vt_screen::limits::LINES;
@@ -96,7 +95,7 @@ impl Console {
             b'q' => self.set_leds(params), // DECLL
             b'c' => return self.send_attributes(param_or(params, 0, 0), sink), // DA
             b'n' => return self.send_status(param_or(params, 0, 0), sink), // DSR
-            b'x' => return send_parameters(param_or(params, 0, 0), sink), // DECREQTPARM
+            b'x' => return self.send_parameters(param_or(params, 0, 0), sink), // DECREQTPARM
             _ => {}
         }
         Ok(())
