@@ -11,10 +11,11 @@ use Rattle.vt_parser.specs.Law.{fewest_bytes, fewest_of}
 use Rattle.vt_screen.specs.Picture.{Picture, Sound}
 use Rattle.vt_term.specs.declared.profile.Profile.{Profile}
 use Rattle.vt_term.specs.declared.profile.Profile.TheVariants.{Vt100, Vt102}
+use Rattle.vt_term.specs.Rows.{named}
 use Rattle.vt_term.specs.Console.{Console, IsSafe}
 use Rattle.vt_term.specs.Escapes.{Escape, Decid, escape_named}
-use Rattle.vt_term.specs.Sequences.{Sequence, Da, Dsr, Decreqtparm, sequence_named, param_or}
-use Rattle.vt_term.specs.Vt52.{Vt52Sequence, Identify, vt52_named}
+use Rattle.vt_term.specs.Sequences.{Sequence, Da, Dsr, Decreqtparm, sequences, param_or}
+use Rattle.vt_term.specs.Vt52.{Vt52Sequence, Identify, vt52_sequences}
 use Rattle.vt_term.specs.Replies.{escape_reply, sequence_reply, vt52_reply, reply_of, cursor_position, reported_line, device_attributes}
 use Rattle.vt_term.specs.Effect.{reply, control_sequence_reply}
 use Rattle.vt_term.specs.Term.{Term, reset_term_as, mode_of, reply_to, step, sent}
@@ -69,7 +70,7 @@ module _ (laws : LawsBelow) where
   short_control_sequence : (private : Bool) (last : ℕ) (params : List ℕ) (s : Console) → IsSafe s
       → length (control_sequence_reply private last params s) ≤ 20
   short_control_sequence true last params s safe = omega arith
-  short_control_sequence false last params s safe = short_sequence (sequence_named last) (param_or params 0 0) s safe
+  short_control_sequence false last params s safe = short_sequence (named sequences last) (param_or params 0 0) s safe
 
   -- a reply is paid by the bytes that its command takes at least
   reply_paid : (command : Command) (s : Console) → IsSafe s → 3 * length (reply command s) ≤ 20 * fewest_bytes command
@@ -78,7 +79,7 @@ module _ (laws : LawsBelow) where
   reply_paid (Csi private params last) s safe =
       let short = short_control_sequence private last params.items s safe in
       omega arith
-  reply_paid (Vt52 last) s safe = omega (arith, vt52_short (vt52_named last) s)
+  reply_paid (Vt52 last) s safe = omega (arith, vt52_short (named vt52_sequences last) s)
   reply_paid _ s safe = omega arith
 
   -- ---- all replies

@@ -13,9 +13,9 @@ use Rattle.vt_term.specs.Profile.{has_editing}
 use Rattle.vt_term.specs.Rows.{named}
 use Rattle.vt_term.specs.Console.{Console, effect_of, on_picture}
 use Rattle.vt_term.specs.Escapes.{Escape, Decrc, escape_named, escape_effect, restored}
-use Rattle.vt_term.specs.Sequences.{Sequence, Il, Dl, Dch, Sm, Rm, sequence_named, sequence_effect, param_or, is_row_of, AnsiMode, Irm, Lnm, ansi_modes, is_mode_of, ansi_mode_effect, ansi_mode_set}
+use Rattle.vt_term.specs.Sequences.{Sequence, Il, Dl, Dch, Sm, Rm, sequences, sequence_effect, param_or, is_row_of, AnsiMode, Irm, Lnm, ansi_modes, is_mode_of, ansi_mode_effect, ansi_mode_set}
 use Rattle.vt_term.specs.PrivateModes.{PrivateMode, Decanm, private_modes, switches, mode_effect, mode_set, modes_set}
-use Rattle.vt_term.specs.Vt52.{Vt52Sequence, EnterAnsi, vt52_named, vt52_effect}
+use Rattle.vt_term.specs.Vt52.{Vt52Sequence, EnterAnsi, vt52_sequences, vt52_effect}
 use Rattle.vt_term.specs.Replies.{escape_reply, sequence_reply, vt52_reply, reply_of}
 use Rattle.vt_term.specs.Effect.{effect, reply}
 use Rattle.vt_term.specs.Played.{has_row_of, mode_by_escape, mode_by_reset, mode_by_switch, mode_by_vt52, RowlessDoNothing, RowlessModesStay, RowlessAnsiModesStay, ModeGoesAlone}
@@ -46,8 +46,8 @@ unfolding effect reply
 rowless_commands_do_nothing (Esc inter last) s none = rowless escape_effect escape_reply (escape_named inter last) s none
 rowless_commands_do_nothing (Csi true params last) s none =
     ((rowless (modes_set params.items) (λ _ _. []) (named switches last) s none).0, refl)
-rowless_commands_do_nothing (Csi false params last) s none = rowless_sequence (sequence_named last) params.items s none
-rowless_commands_do_nothing (Vt52 last) s none = rowless vt52_effect vt52_reply (vt52_named last) s none
+rowless_commands_do_nothing (Csi false params last) s none = rowless_sequence (named sequences last) params.items s none
+rowless_commands_do_nothing (Vt52 last) s none = rowless vt52_effect vt52_reply (named vt52_sequences last) s none
 rowless_commands_do_nothing _ s none = absurd cc
 
 pub rowless_modes_stay : RowlessModesStay
@@ -140,8 +140,8 @@ pub mode_goes_alone : ModeGoesAlone
 unfolding effect
 mode_goes_alone (Esc inter last) s = escape_mode (escape_named inter last) s
 mode_goes_alone (Csi true params last) s = private_mode (named switches last) params.items s
-mode_goes_alone (Csi false params last) s = sequence_mode (sequence_named last) params.items s
-mode_goes_alone (Vt52 last) s = vt52_mode (vt52_named last) s
+mode_goes_alone (Csi false params last) s = sequence_mode (named sequences last) params.items s
+mode_goes_alone (Vt52 last) s = vt52_mode (named vt52_sequences last) s
 mode_goes_alone (Vt52Address line column) s = refl
 mode_goes_alone (Show byte) s = refl
 mode_goes_alone Error s = refl

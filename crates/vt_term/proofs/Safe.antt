@@ -26,11 +26,11 @@ use Rattle.vt_term.specs.declared.saved.Saved.{Saved}
 use Rattle.vt_term.specs.Sets.{glyph_of, checkerboard, set_in_use}
 use Rattle.vt_term.specs.Console.{Console, IsSafe, IsSavedWell, reset_console, on_picture, effect_of}
 use Rattle.vt_term.specs.Rows.{named}
-use Rattle.vt_term.specs.Controls.{Control, Bs, Ht, Lf, Cr, So, Si, control_named, control_effect, line_fed, invoked}
+use Rattle.vt_term.specs.Controls.{Control, Bs, Ht, Lf, Cr, So, Si, controls, control_effect, line_fed, invoked}
 use Rattle.vt_term.specs.Escapes.{Escape, Ind, Nel, Ri, Hts, Decid, Ris, Decsc, Decrc, Deckpam, Deckpnm, DecdhlTop, DecdhlBottom, Decswl, Decdwl, Decaln, Scs, escape_named, escape_effect, restored}
-use Rattle.vt_term.specs.Sequences.{Sequence, Cuu, Cud, Cuf, Cub, Cup, Ed, El, Il, Dl, Dch, Decstbm, Tbc, Sgr, Sm, Rm, Decll, sequence_named, sequence_effect, param_or, leds_set, AnsiMode, Irm, Lnm, ansi_modes, ansi_mode_effect, ansi_mode_set}
-use Rattle.vt_term.specs.PrivateModes.{PrivateMode, Decanm, Deccolm, Decom, Decawm, private_modes, switches, mode_effect, mode_set, modes_set, private_effect}
-use Rattle.vt_term.specs.Vt52.{Vt52Sequence, Up, Down, Right, Left, Home, ReverseIndex, EraseDisplay, EraseLine, vt52_named, vt52_effect}
+use Rattle.vt_term.specs.Sequences.{Sequence, Cuu, Cud, Cuf, Cub, Cup, Ed, El, Il, Dl, Dch, Decstbm, Tbc, Sgr, Sm, Rm, Decll, sequences, sequence_effect, param_or, leds_set, AnsiMode, Irm, Lnm, ansi_modes, ansi_mode_effect, ansi_mode_set}
+use Rattle.vt_term.specs.PrivateModes.{PrivateMode, Decanm, Deccolm, Decom, Decawm, private_modes, switches, mode_effect, mode_set, modes_set}
+use Rattle.vt_term.specs.Vt52.{Vt52Sequence, Up, Down, Right, Left, Home, ReverseIndex, EraseDisplay, EraseLine, vt52_sequences, vt52_effect}
 use Rattle.vt_term.specs.Effect.{effect, glyph_shown, glyph_for, control_sequence_effect}
 use Rattle.vt_term.specs.Law.{CommandsKeepSafe}
 
@@ -256,13 +256,10 @@ module _ (laws : ScreenLaws) where
   safe_modes value (param ∷ params) s safe =
       safe_modes value params (mode_set value s param) (safe_row (mode_effect value) (safe_mode value) (named private_modes param) s safe)
 
-  safe_private : (last : ℕ) (params : List ℕ) (s : Console) → IsSafe s → IsSafe (private_effect last params s)
-  safe_private last params s safe = safe_row (modes_set params) (λ value. safe_modes value params) (named switches last) s safe
-
   safe_control_sequence : (private : Bool) (last : ℕ) (params : List ℕ) (s : Console) → IsSafe s
       → IsSafe (control_sequence_effect private last params s)
-  safe_control_sequence true last params s safe = safe_private last params s safe
-  safe_control_sequence false last params s safe = safe_row (λ row. sequence_effect row params) (λ row. safe_sequence row params) (sequence_named last) s safe
+  safe_control_sequence true last params s safe = safe_row (modes_set params) (λ value. safe_modes value params) (named switches last) s safe
+  safe_control_sequence false last params s safe = safe_row (λ row. sequence_effect row params) (λ row. safe_sequence row params) (named sequences last) s safe
 
   safe_vt52 : (sequence : Vt52Sequence) (s : Console) → IsSafe s → IsSafe (vt52_effect sequence s)
   safe_vt52 Up s safe = safe_on s _ (laws.up 1) safe
@@ -281,8 +278,8 @@ module _ (laws : ScreenLaws) where
   unfolding effect
   safe_effect (Show byte) s proper safe = safe_put s (glyph_for s byte) (glyph_high (set_in_use s.modes.mode s.sets) byte proper.1) safe
   safe_effect Error s proper safe = safe_put s checkerboard (omega arith) safe
-  safe_effect (ControlOf byte) s proper safe = safe_row control_effect safe_control (control_named byte) s safe
+  safe_effect (ControlOf byte) s proper safe = safe_row control_effect safe_control (named controls byte) s safe
   safe_effect (Esc inter last) s proper safe = safe_row escape_effect safe_escape (escape_named inter last) s safe
   safe_effect (Csi private params last) s proper safe = safe_control_sequence private last params.items s safe
-  safe_effect (Vt52 last) s proper safe = safe_row vt52_effect safe_vt52 (vt52_named last) s safe
+  safe_effect (Vt52 last) s proper safe = safe_row vt52_effect safe_vt52 (named vt52_sequences last) s safe
   safe_effect (Vt52Address line column) s proper safe = safe_goes s _ (placed line column) (laws.place line column proper.0.0 proper.1.0) refl refl refl safe

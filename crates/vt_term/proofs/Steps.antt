@@ -15,8 +15,9 @@ use Rattle.vt_parser.specs.Step.{command_of, pending_after, mode_after}
 use Rattle.vt_parser.specs.Fold.{Gives, mode_after_bytes, pending_after_bytes}
 use Rattle.vt_parser.specs.Law.{IsProper, is_sequence}
 use Rattle.vt_term.specs.declared.sets.Slot.{Slot}
+use Rattle.vt_term.specs.Rows.{named}
 use Rattle.vt_term.specs.Console.{Console, IsSafe, effect_of}
-use Rattle.vt_term.specs.Controls.{Control, So, Si, control_named, control_effect, invoked}
+use Rattle.vt_term.specs.Controls.{Control, So, Si, controls, control_effect, invoked}
 use Rattle.vt_term.specs.Replies.{reply_of}
 use Rattle.vt_term.specs.Effect.{effect, reply}
 use Rattle.vt_term.specs.Term.{Term, mode_of, reply_to, step, play, sent}
@@ -39,7 +40,7 @@ pub effect_mode : (command : Command) (s : Console) → is_sequence command ≡ 
 unfolding effect
 effect_mode (Show byte) s is = refl
 effect_mode Error s is = refl
-effect_mode (ControlOf byte) s is = control_mode (control_named byte) s
+effect_mode (ControlOf byte) s is = control_mode (named controls byte) s
 effect_mode _ s is = absurd cc
 
 -- the mode that a terminal is in, given with each byte, stays

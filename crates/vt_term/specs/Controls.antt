@@ -1,5 +1,5 @@
 -- Control characters (EK-VT100-UG chapter 3). They act in both modes, and inside sequences that aren't finished.
-use Rattle.std.specs.Prelude.{ℕ, Bool, List, [], ◌∷◌, Option, if◌then◌else◌}
+use Rattle.std.specs.Prelude.{ℕ, Bool, List, [], ◌∷◌, if◌then◌else◌}
 use Rattle.vt_parser.specs.declared.commands.Mode.{Mode}
 use Rattle.vt_parser.specs.declared.commands.Mode.TheVariants.{Ansi, Vt52}
 use Rattle.vt_screen.specs.Picture.{Picture}
@@ -8,7 +8,6 @@ use Rattle.vt_screen.specs.Scrolls.{indexed}
 use Rattle.vt_screen.specs.Tabs.{tabbed}
 use Rattle.vt_term.specs.declared.sets.Slot.{Slot}
 use Rattle.vt_term.specs.declared.sets.Slot.TheVariants.{G0, G1}
-use Rattle.vt_term.specs.Rows.{named}
 use Rattle.vt_term.specs.Console.{Console, on_picture, on_sets}
 
 -- the control characters that have an effect; VT and FF are read as LF (EK-VT100-UG chapter 3)
@@ -27,9 +26,6 @@ controls =
     (14, So) ∷  -- SO
     (15, Si) ∷  -- SI
     []
-
-abbrev pub control_named : ℕ → Option Control
-control_named = named controls
 
 -- LF: index; where LNM is set the column becomes 1 first (EK-VT100-UG chapter 3, LNM)
 abbrev pub line_fed : Bool → Picture → Picture

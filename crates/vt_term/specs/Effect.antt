@@ -8,17 +8,19 @@ use Rattle.vt_parser.specs.Token.{command_of_token}
 use Rattle.vt_parser.specs.Law.{IsProper}
 use Rattle.vt_screen.specs.Attributes.{Attributes}
 use Rattle.vt_screen.specs.Picture.{Picture}
+use Rattle.vt_screen.specs.Moves.{placed}
 use Rattle.vt_screen.specs.Puts.{shown, run_shown}
 use Rattle.vt_screen.specs.CellEdits.{shown_inserting}
 use Rattle.vt_screen.specs.Limits.{last_glyph}
 use Rattle.vt_term.specs.declared.modes.Modes.{Modes}
+use Rattle.vt_term.specs.Rows.{named}
 use Rattle.vt_term.specs.Console.{Console, on_picture, effect_of}
 use Rattle.vt_term.specs.Sets.{glyph_of, checkerboard, set_in_use}
-use Rattle.vt_term.specs.Controls.{control_named, control_effect}
+use Rattle.vt_term.specs.Controls.{controls, control_effect}
 use Rattle.vt_term.specs.Escapes.{escape_named, escape_effect}
-use Rattle.vt_term.specs.Sequences.{sequence_named, sequence_effect, param_or}
-use Rattle.vt_term.specs.PrivateModes.{private_effect}
-use Rattle.vt_term.specs.Vt52.{vt52_named, vt52_effect, address_effect}
+use Rattle.vt_term.specs.Sequences.{sequences, sequence_effect, param_or}
+use Rattle.vt_term.specs.PrivateModes.{switches, modes_set}
+use Rattle.vt_term.specs.Vt52.{vt52_sequences, vt52_effect}
 use Rattle.vt_term.specs.Replies.{escape_reply, sequence_reply, vt52_reply, reply_of}
 
 -- a glyph is put: in insert mode the cells from the cursor on make room for it (VT102 User Guide, IRM; that this
@@ -45,30 +47,31 @@ glyph_for s byte = glyph_of (set_in_use s.modes.mode s.sets) byte
 
 -- a control sequence, with `?` or without
 abbrev pub control_sequence_effect : Bool → ℕ → List ℕ → Console → Console
-control_sequence_effect true last params s = private_effect last params s
-control_sequence_effect false last params s = effect_of (λ row. sequence_effect row params) (sequence_named last) s
+control_sequence_effect true last params s = effect_of (modes_set params) (named switches last) s
+control_sequence_effect false last params s = effect_of (λ row. sequence_effect row params) (named sequences last) s
 
--- the effect of a command: of a whole sequence, a control, a character or the error character
+-- the effect of a command: of a whole sequence, a control, a character or the error character; a direct cursor address
+-- is CUP with line and column (EK-VT100-UG chapter 3)
 unfoldable pub effect : Command → Console → Console
 effect (Show byte) s = glyph_shown (glyph_for s byte) s
 effect Error s = glyph_shown checkerboard s
-effect (Control byte) s = effect_of control_effect (control_named byte) s
+effect (Control byte) s = effect_of control_effect (named controls byte) s
 effect (Esc inter last) s = effect_of escape_effect (escape_named inter last) s
 effect (Csi private params last) s = control_sequence_effect private last params.items s
-effect (Vt52 last) s = effect_of vt52_effect (vt52_named last) s
-effect (Vt52Address line column) s = address_effect line column s
+effect (Vt52 last) s = effect_of vt52_effect (named vt52_sequences last) s
+effect (Vt52Address line column) s = on_picture (placed line column s.modes.origin) s
 
 -- the reply to a control sequence: to none with `?`
 abbrev pub control_sequence_reply : Bool → ℕ → List ℕ → Console → List ℕ
 control_sequence_reply true last params s = []
 control_sequence_reply false last params s =
-    reply_of (λ row. sequence_reply row (param_or params 0 0)) (sequence_named last) s
+    reply_of (λ row. sequence_reply row (param_or params 0 0)) (named sequences last) s
 
 -- the reply to a command, which is sent before its effect; the others have none
 unfoldable pub reply : Command → Console → List ℕ
 reply (Esc inter last) s = reply_of escape_reply (escape_named inter last) s
 reply (Csi private params last) s = control_sequence_reply private last params.items s
-reply (Vt52 last) s = reply_of vt52_reply (vt52_named last) s
+reply (Vt52 last) s = reply_of vt52_reply (named vt52_sequences last) s
 reply _ s = []
 
 -- Private: the effect of a token: of a run the glyphs of its characters, of any other that of its command

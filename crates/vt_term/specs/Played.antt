@@ -10,9 +10,9 @@ use Rattle.vt_term.specs.declared.modes.Modes.{Modes}
 use Rattle.vt_term.specs.Rows.{named}
 use Rattle.vt_term.specs.Console.{Console}
 use Rattle.vt_term.specs.Escapes.{Escape, Ris, escape_named}
-use Rattle.vt_term.specs.Sequences.{sequence_named, is_row_of, ansi_modes, is_mode_of, ansi_mode_set}
+use Rattle.vt_term.specs.Sequences.{sequences, is_row_of, ansi_modes, is_mode_of, ansi_mode_set}
 use Rattle.vt_term.specs.PrivateModes.{PrivateMode, Decanm, private_modes, switches, mode_set}
-use Rattle.vt_term.specs.Vt52.{Vt52Sequence, EnterAnsi, vt52_named}
+use Rattle.vt_term.specs.Vt52.{Vt52Sequence, EnterAnsi, vt52_sequences}
 use Rattle.vt_term.specs.Effect.{effect, reply}
 
 -- ---- what has a row
@@ -29,7 +29,7 @@ escape_has_row inter last = is_some (escape_named inter last)
 -- a control sequence, with `?` or without, by its final byte
 abbrev pub sequence_has_row : Profile → Bool → ℕ → Bool
 sequence_has_row profile true last = is_some (named switches last)
-sequence_has_row profile false last = has_row_of (is_row_of profile) (sequence_named last)
+sequence_has_row profile false last = has_row_of (is_row_of profile) (named sequences last)
 
 -- a parameter of h and l, with `?` or without
 abbrev pub mode_has_row : Profile → Bool → ℕ → Bool
@@ -38,7 +38,7 @@ mode_has_row profile false param = has_row_of (is_mode_of profile) (named ansi_m
 
 -- a sequence of VT52 mode, by its final byte
 abbrev pub vt52_has_row : ℕ → Bool
-vt52_has_row last = is_some (vt52_named last)
+vt52_has_row last = is_some (named vt52_sequences last)
 
 -- A command of the parser. Characters, controls and a direct cursor address are always played; parameters of h and l
 -- are asked for by themselves.
@@ -75,7 +75,7 @@ mode_by_vt52 _ mode = mode
 abbrev pub mode_left : Command → Mode → Mode
 mode_left (Esc inter last) mode = mode_by_escape (escape_named inter last) mode
 mode_left (Csi true params last) mode = mode_by_switch (named switches last) params.items mode
-mode_left (Vt52 last) mode = mode_by_vt52 (vt52_named last) mode
+mode_left (Vt52 last) mode = mode_by_vt52 (named vt52_sequences last) mode
 mode_left _ mode = mode
 
 -- ---- the laws

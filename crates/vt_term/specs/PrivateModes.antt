@@ -24,7 +24,7 @@ private_modes =
     (9, Decinlm) ∷
     []
 
--- the final bytes that set modes (true) or reset them
+-- the final bytes that set modes (true) or reset them; others have no effect (EK-VT100-UG chapter 3)
 abbrev pub switches : List (ℕ × Bool)
 switches =
     (104, true) ∷  -- h
@@ -61,7 +61,3 @@ mode_set value s param = effect_of (mode_effect value) (named private_modes para
 -- every parameter, from left to right
 abbrev pub modes_set : List ℕ → Bool → Console → Console
 modes_set params value s = fold (mode_set value) s params
-
--- other finals have no effect (EK-VT100-UG chapter 3)
-abbrev pub private_effect : ℕ → List ℕ → Console → Console
-private_effect last params s = effect_of (modes_set params) (named switches last) s

@@ -1,5 +1,5 @@
 -- Control sequences of ANSI mode without `?` (EK-VT100-UG chapter 3).
-use Rattle.std.specs.Prelude.{ℕ, ◌-◌, Bool, true, false, List, [], ◌∷◌, Option, ◌==◌, nat_le, fold, slice_index, slice_set, if◌then◌else◌}
+use Rattle.std.specs.Prelude.{ℕ, ◌-◌, Bool, true, false, List, [], ◌∷◌, ◌==◌, nat_le, fold, slice_index, slice_set, if◌then◌else◌}
 use Rattle.vt_screen.specs.Attributes.{Attributes, plain}
 use Rattle.vt_screen.specs.Picture.{Picture}
 use Rattle.vt_screen.specs.Moves.{stepped_up, stepped_down, stepped_right, stepped_left, placed}
@@ -43,9 +43,6 @@ sequences =
     (110, Dsr) ∷  -- n
     (120, Decreqtparm) ∷  -- x
     []
-
-abbrev pub sequence_named : ℕ → Option Sequence
-sequence_named = named sequences
 
 -- IL, DL and DCH are rows of a VT102 alone (VT102 User Guide)
 abbrev pub is_row_of : Profile → Sequence → Bool

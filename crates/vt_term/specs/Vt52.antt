@@ -1,10 +1,9 @@
 -- Sequences of VT52 mode (EK-VT100-UG chapter 3, VT52 mode).
-use Rattle.std.specs.Prelude.{ℕ, Bool, true, false, List, [], ◌∷◌, Option}
+use Rattle.std.specs.Prelude.{ℕ, Bool, true, false, List, [], ◌∷◌}
 use Rattle.vt_parser.specs.declared.commands.Mode.TheVariants.{Ansi}
-use Rattle.vt_screen.specs.Moves.{stepped_up, stepped_down, stepped_right, stepped_left, placed, moved_home}
+use Rattle.vt_screen.specs.Moves.{stepped_up, stepped_down, stepped_right, stepped_left, moved_home}
 use Rattle.vt_screen.specs.Scrolls.{reverse_indexed}
 use Rattle.vt_screen.specs.Erasures.{display_erased, line_erased}
-use Rattle.vt_term.specs.Rows.{named}
 use Rattle.vt_term.specs.Console.{Console, on_picture, on_modes, on_sets}
 use Rattle.vt_term.specs.Escapes.{keypad_set}
 
@@ -32,9 +31,6 @@ vt52_sequences =
     (60, EnterAnsi) ∷  -- <
     []
 
-abbrev pub vt52_named : ℕ → Option Vt52Sequence
-vt52_named = named vt52_sequences
-
 -- VT52 graphics on and off (EK-VT100-UG chapter 3)
 abbrev pub graphics_set : Bool → Console → Console
 graphics_set value s = on_sets (λ sets. record sets { vt52_graphics = value }) s
@@ -56,7 +52,3 @@ vt52_effect Identify s = s
 vt52_effect KeypadApplication s = keypad_set true s
 vt52_effect KeypadNumeric s = keypad_set false s
 vt52_effect EnterAnsi s = on_modes (λ modes. record modes { mode = Ansi }) s
-
--- a direct cursor address: CUP with line and column (EK-VT100-UG chapter 3)
-abbrev pub address_effect : ℕ → ℕ → Console → Console
-address_effect line column s = on_picture (placed line column s.modes.origin) s

@@ -1,6 +1,7 @@
 //! Control characters.
 ghost use Rattle.std.specs.Prelude.{◌≡◌};
-ghost use Rattle.vt_term.specs.Controls.{control_named, control_effect, line_fed, invoked};
+ghost use Rattle.vt_term.specs.Rows.{named};
+ghost use Rattle.vt_term.specs.Controls.{controls, control_effect, line_fed, invoked};
 ghost use Rattle.vt_term.specs.Console.{console_of, on_picture, effect_of};
 
 use crate::Slot;
@@ -12,7 +13,7 @@ impl Console {
     #[inline]
     pub(crate) fn control(&mut self, byte: u8)
         ensures { console_of self.new
-            ≡ effect_of control_effect (control_named byte) (console_of self.old) }
+            ≡ effect_of control_effect (named controls byte) (console_of self.old) }
     {
         match byte {
             8 => self.screen.step_left(1), // BS

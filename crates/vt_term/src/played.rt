@@ -4,7 +4,7 @@ ghost use Rattle.vt_term.specs.Rows.{named};
 ghost use Rattle.vt_parser.specs.Token.{command_of_token};
 ghost use Rattle.vt_term.specs.Escapes.{escape_named};
 ghost use Rattle.vt_term.specs.PrivateModes.{private_modes, switches};
-ghost use Rattle.vt_term.specs.Vt52.{vt52_named};
+ghost use Rattle.vt_term.specs.Vt52.{vt52_sequences};
 ghost use Rattle.vt_term.specs.Played.{escape_has_row, sequence_has_row, mode_has_row, vt52_has_row, mode_left, mode_by_escape, mode_by_switch, mode_by_vt52, mode_by_reset};
 
 use crate::Profile;
@@ -117,7 +117,7 @@ fn mode_by_switch(last: u8, params: &[u16], mode: Mode) -> Mode
 
 // ESC `<` leaves ANSI mode.
 fn mode_by_vt52(last: u8, mode: Mode) -> Mode
-    ensures { result ≡ mode_by_vt52 (vt52_named last) mode }
+    ensures { result ≡ mode_by_vt52 (named vt52_sequences last) mode }
 {
     if last == b'<' {
         return Mode::Ansi;

@@ -1,6 +1,7 @@
 //! Control sequences of ANSI mode with `?`.
-ghost use Rattle.std.specs.Prelude.{◌≡◌};
-ghost use Rattle.vt_term.specs.PrivateModes.{Decanm, Decom, Decawm, mode_effect, mode_set, modes_set, private_effect, vt52_entered};
+ghost use Rattle.std.specs.Prelude.{◌≡◌, true};
+ghost use Rattle.vt_term.specs.PrivateModes.{Decanm, Decom, Decawm, mode_effect, mode_set, modes_set, vt52_entered};
+ghost use Rattle.vt_term.specs.Effect.{control_sequence_effect};
 ghost use Rattle.vt_term.specs.Console.{console_of, on_picture};
 
 use crate::console::Console;
@@ -9,7 +10,8 @@ use vt_parser::Mode;
 impl Console {
     /// Does what a control sequence with `?` asks for.
     pub(crate) fn obey_private_sequence(&mut self, last: u8, params: &[u16])
-        ensures { console_of self.new ≡ private_effect last params.now (console_of self.old) }
+        ensures { console_of self.new
+            ≡ control_sequence_effect true last params.now (console_of self.old) }
     {
         match last {
             b'h' => self.set_modes(true, params),

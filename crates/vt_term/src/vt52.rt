@@ -1,8 +1,10 @@
 //! Sequences of VT52 mode.
 ghost use Rattle.std.specs.Prelude.{◌≡◌, ◌≤◌, IsOk, OnOk, OnErr};
-ghost use Rattle.vt_term.specs.Vt52.{vt52_named, vt52_effect, graphics_set, address_effect};
+ghost use Rattle.vt_screen.specs.Moves.{placed};
+ghost use Rattle.vt_term.specs.Rows.{named};
+ghost use Rattle.vt_term.specs.Vt52.{vt52_sequences, vt52_effect, graphics_set};
 ghost use Rattle.vt_term.specs.Replies.{vt52_reply, reply_of};
-ghost use Rattle.vt_term.specs.Console.{console_of, effect_of};
+ghost use Rattle.vt_term.specs.Console.{console_of, on_picture, effect_of};
 ghost use Rattle.vt_term.specs.Sink.{after_sending, HasRoom};
 
 use crate::console::Console;
@@ -15,13 +17,13 @@ impl Console {
     /// nothing.
     pub(crate) fn obey_vt52(&mut self, last: u8, sink: &mut Reports) -> Result<(), OutOfMemory>
         ensures done { OnOk result
-            (console_of self.new ≡ effect_of vt52_effect (vt52_named last) (console_of self.old)) }
+            (console_of self.new ≡ effect_of vt52_effect (named vt52_sequences last) (console_of self.old)) }
         ensures sent { OnOk result
             (sink.new ≡ after_sending sink.old
-            (reply_of vt52_reply (vt52_named last) (console_of self.old))) }
+            (reply_of vt52_reply (named vt52_sequences last) (console_of self.old))) }
         ensures err { OnErr result (console_of self.new ≡ console_of self.old) }
         ensures err_sink { OnErr result (sink.new ≡ sink.old) }
-        ensures room { HasRoom sink.old (reply_of vt52_reply (vt52_named last) (console_of self.old))
+        ensures room { HasRoom sink.old (reply_of vt52_reply (named vt52_sequences last) (console_of self.old))
             → IsOk result }
     {
         match last {
@@ -54,7 +56,8 @@ impl Console {
     pub(crate) fn go_to_address(&mut self, line: u8, column: u8)
         requires line { 1 ≤ line }
         requires column { 1 ≤ column }
-        ensures { console_of self.new ≡ address_effect line column (console_of self.old) }
+        ensures { console_of self.new
+            ≡ on_picture (placed line column self.old.modes.origin) (console_of self.old) }
     {
         self.screen
             .place(u16::from(line), u16::from(column), self.modes.origin);
