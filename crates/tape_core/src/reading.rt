@@ -15,13 +15,6 @@ use crate::timing::{Entry, first_entry, judged};
 use std::alloc::{AllocError, Global};
 use std::rc::Rc;
 
-/// The text, to be shared.
-fn shared(alloc: Global, text: Vec<u8>) -> Result<Rc<Vec<u8>>, AllocError>
-    ensures { IfOk result (λ shared. shared.value ≡ text) }
-{
-    Ok(Rc::new(alloc, text)?)
-}
-
 /// Adds the chunk of an entry, a part of the script.
 fn add_chunk(
     chunks: &mut Vec<Chunk>,
@@ -88,7 +81,9 @@ pub fn read_recording_of(alloc: Global, script: Vec<u8>, timing: &[u8]) -> Resul
     let end = position_of(&script, b'\n');
     let start = script.len().min(end + 1);
     let behind = script.len() - start;
-    let script = shared(alloc, script)?;
+    let Ok(script) = Rc::new(alloc, script) else {
+        return Err(Fault::OutOfMemory);
+    };
     let (chunks, bytes) = cut_chunks(alloc, &script, start, timing)?;
     if end == script.len() {
         return Err(Fault::NoHeader);

@@ -7,7 +7,7 @@ pub from_parts-requires : goal.from_parts-requires
 from_parts-requires c =
     let script = c.args.script.items in
     let start = c.min-start.result in
-    let held : c.in_ok-script.script.value.items ≡ script = ap (λ text. text.items) c.in_ok-script.ensures in
+    let held : c.in-Ok.script.value.items ≡ script = ap (λ text. text.items) c.in-Ok.ensures.ok in
     let bytes = c.in_ok-chunks.bytes in
     let len : c.len-2.result ≡ length script = omega arith in
     let size = ap length held in
@@ -23,7 +23,7 @@ pub returns-clause-ok : goal.returns-clause-ok
 returns-clause-ok c =
     let script = c.args.script.items in
     let start = c.min-start.result in
-    let held : c.in_ok-script.script.value.items ≡ script = ap (λ text. text.items) c.in_ok-script.ensures in
+    let held : c.in-Ok.script.value.items ≡ script = ap (λ text. text.items) c.in-Ok.ensures.ok in
     let bytes = c.in_ok-chunks.bytes in
     let len : c.len-2.result ≡ length script = omega arith in
     let size = ap length held in
