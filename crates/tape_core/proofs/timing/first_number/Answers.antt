@@ -1,6 +1,6 @@
 use Rattle.std.proofs.Common.{◌≤◌, get_or, arith}
 use Rattle.tape_core.proofs.FirstLineLemmas.{digit_read}
-use Rattle.tape_core.proofs.timing.written.first_number.Goals as goal
+use Rattle.tape_core.proofs.timing.first_number.Goals as goal
 
 pub loop-rest-preserved : goal.loop-rest-preserved
 loop-rest-preserved c =

@@ -1,6 +1,6 @@
 use Rattle.std.proofs.Common.{◌-◌, length, take, drop, arith}
 use Rattle.tape_core.proofs.FirstLineLemmas.{begins, entry_first, six_decimals_first}
-use Rattle.tape_core.proofs.timing.written.written_entry.Goals as goal
+use Rattle.tape_core.proofs.timing.written_entry.Goals as goal
 
 pub returns-in-10-clause-line : goal.returns-in-10-clause-line
 returns-in-10-clause-line c =

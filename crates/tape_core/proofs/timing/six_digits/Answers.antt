@@ -1,7 +1,7 @@
 use Rattle.std.proofs.Common.{◌-◌, ◌<◌, length, take, drop, ap, ◌∙◌, arith, length-append}
 use Rattle.std.proofs.lemmas.List.{length-take}
 use Rattle.tape_core.proofs.FirstLineLemmas.{six_read}
-use Rattle.tape_core.proofs.timing.written.six_digits.Goals as goal
+use Rattle.tape_core.proofs.timing.six_digits.Goals as goal
 
 pub returns-in-48-to-57-clause-number : goal.returns-in-48-to-57-clause-number
 returns-in-48-to-57-clause-number c =
