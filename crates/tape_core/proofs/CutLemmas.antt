@@ -1,5 +1,5 @@
 -- The script is cut line by line of the timing.
-use Rattle.std.proofs.Common.{◌≡◌, ℕ, ◌+◌, ◌-◌, ◌<◌, ◌≤◌, List, [], ◌∷◌, ◌++◌, length, take, drop, map, Some, None, Ok, refl, ap, sym, ◌∙◌, arith, inl, inr, length-append, append-nil, subst}
+use Rattle.std.proofs.Common.{◌≡◌, ℕ, ◌+◌, ◌-◌, ◌<◌, ◌≤◌, List, [], ◌∷◌, ◌++◌, length, take, drop, map, Some, None, Ok, ap, sym, ◌∙◌, arith, inl, inr, length-append, append-nil, subst}
 use Rattle.std.proofs.lemmas.Bool.{cases_lt}
 use Rattle.std.proofs.lemmas.List.{take_all, take-append-le, length-take, length-drop, length-map, map-append, flat_map_more, drop-drop}
 use Rattle.std.proofs.lemmas.List.Sums.{sum_by_push}
@@ -13,7 +13,7 @@ use Rattle.tape_core.specs.Steps.{FitsAfter, IsCut, entry_for}
 use Rattle.tape_core.specs.Text.{lines_of}
 use Rattle.tape_core.specs.Reading.{first_short}
 use Rattle.tape_core.proofs.ReadingLemmas.{short_at}
-use Rattle.tape_core.proofs.TimingLemmas.{ReadSoFar, nothing_read, line_blank, line_faulty, line_timed}
+use Rattle.tape_core.proofs.TimingLemmas.{ReadSoFar, line_blank, line_faulty, line_timed}
 
 -- chunk i of these entries is the first that needs more bytes than there are
 pub record ShortAt (bytes : ℕ) (entries : List Entry) (i : ℕ) : Type 0 where
@@ -47,16 +47,6 @@ pub record CutSoFar (script : List ℕ) (start : ℕ) (timing rest : List ℕ) (
   pub timed : bytes ≤ length script - start → map entry_for chunks ≡ entries
   pub joined : bytes ≤ length script - start → body chunks ≡ take bytes (drop start script)
   pub short : length script - start < bytes → ShortAt (length script - start) entries (length chunks)
-
-pub cut_nothing : (script : List ℕ) (start : ℕ) (timing : List ℕ) → CutSoFar script start timing timing [] 0 0 0
-cut_nothing script start timing = record {
-  entries = [];
-  read = nothing_read timing;
-  number = refl;
-  timed = λ _. refl;
-  joined = λ _. refl;
-  short = λ h. absurd (omega (arith, h));
-}
 
 module _ (script : List ℕ) (start : ℕ) (timing rest after text : List ℕ) (chunks : List Chunk) (count bytes line : ℕ)
     (c : CutSoFar script start timing rest chunks count bytes line) (cut : lines_of rest ≡ text ∷ lines_of after) where

@@ -3,7 +3,7 @@ use Rattle.std.proofs.Common.{◌≡◌, ℕ, ◌+◌, ◌-◌, ◌<◌, ◌≤�
 use Rattle.std.specs.List.{sum_by}
 use Rattle.std.specs.Vec.{with_items}
 use Rattle.std.proofs.lemmas.List.Folds.{fold-map}
-use Rattle.std.proofs.lemmas.List.{length-set, drop-drop, drop_more, get_or_default, length-map, map-set, set-get_or, set_split, take-map, get_or-map, with_items_is}
+use Rattle.std.proofs.lemmas.List.{length-set, drop-drop, drop_more, length-map, map-set, set-get_or, set_split, take-map, get_or-map, with_items_is}
 use Rattle.std.proofs.lemmas.List.Edits.{length-insert}
 use Rattle.std.proofs.lemmas.List.Elements.{All-append, All-cons, All-drop, All-map, All-set, All-take}
 use Rattle.std.proofs.lemmas.List.Sums.{sum-map, sum_by-append, sum_by-insert, sum_by-set, sum_by-take-drop}
@@ -117,11 +117,3 @@ pub body_len-replaced : (tape : Tape) (at : ℕ) (bytes : List ℕ) (c : Chunk) 
     → body_len (replaced at bytes tape).chunks + length c.bytes ≡ body_len tape.chunks + length bytes
 body_len-replaced tape at bytes c lt is =
     ap (λ chunks. body_len chunks + length c.bytes) (sym (set_is_changed (λ x. record x { bytes = bytes }) tape.chunks at c lt is)) ∙ body_len-set tape.chunks at c (record c { bytes = bytes }) lt is
-
--- other bytes add at most their own number
-pub replaced_small : (tape : Tape) (at : ℕ) (bytes : List ℕ) → at < length tape.chunks
-    → body_len tape.chunks + length bytes ≤ longest_body → body_len (replaced at bytes tape).chunks ≤ longest_body
-replaced_small tape at bytes lt small =
-    let none : Chunk = record { delay = 0; bytes = [] } in
-    let c = get_or tape.chunks at none in
-    omega (arith, body_len-replaced tape at bytes c lt (get_or_default tape.chunks at none c lt))

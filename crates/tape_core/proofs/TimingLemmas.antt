@@ -3,7 +3,7 @@ use Rattle.std.proofs.Common.{◌≡◌, ℕ, ◌+◌, ◌<◌, ◌≤◌, List,
 use Rattle.std.specs.List.{cons_option}
 use Rattle.std.specs.Option.{option_or, option_to_list}
 use Rattle.std.proofs.lemmas.List.Sums.{sum_by_push}
-use Rattle.std.proofs.lemmas.List.Elements.{All-nil, All-push, filter_map-append}
+use Rattle.std.proofs.lemmas.List.Elements.{All-push, filter_map-append}
 use Rattle.std.proofs.lemmas.Bool.{lt-leb, le-ltb}
 use Rattle.tape_core.specs.declared.timing.Entry.{Entry}
 use Rattle.tape_core.specs.declared.fault.Fault.{Fault}
@@ -22,18 +22,6 @@ pub record ReadSoFar (timing rest : List ℕ) (entries : List Entry) (bytes line
   pub cut : lines_of timing ≡ before ++ lines_of rest
   pub fault : timing_fault timing ≡ first_fault before (lines_of rest)
   pub behind : line + length rest ≤ length timing
-
-pub nothing_read : (timing : List ℕ) → ReadSoFar timing timing [] 0 0
-nothing_read timing = record {
-  before = [];
-  number = refl;
-  read = refl;
-  counted = refl;
-  within = record { few = omega arith; each = All-nil IsWithin; bytes = omega arith };
-  cut = refl;
-  fault = refl;
-  behind = omega arith;
-}
 
 one_entry : (o : Option Entry) → cons_option o [] ≡ option_to_list o
 one_entry None = refl
