@@ -1,10 +1,8 @@
 //! What a parser is told, the mode, and what it tells of the bytes: commands, which have all of theirs, and tokens, which
 //! lend it.
-ghost use Rattle.std.specs.Prelude.{◌≡◌, Some, length};
-ghost use Rattle.vt_parser.specs.Forms.{most_params};
+ghost use Rattle.std.specs.Prelude.{◌≡◌};
 ghost use Rattle.vt_parser.specs.Law.{IsProper};
 ghost use Rattle.vt_parser.specs.Token.{command_of_token};
-ghost use Rattle.vt_parser.specs.Reading.{event_command, command_told, IsLent};
 
 use crate::limits::MOST_PARAMS;
 use crate::states::copied;
@@ -121,29 +119,4 @@ pub(crate) enum Event {
         line: u8,
         column: u8,
     },
-}
-
-/// The token of an event, if there is one, its parameters lent from the array.
-#[inline(always)]
-pub(crate) fn lent<'a>(event: Option<Event>, params: &'a [u16]) -> Option<Token<'a>>
-    requires lent { IsLent event }
-    requires long { length params.now ≡ most_params }
-    ensures { event_command event params.now ≡ command_told result }
-{
-    Some(match event? {
-        Event::Error => Token::Error,
-        Event::Control(byte) => Token::Control(byte),
-        Event::Esc { inter, last } => Token::Esc { inter, last },
-        Event::Csi {
-            private,
-            count,
-            last,
-        } => Token::Csi {
-            private,
-            params: &params[..count],
-            last,
-        },
-        Event::Vt52(last) => Token::Vt52(last),
-        Event::Vt52Address { line, column } => Token::Vt52Address { line, column },
-    })
 }

@@ -9,8 +9,7 @@ use crate::commands::Event;
 use crate::limits::{GREATEST_PARAM, MOST_PARAMS};
 use crate::states::copied;
 use crate::syntax::{
-    BRACKET, QUESTION_MARK, SEMICOLON, is_control_sequence_final, is_control_sequence_text,
-    is_escape, is_graphic,
+    QUESTION_MARK, SEMICOLON, is_control_sequence_final, is_control_sequence_text, is_graphic,
 };
 use crate::{Command, Mode, ParserState};
 
@@ -24,15 +23,6 @@ pub(crate) struct Collected {
     pub count: usize,
     pub last: u16,
     pub over: bool,
-}
-
-/// Whether bytes begin with ESC `[` in ANSI mode.
-#[inline]
-pub(crate) fn opens_control_sequence(mode: Mode, bytes: &[u8]) -> bool
-    requires { 0 < length bytes.now }
-    ensures { result ≡ true → (mode ≡ Mode.Ansi) × IsOpening bytes.now }
-{
-    matches!(mode, Mode::Ansi) && is_escape(bytes[0]) && bytes.len() > 1 && bytes[1] == BRACKET
 }
 
 /// ESC `[` in ANSI mode, and what follows of its text.

@@ -5,6 +5,8 @@
 #![tactic(auto)]
 
 ghost use Rattle.std.specs.Prelude.{◌≡◌, ◌≤◌, ◌<◌, ℕ, List, Some, None, IfSome, length, take};
+ghost use Rattle.vt_parser.specs.Forms.{most_params};
+ghost use Rattle.vt_parser.specs.Reading.{event_command, command_told, IsLent};
 ghost use Rattle.vt_parser.specs.View.{parser_view, IsShown};
 ghost use Rattle.vt_parser.specs.Step.{command_of, pending_after, mode_after};
 ghost use Rattle.vt_parser.specs.Law.{IsProper};
@@ -20,9 +22,9 @@ mod runs;
 mod states;
 mod syntax;
 
-use commands::lent;
+use commands::Event;
 pub use commands::{Command, Mode, Token};
-use control_sequence::{opens_control_sequence, read_control_sequence};
+use control_sequence::read_control_sequence;
 use limits::MOST_PARAMS;
 pub use runs::printable_run;
 pub use states::{Formless, ParserState};
@@ -90,7 +92,7 @@ impl Parser {
             return (run, Some(Token::Show(&bytes[..run])));
         }
         // Control sequences come most often, and take a tenth less with a way of their own to the token.
-        if opens_control_sequence(mode, bytes) {
+        if machine::opens_control_sequence(mode, bytes) {
             let (taken, event) = read_control_sequence(&mut self.state, &mut self.params, bytes);
             return (taken, lent(event, &self.params));
         }
@@ -133,4 +135,29 @@ impl Parser {
     {
         self.state = other.state.copy();
     }
+}
+
+/// The token of an event, if there is one, its parameters lent from the array.
+#[inline(always)]
+fn lent<'a>(event: Option<Event>, params: &'a [u16]) -> Option<Token<'a>>
+    requires lent { IsLent event }
+    requires long { length params.now ≡ most_params }
+    ensures { event_command event params.now ≡ command_told result }
+{
+    Some(match event? {
+        Event::Error => Token::Error,
+        Event::Control(byte) => Token::Control(byte),
+        Event::Esc { inter, last } => Token::Esc { inter, last },
+        Event::Csi {
+            private,
+            count,
+            last,
+        } => Token::Csi {
+            private,
+            params: &params[..count],
+            last,
+        },
+        Event::Vt52(last) => Token::Vt52(last),
+        Event::Vt52Address { line, column } => Token::Vt52Address { line, column },
+    })
 }

@@ -1,18 +1,19 @@
-//! Bytes from a state to the next, in place, where they are no run on ground and begin no control sequence. `read` is
-//! the top: bytes go by the table of the control syntax, and the text of a control sequence by `control_sequence`.
+//! Whether bytes begin with a run on ground or with a control sequence, and where they don't, from a state to the next,
+//! in place. `read` is the top of that: bytes go by the table of the control syntax, and the text of a control sequence by
+//! `control_sequence`.
 ghost use Rattle.std.specs.Prelude.{◌≡◌, ◌≢◌, ◌==◌, ℕ, ◌≤◌, ◌<◌, List, length, take, slice_index, true, false, None};
 ghost use Rattle.std.specs.List.{list_all, prefix_len};
 ghost use Rattle.vt_parser.specs.Syntax.{is_graphic};
 ghost use Rattle.vt_parser.specs.Forms.{most_params};
 ghost use Rattle.vt_parser.specs.Step.{control_of};
 ghost use Rattle.vt_parser.specs.Machine.{context_in, begun, escape_joined, joined, stepped};
-ghost use Rattle.vt_parser.specs.Reading.{HasParams, IsCollecting, event_command, Reads, IsTransition, IsLent};
+ghost use Rattle.vt_parser.specs.Reading.{HasParams, IsOpening, IsCollecting, event_command, Reads, IsTransition, IsLent};
 
 use crate::commands::Event;
 use crate::control_sequence::{Params, read_first, read_text, resumed};
 use crate::syntax::{
     ADDRESS, ADDRESS_OFFSET, Action, BRACKET, Context, action_of, begins_string,
-    is_control_sequence_final, is_effective, is_graphic, is_intermediate, is_nul,
+    is_control_sequence_final, is_effective, is_escape, is_graphic, is_intermediate, is_nul,
 };
 use crate::{Mode, ParserState, printable_run};
 use ParserState::{
@@ -35,6 +36,15 @@ pub(crate) fn run_at(state: &ParserState, bytes: &[u8]) -> usize
         Ground if is_graphic(bytes[0]) => printable_run(bytes),
         _ => 0,
     }
+}
+
+/// Whether bytes begin with ESC `[` in ANSI mode.
+#[inline]
+pub(crate) fn opens_control_sequence(mode: Mode, bytes: &[u8]) -> bool
+    requires { 0 < length bytes.now }
+    ensures { result ≡ true → (mode ≡ Mode.Ansi) × IsOpening bytes.now }
+{
+    matches!(mode, Mode::Ansi) && is_escape(bytes[0]) && bytes.len() > 1 && bytes[1] == BRACKET
 }
 
 /// Takes some of the bytes, at least one, and says how many and what they come to, where they are no run on ground.

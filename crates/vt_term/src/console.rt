@@ -1,11 +1,14 @@
-//! A terminal without its parser: the screen, the modes, the sets and what else commands change.
-ghost use Rattle.std.specs.Prelude.{◌≡◌, ◌≤◌, All, map, length, take};
+//! A terminal without its parser: the screen, the modes, the sets and what else commands change. `obey` is the top: from a
+//! token to the table that its control or sequence stands in.
+ghost use Rattle.std.specs.Prelude.{◌≡◌, ◌≤◌, ℕ, All, OnOk, OnErr, IsOk, map, length, take};
 ghost use Rattle.vt_term.specs.Sets.{glyph_of, set_in_use};
-ghost use Rattle.vt_term.specs.Console.{reset_console, console_of};
-ghost use Rattle.vt_term.specs.Effect.{glyph_shown, glyphs_shown, glyphs_written, glyph_for};
+ghost use Rattle.vt_term.specs.Console.{IsSafe, reset_console, console_of};
+ghost use Rattle.vt_term.specs.Effect.{glyph_shown, glyphs_shown, glyphs_written, glyph_for, token_effect, token_reply, IsProperToken};
+ghost use Rattle.vt_term.specs.Sink.{after_sending, HasRoom};
 
 use crate::sets::CHECKERBOARD;
-use crate::{CharacterSet, Modes, Profile, Saved, Sets};
+use crate::{CharacterSet, Modes, OutOfMemory, Profile, Reports, Saved, Sets};
+use vt_parser::Token;
 use vt_screen::limits::{LAST_GLYPH, WIDE_COLUMNS};
 use vt_screen::{Rendition, Screen};
 
@@ -50,6 +53,42 @@ impl Console {
         self.sets = other.sets;
         self.saved = other.saved;
         self.leds = other.leds;
+    }
+
+    /// Obeys a token: sends the reply to it, and does what it asks for. A refused growth changes nothing.
+    #[inline]
+    #[tactic(auto, unfolding(crate::specs::Effect::effect, crate::specs::Effect::reply))]
+    pub(crate) fn obey(&mut self, token: Token, sink: &mut Reports) -> Result<(), OutOfMemory>
+        requires proper { IsProperToken token }
+        requires safe { IsSafe (console_of self.old) }
+        ensures done { OnOk result
+            (console_of self.new ≡ token_effect token.entry (console_of self.old)) }
+        ensures sent { OnOk result
+            (sink.new ≡ after_sending sink.old (token_reply token.entry (console_of self.old))) }
+        ensures err { OnErr result (console_of self.new ≡ console_of self.old) }
+        ensures err_sink { OnErr result (sink.new ≡ sink.old) }
+        ensures room { HasRoom sink.old (token_reply token.entry (console_of self.old))
+            → IsOk result }
+    {
+        match token {
+            Token::Show(run) => self.show_bytes(run),
+            Token::Error => self.show_error(),
+            Token::Control(byte) => self.control(byte),
+            Token::Esc { inter, last } => return self.obey_escape(inter, last, sink),
+            Token::Csi {
+                private: true,
+                params,
+                last,
+            } => self.obey_private_sequence(last, params),
+            Token::Csi {
+                private: false,
+                params,
+                last,
+            } => return self.obey_plain_sequence(last, params, sink),
+            Token::Vt52(last) => return self.obey_vt52(last, sink),
+            Token::Vt52Address { line, column } => self.go_to_address(line, column),
+        }
+        Ok(())
     }
 
     #[inline]

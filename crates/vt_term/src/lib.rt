@@ -20,7 +20,6 @@ mod saved;
 mod sequences;
 mod sets;
 mod terminal;
-mod tokens;
 mod vt52;
 
 pub use modes::Modes;
