@@ -1,9 +1,8 @@
 //! The grounds of reversed runs.
 
-ghost use Rattle.std.specs.Prelude.{◌≡◌, ◌≤◌, ◌*◌, ◌-◌, All, length, false};
+ghost use Rattle.std.specs.Prelude.{◌≡◌, ◌≤◌, ◌*◌, ◌-◌, All, false};
 ghost use Rattle.std.specs.List.{flat_map};
 ghost use Rattle.tape_core.specs.Devices.{Puts, has_failed};
-ghost use Rattle.vt_screen.specs.Cells.{row_at};
 ghost use Rattle.screen_picture.specs.Grounds.{by_line, cell_width, down, ground_text, grounds_text, row_grounds};
 ghost use Rattle.screen_picture.specs.Runs.{IsRun};
 

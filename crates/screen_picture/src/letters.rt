@@ -1,6 +1,6 @@
 //! The letters of a row, and the classes that color them.
 
-ghost use Rattle.std.specs.Prelude.{◌≡◌, ◌≤◌, ◌++◌, ◌+◌, ◌*◌, All, decimal, length, false};
+ghost use Rattle.std.specs.Prelude.{◌≡◌, ◌≤◌, ◌++◌, ◌+◌, ◌*◌, All, length, false};
 ghost use Rattle.std.specs.List.{flat_map};
 ghost use Rattle.tape_core.specs.Devices.{Puts, has_failed};
 ghost use Rattle.screen_picture.specs.Letters.{

@@ -2,7 +2,6 @@
 
 ghost use Rattle.std.specs.Prelude.{◌≡◌, ◌≤◌, ◌++◌, ◌+◌, ◌*◌, length, OnOk, true, false, decimal};
 ghost use Rattle.std.specs.List.{suffix_len};
-ghost use Rattle.vt_screen.specs.Picture.{SoundRow};
 ghost use Rattle.tape_core.specs.Devices.{Puts, has_failed, is_flushed};
 ghost use Rattle.screen_print.specs.EscapedText.{
   first_pen,

@@ -1,7 +1,6 @@
 //! The plain print: what stands on the screen, as text without renditions.
 
 ghost use Rattle.std.specs.Prelude.{◌≡◌, ◌+◌, ◌≤◌, length, take, OnOk, true, false};
-ghost use Rattle.std.specs.List.{suffix_len};
 ghost use Rattle.vt_screen.specs.Picture.{margin_of};
 ghost use Rattle.tape_core.specs.Devices.{Puts, has_failed, is_flushed};
 ghost use Rattle.screen_print.specs.FindLines.{row_text};

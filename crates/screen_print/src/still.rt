@@ -1,6 +1,6 @@
 //! What stands on a screen, copied, and in which lines another screen differs from it.
 
-ghost use Rattle.std.specs.Prelude.{◌≡◌, ◌≢◌, ◌≤◌, ℕ, length, not, take, true, false};
+ghost use Rattle.std.specs.Prelude.{◌≡◌, ◌≤◌, ℕ, length, take, true, false};
 ghost use Rattle.vt_screen.specs.Cells.{row_at};
 ghost use Rattle.vt_screen.specs.Picture.{SoundRow};
 ghost use Rattle.screen_print.specs.SameRows.{changed_lines, same_cell, same_row};

@@ -4,7 +4,7 @@ ghost use Rattle.std.specs.List.{list_any, starts_with};
 ghost use Rattle.std.specs.Option.{option_copied, option_map};
 ghost use Rattle.tape_check.specs.Words.{text_of};
 ghost use Rattle.tape_check.specs.Sizes.{size_seen};
-ghost use Rattle.tape_check.specs.Header.{header_line, is_scripts, is_before_name, behind_prefix, behind_label, behind_last, before_quote, value_of, before_bracket, date_of, term_of, is_count, size_of, size_from, is_played_size, is_variant, is_called, passes, visible};
+ghost use Rattle.tape_check.specs.Header.{header_line, is_scripts, is_before_name, behind_prefix, behind_label, behind_last, before_quote, value_of, before_bracket, date_of, term_of, is_count, size_of, is_played_size, is_called, passes, visible};
 
 use crate::words::Word;
 use tape_core::text::are_digits;

@@ -1,7 +1,7 @@
 //! Bytes read as a terminal reads them, of all of which the mode is kept alone, and what of them is unplayed.
-ghost use Rattle.std.specs.Prelude.{◌≡◌, ◌<◌, ◌≤◌, IfOk, OnOk, fold, length, take};
+ghost use Rattle.std.specs.Prelude.{◌≡◌, ◌<◌, ◌≤◌, IfOk, OnOk, length, take};
 ghost use Rattle.tape_core.specs.Tape.{body};
-ghost use Rattle.tape_check.specs.Scan.{Scan, counted, names_in, scan_start, scan_step, unplayed_in};
+ghost use Rattle.tape_check.specs.Scan.{Scan, names_in, unplayed_in};
 ghost use Rattle.tape_check.specs.Counting.{Follows, Scanned, entries_of};
 
 use crate::laws::laws_below;

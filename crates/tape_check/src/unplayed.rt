@@ -1,9 +1,9 @@
 //! Unplayed sequences: how each is written, and how often it comes.
-ghost use Rattle.std.specs.Prelude.{◌≡◌, ◌+◌, ◌≤◌, ◌++◌, ◌∷◌, [], OnOk, Some, fold, length};
+ghost use Rattle.std.specs.Prelude.{◌≡◌, ◌+◌, ◌≤◌, ◌++◌, [], OnOk, Some, fold, length};
 ghost use Rattle.std.specs.List.{flat_map};
 ghost use Rattle.arrayvec.specs.ArrayVec.{array_vec_len};
 ghost use Rattle.vt_parser.specs.Token.{command_of_token};
-ghost use Rattle.tape_check.specs.Unplayed.{changes_no_cell, command_names, control_head, ends_string, escape_name, escape_names, formless_name, formless_names, head_text, is_switch, lone_name, mode_name, mode_names, passes_mode, sequence_name, sequence_names, vt52_names};
+ghost use Rattle.tape_check.specs.Unplayed.{changes_no_cell, command_names, control_head, ends_string, escape_name, escape_names, formless_name, formless_names, head_text, is_switch, mode_name, mode_names, passes_mode, sequence_names, vt52_names};
 ghost use Rattle.tape_check.specs.Scan.{counted};
 ghost use Rattle.tape_check.specs.Counting.{entries_of};
 

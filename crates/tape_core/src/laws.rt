@@ -1,5 +1,5 @@
 //! Laws over the definitions alone, as functions with empty bodies.
-ghost use Rattle.std.specs.Prelude.{◌≡◌, ◌<◌, ◌++◌, ◌∷◌, [], Bool, ℕ, List, MatchOption, Ok, Some, false, length, min, slice_index_or, take, true};
+ghost use Rattle.std.specs.Prelude.{◌≡◌, ◌<◌, ◌++◌, ◌∷◌, [], Bool, ℕ, List, MatchOption, Ok, Some, false, length, min, slice_index_or, take};
 ghost use Rattle.std.specs.List.{AllPass, flat_map};
 ghost use Rattle.tape_core.specs.declared.chunk.Chunk.{Chunk};
 ghost use Rattle.tape_core.specs.declared.devices.Watched.{Watched};

@@ -6,7 +6,7 @@ ghost use Rattle.tape_core.specs.Seconds.{last_moment};
 ghost use Rattle.tape_core.specs.Tape.{longest_body};
 ghost use Rattle.tape_core.specs.Timing.{IsWithin, at_line, begins_with_letter, delay_of, entry_of, fault_of_line, only_count};
 ghost use Rattle.tape_core.specs.Steps.{FitsAfter};
-ghost use Rattle.tape_core.specs.Text.{NumberText, fields, lines_of, number_of};
+ghost use Rattle.tape_core.specs.Text.{NumberText, fields, lines_of};
 
 use crate::fault::Fault;
 use crate::limits::{LONGEST_BODY, LONGEST_CHUNK, LONGEST_DELAY, MOST_CHUNKS};

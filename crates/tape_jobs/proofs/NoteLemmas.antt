@@ -3,10 +3,9 @@ use Rattle.std.proofs.Common.{◌≡◌, ℕ, true, List, refl, ap, inl, inr, Op
 use Rattle.tape_core.specs.Tape.{Tape}
 use Rattle.tape_core.specs.Text.{lines_of}
 use Rattle.tape_core.specs.declared.fault.Fault.{Fault}
-use Rattle.tape_core.specs.declared.fault.Fault.TheVariants.{NoHeader, MultiStream, BadDelay, BadCount, DelayTooLarge, ChunkTooLong, TooManyChunks, TooManyBytes, ScriptShort, OutOfMemory, ReadFault, WriteFault}
 use Rattle.tape_seek.specs.declared.edits.EditFault.{EditFault}
 use Rattle.tape_jobs.specs.Endings.{JobEnds, Writers}
-use Rattle.tape_jobs.specs.Notes.{is_write_fault, was_read}
+use Rattle.tape_jobs.specs.Notes.{was_read}
 use Rattle.tape_jobs.specs.Output.{Done, done_on, done_saving, outcome_by, refused_with}
 use Rattle.tape_jobs.specs.Requests.{saved, started}
 use Rattle.tape_jobs.specs.declared.job.Ending.{Ending}
@@ -72,18 +71,3 @@ module _ (job : Job) (tape : Tape) (lines text : List ℕ) where
       | inr (unstopped, same, unwritten) ↦ refused_after f same
     ]
   ]
-
--- a fault of the files that was met as they were read
-pub only_write : (f : Fault) → is_write_fault f ≡ true → f ≡ WriteFault
-only_write NoHeader e = absurd (cc)
-only_write (MultiStream line) e = absurd (cc)
-only_write (BadDelay line) e = absurd (cc)
-only_write (BadCount line) e = absurd (cc)
-only_write (DelayTooLarge line) e = absurd (cc)
-only_write (ChunkTooLong line) e = absurd (cc)
-only_write (TooManyChunks line) e = absurd (cc)
-only_write (TooManyBytes line) e = absurd (cc)
-only_write (ScriptShort chunk) e = absurd (cc)
-only_write OutOfMemory e = absurd (cc)
-only_write ReadFault e = absurd (cc)
-only_write WriteFault e = refl

@@ -1,8 +1,6 @@
 //! What lines come to, one behind another.
 ghost use Rattle.std.specs.Prelude.{◌≡◌, ◌+◌, ◌<◌, ◌^◌, IfOk, IfSome, Ok, Some};
 ghost use Rattle.std.specs.Option.{option_to_list};
-ghost use Rattle.tape_core.specs.Seconds.{last_moment};
-ghost use Rattle.tape_core.specs.Tape.{longest_body, longest_chunk, longest_delay, most_chunks};
 ghost use Rattle.tape_mend.specs.Counting.{is_output, limited, line_pieces, lying, within, with_line};
 ghost use Rattle.tape_mend.specs.Front.{at_first};
 ghost use Rattle.tape_mend.specs.Steps.{IsSmall, IsSound};

@@ -1,5 +1,5 @@
 //! One line of a timing file, in the classic or in the multi-stream format.
-ghost use Rattle.std.specs.Prelude.{◌≡◌, IfOk, IfSome, ◌∷◌, [], min};
+ghost use Rattle.std.specs.Prelude.{◌≡◌, IfOk, IfSome, min};
 ghost use Rattle.std.specs.Option.{option_map};
 ghost use Rattle.tape_core.specs.Seconds.{last_moment};
 ghost use Rattle.tape_core.specs.Text.{fields};

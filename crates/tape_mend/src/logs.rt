@@ -1,5 +1,5 @@
 //! The files into which outputs and inputs were logged, as header lines name them.
-ghost use Rattle.std.specs.Prelude.{◌≡◌, codes, nat_eq};
+ghost use Rattle.std.specs.Prelude.{◌≡◌, nat_eq};
 ghost use Rattle.std.specs.Cmp.Lexicographic.{pointwise};
 ghost use Rattle.std.specs.Option.{option_map};
 ghost use Rattle.tape_core.specs.Text.{fields};

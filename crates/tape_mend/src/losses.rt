@@ -1,5 +1,5 @@
 //! What was lost of a recording, and how it is told.
-ghost use Rattle.std.specs.Prelude.{◌≡◌, ◌++◌, codes, false};
+ghost use Rattle.std.specs.Prelude.{◌≡◌, false};
 ghost use Rattle.tape_core.specs.Devices.{Puts, has_failed};
 ghost use Rattle.tape_mend.specs.Steps.{what_is_wrong};
 ghost use Rattle.tape_mend.specs.Told.{body_losses, chunks_line, chunks_text, cut_text, is_damaged, lines_text, losses_text, streams_line, streams_text, timing_losses};

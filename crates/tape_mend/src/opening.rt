@@ -1,6 +1,6 @@
 //! Where a recording begins in a typescript.
-ghost use Rattle.std.specs.Prelude.{◌≡◌, ◌≢◌, ◌≤◌, IfErr, IfOk, drop, false, length, take, true};
-ghost use Rattle.tape_core.specs.Reading.{has_header, header_len};
+ghost use Rattle.std.specs.Prelude.{◌≡◌, ◌≢◌, ◌≤◌, IfErr, IfOk, drop, false, length};
+ghost use Rattle.tape_core.specs.Reading.{has_header};
 ghost use Rattle.tape_core.specs.declared.fault.Fault.TheVariants as fault;
 ghost use Rattle.tape_mend.specs.Mended.{begins_session, last_session, seen};
 ghost use Rattle.tape_mend.specs.Steps.{IsOpening};

@@ -14,13 +14,13 @@
 //! A seek starts at the latest of the stored terminals, the working one and the reset terminal that isn't past its count,
 //! and feeds chunks up to it; those past the frontier move the frontier on. A change of chunk 6 leaves what lies up to 6:
 //! the terminal at 8 goes, the frontier is 6, and a head past it goes back to the last stored terminal.
-ghost use Rattle.std.specs.Prelude.{◌≡◌, ℕ, ◌+◌, ◌-◌, ◌*◌, ◌/◌, ◌<◌, ◌≤◌, List, [], ◌∷◌, ◌++◌, length, min, max, take, IfOk, OnOk, OnErr, IsOk, slice_index, slice_index_or};
+ghost use Rattle.std.specs.Prelude.{◌≡◌, ℕ, ◌+◌, ◌-◌, ◌*◌, ◌/◌, ◌<◌, ◌≤◌, List, length, min, IfOk, OnOk, OnErr, IsOk, slice_index};
 ghost use Rattle.tape_core.specs.declared.chunk.Chunk.{Chunk};
 ghost use Rattle.vt_term.specs.Seen.{Shows};
-ghost use Rattle.vt_term.specs.Sink.{HasRoom, KeepsFront, after_sending};
-ghost use Rattle.vt_term.specs.Term.{Term, play, reset_term_as, sent};
+ghost use Rattle.vt_term.specs.Sink.{KeepsFront};
+ghost use Rattle.vt_term.specs.Term.{sent};
 ghost use Rattle.tape_seek.specs.Kept.{HasSent, HoldsUpTo, IsAhead, IsKept, IsPlaying, IsReplay, PlaysOn, SameFront, SendsNext, ShowsHead, Stores, marks_of, sent_after};
-ghost use Rattle.tape_seek.specs.Marks.{Marks, after_cut, after_refused_seek, after_seek, fed_by, first_marks, multiple_below, start_of};
+ghost use Rattle.tape_seek.specs.Marks.{after_cut, after_refused_seek, after_seek, fed_by, first_marks, multiple_below, start_of};
 ghost use Rattle.tape_seek.specs.Moments.{up_to};
 
 use std::alloc::{AllocError, Global};

@@ -1,5 +1,4 @@
 //! Sessions, call by call: what each call answers, told as a text.
-ghost use Rattle.std.specs.Prelude.{◌≤◌};
 
 use std::alloc::Global;
 use std::fmt::Write;

@@ -13,17 +13,15 @@ use Rattle.vt_parser.specs.View.{parser_view}
 use Rattle.vt_parser.specs.Step.{mode_after}
 use Rattle.vt_parser.specs.Fold.{mode_after_bytes, pending_after_bytes}
 use Rattle.vt_parser.specs.Token.{command_of_token, IsRun, TellsOf, Leads}
-use Rattle.vt_parser.specs.Law.{IsProper}
 use Rattle.vt_term.specs.declared.profile.Profile.{Profile}
 use Rattle.vt_term.specs.Console.{Console, IsSafe, reset_console, effect_of}
 use Rattle.vt_term.specs.Replies.{reply_of}
-use Rattle.vt_term.specs.Effect.{glyphs_shown, glyph_for, token_effect, token_reply, IsProperToken}
+use Rattle.vt_term.specs.Effect.{glyphs_shown, glyph_for, token_effect, token_reply}
 use Rattle.vt_term.specs.Term.{Term, reset_term_as, mode_of, play, sent}
 use Rattle.vt_term.specs.Seen.{Seen, Shows, IsTerminal}
 use Rattle.vt_term.specs.Law.{LawsBelow}
 use Rattle.vt_term.specs.Printing.{on_ground}
 use Rattle.vt_term.proofs.Printed.{characters_bring}
-use Rattle.vt_term.proofs.Runs.{graphic_bytes}
 use Rattle.vt_term.proofs.Steps.{term, mode_shown, mode_stays, shows_given, safe_play}
 
 -- ---- the reset terms
@@ -117,10 +115,3 @@ module _ (laws : LawsBelow) where
       let view : parser_view (mode_of x) (pending_after_bytes given (mode_of x) x.pending bytes) ≡ Some state
       = ap (λ (m : Mode). parser_view m (pending_after_bytes given (mode_of x) x.pending bytes)) (sym stays) ∙ leads (mode_of x) x.pending shows.state in
       record { safe = is.safe; term = (y, record { console = shows.console; state = view }) }
-
--- the numbers of a token are in their ranges
-pub proper_token : (token : Token) (given mode : Mode) (pending bytes : List ℕ) → TellsOf given mode pending bytes (Some token)
-    → IsProper (command_of_token token) → IsProperToken token
-proper_token (Show run) given mode pending bytes told proper =
-    graphic_bytes run.now (subst (λ (l : List ℕ). list_all is_graphic l ≡ true) (sym told.whole) told.graphic)
-proper_token _ given mode pending bytes told proper = proper

@@ -1,6 +1,6 @@
 //! A terminal without its parser: the screen, the modes, the sets and what else commands change. `obey` is the top: from a
 //! token to the table that its control or sequence stands in.
-ghost use Rattle.std.specs.Prelude.{◌≡◌, ◌≤◌, ℕ, All, OnOk, OnErr, IsOk, map, length, take};
+ghost use Rattle.std.specs.Prelude.{◌≡◌, ◌≤◌, All, OnOk, OnErr, IsOk, map, length, take};
 ghost use Rattle.vt_term.specs.Sets.{glyph_of, set_in_use};
 ghost use Rattle.vt_term.specs.Console.{IsSafe, reset_console, console_of};
 ghost use Rattle.vt_term.specs.Effect.{glyph_shown, glyphs_shown, glyphs_written, glyph_for, token_effect, token_reply, IsProperToken};

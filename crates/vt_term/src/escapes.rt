@@ -1,10 +1,10 @@
 //! Escape sequences of ANSI mode.
 ghost use Rattle.std.specs.Prelude.{◌≡◌, [], Option, IsOk, OnOk, OnErr};
 ghost use Rattle.vt_term.specs.Rows.{named};
-ghost use Rattle.vt_term.specs.Escapes.{Nel, Decsc, plain_escapes, line_escapes, character_sets, designation_named, escape_named, escape_effect, restored, saved_from, keypad_set};
+ghost use Rattle.vt_term.specs.Escapes.{Nel, Decsc, plain_escapes, line_escapes, character_sets, designation_named, escape_named, escape_effect, restored, keypad_set};
 ghost use Rattle.vt_term.specs.Replies.{escape_reply, reply_of};
 ghost use Rattle.vt_term.specs.Sink.{after_sending, HasRoom};
-ghost use Rattle.vt_term.specs.Console.{console_of, on_picture, effect_of, IsSavedWell};
+ghost use Rattle.vt_term.specs.Console.{console_of, effect_of, IsSavedWell};
 
 use crate::console::Console;
 use crate::replies::device_attributes;

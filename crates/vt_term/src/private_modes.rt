@@ -2,7 +2,7 @@
 ghost use Rattle.std.specs.Prelude.{◌≡◌, true};
 ghost use Rattle.vt_term.specs.PrivateModes.{Decanm, Decom, Decawm, mode_effect, mode_set, modes_set, vt52_entered};
 ghost use Rattle.vt_term.specs.Effect.{control_sequence_effect};
-ghost use Rattle.vt_term.specs.Console.{console_of, on_picture};
+ghost use Rattle.vt_term.specs.Console.{console_of};
 
 use crate::console::Console;
 use vt_parser::Mode;

@@ -1,9 +1,9 @@
 //! Control sequences of ANSI mode without `?`.
-ghost use Rattle.std.specs.Prelude.{◌≡◌, ◌≤◌, fold, slice_index, true, false, length, OnOk, OnErr, IsOk};
+ghost use Rattle.std.specs.Prelude.{◌≡◌, ◌≤◌, fold, true, false, length, OnOk, OnErr, IsOk};
 ghost use Rattle.vt_screen.specs.CellEdits.{cells_deleted};
 ghost use Rattle.vt_screen.specs.Erasures.{display_erased, line_erased};
 ghost use Rattle.vt_screen.specs.Scrolls.{lines_inserted, lines_deleted};
-ghost use Rattle.vt_term.specs.Sequences.{Sgr, Decll, sequence_effect, param_or, erased, tabs_taken, rendition_set, ansi_mode_set, where_it_edits, leds_set};
+ghost use Rattle.vt_term.specs.Sequences.{Sgr, Decll, sequence_effect, param_or, erased, tabs_taken, rendition_set, ansi_mode_set, where_it_edits};
 ghost use Rattle.vt_term.specs.Effect.{control_sequence_effect, control_sequence_reply};
 ghost use Rattle.vt_term.specs.Console.{console_of, on_picture, on_modes};
 ghost use Rattle.vt_term.specs.Sink.{after_sending, HasRoom};

@@ -1,6 +1,6 @@
 //! The table of subcommands: their names, flags and paths, and what help tells of them.
 
-ghost use Rattle.std.specs.Prelude.{◌≡◌, map};
+ghost use Rattle.std.specs.Prelude.{◌≡◌};
 ghost use Rattle.tape_jobs.specs.CommandLine.{flags_in, id_in, name_in, paths_in, subcommands_in_order, texts_in};
 
 /// The subcommands.

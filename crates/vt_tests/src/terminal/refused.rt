@@ -1,6 +1,5 @@
 //! Refused growths. `tests/refused.py` runs these with the first, second, .. growth of memory refused, until none is, and
 //! counts the lines `refused: WHAT`. After a refusal all is as it was, and the same call then answers.
-ghost use Rattle.std.specs.Prelude.{◌≤◌};
 
 use super::{Left, are_same, are_same_terminals, reset_as};
 use std::alloc::Global;
