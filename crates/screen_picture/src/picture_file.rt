@@ -79,8 +79,8 @@ fn put_file<W: Write>(terminal: &Terminal, at: u64, writer: &mut Watched<W>) -> 
 fn put_front<W: Write>(terminal: &Terminal, at: u64, writer: &mut Watched<W>) -> Result<(), Fault>
     requires { has_failed writer.old ≡ false }
     ensures { let still = still_of terminal.now.console in
-        Puts W.contents writer.old writer.new (first_line at still ++ sheet_text still.wide still.reversed)
-        result }
+        Puts W.contents writer.old writer.new
+        (first_line at still ++ sheet_text still.wide still.reversed) result }
 {
     writers_join::<W>();
     put_first_line(terminal, at, writer)?;

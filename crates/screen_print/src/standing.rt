@@ -107,7 +107,8 @@ fn begins(still: &Still, text: &[char], start: &Start, line: u8, cells: &[Cell],
     requires left { 1 ≤ column }
     requires right { column ≤ length cells.now }
     requires cells { characters cells.now ≡ row_text still.now.wide (row_at still.now.rows line) }
-    ensures { result ≡ begins text.now (line_text_from (drop (line - 1) (row_texts still.now))) column }
+    ensures { result
+        ≡ begins text.now (line_text_from (drop (line - 1) (row_texts still.now))) column }
 {
     still.sound();
     if !start.may_begin_at(cells[column as usize - 1]) {
@@ -127,7 +128,8 @@ fn runs_on(still: &Still, text: &[char], line: u8, column: u8) -> bool
     requires high { line ≤ LINES }
     requires left { 1 ≤ column }
     requires right { column ≤ length (row_text still.now.wide (row_at still.now.rows line)) }
-    ensures { result ≡ begins text.now (line_text_from (drop (line - 1) (row_texts still.now))) column }
+    ensures { result
+        ≡ begins text.now (line_text_from (drop (line - 1) (row_texts still.now))) column }
 {
     still.sound();
     let mut rest = text;

@@ -87,8 +87,9 @@ fn any_three<const N: usize>(start: &Start, one: &[Cell], two: &[Cell], three: &
     requires one { length one.now ≡ N }
     requires two { length two.now ≡ N }
     requires three { length three.now ≡ N }
-    ensures { result ≡ false → (k : ℕ) → k < N → three_fit start.now (slice_index_or one.now k blank)
-        (slice_index_or two.now k blank) (slice_index_or three.now k blank) ≡ false }
+    ensures { result ≡ false → (k : ℕ) → k < N
+        → three_fit start.now (slice_index_or one.now k blank) (slice_index_or two.now k blank)
+        (slice_index_or three.now k blank) ≡ false }
 {
     let mut any = false;
     for at in 0..N {

@@ -94,7 +94,8 @@ impl Console {
     fn change_line(&mut self, last: u8)
         ensures done { console_of self.new
             ≡ effect_of escape_effect (named line_escapes last) (console_of self.old) }
-        ensures silent { reply_of escape_reply (named line_escapes last) (console_of self.old) ≡ [] }
+        ensures silent { reply_of escape_reply (named line_escapes last) (console_of self.old)
+            ≡ [] }
     {
         match last {
             b'3' => self.screen.set_size(Size::Top), // DECDHL

@@ -68,7 +68,8 @@ impl Console {
         ensures ok { OnOk result
             (sink.new ≡ after_sending sink.old (sequence_reply Da param (console_of self.now))) }
         ensures err { OnErr result (sink.new ≡ sink.old) }
-        ensures room { HasRoom sink.old (sequence_reply Da param (console_of self.now)) → IsOk result }
+        ensures room { HasRoom sink.old (sequence_reply Da param (console_of self.now))
+            → IsOk result }
     {
         match param {
             0 => sink.send(device_attributes(self.profile)),
@@ -81,7 +82,8 @@ impl Console {
         ensures ok { OnOk result
             (sink.new ≡ after_sending sink.old (sequence_reply Dsr param (console_of self.now))) }
         ensures err { OnErr result (sink.new ≡ sink.old) }
-        ensures room { HasRoom sink.old (sequence_reply Dsr param (console_of self.now)) → IsOk result }
+        ensures room { HasRoom sink.old (sequence_reply Dsr param (console_of self.now))
+            → IsOk result }
     {
         match param {
             5 => sink.send(READY),

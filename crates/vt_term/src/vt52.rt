@@ -17,13 +17,15 @@ impl Console {
     /// nothing.
     pub(crate) fn obey_vt52(&mut self, last: u8, sink: &mut Reports) -> Result<(), OutOfMemory>
         ensures done { OnOk result
-            (console_of self.new ≡ effect_of vt52_effect (named vt52_sequences last) (console_of self.old)) }
+            (console_of self.new
+            ≡ effect_of vt52_effect (named vt52_sequences last) (console_of self.old)) }
         ensures sent { OnOk result
             (sink.new ≡ after_sending sink.old
             (reply_of vt52_reply (named vt52_sequences last) (console_of self.old))) }
         ensures err { OnErr result (console_of self.new ≡ console_of self.old) }
         ensures err_sink { OnErr result (sink.new ≡ sink.old) }
-        ensures room { HasRoom sink.old (reply_of vt52_reply (named vt52_sequences last) (console_of self.old))
+        ensures room { HasRoom sink.old
+            (reply_of vt52_reply (named vt52_sequences last) (console_of self.old))
             → IsOk result }
     {
         match last {
