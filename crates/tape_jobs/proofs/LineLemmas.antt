@@ -16,9 +16,8 @@ use Rattle.clap.specs.Walk.{Held, Names, Rule, Step, Walk, Waiting, after_step, 
 use Rattle.clap.proofs.OnLiterals.{clap_on_literals}
 use Rattle.tape_jobs.proofs.CommandLemmas.{is_simple_app, means, means_job}
 use Rattle.tape_core.specs.Seconds.{last_moment, micros, seconds_of}
-use Rattle.tape_jobs.specs.CommandLine.{typetool_app, clap_takes, every_allowed, every_of, after, readable, job_in, is_searchable, moment_if, moment_or_last, profile_named, searchable, value_in, subcommand_in, app_in, name_in, id_in, rule_in, flags_in, texts_in, text_in, paths_in}
+use Rattle.tape_jobs.specs.CommandLine.{typetool_app, clap_takes, every_allowed, every_of, usual_every, after, readable, job_in, is_searchable, moment_if, moment_or_last, profile_named, searchable, value_in, subcommand_in, app_in, name_in, id_in, rule_in, flags_in, texts_in, text_in, paths_in}
 use Rattle.tape_jobs.specs.Lines.{Asks, IsPlain, escaped_words, header_words, profile_or_first, profile_words}
-use Rattle.tape_jobs.specs.Stored.{usual_every}
 use Rattle.tape_mend.specs.declared.opening.Header.{Header}
 use Rattle.tape_mend.specs.declared.opening.Header.TheVariants.{Kept, Last, Made}
 use Rattle.vt_term.specs.declared.profile.Profile.{Profile}

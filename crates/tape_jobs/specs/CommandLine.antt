@@ -8,7 +8,7 @@ use Rattle.clap.specs.Words.{App, IsAmong, Kinds, Row, Rule, Shape, Text, fault_
 use Rattle.clap.specs.declared.builder.ArgAction.TheVariants.{Set, SetTrue}
 use Rattle.tape_core.specs.Seconds.{last_moment, seconds_of}
 use Rattle.tape_seek.specs.Requests.{place_of}
-use Rattle.tape_jobs.specs.Stored.{least_every, most_every, usual_every}
+use Rattle.tape_seek.specs.State.{least_every, most_every}
 use Rattle.tape_jobs.specs.declared.job.Job.{Job}
 use Rattle.tape_jobs.specs.declared.job.Job.TheVariants as job
 use Rattle.tape_jobs.specs.declared.words.Words.{Words}
@@ -183,7 +183,11 @@ every_allowed n = if nat_lt n least_every || nat_lt most_every n then None else 
 unfoldable pub every_of : Text → Option ℕ
 every_of text = option_and_then every_allowed (place_of text)
 
--- the number in a text, and 100 if there is no text (ours)
+-- where `--every` isn't given (ours)
+abbrev pub usual_every : ℕ
+usual_every = 100
+
+-- the number in a text, and the usual one if there is no text (ours)
 abbrev pub every_if : Option Text → Result ℕ Unreadable
 every_if None = Ok usual_every
 every_if (Some text) = readable unread.Every (every_of text)

@@ -8,4 +8,3 @@ pub mod Notes
 pub mod Output
 pub mod Requests
 pub mod Session
-pub mod Stored

@@ -3,9 +3,8 @@
 ghost use Rattle.std.specs.Prelude.{◌≡◌, ◌++◌, ◌∷◌, [], ℕ, Bool, List, None, Option, Some, codes, false};
 ghost use Rattle.clap.specs.Words.{Text};
 ghost use Rattle.tape_core.specs.Seconds.{last_moment, seconds_of};
-ghost use Rattle.tape_jobs.specs.CommandLine.{every_of};
+ghost use Rattle.tape_jobs.specs.CommandLine.{every_of, usual_every};
 ghost use Rattle.tape_jobs.specs.Lines.{Asks, FindAsks, IsPlain, LineAsks, escaped_words, header_words, profile_or_first, profile_words};
-ghost use Rattle.tape_jobs.specs.Stored.{usual_every};
 ghost use Rattle.tape_mend.specs.declared.opening.Header.{Header};
 ghost use Rattle.vt_term.specs.declared.profile.Profile.{Profile};
 ghost use Rattle.tape_jobs.specs.declared.job.Job.TheVariants as job;

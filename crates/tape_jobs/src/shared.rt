@@ -5,12 +5,11 @@ ghost use Rattle.std.specs.Fmt.{decimal};
 ghost use Rattle.tape_core.specs.Devices.{Puts, has_failed, is_flushed};
 ghost use Rattle.tape_seek.specs.Edits.{edit_fault};
 ghost use Rattle.tape_seek.specs.Moments.{term_at};
-ghost use Rattle.tape_seek.specs.State.{opened};
+ghost use Rattle.tape_seek.specs.State.{least_every, most_every, opened};
 ghost use Rattle.tape_jobs.specs.Endings.{JobPuts};
 ghost use Rattle.tape_jobs.specs.Info.{info_line, info_text};
 ghost use Rattle.tape_jobs.specs.Moment.{asked_text, hex_line};
 ghost use Rattle.tape_jobs.specs.Requests.{after_judging, course_of, fault_name};
-ghost use Rattle.tape_jobs.specs.Stored.{least_every, most_every};
 
 use crate::job::JobFault;
 use crate::laws::stops_join;
@@ -27,11 +26,6 @@ use vt_term::{OutOfMemory, Profile};
 
 /// How many chunks lie between the terminals that a session stores, where the command line doesn't say.
 pub const EVERY: usize = 100;
-
-/// The fewest and the most that may lie between them.
-pub const LEAST_EVERY: usize = 1;
-
-pub const MOST_EVERY: usize = 1_000_000;
 
 /// Opens a session. Want of memory stops the job.
 pub fn open_session(

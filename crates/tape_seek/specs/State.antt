@@ -15,6 +15,14 @@ pub record State : Type 0 where
   pub every : ℕ
   pub marks : Marks
 
+-- how many chunks may lie between stored terminals: the fewest, and the most (ours)
+abbrev pub least_every : ℕ
+least_every = 1
+
+abbrev pub most_every : ℕ
+most_every = 1000000
+
+-- a session that was just opened
 abbrev pub opened : Profile → Tape → ℕ → State
 opened profile tape every = record { profile = profile; recording = tape; log = []; every = every; marks = first_marks }
 

@@ -13,6 +13,6 @@ mod written_log;
 pub use edits::{Edit, EditFault};
 pub use hex_text::put_hex;
 pub use requests::{LineFault, Request, read_line};
-pub use session::{Refused, Session, View};
+pub use session::{LEAST_EVERY, MOST_EVERY, Refused, Session, View};
 pub use vt_term::OutOfMemory;
 pub use written_log::write_log;

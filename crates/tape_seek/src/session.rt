@@ -18,6 +18,11 @@ use tape_core::laws::{due_is_first, first_is_kept};
 use vt_term::laws::sent_is_appended;
 use vt_term::{OutOfMemory, Profile, Terminal};
 
+/// How many chunks may lie between the terminals that a session stores: the fewest, and the most (ours).
+pub const LEAST_EVERY: usize = 1;
+
+pub const MOST_EVERY: usize = 1_000_000;
+
 /// An edit that was refused, and why.
 #[derive(Debug, Drop)]
 pub struct Refused {
@@ -60,13 +65,13 @@ impl Session {
     ghost use Rattle.tape_seek.specs.Headline.{TellsCount, TellsMoment};
     ghost use Rattle.tape_seek.specs.Lending.{LeavesSought};
     ghost use Rattle.tape_seek.specs.Moments.{term_at, up_to};
-    ghost use Rattle.tape_seek.specs.State.{KeepsHistory, accepted, opened};
+    ghost use Rattle.tape_seek.specs.State.{KeepsHistory, accepted, least_every, most_every, opened};
 
     /// Opens a session of a VT100, with a terminal stored at every so many chunks. For want of memory the recording comes
     /// back.
     pub fn open(alloc: Global, recording: Recording, every: usize) -> Result<Self, Recording>
-        requires low { 1 ≤ every }
-        requires high { every ≤ 1000000 }
+        requires low { least_every ≤ every }
+        requires high { every ≤ most_every }
         ensures ok { IfOk result (λ session. session ≡ opened Vt100 recording every) }
         ensures history { (o : Tape) → recording ≡ o
             → IfOk result (λ session. session.recording ≡ edited_all o session.log) }
@@ -82,8 +87,8 @@ impl Session {
         every: usize,
         profile: Profile,
     ) -> Result<Self, Recording>
-        requires low { 1 ≤ every }
-        requires high { every ≤ 1000000 }
+        requires low { least_every ≤ every }
+        requires high { every ≤ most_every }
         ensures ok { IfOk result (λ session. session ≡ opened profile recording every) }
         ensures history { (o : Tape) → recording ≡ o
             → IfOk result (λ session. session.recording ≡ edited_all o session.log) }

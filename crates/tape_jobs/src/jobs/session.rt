@@ -6,19 +6,16 @@ ghost use Rattle.tape_core.specs.Devices.{Puts, has_failed, is_flushed};
 ghost use Rattle.tape_core.specs.Text.{lines_of};
 ghost use Rattle.tape_seek.specs.Edits.{edit_fault};
 ghost use Rattle.tape_seek.specs.Requests.{request};
+ghost use Rattle.tape_seek.specs.State.{least_every, most_every};
 ghost use Rattle.tape_seek.specs.WrittenLog.{log_text};
 ghost use Rattle.tape_jobs.specs.Endings.{JobPuts};
 ghost use Rattle.tape_jobs.specs.Output.{ending_by};
 ghost use Rattle.tape_jobs.specs.Requests.{after_judging, course_after, course_of, started};
 ghost use Rattle.tape_jobs.specs.Session.{answer, answered, any_refused, edit_answer, ended, is_refused, refusal};
-ghost use Rattle.tape_jobs.specs.Stored.{least_every, most_every};
 
 use crate::job::{Ending, JobFault};
 use crate::laws::stops_join;
-use crate::shared::{
-    Asked, LEAST_EVERY, MOST_EVERY, make_edit, name_of, open_session, put_info, put_line,
-    put_moment,
-};
+use crate::shared::{Asked, make_edit, name_of, open_session, put_info, put_line, put_moment};
 use screen_print::changes;
 use std::alloc::Global;
 use std::io::Write;
@@ -26,7 +23,9 @@ use std::mem::ManuallyDrop;
 use tape_core::laws::writers_join;
 use tape_core::text::next_line;
 use tape_core::{Fault, Recording, Watched};
-use tape_seek::{Edit, EditFault, LineFault, Request, Session, read_line, write_log};
+use tape_seek::{
+    Edit, EditFault, LEAST_EVERY, LineFault, MOST_EVERY, Request, Session, read_line, write_log,
+};
 use vt_term::Profile;
 
 /// Answers each request line in turn, and flushes. Where memory is refused, a beginning of the answers has gone out. How

@@ -10,13 +10,14 @@ ghost use Rattle.tape_jobs.specs.declared.words.table.Subcommand.TheVariants.{Fi
 
 use super::table::{Argument, Subcommand, id_of, paths_of};
 use crate::job::Job;
-use crate::shared::{EVERY, LEAST_EVERY, MOST_EVERY};
+use crate::shared::EVERY;
 use clap::ArgMatches;
 use std::alloc::{AllocError, Global};
 use tape_core::limits::LAST_MOMENT;
 use tape_core::read_seconds;
 use tape_core::text::read_number;
 use tape_mend::Header;
+use tape_seek::{LEAST_EVERY, MOST_EVERY};
 use vt_term::Profile;
 
 /// What of a command line isn't readable, where clap takes the words.
