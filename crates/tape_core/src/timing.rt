@@ -1,8 +1,8 @@
 //! The classic timing format: a line for each output, with its delay and its count.
-ghost use Rattle.std.specs.Prelude.{◌≡◌, ◌+◌, ◌<◌, ◌≤◌, ◌∷◌, ◌++◌, false, ℕ, List, Some, Ok, IfOk, IfErr, IfSome, length, min};
+ghost use Rattle.std.specs.Prelude.{◌≡◌, ◌+◌, ◌-◌, ◌<◌, ◌≤◌, ◌∷◌, ◌++◌, false, ℕ, List, Some, Ok, IfOk, IfErr, IfSome, length, min};
 ghost use Rattle.std.specs.Option.{option_map};
 ghost use Rattle.tape_core.specs.Faults.{is_stop};
-ghost use Rattle.tape_core.specs.Seconds.{last_moment};
+ghost use Rattle.tape_core.specs.Seconds.{IsSeconds, last_moment};
 ghost use Rattle.tape_core.specs.Tape.{longest_body};
 ghost use Rattle.tape_core.specs.Timing.{IsWithin, at_line, begins_with_letter, delay_of, entry_of, fault_of_line, only_count};
 ghost use Rattle.tape_core.specs.Steps.{FitsAfter};
@@ -124,6 +124,15 @@ fn first_number(text: &[u8]) -> Option<(u64, &[u8])>
     }
 }
 
+/// The value of a digit.
+fn digit(byte: u8) -> u64
+    requires low { 48 ≤ byte }
+    requires high { byte ≤ 57 }
+    ensures { result ≡ byte - 48 }
+{
+    u64::from(byte - b'0')
+}
+
 /// The number that the first six bytes of a text write, and what stands behind them. None where they aren't all digits.
 fn six_digits(text: &[u8]) -> Option<(u64, &[u8])>
     ensures number { IfSome result (λ cut. (digits : List ℕ)
@@ -141,16 +150,25 @@ fn six_digits(text: &[u8]) -> Option<(u64, &[u8])>
             f @ b'0'..=b'9',
             rest @ ..,
         ] => {
-            let first = u64::from(*a - b'0') * 100
-                + u64::from(*b - b'0') * 10
-                + u64::from(*c - b'0');
-            let last = u64::from(*d - b'0') * 100
-                + u64::from(*e - b'0') * 10
-                + u64::from(*f - b'0');
+            let first = (digit(*a) * 10 + digit(*b)) * 10 + digit(*c);
+            let last = (digit(*d) * 10 + digit(*e)) * 10 + digit(*f);
             Some((first * 1000 + last, rest))
         }
         _ => None,
     }
+}
+
+/// The seconds with six decimals that a text begins with, in microseconds, and what stands behind them.
+fn first_delay(text: &[u8]) -> Option<(u64, &[u8])>
+    ensures { IfSome result (λ cut. (seconds : List ℕ)
+        × (text.now ≡ seconds ++ cut.1.now) × IsSeconds seconds cut.0) }
+{
+    let (whole, behind) = first_number(text)?;
+    let [b'.', decimals @ ..] = behind else {
+        return None;
+    };
+    let (micros, rest) = six_digits(decimals)?;
+    Some((whole * SECOND + micros, rest))
 }
 
 /// The entry of a first line as script(1) writes it, within the limits, and what stands behind its LF.
@@ -160,16 +178,11 @@ fn written_entry(text: &[u8]) -> Option<(Entry, &[u8])>
     ensures within { IfSome result (λ cut. IsWithin cut.0) }
     ensures shorter { IfSome result (λ cut. length cut.1.now < length text.now) }
 {
-    let (whole, point) = first_number(text)?;
-    let [b'.', decimals @ ..] = point else {
-        return None;
-    };
-    let (micros, behind) = six_digits(decimals)?;
+    let (delay, behind) = first_delay(text)?;
     let [b' ', second @ ..] = behind else {
         return None;
     };
     let (count, end) = first_number(second)?;
-    let delay = whole * SECOND + micros;
     match end {
         [b'\n', after @ ..] if delay <= LONGEST_DELAY && count <= LONGEST_CHUNK as u64 => {
             Some((Entry { delay, count }, after))

@@ -15,6 +15,6 @@ returns-in-48-to-57-clause-number c =
       record {
         some = some;
         digits = r.all;
-        value = omega (arith, r.value, c.from.ensures, c.from-in-48-to-57.ensures, c.from-in-48-to-57-2.ensures, c.from-in-48-to-57-3.ensures, c.from-in-48-to-57-4.ensures, c.from-in-48-to-57-5.ensures);
+        value = omega (arith, r.value, c.digit.ensures, c.digit-in-48-to-57.ensures, c.digit-in-48-to-57-2.ensures, c.digit-in-48-to-57-3.ensures, c.digit-in-48-to-57-4.ensures, c.digit-in-48-to-57-5.ensures);
       },
     )
