@@ -2,7 +2,7 @@
 use Rattle.std.proofs.Common.{◌≡◌, ℕ, zero, suc, ◌+◌, ◌-◌, ◌<◌, ◌≤◌, Bool, true, false, List, [], ◌∷◌, ◌++◌, length, get_or, take, drop, filter, map, nat_le, refl, ap, sym, ◌∙◌, arith, append_assoc, append-nil, cond}
 use Rattle.std.specs.List.{range_with_len}
 use Rattle.std.proofs.lemmas.Bool.{le-leb, lt-leb}
-use Rattle.std.proofs.lemmas.List.{drop_all, drop_more, get_or-map, take_all, length-map, length-take-le, map-append}
+use Rattle.std.proofs.lemmas.List.{drop_all, drop_more, get_or-map, length-map, length-take-le, map-append}
 use Rattle.std.proofs.lemmas.List.Elements.{filter-append}
 use Rattle.vt_screen.specs.declared.cell.Row.{Row}
 use Rattle.vt_screen.specs.Cells.{blank_row, row_at}
@@ -14,12 +14,6 @@ use Rattle.screen_print.specs.Places.{IsPlace}
 use Rattle.screen_print.specs.Stills.{Still}
 use Rattle.screen_print.proofs.RowLemmas.{nth_is, range_more}
 use Rattle.screen_print.proofs.WalkLemmas.{one_more, texts_around, texts_from}
-
--- the characters of cells
-pub row_text_is : (wide : Bool) (row : Row) (margin n : ℕ) (chars : List ℕ) → margin ≡ margin_of wide row.size → length (take margin row.cells) ≤ n
-    → chars ≡ map (λ cell. character cell.glyph) (take n (take margin row.cells)) → chars ≡ row_text wide row
-row_text_is wide row margin n chars at whole same =
-    same ∙ ap (map (λ cell. character cell.glyph)) (take_all n (take margin row.cells) whole) ∙ ap (λ m. map (λ cell. character cell.glyph) (take m row.cells)) at
 
 pub row_text_len : (wide : Bool) (row : Row) (margin : ℕ) → margin ≡ margin_of wide row.size → margin ≤ 132
     → length row.cells ≡ 132 → length (row_text wide row) ≡ margin

@@ -218,10 +218,8 @@ pub(crate) fn row_text(still: &Still, line: u8) -> ArrayVec<char, ROW>
     ensures some { 1 ≤ length result.items }
     ensures few { length result.items ≤ ROW }
 {
-    let row = still.row(line);
-    let margin = margin_of(still.is_wide(), row.size) as usize;
     let mut text = ArrayVec::new();
-    for cell in &row.cells[..margin] {
+    for cell in cells_of(still.is_wide(), still.row(line)) {
         text.push(character(cell.glyph));
     }
     text
