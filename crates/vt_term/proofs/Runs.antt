@@ -1,12 +1,9 @@
 -- Glyphs of graphic bytes, written one after another.
-use Rattle.std.proofs.Common.{◌≡◌, ℕ, ◌≤◌, true, List, ◌++◌, map, take, drop, sym, ap, ◌∙◌, arith}
+use Rattle.std.proofs.Common.{◌≡◌, ℕ, ◌≤◌, List, ◌++◌, map, take, drop, sym, ap, ◌∙◌}
 use Rattle.std.specs.Prelude.{All}
-use Rattle.std.specs.List.{list_all}
-use Rattle.std.proofs.lemmas.Bool.Decides.{nat_tests}
 use Rattle.std.proofs.lemmas.List.{map-append, take-append-drop}
-use Rattle.std.proofs.lemmas.List.Sums.{fold-append, AllPass-from_list_all}
+use Rattle.std.proofs.lemmas.List.Sums.{fold-append}
 use Rattle.std.proofs.lemmas.List.Elements.{All-map, All-weaker}
-use Rattle.vt_parser.specs.Syntax.{is_graphic}
 use Rattle.vt_screen.specs.Picture.{Picture}
 use Rattle.vt_screen.specs.Puts.{shown}
 use Rattle.vt_term.specs.declared.sets.CharacterSet.{CharacterSet}
@@ -20,11 +17,6 @@ pub glyphs_high : (set : CharacterSet) (bytes : List ℕ) → All (λ byte. byte
 glyphs_high set bytes high =
     All-map (λ glyph. glyph ≤ 126) (glyph_of set) bytes
     (All-weaker (λ byte. byte ≤ 126) (λ byte. glyph_of set byte ≤ 126) (glyph_high set) bytes high)
-
--- graphic bytes are at most 126
-pub graphic_bytes : (bytes : List ℕ) → list_all is_graphic bytes ≡ true → All (λ byte. byte ≤ 126) bytes
-graphic_bytes bytes graphic =
-    All-weaker (λ byte. is_graphic byte ≡ true) (λ byte. byte ≤ 126) (λ byte is. grind (arith, nat_tests)) bytes (AllPass-from_list_all is_graphic bytes graphic)
 
 -- outside insert mode
 pub glyphs_are_written : GlyphsAreWritten
