@@ -5,7 +5,7 @@ use Rattle.tape_seek.specs.Calls.{Call, HasRun, IsTold, after_call, fed_after, m
 use Rattle.tape_seek.specs.Calls.Call.{Edited, EditRefused, Sought, SeekRefused}
 use Rattle.tape_seek.specs.Calls.HasRun.{Opened, Accepted, RefusedEdit, Answered, RefusedSeek}
 use Rattle.tape_seek.specs.Marks.{Marks, fed_by, first_marks}
-use Rattle.tape_seek.specs.State.{State}
+use Rattle.tape_seek.specs.State.{StateOf}
 
 marks_more : (every : ℕ) (marks : Marks) (calls : List Call) (call : Call)
     → fold (after_call every) marks (calls ++ call ∷ []) ≡ after_call every (fold (after_call every) marks calls) call
@@ -26,33 +26,33 @@ told_nothing : (every : ℕ) (calls : List Call) (call : Call) (fed : List ℕ)
 told_nothing every calls call fed none is =
     is ∙ sym (append-nil (fed_after every calls)) ∙ ap (λ l. fed_after every calls ++ l) (sym none) ∙ sym (told_more every first_marks calls call)
 
-pub runs_are_told : (every : ℕ) (calls : List Call) (fed : List ℕ) (s : State) → HasRun every calls fed s
+pub runs_are_told : {P : Type 0} (every : ℕ) (calls : List Call) (fed : List ℕ) (s : StateOf P) → HasRun every calls fed s
     → IsTold every calls fed s
 runs_are_told every calls fed s (Opened profile tape new is) = record {
-  spaced = ap (λ (t : State). t.every) is;
-  stands = ap (λ (t : State). t.marks) is;
+  spaced = ap (λ (t : StateOf _). t.every) is;
+  stands = ap (λ (t : StateOf _). t.marks) is;
   feeds = refl;
 }
 runs_are_told every calls fed s (Accepted before fed' old new edit ran is) =
     let told = runs_are_told every before fed' old ran in
     record {
-      spaced = ap (λ (t : State). t.every) is ∙ told.spaced;
-      stands = ap (λ (t : State). t.marks) is ∙ ap (λ (n : ℕ). after_call n old.marks (Edited edit)) told.spaced
+      spaced = ap (λ (t : StateOf _). t.every) is ∙ told.spaced;
+      stands = ap (λ (t : StateOf _). t.marks) is ∙ ap (λ (n : ℕ). after_call n old.marks (Edited edit)) told.spaced
           ∙ ap (λ (m : Marks). after_call every m (Edited edit)) told.stands ∙ sym (marks_more every first_marks before (Edited edit));
       feeds = told_nothing every before (Edited edit) fed' refl told.feeds;
     }
 runs_are_told every calls fed s (RefusedEdit before fed' old new ran is) =
     let told = runs_are_told every before fed' old ran in
     record {
-      spaced = ap (λ (t : State). t.every) is ∙ told.spaced;
-      stands = ap (λ (t : State). t.marks) is ∙ told.stands ∙ sym (marks_more every first_marks before EditRefused);
+      spaced = ap (λ (t : StateOf _). t.every) is ∙ told.spaced;
+      stands = ap (λ (t : StateOf _). t.marks) is ∙ told.stands ∙ sym (marks_more every first_marks before EditRefused);
       feeds = told_nothing every before EditRefused fed' refl told.feeds;
     }
 runs_are_told every calls fed s (Answered before fed' old new count number ran is counts) =
     let told = runs_are_told every before fed' old ran in
     record {
-      spaced = ap (λ (t : State). t.every) is ∙ told.spaced;
-      stands = ap (λ (t : State). t.marks) is ∙ ap (λ (m : Marks). after_call every m (Sought count)) told.stands
+      spaced = ap (λ (t : StateOf _). t.every) is ∙ told.spaced;
+      stands = ap (λ (t : StateOf _). t.marks) is ∙ ap (λ (m : Marks). after_call every m (Sought count)) told.stands
           ∙ sym (marks_more every first_marks before (Sought count));
       feeds = ap (λ (l : List ℕ). l ++ number ∷ []) told.feeds
           ∙ ap (λ (n : ℕ). fed_after every before ++ n ∷ []) (counts ∙ ap (λ (n : ℕ). fed_by n count old.marks) told.spaced ∙ ap (fed_by every count) told.stands)
@@ -61,8 +61,8 @@ runs_are_told every calls fed s (Answered before fed' old new count number ran i
 runs_are_told every calls fed s (RefusedSeek before fed' old new ran is) =
     let told = runs_are_told every before fed' old ran in
     record {
-      spaced = ap (λ (t : State). t.every) is ∙ told.spaced;
-      stands = ap (λ (t : State). t.marks) is ∙ ap (λ (n : ℕ). after_call n old.marks SeekRefused) told.spaced
+      spaced = ap (λ (t : StateOf _). t.every) is ∙ told.spaced;
+      stands = ap (λ (t : StateOf _). t.marks) is ∙ ap (λ (n : ℕ). after_call n old.marks SeekRefused) told.spaced
           ∙ ap (λ (m : Marks). after_call every m SeekRefused) told.stands ∙ sym (marks_more every first_marks before SeekRefused);
       feeds = told_nothing every before SeekRefused fed' refl told.feeds;
     }

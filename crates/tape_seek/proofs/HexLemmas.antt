@@ -11,7 +11,7 @@ use Rattle.hex.specs.Hex.{decode_of, encode_lower, encode_with, is_hex_digit}
 use Rattle.hex.specs.declared.error.FromHexError.{FromHexError}
 use Rattle.hex.proofs.HexLemmas.{decode_of-digits, decode_of-ok}
 use Rattle.tape_core.specs.declared.devices.Watched.{Watched}
-use Rattle.tape_core.specs.Devices.{Took}
+use Rattle.tape_core.specs.Devices.{Gave}
 use Rattle.tape_seek.specs.Requests.{bytes_of, pairs_of}
 
 -- std and the crate hex mean the same digits
@@ -59,39 +59,30 @@ unfolding encode_with
 encode-append digits [] second = refl
 encode-append digits (x ∷ first) second = rw (encode-append digits first second) refl
 
--- what has gone out in hexadecimal, where these bytes are left
+-- what was given in hexadecimal, where these bytes are left
 pub record HexBefore {O : Type 0} (contents : O → Option (List ℕ)) (old new : Watched O) (bytes rest : List ℕ) : Type 0 where
   pub gone : List ℕ
   pub cut : bytes ≡ gone ++ rest
-  pub took : Took contents old new (encode_lower gone)
+  pub gave : Gave contents old new (encode_lower gone)
 
 -- before the first piece
 pub hex_none : {O : Type 0} (contents : O → Option (List ℕ)) (out : Watched O) (bytes rest : List ℕ) → rest ≡ bytes
-    → Took contents out out [] → HexBefore contents out out bytes rest
+    → Gave contents out out [] → HexBefore contents out out bytes rest
 unfolding encode_with
-hex_none contents out bytes rest same took = record { gone = []; cut = sym same; took = took }
+hex_none contents out bytes rest same gave = record { gone = []; cut = sym same; gave = gave }
 
 -- one more piece
 pub hex_more : {O : Type 0} {contents : O → Option (List ℕ)} {a b c : Watched O} {bytes rest : List ℕ} (piece left : List ℕ)
     → rest ≡ piece ++ left → (h : HexBefore contents a b bytes rest)
-    → Took contents a c (encode_lower h.gone ++ encode_lower piece) → HexBefore contents a c bytes left
-hex_more {contents = contents} {a = a} {c = c} piece left parts h took = record {
+    → Gave contents a c (encode_lower h.gone ++ encode_lower piece) → HexBefore contents a c bytes left
+hex_more {contents = contents} {a = a} {c = c} piece left parts h gave = record {
   gone = h.gone ++ piece;
   cut = h.cut ∙ ap (λ (l : List ℕ). h.gone ++ l) parts ∙ sym (append_assoc h.gone piece left);
-  took = subst (Took contents a c) (sym (encode-append _ h.gone piece)) took;
+  gave = subst (Gave contents a c) (sym (encode-append _ h.gone piece)) gave;
 }
 
 -- after the last piece
 pub hex_all : {O : Type 0} {contents : O → Option (List ℕ)} {a b : Watched O} {bytes rest : List ℕ} → rest ≡ []
-    → HexBefore contents a b bytes rest → Took contents a b (encode_lower bytes)
+    → HexBefore contents a b bytes rest → Gave contents a b (encode_lower bytes)
 hex_all {contents = contents} {a = a} {b = b} none h =
-    subst (λ (l : List ℕ). Took contents a b (encode_lower l)) (sym (h.cut ∙ ap (λ (l : List ℕ). h.gone ++ l) none ∙ append-nil h.gone)) h.took
-
--- the digits of what has gone out, of a piece and of what is left
-pub hex_around : {O : Type 0} {contents : O → Option (List ℕ)} {a b : Watched O} {bytes rest : List ℕ} (piece left : List ℕ)
-    → rest ≡ piece ++ left → (h : HexBefore contents a b bytes rest)
-    → encode_lower bytes ≡ (encode_lower h.gone ++ encode_lower piece) ++ encode_lower left
-hex_around {bytes = bytes} piece left parts h =
-    let whole : bytes ≡ (h.gone ++ piece) ++ left = h.cut ∙ ap (λ (l : List ℕ). h.gone ++ l) parts ∙ sym (append_assoc h.gone piece left) in
-    ap (λ (l : List ℕ). encode_lower l) whole ∙ encode-append _ (h.gone ++ piece) left
-    ∙ ap (λ (l : List ℕ). l ++ encode_lower left) (encode-append _ h.gone piece)
+    subst (λ (l : List ℕ). Gave contents a b (encode_lower l)) (sym (h.cut ∙ ap (λ (l : List ℕ). h.gone ++ l) none ∙ append-nil h.gone)) h.gave

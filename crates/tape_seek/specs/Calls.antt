@@ -2,10 +2,9 @@
 -- from which were refused. Then what real calls did, step by step, in the words of their contracts.
 use Rattle.std.specs.Prelude.{◌≡◌, ℕ, List, [], ◌∷◌, ◌++◌, fold}
 use Rattle.tape_core.specs.Tape.{Tape}
-use Rattle.vt_term.specs.declared.profile.Profile.{Profile}
 use Rattle.tape_seek.specs.declared.edits.Edit.{Edit}
 use Rattle.tape_seek.specs.Marks.{Marks, after_edit, after_refused_seek, after_seek, fed_by, first_marks}
-use Rattle.tape_seek.specs.State.{State, accepted, opened, seek_refused, sought}
+use Rattle.tape_seek.specs.State.{StateOf, accepted, opened, seek_refused, sought}
 
 -- What a session was asked, and whether it answered: an edit, a seek to a count of chunks.
 pub data Call : Type 0 where
@@ -41,21 +40,21 @@ fed_after every calls = told_from every first_marks calls
 
 -- A session that stores a terminal at every so many chunks has come to a state by these calls, and its answered
 -- seeks have told that they fed so many chunks each. A step is what the contract of the call says.
-pub data HasRun (every : ℕ) : List Call → List ℕ → State → Type 0 where
-  Opened : (profile : Profile) (tape : Tape) (new : State)
+pub data HasRun {P : Type 0} (every : ℕ) : List Call → List ℕ → StateOf P → Type 0 where
+  Opened : (profile : P) (tape : Tape) (new : StateOf P)
       → new ≡ opened profile tape every → HasRun every [] [] new
-  Accepted : (calls : List Call) (fed : List ℕ) (old new : State) (edit : Edit) → HasRun every calls fed old
+  Accepted : (calls : List Call) (fed : List ℕ) (old new : StateOf P) (edit : Edit) → HasRun every calls fed old
       → new ≡ accepted edit old → HasRun every (calls ++ Edited edit ∷ []) fed new
-  RefusedEdit : (calls : List Call) (fed : List ℕ) (old new : State) → HasRun every calls fed old
+  RefusedEdit : (calls : List Call) (fed : List ℕ) (old new : StateOf P) → HasRun every calls fed old
       → new ≡ old → HasRun every (calls ++ EditRefused ∷ []) fed new
-  Answered : (calls : List Call) (fed : List ℕ) (old new : State) (count told : ℕ) → HasRun every calls fed old
+  Answered : (calls : List Call) (fed : List ℕ) (old new : StateOf P) (count told : ℕ) → HasRun every calls fed old
       → new ≡ sought count old → told ≡ fed_by old.every count old.marks
       → HasRun every (calls ++ Sought count ∷ []) (fed ++ told ∷ []) new
-  RefusedSeek : (calls : List Call) (fed : List ℕ) (old new : State) → HasRun every calls fed old
+  RefusedSeek : (calls : List Call) (fed : List ℕ) (old new : StateOf P) → HasRun every calls fed old
       → new ≡ seek_refused old → HasRun every (calls ++ SeekRefused ∷ []) fed new
 
 -- Frontier and head are what the calls make of them, and the seeks fed what the calls tell.
-pub record IsTold (every : ℕ) (calls : List Call) (fed : List ℕ) (s : State) : Type 0 where
+pub record IsTold {P : Type 0} (every : ℕ) (calls : List Call) (fed : List ℕ) (s : StateOf P) : Type 0 where
   pub spaced : s.every ≡ every
   pub stands : s.marks ≡ marks_after every calls
   pub feeds : fed ≡ fed_after every calls

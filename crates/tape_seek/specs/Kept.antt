@@ -4,26 +4,28 @@ use Rattle.std.specs.declared.alloc.Global.{Global}
 use Rattle.tape_core.specs.declared.chunk.Chunk.{Chunk}
 use Rattle.tape_core.specs.Due.{first}
 use Rattle.tape_core.specs.Tape.{Tape, fits}
-use Rattle.vt_term.specs.Seen.{Seen, Shows}
-use Rattle.vt_term.specs.declared.profile.Profile.{Profile}
-use Rattle.vt_term.specs.Term.{reset_term_as, sent}
+use Rattle.plays.specs.declared.plays.Plays.{Ghosts}
 use Rattle.tape_seek.specs.declared.edits.Edit.{Edit}
 use Rattle.tape_seek.specs.declared.replay.Replay.{Replay}
 use Rattle.tape_seek.specs.Edits.{CanBeLogged}
 use Rattle.tape_seek.specs.Marks.{Marks}
-use Rattle.tape_seek.specs.Moments.{up_to}
-use Rattle.tape_seek.specs.State.{State}
+use Rattle.tape_seek.specs.State.{StateOf}
 
 -- all that was sent by the first chunks
-abbrev pub sent_after : Profile → List Chunk → ℕ → List ℕ
-sent_after profile chunks count = sent (reset_term_as profile) (first chunks count)
+abbrev pub sent_after : {T P K : Type 0} → Ghosts T P K → P → List Chunk → ℕ → List ℕ
+sent_after p profile chunks count = p.sent profile (first chunks count)
+
+-- what joined texts send is what their parts send in turn
+abbrev pub SendsInParts : {T P K : Type 0} → Ghosts T P K → Type 0
+SendsInParts {P = P} p = (profile : P) (before more : List ℕ)
+    → p.sent profile (before ++ more) ≡ p.sent profile before ++ p.replies profile before more
 
 -- where the replay stands, as its session tells it
-abbrev pub marks_of : Replay → Marks
+abbrev pub marks_of : {T P K : Type 0} → Replay T P K → Marks
 marks_of r = record { frontier = r.frontier; head = r.head }
 
 -- a session as a plain value, by its recording, its log and its replay
-abbrev pub state_of : Tape → List Edit → Replay → State
+abbrev pub state_of : {T P K : Type 0} → Tape → List Edit → Replay T P K → StateOf P
 state_of tape log r = record {
   profile = r.profile;
   recording = tape;
@@ -33,70 +35,70 @@ state_of tape log r = record {
 }
 
 -- Which terminal plays, and how many chunks lie between stored terminals, stays.
-pub record PlaysOn (old new : Replay) : Type 0 where
+pub record PlaysOn {T P K : Type 0} (old new : Replay T P K) : Type 0 where
   pub profile : new.profile ≡ old.profile
   pub every : new.every ≡ old.every
 
 -- the working terminal shows what the first chunks up to the head come to
-abbrev pub ShowsHead : List Chunk → Replay → Type 0
-ShowsHead chunks r = Shows r.working (up_to r.profile chunks r.head)
+abbrev pub ShowsHead : {T P K : Type 0} → Ghosts T P K → List Chunk → Replay T P K → Type 0
+ShowsHead p chunks r = p.shows r.profile r.working (first chunks r.head)
 
 -- what the next chunk sends goes behind what was sent by the head
-abbrev pub SendsNext : List Chunk → Replay → Type 0
-SendsNext chunks r = r.reports.place ≡ length (sent_after r.profile chunks r.head)
+abbrev pub SendsNext : {T P K : Type 0} → Ghosts T P K → List Chunk → Replay T P K → Type 0
+SendsNext p chunks r = r.reports.place ≡ length (sent_after p r.profile chunks r.head)
 
 -- What is kept up to a count is right. Past it there may be more, of which nothing is said.
-pub record HoldsUpTo (chunks : List Chunk) (count : ℕ) (r : Replay) : Type 0 where
+pub record HoldsUpTo {T P K : Type 0} (p : Ghosts T P K) (chunks : List Chunk) (count : ℕ) (r : Replay T P K) : Type 0 where
   pub every : 0 < r.every
   pub within : count ≤ length chunks
   pub terminals : count / r.every ≤ length r.stored.items
-  pub stored : (k : ℕ) (d : Box Seen Global) → k < count / r.every
-      → Shows (slice_index_or r.stored.items k d).value (up_to r.profile chunks ((k + 1) * r.every))
+  pub stored : (k : ℕ) (d : Box K Global) → k < count / r.every
+      → p.keeps r.profile (slice_index_or r.stored.items k d).value (first chunks ((k + 1) * r.every))
   pub counts : count < length r.sent.items
-  pub sent : (k : ℕ) → k ≤ count → slice_index r.sent.items k ≡ length (sent_after r.profile chunks k)
-  pub reports : take (length (sent_after r.profile chunks count)) r.reports.bytes ≡ sent_after r.profile chunks count
+  pub sent : (k : ℕ) → k ≤ count → slice_index r.sent.items k ≡ length (sent_after p r.profile chunks k)
+  pub reports : take (length (sent_after p r.profile chunks count)) r.reports.bytes ≡ sent_after p r.profile chunks count
 
 -- What is kept is right up to the frontier, and nothing is kept past it.
-pub record IsKept (chunks : List Chunk) (r : Replay) : Type 0 where
-  pub holds : HoldsUpTo chunks r.frontier r
+pub record IsKept {T P K : Type 0} (p : Ghosts T P K) (chunks : List Chunk) (r : Replay T P K) : Type 0 where
+  pub holds : HoldsUpTo p chunks r.frontier r
   pub terminals : length r.stored.items ≡ r.frontier / r.every
   pub counts : length r.sent.items ≡ r.frontier + 1
-  pub reports : r.reports.bytes ≡ sent_after r.profile chunks r.frontier
+  pub reports : r.reports.bytes ≡ sent_after p r.profile chunks r.frontier
 
 -- So it is, and the head stands where the replay says.
-pub record IsReplay (chunks : List Chunk) (r : Replay) : Type 0 where
-  pub kept : IsKept chunks r
+pub record IsReplay {T P K : Type 0} (p : Ghosts T P K) (chunks : List Chunk) (r : Replay T P K) : Type 0 where
+  pub kept : IsKept p chunks r
   pub behind : r.head ≤ r.frontier
-  pub working : ShowsHead chunks r
+  pub working : ShowsHead p chunks r
 
 -- and what comes next is sent behind what was sent by then
-pub record IsPlaying (chunks : List Chunk) (r : Replay) : Type 0 where
-  pub replay : IsReplay chunks r
-  pub place : SendsNext chunks r
+pub record IsPlaying {T P K : Type 0} (p : Ghosts T P K) (chunks : List Chunk) (r : Replay T P K) : Type 0 where
+  pub replay : IsReplay p chunks r
+  pub place : SendsNext p chunks r
 
 -- the head stands one past the frontier, and what it sent is in the list
-pub record IsAhead (chunks : List Chunk) (r : Replay) : Type 0 where
-  pub holds : HoldsUpTo chunks r.frontier r
+pub record IsAhead {T P K : Type 0} (p : Ghosts T P K) (chunks : List Chunk) (r : Replay T P K) : Type 0 where
+  pub holds : HoldsUpTo p chunks r.frontier r
   pub terminals : length r.stored.items ≡ r.frontier / r.every
   pub counts : length r.sent.items ≡ r.frontier + 1
   pub head : r.head ≡ r.frontier + 1
   pub within : r.head ≤ length chunks
-  pub working : ShowsHead chunks r
-  pub reports : r.reports.bytes ≡ sent_after r.profile chunks r.head
-  pub place : SendsNext chunks r
+  pub working : ShowsHead p chunks r
+  pub reports : r.reports.bytes ≡ sent_after p r.profile chunks r.head
+  pub place : SendsNext p chunks r
 
 -- What the next chunk sends was sent: where it lies within the list, only the place moved on.
-pub record HasSent (chunks : List Chunk) (old new : Replay) : Type 0 where
-  pub place : new.reports.place ≡ length (sent_after old.profile chunks (old.head + 1))
-  pub within : length (sent_after old.profile chunks (old.head + 1)) ≤ length old.reports.bytes
+pub record HasSent {T P K : Type 0} (p : Ghosts T P K) (chunks : List Chunk) (old new : Replay T P K) : Type 0 where
+  pub place : new.reports.place ≡ length (sent_after p old.profile chunks (old.head + 1))
+  pub within : length (sent_after p old.profile chunks (old.head + 1)) ≤ length old.reports.bytes
       → new.reports.bytes ≡ old.reports.bytes
-  pub behind : old.reports.bytes ≡ sent_after old.profile chunks old.head
-      → new.reports.bytes ≡ sent_after old.profile chunks (old.head + 1)
+  pub behind : old.reports.bytes ≡ sent_after p old.profile chunks old.head
+      → new.reports.bytes ≡ sent_after p old.profile chunks (old.head + 1)
 
 -- the head's copy was stored behind the others
-pub record Stores (old new : Replay) : Type 0 where
-  pub copy : Box Seen Global
-  pub value : copy.value ≡ old.working
+pub record Stores {T P K : Type 0} (p : Ghosts T P K) (old new : Replay T P K) : Type 0 where
+  pub copy : Box K Global
+  pub value : (bytes : List ℕ) → p.shows old.profile old.working bytes → p.keeps old.profile copy.value bytes
   pub stored : new.stored.items ≡ old.stored.items ++ copy ∷ []
 
 -- The first chunks, up to this count, come to the same bytes in both recordings.
@@ -105,7 +107,7 @@ pub record SameFront (old new : List Chunk) (count : ℕ) : Type 0 where
   pub bytes : (k : ℕ) → k ≤ count → first new k ≡ first old k
 
 -- A session's recording fits, its log can be written, and its replay is the recording's.
-pub record IsSound (tape : Tape) (edits : List Edit) (r : Replay) : Type 0 where
+pub record IsSound {T P K : Type 0} (p : Ghosts T P K) (tape : Tape) (edits : List Edit) (r : Replay T P K) : Type 0 where
   pub fitting : fits tape
   pub log : All CanBeLogged edits
-  pub replay : IsReplay tape.chunks r
+  pub replay : IsReplay p tape.chunks r

@@ -3,6 +3,7 @@ pub mod Marks
 pub mod Moments
 pub mod State
 pub mod Headline
+pub mod Played
 pub mod Lending
 pub mod Calls
 pub mod Kept

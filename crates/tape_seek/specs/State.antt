@@ -8,12 +8,16 @@ use Rattle.tape_seek.specs.Marks.{Marks, first_marks, after_edit, after_seek, af
 
 -- which terminal plays, the recording as edited, the accepted edits in order, how many chunks lie between stored
 -- terminals, and both marks
-pub record State : Type 0 where
-  pub profile : Profile
+pub record StateOf (P : Type 0) : Type 0 where
+  pub profile : P
   pub recording : Tape
   pub log : List Edit
   pub every : ℕ
   pub marks : Marks
+
+-- that of a VT100's session
+abbrev pub State : Type 0
+State = StateOf Profile
 
 -- how many chunks may lie between stored terminals: the fewest, and the most (ours)
 abbrev pub least_every : ℕ
@@ -23,11 +27,11 @@ abbrev pub most_every : ℕ
 most_every = 1000000
 
 -- a session that was just opened
-abbrev pub opened : Profile → Tape → ℕ → State
+abbrev pub opened : {P : Type 0} → P → Tape → ℕ → StateOf P
 opened profile tape every = record { profile = profile; recording = tape; log = []; every = every; marks = first_marks }
 
 -- an accepted edit
-abbrev pub accepted : Edit → State → State
+abbrev pub accepted : {P : Type 0} → Edit → StateOf P → StateOf P
 accepted edit s = record {
   profile = s.profile;
   recording = edited s.recording edit;
@@ -37,17 +41,17 @@ accepted edit s = record {
 }
 
 -- an answered seek
-abbrev pub sought : ℕ → State → State
+abbrev pub sought : {P : Type 0} → ℕ → StateOf P → StateOf P
 sought count s = record s { marks = after_seek count s.marks }
 
 -- a refused seek
-abbrev pub seek_refused : State → State
+abbrev pub seek_refused : {P : Type 0} → StateOf P → StateOf P
 seek_refused s = record s { marks = after_refused_seek s.every s.marks }
 
 -- what a seek leaves, by its answer
-abbrev pub Leaves : {T E : Type 0} → Result T E → ℕ → State → State → Type 0
+abbrev pub Leaves : {T E P : Type 0} → Result T E → ℕ → StateOf P → StateOf P → Type 0
 Leaves result count old new = MatchResult result (λ _. new ≡ sought count old) (λ _. new ≡ seek_refused old)
 
 -- Whatever recording the session was opened with: where the recording was that one edited by the log, it is so still.
-abbrev pub KeepsHistory : State → State → Type 0
+abbrev pub KeepsHistory : {P : Type 0} → StateOf P → StateOf P → Type 0
 KeepsHistory old new = (o : Tape) → old.recording ≡ edited_all o old.log → new.recording ≡ edited_all o new.log

@@ -1,10 +1,10 @@
 //! Bytes as hexadecimal text.
 ghost use Rattle.std.specs.Prelude.{◌≡◌, ◌≤◌, ◌*◌, false, length};
 ghost use Rattle.hex.specs.Hex.{encode_lower};
-ghost use Rattle.tape_core.specs.Devices.{Puts, has_failed};
+ghost use Rattle.tape_core.specs.Devices.{Gave, Puts, has_failed};
 
 use std::io::Write;
-use tape_core::laws::writers_join;
+use tape_core::laws::gives_join;
 use tape_core::{Fault, Watched};
 
 /// How many bytes are turned into digits at once.
@@ -16,23 +16,29 @@ pub fn put_hex<W: Write>(bytes: &[u8], writer: &mut Watched<W>) -> Result<(), Fa
     requires { has_failed writer.old ≡ false }
     ensures { Puts W.contents writer.old writer.new (encode_lower bytes.now) result }
 {
-    writers_join::<W>();
+    give_hex(bytes, writer);
+    writer.ask()
+}
+
+/// Writes bytes in lower-case hexadecimal, and doesn't flush. Takes no memory.
+pub(crate) fn give_hex<W: Write>(bytes: &[u8], writer: &mut Watched<W>)
+    ensures { Gave W.contents writer.old writer.new (encode_lower bytes.now) }
+{
+    gives_join::<W>();
     for piece in bytes.chunks(PIECE) {
-        put_piece(piece, writer)?;
+        put_piece(piece, writer);
     }
-    Ok(())
 }
 
 /// Writes a piece of at most `PIECE` bytes in lower-case hexadecimal.
-fn put_piece<W: Write>(piece: &[u8], writer: &mut Watched<W>) -> Result<(), Fault>
-    requires short { length piece.now ≤ PIECE }
-    requires sound { has_failed writer.old ≡ false }
-    ensures { Puts W.contents writer.old writer.new (encode_lower piece.now) result }
+fn put_piece<W: Write>(piece: &[u8], writer: &mut Watched<W>)
+    requires { length piece.now ≤ PIECE }
+    ensures { Gave W.contents writer.old writer.new (encode_lower piece.now) }
 {
     let mut digits = [0u8; 2 * PIECE];
     let digits = &mut digits[..2 * piece.len()];
     let Ok(()) = hex::encode_to_slice(piece, digits) else {
         unreachable!();
     };
-    writer.put(digits)
+    writer.give(digits);
 }

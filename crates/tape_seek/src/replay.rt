@@ -16,24 +16,21 @@
 //! the terminal at 8 goes, the frontier is 6, and a head past it goes back to the last stored terminal.
 ghost use Rattle.std.specs.Prelude.{◌≡◌, ℕ, ◌+◌, ◌-◌, ◌*◌, ◌/◌, ◌<◌, ◌≤◌, List, length, min, IfOk, OnOk, OnErr, IsOk, slice_index};
 ghost use Rattle.tape_core.specs.declared.chunk.Chunk.{Chunk};
-ghost use Rattle.vt_term.specs.Seen.{Shows};
-ghost use Rattle.vt_term.specs.Sink.{KeepsFront};
-ghost use Rattle.vt_term.specs.Term.{sent};
+ghost use Rattle.tape_core.specs.Due.{first as bytes_of_first};
+ghost use Rattle.plays.specs.Sink.{KeepsFront};
 ghost use Rattle.tape_seek.specs.Kept.{HasSent, HoldsUpTo, IsAhead, IsKept, IsPlaying, IsReplay, PlaysOn, SameFront, SendsNext, ShowsHead, Stores, marks_of, sent_after};
 ghost use Rattle.tape_seek.specs.Marks.{after_cut, after_refused_seek, after_seek, fed_by, first_marks, multiple_below, start_of};
-ghost use Rattle.tape_seek.specs.Moments.{up_to};
 
+use plays::{OutOfMemory, Plays, Reports};
 use std::alloc::{AllocError, Global};
 use tape_core::Chunk;
 use tape_core::laws::first_grows_by_a_chunk;
-use vt_term::laws::{plays_in_parts, sends_in_parts};
-use vt_term::{OutOfMemory, PackedTerminal, Profile, Reports, Terminal};
 
 /// A replay of the chunks of a recording, kept up to the frontier.
 #[derive(Debug, Drop)]
-pub(crate) struct Replay {
+pub(crate) struct Replay<T: Plays> {
     /// Which terminal plays.
-    pub profile: Profile,
+    pub profile: T::Profile,
     /// A terminal is stored at each multiple of this count up to the frontier, 0 excepted.
     pub every: usize,
     /// All that is kept is right up to this count of chunks.
@@ -41,9 +38,9 @@ pub(crate) struct Replay {
     /// The count at which the working terminal stands, at most the frontier.
     pub head: usize,
     /// The working terminal.
-    pub working: Terminal,
+    pub working: T,
     /// The terminals at `every`, twice `every` and so on, packed.
-    pub stored: Vec<Box<PackedTerminal>>,
+    pub stored: Vec<Box<T::Packed>>,
     /// All that was sent up to the frontier.
     pub reports: Reports,
     /// How many bytes were sent by each count from 0 to the frontier.
@@ -54,15 +51,17 @@ pub(crate) struct Replay {
     pub alloc: Global,
 }
 
-impl Replay {
+impl<T: Plays> Replay<T> {
     /// Nothing was played.
-    pub(crate) fn new(alloc: Global, profile: Profile, every: usize) -> Result<Self, AllocError>
+    pub(crate) fn new(alloc: Global, profile: T::Profile, every: usize) -> Result<Self, AllocError>
         requires { 0 < every }
-        ensures replay { (chunks : List Chunk) → IfOk result (λ r. IsReplay chunks r) }
+        ensures replay { (chunks : List Chunk) → IfOk result (λ r. IsReplay T.Plays chunks r) }
         ensures profile { IfOk result (λ r. r.profile ≡ profile) }
         ensures every { IfOk result (λ r. r.every ≡ every) }
         ensures marks { IfOk result (λ r. marks_of r ≡ first_marks) }
     {
+        T::laws();
+        let working = T::reset(alloc, profile)?;
         let mut sent = Vec::new(alloc);
         sent.push(0)?;
         Ok(Replay {
@@ -70,7 +69,7 @@ impl Replay {
             every,
             frontier: 0,
             head: 0,
-            working: Terminal::reset_as(profile),
+            working,
             stored: Vec::new(alloc),
             reports: Reports::new(alloc),
             sent,
@@ -83,9 +82,9 @@ impl Replay {
     /// it. Where memory is refused, what was added is taken back.
     #[tactic(auto, using(crate::proofs::ReplayLemmas::plays_on))]
     pub(crate) fn seek(&mut self, chunks: &[Chunk], count: usize) -> Result<(), OutOfMemory>
-        requires replay { IsReplay chunks.now self.old }
+        requires replay { IsReplay T.Plays chunks.now self.old }
         requires within { count ≤ length chunks.now }
-        ensures replay { IsReplay chunks.now self.new }
+        ensures replay { IsReplay T.Plays chunks.now self.new }
         ensures rest { PlaysOn self.old self.new }
         ensures ok { OnOk result (marks_of self.new ≡ after_seek count (marks_of self.old)) }
         ensures err { OnErr result
@@ -106,14 +105,14 @@ impl Replay {
     /// The chunks from this one on have changed: nothing that was kept past it is right any more.
     #[tactic(auto, using(crate::proofs::ReplayLemmas::plays_on))]
     pub(crate) fn cut(&mut self, first: usize)
-        requires { (chunks : List Chunk) × IsReplay chunks self.old }
+        requires { (chunks : List Chunk) × IsReplay T.Plays chunks self.old }
         // Whatever the recording has become, where its first chunks up to this one stayed.
-        ensures replay { (old new : List Chunk) → IsReplay old self.old
-            → SameFront old new (min self.old.frontier first) → IsReplay new self.new }
+        ensures replay { (old new : List Chunk) → IsReplay T.Plays old self.old
+            → SameFront old new (min self.old.frontier first) → IsReplay T.Plays new self.new }
         ensures rest { PlaysOn self.old self.new }
         ensures marks { marks_of self.new ≡ after_cut self.old.every first (marks_of self.old) }
     {
-        sends_in_parts();
+        T::laws();
         if first < self.frontier {
             self.keep_up_to(first);
             if self.head > first {
@@ -124,9 +123,9 @@ impl Replay {
 
     /// Puts the working terminal where a seek to the count starts.
     fn start(&mut self, count: usize)
-        requires { (chunks : List Chunk) × IsReplay chunks self.old }
-        ensures playing { (chunks : List Chunk) → IsReplay chunks self.old
-            → IsPlaying chunks self.new }
+        requires { (chunks : List Chunk) × IsReplay T.Plays chunks self.old }
+        ensures playing { (chunks : List Chunk) → IsReplay T.Plays chunks self.old
+            → IsPlaying T.Plays chunks self.new }
         ensures before { self.new.head ≤ count }
         ensures rest { self.new ≡ record self.old {
           working = self.new.working;
@@ -135,7 +134,7 @@ impl Replay {
           fed = 0;
         } }
     {
-        sends_in_parts();
+        T::laws();
         let near = count.min(self.frontier);
         if self.head > count || self.head < near / self.every * self.every {
             self.go_back(near);
@@ -148,9 +147,10 @@ impl Replay {
     fn go_back(&mut self, count: usize)
         requires every { 0 < self.old.every }
         requires stored { count / self.old.every ≤ length self.old.stored.items }
-        ensures working { (chunks : List Chunk) → HoldsUpTo chunks count self.old
-            → Shows self.new.working
-            (up_to self.old.profile chunks (multiple_below self.old.every count)) }
+        requires fits { T.fits self.old.profile self.old.working }
+        ensures working { (chunks : List Chunk) → HoldsUpTo T.Plays chunks count self.old
+            → T.shows self.old.profile self.new.working
+            (bytes_of_first chunks (multiple_below self.old.every count)) }
         ensures rest { self.new ≡ record self.old {
           working = self.new.working;
           head = multiple_below self.old.every count;
@@ -158,7 +158,7 @@ impl Replay {
     {
         let terminals = count / self.every;
         if terminals == 0 {
-            self.working = Terminal::reset_as(self.profile);
+            self.working.clear(self.profile);
         } else {
             self.working.unpack(&self.stored[terminals - 1]);
         }
@@ -170,8 +170,8 @@ impl Replay {
         requires every { 0 < self.old.every }
         requires counts { count < length self.old.sent.items }
         requires sent { slice_index self.old.sent.items count ≤ length self.old.reports.bytes }
-        ensures kept { (chunks : List Chunk) → HoldsUpTo chunks count self.old
-            → IsKept chunks self.new }
+        ensures kept { (chunks : List Chunk) → HoldsUpTo T.Plays chunks count self.old
+            → IsKept T.Plays chunks self.new }
         ensures rest { self.new ≡ record self.old {
           frontier = count;
           stored = self.new.stored;
@@ -188,18 +188,19 @@ impl Replay {
     /// Feeds the chunks between the head and the count.
     #[tactic(auto, using(crate::proofs::ReplayLemmas::plays_on))]
     fn feed_to(&mut self, chunks: &[Chunk], count: usize) -> Result<(), OutOfMemory>
-        requires playing { IsPlaying chunks.now self.old }
+        requires playing { IsPlaying T.Plays chunks.now self.old }
         requires within { count ≤ length chunks.now }
         requires before { self.old.head ≤ count }
         requires fed { self.old.fed ≡ 0 }
-        ensures ok { OnOk result (IsReplay chunks.now self.new) }
+        ensures ok { OnOk result (IsReplay T.Plays chunks.now self.new) }
         ensures marks { OnOk result (marks_of self.new ≡ after_seek count (marks_of self.old)) }
         ensures fed { OnOk result (self.new.fed ≡ count - self.old.head) }
-        ensures err { OnErr result (HoldsUpTo chunks.now self.old.frontier self.new) }
+        ensures err { OnErr result (HoldsUpTo T.Plays chunks.now self.old.frontier self.new) }
+        ensures fits { T.fits self.new.profile self.new.working }
         ensures rest { PlaysOn self.old self.new }
         ensures room { count ≤ self.old.frontier → IsOk result }
     {
-        sends_in_parts();
+        T::laws();
         while self.head < count {
             self.step_on(chunks)?;
         }
@@ -209,18 +210,19 @@ impl Replay {
     /// Feeds one chunk, and keeps what comes of it where that is new.
     #[tactic(auto, using(crate::proofs::ReplayLemmas::plays_on))]
     fn step_on(&mut self, chunks: &[Chunk]) -> Result<(), OutOfMemory>
-        requires playing { IsPlaying chunks.now self.old }
+        requires playing { IsPlaying T.Plays chunks.now self.old }
         requires within { self.old.head < length chunks.now }
         requires fed { self.old.fed ≤ self.old.head }
-        ensures ok { OnOk result (IsPlaying chunks.now self.new) }
+        ensures ok { OnOk result (IsPlaying T.Plays chunks.now self.new) }
         ensures marks { OnOk result
             (marks_of self.new ≡ after_seek (self.old.head + 1) (marks_of self.old)) }
         ensures fed { OnOk result (self.new.fed ≡ self.old.fed + 1) }
-        ensures err { OnErr result (HoldsUpTo chunks.now self.old.frontier self.new) }
+        ensures err { OnErr result (HoldsUpTo T.Plays chunks.now self.old.frontier self.new) }
+        ensures fits { T.fits self.new.profile self.new.working }
         ensures rest { PlaysOn self.old self.new }
         ensures room { self.old.head < self.old.frontier → IsOk result }
     {
-        sends_in_parts();
+        T::laws();
         self.feed_next(chunks)?;
         if self.head > self.frontier {
             self.keep_working()?;
@@ -242,21 +244,22 @@ impl Replay {
           working = self.new.working;
           reports = self.new.reports;
         }) }
-        ensures shows { ShowsHead chunks.now self.old → OnOk result (Shows self.new.working
-            (up_to self.old.profile chunks.now (self.old.head + 1))) }
-        ensures sent { ShowsHead chunks.now self.old → SendsNext chunks.now self.old
-            → OnOk result (HasSent chunks.now self.old self.new) }
+        ensures shows { ShowsHead T.Plays chunks.now self.old → OnOk result (T.shows self.old.profile
+            self.new.working (bytes_of_first chunks.now (self.old.head + 1))) }
+        ensures fits { T.fits self.old.profile self.old.working
+            → T.fits self.old.profile self.new.working }
+        ensures sent { ShowsHead T.Plays chunks.now self.old → SendsNext T.Plays chunks.now self.old
+            → OnOk result (HasSent T.Plays chunks.now self.old self.new) }
         ensures front { KeepsFront self.old.reports self.new.reports }
-        ensures room { ShowsHead chunks.now self.old → SendsNext chunks.now self.old
-            → length (sent_after self.old.profile chunks.now (self.old.head + 1))
+        ensures room { ShowsHead T.Plays chunks.now self.old → SendsNext T.Plays chunks.now self.old
+            → length (sent_after T.Plays self.old.profile chunks.now (self.old.head + 1))
             ≤ length self.old.reports.bytes
             → IsOk result }
     {
         first_grows_by_a_chunk();
-        plays_in_parts();
-        sends_in_parts();
+        T::laws();
         self.working
-            .feed_in_place(chunks[self.head].bytes.as_slice(), &mut self.reports)?;
+            .feed(chunks[self.head].bytes.as_slice(), &mut self.reports)?;
         self.head += 1;
         self.fed += 1;
         Ok(())
@@ -265,10 +268,10 @@ impl Replay {
     /// Moves the frontier on to the head, which stands one past it.
     fn keep_working(&mut self) -> Result<(), AllocError>
         requires every { 0 < self.old.every }
-        ensures ok { (chunks : List Chunk) → IsAhead chunks self.old
-            → OnOk result (IsPlaying chunks self.new) }
-        ensures err { (chunks : List Chunk) (count : ℕ) → HoldsUpTo chunks count self.old
-            → HoldsUpTo chunks count self.new }
+        ensures ok { (chunks : List Chunk) → IsAhead T.Plays chunks self.old
+            → OnOk result (IsPlaying T.Plays chunks self.new) }
+        ensures err { (chunks : List Chunk) (count : ℕ) → HoldsUpTo T.Plays chunks count self.old
+            → HoldsUpTo T.Plays chunks count self.new }
         ensures frontier { OnOk result (self.new.frontier ≡ self.old.head) }
         ensures rest { self.new ≡ record self.old {
           frontier = self.new.frontier;
@@ -286,7 +289,7 @@ impl Replay {
 
     /// Stores the working terminal, packed, behind the others.
     fn store_working(&mut self) -> Result<(), AllocError>
-        ensures ok { OnOk result (Stores self.old self.new) }
+        ensures ok { OnOk result (Stores T.Plays self.old self.new) }
         ensures err { OnErr result (self.new.stored.items ≡ self.old.stored.items) }
         ensures rest { self.new ≡ record self.old { stored = self.new.stored } }
     {
@@ -297,12 +300,12 @@ impl Replay {
 
     /// All that was sent by the count.
     pub(crate) fn sent_by(&self, count: usize) -> &[u8]
-        requires some { (chunks : List Chunk) × IsReplay chunks self.now }
+        requires some { (chunks : List Chunk) × IsReplay T.Plays chunks self.now }
         requires within { count ≤ self.now.frontier }
-        ensures { (chunks : List Chunk) → IsReplay chunks self.now
-            → result.now ≡ sent_after self.now.profile chunks count }
+        ensures { (chunks : List Chunk) → IsReplay T.Plays chunks self.now
+            → result.now ≡ sent_after T.Plays self.now.profile chunks count }
     {
-        sends_in_parts();
+        T::laws();
         &self.reports.bytes()[..self.sent[count]]
     }
 }

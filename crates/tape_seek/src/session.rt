@@ -6,17 +6,16 @@ ghost use Rattle.tape_seek.specs.Edits.{CanBeLogged, edit_fault, edited, edited_
 ghost use Rattle.tape_seek.specs.Kept.{IsReplay, PlaysOn, marks_of};
 ghost use Rattle.tape_seek.specs.Marks.{after_edit, fed_by};
 ghost use Rattle.vt_term.specs.declared.profile.Profile.TheVariants.{Vt100};
-ghost use Rattle.vt_term.specs.Seen.{Shows};
 
 use crate::editing::{brings_bytes, edit_fault, first_touched, make};
 use crate::edits::{Edit, EditFault};
 use crate::replay::Replay;
+use plays::{OutOfMemory, Plays};
 use std::alloc::{AllocError, Global};
 use std::marker::Model;
 use tape_core::Recording;
 use tape_core::laws::{due_is_first, first_is_kept};
-use vt_term::laws::sent_is_appended;
-use vt_term::{OutOfMemory, Profile, Terminal};
+use vt_term::{Profile, Terminal};
 
 /// How many chunks may lie between the terminals that a session stores: the fewest, and the most (ours).
 pub const LEAST_EVERY: usize = 1;
@@ -33,28 +32,28 @@ pub struct Refused {
 /// A recording that is edited and sought in. Contracts see which terminal plays, the recording as edited, the log, how many
 /// chunks lie between stored terminals, the frontier and the head.
 #[derive(Debug, Drop)]
-pub struct Session {
+pub struct Session<T: Plays = Terminal> {
     recording: Recording,
     log: Vec<Edit>,
-    replay: Replay,
+    replay: Replay<T>,
 }
 
-impl Model for Session {
-    ghost use Rattle.tape_seek.specs.State.{State};
+impl<T: Plays> Model for Session<T> {
+    ghost use Rattle.tape_seek.specs.State.{StateOf};
 
-    ghost Value = { State };
+    ghost Value = { StateOf T.Profile };
 
     ghost use Rattle.tape_seek.specs.Kept.{IsSound, state_of};
 
     ghost view = { λ s. state_of s.recording s.log.items s.replay };
 
-    ghost invariant = { λ s. IsSound s.recording s.log.items s.replay };
+    ghost invariant = { λ s. IsSound T.Plays s.recording s.log.items s.replay };
 }
 
 /// The terminal at a count of chunks, and all reports by then.
 #[derive(Debug, Drop)]
-pub struct View<'a> {
-    terminal: &'a Terminal,
+pub struct View<'a, T: Plays = Terminal> {
+    terminal: &'a T,
     reports: &'a [u8],
     count: usize,
     fed: usize,
@@ -65,7 +64,8 @@ impl Session {
     ghost use Rattle.tape_seek.specs.Headline.{TellsCount, TellsMoment};
     ghost use Rattle.tape_seek.specs.Lending.{LeavesSought};
     ghost use Rattle.tape_seek.specs.Moments.{term_at, up_to};
-    ghost use Rattle.tape_seek.specs.State.{KeepsHistory, accepted, least_every, most_every, opened};
+    ghost use Rattle.tape_seek.specs.State.{least_every, most_every, opened};
+    ghost use Rattle.vt_term.specs.Seen.{Shows};
 
     /// Opens a session of a VT100, with a terminal stored at every so many chunks. For want of memory the recording comes
     /// back.
@@ -86,6 +86,69 @@ impl Session {
         recording: Recording,
         every: usize,
         profile: Profile,
+    ) -> Result<Self, Recording>
+        requires low { least_every ≤ every }
+        requires high { every ≤ most_every }
+        ensures ok { IfOk result (λ session. session ≡ opened profile recording every) }
+        ensures history { (o : Tape) → recording ≡ o
+            → IfOk result (λ session. session.recording ≡ edited_all o session.log) }
+        ensures err { IfErr result (λ back. back ≡ recording) }
+    {
+        Session::open_with(alloc, recording, every, profile)
+    }
+
+    /// Goes to a moment, in microseconds: to the chunks that are due by then.
+    pub fn seek(&mut self, moment: u64) -> Result<View<'_>, OutOfMemory>
+        ensures* state { sem 𝓛
+            (LeavesSought self.entry result (due_count self.old.recording.chunks moment)) }
+        // The headline: of the recording that the session was opened with, edited by the log.
+        ensures headline { IfOk result (λ view.
+            TellsMoment self.old moment view.terminal.now view.reports.now) }
+        ensures shows { IfOk result (λ view.
+            Shows view.terminal.now (term_at self.old.profile self.old.recording moment)) }
+        ensures reports { IfOk result (λ view.
+            view.reports.now ≡ (term_at self.old.profile self.old.recording moment).reports) }
+        ensures count { IfOk result (λ view.
+            view.count ≡ due_count self.old.recording.chunks moment) }
+        ensures fed { IfOk result (λ view. view.fed
+            ≡ fed_by self.old.every (due_count self.old.recording.chunks moment) self.old.marks) }
+        ensures room { due_count self.old.recording.chunks moment ≤ self.old.marks.frontier
+            → IsOk result }
+    {
+        self.play_to(moment)
+    }
+
+    /// Goes to a count of chunks.
+    pub fn seek_count(&mut self, count: usize) -> Result<View<'_>, OutOfMemory>
+        requires { count ≤ length self.old.recording.chunks }
+        ensures* state { sem 𝓛 (LeavesSought self.entry result count) }
+        ensures headline { IfOk result (λ view.
+            TellsCount self.old count view.terminal.now view.reports.now) }
+        ensures shows { IfOk result (λ view.
+            Shows view.terminal.now (up_to self.old.profile self.old.recording.chunks count)) }
+        ensures reports { IfOk result (λ view.
+            view.reports.now ≡ (up_to self.old.profile self.old.recording.chunks count).reports) }
+        ensures count { IfOk result (λ view. view.count ≡ count) }
+        ensures fed { IfOk result (λ view. view.fed ≡ fed_by self.old.every count self.old.marks) }
+        ensures room { count ≤ self.old.marks.frontier → IsOk result }
+    {
+        self.play_to_count(count)
+    }
+}
+
+impl<T: Plays> Session<T> {
+    ghost use Rattle.std.specs.Borrow.{sem};
+    ghost use Rattle.tape_core.specs.Due.{due, first as bytes_of_first};
+    ghost use Rattle.tape_seek.specs.Lending.{LeavesSoughtBy};
+    ghost use Rattle.tape_seek.specs.Played.{TellsCountBy, TellsMomentBy};
+    ghost use Rattle.tape_seek.specs.State.{KeepsHistory, accepted, least_every, most_every, opened};
+
+    /// Opens a session of a terminal that is set up so. For want of memory the recording comes back.
+    pub fn open_with(
+        alloc: Global,
+        recording: Recording,
+        every: usize,
+        profile: T::Profile,
     ) -> Result<Self, Recording>
         requires low { least_every ≤ every }
         requires high { every ≤ most_every }
@@ -132,16 +195,17 @@ impl Session {
     }
 
     /// Goes to a moment, in microseconds: to the chunks that are due by then.
-    pub fn seek(&mut self, moment: u64) -> Result<View<'_>, OutOfMemory>
+    pub fn play_to(&mut self, moment: u64) -> Result<View<'_, T>, OutOfMemory>
         ensures* state { sem 𝓛
-            (LeavesSought self.entry result (due_count self.old.recording.chunks moment)) }
+            (LeavesSoughtBy T.row T.Profile.row T.Packed.row T.Plays T.Profile.Debug T.Packed.Debug
+            self.entry result (due_count self.old.recording.chunks moment)) }
         // The headline: of the recording that the session was opened with, edited by the log.
         ensures headline { IfOk result (λ view.
-            TellsMoment self.old moment view.terminal.now view.reports.now) }
+            TellsMomentBy T.Plays self.old moment view.terminal.now view.reports.now) }
         ensures shows { IfOk result (λ view.
-            Shows view.terminal.now (term_at self.old.profile self.old.recording moment)) }
+            T.shows self.old.profile view.terminal.now (due self.old.recording.chunks moment)) }
         ensures reports { IfOk result (λ view.
-            view.reports.now ≡ (term_at self.old.profile self.old.recording moment).reports) }
+            view.reports.now ≡ T.sent self.old.profile (due self.old.recording.chunks moment)) }
         ensures count { IfOk result (λ view.
             view.count ≡ due_count self.old.recording.chunks moment) }
         ensures fed { IfOk result (λ view. view.fed
@@ -150,7 +214,6 @@ impl Session {
             → IsOk result }
     {
         due_is_first();
-        sent_is_appended();
         let count = self.recording.due_count(moment);
         self.replay.seek(self.recording.chunks(), count)?;
         let replay = &self.replay;
@@ -163,20 +226,23 @@ impl Session {
     }
 
     /// Goes to a count of chunks.
-    pub fn seek_count(&mut self, count: usize) -> Result<View<'_>, OutOfMemory>
+    pub fn play_to_count(&mut self, count: usize) -> Result<View<'_, T>, OutOfMemory>
         requires { count ≤ length self.old.recording.chunks }
-        ensures* state { sem 𝓛 (LeavesSought self.entry result count) }
+        ensures* state { sem 𝓛
+            (LeavesSoughtBy T.row T.Profile.row T.Packed.row T.Plays T.Profile.Debug T.Packed.Debug
+            self.entry result count) }
         ensures headline { IfOk result (λ view.
-            TellsCount self.old count view.terminal.now view.reports.now) }
+            TellsCountBy T.Plays self.old count view.terminal.now view.reports.now) }
         ensures shows { IfOk result (λ view.
-            Shows view.terminal.now (up_to self.old.profile self.old.recording.chunks count)) }
+            T.shows self.old.profile view.terminal.now
+            (bytes_of_first self.old.recording.chunks count)) }
         ensures reports { IfOk result (λ view.
-            view.reports.now ≡ (up_to self.old.profile self.old.recording.chunks count).reports) }
+            view.reports.now
+            ≡ T.sent self.old.profile (bytes_of_first self.old.recording.chunks count)) }
         ensures count { IfOk result (λ view. view.count ≡ count) }
         ensures fed { IfOk result (λ view. view.fed ≡ fed_by self.old.every count self.old.marks) }
         ensures room { count ≤ self.old.marks.frontier → IsOk result }
     {
-        sent_is_appended();
         self.replay.seek(self.recording.chunks(), count)?;
         let replay = &self.replay;
         Ok(View {
@@ -244,10 +310,11 @@ fn grow(
 
 /// Gives up what was kept past the chunk that the edit touches first, if it touches the bytes of any.
 #[tactic(auto, using(crate::proofs::ReplayLemmas::plays_on))]
-fn cut(replay: &mut Replay, edit: &Edit)
-    requires { (tape : Tape) × IsReplay tape.chunks replay.old }
-    ensures replay { (tape : Tape) → IsReplay tape.chunks replay.old
-        → edit_fault tape edit.now ≡ None → IsReplay (edited tape edit.now).chunks replay.new }
+fn cut<T: Plays>(replay: &mut Replay<T>, edit: &Edit)
+    requires { (tape : Tape) × IsReplay T.Plays tape.chunks replay.old }
+    ensures replay { (tape : Tape) → IsReplay T.Plays tape.chunks replay.old
+        → edit_fault tape edit.now ≡ None
+        → IsReplay T.Plays (edited tape edit.now).chunks replay.new }
     ensures rest { PlaysOn replay.old replay.new }
     ensures marks { marks_of replay.new
         ≡ after_edit replay.old.every edit.now (marks_of replay.old) }
@@ -258,9 +325,9 @@ fn cut(replay: &mut Replay, edit: &Edit)
     }
 }
 
-impl<'a> View<'a> {
+impl<'a, T: Plays> View<'a, T> {
     /// The terminal at the count.
-    pub fn terminal(&self) -> &'a Terminal
+    pub fn terminal(&self) -> &'a T
         ensures { result.now ≡ self.now.terminal.now }
     {
         self.terminal

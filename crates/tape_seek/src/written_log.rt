@@ -1,15 +1,15 @@
 //! Edits written as request lines.
 ghost use Rattle.std.specs.Prelude.{◌≡◌, ◌∷◌, true, false, map, OnOk};
 ghost use Rattle.std.specs.List.{flat_map, join_with_byte};
-ghost use Rattle.tape_core.specs.Devices.{has_failed, is_flushed, Puts};
+ghost use Rattle.tape_core.specs.Devices.{Gave, Puts, has_failed, is_flushed};
 ghost use Rattle.tape_seek.specs.Fields.{field_text, spaced};
 ghost use Rattle.tape_seek.specs.WrittenLog.{edit_line, log_line, log_text};
 
 use crate::edits::Edit;
-use crate::hex_text::put_hex;
+use crate::hex_text::give_hex;
 use itoa::Buffer;
 use std::io::Write;
-use tape_core::laws::{pieces_join, writers_join};
+use tape_core::laws::gives_join;
 use tape_core::{Fault, Watched, seconds_text};
 
 /// What may stand behind the word of an edit's line.
@@ -30,31 +30,26 @@ pub fn write_log<W: Write>(edits: &[Edit], writer: &mut Watched<W>) -> Result<()
     ensures puts { Puts W.contents writer.old writer.new (log_text edits.now) result }
     ensures flushed { OnOk result (is_flushed writer.new ≡ true) }
 {
-    writers_join::<W>();
-    pieces_join::<W, Edit>();
+    gives_join::<W>();
     for edit in edits {
-        put_line(edit, writer)?;
+        put_line(edit, writer);
     }
-    writer.finish()?;
-    Ok(())
+    writer.settle()
 }
 
 /// Writes an edit's line with its LF.
-fn put_line<W: Write>(edit: &Edit, writer: &mut Watched<W>) -> Result<(), Fault>
-    requires { has_failed writer.old ≡ false }
-    ensures { Puts W.contents writer.old writer.new (log_line edit.now) result }
+fn put_line<W: Write>(edit: &Edit, writer: &mut Watched<W>)
+    ensures { Gave W.contents writer.old writer.new (log_line edit.now) }
 {
-    writers_join::<W>();
-    put_edit(edit, writer)?;
-    writer.put(b"\n")?;
-    Ok(())
+    gives_join::<W>();
+    put_edit(edit, writer);
+    writer.give(b"\n");
 }
 
 /// Writes an edit's line without its LF.
 #[tactic(auto, unfolding(crate::specs::WrittenLog::edit_line))]
-fn put_edit<W: Write>(edit: &Edit, writer: &mut Watched<W>) -> Result<(), Fault>
-    requires { has_failed writer.old ≡ false }
-    ensures { Puts W.contents writer.old writer.new (edit_line edit.now) result }
+fn put_edit<W: Write>(edit: &Edit, writer: &mut Watched<W>)
+    ensures { Gave W.contents writer.old writer.new (edit_line edit.now) }
 {
     match edit {
         Edit::Insert { at, delay, bytes } => {
@@ -84,47 +79,37 @@ fn put_edit<W: Write>(edit: &Edit, writer: &mut Watched<W>) -> Result<(), Fault>
 }
 
 /// Writes a word and the fields behind it, with one space between.
-fn put_words<W: Write>(
-    word: &[u8],
-    fields: &[Field<'_>],
-    writer: &mut Watched<W>,
-) -> Result<(), Fault>
-    requires { has_failed writer.old ≡ false }
-    ensures { Puts W.contents writer.old writer.new
-        (join_with_byte 32 (word.now ∷ map field_text fields.now)) result }
+fn put_words<W: Write>(word: &[u8], fields: &[Field<'_>], writer: &mut Watched<W>)
+    ensures { Gave W.contents writer.old writer.new
+        (join_with_byte 32 (word.now ∷ map field_text fields.now)) }
 {
-    writers_join::<W>();
-    writer.put(word)?;
-    put_fields(fields, writer)?;
-    Ok(())
+    gives_join::<W>();
+    writer.give(word);
+    put_fields(fields, writer);
 }
 
 /// Writes the fields, a space before each.
-fn put_fields<W: Write>(fields: &[Field<'_>], writer: &mut Watched<W>) -> Result<(), Fault>
-    requires { has_failed writer.old ≡ false }
-    ensures { Puts W.contents writer.old writer.new (flat_map spaced fields.now) result }
+fn put_fields<W: Write>(fields: &[Field<'_>], writer: &mut Watched<W>)
+    ensures { Gave W.contents writer.old writer.new (flat_map spaced fields.now) }
 {
-    pieces_join::<W, Field<'_>>();
+    gives_join::<W>();
     for field in fields {
-        put_field(*field, writer)?;
+        put_field(*field, writer);
     }
-    Ok(())
 }
 
 /// Writes a space and a field.
-fn put_field<W: Write>(field: Field<'_>, writer: &mut Watched<W>) -> Result<(), Fault>
-    requires { has_failed writer.old ≡ false }
-    ensures { Puts W.contents writer.old writer.new (spaced field.entry) result }
+fn put_field<W: Write>(field: Field<'_>, writer: &mut Watched<W>)
+    ensures { Gave W.contents writer.old writer.new (spaced field.entry) }
 {
-    writers_join::<W>();
+    gives_join::<W>();
     match field {
-        Field::Place(place) => writer.put_all(&[b" ", Buffer::new().format(place).as_bytes()]),
-        Field::Seconds(us) => writer.put_all(&[b" ", seconds_text(us).as_bytes()]),
-        Field::Bytes([]) => writer.put(b" -"),
+        Field::Place(place) => writer.give_all(&[b" ", Buffer::new().format(place).as_bytes()]),
+        Field::Seconds(us) => writer.give_all(&[b" ", seconds_text(us).as_bytes()]),
+        Field::Bytes([]) => writer.give(b" -"),
         Field::Bytes(bytes) => {
-            writer.put(b" ")?;
-            put_hex(bytes, writer)?;
-            Ok(())
+            writer.give(b" ");
+            give_hex(bytes, writer);
         }
     }
 }

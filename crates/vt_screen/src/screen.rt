@@ -204,6 +204,7 @@ impl Screen {
     }
 
     /// Leaves what `show` of each glyph in turn leaves; it writes a line's part at once.
+    #[inline(always)]
     pub fn show_run(&mut self, glyphs: &[u8], rendition: Rendition, autowrap: bool)
         requires { All (λ glyph. glyph ≤ LAST_GLYPH) glyphs.now }
         ensures picture { self.new.picture
@@ -299,6 +300,7 @@ impl Screen {
     }
 
     /// IND: one line down; at the bottom margin the region scrolls up.
+    #[inline(never)]
     pub fn index(&mut self)
         ensures picture { self.new.picture ≡ indexed self.old.picture }
         ensures order { self.new.order ≡ order_indexed self.old.picture self.old.order }

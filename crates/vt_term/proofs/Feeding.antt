@@ -1,11 +1,10 @@
 -- Bytes that are taken a few at a time.
-use Rattle.std.proofs.Common.{◌≡◌, ℕ, ◌+◌, List, ◌++◌, length, take, drop, sym, ap, ◌∙◌, arith}
+use Rattle.std.proofs.Common.{◌≡◌, ℕ, ◌+◌, ◌≤◌, List, ◌++◌, length, take, drop, sym, ap, ◌∙◌, arith}
 use Rattle.std.proofs.Math.Seq.{take-add}
 use Rattle.std.proofs.lemmas.List.{length-append, take-append-drop, drop-drop}
 use Rattle.vt_term.specs.Term.{Term, play, sent}
 use Rattle.vt_term.specs.Seen.{Seen, Shows}
-use Rattle.vt_term.specs.Sink.{Sink, after_sending, HasRoom, KeepsFront}
-use Rattle.vt_term.proofs.Sinks.{after_sending-append, keeps_length}
+use Rattle.plays.specs.Sink.{Sink, after_sending, HasRoom}
 use Rattle.vt_term.proofs.Steps.{plays_in_parts, sends_in_parts}
 
 pub play_on : (x : Term) (bytes : List ℕ) (at n : ℕ) → play x (take (at + n) bytes) ≡ play (play x (take at bytes)) (take n (drop at bytes))
@@ -16,14 +15,15 @@ sent_on : (x : Term) (bytes : List ℕ) (at n : ℕ)
 sent_on x bytes at n = ap (sent x) (take-add at n bytes) ∙ sends_in_parts x (take at bytes) (take n (drop at bytes))
 
 -- the sink after a few more bytes
-pub sink_on : (x : Term) (bytes : List ℕ) (at n : ℕ) (first then_ now_ : Sink)
+pub sink_on : ((sink : Sink) (first second : List ℕ) → after_sending (after_sending sink first) second ≡ after_sending sink (first ++ second))
+    → (x : Term) (bytes : List ℕ) (at n : ℕ) (first then_ now_ : Sink)
     → then_ ≡ after_sending first (sent x (take at bytes))
     → now_ ≡ after_sending then_ (sent (play x (take at bytes)) (take n (drop at bytes)))
     → now_ ≡ after_sending first (sent x (take (at + n) bytes))
-sink_on x bytes at n first then_ now_ before after =
+sink_on joined x bytes at n first then_ now_ before after =
     after
     ∙ ap (λ (s : Sink). after_sending s (sent (play x (take at bytes)) (take n (drop at bytes)))) before
-    ∙ after_sending-append first (sent x (take at bytes)) (sent (play x (take at bytes)) (take n (drop at bytes)))
+    ∙ joined first (sent x (take at bytes)) (sent (play x (take at bytes)) (take n (drop at bytes)))
     ∙ ap (after_sending first) (sym (sent_on x bytes at n))
 
 -- what is sent in two parts is as long as both
@@ -50,10 +50,9 @@ room_for_front x bytes at sink room = let all = length-sent x at bytes in omega 
 
 -- .. and for the rest of them
 pub room_on : (x : Term) (bytes : List ℕ) (at : ℕ) (first then_ : Sink)
-    → then_ ≡ after_sending first (sent x (take at bytes)) → KeepsFront first then_ → HasRoom first (sent x bytes)
+    → then_ ≡ after_sending first (sent x (take at bytes)) → length first.bytes ≤ length then_.bytes → HasRoom first (sent x bytes)
     → HasRoom then_ (sent (play x (take at bytes)) (drop at bytes))
-room_on x bytes at first then_ before keeps room =
+room_on x bytes at first then_ before longer room =
     let all = length-sent x at bytes in
     let place : then_.place ≡ first.place + length (sent x (take at bytes)) = ap (λ (s : Sink). s.place) before in
-    let longer = keeps_length first then_ keeps in
     omega arith

@@ -3,7 +3,6 @@ mod Steps
 mod Bound
 mod Runs
 mod Taken
-mod Sinks
 mod Feeding
 mod Printed
 mod Rowless

@@ -12,7 +12,6 @@ pub mod Effect
 pub mod Played
 pub mod Term
 pub mod Seen
-pub mod Sink
 pub mod Printing
 pub mod Law
 pub mod Packed

@@ -4,7 +4,7 @@ ghost use Rattle.std.specs.Prelude.{◌≡◌, ◌≤◌, All, OnOk, OnErr, IsOk
 ghost use Rattle.vt_term.specs.Sets.{glyph_of, set_in_use};
 ghost use Rattle.vt_term.specs.Console.{IsSafe, reset_console, console_of};
 ghost use Rattle.vt_term.specs.Effect.{glyph_shown, glyphs_shown, glyphs_written, glyph_for, token_effect, token_reply, IsProperToken};
-ghost use Rattle.vt_term.specs.Sink.{after_sending, HasRoom};
+ghost use Rattle.plays.specs.Sink.{after_sending, HasRoom};
 
 use crate::sets::CHECKERBOARD;
 use crate::{CharacterSet, Modes, OutOfMemory, Profile, Reports, Saved, Sets};
@@ -99,7 +99,7 @@ impl Console {
     }
 
     /// Shows a glyph with the current rendition.
-    #[inline]
+    #[inline(never)]
     fn show_glyph(&mut self, glyph: u8)
         requires { glyph ≤ LAST_GLYPH }
         ensures { console_of self.new ≡ glyph_shown glyph (console_of self.old) }
@@ -161,6 +161,7 @@ impl Console {
     }
 
     // Writes the glyphs that a run of bytes has in a set, a line's at a time.
+    #[inline(never)]
     fn write_glyphs(&mut self, set: CharacterSet, bytes: &[u8])
         requires { All (λ byte. byte ≤ LAST_GLYPH) bytes.now }
         ensures { console_of self.new

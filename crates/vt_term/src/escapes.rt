@@ -3,7 +3,7 @@ ghost use Rattle.std.specs.Prelude.{◌≡◌, [], Option, IsOk, OnOk, OnErr};
 ghost use Rattle.vt_term.specs.Rows.{named};
 ghost use Rattle.vt_term.specs.Escapes.{Nel, Decsc, plain_escapes, line_escapes, character_sets, designation_named, escape_named, escape_effect, restored, keypad_set};
 ghost use Rattle.vt_term.specs.Replies.{escape_reply, reply_of};
-ghost use Rattle.vt_term.specs.Sink.{after_sending, HasRoom};
+ghost use Rattle.plays.specs.Sink.{after_sending, HasRoom};
 ghost use Rattle.vt_term.specs.Console.{console_of, effect_of, IsSavedWell};
 
 use crate::console::Console;

@@ -9,6 +9,7 @@ use vt_parser::Mode;
 
 impl Console {
     /// Does what a control sequence with `?` asks for.
+    #[inline(never)]
     pub(crate) fn obey_private_sequence(&mut self, last: u8, params: &[u16])
         ensures { console_of self.new
             ≡ control_sequence_effect true last params.now (console_of self.old) }

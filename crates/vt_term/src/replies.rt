@@ -3,7 +3,7 @@ ghost use Rattle.std.specs.Prelude.{◌≡◌, ◌≤◌, OnOk, OnErr, IsOk};
 ghost use Rattle.vt_term.specs.Replies.{device_attributes, sequence_reply, cursor_position, reported_line};
 ghost use Rattle.vt_term.specs.Sequences.{Da, Dsr, Decreqtparm};
 ghost use Rattle.vt_term.specs.Console.{console_of};
-ghost use Rattle.vt_term.specs.Sink.{after_sending, HasRoom};
+ghost use Rattle.plays.specs.Sink.{after_sending, HasRoom};
 
 use crate::console::Console;
 use crate::{OutOfMemory, Profile, Reports};

@@ -6,7 +6,7 @@ ghost use Rattle.vt_screen.specs.Scrolls.{lines_inserted, lines_deleted};
 ghost use Rattle.vt_term.specs.Sequences.{Sgr, Decll, sequence_effect, param_or, erased, tabs_taken, rendition_set, ansi_mode_set, where_it_edits};
 ghost use Rattle.vt_term.specs.Effect.{control_sequence_effect, control_sequence_reply};
 ghost use Rattle.vt_term.specs.Console.{console_of, on_picture, on_modes};
-ghost use Rattle.vt_term.specs.Sink.{after_sending, HasRoom};
+ghost use Rattle.plays.specs.Sink.{after_sending, HasRoom};
 
 use crate::console::Console;
 use crate::{OutOfMemory, Reports};

@@ -7,6 +7,7 @@ use crate::below::laws_below;
 use crate::console::Console;
 use crate::{Modes, OutOfMemory, Profile, Reports, Saved, Sets};
 pub use packed::PackedTerminal;
+use plays::laws::{sending_adds_up, the_front_stays};
 use std::marker::Model;
 use vt_parser::{Parser, ParserState};
 use vt_screen::{Rendition, Screen};
@@ -35,7 +36,7 @@ impl Terminal {
     ghost use Rattle.std.specs.Prelude.{true};
     ghost use Rattle.vt_term.specs.Term.{Term, reset_term, reset_term_as, play, sent};
     ghost use Rattle.vt_term.specs.Seen.{Shows, IsTerminal};
-    ghost use Rattle.vt_term.specs.Sink.{after_sending, HasRoom, KeepsFront};
+    ghost use Rattle.plays.specs.Sink.{after_sending, HasRoom, KeepsFront};
 
     /// The initial state of a VT100: 80 columns, all blank, ANSI mode, DECAWM set and every other mode reset.
     pub fn reset() -> Self
@@ -102,6 +103,8 @@ impl Terminal {
         ensures room { (x : Term) → Shows self.old x → HasRoom sink.old (sent x bytes.now)
             → IsOk result }
     {
+        sending_adds_up();
+        the_front_stays();
         let mut rest = bytes;
         while !rest.is_empty() {
             let taken = self.take_some(rest, sink)?;
@@ -125,6 +128,7 @@ impl Terminal {
             → IsOk result }
     {
         laws_below();
+        sending_adds_up();
         let (taken, token) = self.parser.next(self.console.modes.mode, bytes);
         if let Some(token) = token {
             self.console.obey(token, sink)?;

@@ -5,7 +5,7 @@ ghost use Rattle.vt_term.specs.Rows.{named};
 ghost use Rattle.vt_term.specs.Vt52.{vt52_sequences, vt52_effect, graphics_set};
 ghost use Rattle.vt_term.specs.Replies.{vt52_reply, reply_of};
 ghost use Rattle.vt_term.specs.Console.{console_of, on_picture, effect_of};
-ghost use Rattle.vt_term.specs.Sink.{after_sending, HasRoom};
+ghost use Rattle.plays.specs.Sink.{after_sending, HasRoom};
 
 use crate::console::Console;
 use crate::replies::VT52_IDENTITY;
@@ -15,6 +15,7 @@ use vt_parser::Mode;
 impl Console {
     /// Sends the reply to a sequence of VT52 mode, and does what it asks for. A refused growth changes
     /// nothing.
+    #[inline(never)]
     pub(crate) fn obey_vt52(&mut self, last: u8, sink: &mut Reports) -> Result<(), OutOfMemory>
         ensures done { OnOk result
             (console_of self.new

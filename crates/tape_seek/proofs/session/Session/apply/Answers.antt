@@ -11,7 +11,7 @@ on_ok (Ok value) e h = h
 on_ok (Err error) e h = absurd (true≢false e)
 
 pub invariant_of-self-2 : goal.invariant_of-self-2
-invariant_of-self-2 c =
+invariant_of-self-2 g c =
     let tape = c.self.inside.recording in
     let edit = c.args.edit in
     let sound : edit_fault tape edit ≡ None = sym c.in_default.ensures in

@@ -1,7 +1,6 @@
-use Rattle.std.proofs.Common.{ap, length, arith}
+use Rattle.std.proofs.Common.{ap, length, arith, ◌∙◌}
 use Rattle.vt_screen.specs.declared.cell.Row.{Row}
 use Rattle.vt_screen.specs.Puts.{with_cell}
-use Rattle.std.proofs.Common.{◌∙◌}
 use Rattle.vt_screen.proofs.Tables.{length-table}
 use Rattle.vt_screen.proofs.Index.{slot_below, read_whole, row_changed, changed_once}
 use Rattle.vt_screen.proofs.grid.Grid.write.Goals as goal

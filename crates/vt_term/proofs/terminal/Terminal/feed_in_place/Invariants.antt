@@ -1,5 +1,5 @@
 use Rattle.std.proofs.Common.{length}
-use Rattle.vt_term.specs.Sink.{KeepsFront}
+use Rattle.plays.specs.Sink.{KeepsFront}
 use Rattle.vt_term.proofs.Feeding.{Fed}
 use Rattle.vt_term.proofs.terminal.Terminal.feed_in_place.Given as goal
 

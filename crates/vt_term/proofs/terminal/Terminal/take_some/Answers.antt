@@ -3,9 +3,8 @@ use Rattle.std.proofs.lemmas.Bool.{false≢true}
 use Rattle.vt_term.specs.Console.{Console}
 use Rattle.vt_term.specs.Term.{play}
 use Rattle.vt_term.specs.Seen.{Shows, IsTerminal, seen_of}
-use Rattle.vt_term.specs.Sink.{after_sending, HasRoom}
+use Rattle.plays.specs.Sink.{after_sending, HasRoom}
 use Rattle.vt_term.proofs.Feeding.{room_for_front}
-use Rattle.vt_term.proofs.Sinks.{sends_nothing}
 use Rattle.vt_term.proofs.Taken.{shows_next, told_terminal, left_terminal}
 use Rattle.vt_term.proofs.terminal.Terminal.take_some.Goals as goal
 
@@ -49,5 +48,5 @@ returns-in_default-clause-shows c x shows =
 
 pub returns-in_default-clause-sent : goal.returns-in_default-clause-sent
 returns-in_default-clause-sent c x shows =
-    sends_nothing c.args.sink.now _
-    (shows_next c.laws_below.ensures _ _ x (take c.next.result.0 c.args.bytes.now) _ _ _ c.self.view_is c.in_default.is shows c.next.ensures.told c.next.follows.holds-at-none).1
+    let after = shows_next c.laws_below.ensures _ _ x (take c.next.result.0 c.args.bytes.now) _ _ _ c.self.view_is c.in_default.is shows c.next.ensures.told c.next.follows.holds-at-none in
+    sym (c.sending_adds_up.ensures.nothing c.args.sink.now) ∙ ap (after_sending c.args.sink.now) (sym after.1)

@@ -1,0 +1,150 @@
+//! Sessions of a strip, call by call: what each call answers, told as a text.
+use crate::strip::{Setup, Strip};
+use std::alloc::Global;
+use std::fmt::Write;
+use std::process::Abort;
+use std::test::Fail;
+use tape_core::{Recording, read_recording};
+use tape_seek::{Edit, Request, Session, View, read_line};
+
+mod client;
+mod large;
+mod refused;
+mod rows;
+
+/// A call of a session.
+#[derive(Clone, Copy, Debug)]
+enum Call<'a> {
+    /// What a request line asks for.
+    Line(&'a [u8]),
+    /// A seek of so many chunks.
+    Count(usize),
+}
+
+/// A call, its answer, and after it frontier, head and held().
+type Row<'a> = (Call<'a>, &'a str, (usize, usize, usize));
+
+/// A chunk's delay in seconds, and its bytes.
+type Timed<'a> = (&'a str, &'a [u8]);
+
+/// Chunks of one byte each, a second apart.
+const TEN: &[Timed<'static>] = &[
+    ("1", b"0"),
+    ("1", b"1"),
+    ("1", b"2"),
+    ("1", b"3"),
+    ("1", b"4"),
+    ("1", b"5"),
+    ("1", b"6"),
+    ("1", b"7"),
+    ("1", b"8"),
+    ("1", b"9"),
+];
+
+fn recorded(alloc: Global, chunks: &[Timed<'_>]) -> Result<Recording, Fail> {
+    let mut script = Vec::from_slice(alloc, b"Script started on X\n")?;
+    let mut timing = String::new(alloc);
+    for (seconds, bytes) in chunks {
+        script.extend_from_slice(bytes)?;
+        writeln!(timing, "{seconds} {}", bytes.len())?;
+    }
+    Ok(read_recording(alloc, script.as_slice(), timing.as_bytes())?)
+}
+
+/// Opens a session of a strip of so many cells, if a strip can be stored at every so many chunks.
+fn stored_at(
+    alloc: Global,
+    recording: Recording,
+    every: usize,
+    size: usize,
+) -> Result<Session<Strip>, Recording> {
+    if every == 0 || every > 1_000_000 {
+        return Err(recording);
+    }
+    Session::open_with(alloc, recording, every, Setup { size })
+}
+
+/// A session of a strip of so many cells over these chunks.
+fn opened(
+    alloc: Global,
+    chunks: &[Timed<'_>],
+    every: usize,
+    size: usize,
+) -> Result<Session<Strip>, Fail> {
+    Ok(stored_at(alloc, recorded(alloc, chunks)?, every, size)?)
+}
+
+/// A view as a text, in parts with a space between:
+///
+/// | Part | What it tells |
+/// |---|---|
+/// | `count 3 fed 1` | how many chunks the view shows, and how many the seek fed |
+/// | `sent a..` | all that was sent; nothing where nothing was |
+/// | `shows ab.` | the cells |
+/// | `quoting` | the next byte is quoted |
+fn told_of_view(alloc: Global, view: &View<'_, Strip>) -> Result<String, Fail> {
+    let mut text = String::new(alloc);
+    write!(text, "count {} fed {}", view.count(), view.fed())?;
+    if !view.reports().is_empty() {
+        text.push_str(" sent ")?;
+        push_bytes(&mut text, view.reports())?;
+    }
+    text.push_str(" shows ")?;
+    push_bytes(&mut text, view.terminal().cells())?;
+    if view.terminal().is_quoting() {
+        text.push_str(" quoting")?;
+    }
+    Ok(text)
+}
+
+fn push_bytes(text: &mut String, bytes: &[u8]) -> Result<(), Fail> {
+    for byte in bytes {
+        text.push(char::from(*byte))?;
+    }
+    Ok(())
+}
+
+fn told_of_edit(alloc: Global, session: &mut Session<Strip>, edit: Edit) -> Result<String, Fail> {
+    match session.apply(edit) {
+        Ok(()) => Ok(format!(in alloc; "ok")?),
+        Err(refused) => {
+            let fault = refused.fault;
+            Ok(format!(in alloc; "{fault:?}")?)
+        }
+    }
+}
+
+fn told_of_line(alloc: Global, session: &mut Session<Strip>, line: &[u8]) -> Result<String, Fail> {
+    match read_line(alloc, line)? {
+        Request::Edit(edit) => told_of_edit(alloc, session, edit),
+        Request::Screen(moment) | Request::Reports(moment) => {
+            told_of_view(alloc, &session.play_to(moment)?)
+        }
+        _ => Ok(String::new(alloc)),
+    }
+}
+
+fn told(alloc: Global, session: &mut Session<Strip>, call: Call<'_>) -> Result<String, Fail> {
+    match call {
+        Call::Line(line) => told_of_line(alloc, session, line),
+        Call::Count(count) if count <= session.recording().chunks().len() => {
+            told_of_view(alloc, &session.play_to_count(count)?)
+        }
+        Call::Count(_) => Ok(format!(in alloc; "past the end")?),
+    }
+}
+
+/// Makes the calls in turn, and compares what they answer and leave.
+fn compare(
+    rt: &impl Abort,
+    alloc: Global,
+    session: &mut Session<Strip>,
+    rows: &[Row<'_>],
+) -> Result<(), Fail> {
+    for (call, answer, left) in rows {
+        let text = told(alloc, session, *call)?;
+        let marks = (session.frontier(), session.head(), session.held());
+        assert_eq!(rt; (text.as_str(), marks), (*answer, *left), "of {call:?}");
+    }
+    Ok(())
+}
