@@ -1,5 +1,6 @@
 use crate::fed::fed;
-use screen_picture::{cells_of, picture, runs_of};
+use screen_picture::picture;
+use screen_rows::{cells_of, runs_of};
 use std::alloc::Global;
 use std::test::Fail;
 use tape_core::Watched;

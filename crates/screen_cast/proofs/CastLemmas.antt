@@ -13,12 +13,13 @@ use Rattle.vt_screen.specs.declared.cell.Row.{Row}
 use Rattle.vt_screen.specs.Attributes.{plain}
 use Rattle.vt_screen.specs.Cells.{row_at}
 use Rattle.vt_screen.specs.Picture.{columns}
-use Rattle.screen_print.specs.EscapedText.{rendition_set_text, text_where}
-use Rattle.screen_print.specs.SameRows.{changed_lines, is_changed}
-use Rattle.screen_picture.specs.Runs.{runs_of}
+use Rattle.screen_print.specs.EscapedText.{rendition_set_text}
+use Rattle.screen_rows.specs.Texts.{text_where}
+use Rattle.screen_rows.specs.SameRows.{changed_lines, is_changed}
+use Rattle.screen_rows.specs.Runs.{runs_of}
 use Rattle.screen_cast.specs.Drawn.{cursor_text, drawn_text, ground_text, line_text, row_opening, row_text, run_text}
 use Rattle.screen_cast.specs.Json.{json, json_byte}
-use Rattle.screen_cast.specs.Parts.{drawn_part, line_part, row_front, row_part, row_rest, run_part}
+use Rattle.screen_cast.specs.Parts.{line_part, row_front, row_part, row_rest, run_part}
 use Rattle.screen_cast.specs.Cast.{cast_text, chunk_text, event_line, header_line}
 use Rattle.screen_cast.specs.Events.{events_at, outputs, resizes}
 use Rattle.screen_cast.proofs.JsonLemmas.{joined_twice}
@@ -62,7 +63,8 @@ lines_are still (line ∷ lines) =
     ∙ sym (flat_map-append json_byte (line_text still line) (flat_map (line_text still) lines))
 
 -- what is drawn of a screen, part by part
-pub drawn_is : (still : Still) (lines : List ℕ) → drawn_part still lines ≡ json (drawn_text still lines)
+pub drawn_is : (still : Still) (lines : List ℕ)
+    → flat_map (line_part still) lines ++ json (cursor_text still.rows still.line still.column) ≡ json (drawn_text still lines)
 unfolding drawn_text json
 drawn_is still lines =
     let place = cursor_text still.rows still.line still.column in

@@ -14,7 +14,7 @@ use Rattle.tape_core.specs.Written.{seconds_form}
 use Rattle.vt_parser.specs.Syntax.{escape}
 use Rattle.vt_screen.specs.Attributes.{plain}
 use Rattle.screen_print.specs.EscapedText.{placed_text, rendition_set_text}
-use Rattle.screen_print.specs.Glyphs.{character, special_graphics}
+use Rattle.screen_rows.specs.Glyphs.{character, special_graphics}
 use Rattle.screen_cast.specs.Cast.{event_closing, event_line, event_opening}
 use Rattle.screen_cast.specs.Drawn.{row_opening, spaces_text}
 use Rattle.screen_cast.specs.Events.{resize, size_text}

@@ -8,12 +8,14 @@ use Rattle.vt_screen.specs.declared.cell.Size.{Size}
 use Rattle.vt_screen.specs.Attributes.{Attributes, plain}
 use Rattle.vt_screen.specs.Cells.{is_single, row_at}
 use Rattle.vt_screen.specs.Picture.{columns}
-use Rattle.screen_print.specs.EscapedText.{inked, placed_text, rendition_set_text, text_where}
-use Rattle.screen_print.specs.PlainText.{printed}
+use Rattle.screen_print.specs.EscapedText.{placed_text, rendition_set_text}
+use Rattle.screen_rows.specs.Ink.{inked}
+use Rattle.screen_rows.specs.Texts.{text_where}
+use Rattle.screen_rows.specs.RowText.{printed}
 use Rattle.screen_print.specs.Stills.{Still}
-use Rattle.screen_picture.specs.declared.runs.Kind.{Kind}
-use Rattle.screen_picture.specs.declared.runs.Run.{Run}
-use Rattle.screen_picture.specs.Runs.{cells_of, runs_of}
+use Rattle.screen_rows.specs.declared.runs.Kind.{Kind}
+use Rattle.screen_rows.specs.declared.runs.Run.{Run}
+use Rattle.screen_rows.specs.Runs.{cells_of, runs_of}
 
 -- ---- runs
 

@@ -5,7 +5,7 @@ use Rattle.tape_core.specs.Due.{due_time, indices}
 use Rattle.tape_core.specs.Tape.{Tape}
 use Rattle.vt_screen.specs.Limits.{line_count}
 use Rattle.vt_term.specs.declared.profile.Profile.{Profile}
-use Rattle.screen_print.specs.SameRows.{changed_lines}
+use Rattle.screen_rows.specs.SameRows.{changed_lines}
 use Rattle.screen_print.specs.Stills.{Still}
 use Rattle.screen_print.specs.Walk.{still_after}
 use Rattle.screen_cast.specs.Drawn.{drawn_text, is_either}

@@ -5,11 +5,12 @@ use Rattle.vt_screen.specs.declared.cell.Row.{Row}
 use Rattle.vt_screen.specs.Attributes.{plain}
 use Rattle.vt_screen.specs.Cells.{row_at}
 use Rattle.vt_screen.specs.Picture.{columns}
-use Rattle.screen_print.specs.EscapedText.{rendition_set_text, text_where}
+use Rattle.screen_print.specs.EscapedText.{rendition_set_text}
+use Rattle.screen_rows.specs.Texts.{text_where}
 use Rattle.screen_print.specs.Stills.{Still}
-use Rattle.screen_picture.specs.declared.runs.Run.{Run}
-use Rattle.screen_picture.specs.Runs.{runs_of}
-use Rattle.screen_cast.specs.Drawn.{cursor_text, ground_text, row_opening, run_text}
+use Rattle.screen_rows.specs.declared.runs.Run.{Run}
+use Rattle.screen_rows.specs.Runs.{runs_of}
+use Rattle.screen_cast.specs.Drawn.{ground_text, row_opening, run_text}
 use Rattle.screen_cast.specs.Json.{json}
 
 abbrev pub run_part : Bool → Row → Run → List ℕ
@@ -30,8 +31,3 @@ row_part width reversed line row = row_front reversed line row ++ row_rest width
 -- the row of a line
 unfoldable pub line_part : Still → ℕ → List ℕ
 line_part still line = row_part (columns still.wide) still.reversed line (row_at still.rows line)
-
--- these lines of a screen, and its cursor
-abbrev pub drawn_part : Still → List ℕ → List ℕ
-drawn_part still lines =
-    flat_map (line_part still) lines ++ json (cursor_text still.rows still.line still.column)

@@ -1,10 +1,12 @@
 //! Rows and the cursor, drawn for a player's terminal and written as they stand in a string of JSON.
 
-ghost use Rattle.std.specs.Prelude.{◌≡◌, ◌≤◌, ◌-◌, All, false, length, replicate};
+ghost use Rattle.std.specs.Prelude.{◌≡◌, ◌≤◌, ◌-◌, All, length, replicate};
 ghost use Rattle.std.specs.List.{flat_map};
-ghost use Rattle.tape_core.specs.Devices.{Puts, has_failed};
+ghost use Rattle.tape_core.specs.Devices.{Gave};
 ghost use Rattle.vt_screen.specs.Attributes.{plain};
-ghost use Rattle.screen_print.specs.EscapedText.{inked, placed_text, rendition_set_text, text_where};
+ghost use Rattle.screen_print.specs.EscapedText.{placed_text, rendition_set_text};
+ghost use Rattle.screen_rows.specs.Ink.{inked};
+ghost use Rattle.screen_rows.specs.Texts.{text_where};
 ghost use Rattle.screen_print.specs.Stills.{still_of};
 ghost use Rattle.screen_cast.specs.Drawn.{
   column_in,
@@ -18,17 +20,15 @@ ghost use Rattle.screen_cast.specs.Drawn.{
   spaces_text,
 };
 ghost use Rattle.screen_cast.specs.Json.{json};
-ghost use Rattle.screen_cast.specs.Parts.{drawn_part, line_part, row_front, row_part, row_rest};
+ghost use Rattle.screen_cast.specs.Parts.{line_part, row_front, row_part, row_rest};
 
-use crate::json::push_bytes;
 use crate::runs::{RUN_BYTES, put_runs};
 use arrayvec::ArrayVec;
 use itoa::Buffer;
-use screen_picture::runs_of;
-use screen_print::inked;
+use screen_rows::{inked, push_bytes, runs_of};
 use std::io::Write;
-use tape_core::laws::{pieces_join, writers_join};
-use tape_core::{Fault, Watched};
+use tape_core::Watched;
+use tape_core::laws::gives_join;
 use vt_screen::limits::{LINES, WIDE_COLUMNS};
 use vt_screen::{Row, Screen, Size};
 use vt_term::Terminal;
@@ -37,53 +37,27 @@ use vt_term::Terminal;
 const SPACES: [u8; WIDE_COLUMNS as usize] = [b' '; WIDE_COLUMNS as usize];
 
 /// Writes these lines of a screen, and its cursor.
-pub(crate) fn put_drawn<W: Write>(
-    terminal: &Terminal,
-    lines: &[u8],
-    writer: &mut Watched<W>,
-) -> Result<(), Fault>
+pub(crate) fn put_drawn<W: Write>(terminal: &Terminal, lines: &[u8], writer: &mut Watched<W>)
     requires lines { All (λ line. (1 ≤ line) × (line ≤ LINES)) lines.now }
-    requires sound { has_failed writer.old ≡ false }
-    ensures { Puts W.contents writer.old writer.new
-        (json (drawn_text (still_of terminal.now.console) lines.now)) result }
+    ensures { Gave W.contents writer.old writer.new
+        (json (drawn_text (still_of terminal.now.console) lines.now)) }
 {
-    put_parts(terminal, lines, writer)
-}
-
-/// The same, part by part.
-fn put_parts<W: Write>(
-    terminal: &Terminal,
-    lines: &[u8],
-    writer: &mut Watched<W>,
-) -> Result<(), Fault>
-    requires lines { All (λ line. (1 ≤ line) × (line ≤ LINES)) lines.now }
-    requires sound { has_failed writer.old ≡ false }
-    ensures { Puts W.contents writer.old writer.new
-        (drawn_part (still_of terminal.now.console) lines.now) result }
-{
-    writers_join::<W>();
-    put_lines(terminal, lines, writer)?;
-    put_cursor(terminal.screen(), writer)?;
-    Ok(())
+    gives_join::<W>();
+    put_lines(terminal, lines, writer);
+    put_cursor(terminal.screen(), writer);
 }
 
 /// Writes these lines.
-fn put_lines<W: Write>(
-    terminal: &Terminal,
-    lines: &[u8],
-    writer: &mut Watched<W>,
-) -> Result<(), Fault>
+fn put_lines<W: Write>(terminal: &Terminal, lines: &[u8], writer: &mut Watched<W>)
     requires lines { All (λ line. (1 ≤ line) × (line ≤ LINES)) lines.now }
-    requires sound { has_failed writer.old ≡ false }
-    ensures { Puts W.contents writer.old writer.new
-        (flat_map (line_part (still_of terminal.now.console)) lines.now) result }
+    ensures { Gave W.contents writer.old writer.new
+        (flat_map (line_part (still_of terminal.now.console)) lines.now) }
 {
-    pieces_join::<W, u8>();
+    gives_join::<W>();
     let mut text = ArrayVec::new();
     for line in lines {
-        put_line(terminal, *line, &mut text, writer)?;
+        put_line(terminal, *line, &mut text, writer);
     }
-    Ok(())
 }
 
 /// Writes a line, part by part, each made in the text.
@@ -93,19 +67,18 @@ fn put_line<W: Write>(
     line: u8,
     text: &mut ArrayVec<u8, RUN_BYTES>,
     writer: &mut Watched<W>,
-) -> Result<(), Fault>
+)
     requires low { 1 ≤ line }
     requires high { line ≤ LINES }
-    requires sound { has_failed writer.old ≡ false }
-    ensures { Puts W.contents writer.old writer.new
-        (line_part (still_of terminal.now.console) line) result }
+    ensures { Gave W.contents writer.old writer.new
+        (line_part (still_of terminal.now.console) line) }
 {
     let screen = terminal.screen();
     let ground = Ground {
         width: screen.columns(),
         reversed: terminal.modes().reverse_screen,
     };
-    put_row(ground, line, screen.row(line), text, writer)
+    put_row(ground, line, screen.row(line), text, writer);
 }
 
 /// What rows stand on: a screen of so many columns, and whether it is reversed.
@@ -122,17 +95,15 @@ fn put_row<W: Write>(
     row: &Row,
     text: &mut ArrayVec<u8, RUN_BYTES>,
     writer: &mut Watched<W>,
-) -> Result<(), Fault>
+)
     requires width { ground.width ≤ WIDE_COLUMNS }
     requires whole { length row.now.cells ≡ WIDE_COLUMNS }
-    requires sound { has_failed writer.old ≡ false }
-    ensures { Puts W.contents writer.old writer.new
-        (row_part ground.width ground.reversed line row.now) result }
+    ensures { Gave W.contents writer.old writer.new
+        (row_part ground.width ground.reversed line row.now) }
 {
-    writers_join::<W>();
-    put_front(ground.reversed, line, row, text, writer)?;
-    put_rest(ground, row, writer)?;
-    Ok(())
+    gives_join::<W>();
+    put_front(ground.reversed, line, row, text, writer);
+    put_rest(ground, row, writer);
 }
 
 /// Writes a row to its last run.
@@ -143,81 +114,69 @@ fn put_front<W: Write>(
     row: &Row,
     text: &mut ArrayVec<u8, RUN_BYTES>,
     writer: &mut Watched<W>,
-) -> Result<(), Fault>
+)
     requires whole { length row.now.cells ≡ WIDE_COLUMNS }
-    requires sound { has_failed writer.old ≡ false }
-    ensures { Puts W.contents writer.old writer.new (row_front reversed line row.now) result }
+    ensures { Gave W.contents writer.old writer.new (row_front reversed line row.now) }
 {
-    writers_join::<W>();
-    put_opening(line, text, writer)?;
-    put_runs(reversed, row, runs_of(row).as_slice(), text, writer)?;
-    Ok(())
+    gives_join::<W>();
+    put_opening(line, text, writer);
+    put_runs(reversed, row, runs_of(row).as_slice(), text, writer);
 }
 
 /// Writes what stands behind a row's last run.
 #[tactic(auto, unfolding(crate::specs::Parts::row_rest))]
-fn put_rest<W: Write>(ground: Ground, row: &Row, writer: &mut Watched<W>) -> Result<(), Fault>
+fn put_rest<W: Write>(ground: Ground, row: &Row, writer: &mut Watched<W>)
     requires width { ground.width ≤ WIDE_COLUMNS }
     requires whole { length row.now.cells ≡ WIDE_COLUMNS }
-    requires sound { has_failed writer.old ≡ false }
-    ensures { Puts W.contents writer.old writer.new
-        (row_rest ground.width ground.reversed row.now) result }
+    ensures { Gave W.contents writer.old writer.new
+        (row_rest ground.width ground.reversed row.now) }
 {
-    writers_join::<W>();
-    put_ground(ground, row, writer)?;
-    put_closing(writer)?;
-    Ok(())
+    gives_join::<W>();
+    put_ground(ground, row, writer);
+    put_closing(writer);
 }
 
 /// Writes how a row ends: no rendition.
 #[tactic(auto, unfolding(crate::specs::Json::json))]
-fn put_closing<W: Write>(writer: &mut Watched<W>) -> Result<(), Fault>
-    requires { has_failed writer.old ≡ false }
-    ensures { Puts W.contents writer.old writer.new (json (rendition_set_text plain)) result }
+fn put_closing<W: Write>(writer: &mut Watched<W>)
+    ensures { Gave W.contents writer.old writer.new (json (rendition_set_text plain)) }
 {
-    writer.put(b"\\u001b[0m")
+    writer.give(b"\\u001b[0m");
 }
 
 /// Writes how a row begins.
-fn put_opening<W: Write>(
-    line: u8,
-    text: &mut ArrayVec<u8, RUN_BYTES>,
-    writer: &mut Watched<W>,
-) -> Result<(), Fault>
-    requires { has_failed writer.old ≡ false }
-    ensures { Puts W.contents writer.old writer.new (json (row_opening line)) result }
+fn put_opening<W: Write>(line: u8, text: &mut ArrayVec<u8, RUN_BYTES>, writer: &mut Watched<W>)
+    ensures { Gave W.contents writer.old writer.new (json (row_opening line)) }
 {
     text.clear();
     push_bytes(text, b"\\u001b[");
     push_bytes(text, Buffer::new().format(line).as_bytes());
     push_bytes(text, b";1H\\u001b[0m\\u001b[2K");
-    writer.put(text.as_slice())
+    writer.give(text.as_slice());
 }
 
 /// Writes the ground right of a row's inked cells, where the screen is reversed.
 #[tactic(auto, unfolding(crate::specs::Json::json))]
-fn put_ground<W: Write>(ground: Ground, row: &Row, writer: &mut Watched<W>) -> Result<(), Fault>
+fn put_ground<W: Write>(ground: Ground, row: &Row, writer: &mut Watched<W>)
     requires width { ground.width ≤ WIDE_COLUMNS }
     requires whole { length row.now.cells ≡ WIDE_COLUMNS }
-    requires sound { has_failed writer.old ≡ false }
-    ensures { Puts W.contents writer.old writer.new
-        (json (text_where ground.reversed (ground_text ground.width row.now))) result }
+    ensures { Gave W.contents writer.old writer.new
+        (json (text_where ground.reversed (ground_text ground.width row.now))) }
 {
-    writers_join::<W>();
+    gives_join::<W>();
     if !ground.reversed {
-        return Ok(());
+        return;
     }
     let taken = columns_taken(row.size, inked(&row.cells).len());
-    put_spaces(usize::from(ground.width).saturating_sub(taken), writer)
+    put_spaces(usize::from(ground.width).saturating_sub(taken), writer);
 }
 
 /// Writes so many columns of the ground of a reversed screen.
-fn put_spaces<W: Write>(count: usize, writer: &mut Watched<W>) -> Result<(), Fault>
+fn put_spaces<W: Write>(count: usize, writer: &mut Watched<W>)
     requires few { count ≤ WIDE_COLUMNS }
-    requires sound { has_failed writer.old ≡ false }
-    ensures { Puts W.contents writer.old writer.new (json (spaces_text count)) result }
+    ensures { Gave W.contents writer.old writer.new (json (spaces_text count)) }
 {
-    writer.put_all(&[b"\\u001b[0;7m", spaces(count)])
+    writer.give_all(&[b"\\u001b[0;7m", spaces(count)]);
 }
 
 /// So many spaces.
@@ -237,27 +196,25 @@ fn columns_taken(size: Size, cells: usize) -> usize
 }
 
 /// Writes the cursor.
-fn put_cursor<W: Write>(screen: &Screen, writer: &mut Watched<W>) -> Result<(), Fault>
-    requires { has_failed writer.old ≡ false }
-    ensures { let p = screen.now.picture in Puts W.contents writer.old writer.new
-        (json (cursor_text p.rows p.line p.column)) result }
+fn put_cursor<W: Write>(screen: &Screen, writer: &mut Watched<W>)
+    ensures { let p = screen.now.picture in Gave W.contents writer.old writer.new
+        (json (cursor_text p.rows p.line p.column)) }
 {
     let (line, column) = screen.cursor();
-    put_place(line, column_in(screen.row(line).size, column), writer)
+    put_place(line, column_in(screen.row(line).size, column), writer);
 }
 
 /// Writes a place.
-fn put_place<W: Write>(line: u8, column: u16, writer: &mut Watched<W>) -> Result<(), Fault>
-    requires { has_failed writer.old ≡ false }
-    ensures { Puts W.contents writer.old writer.new (json (placed_text line column)) result }
+fn put_place<W: Write>(line: u8, column: u16, writer: &mut Watched<W>)
+    ensures { Gave W.contents writer.old writer.new (json (placed_text line column)) }
 {
-    writer.put_all(&[
+    writer.give_all(&[
         b"\\u001b[",
         Buffer::new().format(line).as_bytes(),
         b";",
         Buffer::new().format(column).as_bytes(),
         b"H",
-    ])
+    ]);
 }
 
 /// The column that a column of a line of this size begins at.

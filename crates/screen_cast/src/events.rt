@@ -1,9 +1,9 @@
 //! The events of a chunk.
 
-ghost use Rattle.std.specs.Prelude.{◌≡◌, ◌≤◌, ◌++◌, All, false};
+ghost use Rattle.std.specs.Prelude.{◌≡◌, ◌≤◌, ◌++◌, All};
 ghost use Rattle.std.specs.List.{flat_map};
-ghost use Rattle.tape_core.specs.Devices.{Puts, has_failed};
-ghost use Rattle.screen_print.specs.SameRows.{changed_lines};
+ghost use Rattle.tape_core.specs.Devices.{Gave};
+ghost use Rattle.screen_rows.specs.SameRows.{changed_lines};
 ghost use Rattle.screen_print.specs.Stills.{still_of};
 ghost use Rattle.screen_cast.specs.Cast.{event_closing, event_line, event_opening};
 ghost use Rattle.screen_cast.specs.Drawn.{drawn_text};
@@ -21,8 +21,8 @@ ghost use Rattle.screen_cast.specs.Events.{
 use crate::drawn::put_drawn;
 use screen_print::{ChunkPrinter, Still};
 use std::io::Write;
-use tape_core::laws::writers_join;
-use tape_core::{Fault, Watched, seconds_text};
+use tape_core::laws::gives_join;
+use tape_core::{Watched, seconds_text};
 use vt_screen::limits::LINES;
 use vt_term::Terminal;
 
@@ -47,8 +47,8 @@ impl ChunkPrinter for EventPrinter {
         after: &Terminal,
         lines: &[u8],
         writer: &mut Watched<W>,
-    ) -> Result<(), Fault> {
-        put_events(due, before, after, lines, writer)
+    ) {
+        put_events(due, before, after, lines, writer);
     }
 }
 
@@ -59,52 +59,43 @@ fn put_events<W: Write>(
     after: &Terminal,
     lines: &[u8],
     writer: &mut Watched<W>,
-) -> Result<(), Fault>
-    requires sound { has_failed writer.old ≡ false }
+)
     requires changed { lines.now
         ≡ changed_lines before.now.rows after.now.console.picture.rows }
-    ensures { let after = still_of after.now.console in Puts W.contents writer.old writer.new
+    ensures { let after = still_of after.now.console in Gave W.contents writer.old writer.new
         (flat_map event_line (resizes due before.now after)
-        ++ flat_map event_line (outputs due before.now after)) result }
+        ++ flat_map event_line (outputs due before.now after)) }
 {
-    writers_join::<W>();
-    put_resize(due, before, after, writer)?;
-    put_output(due, before, after, lines, writer)?;
-    Ok(())
+    gives_join::<W>();
+    put_resize(due, before, after, writer);
+    put_output(due, before, after, lines, writer);
 }
 
 /// Writes the screen's new size, where the columns differ.
-fn put_resize<W: Write>(
-    due: u64,
-    before: &Still,
-    after: &Terminal,
-    writer: &mut Watched<W>,
-) -> Result<(), Fault>
-    requires { has_failed writer.old ≡ false }
-    ensures { Puts W.contents writer.old writer.new
-        (flat_map event_line (resizes due before.now (still_of after.now.console))) result }
+fn put_resize<W: Write>(due: u64, before: &Still, after: &Terminal, writer: &mut Watched<W>)
+    ensures { Gave W.contents writer.old writer.new
+        (flat_map event_line (resizes due before.now (still_of after.now.console))) }
 {
-    writers_join::<W>();
+    gives_join::<W>();
     let wide = after.screen().is_wide();
     if wide == before.is_wide() {
-        return Ok(());
+        return;
     }
-    put_size(due, wide, writer)
+    put_size(due, wide, writer);
 }
 
 /// Writes the event that tells the screen's size.
-fn put_size<W: Write>(due: u64, wide: bool, writer: &mut Watched<W>) -> Result<(), Fault>
-    requires { has_failed writer.old ≡ false }
-    ensures { Puts W.contents writer.old writer.new
-        (event_line (resize due (size_text wide))) result }
+fn put_size<W: Write>(due: u64, wide: bool, writer: &mut Watched<W>)
+    ensures { Gave W.contents writer.old writer.new
+        (event_line (resize due (size_text wide))) }
 {
-    writer.put_all(&[
+    writer.give_all(&[
         b"[",
         seconds_text(due).as_bytes(),
         b", \"r\", \"",
         size_text(wide),
         b"\"]\n",
-    ])
+    ]);
 }
 
 /// Columns and lines of a screen.
@@ -122,19 +113,18 @@ fn put_output<W: Write>(
     after: &Terminal,
     lines: &[u8],
     writer: &mut Watched<W>,
-) -> Result<(), Fault>
-    requires sound { has_failed writer.old ≡ false }
+)
     requires changed { lines.now
         ≡ changed_lines before.now.rows after.now.console.picture.rows }
-    ensures { Puts W.contents writer.old writer.new
-        (flat_map event_line (outputs due before.now (still_of after.now.console))) result }
+    ensures { Gave W.contents writer.old writer.new
+        (flat_map event_line (outputs due before.now (still_of after.now.console))) }
 {
-    writers_join::<W>();
+    gives_join::<W>();
     let drawn = drawn_lines(before, after, lines);
     if drawn.is_empty() && before.cursor() == after.screen().cursor() {
-        return Ok(());
+        return;
     }
-    put_drawing(due, after, drawn, writer)
+    put_drawing(due, after, drawn, writer);
 }
 
 /// The lines that are drawn: all, or those that differ.
@@ -159,38 +149,29 @@ fn is_all_drawn(before: &Still, after: &Terminal) -> bool
 }
 
 /// Writes the event that draws these lines and the cursor.
-fn put_drawing<W: Write>(
-    due: u64,
-    after: &Terminal,
-    lines: &[u8],
-    writer: &mut Watched<W>,
-) -> Result<(), Fault>
+fn put_drawing<W: Write>(due: u64, after: &Terminal, lines: &[u8], writer: &mut Watched<W>)
     requires lines { All (λ line. (1 ≤ line) × (line ≤ LINES)) lines.now }
-    requires sound { has_failed writer.old ≡ false }
-    ensures { Puts W.contents writer.old writer.new
-        (event_line (output due (drawn_text (still_of after.now.console) lines.now))) result }
+    ensures { Gave W.contents writer.old writer.new
+        (event_line (output due (drawn_text (still_of after.now.console) lines.now))) }
 {
-    writers_join::<W>();
-    put_opening(due, writer)?;
-    put_drawn(after, lines, writer)?;
-    put_closing(writer)?;
-    Ok(())
+    gives_join::<W>();
+    put_opening(due, writer);
+    put_drawn(after, lines, writer);
+    put_closing(writer);
 }
 
 /// Writes how an event that draws begins.
 #[tactic(auto, unfolding(crate::specs::Cast::event_opening))]
-fn put_opening<W: Write>(due: u64, writer: &mut Watched<W>) -> Result<(), Fault>
-    requires { has_failed writer.old ≡ false }
-    ensures { Puts W.contents writer.old writer.new (event_opening due Output) result }
+fn put_opening<W: Write>(due: u64, writer: &mut Watched<W>)
+    ensures { Gave W.contents writer.old writer.new (event_opening due Output) }
 {
-    writer.put_all(&[b"[", seconds_text(due).as_bytes(), b", \"o\", \""])
+    writer.give_all(&[b"[", seconds_text(due).as_bytes(), b", \"o\", \""]);
 }
 
 /// Writes how an event ends.
 #[tactic(auto, unfolding(crate::specs::Cast::event_closing))]
-fn put_closing<W: Write>(writer: &mut Watched<W>) -> Result<(), Fault>
-    requires { has_failed writer.old ≡ false }
-    ensures { Puts W.contents writer.old writer.new event_closing result }
+fn put_closing<W: Write>(writer: &mut Watched<W>)
+    ensures { Gave W.contents writer.old writer.new event_closing }
 {
-    writer.put(b"\"]\n")
+    writer.give(b"\"]\n");
 }

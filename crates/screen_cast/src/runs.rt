@@ -1,20 +1,20 @@
 //! Runs of a row, written as they stand in a string of JSON.
 
-ghost use Rattle.std.specs.Prelude.{◌≡◌, ◌≤◌, ◌++◌, ◌+◌, ◌*◌, All, false, length};
+ghost use Rattle.std.specs.Prelude.{◌≡◌, ◌≤◌, ◌++◌, ◌+◌, ◌*◌, All, length};
 ghost use Rattle.std.specs.List.{flat_map};
-ghost use Rattle.tape_core.specs.Devices.{Puts, has_failed};
+ghost use Rattle.tape_core.specs.Devices.{Gave};
 ghost use Rattle.screen_print.specs.EscapedText.{rendition_set_text};
-ghost use Rattle.screen_picture.specs.Runs.{IsRun};
+ghost use Rattle.screen_rows.specs.Runs.{IsRun};
 ghost use Rattle.screen_cast.specs.Drawn.{attributes_in, cell_text};
 ghost use Rattle.screen_cast.specs.Json.{json};
 ghost use Rattle.screen_cast.specs.Parts.{run_part};
 
-use crate::json::{GLYPH_BYTES, push_bytes, push_bytes_where, push_glyph};
+use crate::json::{GLYPH_BYTES, push_glyph};
 use arrayvec::ArrayVec;
-use screen_picture::{Kind, Run, cells_of};
+use screen_rows::{Kind, Run, cells_of, push_bytes, push_bytes_where};
 use std::io::Write;
-use tape_core::laws::pieces_join;
-use tape_core::{Fault, Watched};
+use tape_core::Watched;
+use tape_core::laws::gives_join;
 use vt_screen::limits::WIDE_COLUMNS;
 use vt_screen::{Cell, Row, Size};
 
@@ -34,18 +34,16 @@ pub(crate) fn put_runs<W: Write>(
     runs: &[Run],
     text: &mut ArrayVec<u8, RUN_BYTES>,
     writer: &mut Watched<W>,
-) -> Result<(), Fault>
+)
     requires whole { length row.now.cells ≡ WIDE_COLUMNS }
     requires runs { All IsRun runs.now }
-    requires sound { has_failed writer.old ≡ false }
-    ensures { Puts W.contents writer.old writer.new
-        (flat_map (run_part reversed row.now) runs.now) result }
+    ensures { Gave W.contents writer.old writer.new
+        (flat_map (run_part reversed row.now) runs.now) }
 {
-    pieces_join::<W, Run>();
+    gives_join::<W>();
     for run in runs {
-        put_run(reversed, row, *run, text, writer)?;
+        put_run(reversed, row, *run, text, writer);
     }
-    Ok(())
 }
 
 /// Writes a run, made in the text: SGR, and its characters.
@@ -56,16 +54,15 @@ fn put_run<W: Write>(
     run: Run,
     text: &mut ArrayVec<u8, RUN_BYTES>,
     writer: &mut Watched<W>,
-) -> Result<(), Fault>
+)
     requires whole { length row.now.cells ≡ WIDE_COLUMNS }
     requires run { IsRun run }
-    requires sound { has_failed writer.old ≡ false }
-    ensures { Puts W.contents writer.old writer.new (run_part reversed row.now run) result }
+    ensures { Gave W.contents writer.old writer.new (run_part reversed row.now run) }
 {
     text.clear();
     push_rendition(text, reversed, run.kind);
     push_cells(text, row.size, cells_of(row, run));
-    writer.put(text.as_slice())
+    writer.give(text.as_slice());
 }
 
 /// Puts SGR behind a text.

@@ -9,10 +9,10 @@ use Rattle.tape_core.specs.Due.{indices}
 use Rattle.tape_core.specs.Tape.{Tape}
 use Rattle.vt_screen.specs.declared.cell.Row.{Row}
 use Rattle.vt_term.specs.declared.profile.Profile.{Profile}
-use Rattle.screen_print.specs.SameRows.{changed_lines, is_changed}
+use Rattle.screen_rows.specs.SameRows.{changed_lines, is_changed}
 use Rattle.screen_print.specs.Stills.{Still}
 use Rattle.screen_print.specs.Walk.{whole_text}
-use Rattle.screen_picture.specs.Runs.{runs_of}
+use Rattle.screen_rows.specs.Runs.{runs_of}
 use Rattle.screen_page.specs.Entries.{change_of, entry_at, entry_of, first_entry, first_of, shown, shown_run}
 use Rattle.screen_page.specs.EntryText.{entry_front, entry_text, named_text, next_text, run_text}
 use Rattle.screen_page.specs.Page.{head, page_text, tail}

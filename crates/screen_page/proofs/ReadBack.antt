@@ -18,10 +18,10 @@ use Rattle.vt_term.specs.declared.profile.Profile.{Profile}
 use Rattle.vt_term.specs.Console.{IsSafe}
 use Rattle.vt_term.specs.Law.{StaysSafe}
 use Rattle.vt_term.specs.Term.{play, reset_term_as}
-use Rattle.screen_print.specs.SameRows.{changed_lines, same_row, size_number}
+use Rattle.screen_rows.specs.SameRows.{changed_lines, same_row, size_number}
 use Rattle.screen_print.specs.Walk.{still_after}
-use Rattle.screen_picture.specs.declared.runs.Kind.{Kind}
-use Rattle.screen_picture.specs.Runs.{kind_number, runs_of}
+use Rattle.screen_rows.specs.declared.runs.Kind.{Kind}
+use Rattle.screen_rows.specs.Runs.{kind_number, runs_of}
 use Rattle.screen_page.specs.Entries.{Change, Was, Is, Entry, ShownRow, ShownRun, change_by, change_of, entries, entry_at, first_entry, line_of, shown, shown_run}
 use Rattle.screen_page.specs.EntryText.{comma_number, data_text, entry_front, entry_text, flags, listed, named_text, next_text, row_text, run_text}
 use Rattle.screen_page.specs.Law.{IsShortChange, IsShortRun, IsWritable, PageReadsBack}

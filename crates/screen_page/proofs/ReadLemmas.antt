@@ -12,7 +12,7 @@ use Rattle.std.proofs.lemmas.Str.Parse.{digit_at}
 use Rattle.tape_core.specs.Law.{SecondsReadBack}
 use Rattle.tape_core.specs.Seconds.{IsSeconds, last_moment}
 use Rattle.tape_core.specs.Written.{seconds_form}
-use Rattle.screen_print.specs.SameRows.{size_number}
+use Rattle.screen_rows.specs.SameRows.{size_number}
 use Rattle.screen_page.specs.Entries.{Change, Was, Is, ShownRow, ShownRun}
 use Rattle.screen_page.specs.EntryText.{run_text, string_byte, string_text}
 use Rattle.screen_page.specs.Law.{IsShortRun}

@@ -16,10 +16,10 @@ use Rattle.vt_term.specs.Console.{IsSafe}
 use Rattle.vt_term.specs.Law.{StaysSafe}
 use Rattle.vt_term.specs.Rows.{named}
 use Rattle.vt_term.specs.Term.{play, reset_term_as}
-use Rattle.screen_print.specs.SameRows.{changed_lines, is_changed, same_row}
+use Rattle.screen_rows.specs.SameRows.{changed_lines, is_changed, same_row}
 use Rattle.screen_print.specs.Stills.{Still}
 use Rattle.screen_print.specs.Walk.{still_after}
-use Rattle.screen_picture.specs.Runs.{runs_of}
+use Rattle.screen_rows.specs.Runs.{runs_of}
 use Rattle.screen_page.specs.Entries.{Change, Entry, ShownRow, change_by, change_of, entries, entry_at, entry_of, first_entry, first_of, line_of, shown}
 use Rattle.screen_page.specs.Folded.{empty_row, empty_rows, folded, line_after, rows_after, rows_from, shown_at}
 use Rattle.screen_page.specs.Law.{IsFolded, PageReplays, entry_behind}

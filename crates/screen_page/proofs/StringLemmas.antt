@@ -11,11 +11,11 @@ use Rattle.std.proofs.lemmas.List.Sums.{AllPass-from_list_all}
 use Rattle.std.proofs.lemmas.Str.{encode_ascii, inside_one}
 use Rattle.vt_screen.specs.declared.cell.Cell.{Cell}
 use Rattle.vt_screen.specs.declared.cell.Row.{Row}
-use Rattle.screen_print.specs.Glyphs.{character}
-use Rattle.screen_print.specs.PlainText.{printed}
-use Rattle.screen_print.specs.SameRows.{same_cell, same_row}
-use Rattle.screen_picture.specs.declared.runs.Run.{Run}
-use Rattle.screen_picture.specs.Runs.{cells_of}
+use Rattle.screen_rows.specs.Glyphs.{character}
+use Rattle.screen_rows.specs.RowText.{printed}
+use Rattle.screen_rows.specs.SameRows.{same_cell, same_row}
+use Rattle.screen_rows.specs.declared.runs.Run.{Run}
+use Rattle.screen_rows.specs.Runs.{cells_of}
 use Rattle.screen_page.specs.EntryText.{string_byte}
 use Rattle.screen_page.specs.Plain.{glyphs_of, is_plain}
 

@@ -8,12 +8,12 @@ use Rattle.vt_screen.specs.declared.cell.Size.{Size}
 use Rattle.vt_screen.specs.Cells.{row_at}
 use Rattle.vt_screen.specs.Limits.{line_count}
 use Rattle.vt_term.specs.declared.profile.Profile.{Profile}
-use Rattle.screen_print.specs.PlainText.{printed}
-use Rattle.screen_print.specs.SameRows.{changed_lines, same_row}
+use Rattle.screen_rows.specs.RowText.{printed}
+use Rattle.screen_rows.specs.SameRows.{changed_lines, same_row}
 use Rattle.screen_print.specs.Stills.{Still}
 use Rattle.screen_print.specs.Walk.{still_after}
-use Rattle.screen_picture.specs.declared.runs.Run.{Run}
-use Rattle.screen_picture.specs.Runs.{cells_of, kind_number, runs_of}
+use Rattle.screen_rows.specs.declared.runs.Run.{Run}
+use Rattle.screen_rows.specs.Runs.{cells_of, kind_number, runs_of}
 
 -- ---- rows
 

@@ -3,7 +3,7 @@ use Rattle.std.specs.Prelude.{ℕ, ◌+◌, ◌*◌, List, [], ◌∷◌, ◌++�
 use Rattle.std.specs.List.{flat_map}
 use Rattle.tape_core.specs.Written.{seconds_form}
 use Rattle.vt_screen.specs.Attributes.{bit}
-use Rattle.screen_print.specs.SameRows.{size_number}
+use Rattle.screen_rows.specs.SameRows.{size_number}
 use Rattle.screen_page.specs.Entries.{Change, Was, Is, Entry, ShownRow, ShownRun}
 
 -- ---- strings

@@ -2,8 +2,8 @@
 
 ghost use Rattle.std.specs.Prelude.{◌≡◌, ◌+◌, ◌*◌, ◌++◌, ◌∷◌, All, false};
 ghost use Rattle.std.specs.List.{flat_map};
-ghost use Rattle.tape_core.specs.Devices.{Puts, has_failed};
-ghost use Rattle.screen_print.specs.SameRows.{changed_lines};
+ghost use Rattle.tape_core.specs.Devices.{Gave};
+ghost use Rattle.screen_rows.specs.SameRows.{changed_lines};
 ghost use Rattle.screen_print.specs.Stills.{still_of};
 ghost use Rattle.screen_page.specs.Entries.{entry_of};
 ghost use Rattle.screen_page.specs.EntryText.{comma_number, entry_front, next_text};
@@ -12,11 +12,11 @@ ghost use Rattle.vt_screen.specs.Attributes.{bit};
 
 use crate::rows::put_line;
 use arrayvec::ArrayVec;
-use screen_picture::push_number;
 use screen_print::{ChunkPrinter, Still};
+use screen_rows::push_number;
 use std::io::Write;
-use tape_core::laws::{pieces_join, writers_join};
-use tape_core::{Fault, Watched, seconds_text};
+use tape_core::laws::gives_join;
+use tape_core::{Watched, seconds_text};
 use vt_term::Terminal;
 
 /// How many bytes the flags and the cursor take at most: a comma and five digits each.
@@ -38,8 +38,8 @@ impl ChunkPrinter for EntryPrinter {
         after: &Terminal,
         lines: &[u8],
         writer: &mut Watched<W>,
-    ) -> Result<(), Fault> {
-        put_entry(due, before, after, lines, writer)
+    ) {
+        put_entry(due, before, after, lines, writer);
     }
 }
 
@@ -50,34 +50,25 @@ fn put_entry<W: Write>(
     after: &Terminal,
     lines: &[u8],
     writer: &mut Watched<W>,
-) -> Result<(), Fault>
-    requires sound { has_failed writer.old ≡ false }
+)
     requires changed { lines.now
         ≡ changed_lines before.now.rows after.now.console.picture.rows }
-    ensures { Puts W.contents writer.old writer.new
-        (next_text (entry_of due before.now (still_of after.now.console))) result }
+    ensures { Gave W.contents writer.old writer.new
+        (next_text (entry_of due before.now (still_of after.now.console))) }
 {
-    writers_join::<W>();
-    put_front(due, before, after, writer)?;
-    put_lines(before, after, lines, writer)?;
-    writer.put(b"]")?;
-    Ok(())
+    gives_join::<W>();
+    put_front(due, before, after, writer);
+    put_lines(before, after, lines, writer);
+    writer.give(b"]");
 }
 
 /// Writes an entry's beginning: when the chunk is due, the flags, the cursor.
-fn put_front<W: Write>(
-    due: u64,
-    before: &Still,
-    after: &Terminal,
-    writer: &mut Watched<W>,
-) -> Result<(), Fault>
-    requires { has_failed writer.old ≡ false }
-    ensures { Puts W.contents writer.old writer.new
-        (44 ∷ 10 ∷ 91 ∷ entry_front (entry_of due before.now (still_of after.now.console)))
-        result }
+fn put_front<W: Write>(due: u64, before: &Still, after: &Terminal, writer: &mut Watched<W>)
+    ensures { Gave W.contents writer.old writer.new
+        (44 ∷ 10 ∷ 91 ∷ entry_front (entry_of due before.now (still_of after.now.console))) }
 {
     let numbers = numbers(after);
-    writer.put_all(&[b",\n[", seconds_text(due).as_bytes(), numbers.as_slice()])
+    writer.give_all(&[b",\n[", seconds_text(due).as_bytes(), numbers.as_slice()]);
 }
 
 /// The flags and the cursor, a comma before each number.
@@ -100,21 +91,13 @@ fn numbers(after: &Terminal) -> ArrayVec<u8, NUMBERS_BYTES>
 }
 
 /// Writes what the lines are that a chunk changes.
-fn put_lines<W: Write>(
-    before: &Still,
-    after: &Terminal,
-    lines: &[u8],
-    writer: &mut Watched<W>,
-) -> Result<(), Fault>
+fn put_lines<W: Write>(before: &Still, after: &Terminal, lines: &[u8], writer: &mut Watched<W>)
     requires lines { All IsLine lines.now }
-    requires sound { has_failed writer.old ≡ false }
-    ensures { Puts W.contents writer.old writer.new
-        (flat_map (line_text before.now.rows after.now.console.picture.rows) lines.now) result }
+    ensures { Gave W.contents writer.old writer.new
+        (flat_map (line_text before.now.rows after.now.console.picture.rows) lines.now) }
 {
-    pieces_join::<W, u8>();
-    writers_join::<W>();
+    gives_join::<W>();
     for line in lines {
-        put_line(before, after.screen(), *line, writer)?;
+        put_line(before, after.screen(), *line, writer);
     }
-    Ok(())
 }

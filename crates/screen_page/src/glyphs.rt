@@ -1,11 +1,11 @@
 //! The glyphs of a row, side by side in memory.
 
 ghost use Rattle.std.specs.Prelude.{◌≡◌, drop, length, take};
-ghost use Rattle.screen_picture.specs.Runs.{IsRun};
+ghost use Rattle.screen_rows.specs.Runs.{IsRun};
 ghost use Rattle.std.specs.List.{list_all};
 ghost use Rattle.screen_page.specs.Plain.{AreGlyphs, glyphs_of, is_plain};
 
-use screen_picture::Run;
+use screen_rows::Run;
 use vt_screen::limits::WIDE_COLUMNS;
 use vt_screen::{Cell, Row};
 

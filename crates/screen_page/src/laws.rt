@@ -2,7 +2,7 @@
 
 ghost use Rattle.screen_page.specs.Law.{PageReadsBack, PageReplays};
 
-use screen_print::laws::same_rows_are_equal;
+use screen_rows::laws::same_rows_are_equal;
 use tape_core::laws::{numbers_read_back, seconds_read_back};
 use vt_screen::laws::right_margins;
 use vt_term::laws::stays_safe;

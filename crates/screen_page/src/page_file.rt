@@ -1,7 +1,7 @@
 //! The page of a recording.
 
 ghost use Rattle.std.specs.Prelude.{◌≡◌, ◌≢◌, ◌≤◌, length, true, false, Err, OnOk, IfErr};
-ghost use Rattle.tape_core.specs.Devices.{Puts, Took, has_failed, is_flushed};
+ghost use Rattle.tape_core.specs.Devices.{Gave, Took, has_failed, is_flushed};
 ghost use Rattle.tape_seek.specs.State.{KeepsHistory};
 ghost use Rattle.screen_print.specs.Stops.{OnlySeeks, StopsWalk};
 ghost use Rattle.screen_page.specs.Page.{head, page_text, tail};
@@ -9,11 +9,11 @@ ghost use Rattle.screen_page.specs.Parts.{closing, first_text, opening};
 
 use crate::entry_printer::EntryPrinter;
 use crate::player::{HEAD, TAIL};
-use screen_print::laws::walks_end_within;
+use screen_print::laws::walks_end_sound;
 use screen_print::{ChangesFault, put_all_chunks};
 use std::io::Write;
-use tape_core::laws::writers_join;
-use tape_core::{Fault, Watched};
+use tape_core::Watched;
+use tape_core::laws::gives_join;
 use tape_seek::Session;
 
 /// Writes the session's recording as one HTML file that plays it, and flushes. It works by seeks. After a fault a
@@ -31,45 +31,27 @@ pub fn page<W: Write>(session: &mut Session, writer: &mut Watched<W>) -> Result<
     ensures room { length session.old.recording.chunks ≤ session.old.marks.frontier
         → result ≢ Err ChangesFault.Memory }
 {
-    writers_join::<W>();
-    put_file(session, writer)?;
-    writer.finish()?;
-    Ok(())
-}
-
-/// Writes the file, and doesn't flush.
-fn put_file<W: Write>(session: &mut Session, writer: &mut Watched<W>) -> Result<(), ChangesFault>
-    requires { has_failed writer.old ≡ false }
-    ensures ok { OnOk result (Took W.contents writer.old writer.new
-        (page_text session.old.profile session.old.recording)) }
-    ensures fault { IfErr result (StopsWalk W.contents writer.old writer.new
-        (page_text session.old.profile session.old.recording)) }
-    ensures stays { OnlySeeks session.old session.new }
-    ensures room { length session.old.recording.chunks ≤ session.old.marks.frontier
-        → result ≢ Err ChangesFault.Memory }
-{
-    writers_join::<W>();
-    walks_end_within::<W>();
-    put_opening(writer)?;
+    gives_join::<W>();
+    walks_end_sound::<W>();
+    put_opening(writer);
     put_all_chunks(session, &EntryPrinter, writer)?;
-    put_closing(writer)?;
+    put_closing(writer);
+    writer.settle()?;
     Ok(())
 }
 
 /// Writes what stands before the chunks' entries.
-fn put_opening<W: Write>(writer: &mut Watched<W>) -> Result<(), Fault>
-    requires { has_failed writer.old ≡ false }
-    ensures { Puts W.contents writer.old writer.new opening result }
+fn put_opening<W: Write>(writer: &mut Watched<W>)
+    ensures { Gave W.contents writer.old writer.new opening }
 {
-    writer.put_all(&[head(), first_text()])
+    writer.give_all(&[head(), first_text()]);
 }
 
 /// Writes what stands behind them.
-fn put_closing<W: Write>(writer: &mut Watched<W>) -> Result<(), Fault>
-    requires { has_failed writer.old ≡ false }
-    ensures { Puts W.contents writer.old writer.new closing result }
+fn put_closing<W: Write>(writer: &mut Watched<W>)
+    ensures { Gave W.contents writer.old writer.new closing }
 {
-    writer.put_all(&[b"]", tail()])
+    writer.give_all(&[b"]", tail()]);
 }
 
 /// The entry before all chunks, which begins the data.

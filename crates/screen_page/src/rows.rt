@@ -2,12 +2,12 @@
 
 ghost use Rattle.std.specs.Prelude.{◌≡◌, ◌≤◌, ◌++◌, ◌∷◌, ◌+◌, ◌*◌, All, decimal, encode_utf8, length, false, true};
 ghost use Rattle.std.specs.List.{flat_map};
-ghost use Rattle.tape_core.specs.Devices.{Puts, has_failed};
+ghost use Rattle.tape_core.specs.Devices.{Gave};
 ghost use Rattle.vt_screen.specs.Cells.{row_at};
 ghost use Rattle.vt_screen.specs.Picture.{SoundRow};
-ghost use Rattle.screen_print.specs.PlainText.{printed};
-ghost use Rattle.screen_print.specs.SameRows.{same_row, size_number};
-ghost use Rattle.screen_picture.specs.Runs.{IsRun, cells_of};
+ghost use Rattle.screen_rows.specs.RowText.{printed};
+ghost use Rattle.screen_rows.specs.SameRows.{same_row, size_number};
+ghost use Rattle.screen_rows.specs.Runs.{IsRun, cells_of};
 ghost use Rattle.screen_page.specs.Entries.{line_of, shown, shown_run};
 ghost use Rattle.screen_page.specs.EntryText.{comma_number, row_text, run_text, string_byte};
 ghost use Rattle.screen_page.specs.Parts.{line_text};
@@ -15,11 +15,13 @@ ghost use Rattle.screen_page.specs.Plain.{AreGlyphs};
 
 use crate::glyphs::Glyphs;
 use arrayvec::ArrayVec;
-use screen_picture::{Run, cells_of, push_bytes, push_number, runs_of};
-use screen_print::{Still, character, same_first, same_row};
+use screen_print::Still;
+use screen_rows::{
+    Run, cells_of, character, push_bytes, push_number, runs_of, same_first, same_row,
+};
 use std::io::Write;
-use tape_core::laws::{pieces_join, writers_join};
-use tape_core::{Fault, Watched};
+use tape_core::Watched;
+use tape_core::laws::gives_join;
 use vt_screen::laws::screens_are_sound;
 use vt_screen::limits::{LINES, WIDE_COLUMNS};
 use vt_screen::{Cell, Row, Screen, Size};
@@ -34,17 +36,11 @@ const LINE_BYTES: usize = 13;
 const FIRST_CELLS: usize = 16;
 
 /// Writes what a line is that a chunk changes.
-pub(crate) fn put_line<W: Write>(
-    before: &Still,
-    screen: &Screen,
-    line: u8,
-    writer: &mut Watched<W>,
-) -> Result<(), Fault>
+pub(crate) fn put_line<W: Write>(before: &Still, screen: &Screen, line: u8, writer: &mut Watched<W>)
     requires low { 1 ≤ line }
     requires high { line ≤ LINES }
-    requires sound { has_failed writer.old ≡ false }
-    ensures { Puts W.contents writer.old writer.new
-        (line_text before.now.rows screen.now.picture.rows line) result }
+    ensures { Gave W.contents writer.old writer.new
+        (line_text before.now.rows screen.now.picture.rows line) }
 {
     let row = screen.row(line);
     match line_of(before, screen, line) {
@@ -80,45 +76,41 @@ fn is_same(one: &Row, other: &Row, narrow: bool) -> bool
 }
 
 /// Writes the number of a line, and of the line that it is.
-fn put_numbers<W: Write>(line: u8, other: u8, writer: &mut Watched<W>) -> Result<(), Fault>
-    requires { has_failed writer.old ≡ false }
-    ensures { Puts W.contents writer.old writer.new
-        (comma_number line ++ comma_number other) result }
+fn put_numbers<W: Write>(line: u8, other: u8, writer: &mut Watched<W>)
+    ensures { Gave W.contents writer.old writer.new
+        (comma_number line ++ comma_number other) }
 {
     let mut text = ArrayVec::<u8, LINE_BYTES>::new();
     text.push(b',');
     push_number(&mut text, u16::from(line));
     text.push(b',');
     push_number(&mut text, u16::from(other));
-    writer.put(text.as_slice())
+    writer.give(text.as_slice());
 }
 
 /// Writes the number of a line, and the row that it is.
-fn put_row<W: Write>(line: u8, row: &Row, writer: &mut Watched<W>) -> Result<(), Fault>
+fn put_row<W: Write>(line: u8, row: &Row, writer: &mut Watched<W>)
     requires whole { length row.now.cells ≡ WIDE_COLUMNS }
-    requires sound { has_failed writer.old ≡ false }
-    ensures { Puts W.contents writer.old writer.new
-        (comma_number line ++ 44 ∷ row_text (shown row.now)) result }
+    ensures { Gave W.contents writer.old writer.new
+        (comma_number line ++ 44 ∷ row_text (shown row.now)) }
 {
-    writers_join::<W>();
-    put_size(line, row.size, writer)?;
-    put_runs(row, writer)?;
-    writer.put(b"]")?;
-    Ok(())
+    gives_join::<W>();
+    put_size(line, row.size, writer);
+    put_runs(row, writer);
+    writer.give(b"]");
 }
 
 /// Writes the number of a line, and the size of the row that it is.
-fn put_size<W: Write>(line: u8, size: Size, writer: &mut Watched<W>) -> Result<(), Fault>
-    requires { has_failed writer.old ≡ false }
-    ensures { Puts W.contents writer.old writer.new
-        (comma_number line ++ 44 ∷ 91 ∷ decimal (size_number size)) result }
+fn put_size<W: Write>(line: u8, size: Size, writer: &mut Watched<W>)
+    ensures { Gave W.contents writer.old writer.new
+        (comma_number line ++ 44 ∷ 91 ∷ decimal (size_number size)) }
 {
     let mut text = ArrayVec::<u8, LINE_BYTES>::new();
     text.push(b',');
     push_number(&mut text, u16::from(line));
     push_bytes(&mut text, b",[");
     push_number(&mut text, size_number(size));
-    writer.put(text.as_slice())
+    writer.give(text.as_slice());
 }
 
 /// A size as a number.
@@ -135,30 +127,27 @@ fn size_number(size: Size) -> u16
 
 /// Writes the runs of a row.
 #[tactic(auto, unfolding(crate::specs::Entries::shown))]
-fn put_runs<W: Write>(row: &Row, writer: &mut Watched<W>) -> Result<(), Fault>
+fn put_runs<W: Write>(row: &Row, writer: &mut Watched<W>)
     requires whole { length row.now.cells ≡ WIDE_COLUMNS }
-    requires sound { has_failed writer.old ≡ false }
-    ensures { Puts W.contents writer.old writer.new
-        (flat_map run_text (shown row.now).runs) result }
+    ensures { Gave W.contents writer.old writer.new
+        (flat_map run_text (shown row.now).runs) }
 {
-    put_each(row, runs_of(row).as_slice(), writer)
+    put_each(row, runs_of(row).as_slice(), writer);
 }
 
 /// Writes runs of a row.
-fn put_each<W: Write>(row: &Row, runs: &[Run], writer: &mut Watched<W>) -> Result<(), Fault>
+fn put_each<W: Write>(row: &Row, runs: &[Run], writer: &mut Watched<W>)
     requires whole { length row.now.cells ≡ WIDE_COLUMNS }
     requires runs { All IsRun runs.now }
-    requires sound { has_failed writer.old ≡ false }
-    ensures { Puts W.contents writer.old writer.new
-        (flat_map (λ run. run_text (shown_run row.now run)) runs.now) result }
+    ensures { Gave W.contents writer.old writer.new
+        (flat_map (λ run. run_text (shown_run row.now run)) runs.now) }
 {
-    pieces_join::<W, Run>();
+    gives_join::<W>();
     let glyphs = Glyphs::of(row);
     let mut text = ArrayVec::new();
     for run in runs {
-        put_run(row, &glyphs, *run, &mut text, writer)?;
+        put_run(row, &glyphs, *run, &mut text, writer);
     }
-    Ok(())
 }
 
 /// Writes a run of a row. It is laid out in an array that serves all of them.
@@ -168,12 +157,11 @@ fn put_run<W: Write>(
     run: Run,
     text: &mut ArrayVec<u8, RUN_BYTES>,
     writer: &mut Watched<W>,
-) -> Result<(), Fault>
+)
     requires whole { length row.now.cells ≡ WIDE_COLUMNS }
     requires glyphs { AreGlyphs row.now.cells glyphs.now }
     requires run { IsRun run }
-    requires sound { has_failed writer.old ≡ false }
-    ensures { Puts W.contents writer.old writer.new (run_text (shown_run row.now run)) result }
+    ensures { Gave W.contents writer.old writer.new (run_text (shown_run row.now run)) }
 {
     text.clear();
     text.push(b',');
@@ -181,7 +169,7 @@ fn put_run<W: Write>(
     push_bytes(text, b",\"");
     push_run(text, row, glyphs, run);
     text.push(b'"');
-    writer.put(text.as_slice())
+    writer.give(text.as_slice());
 }
 
 /// Puts the characters of a run behind a text as they stand in a string.

@@ -2,7 +2,7 @@
 use Rattle.std.proofs.Common.{◌≡◌, ◌<◌, Bool, List, [], ◌∷◌, ◌++◌, codes, length, refl, arith}
 use Rattle.std.specs.List.{flat_map}
 use Rattle.vt_screen.specs.declared.cell.Row.{Row}
-use Rattle.screen_picture.specs.declared.runs.Run.{Run}
+use Rattle.screen_rows.specs.declared.runs.Run.{Run}
 use Rattle.screen_picture.specs.Letters.{span_text, spans_text}
 
 -- where there is a run

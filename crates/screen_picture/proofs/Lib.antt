@@ -1,4 +1,3 @@
 mod LineLemmas
 mod PlainLemmas
-mod RunLemmas
 mod LetterLemmas

@@ -1,17 +1,8 @@
 -- Texts of numbers that rise, and of the screen's lines, one after another.
-use Rattle.std.proofs.Common.{◌≡◌, ℕ, zero, suc, ◌+◌, ◌-◌, ◌≤◌, List, [], ◌∷◌, ◌++◌, ap, sym, ◌∙◌, arith, add-zero, append-nil}
+use Rattle.std.proofs.Common.{◌≡◌, ℕ, ◌+◌, ◌-◌, ◌≤◌, List, [], ◌∷◌, ◌++◌, ap, sym, ◌∙◌, arith, append-nil}
 use Rattle.std.specs.List.{flat_map, range_with_len}
 use Rattle.std.proofs.lemmas.List.Concat.{flat_map-append}
-
--- numbers in two parts
-pub range_split : (a m n : ℕ) → range_with_len a (m + n) ≡ range_with_len a m ++ range_with_len (a + m) n
-range_split a zero n =
-    let same : 0 + n ≡ n = omega arith in
-    ap (range_with_len a) same ∙ ap (λ b. range_with_len b n) (sym (add-zero a))
-range_split a (suc m) n =
-    let longer : suc m + n ≡ suc (m + n) = omega arith in
-    let there : a + 1 + m ≡ a + suc m = omega arith in
-    ap (range_with_len a) longer ∙ ap (λ l. a ∷ l) (range_split (a + 1) m n ∙ ap (λ b. range_with_len (a + 1) m ++ range_with_len b n) there)
+use Rattle.screen_rows.proofs.RangeLemmas.{range_split}
 
 -- the texts of so many numbers from one on
 abbrev pub texts_from : (ℕ → List ℕ) → ℕ → ℕ → List ℕ
@@ -34,13 +25,3 @@ line_more f line low =
     let at : 1 + (line - 1) ≡ line = omega arith in
     let next : line - 1 + 1 ≡ line = omega arith in
     ap (first_lines f) (sym next) ∙ texts_more f 1 (line - 1) line at
-
--- the texts before a line, its own, and those behind it
-pub line_cut : (f : ℕ → List ℕ) (line : ℕ) → 1 ≤ line → line ≤ 24
-    → first_lines f 24 ≡ first_lines f (line - 1) ++ f line ++ texts_from f (1 + line) (24 - line)
-line_cut f line low high =
-    let parts : line + (24 - line) ≡ 24 = omega arith in
-    ap (first_lines f) (sym parts)
-    ∙ ap (flat_map f) (range_split 1 line (24 - line))
-    ∙ flat_map-append f (range_with_len 1 line) (range_with_len (1 + line) (24 - line))
-    ∙ ap (λ t. t ++ texts_from f (1 + line) (24 - line)) (line_more f line low)

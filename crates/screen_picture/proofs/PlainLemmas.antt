@@ -1,5 +1,5 @@
 -- The plain print as it stands in XML, line by line.
-use Rattle.std.proofs.Common.{◌≡◌, ℕ, ◌+◌, ◌-◌, ◌≤◌, Bool, List, [], ◌∷◌, ◌++◌, ap, sym, refl, ◌∙◌, length, get_or, take, arith}
+use Rattle.std.proofs.Common.{◌≡◌, ℕ, ◌+◌, ◌-◌, Bool, List, [], ◌∷◌, ◌++◌, ap, sym, refl, ◌∙◌, length, get_or, take, arith}
 use Rattle.std.specs.List.{flat_map, range_with_len}
 use Rattle.std.proofs.lemmas.List.Concat.{flat_map-append}
 use Rattle.std.proofs.lemmas.List.Folds.{flat_map-map}
@@ -8,10 +8,10 @@ use Rattle.vt_screen.specs.declared.cell.Row.{Row}
 use Rattle.vt_screen.specs.Cells.{blank_row, row_at}
 use Rattle.vt_screen.specs.Picture.{Picture, margin_of}
 use Rattle.vt_screen.specs.Table.{nth}
-use Rattle.screen_print.specs.PlainText.{printed, printed_line, trimmed}
+use Rattle.screen_rows.specs.RowText.{printed, printed_line, trimmed}
 use Rattle.screen_picture.specs.Letters.{escaped, escaped_byte, letter_text}
 use Rattle.screen_picture.specs.Picture.{printed_text}
-use Rattle.screen_picture.proofs.LineLemmas.{first_lines, line_cut, texts_from}
+use Rattle.screen_picture.proofs.LineLemmas.{first_lines}
 
 -- a line of the plain print as it stands in XML
 abbrev pub escaped_line : Picture → ℕ → List ℕ
@@ -46,9 +46,3 @@ pub plain_is : (p : Picture) → length p.rows ≡ 24 → first_lines (escaped_l
 plain_is p whole =
     sym (by_rows (λ row. escaped (printed_line p.wide row)) p.rows whole)
     ∙ sym (joined_twice escaped_byte (printed_line p.wide) p.rows)
-
--- the lines before one, its own, and those behind it
-pub plain_cut : (p : Picture) (line : ℕ) → length p.rows ≡ 24 → 1 ≤ line → line ≤ 24
-    → escaped (printed_text p.wide p.rows)
-    ≡ first_lines (escaped_line p) (line - 1) ++ escaped_line p line ++ texts_from (escaped_line p) (1 + line) (24 - line)
-plain_cut p line whole low high = sym (plain_is p whole) ∙ line_cut (escaped_line p) line low high

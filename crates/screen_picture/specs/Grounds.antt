@@ -5,9 +5,9 @@ use Rattle.vt_screen.specs.declared.cell.Row.{Row}
 use Rattle.vt_screen.specs.declared.cell.Size.{Size}
 use Rattle.vt_screen.specs.Cells.{is_single, row_at}
 use Rattle.vt_screen.specs.Limits.{line_count}
-use Rattle.screen_print.specs.EscapedText.{text_where}
-use Rattle.screen_picture.specs.declared.runs.Run.{Run}
-use Rattle.screen_picture.specs.Runs.{runs_of}
+use Rattle.screen_rows.specs.Texts.{text_where}
+use Rattle.screen_rows.specs.declared.runs.Run.{Run}
+use Rattle.screen_rows.specs.Runs.{runs_of}
 
 -- what is written of each line in turn
 abbrev pub by_line : (ℕ → List ℕ) → List ℕ

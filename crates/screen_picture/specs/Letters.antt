@@ -3,11 +3,11 @@ use Rattle.std.specs.Prelude.{ℕ, ◌+◌, ◌-◌, ◌*◌, Bool, List, [], �
 use Rattle.std.specs.List.{flat_map, range_with_len}
 use Rattle.vt_screen.specs.declared.cell.Cell.{Cell}
 use Rattle.vt_screen.specs.declared.cell.Row.{Row}
-use Rattle.screen_print.specs.EscapedText.{text_where}
-use Rattle.screen_print.specs.PlainText.{printed}
-use Rattle.screen_picture.specs.declared.runs.Kind.{Kind}
-use Rattle.screen_picture.specs.declared.runs.Run.{Run}
-use Rattle.screen_picture.specs.Runs.{cells_of, runs_of}
+use Rattle.screen_rows.specs.Texts.{text_where}
+use Rattle.screen_rows.specs.RowText.{printed}
+use Rattle.screen_rows.specs.declared.runs.Kind.{Kind}
+use Rattle.screen_rows.specs.declared.runs.Run.{Run}
+use Rattle.screen_rows.specs.Runs.{cells_of, runs_of}
 
 -- ---- text in XML
 

@@ -1,5 +1,3 @@
-pub mod Outlines
-pub mod Runs
 pub mod Letters
 pub mod Strokes
 pub mod Grounds

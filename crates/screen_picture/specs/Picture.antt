@@ -3,7 +3,7 @@ use Rattle.std.specs.Prelude.{ℕ, Bool, List, [], ◌∷◌, ◌++◌, codes, i
 use Rattle.std.specs.List.{flat_map}
 use Rattle.tape_core.specs.Written.{seconds_form}
 use Rattle.vt_screen.specs.declared.cell.Row.{Row}
-use Rattle.screen_print.specs.PlainText.{printed_line}
+use Rattle.screen_rows.specs.RowText.{printed_line}
 use Rattle.screen_print.specs.Stills.{Still}
 use Rattle.screen_picture.specs.Cursor.{cursor_text}
 use Rattle.screen_picture.specs.Framed.{rows_text}

@@ -2,12 +2,12 @@
 use Rattle.std.specs.Prelude.{ℕ, ◌*◌, Bool, List, [], ◌∷◌, ◌++◌, codes, decimal, ◌||◌}
 use Rattle.std.specs.List.{flat_map, range_with_len}
 use Rattle.vt_screen.specs.declared.cell.Row.{Row}
-use Rattle.screen_print.specs.EscapedText.{text_where}
-use Rattle.screen_picture.specs.declared.runs.Kind.{Kind}
-use Rattle.screen_picture.specs.declared.runs.Run.{Run}
+use Rattle.screen_rows.specs.Texts.{text_where}
+use Rattle.screen_rows.specs.declared.runs.Kind.{Kind}
+use Rattle.screen_rows.specs.declared.runs.Run.{Run}
 use Rattle.screen_picture.specs.Letters.{back_of, class_text}
-use Rattle.screen_picture.specs.Outlines.{outline}
-use Rattle.screen_picture.specs.Runs.{cell_behind, runs_of}
+use Rattle.screen_rows.specs.Outlines.{outline}
+use Rattle.screen_rows.specs.Runs.{cell_behind, runs_of}
 
 -- k for blink, and the ground's class where the run is reversed
 abbrev pub stroke_classes : Bool → Kind → List ℕ

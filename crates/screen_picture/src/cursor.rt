@@ -1,15 +1,15 @@
 //! The cursor of a picture.
 
-ghost use Rattle.std.specs.Prelude.{◌≡◌, ◌≤◌, false};
-ghost use Rattle.tape_core.specs.Devices.{Puts, has_failed};
+ghost use Rattle.std.specs.Prelude.{◌≡◌, ◌≤◌};
+ghost use Rattle.tape_core.specs.Devices.{Gave};
 ghost use Rattle.screen_picture.specs.Cursor.{cursor_text, rings_text};
 
 use crate::frames::{frame_close, frame_open};
 use crate::letters::back_of;
-use crate::texts::{push_bytes, push_number};
 use arrayvec::ArrayVec;
+use screen_rows::{push_bytes, push_number};
 use std::io::Write;
-use tape_core::{Fault, Watched};
+use tape_core::Watched;
 use vt_screen::Screen;
 use vt_screen::limits::WIDE_COLUMNS;
 
@@ -18,22 +18,17 @@ const RINGS_BYTES: usize = 120;
 
 /// Writes the cursor.
 #[tactic(auto, unfolding(crate::specs::Cursor::cursor_text))]
-pub(crate) fn put_cursor<W: Write>(
-    screen: &Screen,
-    reversed: bool,
-    writer: &mut Watched<W>,
-) -> Result<(), Fault>
-    requires { has_failed writer.old ≡ false }
-    ensures { Puts W.contents writer.old writer.new (cursor_text reversed screen.now.picture.rows
-        screen.now.picture.line screen.now.picture.column) result }
+pub(crate) fn put_cursor<W: Write>(screen: &Screen, reversed: bool, writer: &mut Watched<W>)
+    ensures { Gave W.contents writer.old writer.new (cursor_text reversed screen.now.picture.rows
+        screen.now.picture.line screen.now.picture.column) }
 {
     let (line, column) = screen.cursor();
     let size = screen.row(line).size;
-    writer.put_all(&[
+    writer.give_all(&[
         frame_open(size, line).as_slice(),
         rings_text(reversed, column).as_slice(),
         frame_close(size),
-    ])
+    ]);
 }
 
 /// The two rings of the cursor at a column.

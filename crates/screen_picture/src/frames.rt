@@ -1,7 +1,7 @@
 //! The rows of a picture, each where it stands.
 
-ghost use Rattle.std.specs.Prelude.{◌≡◌, ◌≤◌, ◌++◌, ◌+◌, decimal, length, false};
-ghost use Rattle.tape_core.specs.Devices.{Puts, has_failed};
+ghost use Rattle.std.specs.Prelude.{◌≡◌, ◌≤◌, ◌++◌, ◌+◌, decimal, length};
+ghost use Rattle.tape_core.specs.Devices.{Gave};
 ghost use Rattle.screen_picture.specs.Framed.{frame_close, frame_open, row_text, rows_text};
 ghost use Rattle.screen_picture.specs.Grounds.{down};
 ghost use Rattle.screen_picture.specs.Letters.{letters_text};
@@ -10,11 +10,11 @@ ghost use Rattle.screen_picture.specs.Strokes.{strokes_text};
 use crate::grounds::down;
 use crate::letters::put_letters;
 use crate::strokes::put_strokes;
-use crate::texts::{push_bytes, push_number};
 use arrayvec::ArrayVec;
+use screen_rows::{push_bytes, push_number};
 use std::io::Write;
-use tape_core::laws::writers_join;
-use tape_core::{Fault, Watched};
+use tape_core::Watched;
+use tape_core::laws::gives_join;
 use vt_screen::limits::{LINES, WIDE_COLUMNS};
 use vt_screen::{Row, Screen, Size};
 
@@ -23,54 +23,39 @@ const FRAME_BYTES: usize = 70;
 
 /// Writes the rows.
 #[tactic(auto, unfolding(crate::specs::Framed::rows_text))]
-pub(crate) fn put_rows<W: Write>(
-    screen: &Screen,
-    reversed: bool,
-    writer: &mut Watched<W>,
-) -> Result<(), Fault>
-    requires { has_failed writer.old ≡ false }
-    ensures { Puts W.contents writer.old writer.new
-        (rows_text reversed screen.now.picture.rows) result }
+pub(crate) fn put_rows<W: Write>(screen: &Screen, reversed: bool, writer: &mut Watched<W>)
+    ensures { Gave W.contents writer.old writer.new
+        (rows_text reversed screen.now.picture.rows) }
 {
-    writers_join::<W>();
+    gives_join::<W>();
     for line in 1..LINES + 1 {
-        put_row(screen, line, reversed, writer)?;
+        put_row(screen, line, reversed, writer);
     }
-    Ok(())
 }
 
 /// Writes a row in its frame.
-fn put_row<W: Write>(
-    screen: &Screen,
-    line: u8,
-    reversed: bool,
-    writer: &mut Watched<W>,
-) -> Result<(), Fault>
+fn put_row<W: Write>(screen: &Screen, line: u8, reversed: bool, writer: &mut Watched<W>)
     requires low { 1 ≤ line }
     requires high { line ≤ LINES }
-    requires sound { has_failed writer.old ≡ false }
-    ensures { Puts W.contents writer.old writer.new
-        (row_text reversed screen.now.picture.rows line) result }
+    ensures { Gave W.contents writer.old writer.new
+        (row_text reversed screen.now.picture.rows line) }
 {
-    writers_join::<W>();
+    gives_join::<W>();
     let row = screen.row(line);
-    writer.put(frame_open(row.size, line).as_slice())?;
-    put_drawn(row, reversed, writer)?;
-    writer.put(frame_close(row.size))?;
-    Ok(())
+    writer.give(frame_open(row.size, line).as_slice());
+    put_drawn(row, reversed, writer);
+    writer.give(frame_close(row.size));
 }
 
 /// Writes the letters and the strokes of a row.
-fn put_drawn<W: Write>(row: &Row, reversed: bool, writer: &mut Watched<W>) -> Result<(), Fault>
-    requires whole { length row.now.cells ≡ WIDE_COLUMNS }
-    requires sound { has_failed writer.old ≡ false }
-    ensures { Puts W.contents writer.old writer.new
-        (letters_text reversed row.now ++ strokes_text reversed row.now) result }
+fn put_drawn<W: Write>(row: &Row, reversed: bool, writer: &mut Watched<W>)
+    requires { length row.now.cells ≡ WIDE_COLUMNS }
+    ensures { Gave W.contents writer.old writer.new
+        (letters_text reversed row.now ++ strokes_text reversed row.now) }
 {
-    writers_join::<W>();
-    put_letters(row, reversed, writer)?;
-    put_strokes(row, reversed, writer)?;
-    Ok(())
+    gives_join::<W>();
+    put_letters(row, reversed, writer);
+    put_strokes(row, reversed, writer);
 }
 
 /// What opens the frame of a row.

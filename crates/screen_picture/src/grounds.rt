@@ -1,89 +1,77 @@
 //! The grounds of reversed runs.
 
-ghost use Rattle.std.specs.Prelude.{◌≡◌, ◌≤◌, ◌*◌, ◌-◌, All, false};
+ghost use Rattle.std.specs.Prelude.{◌≡◌, ◌≤◌, ◌*◌, ◌-◌, All};
 ghost use Rattle.std.specs.List.{flat_map};
-ghost use Rattle.tape_core.specs.Devices.{Puts, has_failed};
+ghost use Rattle.tape_core.specs.Devices.{Gave};
 ghost use Rattle.screen_picture.specs.Grounds.{by_line, cell_width, down, ground_text, grounds_text, row_grounds};
-ghost use Rattle.screen_picture.specs.Runs.{IsRun};
+ghost use Rattle.screen_rows.specs.Runs.{IsRun};
 
-use crate::runs::{Run, runs_of};
 use itoa::Buffer;
+use screen_rows::{Run, runs_of};
 use std::io::Write;
-use tape_core::laws::{pieces_join, writers_join};
-use tape_core::{Fault, Watched};
+use tape_core::Watched;
+use tape_core::laws::gives_join;
 use vt_screen::laws::screens_are_sound;
 use vt_screen::limits::LINES;
 use vt_screen::{Screen, Size};
 
 /// Writes the grounds of all rows.
 #[tactic(auto, unfolding(crate::specs::Grounds::grounds_text))]
-pub(crate) fn put_grounds<W: Write>(screen: &Screen, writer: &mut Watched<W>) -> Result<(), Fault>
-    requires { has_failed writer.old ≡ false }
-    ensures { Puts W.contents writer.old writer.new (grounds_text screen.now.picture.rows) result }
+pub(crate) fn put_grounds<W: Write>(screen: &Screen, writer: &mut Watched<W>)
+    ensures { Gave W.contents writer.old writer.new (grounds_text screen.now.picture.rows) }
 {
-    writers_join::<W>();
-    writer.put(b"<path d=\"")?;
-    put_lines(screen, writer)?;
-    writer.put(b"\"/>\n")?;
-    Ok(())
+    gives_join::<W>();
+    writer.give(b"<path d=\"");
+    put_lines(screen, writer);
+    writer.give(b"\"/>\n");
 }
 
 /// Writes the grounds of the rows in turn.
-fn put_lines<W: Write>(screen: &Screen, writer: &mut Watched<W>) -> Result<(), Fault>
-    requires { has_failed writer.old ≡ false }
-    ensures { Puts W.contents writer.old writer.new
-        (by_line (row_grounds screen.now.picture.rows)) result }
+fn put_lines<W: Write>(screen: &Screen, writer: &mut Watched<W>)
+    ensures { Gave W.contents writer.old writer.new
+        (by_line (row_grounds screen.now.picture.rows)) }
 {
-    writers_join::<W>();
+    gives_join::<W>();
     for line in 1..LINES + 1 {
-        put_line(screen, line, writer)?;
+        put_line(screen, line, writer);
     }
-    Ok(())
 }
 
 /// Writes the grounds of a row.
-fn put_line<W: Write>(screen: &Screen, line: u8, writer: &mut Watched<W>) -> Result<(), Fault>
+fn put_line<W: Write>(screen: &Screen, line: u8, writer: &mut Watched<W>)
     requires low { 1 ≤ line }
     requires high { line ≤ LINES }
-    requires sound { has_failed writer.old ≡ false }
-    ensures { Puts W.contents writer.old writer.new
-        (row_grounds screen.now.picture.rows line) result }
+    ensures { Gave W.contents writer.old writer.new
+        (row_grounds screen.now.picture.rows line) }
 {
     let row = screen.row(line);
-    put_runs(line, row.size, runs_of(row).as_slice(), writer)
+    put_runs(line, row.size, runs_of(row).as_slice(), writer);
 }
 
 /// Writes the grounds of runs.
-fn put_runs<W: Write>(
-    line: u8,
-    size: Size,
-    runs: &[Run],
-    writer: &mut Watched<W>,
-) -> Result<(), Fault>
+fn put_runs<W: Write>(line: u8, size: Size, runs: &[Run], writer: &mut Watched<W>)
     requires low { 1 ≤ line }
     requires high { line ≤ LINES }
     requires runs { All IsRun runs.now }
-    requires sound { has_failed writer.old ≡ false }
-    ensures { Puts W.contents writer.old writer.new
-        (flat_map (ground_text line size) runs.now) result }
+    ensures { Gave W.contents writer.old writer.new
+        (flat_map (ground_text line size) runs.now) }
 {
-    pieces_join::<W, Run>();
+    gives_join::<W>();
     for run in runs {
-        put_run(line, size, *run, writer)?;
+        put_run(line, size, *run, writer);
     }
-    Ok(())
 }
 
 /// Writes the ground of a run, where it is reversed.
-fn put_run<W: Write>(line: u8, size: Size, run: Run, writer: &mut Watched<W>) -> Result<(), Fault>
+fn put_run<W: Write>(line: u8, size: Size, run: Run, writer: &mut Watched<W>)
     requires low { 1 ≤ line }
     requires high { line ≤ LINES }
     requires run { IsRun run }
-    requires sound { has_failed writer.old ≡ false }
-    ensures { Puts W.contents writer.old writer.new (ground_text line size run) result }
+    ensures { Gave W.contents writer.old writer.new (ground_text line size run) }
 {
+    gives_join::<W>();
     if !run.kind.reverse {
-        return writer.put(b"");
+        return;
     }
     let mut left = Buffer::new();
     let mut top = Buffer::new();
@@ -91,7 +79,7 @@ fn put_run<W: Write>(line: u8, size: Size, run: Run, writer: &mut Watched<W>) ->
     let width = width
         .format(cell_width(size) * u16::from(run.len))
         .as_bytes();
-    writer.put_all(&[
+    writer.give_all(&[
         b"M",
         left.format(cell_width(size) * u16::from(run.before))
             .as_bytes(),
@@ -102,7 +90,7 @@ fn put_run<W: Write>(line: u8, size: Size, run: Run, writer: &mut Watched<W>) ->
         b"v20h-",
         width,
         b"z",
-    ])
+    ]);
 }
 
 /// How many units wide a cell is on a line of a size.

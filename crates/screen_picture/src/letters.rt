@@ -1,8 +1,8 @@
 //! The letters of a row, and the classes that color them.
 
-ghost use Rattle.std.specs.Prelude.{◌≡◌, ◌≤◌, ◌++◌, ◌+◌, ◌*◌, All, length, false};
+ghost use Rattle.std.specs.Prelude.{◌≡◌, ◌≤◌, ◌++◌, ◌+◌, ◌*◌, All, length};
 ghost use Rattle.std.specs.List.{flat_map};
-ghost use Rattle.tape_core.specs.Devices.{Puts, has_failed};
+ghost use Rattle.tape_core.specs.Devices.{Gave};
 ghost use Rattle.screen_picture.specs.Letters.{
   back_of,
   class_text,
@@ -14,15 +14,14 @@ ghost use Rattle.screen_picture.specs.Letters.{
   span_text,
   spans_text,
 };
-ghost use Rattle.screen_picture.specs.Runs.{cells_of, IsRun};
+ghost use Rattle.screen_rows.specs.Runs.{cells_of, IsRun};
 
-use crate::runs::{CELLS, Kind, Run, runs_of};
-use crate::texts::{push_bytes, push_escaped, push_number};
+use crate::texts::push_escaped;
 use arrayvec::ArrayVec;
-use screen_print::character;
+use screen_rows::{CELLS, Kind, Run, cells_of, character, push_bytes, push_number, runs_of};
 use std::io::Write;
-use tape_core::laws::{pieces_join, writers_join};
-use tape_core::{Fault, Watched};
+use tape_core::Watched;
+use tape_core::laws::gives_join;
 use vt_screen::limits::WIDE_COLUMNS;
 use vt_screen::{Cell, Row};
 
@@ -72,76 +71,51 @@ pub(crate) fn class_text(classes: &[u8]) -> ArrayVec<u8, CLASS_BYTES>
 
 /// Writes the letters of a row; nothing where it has no inked cell.
 #[tactic(auto, unfolding(crate::specs::Letters::letters_text))]
-pub(crate) fn put_letters<W: Write>(
-    row: &Row,
-    reversed: bool,
-    writer: &mut Watched<W>,
-) -> Result<(), Fault>
-    requires whole { length row.now.cells ≡ WIDE_COLUMNS }
-    requires sound { has_failed writer.old ≡ false }
-    ensures { Puts W.contents writer.old writer.new (letters_text reversed row.now) result }
+pub(crate) fn put_letters<W: Write>(row: &Row, reversed: bool, writer: &mut Watched<W>)
+    requires { length row.now.cells ≡ WIDE_COLUMNS }
+    ensures { Gave W.contents writer.old writer.new (letters_text reversed row.now) }
 {
-    put_text(row, runs_of(row).as_slice(), reversed, writer)
+    put_text(row, runs_of(row).as_slice(), reversed, writer);
 }
 
 /// Writes the letters of runs as one text; nothing where there is no run.
-fn put_text<W: Write>(
-    row: &Row,
-    runs: &[Run],
-    reversed: bool,
-    writer: &mut Watched<W>,
-) -> Result<(), Fault>
+fn put_text<W: Write>(row: &Row, runs: &[Run], reversed: bool, writer: &mut Watched<W>)
     requires whole { length row.now.cells ≡ WIDE_COLUMNS }
     requires runs { All IsRun runs.now }
-    requires sound { has_failed writer.old ≡ false }
-    ensures { Puts W.contents writer.old writer.new (spans_text reversed row.now runs.now) result }
+    ensures { Gave W.contents writer.old writer.new (spans_text reversed row.now runs.now) }
 {
-    writers_join::<W>();
+    gives_join::<W>();
     if runs.is_empty() {
-        return Ok(());
+        return;
     }
-    writer.put(b"<text y=\"15\">")?;
-    put_spans(row, runs, reversed, writer)?;
-    writer.put(b"</text>")?;
-    Ok(())
+    writer.give(b"<text y=\"15\">");
+    put_spans(row, runs, reversed, writer);
+    writer.give(b"</text>");
 }
 
 /// Writes the letters of runs.
-fn put_spans<W: Write>(
-    row: &Row,
-    runs: &[Run],
-    reversed: bool,
-    writer: &mut Watched<W>,
-) -> Result<(), Fault>
+fn put_spans<W: Write>(row: &Row, runs: &[Run], reversed: bool, writer: &mut Watched<W>)
     requires whole { length row.now.cells ≡ WIDE_COLUMNS }
     requires runs { All IsRun runs.now }
-    requires sound { has_failed writer.old ≡ false }
-    ensures { Puts W.contents writer.old writer.new
-        (flat_map (span_text reversed row.now) runs.now) result }
+    ensures { Gave W.contents writer.old writer.new
+        (flat_map (span_text reversed row.now) runs.now) }
 {
-    pieces_join::<W, Run>();
+    gives_join::<W>();
     for run in runs {
-        put_span(row, *run, reversed, writer)?;
+        put_span(row, *run, reversed, writer);
     }
-    Ok(())
 }
 
 /// Writes the letters of a run.
-fn put_span<W: Write>(
-    row: &Row,
-    run: Run,
-    reversed: bool,
-    writer: &mut Watched<W>,
-) -> Result<(), Fault>
+fn put_span<W: Write>(row: &Row, run: Run, reversed: bool, writer: &mut Watched<W>)
     requires whole { length row.now.cells ≡ WIDE_COLUMNS }
     requires run { IsRun run }
-    requires sound { has_failed writer.old ≡ false }
-    ensures { Puts W.contents writer.old writer.new (span_text reversed row.now run) result }
+    ensures { Gave W.contents writer.old writer.new (span_text reversed row.now run) }
 {
     let classes = class_text(letter_classes(run.kind, reversed).as_slice());
     let places = places_text(run);
     let letters = letters_of(cells_of(row, run));
-    writer.put_all(&[
+    writer.give_all(&[
         b"<tspan",
         classes.as_slice(),
         b" x=\"",
@@ -149,7 +123,7 @@ fn put_span<W: Write>(
         b"\">",
         letters.as_slice(),
         b"</tspan>",
-    ])
+    ]);
 }
 
 /// The classes of a run's letters.
@@ -184,17 +158,6 @@ fn places_text(run: Run) -> ArrayVec<u8, PLACES_BYTES>
         push_number(&mut text, 10 * u16::from(before));
     }
     text
-}
-
-/// The cells of a run of a row.
-pub fn cells_of(row: &Row, run: Run) -> &[Cell]
-    requires whole { length row.now.cells ≡ WIDE_COLUMNS }
-    requires run { IsRun run }
-    ensures cells { result.now ≡ cells_of row.now run }
-    ensures few { length result.now ≤ CELLS }
-{
-    let cells = &row.cells[..];
-    &cells[run.before as usize..(run.before + run.len) as usize]
 }
 
 /// The characters of cells.

@@ -2,9 +2,9 @@
 
 ghost use Rattle.std.specs.Prelude.{◌≡◌, ◌≤◌, ◌++◌, OnOk, codes, length, true, false};
 ghost use Rattle.vt_screen.specs.Cells.{row_at};
-ghost use Rattle.tape_core.specs.Devices.{Puts, has_failed, is_flushed};
+ghost use Rattle.tape_core.specs.Devices.{Gave, Puts, has_failed, is_flushed};
 ghost use Rattle.screen_print.specs.Stills.{still_of};
-ghost use Rattle.screen_print.specs.PlainText.{printed_line};
+ghost use Rattle.screen_rows.specs.RowText.{printed_line};
 ghost use Rattle.screen_picture.specs.Cursor.{cursor_text};
 ghost use Rattle.screen_picture.specs.Framed.{rows_text};
 ghost use Rattle.screen_picture.specs.Grounds.{grounds_text};
@@ -25,11 +25,10 @@ use crate::cursor::put_cursor;
 use crate::frames::put_rows;
 use crate::grounds::put_grounds;
 use crate::letters::{back_of, ink_of, letters_of};
-use crate::texts::push_bytes;
 use arrayvec::ArrayVec;
-use screen_print::trimmed;
+use screen_rows::{push_bytes, trimmed};
 use std::io::Write;
-use tape_core::laws::writers_join;
+use tape_core::laws::gives_join;
 use tape_core::{Fault, Watched, seconds_text};
 use vt_screen::Screen;
 use vt_screen::laws::screens_are_sound;
@@ -49,138 +48,109 @@ const TEXT_BYTES: usize = 240;
 /// Draws the screen as one SVG file, with the moment in its title, in microseconds (ours). The file is told by the
 /// moment and the terminal's columns, rows, reversed flag and cursor alone. It takes no memory. After a write fault a
 /// beginning of the file has gone out.
+#[tactic(auto, unfolding(crate::specs::Picture::picture_text))]
 pub fn picture<W: Write>(terminal: &Terminal, at: u64, writer: &mut Watched<W>) -> Result<(), Fault>
     requires { has_failed writer.old ≡ false }
     ensures puts { Puts W.contents writer.old writer.new
         (picture_text at (still_of terminal.now.console)) result }
     ensures flushed { OnOk result (is_flushed writer.new ≡ true) }
 {
-    writers_join::<W>();
-    put_file(terminal, at, writer)?;
-    writer.finish()?;
-    Ok(())
-}
-
-/// Writes the file, and doesn't flush.
-#[tactic(auto, unfolding(crate::specs::Picture::picture_text))]
-fn put_file<W: Write>(terminal: &Terminal, at: u64, writer: &mut Watched<W>) -> Result<(), Fault>
-    requires { has_failed writer.old ≡ false }
-    ensures { Puts W.contents writer.old writer.new
-        (picture_text at (still_of terminal.now.console)) result }
-{
-    writers_join::<W>();
-    put_front(terminal, at, writer)?;
-    put_drawing(terminal, writer)?;
-    put_end(terminal, writer)?;
-    Ok(())
+    gives_join::<W>();
+    put_front(terminal, at, writer);
+    put_drawing(terminal, writer);
+    put_end(terminal, writer);
+    writer.settle()
 }
 
 /// Writes the first line, and the ground of the whole.
-fn put_front<W: Write>(terminal: &Terminal, at: u64, writer: &mut Watched<W>) -> Result<(), Fault>
-    requires { has_failed writer.old ≡ false }
+fn put_front<W: Write>(terminal: &Terminal, at: u64, writer: &mut Watched<W>)
     ensures { let still = still_of terminal.now.console in
-        Puts W.contents writer.old writer.new
-        (first_line at still ++ sheet_text still.wide still.reversed) result }
+        Gave W.contents writer.old writer.new
+        (first_line at still ++ sheet_text still.wide still.reversed) }
 {
-    writers_join::<W>();
-    put_first_line(terminal, at, writer)?;
+    gives_join::<W>();
+    put_first_line(terminal, at, writer);
     let wide = terminal.screen().is_wide();
-    writer.put(sheet_text(wide, terminal.modes().reverse_screen).as_slice())?;
-    Ok(())
+    writer.give(sheet_text(wide, terminal.modes().reverse_screen).as_slice());
 }
 
 /// Writes the grounds of reversed runs, and the rows.
-fn put_drawing<W: Write>(terminal: &Terminal, writer: &mut Watched<W>) -> Result<(), Fault>
-    requires { has_failed writer.old ≡ false }
+fn put_drawing<W: Write>(terminal: &Terminal, writer: &mut Watched<W>)
     ensures { let still = still_of terminal.now.console in
-        Puts W.contents writer.old writer.new
-        (grounds_text still.rows ++ rows_text still.reversed still.rows) result }
+        Gave W.contents writer.old writer.new
+        (grounds_text still.rows ++ rows_text still.reversed still.rows) }
 {
-    writers_join::<W>();
-    put_grounds(terminal.screen(), writer)?;
-    put_rows(terminal.screen(), terminal.modes().reverse_screen, writer)?;
-    Ok(())
+    gives_join::<W>();
+    put_grounds(terminal.screen(), writer);
+    put_rows(terminal.screen(), terminal.modes().reverse_screen, writer);
 }
 
 /// Writes the cursor, and the file's end.
-fn put_end<W: Write>(terminal: &Terminal, writer: &mut Watched<W>) -> Result<(), Fault>
-    requires { has_failed writer.old ≡ false }
+fn put_end<W: Write>(terminal: &Terminal, writer: &mut Watched<W>)
     ensures { let still = still_of terminal.now.console in
-        Puts W.contents writer.old writer.new
-        (cursor_text still.reversed still.rows still.line still.column ++ codes "</svg>\n") result }
+        Gave W.contents writer.old writer.new
+        (cursor_text still.reversed still.rows still.line still.column ++ codes "</svg>\n") }
 {
-    writers_join::<W>();
-    put_cursor(terminal.screen(), terminal.modes().reverse_screen, writer)?;
-    writer.put(b"</svg>\n")?;
-    Ok(())
+    gives_join::<W>();
+    put_cursor(terminal.screen(), terminal.modes().reverse_screen, writer);
+    writer.give(b"</svg>\n");
 }
 
 /// Writes the first line.
 #[tactic(auto, unfolding(crate::specs::Picture::first_line))]
-fn put_first_line<W: Write>(
-    terminal: &Terminal,
-    at: u64,
-    writer: &mut Watched<W>,
-) -> Result<(), Fault>
-    requires { has_failed writer.old ≡ false }
-    ensures { Puts W.contents writer.old writer.new
-        (first_line at (still_of terminal.now.console)) result }
+fn put_first_line<W: Write>(terminal: &Terminal, at: u64, writer: &mut Watched<W>)
+    ensures { Gave W.contents writer.old writer.new
+        (first_line at (still_of terminal.now.console)) }
 {
-    writers_join::<W>();
-    put_title(terminal, at, writer)?;
-    put_plain(terminal.screen(), writer)?;
-    put_style(writer)?;
-    Ok(())
+    gives_join::<W>();
+    put_title(terminal, at, writer);
+    put_plain(terminal.screen(), writer);
+    put_style(writer);
 }
 
 /// Writes the first line to its title's end.
-fn put_title<W: Write>(terminal: &Terminal, at: u64, writer: &mut Watched<W>) -> Result<(), Fault>
-    requires { has_failed writer.old ≡ false }
-    ensures { Puts W.contents writer.old writer.new
-        (title_text at (still_of terminal.now.console)) result }
+fn put_title<W: Write>(terminal: &Terminal, at: u64, writer: &mut Watched<W>)
+    ensures { Gave W.contents writer.old writer.new
+        (title_text at (still_of terminal.now.console)) }
 {
     let wide = terminal.screen().is_wide();
     let opening = opening_text(wide, terminal.modes().reverse_screen);
-    writer.put_all(&[
+    writer.give_all(&[
         opening.as_slice(),
         seconds_text(at).as_bytes(),
         b" s</title><desc>",
-    ])
+    ]);
 }
 
 /// Writes the plain print as it stands in XML.
-fn put_plain<W: Write>(screen: &Screen, writer: &mut Watched<W>) -> Result<(), Fault>
-    requires { has_failed writer.old ≡ false }
-    ensures { Puts W.contents writer.old writer.new
-        (escaped (printed_text screen.now.picture.wide screen.now.picture.rows)) result }
+fn put_plain<W: Write>(screen: &Screen, writer: &mut Watched<W>)
+    ensures { Gave W.contents writer.old writer.new
+        (escaped (printed_text screen.now.picture.wide screen.now.picture.rows)) }
 {
-    writers_join::<W>();
+    gives_join::<W>();
     screens_are_sound(screen);
     for line in 1..LINES + 1 {
-        put_plain_line(screen, line, writer)?;
+        put_plain_line(screen, line, writer);
     }
-    Ok(())
 }
 
 /// Writes a line of the plain print as it stands in XML.
-fn put_plain_line<W: Write>(screen: &Screen, line: u8, writer: &mut Watched<W>) -> Result<(), Fault>
+fn put_plain_line<W: Write>(screen: &Screen, line: u8, writer: &mut Watched<W>)
     requires low { 1 ≤ line }
     requires high { line ≤ LINES }
-    requires sound { has_failed writer.old ≡ false }
-    ensures { let p = screen.now.picture in Puts W.contents writer.old writer.new
-        (escaped (printed_line p.wide (row_at p.rows line))) result }
+    ensures { let p = screen.now.picture in Gave W.contents writer.old writer.new
+        (escaped (printed_line p.wide (row_at p.rows line))) }
 {
     let margin = screen.right_margin(line) as usize;
     let letters = letters_of(trimmed(&screen.row(line).cells[..margin]));
-    writer.put_all(&[letters.as_slice(), b"\n"])
+    writer.give_all(&[letters.as_slice(), b"\n"]);
 }
 
 /// Writes the style, and the first line's end.
-fn put_style<W: Write>(writer: &mut Watched<W>) -> Result<(), Fault>
-    requires { has_failed writer.old ≡ false }
-    ensures { Puts W.contents writer.old writer.new style_text result }
+fn put_style<W: Write>(writer: &mut Watched<W>)
+    ensures { Gave W.contents writer.old writer.new style_text }
 {
-    writer.put_all(&[b"</desc><style>", style(), b"</style>\n"])
+    writer.give_all(&[b"</desc><style>", style(), b"</style>\n"]);
 }
 
 #[tactic(auto, unfolding(crate::specs::Picture::style))]

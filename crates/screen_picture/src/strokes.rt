@@ -1,9 +1,9 @@
 //! The strokes of a row.
 
-ghost use Rattle.std.specs.Prelude.{◌≡◌, ◌≤◌, ◌<◌, ◌++◌, ◌+◌, ◌*◌, All, length, false};
+ghost use Rattle.std.specs.Prelude.{◌≡◌, ◌≤◌, ◌<◌, ◌++◌, ◌+◌, ◌*◌, All, length};
 ghost use Rattle.std.specs.List.{flat_map};
-ghost use Rattle.tape_core.specs.Devices.{Puts, has_failed};
-ghost use Rattle.screen_picture.specs.Runs.{IsRun};
+ghost use Rattle.tape_core.specs.Devices.{Gave};
+ghost use Rattle.screen_rows.specs.Runs.{IsRun};
 ghost use Rattle.screen_picture.specs.Strokes.{
   is_stroked,
   outline_text,
@@ -13,16 +13,14 @@ ghost use Rattle.screen_picture.specs.Strokes.{
   strokes_text,
   underline_text,
 };
-ghost use Rattle.screen_print.specs.EscapedText.{text_where};
+ghost use Rattle.screen_rows.specs.Texts.{text_where};
 
 use crate::letters::{back_of, class_text};
-use crate::outlines::outline;
-use crate::runs::{Kind, Run, runs_of};
-use crate::texts::{push_bytes, push_number};
 use arrayvec::ArrayVec;
+use screen_rows::{Kind, Run, outline, push_bytes, push_number, runs_of};
 use std::io::Write;
-use tape_core::laws::pieces_join;
-use tape_core::{Fault, Watched};
+use tape_core::Watched;
+use tape_core::laws::gives_join;
 use vt_screen::Row;
 use vt_screen::limits::WIDE_COLUMNS;
 
@@ -31,62 +29,45 @@ const STROKES_BYTES: usize = 7984;
 
 /// Writes the strokes of a row.
 #[tactic(auto, unfolding(crate::specs::Strokes::strokes_text))]
-pub(crate) fn put_strokes<W: Write>(
-    row: &Row,
-    reversed: bool,
-    writer: &mut Watched<W>,
-) -> Result<(), Fault>
-    requires whole { length row.now.cells ≡ WIDE_COLUMNS }
-    requires sound { has_failed writer.old ≡ false }
-    ensures { Puts W.contents writer.old writer.new (strokes_text reversed row.now) result }
+pub(crate) fn put_strokes<W: Write>(row: &Row, reversed: bool, writer: &mut Watched<W>)
+    requires { length row.now.cells ≡ WIDE_COLUMNS }
+    ensures { Gave W.contents writer.old writer.new (strokes_text reversed row.now) }
 {
-    put_runs(row, runs_of(row).as_slice(), reversed, writer)
+    put_runs(row, runs_of(row).as_slice(), reversed, writer);
 }
 
 /// Writes the strokes of runs.
-fn put_runs<W: Write>(
-    row: &Row,
-    runs: &[Run],
-    reversed: bool,
-    writer: &mut Watched<W>,
-) -> Result<(), Fault>
+fn put_runs<W: Write>(row: &Row, runs: &[Run], reversed: bool, writer: &mut Watched<W>)
     requires whole { length row.now.cells ≡ WIDE_COLUMNS }
     requires runs { All IsRun runs.now }
-    requires sound { has_failed writer.old ≡ false }
-    ensures { Puts W.contents writer.old writer.new
-        (flat_map (stroke_text reversed row.now) runs.now) result }
+    ensures { Gave W.contents writer.old writer.new
+        (flat_map (stroke_text reversed row.now) runs.now) }
 {
-    pieces_join::<W, Run>();
+    gives_join::<W>();
     for run in runs {
-        put_run(row, *run, reversed, writer)?;
+        put_run(row, *run, reversed, writer);
     }
-    Ok(())
 }
 
 /// Writes the strokes of a run.
-fn put_run<W: Write>(
-    row: &Row,
-    run: Run,
-    reversed: bool,
-    writer: &mut Watched<W>,
-) -> Result<(), Fault>
+fn put_run<W: Write>(row: &Row, run: Run, reversed: bool, writer: &mut Watched<W>)
     requires whole { length row.now.cells ≡ WIDE_COLUMNS }
     requires run { IsRun run }
-    requires sound { has_failed writer.old ≡ false }
-    ensures { Puts W.contents writer.old writer.new (stroke_text reversed row.now run) result }
+    ensures { Gave W.contents writer.old writer.new (stroke_text reversed row.now run) }
 {
+    gives_join::<W>();
     if !is_stroked(run.kind) {
-        return writer.put(b"");
+        return;
     }
     let classes = class_text(stroke_classes(run.kind, reversed).as_slice());
     let lines = lines_of(row, run);
-    writer.put_all(&[
+    writer.give_all(&[
         b"<path",
         classes.as_slice(),
         b" d=\"",
         lines.as_slice(),
         b"\"/>",
-    ])
+    ]);
 }
 
 /// Whether a run has strokes.

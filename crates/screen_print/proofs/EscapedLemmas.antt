@@ -8,7 +8,8 @@ use Rattle.vt_screen.specs.declared.cell.Size.{Size}
 use Rattle.vt_screen.specs.Cells.{blank_row, row_at}
 use Rattle.vt_screen.specs.Table.{nth}
 use Rattle.screen_print.specs.declared.escaped_print.Pen.{Pen}
-use Rattle.screen_print.specs.EscapedText.{cell_text, pen_of, cells_text, pen_after, inked, is_left_out, placed_text, size_text, line_text, pen_after_line, lines_text, pen_after_lines}
+use Rattle.screen_print.specs.EscapedText.{cell_text, pen_of, cells_text, pen_after, is_left_out, placed_text, size_text, line_text, pen_after_line, lines_text, pen_after_lines}
+use Rattle.screen_rows.specs.Ink.{inked}
 
 -- joined cells are written as their parts in turn
 pub cells_text-append : (pen : Pen) (xs ys : List Cell) → cells_text pen (xs ++ ys) ≡ cells_text pen xs ++ cells_text (pen_after pen xs) ys

@@ -8,18 +8,14 @@ use Rattle.vt_screen.specs.declared.cell.Row.{Row}
 use Rattle.vt_screen.specs.Cells.{blank_row, row_at}
 use Rattle.vt_screen.specs.Picture.{margin_of}
 use Rattle.screen_print.specs.declared.standing.Place.{Place}
-use Rattle.screen_print.specs.FindLines.{begins, ends_line, line_text_from, place_in, places_from, places_in, row_text, row_texts, rows_reaching, standing}
-use Rattle.screen_print.specs.Glyphs.{character}
+use Rattle.screen_print.specs.FindLines.{begins, ends_line, line_text_from, place_in, places_from, places_in, row_texts, rows_reaching, standing}
+use Rattle.screen_rows.specs.RowText.{row_text}
+use Rattle.screen_rows.specs.Glyphs.{character}
 use Rattle.screen_print.specs.Places.{IsPlace}
 use Rattle.screen_print.specs.Stills.{Still}
-use Rattle.screen_print.proofs.RowLemmas.{nth_is, range_more}
+use Rattle.screen_print.proofs.RowLemmas.{nth_is}
+use Rattle.screen_rows.proofs.RangeLemmas.{range_more}
 use Rattle.screen_print.proofs.WalkLemmas.{one_more, texts_around, texts_from}
-
-pub row_text_len : (wide : Bool) (row : Row) (margin : ℕ) → margin ≡ margin_of wide row.size → margin ≤ 132
-    → length row.cells ≡ 132 → length (row_text wide row) ≡ margin
-row_text_len wide row margin at high whole =
-    length-map (take (margin_of wide row.size) row.cells) (λ cell. character cell.glyph)
-    ∙ length-take-le (margin_of wide row.size) row.cells (omega (arith, at)) ∙ sym at
 
 -- the rows' texts from one on
 pub texts_at : (still : Still) (line : ℕ) → length still.rows ≡ 24 → 1 ≤ line → line ≤ 24

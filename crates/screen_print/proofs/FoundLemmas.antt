@@ -10,10 +10,10 @@ use Rattle.vt_screen.specs.declared.cell.Cell.{Cell}
 use Rattle.vt_screen.specs.Cells.{blank, row_at}
 use Rattle.vt_screen.specs.Picture.{margin_of}
 use Rattle.screen_print.specs.declared.standing.Place.{Place}
-use Rattle.screen_print.specs.FindLines.{found_rows, row_text, row_texts, rows_at, rows_reaching}
-use Rattle.screen_print.specs.Glyphs.{character, special_graphics}
+use Rattle.screen_print.specs.FindLines.{found_rows, row_texts, rows_at, rows_reaching}
+use Rattle.screen_rows.specs.RowText.{row_text, is_space, printed_line, trimmed}
+use Rattle.screen_rows.specs.Glyphs.{character, special_graphics}
 use Rattle.screen_print.specs.Places.{IsPlace}
-use Rattle.screen_print.specs.PlainText.{is_space, printed_line, trimmed}
 use Rattle.screen_print.specs.Stills.{Still}
 use Rattle.screen_print.proofs.FindLemmas.{enough, texts_at}
 

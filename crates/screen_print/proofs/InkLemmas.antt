@@ -7,8 +7,8 @@ use Rattle.std.proofs.lemmas.List.Sums.{suffix_len-take_yes, suffix_len-take_no}
 use Rattle.vt_screen.specs.declared.cell.Row.{Row}
 use Rattle.vt_screen.specs.Cells.{blank, cell_at}
 use Rattle.vt_screen.specs.Table.{nth}
-use Rattle.screen_print.specs.EscapedText.{is_blank}
-use Rattle.screen_print.proofs.RowLemmas.{same_cell_decides}
+use Rattle.screen_rows.specs.Ink.{is_blank}
+use Rattle.screen_rows.proofs.SameLemmas.{same_cell_decides}
 
 pub true_or_false : (b : Bool) → (b ≡ true) ⊎ (b ≡ false)
 true_or_false true = inl refl

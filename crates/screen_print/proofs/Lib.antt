@@ -1,4 +1,3 @@
-mod GlyphLemmas
 mod PlainLemmas
 mod RowLemmas
 mod StillLemmas

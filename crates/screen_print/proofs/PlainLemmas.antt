@@ -8,16 +8,8 @@ use Rattle.vt_screen.specs.declared.cell.Row.{Row}
 use Rattle.vt_screen.specs.Cells.{blank_row, row_at}
 use Rattle.vt_screen.specs.Picture.{Picture, margin_of}
 use Rattle.vt_screen.specs.Table.{nth}
-use Rattle.screen_print.specs.PlainText.{printed, trimmed, printed_line, plain_text}
-
--- what is printed of a line: all the cells that are left without the spaces at its end
-pub printed_line_is : (wide : Bool) (row : Row) (margin n : ℕ) (cells : List Cell) (bytes : List ℕ) → margin ≡ margin_of wide row.size
-    → cells ≡ trimmed (take margin row.cells) → length cells ≤ n → bytes ≡ flat_map printed (take n cells)
-    → bytes ++ 10 ∷ [] ≡ printed_line wide row
-unfolding printed_line
-printed_line_is wide row margin n cells bytes at_margin left whole same =
-    let all : take n cells ≡ cells = take_all n _ whole in
-    rw (same, all, left, at_margin) refl
+use Rattle.screen_print.specs.PlainText.{plain_text}
+use Rattle.screen_rows.specs.RowText.{printed, trimmed, printed_line}
 
 -- the text of the first lines
 abbrev pub first_lines : Picture → ℕ → List ℕ

@@ -7,19 +7,21 @@ use Rattle.std.proofs.lemmas.Bool.Decides.{Decides-eqb}
 use Rattle.std.proofs.lemmas.Slice.Eq.{slice_eq-Decides}
 use Rattle.vt_screen.specs.declared.cell.Cell.{Cell}
 use Rattle.vt_screen.specs.declared.cell.Row.{Row}
-use Rattle.screen_print.specs.Glyphs.{character}
+use Rattle.screen_rows.specs.Glyphs.{character}
 use Rattle.std.proofs.lemmas.List.FromFn.{length-range_with_len}
 use Rattle.std.proofs.lemmas.List.Sums.{count_by_more_yes, length-filter, sum_by-take-le}
 use Rattle.std.proofs.lemmas.List.{drop-append-le, drop-take, drop-map, get_or_append_left, get_or_default, get_or-map, get_or-take, length-map, take-append-le, take-map, take-take, take_all, take_more, take_rest}
 use Rattle.std.proofs.lemmas.List.Elements.{All-append, All-filter, All-map, All-nil, filter-append}
 use Rattle.vt_screen.specs.Cells.{row_at}
 use Rattle.screen_print.specs.declared.standing.Place.{Place}
-use Rattle.screen_print.specs.FindLines.{begins, ends_line, find_text, is_less, left_of, less_line, less_lines, line_text_from, place_in, places_from, places_in, row_text, row_texts, standing}
-use Rattle.screen_print.specs.Quiet.{AllPlacesStay, BeginsUpTo, LineStays, PlacesStay, RowStays, characters, columns_in, columns_of}
+use Rattle.screen_print.specs.FindLines.{begins, ends_line, find_text, is_less, left_of, less_line, less_lines, line_text_from, place_in, places_from, places_in, row_texts, standing}
+use Rattle.screen_rows.specs.RowText.{row_text, characters}
+use Rattle.screen_print.specs.Quiet.{AllPlacesStay, BeginsUpTo, LineStays, PlacesStay, RowStays, columns_in, columns_of}
 use Rattle.screen_print.specs.Stills.{Still}
 use Rattle.screen_print.proofs.FindLemmas.{line_ends, no_texts, texts_at}
 use Rattle.screen_print.proofs.StillLemmas.{in_range}
-use Rattle.screen_print.proofs.WalkLemmas.{none_in, range_split}
+use Rattle.screen_print.proofs.WalkLemmas.{none_in}
+use Rattle.screen_rows.proofs.RangeLemmas.{range_split}
 
 -- ---- columns
 

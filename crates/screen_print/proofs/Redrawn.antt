@@ -35,11 +35,13 @@ use Rattle.vt_term.specs.Sequences.{param_or, rendition_set}
 use Rattle.vt_term.specs.Sets.{glyph_of, set_in}
 use Rattle.vt_term.specs.Term.{Term}
 use Rattle.screen_print.specs.declared.escaped_print.Pen.{Pen}
-use Rattle.screen_print.specs.EscapedText.{opening_text, closing_text, escaped_text, text_where, first_pen, rendition_set_text, same_rendition, slot_for, slot_text, byte_for, cell_text, pen_of, cells_text, pen_after, placed_text, size_text, inked, is_left_out, line_text, pen_after_line, lines_text, pen_after_lines}
+use Rattle.screen_print.specs.EscapedText.{opening_text, closing_text, escaped_text, first_pen, rendition_set_text, slot_for, slot_text, byte_for, cell_text, pen_of, cells_text, pen_after, placed_text, size_text, is_left_out, line_text, pen_after_line, lines_text, pen_after_lines}
+use Rattle.screen_rows.specs.Texts.{text_where}
+use Rattle.screen_rows.specs.Ink.{same_rendition, inked}
 use Rattle.screen_print.specs.Redrawn.{DrawsAgain}
 use Rattle.screen_print.proofs.EscapedLemmas.{none_inked, cells_text_more, pen_after_more, left_out_text, left_out_pen, written_text, no_lines_text, no_lines_pen, lines_text_more, pen_after_lines_more, all_lines_text}
 use Rattle.screen_print.proofs.InkLemmas.{true_or_false, cell_next, ink, blank_past_ink, ink_within}
-use Rattle.screen_print.proofs.RowLemmas.{byte_apart}
+use Rattle.screen_rows.proofs.SameLemmas.{byte_apart}
 
 -- ---- what this stands on
 

@@ -7,9 +7,9 @@ use Rattle.std.proofs.lemmas.Slice.Eq.{slice_eq-Decides}
 use Rattle.std.proofs.lemmas.List.{drop-append-le, drop-map, length-drop, length-map, length-take, take_rest}
 use Rattle.vt_screen.specs.declared.cell.Cell.{Cell}
 use Rattle.vt_screen.specs.Cells.{row_at}
-use Rattle.screen_print.specs.FindLines.{ends_line, line_text_from, row_text, row_texts}
-use Rattle.screen_print.specs.Glyphs.{character}
-use Rattle.screen_print.specs.Quiet.{characters}
+use Rattle.screen_print.specs.FindLines.{ends_line, line_text_from, row_texts}
+use Rattle.screen_rows.specs.RowText.{row_text, characters}
+use Rattle.screen_rows.specs.Glyphs.{character}
 use Rattle.screen_print.specs.Stills.{Still}
 use Rattle.screen_print.proofs.FindLemmas.{no_texts, texts_at}
 use Rattle.screen_print.proofs.QuietLemmas.{line_is}

@@ -1,5 +1,5 @@
 -- Short texts: where one begins in a row is told by that row and the next one.
-use Rattle.std.proofs.Common.{◌≡◌, ◌⊎◌, ℕ, zero, suc, ◌+◌, ◌-◌, ◌<◌, ◌≤◌, Bool, true, false, List, [], ◌∷◌, ◌++◌, length, get_or, take, drop, refl, ap, sym, ◌∙◌, subst, arith, append_assoc, cond, inl, inr}
+use Rattle.std.proofs.Common.{◌≡◌, ◌⊎◌, ℕ, zero, suc, ◌+◌, ◌-◌, ◌<◌, ◌≤◌, Bool, true, false, List, [], ◌∷◌, ◌++◌, length, get_or, drop, refl, ap, sym, ◌∙◌, subst, arith, append_assoc, cond, inl, inr}
 use Rattle.std.specs.List.{All}
 use Rattle.std.proofs.lemmas.Bool.{cases_Bool, cases_lt}
 use Rattle.std.proofs.lemmas.List.{get_or_default, length-append, take-append-le}
@@ -8,11 +8,13 @@ use Rattle.vt_screen.specs.declared.cell.Size.{Size}
 use Rattle.vt_screen.specs.declared.cell.Size.TheVariants.{Single}
 use Rattle.vt_screen.specs.Cells.{row_at}
 use Rattle.vt_screen.specs.Picture.{margin_of}
-use Rattle.screen_print.specs.FindLines.{begins, ends_line, line_text_from, row_text, row_texts}
+use Rattle.screen_print.specs.FindLines.{begins, ends_line, line_text_from, row_texts}
+use Rattle.screen_rows.specs.RowText.{row_text}
 use Rattle.screen_print.specs.Quiet.{LineStays, PlacesStay, SamePlacesStay, columns_of}
-use Rattle.screen_print.specs.SameRows.{changed_lines}
+use Rattle.screen_rows.specs.SameRows.{changed_lines}
 use Rattle.screen_print.specs.Stills.{Still}
-use Rattle.screen_print.proofs.FindLemmas.{line_ends, no_texts, row_text_len, texts_at}
+use Rattle.screen_print.proofs.FindLemmas.{line_ends, no_texts, texts_at}
+use Rattle.screen_rows.proofs.TextLemmas.{row_text_len}
 use Rattle.screen_print.proofs.QuietLemmas.{begins_alike, line_is, row_places, same_in, same_places, same_row_stays, texts_same}
 use Rattle.screen_print.proofs.StillLemmas.{IsIn, differs_or_same, line_within}
 

@@ -14,9 +14,9 @@ use Rattle.vt_screen.specs.Cells.{blank}
 use Rattle.vt_screen.specs.Picture.{margin_of}
 use Rattle.screen_print.specs.declared.start.Start.{Start}
 use Rattle.screen_print.specs.declared.start.Wanted.{Wanted}
-use Rattle.screen_print.specs.FindLines.{row_text}
-use Rattle.screen_print.specs.Glyphs.{character, special_graphics}
-use Rattle.screen_print.specs.Quiet.{BeginsUpTo, characters}
+use Rattle.screen_rows.specs.RowText.{row_text, characters}
+use Rattle.screen_rows.specs.Glyphs.{character, special_graphics}
+use Rattle.screen_print.specs.Quiet.{BeginsUpTo}
 use Rattle.screen_print.specs.Start.{IsStart, Wants, fits, starts_at, starts_at_end}
 use Rattle.screen_print.proofs.QuietLemmas.{differs_at}
 

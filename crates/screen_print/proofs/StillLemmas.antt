@@ -1,4 +1,4 @@
--- Stills: narrow rows, and rows that are copied where they differ.
+-- Stills: rows that are copied where they differ.
 use Rattle.std.proofs.Common.{◌≡◌, ◌⊎◌, ℕ, zero, suc, ◌+◌, ◌-◌, ◌<◌, ◌≤◌, Bool, false, List, [], ◌∷◌, length, get_or, set, subst, All, take, drop, filter, refl, ap, sym, ◌∙◌, arith, inl, inr}
 use Rattle.std.specs.Cmp.Lexicographic.{pointwise}
 use Rattle.std.specs.List.{range_with_len}
@@ -14,49 +14,9 @@ use Rattle.vt_screen.specs.declared.cell.Size.TheVariants.{Single, Double, Top, 
 use Rattle.vt_screen.specs.Cells.{blank, cell_at, row_at}
 use Rattle.vt_screen.specs.Picture.{SoundRow, margin_of}
 use Rattle.vt_screen.specs.Table.{nth}
-use Rattle.screen_print.specs.SameRows.{changed_lines, is_changed, same_cell, same_row}
-use Rattle.screen_print.proofs.RowLemmas.{same_cell_decides, same_row_decides, same_truth, row_set_same, row_set_other}
-
--- ---- narrow rows
-
--- right of column 80 the cells of a narrow row are blank
-margin_low : (size : Size) → margin_of false size ≤ 80
-margin_low Single = omega arith
-margin_low Double = omega arith
-margin_low Top = omega arith
-margin_low Bottom = omega arith
-
-cell_is : (row : Row) (k : ℕ) → cell_at row (k + 1) ≡ get_or row.cells k blank
-unfolding nth
-cell_is row k = ap (λ i. get_or row.cells i blank) (omega arith)
-
-blank_behind : (row : Row) (k : ℕ) → SoundRow false row → 80 ≤ k → get_or row.cells k blank ≡ blank
-blank_behind row k sound high = sym (cell_is row k) ∙ sound.blank_right (k + 1) (omega (arith, margin_low row.size))
-
--- cells of which the first 80 are the same
-same_front : (one other : Row) (k : ℕ) → SoundRow false one → SoundRow false other
-    → take 80 one.cells ≡ take 80 other.cells → get_or one.cells k blank ≡ get_or other.cells k blank
-same_front one other k sound sound' same = elim (cases_lt k 80) [
-  | inl lt ↦ sym (get_or-take 80 one.cells k blank lt) ∙ ap (λ (l : List Cell). get_or l k blank) same ∙ get_or-take 80 other.cells k blank lt
-  | inr ge ↦ blank_behind one k sound ge ∙ sym (blank_behind other k sound' ge)
-]
-
-same_whole : (one other : Row) → SoundRow false one → SoundRow false other → take 80 one.cells ≡ take 80 other.cells → one.cells ≡ other.cells
-same_whole one other sound sound' same =
-    fill_by_all (λ k. get_or other.cells k blank) one.cells 132 blank sound.cells (λ k lt. same_front one other k sound sound' same)
-    ∙ sym (fill_by_all (λ k. get_or other.cells k blank) other.cells 132 blank sound'.cells (λ k lt. refl))
-
--- so the first 80 cells tell whether all are the same
-pub narrow_same : (one other : Row) → SoundRow false one → SoundRow false other
-    → pointwise same_cell (take 80 one.cells) (take 80 other.cells) ≡ pointwise same_cell one.cells other.cells
-narrow_same one other sound sound' =
-    let front = slice_eq-Decides same_cell_decides (take 80 one.cells) (take 80 other.cells) (pointwise same_cell (take 80 one.cells) (take 80 other.cells)) refl in
-    let whole = slice_eq-Decides same_cell_decides one.cells other.cells (pointwise same_cell one.cells other.cells) refl in
-    same_truth (pointwise same_cell (take 80 one.cells) (take 80 other.cells)) (pointwise same_cell one.cells other.cells)
-    (λ h. whole.1 (same_whole one other sound sound' (front.0 h)))
-    (λ h. front.1 (ap (take 80) (whole.0 h)))
-
--- ---- rows that are copied
+use Rattle.screen_rows.specs.SameRows.{changed_lines, is_changed, same_cell, same_row}
+use Rattle.screen_print.proofs.RowLemmas.{row_set_same, row_set_other}
+use Rattle.screen_rows.proofs.SameLemmas.{same_cell_decides, same_row_decides, same_truth}
 
 -- a number is one of these, or something holds
 abbrev pub IsIn : List ℕ → ℕ → Type 0 → Type 0

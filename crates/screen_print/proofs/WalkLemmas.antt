@@ -1,12 +1,13 @@
 -- The texts of chunks, one after another.
-use Rattle.std.proofs.Common.{◌≡◌, ℕ, zero, suc, ◌+◌, ◌-◌, ◌<◌, ◌≤◌, Bool, true, false, ◌&&◌, List, [], ◌∷◌, ◌++◌, length, filter, nat_le, nat_lt, Option, None, Some, refl, ap, sym, ◌∙◌, arith, inl, inr, add-zero, append-nil}
+use Rattle.std.proofs.Common.{◌≡◌, ℕ, zero, suc, ◌+◌, ◌-◌, ◌<◌, ◌≤◌, Bool, true, false, ◌&&◌, List, [], ◌∷◌, ◌++◌, length, filter, nat_le, nat_lt, Option, None, Some, refl, ap, sym, ◌∙◌, arith, inl, inr, add-zero, append-nil, append_assoc}
 use Rattle.std.specs.List.{flat_map, range_with_len}
 use Rattle.std.proofs.lemmas.Bool.{cases_lt, lt-ltb, le-ltb, le-leb, lt-leb}
 use Rattle.std.proofs.lemmas.List.Concat.{flat_map-append}
 use Rattle.std.proofs.lemmas.List.Elements.{filter-append}
 use Rattle.tape_core.specs.declared.chunk.Chunk.{Chunk}
 use Rattle.tape_core.specs.declared.devices.Watched.{Watched}
-use Rattle.tape_core.specs.Devices.{TookPart}
+use Rattle.tape_core.specs.Devices.{Gave, TookPart}
+use Rattle.tape_core.proofs.GaveLemmas.{gave_early, gave_join}
 use Rattle.tape_core.specs.Due.{due_count, due_time}
 use Rattle.tape_core.specs.Tape.{Tape}
 use Rattle.tape_core.specs.Law.{DueIsBelowTheCount}
@@ -14,10 +15,8 @@ use Rattle.tape_seek.specs.Edits.{edited_all}
 use Rattle.tape_seek.specs.State.{KeepsHistory, State}
 use Rattle.vt_term.specs.declared.profile.Profile.{Profile}
 use Rattle.screen_print.specs.Walk.{ChunkText, is_asked, still_after, text_at, walk_text}
-use Rattle.screen_print.specs.declared.walk.ChangesFault.{ChangesFault}
-use Rattle.screen_print.specs.declared.walk.ChangesFault.TheVariants.{Write, Memory}
-use Rattle.screen_print.specs.Stops.{OnlySeeks, StopsWalk, first_asked}
-use Rattle.screen_print.proofs.RowLemmas.{range_more}
+use Rattle.screen_print.specs.Stops.{OnlySeeks, StopsSound, first_asked}
+use Rattle.screen_rows.proofs.RangeLemmas.{range_more, range_split}
 
 -- ---- seeks
 
@@ -43,16 +42,6 @@ pub one_more : (f : ℕ → List ℕ) (start n : ℕ) → texts_from f start (n 
 one_more f start n =
     ap (flat_map f) (range_more start n) ∙ flat_map-append f (range_with_len start n) ((start + n) ∷ [])
     ∙ ap (λ l. texts_from f start n ++ l) (append-nil (f (start + n)))
-
--- numbers in two parts
-pub range_split : (a m n : ℕ) → range_with_len a (m + n) ≡ range_with_len a m ++ range_with_len (a + m) n
-range_split a zero n =
-    let same : 0 + n ≡ n = omega arith in
-    ap (range_with_len a) same ∙ ap (λ b. range_with_len b n) (sym (add-zero a))
-range_split a (suc m) n =
-    let longer : suc m + n ≡ suc (m + n) = omega arith in
-    let there : a + 1 + m ≡ a + suc m = omega arith in
-    ap (range_with_len a) longer ∙ ap (λ l. a ∷ l) (range_split (a + 1) m n ∙ ap (λ b. range_with_len (a + 1) m ++ range_with_len b n) there)
 
 pub texts_around : (f : ℕ → List ℕ) (start n all : ℕ) → n < all
     → texts_from f start all
@@ -94,12 +83,17 @@ pub still_stays : (a b : State) (count : ℕ) → OnlySeeks a b → still_after 
 still_stays a b count h =
     ap (λ p. still_after p b.recording count) h.profile ∙ ap (λ t. still_after a.profile t count) h.recording
 
--- a walk that ends in one text ends in the whole of them, where a writer's failing does
-pub stops_within : {T : Type 0} (contents : T → Option (List ℕ)) (old mid new : Watched T) (part whole : List ℕ) (fault : ChangesFault)
-    → ((failed : Bool) → TookPart contents mid new part failed → TookPart contents old new whole failed)
-    → StopsWalk contents mid new part fault → StopsWalk contents old new whole fault
-stops_within contents old mid new part whole Write grows h = grows true h
-stops_within contents old mid new part whole Memory grows h = grows false h
+-- a walk that memory was refused to, alone and between two texts
+pub ends_sound : {T : Type 0} (contents : T → Option (List ℕ)) (a b : Watched T) (text : List ℕ) → StopsSound contents a b text
+    → TookPart contents a b text false
+ends_sound contents a b text h = gave_early contents a b text h.front h.rest false h.cut h.sound h.gave
+
+pub ends_between : {T : Type 0} (contents : T → Option (List ℕ)) (a b c : Watched T) (text x y z : List ℕ) → text ≡ x ++ y ++ z
+    → StopsSound contents b c y → Gave contents a b x → TookPart contents a c text false
+ends_between contents a b c text x y z cut h gave =
+    gave_early contents a c text (x ++ h.front) (h.rest ++ z) false
+    (cut ∙ ap (λ t. (x ++ t) ++ z) h.cut ∙ ap (λ t. t ++ z) (sym (append_assoc x h.front h.rest)) ∙ append_assoc (x ++ h.front) h.rest z)
+    h.sound (gave_join contents a b c x h.front gave h.gave)
 
 -- ---- which chunks are asked for
 
@@ -199,3 +193,12 @@ asked_none law text profile tape from to none =
       | inl lt ↦ early law tape.chunks from to i (omega arith) lt
       | inr ge ↦ past_due law tape.chunks from to i (omega arith) (omega arith)
     ]))
+
+-- the texts so far, and those that are left
+pub texts_left : (f : ℕ → List ℕ) (start end index : ℕ) → start ≤ index → index ≤ end
+    → texts_from f start (end - start) ≡ texts_from f start (index - start) ++ texts_from f (start + (index - start)) (end - start - (index - start))
+texts_left f start end index low high =
+    let n = index - start in
+    let parts : n + (end - start - n) ≡ end - start = omega arith in
+    ap (texts_from f start) (sym parts) ∙ ap (flat_map f) (range_split start n (end - start - n))
+    ∙ flat_map-append f (range_with_len start n) (range_with_len (start + n) (end - start - n))

@@ -5,7 +5,7 @@ use Rattle.std.specs.List.{flat_map}
 use Rattle.tape_core.specs.Tape.{Tape}
 use Rattle.tape_core.specs.Written.{seconds_form}
 use Rattle.vt_term.specs.declared.profile.Profile.{Profile}
-use Rattle.screen_print.specs.SameRows.{changed_lines}
+use Rattle.screen_rows.specs.SameRows.{changed_lines}
 use Rattle.screen_print.specs.Stills.{Still}
 use Rattle.screen_print.specs.Walk.{walk_text}
 

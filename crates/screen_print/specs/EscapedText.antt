@@ -1,22 +1,18 @@
 -- The escaped print: a text that draws on a reset terminal what a terminal shows (ours).
-use Rattle.std.specs.Prelude.{ℕ, ◌+◌, ◌-◌, Bool, true, false, List, [], ◌∷◌, ◌++◌, length, take, codes, decimal, nat_lt, ◌==◌, ◌&&◌, if◌then◌else◌}
-use Rattle.std.specs.List.{suffix_len}
+use Rattle.std.specs.Prelude.{ℕ, ◌+◌, Bool, List, [], ◌∷◌, ◌++◌, length, codes, decimal, nat_lt, ◌==◌, ◌&&◌, if◌then◌else◌}
 use Rattle.vt_parser.specs.Syntax.{escape}
 use Rattle.vt_screen.specs.declared.cell.Cell.{Cell}
 use Rattle.vt_screen.specs.declared.cell.Row.{Row}
 use Rattle.vt_screen.specs.declared.cell.Size.{Size}
 use Rattle.vt_screen.specs.declared.cell.Size.TheVariants.{Single, Double, Top, Bottom}
-use Rattle.vt_screen.specs.Attributes.{Attributes, plain, byte_of}
+use Rattle.vt_screen.specs.Attributes.{Attributes, plain}
 use Rattle.vt_screen.specs.Cells.{is_single}
+use Rattle.screen_rows.specs.Ink.{inked, same_rendition}
+use Rattle.screen_rows.specs.Texts.{text_where}
 use Rattle.vt_term.specs.declared.sets.Slot.{Slot}
 use Rattle.vt_term.specs.declared.sets.Slot.TheVariants.{G0, G1}
 use Rattle.vt_term.specs.Console.{Console}
 use Rattle.screen_print.specs.declared.escaped_print.Pen.{Pen}
-
--- a text, or none
-abbrev pub text_where : Bool → List ℕ → List ℕ
-text_where true text = text
-text_where false text = []
 
 -- ---- cells
 
@@ -33,10 +29,6 @@ rendition_set_text a =
     ++ text_where a.blink (codes ";5")
     ++ text_where a.reverse (codes ";7")
     ++ codes "m"
-
--- the same attributes, told by their bytes
-abbrev pub same_rendition : Attributes → Attributes → Bool
-same_rendition one other = byte_of one == byte_of other
 
 -- SGR where a rendition isn't the one in force
 abbrev pub rendition_text : Attributes → Attributes → List ℕ
@@ -91,14 +83,6 @@ size_text Single = []
 size_text Top = escape ∷ codes "#3"
 size_text Bottom = escape ∷ codes "#4"
 size_text Double = escape ∷ codes "#6"
-
--- a space without rendition; the blank of the special graphics is another
-abbrev pub is_blank : Cell → Bool
-is_blank cell = (cell.glyph == 32) && same_rendition cell.rendition plain
-
--- cells to the last one that isn't blank
-abbrev pub inked : List Cell → List Cell
-inked cells = take (length cells - suffix_len is_blank cells) cells
 
 -- whether nothing is written of a line with such cells: it has single width, and none that isn't
 -- blank

@@ -5,20 +5,14 @@ use Rattle.std.specs.Fmt.{decimal}
 use Rattle.std.specs.List.{count_by, flat_map, range_with_len, starts_with, suffix_len}
 use Rattle.tape_core.specs.Tape.{Tape}
 use Rattle.tape_core.specs.Written.{seconds_form}
-use Rattle.vt_screen.specs.declared.cell.Row.{Row}
 use Rattle.vt_screen.specs.Cells.{row_at}
-use Rattle.vt_screen.specs.Picture.{margin_of}
 use Rattle.vt_term.specs.declared.profile.Profile.{Profile}
 use Rattle.screen_print.specs.declared.standing.Place.{Place}
-use Rattle.screen_print.specs.Glyphs.{character}
+use Rattle.screen_rows.specs.RowText.{row_text}
 use Rattle.screen_print.specs.Stills.{Still}
 use Rattle.screen_print.specs.Walk.{walk_text}
 
 -- ---- lines
-
--- the text of a row: its characters, one a cell, from column 1 to its right margin
-abbrev pub row_text : Bool → Row → List ℕ
-row_text wide row = map (λ cell. character cell.glyph) (take (margin_of wide row.size) row.cells)
 
 -- the texts of a screen's rows
 abbrev pub row_texts : Still → List (List ℕ)

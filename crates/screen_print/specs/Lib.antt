@@ -1,8 +1,6 @@
-pub mod Glyphs
 pub mod PlainText
 pub mod EscapedText
 pub mod Redrawn
-pub mod SameRows
 pub mod Stills
 pub mod View
 pub mod Walk

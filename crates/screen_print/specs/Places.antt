@@ -3,7 +3,7 @@ use Rattle.std.specs.Prelude.{◌≤◌, length}
 use Rattle.vt_screen.specs.Cells.{row_at}
 use Rattle.vt_screen.specs.Limits.{line_count}
 use Rattle.screen_print.specs.declared.standing.Place.{Place}
-use Rattle.screen_print.specs.FindLines.{row_text}
+use Rattle.screen_rows.specs.RowText.{row_text}
 use Rattle.screen_print.specs.Stills.{Still}
 
 -- a line and a column of a still

@@ -1,16 +1,11 @@
 -- Private: rows of which what they show of a text stays, whatever rows stand behind them.
-use Rattle.std.specs.Prelude.{◌≡◌, ℕ, ◌-◌, ◌<◌, ◌≤◌, false, List, ◌∷◌, ◌++◌, drop, filter, length, map, take}
+use Rattle.std.specs.Prelude.{◌≡◌, ℕ, ◌-◌, ◌<◌, ◌≤◌, false, List, ◌∷◌, ◌++◌, drop, filter, length, take}
 use Rattle.std.specs.List.{All, range_with_len}
-use Rattle.vt_screen.specs.declared.cell.Cell.{Cell}
 use Rattle.vt_screen.specs.Cells.{row_at}
 use Rattle.vt_screen.specs.Limits.{line_count}
-use Rattle.screen_print.specs.FindLines.{begins, left_of, line_text_from, place_in, row_text, row_texts}
-use Rattle.screen_print.specs.Glyphs.{character}
+use Rattle.screen_print.specs.FindLines.{begins, left_of, line_text_from, place_in, row_texts}
+use Rattle.screen_rows.specs.RowText.{row_text}
 use Rattle.screen_print.specs.Stills.{Still}
-
--- the characters of cells
-abbrev pub characters : List Cell → List ℕ
-characters cells = map (λ cell. character cell.glyph) cells
 
 -- behind so many characters of a row the text begins nowhere, whatever follows the row
 abbrev pub BeginsUpTo : List ℕ → ℕ → List ℕ → Type 0

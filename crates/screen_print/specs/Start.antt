@@ -6,7 +6,7 @@ use Rattle.vt_screen.specs.declared.cell.Cell.{Cell}
 use Rattle.vt_screen.specs.Cells.{blank}
 use Rattle.screen_print.specs.declared.start.Start.{Start}
 use Rattle.screen_print.specs.declared.start.Wanted.{Wanted}
-use Rattle.screen_print.specs.Glyphs.{character}
+use Rattle.screen_rows.specs.Glyphs.{character}
 
 -- whether a cell has what is wanted: the bits of its number under a mask
 abbrev pub fits : Wanted → Cell → Bool

@@ -1,6 +1,6 @@
 -- How a walk over chunks ends early, and what it leaves of a session.
-use Rattle.std.specs.Prelude.{◌≡◌, ℕ, ◌≤◌, true, false, List, Option, None, Some}
-use Rattle.tape_core.specs.Devices.{TookPart}
+use Rattle.std.specs.Prelude.{◌≡◌, ℕ, ◌≤◌, ◌++◌, true, false, List, Option, None, Some}
+use Rattle.tape_core.specs.Devices.{Gave, TookPart, has_failed}
 use Rattle.tape_core.specs.Due.{due_count}
 use Rattle.tape_core.specs.declared.chunk.Chunk.{Chunk}
 use Rattle.tape_core.specs.declared.devices.Watched.{Watched}
@@ -12,6 +12,14 @@ use Rattle.screen_print.specs.declared.walk.ChangesFault.TheVariants.{Write, Mem
 abbrev pub StopsWalk : {T : Type 0} → (T → Option (List ℕ)) → Watched T → Watched T → List ℕ → ChangesFault → Type 0
 StopsWalk contents old new text Write = TookPart contents old new text true
 StopsWalk contents old new text Memory = TookPart contents old new text false
+
+-- memory was refused behind a beginning of the text, which a writer that is sound was given (ours)
+pub record StopsSound {T : Type 0} (contents : T → Option (List ℕ)) (old new : Watched T) (text : List ℕ) : Type 0 where
+  pub sound : has_failed new ≡ false
+  pub front : List ℕ
+  pub rest : List ℕ
+  pub cut : text ≡ front ++ rest
+  pub gave : Gave contents old new front
 
 -- seeks alone were made: profile, recording and log stay, and the frontier isn't lowered
 pub record OnlySeeks (old new : State) : Type 0 where

@@ -14,19 +14,20 @@ ghost use Rattle.std.specs.Prelude.{
 };
 ghost use Rattle.std.specs.Fmt.{decimal};
 ghost use Rattle.std.specs.List.{flat_map};
-ghost use Rattle.tape_core.specs.Devices.{Puts, Took, has_failed, is_flushed};
+ghost use Rattle.tape_core.specs.Devices.{Gave, Took, has_failed, is_flushed};
 ghost use Rattle.tape_core.specs.Due.{due_count};
 ghost use Rattle.tape_core.specs.Written.{seconds_form};
 ghost use Rattle.tape_seek.specs.State.{KeepsHistory};
 ghost use Rattle.screen_print.specs.ChangeLines.{change_line, change_lines, spaced_number};
 ghost use Rattle.screen_print.specs.Stops.{OnlySeeks, StopsWalk};
 
+use crate::laws::walks_end_sound;
 use crate::still::Still;
 use crate::walk::{ChangesFault, ChunkPrinter, put_chunks};
 use itoa::Buffer;
 use std::io::Write;
-use tape_core::laws::{pieces_join, writers_join};
-use tape_core::{Fault, Watched, seconds_text};
+use tape_core::laws::gives_join;
+use tape_core::{Watched, seconds_text};
 use tape_seek::Session;
 use vt_term::Terminal;
 
@@ -53,9 +54,9 @@ pub fn changes<W: Write>(
     ensures room { due_count session.old.recording.chunks to ≤ session.old.marks.frontier
         → result ≢ Err ChangesFault.Memory }
 {
-    writers_join::<W>();
+    walks_end_sound::<W>();
     put_chunks(session, from, to, &ChangedLines, writer)?;
-    writer.finish()?;
+    writer.settle()?;
     Ok(())
 }
 
@@ -75,58 +76,47 @@ impl ChunkPrinter for ChangedLines {
         _after: &Terminal,
         lines: &[u8],
         writer: &mut Watched<W>,
-    ) -> Result<(), Fault> {
-        put_change(index, due, lines, writer)
+    ) {
+        put_change(index, due, lines, writer);
     }
 }
 
 /// Writes the line of a chunk, or nothing where it changes no line.
-fn put_change<W: Write>(
-    index: usize,
-    due: u64,
-    lines: &[u8],
-    writer: &mut Watched<W>,
-) -> Result<(), Fault>
-    requires { has_failed writer.old ≡ false }
-    ensures { Puts W.contents writer.old writer.new (change_line index due lines.now) result }
+fn put_change<W: Write>(index: usize, due: u64, lines: &[u8], writer: &mut Watched<W>)
+    ensures { Gave W.contents writer.old writer.new (change_line index due lines.now) }
 {
-    writers_join::<W>();
+    gives_join::<W>();
     if lines.is_empty() {
-        return Ok(());
+        return;
     }
-    put_place(index, due, writer)?;
-    put_numbers(lines, writer)?;
-    writer.put(b"\n")?;
-    Ok(())
+    put_place(index, due, writer);
+    put_numbers(lines, writer);
+    writer.give(b"\n");
 }
 
 /// Writes a chunk's place and when it is due.
-fn put_place<W: Write>(index: usize, due: u64, writer: &mut Watched<W>) -> Result<(), Fault>
-    requires { has_failed writer.old ≡ false }
-    ensures { Puts W.contents writer.old writer.new
-        (decimal index ++ 32 ∷ seconds_form due) result }
+fn put_place<W: Write>(index: usize, due: u64, writer: &mut Watched<W>)
+    ensures { Gave W.contents writer.old writer.new
+        (decimal index ++ 32 ∷ seconds_form due) }
 {
     let mut digits = Buffer::new();
     let index = digits.format(index).as_bytes();
-    writer.put_all(&[index, b" ", seconds_text(due).as_bytes()])
+    writer.give_all(&[index, b" ", seconds_text(due).as_bytes()]);
 }
 
 /// Writes numbers, a space before each.
-fn put_numbers<W: Write>(numbers: &[u8], writer: &mut Watched<W>) -> Result<(), Fault>
-    requires { has_failed writer.old ≡ false }
-    ensures { Puts W.contents writer.old writer.new (flat_map spaced_number numbers.now) result }
+fn put_numbers<W: Write>(numbers: &[u8], writer: &mut Watched<W>)
+    ensures { Gave W.contents writer.old writer.new (flat_map spaced_number numbers.now) }
 {
-    pieces_join::<W, u8>();
+    gives_join::<W>();
     for number in numbers {
-        put_number(*number, writer)?;
+        put_number(*number, writer);
     }
-    Ok(())
 }
 
 /// Writes a space and a number.
-fn put_number<W: Write>(number: u8, writer: &mut Watched<W>) -> Result<(), Fault>
-    requires { has_failed writer.old ≡ false }
-    ensures { Puts W.contents writer.old writer.new (spaced_number number) result }
+fn put_number<W: Write>(number: u8, writer: &mut Watched<W>)
+    ensures { Gave W.contents writer.old writer.new (spaced_number number) }
 {
-    writer.put_all(&[b" ", Buffer::new().format(number).as_bytes()])
+    writer.give_all(&[b" ", Buffer::new().format(number).as_bytes()]);
 }

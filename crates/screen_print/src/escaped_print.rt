@@ -1,36 +1,15 @@
 //! The escaped print: what stands on the screen, as a text that draws it again on a reset terminal.
 
 ghost use Rattle.std.specs.Prelude.{◌≡◌, ◌≤◌, ◌++◌, ◌+◌, ◌*◌, length, OnOk, true, false, decimal};
-ghost use Rattle.std.specs.List.{suffix_len};
-ghost use Rattle.tape_core.specs.Devices.{Puts, has_failed, is_flushed};
-ghost use Rattle.screen_print.specs.EscapedText.{
-  first_pen,
-  opening_text,
-  closing_text,
-  lines_text,
-  line_text,
-  pen_after_line,
-  placed_text,
-  size_text,
-  cells_text,
-  pen_after,
-  inked,
-  is_blank,
-  is_left_out,
-  cell_text,
-  pen_of,
-  rendition_set_text,
-  slot_text,
-  slot_for,
-  text_where,
-  byte_for,
-  escaped_text,
-};
+ghost use Rattle.tape_core.specs.Devices.{Gave, Puts, has_failed, is_flushed};
+ghost use Rattle.screen_print.specs.EscapedText.{first_pen, opening_text, closing_text, lines_text, line_text, pen_after_line, placed_text, size_text, cells_text, pen_after, is_left_out, cell_text, pen_of, rendition_set_text, slot_text, slot_for, byte_for, escaped_text};
+ghost use Rattle.screen_rows.specs.Ink.{inked};
 
 use arrayvec::ArrayVec;
 use itoa::Buffer;
+use screen_rows::{inked, push_bytes, push_bytes_where};
 use std::io::Write;
-use tape_core::laws::writers_join;
+use tape_core::laws::gives_join;
 use tape_core::{Fault, Watched};
 use vt_screen::laws::screens_are_sound;
 use vt_screen::limits::{LINES, WIDE_COLUMNS};
@@ -69,27 +48,24 @@ pub fn escaped<W: Write>(terminal: &Terminal, writer: &mut Watched<W>) -> Result
         (escaped_text terminal.now.console) result }
     ensures flushed { OnOk result (is_flushed writer.new ≡ true) }
 {
-    writers_join::<W>();
-    writer.put(opening_text(terminal).as_slice())?;
-    put_lines(terminal.screen(), writer)?;
-    writer.put(closing_text(terminal.screen()).as_slice())?;
-    writer.finish()?;
-    Ok(())
+    gives_join::<W>();
+    writer.give(opening_text(terminal).as_slice());
+    put_lines(terminal.screen(), writer);
+    writer.give(closing_text(terminal.screen()).as_slice());
+    writer.settle()
 }
 
 /// Writes the lines.
-fn put_lines<W: Write>(screen: &Screen, writer: &mut Watched<W>) -> Result<(), Fault>
-    requires { has_failed writer.old ≡ false }
-    ensures { Puts W.contents writer.old writer.new
-        (lines_text first_pen 1 screen.now.picture.rows) result }
+fn put_lines<W: Write>(screen: &Screen, writer: &mut Watched<W>)
+    ensures { Gave W.contents writer.old writer.new
+        (lines_text first_pen 1 screen.now.picture.rows) }
 {
-    writers_join::<W>();
+    gives_join::<W>();
     screens_are_sound(screen);
     let mut pen = Pen::first();
     for line in 1..LINES + 1 {
-        writer.put(line_text(line, screen.row(line), &mut pen).as_slice())?;
+        writer.give(line_text(line, screen.row(line), &mut pen).as_slice());
     }
-    Ok(())
 }
 
 /// Modes and sets, before the lines.
@@ -140,31 +116,6 @@ fn is_left_out(size: Size, cells: &[Cell]) -> bool
     ensures { result ≡ is_left_out size cells.now }
 {
     size.is_single() && cells.is_empty()
-}
-
-/// The cells to the last one that isn't blank, that is, a space without rendition.
-pub fn inked(cells: &[Cell]) -> &[Cell]
-    ensures { result.now ≡ inked cells.now }
-{
-    &cells[..inked_len(cells)]
-}
-
-/// How many of the cells are left without the blank ones at their end.
-fn inked_len(cells: &[Cell]) -> usize
-    ensures { result + suffix_len is_blank cells.now ≡ length cells.now }
-{
-    let mut len = cells.len();
-    while len > 0 && is_blank(cells[len - 1]) {
-        len -= 1;
-    }
-    len
-}
-
-/// Whether a cell is a space without rendition.
-fn is_blank(cell: Cell) -> bool
-    ensures { result ≡ is_blank cell }
-{
-    cell == Cell::blank()
 }
 
 /// CUP.
@@ -243,22 +194,6 @@ fn push_rendition(text: &mut ArrayVec<u8, LINE_BYTES>, rendition: Rendition)
     push_bytes_where(text, rendition.blink(), b";5");
     push_bytes_where(text, rendition.reverse(), b";7");
     text.push(b'm');
-}
-
-fn push_bytes(text: &mut ArrayVec<u8, LINE_BYTES>, bytes: &[u8])
-    requires { length text.old.items + length bytes.now ≤ LINE_BYTES }
-    ensures { text.new.items ≡ text.old.items ++ bytes.now }
-{
-    let _ = text.try_extend_from_slice(bytes);
-}
-
-fn push_bytes_where(text: &mut ArrayVec<u8, LINE_BYTES>, holds: bool, bytes: &[u8])
-    requires { length text.old.items + length bytes.now ≤ LINE_BYTES }
-    ensures { text.new.items ≡ text.old.items ++ text_where holds bytes.now }
-{
-    if holds {
-        push_bytes(text, bytes);
-    }
 }
 
 /// SO or SI, where the slot isn't the one invoked.

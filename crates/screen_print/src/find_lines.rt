@@ -25,7 +25,7 @@ ghost use Rattle.std.specs.Prelude.{
 };
 ghost use Rattle.std.specs.Cmp.Lexicographic.{pointwise};
 ghost use Rattle.std.specs.List.{flat_map};
-ghost use Rattle.tape_core.specs.Devices.{Puts, Took, has_failed, is_flushed};
+ghost use Rattle.tape_core.specs.Devices.{Gave, Took, has_failed, is_flushed};
 ghost use Rattle.tape_core.specs.Due.{due_count};
 ghost use Rattle.tape_seek.specs.State.{KeepsHistory};
 ghost use Rattle.screen_print.specs.FindLines.{
@@ -41,24 +41,24 @@ ghost use Rattle.screen_print.specs.FindLines.{
   less_lines,
   place_in,
 };
-ghost use Rattle.screen_print.specs.Glyphs.{character};
+ghost use Rattle.screen_rows.specs.Glyphs.{character};
 ghost use Rattle.screen_print.specs.Places.{IsPlace};
-ghost use Rattle.screen_print.specs.Quiet.{characters};
+ghost use Rattle.screen_rows.specs.RowText.{characters};
 ghost use Rattle.screen_print.specs.Start.{IsStart};
 ghost use Rattle.screen_print.specs.Stills.{still_of};
 ghost use Rattle.screen_print.specs.Stops.{OnlySeeks, StopsWalk};
 
-use crate::glyphs::character;
-use crate::plain_print::{cells_of, printed_row};
+use crate::laws::walks_end_sound;
 use crate::quiet::stays;
 use crate::standing::{Place, found_rows, standing};
 use crate::start::Start;
 use crate::still::Still;
 use crate::walk::{ChangesFault, ChunkPrinter, put_chunks};
 use itoa::Buffer;
+use screen_rows::{cells_to_margin, character, printed_row};
 use std::io::Write;
-use tape_core::laws::{pieces_join, writers_join};
-use tape_core::{Fault, Watched, seconds_text};
+use tape_core::laws::gives_join;
+use tape_core::{Watched, seconds_text};
 use tape_seek::Session;
 use vt_screen::Cell;
 use vt_term::Terminal;
@@ -88,10 +88,10 @@ pub fn find<W: Write>(
     ensures room { due_count session.old.recording.chunks to ≤ session.old.marks.frontier
         → result ≢ Err ChangesFault.Memory }
 {
-    writers_join::<W>();
+    walks_end_sound::<W>();
     let start = Start::of(text);
     put_chunks(session, from, to, &Finder { text, start }, writer)?;
-    writer.finish()?;
+    writer.settle()?;
     Ok(())
 }
 
@@ -116,12 +116,11 @@ impl<'a> ChunkPrinter for Finder<'a> {
         after: &Terminal,
         lines: &[u8],
         writer: &mut Watched<W>,
-    ) -> Result<(), Fault> {
-        writers_join::<W>();
-        if stays(self.text, &self.start, before, after, lines) {
-            return Ok(());
+    ) {
+        gives_join::<W>();
+        if !stays(self.text, &self.start, before, after, lines) {
+            put_laid_out(self.text, index, due, before, after, writer);
         }
-        put_laid_out(self.text, index, due, before, after, writer)
     }
 }
 
@@ -135,17 +134,16 @@ fn put_laid_out<W: Write>(
     before: &Still,
     after: &Terminal,
     writer: &mut Watched<W>,
-) -> Result<(), Fault>
-    requires { has_failed writer.old ≡ false }
-    ensures { Puts W.contents writer.old writer.new
-        (find_text text.now index due before.now (still_of after.now.console)) result }
+)
+    ensures { Gave W.contents writer.old writer.new
+        (find_text text.now index due before.now (still_of after.now.console)) }
 {
     let chunk = Chunk {
         index,
         due,
         len: text.len(),
     };
-    put_moves(text, &chunk, before, &Still::of(after), writer)
+    put_moves(text, &chunk, before, &Still::of(after), writer);
 }
 
 /// Writes from where a text went in a chunk, and where it came to stand.
@@ -156,13 +154,12 @@ fn put_moves<W: Write>(
     before: &Still,
     after: &Still,
     writer: &mut Watched<W>,
-) -> Result<(), Fault>
+)
     requires len { chunk.now.len ≡ length text.now }
-    requires sound { has_failed writer.old ≡ false }
-    ensures { Puts W.contents writer.old writer.new
-        (find_text text.now chunk.now.index chunk.now.due before.now after.now) result }
+    ensures { Gave W.contents writer.old writer.new
+        (find_text text.now chunk.now.index chunk.now.due before.now after.now) }
 {
-    writers_join::<W>();
+    gives_join::<W>();
     let went = standing(before, text);
     let came = standing(after, text);
     let went = Standing {
@@ -173,9 +170,8 @@ fn put_moves<W: Write>(
         still: after,
         places: came.as_slice(),
     };
-    put_less(b'-', chunk, &went, &came, writer)?;
-    put_less(b'+', chunk, &came, &went, writer)?;
-    Ok(())
+    put_less(b'-', chunk, &went, &came, writer);
+    put_less(b'+', chunk, &came, &went, writer);
 }
 
 /// Where a text stands on a screen.
@@ -200,19 +196,17 @@ fn put_less<W: Write>(
     one: &Standing<'_>,
     other: &Standing<'_>,
     writer: &mut Watched<W>,
-) -> Result<(), Fault>
+)
     requires here { All (IsPlace one.now.still.now) one.now.places.now }
     requires there { All (IsPlace other.now.still.now) other.now.places.now }
-    requires sound { has_failed writer.old ≡ false }
-    ensures { Puts W.contents writer.old writer.new
+    ensures { Gave W.contents writer.old writer.new
         (less_lines sign chunk.now.index chunk.now.due chunk.now.len
-        one.now.still.now one.now.places.now other.now.still.now other.now.places.now) result }
+        one.now.still.now one.now.places.now other.now.still.now other.now.places.now) }
 {
-    writers_join::<W>();
+    gives_join::<W>();
     for at in 0..one.places.len() {
-        put_if_less(sign, chunk, one, at, other, writer)?;
+        put_if_less(sign, chunk, one, at, other, writer);
     }
-    Ok(())
 }
 
 /// Writes the line of one place, if it is less on the other screen.
@@ -223,20 +217,18 @@ fn put_if_less<W: Write>(
     at: usize,
     other: &Standing<'_>,
     writer: &mut Watched<W>,
-) -> Result<(), Fault>
+)
     requires within { at < length one.now.places.now }
     requires here { All (IsPlace one.now.still.now) one.now.places.now }
     requires there { All (IsPlace other.now.still.now) other.now.places.now }
-    requires sound { has_failed writer.old ≡ false }
-    ensures { Puts W.contents writer.old writer.new
+    ensures { Gave W.contents writer.old writer.new
         (less_line sign chunk.now.index chunk.now.due chunk.now.len
-        one.now.still.now one.now.places.now other.now.still.now other.now.places.now at) result }
+        one.now.still.now one.now.places.now other.now.still.now other.now.places.now at) }
 {
-    writers_join::<W>();
+    gives_join::<W>();
     if is_less(one, at, other) {
-        return put_found(sign, chunk, one.still, one.places[at], writer);
+        put_found(sign, chunk, one.still, one.places[at], writer);
     }
-    Ok(())
 }
 
 /// Whether a place is less on the other screen.
@@ -278,8 +270,8 @@ fn same_left(still: &Still, place: Place, other: &Still, there: Place) -> bool
         return false;
     }
     let left = place.column as usize - 1;
-    let one = cells_of(still.is_wide(), still.row(place.line));
-    let other = cells_of(other.is_wide(), other.row(there.line));
+    let one = cells_to_margin(still.is_wide(), still.row(place.line));
+    let other = cells_to_margin(other.is_wide(), other.row(there.line));
     reads_alike(&one[..left], &other[..left])
 }
 
@@ -311,78 +303,58 @@ fn put_found<W: Write>(
     still: &Still,
     place: Place,
     writer: &mut Watched<W>,
-) -> Result<(), Fault>
+)
     requires place { IsPlace still.now place }
-    requires sound { has_failed writer.old ≡ false }
-    ensures { Puts W.contents writer.old writer.new
-        (found_line sign chunk.now.index chunk.now.due chunk.now.len still.now place) result }
+    ensures { Gave W.contents writer.old writer.new
+        (found_line sign chunk.now.index chunk.now.due chunk.now.len still.now place) }
 {
-    writers_join::<W>();
-    put_heading(sign, chunk, place, writer)?;
-    put_rows(still, place, chunk.len, writer)?;
-    Ok(())
+    gives_join::<W>();
+    put_heading(sign, chunk, place, writer);
+    put_rows(still, place, chunk.len, writer);
 }
 
 /// Writes the rows of a found text of so many characters, and LF. Where it stands in one row that is the row
 /// as it is printed.
-fn put_rows<W: Write>(
-    still: &Still,
-    place: Place,
-    len: usize,
-    writer: &mut Watched<W>,
-) -> Result<(), Fault>
+fn put_rows<W: Write>(still: &Still, place: Place, len: usize, writer: &mut Watched<W>)
     requires place { IsPlace still.now place }
-    requires sound { has_failed writer.old ≡ false }
-    ensures { Puts W.contents writer.old writer.new
-        (flat_map encode_utf8 (found_rows len still.now place) ++ 10 ∷ []) result }
+    ensures { Gave W.contents writer.old writer.new
+        (flat_map encode_utf8 (found_rows len still.now place) ++ 10 ∷ []) }
 {
     still.sound();
     let row = still.row(place.line);
-    let columns = cells_of(still.is_wide(), row).len();
+    let columns = cells_to_margin(still.is_wide(), row).len();
     let least = len as u128 + u128::from(place.column) - 1;
     if least <= columns as u128 {
         let text = printed_row(still.is_wide(), row);
-        return writer.put(text.as_str().as_bytes());
+        writer.give(text.as_str().as_bytes());
+    } else {
+        put_joined_rows(still, place, len, writer);
     }
-    put_joined_rows(still, place, len, writer)
 }
 
 /// The same by joining the rows. Its variables are large, so it stands apart.
 #[cold]
 #[inline(never)]
-fn put_joined_rows<W: Write>(
-    still: &Still,
-    place: Place,
-    len: usize,
-    writer: &mut Watched<W>,
-) -> Result<(), Fault>
+fn put_joined_rows<W: Write>(still: &Still, place: Place, len: usize, writer: &mut Watched<W>)
     requires place { IsPlace still.now place }
-    requires sound { has_failed writer.old ≡ false }
-    ensures { Puts W.contents writer.old writer.new
-        (flat_map encode_utf8 (found_rows len still.now place) ++ 10 ∷ []) result }
+    ensures { Gave W.contents writer.old writer.new
+        (flat_map encode_utf8 (found_rows len still.now place) ++ 10 ∷ []) }
 {
-    writers_join::<W>();
+    gives_join::<W>();
     let rows = found_rows(still, place, len);
-    put_chars(rows.as_slice(), writer)?;
-    writer.put(b"\n")?;
-    Ok(())
+    put_chars(rows.as_slice(), writer);
+    writer.give(b"\n");
 }
 
 /// Writes what stands before the rows: the sign, the chunk's place, when it is due, and the place.
-fn put_heading<W: Write>(
-    sign: u8,
-    chunk: &Chunk,
-    place: Place,
-    writer: &mut Watched<W>,
-) -> Result<(), Fault>
-    requires { has_failed writer.old ≡ false }
-    ensures { Puts W.contents writer.old writer.new
-        (heading sign chunk.now.index chunk.now.due place) result }
+fn put_heading<W: Write>(sign: u8, chunk: &Chunk, place: Place, writer: &mut Watched<W>)
+    ensures { Gave W.contents writer.old writer.new
+        (heading sign chunk.now.index chunk.now.due place) }
 {
     let mut index = Buffer::new();
     let mut line = Buffer::new();
     let mut column = Buffer::new();
-    writer.put_all(&[
+    writer.give_all(&[
         &[sign, b' '],
         index.format(chunk.index).as_bytes(),
         b" ",
@@ -392,26 +364,23 @@ fn put_heading<W: Write>(
         b" ",
         column.format(place.column).as_bytes(),
         b" ",
-    ])
+    ]);
 }
 
 /// Writes characters in UTF-8.
-fn put_chars<W: Write>(chars: &[char], writer: &mut Watched<W>) -> Result<(), Fault>
-    requires { has_failed writer.old ≡ false }
-    ensures { Puts W.contents writer.old writer.new (flat_map encode_utf8 chars.now) result }
+fn put_chars<W: Write>(chars: &[char], writer: &mut Watched<W>)
+    ensures { Gave W.contents writer.old writer.new (flat_map encode_utf8 chars.now) }
 {
-    pieces_join::<W, char>();
+    gives_join::<W>();
     for character in chars {
-        put_char(*character, writer)?;
+        put_char(*character, writer);
     }
-    Ok(())
 }
 
 /// Writes a character in UTF-8.
-fn put_char<W: Write>(character: char, writer: &mut Watched<W>) -> Result<(), Fault>
-    requires { has_failed writer.old ≡ false }
-    ensures { Puts W.contents writer.old writer.new (encode_utf8 character) result }
+fn put_char<W: Write>(character: char, writer: &mut Watched<W>)
+    ensures { Gave W.contents writer.old writer.new (encode_utf8 character) }
 {
     let mut bytes = [0; 4];
-    writer.put(character.encode_utf8(&mut bytes).as_bytes())
+    writer.give(character.encode_utf8(&mut bytes).as_bytes());
 }

@@ -4,7 +4,6 @@
 mod change_lines;
 mod escaped_print;
 mod find_lines;
-mod glyphs;
 pub mod laws;
 mod plain_print;
 mod quiet;
@@ -14,9 +13,8 @@ mod still;
 mod walk;
 
 pub use change_lines::changes;
-pub use escaped_print::{escaped, inked};
+pub use escaped_print::escaped;
 pub use find_lines::find;
-pub use glyphs::character;
-pub use plain_print::{plain, trimmed};
-pub use still::{Still, same_first, same_row};
+pub use plain_print::plain;
+pub use still::Still;
 pub use walk::{ChangesFault, ChunkPrinter, put_all_chunks, put_chunks};

@@ -18,24 +18,16 @@ ghost use Rattle.std.specs.Prelude.{
   true,
 };
 ghost use Rattle.std.specs.List.{starts_with};
-ghost use Rattle.screen_print.specs.FindLines.{find_text, row_text};
-ghost use Rattle.screen_print.specs.Quiet.{
-  AllPlacesStay,
-  BeginsUpTo,
-  LineStays,
-  LinesStay,
-  RowStays,
-  SamePlacesStay,
-  characters,
-};
-ghost use Rattle.screen_print.specs.SameRows.{changed_lines};
+ghost use Rattle.screen_print.specs.FindLines.{find_text};
+ghost use Rattle.screen_rows.specs.RowText.{row_text, characters};
+ghost use Rattle.screen_print.specs.Quiet.{AllPlacesStay, BeginsUpTo, LineStays, LinesStay, RowStays, SamePlacesStay};
+ghost use Rattle.screen_rows.specs.SameRows.{changed_lines};
 ghost use Rattle.screen_print.specs.Start.{IsStart, starts_at};
 ghost use Rattle.screen_print.specs.Stills.{still_of};
 
-use crate::glyphs::character;
-use crate::plain_print::cells_of;
 use crate::start::{Start, may_start, may_start_at_end};
 use crate::still::Still;
+use screen_rows::{cells_to_margin, character};
 use vt_screen::laws::screens_are_sound;
 use vt_screen::limits::{LINES, NARROW_COLUMNS, WIDE_COLUMNS};
 use vt_screen::{Cell, Row};
@@ -137,7 +129,10 @@ fn row_above_stands_alone(text: &[char], after: &Terminal, line: u8) -> bool
         return true;
     }
     let screen = after.screen();
-    stands_alone(text, cells_of(screen.is_wide(), screen.row(line - 1)))
+    stands_alone(
+        text,
+        cells_to_margin(screen.is_wide(), screen.row(line - 1)),
+    )
 }
 
 /// Whether from no row of a screen a text may run on into the next one.
@@ -149,7 +144,7 @@ fn rows_stand_alone(text: &[char], after: &Terminal) -> bool
     let screen = after.screen();
     let wide = screen.is_wide();
     for line in 1..LINES + 1 {
-        if !stands_alone(text, cells_of(wide, screen.row(line))) {
+        if !stands_alone(text, cells_to_margin(wide, screen.row(line))) {
             return false;
         }
     }
@@ -198,7 +193,11 @@ fn line_stays(text: &[char], start: &Start, before: &Still, after: &Terminal, li
     let (wide, row) = (before.is_wide(), before.row(line));
     let (wide_after, row_after) = (screen.is_wide(), screen.row(line));
     if may_begin(start, wide, row) || may_begin(start, wide_after, row_after) {
-        return cells_stay(text, cells_of(wide, row), cells_of(wide_after, row_after));
+        return cells_stay(
+            text,
+            cells_to_margin(wide, row),
+            cells_to_margin(wide_after, row_after),
+        );
     }
     true
 }
@@ -241,7 +240,7 @@ pub(crate) fn may_begin(start: &Start, wide: bool, row: &Row) -> bool
     if may_start_in(start, wide, row) {
         return true;
     }
-    may_start_at_end(start, cells_of(wide, row))
+    may_start_at_end(start, cells_to_margin(wide, row))
 }
 
 /// Whether the first characters of a text may stand in a row.

@@ -3,17 +3,16 @@
 ghost use Rattle.std.specs.Prelude.{◌≡◌, ◌+◌, ◌-◌, ◌≤◌, ◌++◌, All, drop, length, ◌==◌};
 ghost use Rattle.std.specs.List.{suffix_len};
 ghost use Rattle.vt_screen.specs.Cells.{row_at};
-ghost use Rattle.screen_print.specs.FindLines.{begins, ends_line, found_rows, line_text_from, places_in, row_text, row_texts, rows_reaching, standing};
+ghost use Rattle.screen_print.specs.FindLines.{begins, ends_line, found_rows, line_text_from, places_in, row_texts, rows_reaching, standing};
+ghost use Rattle.screen_rows.specs.RowText.{row_text, characters};
 ghost use Rattle.screen_print.specs.Places.{IsPlace};
-ghost use Rattle.screen_print.specs.Quiet.{characters};
 ghost use Rattle.screen_print.specs.Start.{IsStart};
 
-use crate::glyphs::character;
-use crate::plain_print::cells_of;
 use crate::quiet::{agrees, may_begin};
 use crate::start::Start;
 use crate::still::Still;
 use arrayvec::ArrayVec;
+use screen_rows::{cells_to_margin, character};
 use vt_screen::limits::{LINES, WIDE_COLUMNS};
 use vt_screen::{Cell, margin_of};
 
@@ -90,7 +89,7 @@ fn push_begun(
     ensures after { All (IsPlace still.now) places.new.items }
 {
     still.sound();
-    let cells = cells_of(still.is_wide(), still.row(line));
+    let cells = cells_to_margin(still.is_wide(), still.row(line));
     let columns = columns_of(still, line);
     for column in 1..columns + 1 {
         if begins(still, text, start, line, cells, column) {
@@ -135,7 +134,7 @@ fn runs_on(still: &Still, text: &[char], line: u8, column: u8) -> bool
     let mut rest = text;
     let mut from = column as usize - 1;
     for at in line..LINES + 1 {
-        let cells = cells_of(still.is_wide(), still.row(at));
+        let cells = cells_to_margin(still.is_wide(), still.row(at));
         let part = &cells[from..];
         if !agrees(rest, part) {
             return false;
@@ -219,7 +218,7 @@ pub(crate) fn row_text(still: &Still, line: u8) -> ArrayVec<char, ROW>
     ensures few { length result.items ≤ ROW }
 {
     let mut text = ArrayVec::new();
-    for cell in cells_of(still.is_wide(), still.row(line)) {
+    for cell in cells_to_margin(still.is_wide(), still.row(line)) {
         text.push(character(cell.glyph));
     }
     text

@@ -1,24 +1,20 @@
 //! What stands on a screen, copied, and in which lines another screen differs from it.
 
-ghost use Rattle.std.specs.Prelude.{◌≡◌, ◌≤◌, ℕ, length, take, true, false};
+ghost use Rattle.std.specs.Prelude.{◌≡◌, ◌≤◌, ℕ, true, false};
 ghost use Rattle.vt_screen.specs.Cells.{row_at};
 ghost use Rattle.vt_screen.specs.Picture.{SoundRow};
-ghost use Rattle.screen_print.specs.SameRows.{changed_lines, same_cell, same_row};
-ghost use Rattle.std.specs.Cmp.Lexicographic.{pointwise};
+ghost use Rattle.screen_rows.specs.SameRows.{changed_lines};
 
 use arrayvec::ArrayVec;
+use screen_rows::same_row;
 use std::marker::Model;
 use vt_screen::laws::screens_are_sound;
-use vt_screen::limits::{LINES, NARROW_COLUMNS, WIDE_COLUMNS};
-use vt_screen::{Cell, Row, Screen};
+use vt_screen::limits::LINES;
+use vt_screen::{Row, Screen};
 use vt_term::Terminal;
 
 /// How many rows a screen has.
 pub(crate) const ROWS: usize = LINES as usize;
-
-const NARROW: usize = NARROW_COLUMNS as usize;
-
-const WIDE: usize = WIDE_COLUMNS as usize;
 
 /// A copy of what stands on a screen: its columns, its rows, whether it is reversed, and its cursor.
 #[derive(Drop)]
@@ -149,41 +145,6 @@ fn changed_lines(rows: &[Row; ROWS], screen: &Screen, narrow: bool) -> ArrayVec<
         }
     }
     changed
-}
-
-/// Whether two rows have the same size and the same cells. Rows of narrow screens are blank right of
-/// column 80, and aren't compared there.
-pub fn same_row(one: &Row, other: &Row, narrow: bool) -> bool
-    requires { narrow ≡ true → SoundRow false one.now × SoundRow false other.now }
-    ensures { result ≡ same_row one.now other.now }
-{
-    one.size == other.size && same_cells(one, other, narrow)
-}
-
-/// Whether two rows have the same cells.
-fn same_cells(one: &Row, other: &Row, narrow: bool) -> bool
-    requires { narrow ≡ true → SoundRow false one.now × SoundRow false other.now }
-    ensures { result ≡ pointwise same_cell one.now.cells other.now.cells }
-{
-    if narrow {
-        return same_first::<NARROW>(&one.cells, &other.cells);
-    }
-    same_first::<WIDE>(&one.cells, &other.cells)
-}
-
-/// Whether the first N cells are the same. Each is compared, whatever those before it came to, so that
-/// many are compared at once.
-pub fn same_first<const N: usize>(one: &[Cell; WIDE], other: &[Cell; WIDE]) -> bool
-    requires { N ≤ WIDE }
-    ensures same { result ≡ pointwise same_cell (take N one.now) (take N other.now) }
-    ensures whole { length one.now ≡ WIDE }
-    ensures other_whole { length other.now ≡ WIDE }
-{
-    let mut same = true;
-    for at in 0..N {
-        same &= one[at].number() == other[at].number();
-    }
-    same
 }
 
 /// Copies the rows of these lines from the screen.

@@ -3,31 +3,28 @@
 
 ghost use Rattle.std.specs.Prelude.{
   ◌≡◌,
-  ◌≢◌,
   ◌+◌,
   ◌-◌,
   ◌<◌,
   ◌≤◌,
-  false,
   length,
-  Err,
   OnOk,
+  OnErr,
   IfOk,
-  IfErr,
   IsOk,
 };
 ghost use Rattle.std.specs.List.{flat_map, range_with_len};
-ghost use Rattle.tape_core.specs.Devices.{Puts, Took, has_failed};
+ghost use Rattle.tape_core.specs.Devices.{Gave};
 ghost use Rattle.tape_core.specs.Due.{due_count};
 ghost use Rattle.tape_seek.specs.State.{KeepsHistory, Leaves};
-ghost use Rattle.screen_print.specs.SameRows.{changed_lines};
+ghost use Rattle.screen_rows.specs.SameRows.{changed_lines};
 ghost use Rattle.screen_print.specs.Stills.{still_of};
-ghost use Rattle.screen_print.specs.Stops.{OnlySeeks, StopsWalk, first_asked};
+ghost use Rattle.screen_print.specs.Stops.{OnlySeeks, StopsSound, first_asked};
 ghost use Rattle.screen_print.specs.Walk.{still_after, text_at, walk_text, whole_text};
 
 use crate::still::Still;
 use std::io::Write;
-use tape_core::laws::{due_is_below_the_count, writers_join};
+use tape_core::laws::{due_is_below_the_count, gives_end, gives_join};
 use tape_core::{Fault, Watched};
 use tape_seek::{OutOfMemory, Session};
 use vt_term::Terminal;
@@ -79,35 +76,31 @@ pub trait ChunkPrinter {
         after: &Terminal,
         lines: &[u8],
         writer: &mut Watched<W>,
-    ) -> Result<(), Fault>
-        requires sound { has_failed writer.old ≡ false }
-        requires changed { lines.now
-            ≡ changed_lines before.now.rows after.now.console.picture.rows }
-        ensures { Puts W.contents writer.old writer.new
-            (text self.now index due before.now (still_of after.now.console)) result };
+    )
+        requires { lines.now ≡ changed_lines before.now.rows after.now.console.picture.rows }
+        ensures { Gave W.contents writer.old writer.new
+            (text self.now index due before.now (still_of after.now.console)) };
 }
 
 /// Writes what the printer writes of each chunk that is due after `from` (None: from chunk 0 on) and by
-/// `to`, and doesn't flush. It works by seeks. After a fault a beginning of the text has gone out. The
-/// recording and the log stay, and the frontier isn't lowered.
+/// `to`, as long as the writer doesn't fail. It works by seeks. The recording and the log stay, and the
+/// frontier isn't lowered.
 pub fn put_chunks<P: ChunkPrinter, W: Write>(
     session: &mut Session,
     from: Option<u64>,
     to: u64,
     printer: &P,
     writer: &mut Watched<W>,
-) -> Result<(), ChangesFault>
-    requires { has_failed writer.old ≡ false }
-    ensures ok { OnOk result (Took W.contents writer.old writer.new
+) -> Result<(), OutOfMemory>
+    ensures gave { OnOk result (Gave W.contents writer.old writer.new
         (walk_text (P.text printer.now) session.old.profile session.old.recording from to)) }
-    ensures fault { IfErr result (StopsWalk W.contents writer.old writer.new
+    ensures refused { OnErr result (StopsSound W.contents writer.old writer.new
         (walk_text (P.text printer.now) session.old.profile session.old.recording from to)) }
     ensures stays { OnlySeeks session.old session.new }
-    ensures room { due_count session.old.recording.chunks to ≤ session.old.marks.frontier
-        → result ≢ Err ChangesFault.Memory }
+    ensures room { due_count session.old.recording.chunks to ≤ session.old.marks.frontier → IsOk result }
 {
     due_is_below_the_count();
-    writers_join::<W>();
+    gives_join::<W>();
     let start = first_asked(session, from);
     let end = session.recording().due_count(to);
     if start < end {
@@ -116,24 +109,22 @@ pub fn put_chunks<P: ChunkPrinter, W: Write>(
     Ok(())
 }
 
-/// Writes what the printer writes of each chunk, and doesn't flush. What a fault leaves is that of `put_chunks`.
+/// Writes what the printer writes of each chunk, as `put_chunks` does.
 #[tactic(auto, using(crate::proofs::WalkLemmas::seeks_keep_history), unfolding(crate::specs::Walk::whole_text))]
 pub fn put_all_chunks<P: ChunkPrinter, W: Write>(
     session: &mut Session,
     printer: &P,
     writer: &mut Watched<W>,
-) -> Result<(), ChangesFault>
-    requires { has_failed writer.old ≡ false }
-    ensures ok { OnOk result (Took W.contents writer.old writer.new
+) -> Result<(), OutOfMemory>
+    ensures gave { OnOk result (Gave W.contents writer.old writer.new
         (whole_text (P.text printer.now) session.old.profile session.old.recording)) }
-    ensures fault { IfErr result (StopsWalk W.contents writer.old writer.new
+    ensures refused { OnErr result (StopsSound W.contents writer.old writer.new
         (whole_text (P.text printer.now) session.old.profile session.old.recording)) }
     ensures stays { OnlySeeks session.old session.new }
     // Whatever recording the session was opened with: where its own is that one edited by the log,
     // it is so still.
     ensures history { KeepsHistory session.old session.new }
-    ensures room { length session.old.recording.chunks ≤ session.old.marks.frontier
-        → result ≢ Err ChangesFault.Memory }
+    ensures room { length session.old.recording.chunks ≤ session.old.marks.frontier → IsOk result }
 {
     let end = session.recording().chunks().len();
     put_between(session, 0, end, printer, writer)
@@ -149,30 +140,36 @@ fn first_asked(session: &Session, from: Option<u64>) -> usize
     }
 }
 
-/// Writes the texts of the chunks from one place up to and without another.
+/// Writes the texts of the chunks from one place up to and without another, as long as the writer doesn't fail.
 fn put_between<P: ChunkPrinter, W: Write>(
     session: &mut Session,
     start: usize,
     end: usize,
     printer: &P,
     writer: &mut Watched<W>,
-) -> Result<(), ChangesFault>
+) -> Result<(), OutOfMemory>
     requires rising { start ≤ end }
     requires within { end ≤ length session.old.recording.chunks }
-    requires sound { has_failed writer.old ≡ false }
-    ensures ok { OnOk result (Took W.contents writer.old writer.new
+    ensures gave { OnOk result (Gave W.contents writer.old writer.new
         (flat_map (text_at (P.text printer.now) session.old.profile session.old.recording)
         (range_with_len start (end - start)))) }
-    ensures fault { IfErr result (StopsWalk W.contents writer.old writer.new
+    ensures refused { OnErr result (StopsSound W.contents writer.old writer.new
         (flat_map (text_at (P.text printer.now) session.old.profile session.old.recording)
         (range_with_len start (end - start)))) }
     ensures stays { OnlySeeks session.old session.new }
-    ensures room { end ≤ session.old.marks.frontier → result ≢ Err ChangesFault.Memory }
+    ensures room { end ≤ session.old.marks.frontier → IsOk result }
 {
-    writers_join::<W>();
+    gives_join::<W>();
+    gives_end::<W>();
+    if writer.failed() {
+        return Ok(());
+    }
     let mut still = still_at(session, start)?;
     for index in start..end {
         put_chunk(session, index, &mut still, printer, writer)?;
+        if writer.failed() {
+            return Ok(());
+        }
     }
     Ok(())
 }
@@ -197,23 +194,21 @@ fn put_chunk<P: ChunkPrinter, W: Write>(
     still: &mut Still,
     printer: &P,
     writer: &mut Watched<W>,
-) -> Result<(), ChangesFault>
+) -> Result<(), OutOfMemory>
     requires within { index < length session.old.recording.chunks }
     requires fits { index < usize.MAX }
-    requires sound { has_failed writer.old ≡ false }
     requires before { still.old ≡ still_after session.old.profile session.old.recording index }
-    ensures ok { OnOk result (Took W.contents writer.old writer.new
+    ensures ok { OnOk result (Gave W.contents writer.old writer.new
         (text_at (P.text printer.now) session.old.profile session.old.recording index)) }
     ensures after { OnOk result (still.new
         ≡ still_after session.old.profile session.old.recording (index + 1)) }
-    ensures fault { IfErr result (StopsWalk W.contents writer.old writer.new
-        (text_at (P.text printer.now) session.old.profile session.old.recording index)) }
+    ensures untouched { OnErr result (writer.new ≡ writer.old) }
     ensures stays { OnlySeeks session.old session.new }
-    ensures room { index < session.old.marks.frontier → result ≢ Err ChangesFault.Memory }
+    ensures room { index < session.old.marks.frontier → IsOk result }
 {
     let due = session.recording().due_time(index);
     let view = session.seek_count(index + 1)?;
-    put_seen(index, due, still, view.terminal(), printer, writer)?;
+    put_seen(index, due, still, view.terminal(), printer, writer);
     Ok(())
 }
 
@@ -226,15 +221,13 @@ fn put_seen<P: ChunkPrinter, W: Write>(
     terminal: &Terminal,
     printer: &P,
     writer: &mut Watched<W>,
-) -> Result<(), Fault>
-    requires { has_failed writer.old ≡ false }
-    ensures puts { Puts W.contents writer.old writer.new
-        (P.text printer.now index due still.old (still_of terminal.now.console)) result }
-    ensures after { OnOk result (still.new ≡ still_of terminal.now.console) }
+)
+    ensures gave { Gave W.contents writer.old writer.new
+        (P.text printer.now index due still.old (still_of terminal.now.console)) }
+    ensures after { still.new ≡ still_of terminal.now.console }
 {
     let changed = still.changed_lines(terminal);
     let lines = changed.as_slice();
-    printer.put(index, due, still, terminal, lines, writer)?;
+    printer.put(index, due, still, terminal, lines, writer);
     still.catch_up(terminal, lines);
-    Ok(())
 }

@@ -5,7 +5,7 @@ use Rattle.std.specs.List.{flat_map}
 use Rattle.std.proofs.lemmas.List.{append-nil, append_assoc}
 use Rattle.std.proofs.lemmas.List.Concat.{flat_map_single, flat_map-append}
 use Rattle.tape_core.specs.declared.devices.Watched.{Watched}
-use Rattle.tape_core.specs.Devices.{Took}
+use Rattle.tape_core.specs.Devices.{Gave}
 use Rattle.tape_check.specs.Header.{visible}
 use Rattle.tape_check.specs.Lines.{shown, part_if, parts_text, unplayed_line}
 use Rattle.tape_check.specs.declared.notes.Note.{Note}
@@ -38,16 +38,10 @@ parts_are_joined parts = parts_joined parts.size parts.term parts.sessions
 pub record Written {T : Type 0} (contents : T → Option (List ℕ)) (old new : Watched T) (entries left : List (List ℕ × ℕ)) : Type 0 where
   pub done : List (List ℕ × ℕ)
   pub cut : entries ≡ done ++ left
-  pub took : Took contents old new (flat_map unplayed_line done)
+  pub took : Gave contents old new (flat_map unplayed_line done)
 
 pub line_more : (done : List (List ℕ × ℕ)) (entry : List ℕ × ℕ)
     → flat_map unplayed_line (done ++ entry ∷ []) ≡ flat_map unplayed_line done ++ unplayed_line entry
 line_more done entry =
     flat_map-append unplayed_line done (entry ∷ [])
     ∙ ap (λ (l : List ℕ). flat_map unplayed_line done ++ l) (append-nil (unplayed_line entry))
-
-pub line_cut : (entries done : List (List ℕ × ℕ)) (entry : List ℕ × ℕ) (left : List (List ℕ × ℕ)) → entries ≡ done ++ entry ∷ left
-    → flat_map unplayed_line entries ≡ flat_map unplayed_line done ++ unplayed_line entry ++ flat_map unplayed_line left
-line_cut entries done entry left cut =
-    ap (flat_map unplayed_line) cut ∙ flat_map-append unplayed_line done (entry ∷ left)
-    ∙ sym (append_assoc (flat_map unplayed_line done) (unplayed_line entry) (flat_map unplayed_line left))

@@ -1,7 +1,7 @@
 //! A check of a recording: what it says of itself, and what of it this terminal can't show.
 ghost use Rattle.std.specs.Prelude.{◌≡◌, ◌||◌, ◌++◌, ◌∷◌, [], decimal, false, IfErr, IfOk, OnOk, is_some, true};
 ghost use Rattle.std.specs.List.{flat_map};
-ghost use Rattle.tape_core.specs.Devices.{Puts, Took, TookPart, has_failed};
+ghost use Rattle.tape_core.specs.Devices.{Gave, Took, TookPart, has_failed};
 ghost use Rattle.tape_check.specs.Words.{text_of};
 ghost use Rattle.tape_check.specs.Header.{header_line};
 ghost use Rattle.tape_check.specs.Lines.{StopsCheck, check_text, facts_text, has_any, has_note, has_part, has_parts, is_noted, note_line, note_lines, parts_text, unplayed_line};
@@ -19,7 +19,7 @@ use crate::words::Word;
 use itoa::Buffer;
 use std::alloc::{AllocError, Global};
 use std::io::Write;
-use tape_core::laws::writers_join;
+use tape_core::laws::gives_join;
 use tape_core::{Fault, Recording, Watched};
 use vt_term::Profile;
 
@@ -70,7 +70,8 @@ pub fn write_check<W: Write>(
 {
     let counts = unplayed_in(alloc, profile, recording.chunks())?;
     let notes = notes_of(recording, profile);
-    put_check(header_line(recording.header()), &notes, &counts, writer)?;
+    put_check(header_line(recording.header()), &notes, &counts, writer);
+    writer.ask()?;
     Ok(is_noted(&notes, &counts))
 }
 
@@ -80,55 +81,43 @@ fn is_noted(notes: &Notes<'_>, counts: &Counts) -> bool
     notes.any() || !counts.entries.is_empty()
 }
 
-fn put_check<W: Write>(
-    line: &[u8],
-    notes: &Notes<'_>,
-    counts: &Counts,
-    writer: &mut Watched<W>,
-) -> Result<(), Fault>
-    requires { has_failed writer.old ≡ false }
-    ensures { Puts W.contents writer.old writer.new
+fn put_check<W: Write>(line: &[u8], notes: &Notes<'_>, counts: &Counts, writer: &mut Watched<W>)
+    ensures { Gave W.contents writer.old writer.new
         (facts_text line.now ++ note_lines (notes_seen notes.now)
-        ++ flat_map unplayed_line (entries_of counts.now)) result }
+        ++ flat_map unplayed_line (entries_of counts.now)) }
 {
-    writers_join::<W>();
-    put_facts(line, writer)?;
-    notes.put(writer)?;
-    put_unplayed(counts, writer)?;
-    Ok(())
+    gives_join::<W>();
+    put_facts(line, writer);
+    notes.put(writer);
+    put_unplayed(counts, writer);
 }
 
-fn put_unplayed<W: Write>(counts: &Counts, writer: &mut Watched<W>) -> Result<(), Fault>
-    requires { has_failed writer.old ≡ false }
-    ensures { Puts W.contents writer.old writer.new
-        (flat_map unplayed_line (entries_of counts.now)) result }
+fn put_unplayed<W: Write>(counts: &Counts, writer: &mut Watched<W>)
+    ensures { Gave W.contents writer.old writer.new
+        (flat_map unplayed_line (entries_of counts.now)) }
 {
-    writers_join::<W>();
+    gives_join::<W>();
     for (name, count) in counts.entries.iter() {
-        put_entry(name.as_slice(), *count, writer)?;
+        put_entry(name.as_slice(), *count, writer);
     }
-    Ok(())
 }
 
-fn put_entry<W: Write>(name: &[u8], count: u64, writer: &mut Watched<W>) -> Result<(), Fault>
-    requires { has_failed writer.old ≡ false }
-    ensures { Puts W.contents writer.old writer.new (unplayed_line (name.now, count)) result }
+fn put_entry<W: Write>(name: &[u8], count: u64, writer: &mut Watched<W>)
+    ensures { Gave W.contents writer.old writer.new (unplayed_line (name.now, count)) }
 {
-    writers_join::<W>();
-    put_count(count, writer)?;
-    writer.put(name)?;
-    writer.put(b"\n")?;
-    Ok(())
+    gives_join::<W>();
+    put_count(count, writer);
+    writer.give(name);
+    writer.give(b"\n");
 }
 
-fn put_count<W: Write>(count: u64, writer: &mut Watched<W>) -> Result<(), Fault>
-    requires { has_failed writer.old ≡ false }
-    ensures { Puts W.contents writer.old writer.new
-        (text_of Word.Unplayed ++ decimal count ++ 32 ∷ []) result }
+fn put_count<W: Write>(count: u64, writer: &mut Watched<W>)
+    ensures { Gave W.contents writer.old writer.new
+        (text_of Word.Unplayed ++ decimal count ++ 32 ∷ []) }
 {
     let mut digits = Buffer::new();
     let count = digits.format(count).as_bytes();
-    writer.put_all(&[Word::Unplayed.text(), count, b" "])
+    writer.give_all(&[Word::Unplayed.text(), count, b" "]);
 }
 
 /// Writes one line that tells whoever plays a recording what of its size, its terminal and its sessions speaks against
@@ -147,7 +136,7 @@ pub fn put_parts<W: Write>(
     ensures fault { IfErr result (λ fault. (fault ≡ Fault.WriteFault)
         × TookPart W.contents writer.old writer.new (note_line profile recording.now) true) }
 {
-    writers_join::<W>();
+    gives_join::<W>();
     let line = header_line(recording.header());
     let parts = Parts {
         size: size_note(size_of(line)),
@@ -157,7 +146,8 @@ pub fn put_parts<W: Write>(
     if !parts.any() {
         return Ok(false);
     }
-    parts.put_line(writer)?;
+    parts.put_line(writer);
+    writer.ask()?;
     Ok(true)
 }
 
@@ -176,51 +166,42 @@ impl Parts<'_> {
         self.size.is_some() || self.term.is_some() || self.sessions.is_some()
     }
 
-    fn put_line<W: Write>(&self, writer: &mut Watched<W>) -> Result<(), Fault>
-        requires { has_failed writer.old ≡ false }
-        ensures { Puts W.contents writer.old writer.new
-            (text_of Word.Beginning ++ parts_text (parts_seen self.now) ++ text_of Word.Ending)
-            result }
+    fn put_line<W: Write>(&self, writer: &mut Watched<W>)
+        ensures { Gave W.contents writer.old writer.new
+            (text_of Word.Beginning ++ parts_text (parts_seen self.now) ++ text_of Word.Ending) }
     {
-        writers_join::<W>();
-        writer.put(Word::Beginning.text())?;
-        self.put(writer)?;
-        writer.put(Word::Ending.text())?;
-        Ok(())
+        gives_join::<W>();
+        writer.give(Word::Beginning.text());
+        self.put(writer);
+        writer.give(Word::Ending.text());
     }
 
-    fn put<W: Write>(&self, writer: &mut Watched<W>) -> Result<(), Fault>
-        requires { has_failed writer.old ≡ false }
-        ensures { Puts W.contents writer.old writer.new (parts_text (parts_seen self.now)) result }
+    fn put<W: Write>(&self, writer: &mut Watched<W>)
+        ensures { Gave W.contents writer.old writer.new (parts_text (parts_seen self.now)) }
     {
         self.put_in_turn(writer)
     }
 
     #[tactic(auto, unfolding(crate::specs::Noting::parts_in_turn))]
-    fn put_in_turn<W: Write>(&self, writer: &mut Watched<W>) -> Result<(), Fault>
-        requires { has_failed writer.old ≡ false }
-        ensures { Puts W.contents writer.old writer.new (parts_in_turn self.now) result }
+    fn put_in_turn<W: Write>(&self, writer: &mut Watched<W>)
+        ensures { Gave W.contents writer.old writer.new (parts_in_turn self.now) }
     {
-        writers_join::<W>();
-        put_further(false, &self.size, writer)?;
-        self.put_term(writer)?;
-        self.put_sessions(writer)?;
-        Ok(())
+        gives_join::<W>();
+        put_further(false, &self.size, writer);
+        self.put_term(writer);
+        self.put_sessions(writer);
     }
 
-    fn put_term<W: Write>(&self, writer: &mut Watched<W>) -> Result<(), Fault>
-        requires { has_failed writer.old ≡ false }
-        ensures { Puts W.contents writer.old writer.new
-            (further (is_some self.now.size) (seen_if self.now.term)) result }
+    fn put_term<W: Write>(&self, writer: &mut Watched<W>)
+        ensures { Gave W.contents writer.old writer.new
+            (further (is_some self.now.size) (seen_if self.now.term)) }
     {
         put_further(self.size.is_some(), &self.term, writer)
     }
 
-    fn put_sessions<W: Write>(&self, writer: &mut Watched<W>) -> Result<(), Fault>
-        requires { has_failed writer.old ≡ false }
-        ensures { Puts W.contents writer.old writer.new
-            (further (is_some self.now.size || is_some self.now.term) (seen_if self.now.sessions))
-            result }
+    fn put_sessions<W: Write>(&self, writer: &mut Watched<W>)
+        ensures { Gave W.contents writer.old writer.new
+            (further (is_some self.now.size || is_some self.now.term) (seen_if self.now.sessions)) }
     {
         put_further(self.has_header_note(), &self.sessions, writer)
     }

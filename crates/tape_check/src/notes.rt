@@ -1,7 +1,7 @@
 //! What is noted of a recording.
 ghost use Rattle.std.specs.Prelude.{◌≡◌, ◌≤◌, ◌++◌, ◌∷◌, [], count_by, false, length, nat_le};
 ghost use Rattle.std.specs.Option.{option_copied, option_map};
-ghost use Rattle.tape_core.specs.Devices.{Puts, has_failed};
+ghost use Rattle.tape_core.specs.Devices.{Gave, has_failed};
 ghost use Rattle.tape_core.specs.Tape.{body, body_len, longest_body};
 ghost use Rattle.tape_check.specs.Words.{text_of};
 ghost use Rattle.tape_check.specs.Header.{size_of, term_of};
@@ -15,7 +15,7 @@ use crate::trailer::{is_usual, sessions_in};
 use crate::words::Word;
 use itoa::{Buffer, Integer};
 use std::io::Write;
-use tape_core::laws::{pieces_join, writers_join};
+use tape_core::laws::gives_join;
 use tape_core::{Chunk, Fault, Recording, Watched};
 use vt_term::Profile;
 
@@ -137,92 +137,74 @@ pub(crate) fn sessions_note(n: usize) -> Option<Note<'static>>
 
 /// Writes what the header tells. After a fault a beginning of it has gone out.
 #[tactic(auto, unfolding(crate::specs::Lines::facts_text))]
-pub(crate) fn put_facts<W: Write>(line: &[u8], writer: &mut Watched<W>) -> Result<(), Fault>
-    requires { has_failed writer.old ≡ false }
-    ensures { Puts W.contents writer.old writer.new (facts_text line.now) result }
+pub(crate) fn put_facts<W: Write>(line: &[u8], writer: &mut Watched<W>)
+    ensures { Gave W.contents writer.old writer.new (facts_text line.now) }
 {
-    writers_join::<W>();
-    put_fact(Word::Started, date_of(line), writer)?;
-    put_fact(Word::Term, term_of(line), writer)?;
-    put_size(size_of(line), writer)?;
-    Ok(())
+    gives_join::<W>();
+    put_fact(Word::Started, date_of(line), writer);
+    put_fact(Word::Term, term_of(line), writer);
+    put_size(size_of(line), writer);
 }
 
-fn put_fact<W: Write>(head: Word, text: Option<&[u8]>, writer: &mut Watched<W>) -> Result<(), Fault>
-    requires { has_failed writer.old ≡ false }
-    ensures { Puts W.contents writer.old writer.new
-        (line_if (text_of head) (shown_if (option_copied text.entry))) result }
+fn put_fact<W: Write>(head: Word, text: Option<&[u8]>, writer: &mut Watched<W>)
+    ensures { Gave W.contents writer.old writer.new
+        (line_if (text_of head) (shown_if (option_copied text.entry))) }
 {
-    writers_join::<W>();
-    match text {
-        Some(text) => put_shown_line(head, text, writer),
-        None => Ok(()),
+    gives_join::<W>();
+    if let Some(text) = text {
+        put_shown_line(head, text, writer);
     }
 }
 
-fn put_shown_line<W: Write>(head: Word, text: &[u8], writer: &mut Watched<W>) -> Result<(), Fault>
-    requires { has_failed writer.old ≡ false }
-    ensures { Puts W.contents writer.old writer.new
-        (text_of head ++ shown text.now ++ 10 ∷ []) result }
+fn put_shown_line<W: Write>(head: Word, text: &[u8], writer: &mut Watched<W>)
+    ensures { Gave W.contents writer.old writer.new
+        (text_of head ++ shown text.now ++ 10 ∷ []) }
 {
-    writers_join::<W>();
-    writer.put(head.text())?;
-    put_shown(text, writer)?;
-    writer.put(b"\n")?;
-    Ok(())
+    gives_join::<W>();
+    writer.give(head.text());
+    put_shown(text, writer);
+    writer.give(b"\n");
 }
 
 // Writes a text of the header, its control characters and bytes from 127 on as `?`.
 #[tactic(auto, using(crate::proofs::NoteLemmas::shown_pieces))]
-fn put_shown<W: Write>(text: &[u8], writer: &mut Watched<W>) -> Result<(), Fault>
-    requires { has_failed writer.old ≡ false }
-    ensures { Puts W.contents writer.old writer.new (shown text.now) result }
+fn put_shown<W: Write>(text: &[u8], writer: &mut Watched<W>)
+    ensures { Gave W.contents writer.old writer.new (shown text.now) }
 {
-    pieces_join::<W, u8>();
+    gives_join::<W>();
     for byte in text {
-        writer.put(&[visible(*byte)])?;
+        writer.give(&[visible(*byte)]);
     }
-    Ok(())
 }
 
-fn put_size<W: Write>(size: Option<Size<'_>>, writer: &mut Watched<W>) -> Result<(), Fault>
-    requires { has_failed writer.old ≡ false }
-    ensures { Puts W.contents writer.old writer.new
-        (line_if (text_of Word.Size) (size_text_if (option_map size_seen size.entry))) result }
+fn put_size<W: Write>(size: Option<Size<'_>>, writer: &mut Watched<W>)
+    ensures { Gave W.contents writer.old writer.new
+        (line_if (text_of Word.Size) (size_text_if (option_map size_seen size.entry))) }
 {
-    match size {
-        Some(size) => put_between(Word::Size, &size, b"\n", writer),
-        None => Ok(()),
+    gives_join::<W>();
+    if let Some(size) = size {
+        put_between(Word::Size, &size, b"\n", writer);
     }
 }
 
 // Writes a size between two texts.
-fn put_between<W: Write>(
-    head: Word,
-    size: &Size<'_>,
-    tail: &[u8],
-    writer: &mut Watched<W>,
-) -> Result<(), Fault>
-    requires { has_failed writer.old ≡ false }
-    ensures { Puts W.contents writer.old writer.new
-        (text_of head ++ size_text (size_seen size.now) ++ tail.now) result }
+fn put_between<W: Write>(head: Word, size: &Size<'_>, tail: &[u8], writer: &mut Watched<W>)
+    ensures { Gave W.contents writer.old writer.new
+        (text_of head ++ size_text (size_seen size.now) ++ tail.now) }
 {
-    writers_join::<W>();
-    writer.put(head.text())?;
-    put_size_text(size, writer)?;
-    writer.put(tail)?;
-    Ok(())
+    gives_join::<W>();
+    writer.give(head.text());
+    put_size_text(size, writer);
+    writer.give(tail);
 }
 
-fn put_size_text<W: Write>(size: &Size<'_>, writer: &mut Watched<W>) -> Result<(), Fault>
-    requires { has_failed writer.old ≡ false }
-    ensures { Puts W.contents writer.old writer.new (size_text (size_seen size.now)) result }
+fn put_size_text<W: Write>(size: &Size<'_>, writer: &mut Watched<W>)
+    ensures { Gave W.contents writer.old writer.new (size_text (size_seen size.now)) }
 {
-    writers_join::<W>();
-    writer.put(size.columns)?;
-    writer.put(b"x")?;
-    writer.put(size.lines)?;
-    Ok(())
+    gives_join::<W>();
+    writer.give(size.columns);
+    writer.give(b"x");
+    writer.give(size.lines);
 }
 
 impl Notes<'_> {
@@ -240,113 +222,90 @@ impl Notes<'_> {
 
     /// Writes a line for each. After a fault a beginning of them has gone out.
     #[tactic(auto, unfolding(crate::specs::Lines::note_lines))]
-    pub(crate) fn put<W: Write>(&self, writer: &mut Watched<W>) -> Result<(), Fault>
-        requires { has_failed writer.old ≡ false }
-        ensures { Puts W.contents writer.old writer.new (note_lines (notes_seen self.now)) result }
+    pub(crate) fn put<W: Write>(&self, writer: &mut Watched<W>)
+        ensures { Gave W.contents writer.old writer.new (note_lines (notes_seen self.now)) }
     {
-        writers_join::<W>();
-        self.put_on_header(writer)?;
-        self.put_on_body(writer)?;
-        Ok(())
+        gives_join::<W>();
+        self.put_on_header(writer);
+        self.put_on_body(writer);
     }
 
     #[tactic(auto, unfolding(crate::specs::Lines::header_note_lines))]
-    fn put_on_header<W: Write>(&self, writer: &mut Watched<W>) -> Result<(), Fault>
-        requires { has_failed writer.old ≡ false }
-        ensures { Puts W.contents writer.old writer.new
-            (header_note_lines (notes_seen self.now)) result }
+    fn put_on_header<W: Write>(&self, writer: &mut Watched<W>)
+        ensures { Gave W.contents writer.old writer.new (header_note_lines (notes_seen self.now)) }
     {
-        writers_join::<W>();
-        put_note_line(&self.header, writer)?;
-        put_note_line(&self.size, writer)?;
-        put_note_line(&self.term, writer)?;
-        Ok(())
+        gives_join::<W>();
+        put_note_line(&self.header, writer);
+        put_note_line(&self.size, writer);
+        put_note_line(&self.term, writer);
     }
 
     #[tactic(auto, unfolding(crate::specs::Lines::body_note_lines))]
-    fn put_on_body<W: Write>(&self, writer: &mut Watched<W>) -> Result<(), Fault>
-        requires { has_failed writer.old ≡ false }
-        ensures { Puts W.contents writer.old writer.new
-            (body_note_lines (notes_seen self.now)) result }
+    fn put_on_body<W: Write>(&self, writer: &mut Watched<W>)
+        ensures { Gave W.contents writer.old writer.new (body_note_lines (notes_seen self.now)) }
     {
-        writers_join::<W>();
-        put_note_line(&self.bytes, writer)?;
-        put_note_line(&self.trailer, writer)?;
-        put_note_line(&self.sessions, writer)?;
-        Ok(())
+        gives_join::<W>();
+        put_note_line(&self.bytes, writer);
+        put_note_line(&self.trailer, writer);
+        put_note_line(&self.sessions, writer);
     }
 }
 
-fn put_note_line<W: Write>(note: &Option<Note<'_>>, writer: &mut Watched<W>) -> Result<(), Fault>
-    requires { has_failed writer.old ≡ false }
-    ensures { Puts W.contents writer.old writer.new
-        (line_if (text_of Word.Note) (seen_if note.now)) result }
+fn put_note_line<W: Write>(note: &Option<Note<'_>>, writer: &mut Watched<W>)
+    ensures { Gave W.contents writer.old writer.new
+        (line_if (text_of Word.Note) (seen_if note.now)) }
 {
-    writers_join::<W>();
-    match note {
-        Some(note) => note.put_line(writer),
-        None => Ok(()),
+    gives_join::<W>();
+    if let Some(note) = note {
+        note.put_line(writer);
     }
 }
 
 /// Writes a part, with `; ` before it where another one stands there.
-pub(crate) fn put_further<W: Write>(
-    before: bool,
-    note: &Option<Note<'_>>,
-    writer: &mut Watched<W>,
-) -> Result<(), Fault>
-    requires { has_failed writer.old ≡ false }
-    ensures { Puts W.contents writer.old writer.new (further before (seen_if note.now)) result }
+pub(crate) fn put_further<W: Write>(before: bool, note: &Option<Note<'_>>, writer: &mut Watched<W>)
+    ensures { Gave W.contents writer.old writer.new (further before (seen_if note.now)) }
 {
-    writers_join::<W>();
-    match note {
-        Some(note) => note.put_behind(before, writer),
-        None => Ok(()),
+    gives_join::<W>();
+    if let Some(note) = note {
+        note.put_behind(before, writer);
     }
 }
 
 #[tactic(auto, unfolding(crate::specs::Noting::separator))]
-fn put_separator<W: Write>(before: bool, writer: &mut Watched<W>) -> Result<(), Fault>
-    requires { has_failed writer.old ≡ false }
-    ensures { Puts W.contents writer.old writer.new (separator before) result }
+fn put_separator<W: Write>(before: bool, writer: &mut Watched<W>)
+    ensures { Gave W.contents writer.old writer.new (separator before) }
 {
-    writers_join::<W>();
+    gives_join::<W>();
     if before {
-        return writer.put(Word::Separator.text());
+        writer.give(Word::Separator.text());
     }
-    Ok(())
 }
 
 impl Note<'_> {
-    fn put_behind<W: Write>(&self, before: bool, writer: &mut Watched<W>) -> Result<(), Fault>
-        requires { has_failed writer.old ≡ false }
-        ensures { Puts W.contents writer.old writer.new
-            (separator before ++ note_seen self.now) result }
+    fn put_behind<W: Write>(&self, before: bool, writer: &mut Watched<W>)
+        ensures { Gave W.contents writer.old writer.new
+            (separator before ++ note_seen self.now) }
     {
-        writers_join::<W>();
-        put_separator(before, writer)?;
-        self.put(writer)?;
-        Ok(())
+        gives_join::<W>();
+        put_separator(before, writer);
+        self.put(writer);
     }
 
-    fn put_line<W: Write>(&self, writer: &mut Watched<W>) -> Result<(), Fault>
-        requires { has_failed writer.old ≡ false }
-        ensures { Puts W.contents writer.old writer.new
-            (text_of Word.Note ++ note_seen self.now ++ 10 ∷ []) result }
+    fn put_line<W: Write>(&self, writer: &mut Watched<W>)
+        ensures { Gave W.contents writer.old writer.new
+            (text_of Word.Note ++ note_seen self.now ++ 10 ∷ []) }
     {
-        writers_join::<W>();
-        writer.put(Word::Note.text())?;
-        self.put(writer)?;
-        writer.put(b"\n")?;
-        Ok(())
+        gives_join::<W>();
+        writer.give(Word::Note.text());
+        self.put(writer);
+        writer.give(b"\n");
     }
 
-    fn put<W: Write>(&self, writer: &mut Watched<W>) -> Result<(), Fault>
-        requires { has_failed writer.old ≡ false }
-        ensures { Puts W.contents writer.old writer.new (note_seen self.now) result }
+    fn put<W: Write>(&self, writer: &mut Watched<W>)
+        ensures { Gave W.contents writer.old writer.new (note_seen self.now) }
     {
         match self {
-            Note::Header => writer.put(Word::NoHeader.text()),
+            Note::Header => writer.give(Word::NoHeader.text()),
             Note::Size(size) => {
                 put_between(Word::OtherSize, size, Word::PlayedSize.text(), writer)
             }
@@ -358,29 +317,22 @@ impl Note<'_> {
     }
 }
 
-fn put_other_term<W: Write>(
-    term: &[u8],
-    profile: Profile,
-    writer: &mut Watched<W>,
-) -> Result<(), Fault>
-    requires { has_failed writer.old ≡ false }
-    ensures { Puts W.contents writer.old writer.new
+fn put_other_term<W: Write>(term: &[u8], profile: Profile, writer: &mut Watched<W>)
+    ensures { Gave W.contents writer.old writer.new
         (text_of Word.OtherTerm ++ shown term.now
-        ++ (text_of Word.PlayedTerm ++ profile_name profile)) result }
+        ++ (text_of Word.PlayedTerm ++ profile_name profile)) }
 {
-    writers_join::<W>();
-    writer.put(Word::OtherTerm.text())?;
-    put_shown(term, writer)?;
-    put_played(profile, writer)?;
-    Ok(())
+    gives_join::<W>();
+    writer.give(Word::OtherTerm.text());
+    put_shown(term, writer);
+    put_played(profile, writer);
 }
 
-fn put_played<W: Write>(profile: Profile, writer: &mut Watched<W>) -> Result<(), Fault>
-    requires { has_failed writer.old ≡ false }
-    ensures { Puts W.contents writer.old writer.new
-        (text_of Word.PlayedTerm ++ profile_name profile) result }
+fn put_played<W: Write>(profile: Profile, writer: &mut Watched<W>)
+    ensures { Gave W.contents writer.old writer.new
+        (text_of Word.PlayedTerm ++ profile_name profile) }
 {
-    writer.put_all(&[Word::PlayedTerm.text(), profile_word(profile).text()])
+    writer.give_all(&[Word::PlayedTerm.text(), profile_word(profile).text()]);
 }
 
 fn profile_word(profile: Profile) -> Word
@@ -392,15 +344,9 @@ fn profile_word(profile: Profile) -> Word
     }
 }
 
-fn put_number<I: Integer, W: Write>(
-    head: Word,
-    n: I,
-    tail: Word,
-    writer: &mut Watched<W>,
-) -> Result<(), Fault>
-    requires { has_failed writer.old ≡ false }
-    ensures { Puts W.contents writer.old writer.new
-        (text_of head ++ I.text n ++ text_of tail) result }
+fn put_number<I: Integer, W: Write>(head: Word, n: I, tail: Word, writer: &mut Watched<W>)
+    ensures { Gave W.contents writer.old writer.new
+        (text_of head ++ I.text n ++ text_of tail) }
 {
-    writer.put_all(&[head.text(), Buffer::new().format(n).as_bytes(), tail.text()])
+    writer.give_all(&[head.text(), Buffer::new().format(n).as_bytes(), tail.text()]);
 }

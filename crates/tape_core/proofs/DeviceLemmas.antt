@@ -1,10 +1,11 @@
 -- One piece after another, of what a reader tells or a writer takes.
-use Rattle.std.proofs.Common.{◌≡◌, ℕ, Bool, false, true, List, [], ◌∷◌, ◌++◌, map, refl, take, drop, sym, ◌∙◌, ap, subst, append_assoc, append-nil, Option, Some, None}
+use Rattle.std.proofs.Common.{◌≡◌, ℕ, Bool, false, true, List, [], ◌∷◌, ◌++◌, map, refl, take, drop, sym, ◌∙◌, ap, subst, append_assoc, append-nil, Option, Some, None, ◌||◌, length, nat_lt, arith}
 use Rattle.std.specs.List.{flat_map}
 use Rattle.std.specs.Io.KnownBytes.{Appends, Consumes}
+use Rattle.std.proofs.lemmas.Bool.{le-ltb, lt-ltb}
 use Rattle.std.proofs.lemmas.List.{take-append-drop}
 use Rattle.tape_core.specs.declared.devices.Watched.{Watched}
-use Rattle.tape_core.specs.Devices.{inner_of, has_failed, Took, TookPart, joined}
+use Rattle.tape_core.specs.Devices.{inner_of, has_failed, has_written, Took, TookPart, joined}
 
 -- known bytes that grow by x and then by y grow by both
 pub appends-append : (a b c : Option (List ℕ)) (x y : List ℕ) → Appends a b x → Appends b c y → Appends a c (x ++ y)
@@ -18,9 +19,29 @@ pub appends-none : (a : Option (List ℕ)) → Appends a a []
 appends-none None = tt
 appends-none (Some s) = sym (append-nil s)
 
+or_false : (b : Bool) → (b || false) ≡ b
+or_false true = refl
+or_false false = refl
+
+-- a writer that was given nothing has taken as much as before
+pub written_none : {T : Type 0} (a : Watched T) → has_written a ≡ (has_written a || nat_lt 0 0)
+written_none a = sym (or_false (has_written a))
+
+-- something of two texts is something of one
+some_of_both : (b : Bool) (x y : List ℕ) → ((b || nat_lt 0 (length x)) || nat_lt 0 (length y)) ≡ (b || nat_lt 0 (length (x ++ y)))
+some_of_both true x y = refl
+some_of_both false [] y = ap (λ w. w || nat_lt 0 (length y)) (le-ltb 0 0 (omega arith))
+some_of_both false (a ∷ x) y =
+    ap (λ w. w || nat_lt 0 (length y)) (lt-ltb 0 (length (a ∷ x)) (omega arith)) ∙ sym (lt-ltb 0 (length (a ∷ x ++ y)) (omega arith))
+
+-- whether a byte of two texts was taken
+pub written-append : {T : Type 0} (a b c : Watched T) (x y : List ℕ) → has_written b ≡ (has_written a || nat_lt 0 (length x))
+    → has_written c ≡ (has_written b || nat_lt 0 (length y)) → has_written c ≡ (has_written a || nat_lt 0 (length (x ++ y)))
+written-append a b c x y h k = k ∙ ap (λ w. w || nat_lt 0 (length y)) h ∙ some_of_both (has_written a) x y
+
 -- a writer that is sound has taken nothing yet
 pub took_none : {T : Type 0} (contents : T → Option (List ℕ)) (a : Watched T) → has_failed a ≡ false → Took contents a a []
-took_none contents a sound = record { sound = sound; grown = appends-none (contents (inner_of a)) }
+took_none contents a sound = record { sound = sound; grown = appends-none (contents (inner_of a)); written = written_none a }
 
 -- one text after another
 pub took-append : {T : Type 0} {contents : T → Option (List ℕ)} {a b c : Watched T} {x y : List ℕ} → Took contents a b x
@@ -28,6 +49,7 @@ pub took-append : {T : Type 0} {contents : T → Option (List ℕ)} {a b c : Wat
 took-append {contents = contents} {a = a} {b = b} {c = c} {x = x} {y = y} h k = record {
   sound = k.sound;
   grown = appends-append (contents (inner_of a)) (contents (inner_of b)) (contents (inner_of c)) x y h.grown k.grown;
+  written = written-append a b c x y h.written k.written;
 }
 
 -- one text after another, stopped in the second

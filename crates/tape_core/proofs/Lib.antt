@@ -1,4 +1,5 @@
-mod DeviceLemmas
+pub mod DeviceLemmas
+pub mod GaveLemmas
 mod DigitLemmas
 mod SecondsLemmas
 mod DueLemmas

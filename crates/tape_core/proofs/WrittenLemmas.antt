@@ -1,15 +1,10 @@
 -- Texts written from their end, one part before another.
-use Rattle.std.proofs.Common.{◌≡◌, ℕ, Bool, suc, ◌+◌, ◌-◌, ◌/◌, ◌%◌, ◌^◌, ◌<◌, ◌≤◌, List, [], ◌∷◌, ◌++◌, length, get_or, set, take, drop, replicate, ap, sym, ◌∙◌, arith, append_assoc, length-append, length-take, length-drop, Option, subst}
+use Rattle.std.proofs.Common.{◌≡◌, ℕ, suc, ◌+◌, ◌-◌, ◌/◌, ◌%◌, ◌^◌, ◌<◌, ◌≤◌, List, [], ◌∷◌, ◌++◌, length, set, take, drop, replicate, ap, sym, ◌∙◌, arith, append_assoc, length-append, length-take, length-drop}
 use borrow.Rule.Slice.PartMut.{put_mid}
 use Rattle.std.specs.Fmt.{decimal}
-use Rattle.std.specs.List.{flat_map}
 use Rattle.std.proofs.lemmas.Fmt.{length-decimal-le}
-use Rattle.std.proofs.lemmas.List.Concat.{flat_map-append}
-use Rattle.std.proofs.lemmas.List.{drop_more, drop-append-le, drop-drop, drop-take, drop_at, drop_all, drop-set, take-append-drop, take-append-le, take-replicate, length-replicate}
-use Rattle.tape_core.specs.declared.devices.Watched.{Watched}
-use Rattle.tape_core.specs.Devices.{Took, TookPart}
+use Rattle.std.proofs.lemmas.List.{drop-append-le, drop-drop, drop-take, drop_at, drop_all, drop-set, take-append-drop, take-append-le, take-replicate, length-replicate}
 use Rattle.tape_core.specs.Written.{seconds_form, six_digits}
-use Rattle.tape_core.proofs.DeviceLemmas.{stopped-append, stopped_before}
 
 -- how long the parts of seconds are
 pub short_whole : (us : ℕ) → us < 2 ^ 64 → length (decimal (us / 1000000)) ≤ 14
@@ -85,18 +80,3 @@ line_written buf buf' buf'' seconds count end first start last some within same 
     let space : drop (first - 1) (set buf' (first - 1) 32) ≡ 32 ∷ (decimal count ++ 10 ∷ []) =
     drop-set buf' (first - 1) 32 (omega arith) ∙ ap (λ n. 32 ∷ drop n buf') next ∙ ap (λ x. 32 ∷ x) (counted ∙ ap (λ x. decimal count ++ x) feed) in
     spaced ∙ ap (λ x. seconds ++ x) space ∙ sym (append_assoc seconds (32 ∷ decimal count) (10 ∷ []))
-
--- pieces joined, cut round one of them
-pub flat_map_cut : {X : Type 0} (f : X → List ℕ) (xs : List X) (i : ℕ) (x : X) → i < length xs → x ≡ get_or xs i x
-    → flat_map f xs ≡ (flat_map f (take i xs) ++ f x) ++ flat_map f (drop (i + 1) xs)
-flat_map_cut f xs i x lt is =
-    let cut = sym (flat_map-append f (take i xs) (drop i xs)) ∙ ap (flat_map f) (take-append-drop i xs) in
-    sym cut ∙ ap (λ ys. flat_map f (take i xs) ++ flat_map f ys) (drop_more xs i x lt) ∙ ap (λ y. flat_map f (take i xs) ++ (f y ++ flat_map f (drop (i + 1) xs))) (sym is)
-    ∙ sym (append_assoc (flat_map f (take i xs)) (f x) (flat_map f (drop (i + 1) xs)))
-
--- a writer that stopped in one of the pieces
-pub stopped_in_piece : {T X : Type 0} {contents : T → Option (List ℕ)} {a b c : Watched T} {failed : Bool} (f : X → List ℕ) (xs : List X) (i : ℕ) (x : X)
-    → i < length xs → x ≡ get_or xs i x
-    → Took contents a b (flat_map f (take i xs)) → TookPart contents b c (f x) failed → TookPart contents a c (flat_map f xs) failed
-stopped_in_piece {contents = contents} {a = a} {c = c} {failed = failed} f xs i x lt is took stopped =
-    subst (λ t. TookPart contents a c t failed) (sym (flat_map_cut f xs i x lt is)) (stopped_before (flat_map f (drop (i + 1) xs)) (stopped-append took stopped))

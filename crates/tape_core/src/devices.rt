@@ -2,24 +2,27 @@
 //!
 //! No fault is retried. After a fault the device is left alone: each call here asks for one that hasn't failed.
 
-ghost use Rattle.std.specs.Prelude.{◌≡◌, ◌<◌, ◌≤◌, true, false, [], length, map, take, vec_len, OnOk, IfOk, IfErr, OnErr, is_err};
-ghost use Rattle.tape_core.specs.Devices.{inner_of, has_failed, is_flushed, ToldAll, StopsReading, Took, TookPart, Puts, joined};
+ghost use Rattle.std.specs.Prelude.{◌≡◌, ◌<◌, ◌≤◌, true, false, List, ℕ, [], length, map, take, vec_len, OnOk, IfOk, IfErr, OnErr, is_err};
+ghost use Rattle.tape_core.specs.Devices.{inner_of, has_failed, has_written, is_flushed, ToldAll, StopsReading, Took, TookPart, Puts, Gave, joined};
+ghost use Rattle.tape_core.specs.declared.devices.Watched.{Watched};
 ghost use Rattle.tape_core.specs.Steps.{Told};
 
 use crate::fault::Fault;
-use crate::laws::pieces_join;
+use crate::laws::gives_join;
 use std::alloc::{AllocError, Global};
 use std::io::{Read, Write};
 
 /// How many bytes `slurp` asks a reader for at a time.
 const PIECE: usize = 65536;
 
-/// A reader or a writer, whether it has failed, and whether a flush of it, behind which nothing was put, didn't.
+/// A reader or a writer, whether it has failed, whether a flush of it, behind which nothing was put, didn't, and whether
+/// it has taken a byte.
 #[derive(Drop)]
 pub struct Watched<T> {
     inner: T,
     failed: bool,
     flushed: bool,
+    written: bool,
 }
 
 impl<T> Watched<T> {
@@ -28,11 +31,13 @@ impl<T> Watched<T> {
         ensures inner { inner_of result ≡ inner }
         ensures sound { has_failed result ≡ false }
         ensures unflushed { is_flushed result ≡ false }
+        ensures unwritten { has_written result ≡ false }
     {
         Watched {
             inner,
             failed: false,
             flushed: false,
+            written: false,
         }
     }
 
@@ -41,6 +46,13 @@ impl<T> Watched<T> {
         ensures { result ≡ has_failed self.now }
     {
         self.failed
+    }
+
+    /// Whether the writer has taken a byte.
+    pub fn written(&self) -> bool
+        ensures { result ≡ has_written self.now }
+    {
+        self.written
     }
 
     /// The reader or the writer that stood inside.
@@ -67,8 +79,50 @@ impl<R: Read> Watched<R> {
 }
 
 impl<W: Write> Watched<W> {
+    /// Gives the writer the bytes. One that has failed takes no more, and `settle` tells of it.
+    #[inline]
+    pub fn give(&mut self, bytes: &[u8])
+        ensures { Gave W.contents self.old self.new bytes.now }
+    {
+        if !self.failed {
+            let _ = self.put(bytes);
+        }
+    }
+
+    /// Gives the writer the pieces, one after another.
+    pub fn give_all(&mut self, pieces: &[&[u8]])
+        ensures { Gave W.contents self.old self.new (joined (map (λ piece. piece.now) pieces.now)) }
+    {
+        gives_join::<W>();
+        for bytes in pieces {
+            self.give(bytes);
+        }
+    }
+
+    /// Tells whether all that was given since the writer was known to be sound was taken.
+    pub fn ask(&self) -> Result<(), Fault>
+        ensures puts { (start : Watched W) (text : List ℕ)
+            → Gave W.contents start self.now text → Puts W.contents start self.now text result }
+        ensures sound { OnOk result (has_failed self.now ≡ false) }
+    {
+        if self.failed {
+            return Err(Fault::WriteFault);
+        }
+        Ok(())
+    }
+
+    /// Tells the same, and flushes where all was taken.
+    pub fn settle(&mut self) -> Result<(), Fault>
+        ensures puts { (start : Watched W) (text : List ℕ)
+            → Gave W.contents start self.old text → Puts W.contents start self.new text result }
+        ensures flushed { OnOk result (is_flushed self.new ≡ true) }
+    {
+        self.ask()?;
+        self.finish()
+    }
+
     /// Writes all the bytes. After a write fault a beginning of them has gone out.
-    pub fn put(&mut self, bytes: &[u8]) -> Result<(), Fault>
+    fn put(&mut self, bytes: &[u8]) -> Result<(), Fault>
         requires { has_failed self.old ≡ false }
         ensures puts { Puts W.contents self.old self.new bytes.now result }
         ensures unflushed { is_flushed self.new ≡ false }
@@ -82,23 +136,8 @@ impl<W: Write> Watched<W> {
         Ok(())
     }
 
-    /// Writes all the pieces, one after another. After a write fault a beginning of them has gone out.
-    pub fn put_all(&mut self, pieces: &[&[u8]]) -> Result<(), Fault>
-        requires { has_failed self.old ≡ false }
-        ensures puts { Puts W.contents self.old self.new
-            (joined (map (λ piece. piece.now) pieces.now)) result }
-        ensures unflushed { is_flushed self.new ≡ false }
-    {
-        pieces_join::<W, &[u8]>();
-        self.flushed = false;
-        for piece in pieces {
-            self.put(piece)?;
-        }
-        Ok(())
-    }
-
     /// Flushes what the writer may hold back. It writes nothing of its own.
-    pub fn finish(&mut self) -> Result<(), Fault>
+    fn finish(&mut self) -> Result<(), Fault>
         requires { has_failed self.old ≡ false }
         ensures puts { Puts W.contents self.old self.new [] result }
         ensures flushed { OnOk result (is_flushed self.new ≡ true) }
@@ -122,7 +161,10 @@ impl<W: Write> Watched<W> {
         ensures stopped { OnErr result (TookPart W.contents self.old self.new [] true) }
     {
         match self.inner.write(piece) {
-            Ok(count) if count > 0 => Ok(count),
+            Ok(count) if count > 0 => {
+                self.written = true;
+                Ok(count)
+            }
             _ => {
                 self.failed = true;
                 Err(Fault::WriteFault)

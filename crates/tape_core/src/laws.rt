@@ -1,11 +1,11 @@
 //! Laws over the definitions alone, as functions with empty bodies.
-ghost use Rattle.std.specs.Prelude.{◌≡◌, ◌<◌, ◌++◌, ◌∷◌, [], Bool, ℕ, List, MatchOption, Ok, Some, false, length, min, slice_index_or, take};
-ghost use Rattle.std.specs.List.{AllPass, flat_map};
+ghost use Rattle.std.specs.Prelude.{◌≡◌, ◌++◌, ◌∷◌, [], Bool, ℕ, List, MatchOption, Ok, Some, false, min, true};
+ghost use Rattle.std.specs.List.{AllPass};
 ghost use Rattle.tape_core.specs.declared.chunk.Chunk.{Chunk};
 ghost use Rattle.tape_core.specs.declared.devices.Watched.{Watched};
 ghost use Rattle.tape_core.specs.declared.timing.Entry.{Entry};
 ghost use Rattle.tape_core.specs.declared.timing.EntryFault.{EntryFault};
-ghost use Rattle.tape_core.specs.Devices.{Took, TookPart, has_failed};
+ghost use Rattle.tape_core.specs.Devices.{Gave, Took, TookPart, has_failed};
 ghost use Rattle.tape_core.specs.Due.{due, due_count, first};
 ghost use Rattle.tape_core.specs.Law.{AWordIsAField, AnLfEndsALine, BodiesAddUp, DueIsBelowTheCount, FirstGrowsByAChunk, FirstIsKept, NumbersReadBack, SecondsReadBack};
 ghost use Rattle.tape_core.specs.Seconds.{IsSeconds, last_moment, seconds_of};
@@ -127,40 +127,19 @@ pub fn what_is_written_reads_back()
         → reads (script_text tape) (timing_text tape) other → other ≡ tape }
 {}
 
-/// What a writer took of texts one after another. Where it stopped in one of them, or at the flush
-/// behind them, a beginning of them all went out.
-pub fn writers_join<W: Write>()
-    ensures nothing { (a : Watched W) → has_failed a ≡ false → Took W.contents a a [] }
+/// What a writer was given of texts one after another.
+pub fn gives_join<W: Write>()
+    ensures nothing { (a : Watched W) → Gave W.contents a a [] }
     ensures both { (a b c : Watched W) (x y : List ℕ)
-        → Took W.contents b c y → Took W.contents a b x → Took W.contents a c (x ++ y) }
-    ensures flushed { (a b c : Watched W) (x : List ℕ)
-        → Took W.contents b c [] → Took W.contents a b x → Took W.contents a c x }
-    ensures in_first { (a b : Watched W) (x y : List ℕ) (failed : Bool)
-        → TookPart W.contents a b x failed → TookPart W.contents a b (x ++ y) failed }
-    ensures in_first_of_three { (a b : Watched W) (x y z : List ℕ) (failed : Bool)
-        → TookPart W.contents a b x failed → TookPart W.contents a b (x ++ y ++ z) failed }
-    ensures at_byte { (a b : Watched W) (byte : ℕ) (y : List ℕ) (failed : Bool)
-        → TookPart W.contents a b (byte ∷ []) failed → TookPart W.contents a b (byte ∷ y) failed }
-    ensures in_second { (a b c : Watched W) (x y : List ℕ) (failed : Bool)
-        → TookPart W.contents b c y failed → Took W.contents a b x
-        → TookPart W.contents a c (x ++ y) failed }
-    ensures behind_byte { (a b c : Watched W) (byte : ℕ) (y : List ℕ) (failed : Bool)
-        → TookPart W.contents b c y failed → Took W.contents a b (byte ∷ [])
-        → TookPart W.contents a c (byte ∷ y) failed }
-    ensures within { (a b c : Watched W) (text x y z : List ℕ) (failed : Bool)
-        → text ≡ x ++ y ++ z → TookPart W.contents b c y failed → Took W.contents a b x
-        → TookPart W.contents a c text failed }
-    ensures at_flush { (a b c : Watched W) (x : List ℕ) (failed : Bool)
-        → TookPart W.contents b c [] failed → Took W.contents a b x
-        → TookPart W.contents a c x failed }
+        → Gave W.contents b c y → Gave W.contents a b x → Gave W.contents a c (x ++ y) }
 {}
 
-/// What a writer took of the pieces of a list, one after another, where it stopped in piece i.
-pub fn pieces_join<W: Write, X>()
-    ensures { (a b c : Watched W) (f : X → List ℕ)
-        (pieces : List X) (i : ℕ) (piece : X) (failed : Bool)
-        → i < length pieces → piece ≡ slice_index_or pieces i piece
-        → Took W.contents a b (flat_map f (take i pieces))
-        → TookPart W.contents b c (f piece) failed
-        → TookPart W.contents a c (flat_map f pieces) failed }
+/// What a writer that was asked has taken of the texts that it was given.
+pub fn gives_end<W: Write>()
+    ensures sound { (a b : Watched W) (x : List ℕ)
+        → has_failed b ≡ false → Gave W.contents a b x → Took W.contents a b x }
+    ensures early { (a b : Watched W) (text x y : List ℕ) (failed : Bool) → text ≡ x ++ y
+        → has_failed b ≡ failed → Gave W.contents a b x → TookPart W.contents a b text failed }
+    ensures failed { (a b : Watched W) (text x y : List ℕ) → text ≡ x ++ y
+        → has_failed b ≡ true → Gave W.contents a b x → Gave W.contents a b text }
 {}

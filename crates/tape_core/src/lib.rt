@@ -23,4 +23,4 @@ pub use reading::{read_recording, read_recording_of};
 pub use recording::Recording;
 pub use seconds::read_seconds;
 pub use seconds_form::{SecondsText, seconds_text};
-pub use writing::{put_chunks, write_script, write_timing};
+pub use writing::{give_chunks, write_script, write_timing};

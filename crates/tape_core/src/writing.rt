@@ -1,14 +1,14 @@
 //! A recording written as its two files.
 ghost use Rattle.std.specs.Prelude.{◌≡◌, ◌≤◌, ◌++◌, [], ◌∷◌, true, false, drop, length, OnOk};
 ghost use Rattle.std.specs.Fmt.{decimal};
-ghost use Rattle.tape_core.specs.Devices.{Puts, has_failed, is_flushed};
+ghost use Rattle.tape_core.specs.Devices.{Gave, Puts, has_failed, is_flushed};
 ghost use Rattle.tape_core.specs.Tape.{body};
 ghost use Rattle.tape_core.specs.Written.{script_text, seconds_form, timing_line_of, timing_text};
 
 use crate::chunk::Chunk;
 use crate::devices::Watched;
 use crate::fault::Fault;
-use crate::laws::{pieces_join, writers_join};
+use crate::laws::gives_join;
 use crate::recording::Recording;
 use crate::seconds_form::write_seconds;
 use itoa::write_digits;
@@ -25,12 +25,11 @@ pub fn write_script<W: Write>(recording: &Recording, writer: &mut Watched<W>) ->
     ensures puts { Puts W.contents writer.old writer.new (script_text recording.now) result }
     ensures flushed { OnOk result (is_flushed writer.new ≡ true) }
 {
-    writers_join::<W>();
-    writer.put(recording.header())?;
-    put_chunks(recording.chunks(), writer)?;
-    writer.put(recording.trailer())?;
-    writer.finish()?;
-    Ok(())
+    gives_join::<W>();
+    writer.give(recording.header());
+    give_chunks(recording.chunks(), writer);
+    writer.give(recording.trailer());
+    writer.settle()
 }
 
 /// Writes the timing file: a line for each chunk. Takes no memory. After a write fault a beginning of
@@ -41,36 +40,30 @@ pub fn write_timing<W: Write>(recording: &Recording, writer: &mut Watched<W>) ->
     ensures puts { Puts W.contents writer.old writer.new (timing_text recording.now) result }
     ensures flushed { OnOk result (is_flushed writer.new ≡ true) }
 {
-    writers_join::<W>();
-    pieces_join::<W, Chunk>();
+    gives_join::<W>();
     for chunk in recording.chunks() {
-        put_line(chunk, writer)?;
+        give_line(chunk, writer);
     }
-    writer.finish()?;
-    Ok(())
+    writer.settle()
 }
 
-/// Writes the bytes of the chunks, one after another, and doesn't flush. Takes no memory. After a write
-/// fault a beginning of them has gone out.
-pub fn put_chunks<W: Write>(chunks: &[Chunk], writer: &mut Watched<W>) -> Result<(), Fault>
-    requires { has_failed writer.old ≡ false }
-    ensures { Puts W.contents writer.old writer.new (body chunks.now) result }
+/// Writes the bytes of the chunks, one after another, and doesn't flush. Takes no memory.
+pub fn give_chunks<W: Write>(chunks: &[Chunk], writer: &mut Watched<W>)
+    ensures { Gave W.contents writer.old writer.new (body chunks.now) }
 {
-    pieces_join::<W, Chunk>();
+    gives_join::<W>();
     for chunk in chunks {
-        writer.put(chunk.bytes.as_slice())?;
+        writer.give(chunk.bytes.as_slice());
     }
-    Ok(())
 }
 
 /// Writes one timing line.
-fn put_line<W: Write>(chunk: &Chunk, writer: &mut Watched<W>) -> Result<(), Fault>
-    requires { has_failed writer.old ≡ false }
-    ensures { Puts W.contents writer.old writer.new (timing_line_of chunk.now) result }
+fn give_line<W: Write>(chunk: &Chunk, writer: &mut Watched<W>)
+    ensures { Gave W.contents writer.old writer.new (timing_line_of chunk.now) }
 {
     let mut line = [0; LONGEST_LINE];
     let start = write_line(chunk.delay, chunk.bytes.len() as u64, &mut line);
-    writer.put(&line[start..])
+    writer.give(&line[start..]);
 }
 
 /// Writes a timing line so that it ends with the buffer, and returns where it starts.

@@ -1,7 +1,7 @@
 -- What clap's answers say of the words, for the command line of this program.
-use Rattle.std.proofs.Common.{◌≡◌, ◌≢◌, Bool, true, false, codes, List, [], ◌∷◌, Option, Some, None, Result, refl, sym, ◌∙◌, ap, subst, inl, inr, option_map, is_some, find, if◌then◌else◌}
+use Rattle.std.proofs.Common.{◌≡◌, ◌≢◌, Bool, true, false, codes, List, [], ◌∷◌, Option, Some, None, Result, refl, sym, ◌∙◌, ap, subst, inl, inr, option_map, is_some, find, if◌then◌else◌, ℕ, ◌+◌, ◌<◌, ◌≤◌, ◌++◌, map, take, length, get_or, Ok, Err, arith, append_assoc, lit≤, suc, below_more}
 use Rattle.std.specs.Prelude.{Box}
-use Rattle.clap.specs.Words.{App, HasMatchesOf, FailsBy, Row, Shape, Text, fault_of, is_simple, is_simple_and_free, kind_of, subcommand_name_of, subcommand_of, subcommand_rows, subcommand_rows_of, takes}
+use Rattle.clap.specs.Words.{App, HasMatchesOf, FailsBy, Row, Shape, Text, fault_of, is_simple, is_simple_and_free, kind_of, subcommand_name_of, subcommand_of, subcommand_rows, subcommand_rows_of, takes, Rule, with_rule, with_subcommand}
 use Rattle.clap.specs.Simple.{entered, built, help_shape, names_of, argument_words, rows_at, label_of}
 use Rattle.clap.specs.Faults.{walk_fault}
 use Rattle.clap.specs.Walk.{answers_to, nothing_held, stop_after, walk_from}
@@ -15,12 +15,10 @@ use Rattle.clap.specs.declared.parser.matches.ArgMatches.TheViews.{out-SubComman
 use Rattle.clap.specs.declared.parser.matches.SubCommand.{SubCommand}
 use Rattle.clap.specs.declared.Error.{Error}
 use Rattle.clap.specs.declared.error.ErrorKind.TheVariants.{OutOfMemory}
-use Rattle.std.proofs.Common.{ℕ, ◌+◌, ◌<◌, ◌≤◌, ◌++◌, map, take, length, get_or, Ok, Err, arith, append_assoc, lit≤, suc, below_more}
 use Rattle.std.specs.Option.{option_and_then}
 use Rattle.std.specs.Str.{bytes_eq}
 use Rattle.std.proofs.lemmas.List.{get_or_default, map-append, take_all, take_more}
 use Rattle.std.proofs.lemmas.List.Sums.{fold_more}
-use Rattle.clap.specs.Words.{Rule, with_rule, with_subcommand}
 use Rattle.tape_jobs.specs.CommandLine.{typetool_app, clap_faults, clap_takes, subcommand_in, subcommands_in_order, app_in, after, every_in, fault_of_unread, id_in, job_in, meaning_in, meaning_of, meaning_of_words, moment_given_in, moment_in, moment_or_last_in, name_in, path_count, paths_in, profile_in, rule_in, searched_in, switch_in, text_in, texts_in, top_app, value_in, with_rules, with_subcommands, flags_in, FailsFor, IsNamed}
 use Rattle.tape_jobs.specs.declared.job.Job.{Job}
 use Rattle.tape_jobs.specs.declared.job.Job.TheVariants as jobs

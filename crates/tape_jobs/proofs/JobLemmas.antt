@@ -1,19 +1,51 @@
 -- What a job comes to, and how a run of it ends.
 use Rattle.std.proofs.Common.{◌≡◌, ◌≢◌, ◌⊎◌, ℕ, Bool, true, false, List, [], refl, sym, ap, ◌∙◌, subst, inl, inr, not, Option, Some, None, MatchOption, Result, Ok, Err, true≢false, if◌then◌else◌}
-use Rattle.tape_core.specs.Devices.{Took, has_failed}
+use Rattle.tape_core.proofs.GaveLemmas.{gave_early, gave_none, gave_took}
+use Rattle.tape_core.specs.Devices.{Took, TookPart, has_failed, is_flushed}
+use Rattle.tape_core.specs.declared.devices.Watched.{Watched}
 use Rattle.tape_core.specs.Faults.{is_stop}
 use Rattle.tape_core.specs.Reading.{fault_of, reads}
 use Rattle.tape_core.specs.Tape.{Tape}
 use Rattle.tape_core.specs.declared.fault.Fault.{Fault}
 use Rattle.tape_core.specs.declared.fault.Fault.TheVariants.{OutOfMemory, ReadFault, WriteFault}
 use Rattle.tape_jobs.specs.Endings.{AreRead, AreSound, AsksNothing, HasFailed, HoldFiles, IsDone, IsUndone, IsUnwritten, JobEnds, OnFiles, Readers, RunEnds, TookBoth, TookPartOfBoth, WantsMemory, Writers}
-use Rattle.tape_jobs.specs.Output.{Comes, ComesBy, Done, Files, done_on, is_stopped, mends, outcome_by, refused_with, takes_requests, writes_timing}
+use Rattle.tape_jobs.specs.Output.{Comes, ComesBy, Done, Files, IsDoneStatus, done_on, done_with, is_stopped, mends, outcome_by, refused_with, takes_requests, writes_timing}
 use Rattle.tape_jobs.specs.declared.job.Ending.{Ending}
+use Rattle.tape_jobs.specs.declared.job.Ending.TheVariants.{Clean}
 use Rattle.tape_jobs.specs.declared.job.Job.{Job}
 use Rattle.tape_jobs.specs.declared.job.Job.TheVariants as jobs
 use Rattle.tape_jobs.specs.declared.job.JobFault.{JobFault}
 use Rattle.tape_jobs.specs.declared.job.JobFault.TheVariants.{File, Line, Memory}
 use Rattle.tape_mend.specs.declared.opening.Header.{Header}
+
+-- nothing of a text has gone out yet
+pub part_none : {T : Type 0} (contents : T → Option (List ℕ)) (a : Watched T) (text : List ℕ) → has_failed a ≡ false
+    → TookPart contents a a text false
+part_none contents a text sound = gave_early contents a a text [] text false refl sound (gave_none contents a)
+
+-- a writer that wasn't asked for anything has taken all of a text of nothing
+pub whole_none : {T : Type 0} (contents : T → Option (List ℕ)) (a : Watched T) (text : List ℕ) → has_failed a ≡ false
+    → text ≡ [] → Took contents a a text
+whole_none contents a text sound none = subst (Took contents a a) (sym none) (gave_took contents a a [] sound (gave_none contents a))
+
+-- a job that writes one text alone is done where that is whole and flushed
+pub clean_done : {O P : Type 0} (writers : Writers O P) (job : Job) (done : Done) (text : List ℕ) (new : Watched O)
+    → Took writers.out.bytes writers.out.old new text → is_flushed new ≡ true → writers.out.new ≡ new
+    → done ≡ done_with text [] → IsDoneStatus job 0 → writes_timing job ≡ false
+    → has_failed writers.out_timing.old ≡ false → writers.out_timing.new ≡ writers.out_timing.old
+    → IsDone writers job done Clean
+clean_done {O} {P} writers job done text new took flushed same is status alone sound stays = record {
+  outcome = ap (λ (d : Done). d.outcome) is;
+  status = status;
+  wrote = record {
+    text = subst (λ (t : List ℕ). Took writers.out.bytes writers.out.old writers.out.new t) (sym (ap (λ (d : Done). d.text) is))
+        (subst (λ (w : Watched O). Took writers.out.bytes writers.out.old w text) (sym same) took);
+    timing = subst (λ (w : Watched P). Took writers.out_timing.bytes writers.out_timing.old w done.timing) (sym stays)
+        (whole_none writers.out_timing.bytes writers.out_timing.old done.timing sound (ap (λ (d : Done). d.timing) is));
+  };
+  flushed = ap is_flushed same ∙ flushed;
+  flushed_timing = λ wrote. absurd (true≢false (sym wrote ∙ alone));
+}
 
 -- what a job comes to that reads a recording, and what one comes to that mends
 pub comes_by : (job : Job) (files : Files) (done : Done) (o : Option Header) → mends job ≡ o → ComesBy o job files done

@@ -4,6 +4,7 @@
 --   AsksNothing     nothing was asked of a device
 --   HoldFiles       the readers have these texts to tell
 --   JobPuts         a job's writer was given a text: as Puts, but a job may also want memory, in the midst of the text
+--   JobGives        the same, but a failure of the writer may be told only when it is asked
 --   StopsIn         a job stopped in a text, for want of memory or as the writer failed
 --   TookBoth        both writers of a job have taken their texts whole
 --   TookPartOfBoth  a beginning of both texts, one after the other, has gone out, and then the writer in which it ends
@@ -14,7 +15,7 @@ use Rattle.screen_print.specs.declared.walk.ChangesFault.{ChangesFault}
 use Rattle.screen_print.specs.declared.walk.ChangesFault.TheVariants as changes
 use Rattle.tape_check.specs.declared.check.CheckFault.{CheckFault}
 use Rattle.tape_check.specs.declared.check.CheckFault.TheVariants as check
-use Rattle.tape_core.specs.Devices.{Took, TookPart, has_failed, inner_of, is_flushed}
+use Rattle.tape_core.specs.Devices.{Gave, Took, TookPart, has_failed, inner_of, is_flushed}
 use Rattle.tape_core.specs.declared.devices.Watched.{Watched}
 use Rattle.tape_core.specs.declared.fault.Fault.TheVariants as fault
 use Rattle.tape_jobs.specs.Output.{Comes, Done, Files, IsDoneStatus, TakesMemory, is_stopped, outcome_by, refused_with, status_after, status_of, takes_requests, writes_last, writes_timing}
@@ -118,6 +119,12 @@ abbrev pub JobPuts : {O A : Type 0} → (O → Option (List ℕ)) → Watched O 
     → Result A JobFault → Type 0
 JobPuts contents old new text result =
     MatchResult result (λ done. Took contents old new text) (StopsIn contents old new text)
+
+-- a job's writer was given this text: at Ok it may have failed in it, and at Err the job stopped in it (ours)
+abbrev pub JobGives : {O A : Type 0} → (O → Option (List ℕ)) → Watched O → Watched O → List ℕ
+    → Result A JobFault → Type 0
+JobGives contents old new text result =
+    MatchResult result (λ done. Gave contents old new text) (StopsIn contents old new text)
 
 -- why a walk over chunks ends early, as a fault of a job (ours)
 abbrev pub fault_of_changes : ChangesFault → JobFault

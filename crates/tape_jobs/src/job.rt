@@ -28,7 +28,6 @@ use std::io;
 use std::io::{Read, Write};
 use std::mem::ManuallyDrop;
 use tape_check::CheckFault;
-use tape_core::laws::writers_join;
 use tape_core::{Fault, Recording, Watched, read_recording_of, slurp};
 use tape_mend::Header;
 use tape_seek::EditFault;
@@ -278,8 +277,6 @@ pub fn run_with<S: Read, T: Read, R: Read, O: Write, P: Write, N: Write>(
         text.now in
         NoteEnds readers (used N.contents notes.old notes.new) job result.fault }
 {
-    writers_join::<O>();
-    writers_join::<P>();
     if let Job::Mend { header } = job {
         return match read_remains(alloc, header, script, timing) {
             Ok(mended) => { outcome_of(write_remains(&ManuallyDrop::new(mended), out, out_timing)) }

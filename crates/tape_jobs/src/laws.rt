@@ -15,7 +15,6 @@ ghost use Rattle.tape_jobs.specs.declared.job.JobFault.{JobFault};
 ghost use Rattle.tape_jobs.specs.declared.job.JobFault.TheVariants.{Memory};
 
 use std::io::Write;
-use tape_core::laws::writers_join;
 
 /// What has gone out of texts one after another, where a job stops before them, in the first or in the second.
 pub fn stops_join<W: Write>()
@@ -25,9 +24,7 @@ pub fn stops_join<W: Write>()
         → StopsIn W.contents a b x f → StopsIn W.contents a b (x ++ y) f }
     ensures in_second { (a b c : Watched W) (x y : List ℕ) (f : JobFault)
         → StopsIn W.contents b c y f → Took W.contents a b x → StopsIn W.contents a c (x ++ y) f }
-{
-    writers_join::<W>();
-}
+{}
 
 /// What a plain command line means, of which the paths don't begin with a hyphen. So `read_words` gives that job and those
 /// paths, or memory is refused.

@@ -2,7 +2,7 @@
 
 ghost use Rattle.std.specs.Prelude.{◌≡◌, ◌≤◌, Err, IfErr, IfOk, OnOk, false, true};
 ghost use Rattle.std.specs.Fmt.{decimal};
-ghost use Rattle.tape_core.specs.Devices.{Puts, has_failed, is_flushed};
+ghost use Rattle.tape_core.specs.Devices.{Gave, Puts, has_failed, is_flushed};
 ghost use Rattle.tape_seek.specs.Edits.{edit_fault};
 ghost use Rattle.tape_seek.specs.Moments.{term_at};
 ghost use Rattle.tape_seek.specs.State.{least_every, most_every, opened};
@@ -17,7 +17,7 @@ use itoa::Buffer;
 use screen_print::{escaped, plain};
 use std::alloc::Global;
 use std::io::Write;
-use tape_core::laws::writers_join;
+use tape_core::laws::gives_join;
 use tape_core::{Fault, Recording, Watched, seconds_text};
 use tape_seek::{Edit, EditFault, Session, put_hex};
 use vt_term::{OutOfMemory, Profile};
@@ -116,41 +116,35 @@ fn put_hex_line<O: Write>(bytes: &[u8], out: &mut Watched<O>) -> Result<(), Faul
     ensures puts { Puts O.contents out.old out.new (hex_line bytes.now) result }
     ensures flushed { OnOk result (is_flushed out.new ≡ true) }
 {
-    writers_join::<O>();
     put_hex(bytes, out)?;
-    out.put(b"\n")?;
-    out.finish()?;
-    Ok(())
+    out.give(b"\n");
+    out.settle()
 }
 
 /// Writes the five lines.
 #[tactic(auto, unfolding(crate::specs::Info::info_text))]
-pub fn put_info<O: Write>(recording: &Recording, out: &mut Watched<O>) -> Result<(), Fault>
-    requires { has_failed out.old ≡ false }
-    ensures { Puts O.contents out.old out.new (info_text recording.now) result }
+pub fn put_info<O: Write>(recording: &Recording, out: &mut Watched<O>)
+    ensures { Gave O.contents out.old out.new (info_text recording.now) }
 {
-    writers_join::<O>();
-    put_number(b"chunks ", recording.chunks().len() as u64, out)?;
-    put_number(b"bytes ", recording.body_len(), out)?;
-    put_line(b"length ", seconds_text(recording.length()).as_bytes(), out)?;
-    put_number(b"header ", recording.header().len() as u64, out)?;
-    put_number(b"trailer ", recording.trailer().len() as u64, out)?;
-    Ok(())
+    gives_join::<O>();
+    put_number(b"chunks ", recording.chunks().len() as u64, out);
+    put_number(b"bytes ", recording.body_len(), out);
+    put_line(b"length ", seconds_text(recording.length()).as_bytes(), out);
+    put_number(b"header ", recording.header().len() as u64, out);
+    put_number(b"trailer ", recording.trailer().len() as u64, out);
 }
 
 /// Writes a line of a name and a number.
-fn put_number<O: Write>(name: &[u8], number: u64, out: &mut Watched<O>) -> Result<(), Fault>
-    requires { has_failed out.old ≡ false }
-    ensures { Puts O.contents out.old out.new (info_line name.now (decimal number)) result }
+fn put_number<O: Write>(name: &[u8], number: u64, out: &mut Watched<O>)
+    ensures { Gave O.contents out.old out.new (info_line name.now (decimal number)) }
 {
-    put_line(name, Buffer::new().format(number).as_bytes(), out)
+    put_line(name, Buffer::new().format(number).as_bytes(), out);
 }
 
 /// Writes a line of a name and a value.
 #[tactic(auto, unfolding(crate::specs::Info::info_line))]
-pub fn put_line<O: Write>(name: &[u8], value: &[u8], out: &mut Watched<O>) -> Result<(), Fault>
-    requires { has_failed out.old ≡ false }
-    ensures { Puts O.contents out.old out.new (info_line name.now value.now) result }
+pub fn put_line<O: Write>(name: &[u8], value: &[u8], out: &mut Watched<O>)
+    ensures { Gave O.contents out.old out.new (info_line name.now value.now) }
 {
-    out.put_all(&[name, value, b"\n"])
+    out.give_all(&[name, value, b"\n"]);
 }

@@ -1,13 +1,13 @@
 //! What was lost of a recording, and how it is told.
 ghost use Rattle.std.specs.Prelude.{◌≡◌, false};
-ghost use Rattle.tape_core.specs.Devices.{Puts, has_failed};
+ghost use Rattle.tape_core.specs.Devices.{Gave, Puts, has_failed};
 ghost use Rattle.tape_mend.specs.Steps.{what_is_wrong};
 ghost use Rattle.tape_mend.specs.Told.{body_losses, chunks_line, chunks_text, cut_text, is_damaged, lines_text, losses_text, streams_line, streams_text, timing_losses};
 
 use crate::line::LineFault;
 use itoa::Buffer;
 use std::io::Write;
-use tape_core::laws::writers_join;
+use tape_core::laws::gives_join;
 use tape_core::{Fault, Watched};
 
 /// The lines of a timing file that were left out: the number of the first one, counted from 1, its fault, and how many
@@ -72,92 +72,80 @@ pub fn put_losses<W: Write>(losses: &Losses, writer: &mut Watched<W>) -> Result<
     requires { has_failed writer.old ≡ false }
     ensures { Puts W.contents writer.old writer.new (losses_text losses.now) result }
 {
-    writers_join::<W>();
-    put_timing_losses(losses, writer)?;
-    put_body_losses(losses, writer)?;
-    Ok(())
+    gives_join::<W>();
+    put_timing_losses(losses, writer);
+    put_body_losses(losses, writer);
+    writer.ask()
 }
 
 /// Writes what the timing has lost.
-fn put_timing_losses<W: Write>(losses: &Losses, writer: &mut Watched<W>) -> Result<(), Fault>
-    requires { has_failed writer.old ≡ false }
-    ensures { Puts W.contents writer.old writer.new (timing_losses losses.now) result }
+fn put_timing_losses<W: Write>(losses: &Losses, writer: &mut Watched<W>)
+    ensures { Gave W.contents writer.old writer.new (timing_losses losses.now) }
 {
-    writers_join::<W>();
-    put_lines(losses.lines, writer)?;
-    put_streams(losses.inputs, losses.signals, writer)?;
-    Ok(())
+    gives_join::<W>();
+    put_lines(losses.lines, writer);
+    put_streams(losses.inputs, losses.signals, writer);
 }
 
 /// Writes what the body has lost.
-fn put_body_losses<W: Write>(losses: &Losses, writer: &mut Watched<W>) -> Result<(), Fault>
-    requires { has_failed writer.old ≡ false }
-    ensures { Puts W.contents writer.old writer.new (body_losses losses.now) result }
+fn put_body_losses<W: Write>(losses: &Losses, writer: &mut Watched<W>)
+    ensures { Gave W.contents writer.old writer.new (body_losses losses.now) }
 {
-    writers_join::<W>();
-    put_cut(losses.cut, writer)?;
-    put_chunks(losses.chunks, writer)?;
-    Ok(())
+    gives_join::<W>();
+    put_cut(losses.cut, writer);
+    put_chunks(losses.chunks, writer);
 }
 
 /// Writes which lines were left out.
-fn put_lines<W: Write>(left: Option<LinesLeft>, writer: &mut Watched<W>) -> Result<(), Fault>
-    requires { has_failed writer.old ≡ false }
-    ensures { Puts W.contents writer.old writer.new (lines_text left) result }
+fn put_lines<W: Write>(left: Option<LinesLeft>, writer: &mut Watched<W>)
+    ensures { Gave W.contents writer.old writer.new (lines_text left) }
 {
-    writers_join::<W>();
+    gives_join::<W>();
     let Some(left) = left else {
-        return Ok(());
+        return;
     };
-    writer.put_all(&[
+    writer.give_all(&[
         b"timing line ",
         Buffer::new().format(left.line).as_bytes(),
         left.fault.text(),
         b", ",
         Buffer::new().format(left.count).as_bytes(),
         b" lines left out\n",
-    ])
+    ]);
 }
 
 /// Writes how many inputs and signals were left out, where any were.
-fn put_streams<W: Write>(inputs: u64, signals: u64, writer: &mut Watched<W>) -> Result<(), Fault>
-    requires { has_failed writer.old ≡ false }
-    ensures { Puts W.contents writer.old writer.new (streams_text inputs signals) result }
+fn put_streams<W: Write>(inputs: u64, signals: u64, writer: &mut Watched<W>)
+    ensures { Gave W.contents writer.old writer.new (streams_text inputs signals) }
 {
-    writers_join::<W>();
+    gives_join::<W>();
     if inputs == 0 && signals == 0 {
-        return Ok(());
+        return;
     }
-    put_streams_line(inputs, signals, writer)
+    put_streams_line(inputs, signals, writer);
 }
 
 /// Writes how many inputs and signals were left out.
-fn put_streams_line<W: Write>(
-    inputs: u64,
-    signals: u64,
-    writer: &mut Watched<W>,
-) -> Result<(), Fault>
-    requires { has_failed writer.old ≡ false }
-    ensures { Puts W.contents writer.old writer.new (streams_line inputs signals) result }
+fn put_streams_line<W: Write>(inputs: u64, signals: u64, writer: &mut Watched<W>)
+    ensures { Gave W.contents writer.old writer.new (streams_line inputs signals) }
 {
-    writer.put_all(&[
+    writer.give_all(&[
         Buffer::new().format(inputs).as_bytes(),
         b" inputs and ",
         Buffer::new().format(signals).as_bytes(),
         b" signals left out\n",
-    ])
+    ]);
 }
 
 /// Writes which chunk was cut.
-fn put_cut<W: Write>(cut: Option<Cut>, writer: &mut Watched<W>) -> Result<(), Fault>
-    requires { has_failed writer.old ≡ false }
-    ensures { Puts W.contents writer.old writer.new (cut_text cut) result }
+fn put_cut<W: Write>(cut: Option<Cut>, writer: &mut Watched<W>)
+    ensures { Gave W.contents writer.old writer.new (cut_text cut) }
 {
-    writers_join::<W>();
+    gives_join::<W>();
     let Some(cut) = cut else {
-        return Ok(());
+        return;
     };
-    writer.put_all(&[
+    writer.give_all(&[
         b"chunk ",
         Buffer::new().format(cut.chunk).as_bytes(),
         b" cut to ",
@@ -165,28 +153,26 @@ fn put_cut<W: Write>(cut: Option<Cut>, writer: &mut Watched<W>) -> Result<(), Fa
         b" of ",
         Buffer::new().format(cut.counted).as_bytes(),
         b" bytes\n",
-    ])
+    ]);
 }
 
 /// Writes how many chunks were left out, where any were.
-fn put_chunks<W: Write>(count: u64, writer: &mut Watched<W>) -> Result<(), Fault>
-    requires { has_failed writer.old ≡ false }
-    ensures { Puts W.contents writer.old writer.new (chunks_text count) result }
+fn put_chunks<W: Write>(count: u64, writer: &mut Watched<W>)
+    ensures { Gave W.contents writer.old writer.new (chunks_text count) }
 {
-    writers_join::<W>();
+    gives_join::<W>();
     if count == 0 {
-        return Ok(());
+        return;
     }
-    put_chunks_line(count, writer)
+    put_chunks_line(count, writer);
 }
 
 /// Writes how many chunks were left out.
-fn put_chunks_line<W: Write>(count: u64, writer: &mut Watched<W>) -> Result<(), Fault>
-    requires { has_failed writer.old ≡ false }
-    ensures { Puts W.contents writer.old writer.new (chunks_line count) result }
+fn put_chunks_line<W: Write>(count: u64, writer: &mut Watched<W>)
+    ensures { Gave W.contents writer.old writer.new (chunks_line count) }
 {
-    writer.put_all(&[
+    writer.give_all(&[
         Buffer::new().format(count).as_bytes(),
         b" chunks left out\n",
-    ])
+    ]);
 }

@@ -11,7 +11,6 @@ use crate::laws::stops_join;
 use std::alloc::Global;
 use std::io::Write;
 use tape_check::write_check;
-use tape_core::laws::writers_join;
 use tape_core::{Recording, Watched};
 use vt_term::Profile;
 
@@ -31,9 +30,8 @@ pub fn write_checked<O: Write>(
     ensures unwritten { result ≡ Err JobFault.Memory → out.new ≡ out.old }
 {
     stops_join::<O>();
-    writers_join::<O>();
     let noted = write_check(alloc, recording, profile, out)?;
-    out.finish()?;
+    out.settle()?;
     Ok(ending_of(noted))
 }
 

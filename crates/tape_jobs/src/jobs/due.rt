@@ -5,8 +5,8 @@ ghost use Rattle.tape_core.specs.Devices.{Puts, has_failed, is_flushed};
 ghost use Rattle.tape_core.specs.Due.{due};
 
 use std::io::Write;
-use tape_core::laws::{due_is_first, writers_join};
-use tape_core::{Fault, Recording, Watched, put_chunks};
+use tape_core::laws::due_is_first;
+use tape_core::{Fault, Recording, Watched, give_chunks};
 
 /// Writes the bytes of the chunks that are due by the moment, and flushes.
 pub fn write_due<O: Write>(
@@ -19,9 +19,7 @@ pub fn write_due<O: Write>(
     ensures flushed { OnOk result (is_flushed out.new ≡ true) }
 {
     due_is_first();
-    writers_join::<O>();
     let count = recording.due_count(at);
-    put_chunks(&recording.chunks()[..count], out)?;
-    out.finish()?;
-    Ok(())
+    give_chunks(&recording.chunks()[..count], out);
+    out.settle()
 }

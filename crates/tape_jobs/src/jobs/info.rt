@@ -6,7 +6,6 @@ ghost use Rattle.tape_jobs.specs.Info.{info_text};
 
 use crate::shared::put_info;
 use std::io::Write;
-use tape_core::laws::writers_join;
 use tape_core::{Fault, Recording, Watched};
 
 /// Writes the five lines, and flushes.
@@ -15,8 +14,6 @@ pub fn write_info<O: Write>(recording: &Recording, out: &mut Watched<O>) -> Resu
     ensures puts { Puts O.contents out.old out.new (info_text recording.now) result }
     ensures flushed { OnOk result (is_flushed out.new ≡ true) }
 {
-    writers_join::<O>();
-    put_info(recording, out)?;
-    out.finish()?;
-    Ok(())
+    put_info(recording, out);
+    out.settle()
 }

@@ -16,7 +16,6 @@ use crate::job::{Ending, Job, JobFault, Outcome, outcome_of};
 use std::alloc::Global;
 use std::io::{Read, Write};
 use std::mem::ManuallyDrop;
-use tape_core::laws::writers_join;
 use tape_core::{Fault, Watched, slurp, write_script, write_timing};
 use tape_mend::{Header, Losses, Mended, put_losses};
 
@@ -95,7 +94,6 @@ pub fn write_remains<O: Write, P: Write>(
         IfErr result (λ f. (f ≡ JobFault.File fault.WriteFault)
         × TookPartOfBoth writers (done_mending (remains_of mended.now)) true) }
 {
-    writers_join::<O>();
     write_script(&mended.recording, out)?;
     write_timing(&mended.recording, out_timing)?;
     Ok(ending_of(mended.losses.is_damaged()))
@@ -137,8 +135,6 @@ fn tell<L: Write>(losses: &Losses, told: &mut Watched<L>) -> Result<(), Fault>
     ensures puts { Puts L.contents told.old told.new (losses_text losses.now) result }
     ensures flushed { OnOk result (is_flushed told.new ≡ true) }
 {
-    writers_join::<L>();
     put_losses(losses, told)?;
-    told.finish()?;
-    Ok(())
+    told.settle()
 }

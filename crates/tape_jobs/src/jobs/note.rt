@@ -9,7 +9,6 @@ ghost use Rattle.vt_term.specs.declared.profile.Profile.{Profile as Played};
 use crate::job::Job;
 use std::io::Write;
 use tape_check::put_parts;
-use tape_core::laws::writers_join;
 use tape_core::{Fault, Recording, Watched};
 use vt_term::Profile;
 
@@ -35,10 +34,8 @@ fn put_note<N: Write>(
     ensures puts { Puts N.contents notes.old notes.new (note_line profile recording.now) result }
     ensures flushed { OnOk result (is_flushed notes.new ≡ true) }
 {
-    writers_join::<N>();
     put_parts(recording, profile, notes)?;
-    notes.finish()?;
-    Ok(())
+    notes.settle()
 }
 
 /// As which terminal a job plays a recording, if it plays it.

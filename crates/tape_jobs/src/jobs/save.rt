@@ -13,7 +13,6 @@ use crate::shared::{EVERY, make_edit, open_session};
 use std::alloc::Global;
 use std::io::Write;
 use std::mem::ManuallyDrop;
-use tape_core::laws::writers_join;
 use tape_core::text::next_line;
 use tape_core::{Recording, Watched, write_script, write_timing};
 use tape_seek::{EditFault, LineFault, Request, Session, read_line};
@@ -21,6 +20,7 @@ use vt_term::{OutOfMemory, Profile};
 
 /// Makes every edit, and then writes the whole script, and after it the timing. Nothing is written where a line is
 /// refused.
+#[tactic(auto, using(crate::proofs::JobLemmas::part_none))]
 pub fn write_edited<O: Write, P: Write>(
     alloc: Global,
     recording: Recording,
@@ -34,7 +34,6 @@ pub fn write_edited<O: Write, P: Write>(
         (used P.contents out_timing.old out_timing.new) in
         JobEnds writers Job.Save (saved_by recording requests.now) result }
 {
-    writers_join::<O>();
     let session = open_session(alloc, recording, EVERY, Profile::Vt100)?;
     let mut session = ManuallyDrop::new(session);
     edit_all(alloc, &mut session, requests)?;

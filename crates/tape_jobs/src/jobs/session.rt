@@ -1,14 +1,14 @@
 //! The job `session`: an answer to each request line.
 
-ghost use Rattle.std.specs.Prelude.{◌≡◌, ◌≤◌, IfOk, OnOk, false, is_some, max, min, true};
+ghost use Rattle.std.specs.Prelude.{◌≡◌, ◌≤◌, IfOk, OnErr, OnOk, false, is_some, max, min, true};
 ghost use Rattle.screen_print.specs.ChangeLines.{change_lines};
-ghost use Rattle.tape_core.specs.Devices.{Puts, has_failed, is_flushed};
+ghost use Rattle.tape_core.specs.Devices.{Gave, has_failed, is_flushed};
 ghost use Rattle.tape_core.specs.Text.{lines_of};
 ghost use Rattle.tape_seek.specs.Edits.{edit_fault};
 ghost use Rattle.tape_seek.specs.Requests.{request};
 ghost use Rattle.tape_seek.specs.State.{least_every, most_every};
 ghost use Rattle.tape_seek.specs.WrittenLog.{log_text};
-ghost use Rattle.tape_jobs.specs.Endings.{JobPuts};
+ghost use Rattle.tape_jobs.specs.Endings.{JobGives, JobPuts};
 ghost use Rattle.tape_jobs.specs.Output.{ending_by};
 ghost use Rattle.tape_jobs.specs.Requests.{after_judging, course_after, course_of, started};
 ghost use Rattle.tape_jobs.specs.Session.{answer, answered, any_refused, edit_answer, ended, is_refused, refusal};
@@ -20,13 +20,12 @@ use screen_print::changes;
 use std::alloc::Global;
 use std::io::Write;
 use std::mem::ManuallyDrop;
-use tape_core::laws::writers_join;
 use tape_core::text::next_line;
-use tape_core::{Fault, Recording, Watched};
+use tape_core::{Recording, Watched};
 use tape_seek::{
     Edit, EditFault, LEAST_EVERY, LineFault, MOST_EVERY, Request, Session, read_line, write_log,
 };
-use vt_term::Profile;
+use vt_term::{OutOfMemory, Profile};
 
 /// Answers each request line in turn, and flushes. Where memory is refused, a beginning of the answers has gone out. How
 /// many chunks lie between stored terminals changes no answer: a number out of its range counts as the nearest one in it.
@@ -46,11 +45,10 @@ pub fn write_answers<O: Write>(
     ensures flushed { OnOk result (is_flushed out.new ≡ true) }
 {
     stops_join::<O>();
-    writers_join::<O>();
     let session = open_session(alloc, recording, in_range(every), profile)?;
     let mut session = ManuallyDrop::new(session);
     let refused = answer_all(alloc, &mut session, requests, out)?;
-    out.finish()?;
+    out.settle()?;
     Ok(ending_by(refused))
 }
 
@@ -88,19 +86,20 @@ fn answer_all<O: Write>(
         ≡ any_refused (course_of session.old) (lines_of requests.now)) }
 {
     stops_join::<O>();
-    writers_join::<O>();
     let mut rest = requests;
     let mut refused = false;
     while !rest.is_empty() {
         let (line, after) = next_line(rest);
         let is_refused = answer_line(alloc, session, line, out)?;
+        out.ask()?;
         refused |= is_refused;
         rest = after;
     }
     Ok(refused)
 }
 
-/// Answers a line, and tells whether it was refused.
+/// Answers a line, and tells whether it was refused. A failure of the writer may be told only when it is asked.
+#[tactic(auto, using(tape_core::proofs::GaveLemmas::took_gave, tape_core::proofs::GaveLemmas::gave_none))]
 fn answer_line<O: Write>(
     alloc: Global,
     session: &mut Session,
@@ -108,7 +107,7 @@ fn answer_line<O: Write>(
     out: &mut Watched<O>,
 ) -> Result<bool, JobFault>
     requires { has_failed out.old ≡ false }
-    ensures puts { JobPuts O.contents out.old out.new
+    ensures gives { JobGives O.contents out.old out.new
         (answer (course_of session.old) (request line.now)) result }
     ensures refused { IfOk result (λ refused. refused
         ≡ is_refused (course_of session.old) (request line.now)) }
@@ -118,14 +117,14 @@ fn answer_line<O: Write>(
     stops_join::<O>();
     match read_line(alloc, line) {
         Ok(Request::Nothing) => {}
-        Ok(Request::Edit(edit)) => return answer_edit(session, edit, out),
+        Ok(Request::Edit(edit)) => return Ok(answer_edit(session, edit, out)?),
         Ok(Request::Screen(at)) => put_moment(session, at, Asked::Screen { escaped: false }, out)?,
         Ok(Request::Reports(at)) => put_moment(session, at, Asked::Reports, out)?,
         Ok(Request::Changes { from, to }) => put_changes(session, from, to, out)?,
-        Ok(Request::Info) => put_info(session.recording(), out)?,
+        Ok(Request::Info) => put_info(session.recording(), out),
         Ok(Request::Log) => put_log(session, out)?,
         Err(LineFault::BadLine) => {
-            put_refusal(EditFault::BadLine, out)?;
+            put_refusal(EditFault::BadLine, out);
             return Ok(true);
         }
         Err(LineFault::OutOfMemory) => return Err(JobFault::Memory),
@@ -138,30 +137,28 @@ fn answer_edit<O: Write>(
     session: &mut Session,
     edit: Edit,
     out: &mut Watched<O>,
-) -> Result<bool, JobFault>
-    requires { has_failed out.old ≡ false }
-    ensures puts { JobPuts O.contents out.old out.new
-        (edit_answer (edit_fault session.old.recording edit)) result }
+) -> Result<bool, OutOfMemory>
+    ensures gives { OnOk result (Gave O.contents out.old out.new
+        (edit_answer (edit_fault session.old.recording edit))) }
+    ensures unwritten { OnErr result (out.new ≡ out.old) }
     ensures refused { IfOk result (λ refused. refused
         ≡ is_some (edit_fault session.old.recording edit)) }
     ensures course { OnOk result (course_of session.new
         ≡ after_judging (course_of session.old) edit (edit_fault session.old.recording edit)) }
 {
-    stops_join::<O>();
     let fault = make_edit(session, edit)?;
     match fault {
-        None => out.put(b"ok\n")?,
-        Some(fault) => put_refusal(fault, out)?,
+        None => out.give(b"ok\n"),
+        Some(fault) => put_refusal(fault, out),
     }
     Ok(fault.is_some())
 }
 
 /// Writes that a line is refused, and why.
-fn put_refusal<O: Write>(fault: EditFault, out: &mut Watched<O>) -> Result<(), Fault>
-    requires { has_failed out.old ≡ false }
-    ensures { Puts O.contents out.old out.new (refusal fault) result }
+fn put_refusal<O: Write>(fault: EditFault, out: &mut Watched<O>)
+    ensures { Gave O.contents out.old out.new (refusal fault) }
 {
-    put_line(b"refused ", name_of(fault).as_bytes(), out)
+    put_line(b"refused ", name_of(fault).as_bytes(), out);
 }
 
 /// Writes change lines, and that they end.
@@ -172,24 +169,23 @@ fn put_changes<O: Write>(
     out: &mut Watched<O>,
 ) -> Result<(), JobFault>
     requires { has_failed out.old ≡ false }
-    ensures puts { JobPuts O.contents out.old out.new
+    ensures gives { JobGives O.contents out.old out.new
         (ended (change_lines session.old.profile session.old.recording from to)) result }
     ensures stays { course_of session.new ≡ course_of session.old }
 {
     stops_join::<O>();
-    writers_join::<O>();
     changes(session, from, to, out)?;
-    out.put(b"end\n")?;
+    out.give(b"end\n");
     Ok(())
 }
 
 /// Writes the log, and that it ends.
-fn put_log<O: Write>(session: &Session, out: &mut Watched<O>) -> Result<(), Fault>
+fn put_log<O: Write>(session: &Session, out: &mut Watched<O>) -> Result<(), JobFault>
     requires { has_failed out.old ≡ false }
-    ensures { Puts O.contents out.old out.new (ended (log_text session.now.log)) result }
+    ensures { JobGives O.contents out.old out.new (ended (log_text session.now.log)) result }
 {
-    writers_join::<O>();
+    stops_join::<O>();
     write_log(session.log(), out)?;
-    out.put(b"end\n")?;
+    out.give(b"end\n");
     Ok(())
 }

@@ -5,8 +5,9 @@ use super::table::{Argument, Subcommand};
 /// The program's version.
 pub const VERSION: &str = "0.1.0";
 
-/// What help tells of the whole program after its subcommands.
-pub const EXAMPLE: &str = "Example: typetool screen --at 12.5 demo.script demo.timing";
+/// What help tells of the whole program after its subcommands: an example, and where more stands.
+pub const EXAMPLE: &str = "Example: typetool screen --at 12.5 demo.script demo.timing\n\n\
+    The long form: man typetool";
 
 /// What a subcommand does, in one line.
 pub fn about_of<'a>(subcommand: Subcommand) -> &'a str {
@@ -41,7 +42,8 @@ const SAVE_DETAILS: &str =
     Both new files are created before anything is read, and must not exist. Nothing is written into\n\
     them where a line is refused (status 1; the line's number and its fault are told, and the help of\n\
     session lists the faults).\n\n\
-    Example: echo 'cap 2' | typetool save demo.script demo.timing new.script new.timing";
+    Example: echo 'cap 2' | typetool save demo.script demo.timing new.script new.timing\n\n\
+    The long form: man typetool";
 
 /// The requests of `session`, and its status.
 const SESSION_DETAILS: &str =
@@ -58,7 +60,8 @@ const SESSION_DETAILS: &str =
     E6 BadRange       a range that is empty or goes past the end\n\
     E7 OutOfMemory    memory was refused: told as 'out of memory', with status 3\n\
     E8 BadLine        a line of no known form\n\n\
-    Example: printf 'cap 2\\nscreen 12.5\\n' | typetool session demo.script demo.timing";
+    Example: printf 'cap 2\\nscreen 12.5\\n' | typetool session demo.script demo.timing\n\n\
+    The long form: man typetool";
 
 /// The lines that `check` writes, its status, and what other commands tell of them.
 const CHECK_DETAILS: &str =
@@ -68,7 +71,8 @@ const CHECK_DETAILS: &str =
     sequence that this terminal doesn't have, with how often it comes. The status is 0 where nothing is\n\
     noted or unplayed, and else 1. No screen is played.\n\n\
     The commands that play a recording tell the notes on size, terminal and sessions on standard error.\n\n\
-    Example: typetool check demo.script demo.timing";
+    Example: typetool check demo.script demo.timing\n\n\
+    The long form: man typetool";
 
 /// What `mend` reads, what it tells, and its status.
 const MEND_DETAILS: &str =
@@ -83,7 +87,8 @@ const MEND_DETAILS: &str =
     the typescript has no header line (then nothing is written).\n\n\
     No one can bring back bytes that a file no longer has, when bytes came that no line counts or only one\n\
     behind a fault, and what a lost first line said.\n\n\
-    Example: typetool mend demo.script demo.timing new.script new.timing";
+    Example: typetool mend demo.script demo.timing new.script new.timing\n\n\
+    The long form: man typetool";
 
 /// The lines that `find` writes, and what it doesn't find.
 const FIND_DETAILS: &str =
@@ -94,7 +99,8 @@ const FIND_DETAILS: &str =
     right margin isn't found, since a row that ends with a space doesn't run on.\n\n\
     A TEXT that begins with - stands behind --, as in the second example.\n\n\
     Example: typetool find 'No such file' demo.script demo.timing\n\
-    Example: typetool find --from 12.5 -- --help demo.script demo.timing";
+    Example: typetool find --from 12.5 -- --help demo.script demo.timing\n\n\
+    The long form: man typetool";
 
 /// What a page offers.
 const PAGE_DETAILS: &str =
@@ -102,47 +108,55 @@ const PAGE_DETAILS: &str =
     from chunk to chunk, cuts idle time, finds a text on the screen, and copies what stands there. It holds\n\
     what this terminal shows after each chunk. In the address, #t=12.5 is a moment and #n=70 the screen\n\
     after 70 chunks.\n\n\
-    Example: typetool page demo.script demo.timing >demo.html";
+    Example: typetool page demo.script demo.timing >demo.html\n\n\
+    The long form: man typetool";
 
 /// The lines that `cast` writes.
 const CAST_DETAILS: &str =
     "For asciinema and other players. A line with the size, and then one for each chunk that changes what is\n\
     shown: when it is due, and a text that draws it. Players without double sizes, VT52 mode or reversed\n\
     screens show the right text; on lines of double size a space stands behind each character.\n\n\
-    Example: typetool cast demo.script demo.timing >demo.cast";
+    Example: typetool cast demo.script demo.timing >demo.cast\n\n\
+    The long form: man typetool";
 
-/// What help tells of a subcommand after its arguments: more of what it does, and an example.
+/// What help tells of a subcommand after its arguments: more of what it does, an example, and where more stands.
 pub fn details_of<'a>(subcommand: Subcommand) -> &'a str {
     match subcommand {
         Subcommand::Due => {
             "A chunk is due at the sum of the delays up to its own.\n\n\
-             Example: typetool due --at 12.5 demo.script demo.timing >bytes"
+             Example: typetool due --at 12.5 demo.script demo.timing >bytes\n\n\
+             The long form: man typetool"
         }
         Subcommand::Info => {
             "Five lines: chunks (their number), bytes (those of all chunks), length (seconds, with six\n\
              decimals), header and trailer (bytes before the first chunk and after the last).\n\n\
-             Example: typetool info demo.script demo.timing"
+             Example: typetool info demo.script demo.timing\n\n\
+             The long form: man typetool"
         }
         Subcommand::Check => CHECK_DETAILS,
         Subcommand::Screen => {
             "UTF-8, without the spaces at the ends of lines. With --escaped a text for a terminal, without a\n\
              last line feed, that draws size, characters, renditions and cursor again.\n\n\
-             Example: typetool screen --at 12.5 demo.script demo.timing"
+             Example: typetool screen --at 12.5 demo.script demo.timing\n\n\
+             The long form: man typetool"
         }
         Subcommand::Picture => {
             "One file for browsers and programs that draw SVG, which needs nothing else: line drawing, double\n\
              sizes, renditions and the cursor on an exact grid, and text that can be copied.\n\n\
-             Example: typetool picture --at 12.5 demo.script demo.timing >screen.svg"
+             Example: typetool picture --at 12.5 demo.script demo.timing >screen.svg\n\n\
+             The long form: man typetool"
         }
         Subcommand::Changes => {
             "A line for each chunk that changes the screen: the chunk (counted from 0), when it is due (seconds),\n\
              and the lines that differ before and after it alone (1 to 24), one space between.\n\n\
-             Example: typetool changes --from 12.5 --to 60 demo.script demo.timing"
+             Example: typetool changes --from 12.5 --to 60 demo.script demo.timing\n\n\
+             The long form: man typetool"
         }
         Subcommand::Find => FIND_DETAILS,
         Subcommand::Reports => {
             "One line of lower-case digits, empty where nothing was answered.\n\n\
-             Example: typetool reports --at 12.5 demo.script demo.timing"
+             Example: typetool reports --at 12.5 demo.script demo.timing\n\n\
+             The long form: man typetool"
         }
         Subcommand::Page => PAGE_DETAILS,
         Subcommand::Cast => CAST_DETAILS,

@@ -132,29 +132,36 @@ fn slurp_tells_a_read_fault(rt: HostRuntime) {
 }
 
 #[test]
-fn put_writes_all_the_bytes(rt: HostRuntime) -> Result<(), Fail> {
+fn give_writes_all_the_bytes(rt: HostRuntime) -> Result<(), Fail> {
     let mut writer = Watched::new(slow_writer(rt.alloc(), 0, Failing::Never));
-    writer.put(b"")?;
-    writer.put(b"ab")?;
-    writer.put(b"c")?;
+    assert!(rt; !writer.written(), "a writer that was given nothing");
+    writer.give(b"");
+    assert!(rt; !writer.written(), "a writer that was given no bytes");
+    writer.give_all(&[b"a", b"", b"b"]);
+    writer.give(b"c");
+    writer.ask()?;
+    assert!(rt; writer.written(), "a writer that has taken a byte");
     assert!(rt; !writer.failed(), "a writer that did not fail");
-    writer.finish()?;
+    writer.settle()?;
     assert!(rt; !writer.failed(), "a writer that did not fail at its flush");
     assert_eq!(rt; writer.into_inner().taken.as_slice(), b"abc".as_slice());
     Ok(())
 }
 
 #[test]
-fn put_tells_a_write_fault(rt: HostRuntime) {
+fn a_writer_that_failed_is_left_alone(rt: HostRuntime) {
     for at in 0..3usize {
         for failing in [Failing::Errs, Failing::TakesNothing] {
             let mut writer = Watched::new(slow_writer(rt.alloc(), at, failing));
-            let answer = writer.put(b"abc");
+            writer.give(b"abc");
             assert_eq!(rt;
-                (answer, writer.failed()),
-                (Err(Fault::WriteFault), true),
+                (writer.ask(), writer.failed(), writer.written()),
+                (Err(Fault::WriteFault), true, at > 0),
                 "at call {at}"
             );
+            writer.give(b"d");
+            writer.give_all(&[b"e", b"f"]);
+            assert_eq!(rt; writer.settle(), Err(Fault::WriteFault), "at call {at}");
             let inner = writer.into_inner();
             assert_eq!(rt; inner.calls, at.saturating_add(1), "no fault is retried");
             assert_eq!(rt; inner.taken.len(), at, "what went out is a beginning");
@@ -163,12 +170,13 @@ fn put_tells_a_write_fault(rt: HostRuntime) {
 }
 
 #[test]
-fn finish_tells_a_failed_flush(rt: HostRuntime) -> Result<(), Fail> {
+fn settle_tells_a_failed_flush(rt: HostRuntime) -> Result<(), Fail> {
     let mut inner = slow_writer(rt.alloc(), 0, Failing::Never);
     inner.flush_fails = true;
     let mut writer = Watched::new(inner);
-    writer.put(b"ab")?;
-    let answer = writer.finish();
+    writer.give(b"ab");
+    writer.ask()?;
+    let answer = writer.settle();
     assert_eq!(rt; (answer, writer.failed()), (Err(Fault::WriteFault), true));
     assert_eq!(rt; writer.into_inner().taken.as_slice(), b"ab".as_slice());
     Ok(())

@@ -1,6 +1,6 @@
 use Rattle.std.proofs.Common.{◌≡◌, ◌∙◌, ap, arith, sym, true}
 use Rattle.vt_screen.specs.Cells.{row_at}
-use Rattle.screen_print.specs.SameRows.{same_row}
+use Rattle.screen_rows.specs.SameRows.{same_row}
 use Rattle.screen_page.proofs.PageLemmas.{first_found}
 use Rattle.screen_page.proofs.rows.line_of.Goals as goal
 

@@ -1,6 +1,6 @@
 use Rattle.std.proofs.Common.{◌≡◌, ℕ, ◌≤◌, ◌<◌, false}
 use Rattle.vt_screen.specs.Cells.{row_at}
-use Rattle.screen_print.specs.SameRows.{same_row}
+use Rattle.screen_rows.specs.SameRows.{same_row}
 use Rattle.screen_page.proofs.rows.line_of.Given as goal
 
 -- none of the lines before this one was the row

@@ -1,6 +1,6 @@
 use Rattle.std.proofs.Common.{◌≡◌, ◌≤◌, ◌++◌, ◌+◌, ◌*◌, length, take}
 use Rattle.std.specs.List.{flat_map}
-use Rattle.screen_print.specs.PlainText.{printed}
+use Rattle.screen_rows.specs.RowText.{printed}
 use Rattle.screen_page.specs.EntryText.{string_byte}
 use Rattle.screen_page.proofs.rows.push_characters.Given as goal
 

@@ -1,7 +1,7 @@
 use Rattle.std.proofs.Common.{List, ◌∙◌, ap, subst, sym, ℕ}
 use Rattle.std.specs.List.{flat_map}
-use Rattle.tape_core.specs.Devices.{Puts}
-use Rattle.screen_picture.specs.declared.runs.Run.{Run}
+use Rattle.tape_core.specs.Devices.{Gave}
+use Rattle.screen_rows.specs.declared.runs.Run.{Run}
 use Rattle.screen_page.specs.Entries.{shown_run}
 use Rattle.screen_page.specs.EntryText.{run_text}
 use Rattle.screen_page.proofs.PageLemmas.{runs_told}
@@ -12,4 +12,4 @@ returns g c =
     let row = c.args.row.now in
     let each : List Run → List ℕ = λ runs. flat_map (λ run. run_text (shown_run row run)) runs in
     let is = ap each (c.as_slice.ensures.value ∙ c.runs_of.ensures.runs) ∙ sym (runs_told row) in
-    subst (λ t. Puts g.W.Write.contents c.args.writer.now c.put_each.new.writer t c.put_each.result) is c.put_each.ensures
+    subst (Gave g.W.Write.contents c.args.writer.now c.put_each.new.writer) is c.put_each.ensures

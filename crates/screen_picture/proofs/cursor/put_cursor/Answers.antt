@@ -1,5 +1,5 @@
 use Rattle.std.proofs.Common.{◌≡◌, ◌++◌, ◌∙◌, ap, append_assoc, subst, sym}
-use Rattle.tape_core.specs.Devices.{Puts}
+use Rattle.tape_core.specs.Devices.{Gave}
 use Rattle.vt_screen.specs.Cells.{row_at}
 use Rattle.screen_picture.specs.Cursor.{cursor_text, rings_text}
 use Rattle.screen_picture.specs.Framed.{frame_open, framed}
@@ -23,4 +23,4 @@ returns g c =
     ∙ ap (λ r. framed r.size line (rings_text reversed column)) c.row.ensures.value
     ∙ ap (λ l. framed (row_at p.rows l).size l (rings_text reversed column)) c.cursor-line.ensures.line
     ∙ ap (λ k. framed (row_at p.rows p.line).size p.line (rings_text reversed k)) c.cursor-line.ensures.column in
-    subst (λ t. Puts g.W.Write.contents c.args.writer.now c.put_all.new.self t c.put_all.result) is c.put_all.ensures.puts
+    subst (λ t. Gave g.W.Write.contents c.args.writer.now c.give_all.new.self t) is c.give_all.ensures

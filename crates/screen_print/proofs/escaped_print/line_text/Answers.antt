@@ -1,5 +1,6 @@
 use Rattle.std.proofs.Common.{◌≡◌, ◌++◌, ap, ap₂, sym, ◌∙◌, false, true}
-use Rattle.screen_print.specs.EscapedText.{pen_after_line, inked, is_left_out, placed_text, size_text, cells_text, pen_after}
+use Rattle.screen_print.specs.EscapedText.{pen_after_line, is_left_out, placed_text, size_text, cells_text, pen_after}
+use Rattle.screen_rows.specs.Ink.{inked}
 use Rattle.screen_print.proofs.EscapedLemmas.{left_out_text, left_out_pen, written_text}
 use Rattle.screen_print.proofs.escaped_print.line_text.Goals as goal
 

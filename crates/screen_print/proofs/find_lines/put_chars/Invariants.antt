@@ -1,8 +1,8 @@
 use Rattle.std.proofs.Common.{encode_utf8, take}
 use Rattle.std.specs.List.{flat_map}
-use Rattle.tape_core.specs.Devices.{Took}
+use Rattle.tape_core.specs.Devices.{Gave}
 use Rattle.screen_print.proofs.find_lines.put_chars.Given as goal
 
 -- the writer has taken the characters so far
 abbrev pub invariant-loop-character : goal.invariant-loop-character
-invariant-loop-character g l = Took g.W.Write.contents l.fn.writer l.writer (flat_map encode_utf8 (take l.character-index l.chars))
+invariant-loop-character g l = Gave g.W.Write.contents l.fn.writer l.writer (flat_map encode_utf8 (take l.character-index l.chars))

@@ -1,5 +1,5 @@
 use Rattle.std.proofs.Common.{◌≡◌, take}
-use Rattle.screen_print.specs.Quiet.{characters}
+use Rattle.screen_rows.specs.RowText.{characters}
 use Rattle.screen_print.proofs.quiet.agrees.Given as goal
 
 -- the cells so far agree

@@ -1,7 +1,7 @@
 use Rattle.std.proofs.Common.{◌∙◌, ap, subst}
 use Rattle.vt_screen.specs.Cells.{row_at}
 use Rattle.vt_screen.specs.Picture.{Picture}
-use Rattle.screen_print.specs.FindLines.{row_text}
+use Rattle.screen_rows.specs.RowText.{row_text}
 use Rattle.screen_print.specs.Quiet.{BeginsUpTo}
 use Rattle.screen_print.proofs.QuietLemmas.{neither_stays}
 use Rattle.screen_print.proofs.quiet.line_stays.Goals as goal

@@ -1,7 +1,7 @@
 use Rattle.std.proofs.Common.{◌++◌, ◌-◌, ◌∙◌, ap, arith, drop, length, nat_eq, sym}
 use Rattle.std.specs.List.{starts_with}
 use Rattle.std.proofs.lemmas.List.{length-drop, take_all}
-use Rattle.screen_print.specs.Quiet.{characters}
+use Rattle.screen_rows.specs.RowText.{characters}
 use Rattle.screen_print.proofs.QuietLemmas.{begins_no_more}
 use Rattle.screen_print.proofs.quiet.may_begin_behind.Goals as goal
 

@@ -1,5 +1,5 @@
 use Rattle.std.proofs.Common.{ap, arith}
-use Rattle.screen_print.specs.Glyphs.{character}
+use Rattle.screen_rows.specs.Glyphs.{character}
 use Rattle.screen_print.proofs.QuietLemmas.{alike_more}
 use Rattle.screen_print.proofs.quiet.same_len.Goals as goal
 

@@ -3,10 +3,10 @@ use Rattle.std.proofs.lemmas.List.{length-map}
 use Rattle.std.proofs.lemmas.List.Elements.{All-append}
 use Rattle.vt_screen.specs.declared.cell.Cell.{Cell}
 use Rattle.vt_screen.specs.Cells.{row_at}
-use Rattle.screen_print.specs.FindLines.{begins, line_text_from, place_in, row_text, row_texts}
-use Rattle.screen_print.specs.Glyphs.{character}
+use Rattle.screen_print.specs.FindLines.{begins, line_text_from, place_in, row_texts}
+use Rattle.screen_rows.specs.RowText.{row_text, characters}
+use Rattle.screen_rows.specs.Glyphs.{character}
 use Rattle.screen_print.specs.Places.{IsPlace}
-use Rattle.screen_print.specs.Quiet.{characters}
 use Rattle.screen_print.proofs.FindLemmas.{place_alone, placed_step}
 use Rattle.screen_print.proofs.standing.push_begun.Goals as goal
 use Rattle.screen_print.proofs.standing.push_begun.Goals.{then-begins, else-begins}
@@ -14,14 +14,14 @@ use Rattle.screen_print.proofs.standing.push_begun.Goals.{then-begins, else-begi
 pub begins-requires-clause-right : goal.begins-requires-clause-right
 begins-requires-clause-right c =
     let still = c.args.still.now in
-    let is : characters c.cells_of-cells.result.now ≡ row_text still.wide (row_at still.rows c.args.line) =
-    c.cells_of-cells.ensures.text ∙ ap (λ wide. row_text wide c.row.result.now) c.is_wide.ensures ∙ ap (row_text still.wide) c.row.ensures.value in
-    omega (arith, ap length is, length-map c.cells_of-cells.result.now (λ (cell : Cell). character cell.glyph), c.columns_of-columns.ensures.columns)
+    let is : characters c.cells_to_margin-cells.result.now ≡ row_text still.wide (row_at still.rows c.args.line) =
+    c.cells_to_margin-cells.ensures.text ∙ ap (λ wide. row_text wide c.row.result.now) c.is_wide.ensures ∙ ap (row_text still.wide) c.row.ensures.value in
+    omega (arith, ap length is, length-map c.cells_to_margin-cells.result.now (λ (cell : Cell). character cell.glyph), c.columns_of-columns.ensures.columns)
 
 pub begins-requires-clause-cells : goal.begins-requires-clause-cells
 begins-requires-clause-cells c =
     let still = c.args.still.now in
-    c.cells_of-cells.ensures.text ∙ ap (λ wide. row_text wide c.row.result.now) c.is_wide.ensures ∙ ap (row_text still.wide) c.row.ensures.value
+    c.cells_to_margin-cells.ensures.text ∙ ap (λ wide. row_text wide c.row.result.now) c.is_wide.ensures ∙ ap (row_text still.wide) c.row.ensures.value
 
 pub loop-column-preserved : goal.loop-column-preserved
 loop-column-preserved c =

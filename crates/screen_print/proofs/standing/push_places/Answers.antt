@@ -1,5 +1,5 @@
 use Rattle.std.proofs.Common.{◌++◌, ◌∙◌, ap, append-nil, subst, sym}
-use Rattle.screen_print.specs.FindLines.{row_text}
+use Rattle.screen_rows.specs.RowText.{row_text}
 use Rattle.screen_print.specs.Quiet.{BeginsUpTo}
 use Rattle.screen_print.proofs.QuietLemmas.{none_placed}
 use Rattle.screen_print.proofs.standing.push_places.Goals as goal

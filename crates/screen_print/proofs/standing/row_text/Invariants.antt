@@ -1,5 +1,5 @@
 use Rattle.std.proofs.Common.{◌≡◌, ◌≤◌, length, map, take}
-use Rattle.screen_print.specs.Glyphs.{character}
+use Rattle.screen_rows.specs.Glyphs.{character}
 use Rattle.screen_print.proofs.standing.row_text.Given as goal
 
 -- the cells so far are characters

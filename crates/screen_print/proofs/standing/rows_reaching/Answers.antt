@@ -1,7 +1,8 @@
 use Rattle.std.proofs.Common.{◌≡◌, ◌+◌, ◌-◌, ◌<◌, ◌≤◌, ◌++◌, ◌∙◌, ap, sym, subst, arith, drop, length}
 use Rattle.std.proofs.lemmas.List.{length-append}
 use Rattle.vt_screen.specs.Cells.{row_at}
-use Rattle.screen_print.specs.FindLines.{row_text, row_texts, rows_reaching}
+use Rattle.screen_print.specs.FindLines.{row_texts, rows_reaching}
+use Rattle.screen_rows.specs.RowText.{row_text}
 use Rattle.screen_print.proofs.FindLemmas.{reaching_all, reaching_end, reaching_more}
 use Rattle.screen_print.proofs.standing.rows_reaching.Goals as goal
 

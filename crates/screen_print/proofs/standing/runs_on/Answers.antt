@@ -1,8 +1,8 @@
 use Rattle.std.proofs.Common.{◌≡◌, ◌+◌, ◌-◌, ◌∙◌, [], ap, arith, cond, drop, length, nat_eq, sym, take}
 use Rattle.std.specs.List.{starts_with}
 use Rattle.std.proofs.lemmas.List.{length-drop, take_rest}
-use Rattle.screen_print.specs.FindLines.{begins, ends_line, line_text_from, row_text, row_texts}
-use Rattle.screen_print.specs.Quiet.{characters}
+use Rattle.screen_print.specs.FindLines.{begins, ends_line, line_text_from, row_texts}
+use Rattle.screen_rows.specs.RowText.{row_text, characters}
 use Rattle.screen_print.proofs.RunLemmas.{goes, nothing_left, row_told, stops}
 use Rattle.screen_print.proofs.standing.runs_on.Goals as goal
 
@@ -12,8 +12,8 @@ returns-then-not-agrees c =
     let at = c.loop-at.at in
     let from = c.loop-at.from in
     let rest = c.loop-at.rest.now in
-    let cells = c.cells_of-cells.result.now in
-    let is = c.cells_of-cells.ensures.text ∙ ap (λ wide. row_text wide c.row.result.now) c.is_wide.ensures ∙ ap (row_text still.wide) c.row.ensures.value in
+    let cells = c.cells_to_margin-cells.result.now in
+    let is = c.cells_to_margin-cells.ensures.text ∙ ap (λ wide. row_text wide c.row.result.now) c.is_wide.ensures ∙ ap (row_text still.wide) c.row.ensures.value in
     let found = begins c.args.text.now (line_text_from (drop (c.args.line - 1) (row_texts still))) c.args.column in
     let told = row_told still at from rest cells found c.sound.ensures.whole (omega arith) (omega arith) c.loop-at.invariant.fits is c.loop-at.invariant.told in
     let behind = cond (ends_line (characters cells)) [] (line_text_from (drop at (row_texts still))) in
@@ -25,8 +25,8 @@ returns-then-rest-part c =
     let at = c.loop-at.at in
     let from = c.loop-at.from in
     let rest = c.loop-at.rest.now in
-    let cells = c.cells_of-cells.result.now in
-    let is = c.cells_of-cells.ensures.text ∙ ap (λ wide. row_text wide c.row.result.now) c.is_wide.ensures ∙ ap (row_text still.wide) c.row.ensures.value in
+    let cells = c.cells_to_margin-cells.result.now in
+    let is = c.cells_to_margin-cells.ensures.text ∙ ap (λ wide. row_text wide c.row.result.now) c.is_wide.ensures ∙ ap (row_text still.wide) c.row.ensures.value in
     let found = begins c.args.text.now (line_text_from (drop (c.args.line - 1) (row_texts still))) c.args.column in
     let told = row_told still at from rest cells found c.sound.ensures.whole (omega arith) (omega arith) c.loop-at.invariant.fits is c.loop-at.invariant.told in
     let behind = cond (ends_line (characters cells)) [] (line_text_from (drop at (row_texts still))) in
@@ -38,8 +38,8 @@ returns-then-ends_line c =
     let at = c.loop-at.at in
     let from = c.loop-at.from in
     let rest = c.loop-at.rest.now in
-    let cells = c.cells_of-cells.result.now in
-    let is = c.cells_of-cells.ensures.text ∙ ap (λ wide. row_text wide c.row.result.now) c.is_wide.ensures ∙ ap (row_text still.wide) c.row.ensures.value in
+    let cells = c.cells_to_margin-cells.result.now in
+    let is = c.cells_to_margin-cells.ensures.text ∙ ap (λ wide. row_text wide c.row.result.now) c.is_wide.ensures ∙ ap (row_text still.wide) c.row.ensures.value in
     let found = begins c.args.text.now (line_text_from (drop (c.args.line - 1) (row_texts still))) c.args.column in
     let told = row_told still at from rest cells found c.sound.ensures.whole (omega arith) (omega arith) c.loop-at.invariant.fits is c.loop-at.invariant.told in
     let part = take (length cells - from) (drop from cells) in
@@ -52,8 +52,8 @@ loop-at-preserved c =
     let at = c.loop-at.at in
     let from = c.loop-at.from in
     let rest = c.loop-at.rest.now in
-    let cells = c.cells_of-cells.result.now in
-    let is = c.cells_of-cells.ensures.text ∙ ap (λ wide. row_text wide c.row.result.now) c.is_wide.ensures ∙ ap (row_text still.wide) c.row.ensures.value in
+    let cells = c.cells_to_margin-cells.result.now in
+    let is = c.cells_to_margin-cells.ensures.text ∙ ap (λ wide. row_text wide c.row.result.now) c.is_wide.ensures ∙ ap (row_text still.wide) c.row.ensures.value in
     let found = begins c.args.text.now (line_text_from (drop (c.args.line - 1) (row_texts still))) c.args.column in
     let told = row_told still at from rest cells found c.sound.ensures.whole (omega arith) (omega arith) c.loop-at.invariant.fits is c.loop-at.invariant.told in
     let part = take (length cells - from) (drop from cells) in

@@ -1,7 +1,8 @@
 use Rattle.std.proofs.Common.{◌≡◌, ◌-◌, ◌<◌, ◌≤◌, drop, length, nat_eq}
 use Rattle.std.specs.List.{starts_with}
 use Rattle.vt_screen.specs.Cells.{row_at}
-use Rattle.screen_print.specs.FindLines.{begins, line_text_from, row_text, row_texts}
+use Rattle.screen_print.specs.FindLines.{begins, line_text_from, row_texts}
+use Rattle.screen_rows.specs.RowText.{row_text}
 use Rattle.screen_print.proofs.standing.runs_on.Given as goal
 
 -- the rows so far have the front of the text, and what is left of it is looked for in what is left of the line

@@ -1,7 +1,7 @@
 use Rattle.std.proofs.Common.{◌≡◌, ◌-◌, false, get_or, not, ap, sym, ◌∙◌, arith, append-nil, subst}
 use Rattle.vt_screen.specs.Cells.{row_at}
 use Rattle.vt_screen.specs.Picture.{SoundRow}
-use Rattle.screen_print.specs.SameRows.{is_changed, same_row}
+use Rattle.screen_rows.specs.SameRows.{is_changed, same_row}
 use Rattle.screen_print.proofs.RowLemmas.{all_changed, changed_step, row_read}
 use Rattle.screen_print.proofs.still.changed_lines.Goals as goal
 use Rattle.screen_print.proofs.still.changed_lines.Goals.{then-not-same_row, else-not-same_row}

@@ -1,6 +1,6 @@
 use Rattle.std.proofs.Common.{◌≡◌, ◌+◌, ◌-◌, ◌≤◌, length, filter}
 use Rattle.std.specs.List.{range_with_len}
-use Rattle.screen_print.specs.SameRows.{is_changed}
+use Rattle.screen_rows.specs.SameRows.{is_changed}
 use Rattle.screen_print.proofs.still.changed_lines.Given as goal
 
 -- those so far differ

@@ -1,5 +1,4 @@
-use Rattle.std.proofs.Common.{take, subst}
-use Rattle.std.proofs.Common.{◌≡◌, get_or, List, ℕ}
+use Rattle.std.proofs.Common.{take, subst, ◌≡◌, get_or, List, ℕ}
 use Rattle.std.specs.Prelude.{fold}
 use Rattle.tape_core.specs.declared.chunk.Chunk.{Chunk}
 use Rattle.tape_core.specs.Tape.{body}

@@ -1,4 +1,5 @@
 use Rattle.std.proofs.Common.{◌≡◌, false, true, ap, sym, inl, inr, ◌∙◌, refl, rules, subst, true≢false, Some, None}
+use Rattle.tape_core.proofs.DeviceLemmas.{took_none}
 use Rattle.tape_jobs.specs.Endings.{JobEnds, used, writers_of}
 use Rattle.tape_jobs.specs.Mending.{remains_of}
 use Rattle.tape_jobs.specs.Output.{done_mending, done_on, mends, writes_timing}
@@ -13,8 +14,8 @@ returns-in-Ok-clause-ends g c =
     let writers = writers_of (used g.O.Write.contents c.args.out.now c.write_remains.new.out)
     (used g.P.Write.contents c.args.out_timing.now c.write_remains.new.out_timing) in
     let before : IsBefore writers = record {
-      nothing = c.writers_join.ensures.nothing _ c.requires.out;
-      nothing_timing = c.writers_join-2.ensures.nothing _ c.requires.out_timing;
+      nothing = took_none _ _ c.requires.out;
+      nothing_timing = took_none _ _ c.requires.out_timing;
     } in
     let asked : mends c.args.job ≡ Some c.in-Mend.header = search rules in
     let same : c.deref.result.now ≡ c.in-Ok.mended = search rules in
@@ -34,8 +35,8 @@ pub returns-in-Err-clause-ends : goal.returns-in-Err-clause-ends
 returns-in-Err-clause-ends g c =
     let before : IsBefore (writers_of (used g.O.Write.contents c.args.out.now c.args.out.now)
     (used g.P.Write.contents c.args.out_timing.now c.args.out_timing.now)) = record {
-      nothing = c.writers_join.ensures.nothing _ c.requires.out;
-      nothing_timing = c.writers_join-2.ensures.nothing _ c.requires.out_timing;
+      nothing = took_none _ _ c.requires.out;
+      nothing_timing = took_none _ _ c.requires.out_timing;
     } in
     let asked : mends c.args.job ≡ Some c.in-Mend.header = search rules in
     rw c.outcome_of-in-Err.ensures
@@ -52,8 +53,8 @@ pub returns-in-Ok-read_files-clause-ends : goal.returns-in-Ok-read_files-clause-
 returns-in-Ok-read_files-clause-ends g c =
     let before : IsBefore (writers_of (used g.O.Write.contents c.args.out.now c.perform.new.out)
     (used g.P.Write.contents c.args.out_timing.now c.perform.new.out_timing)) = record {
-      nothing = c.writers_join.ensures.nothing _ c.requires.out;
-      nothing_timing = c.writers_join-2.ensures.nothing _ c.requires.out_timing;
+      nothing = took_none _ _ c.requires.out;
+      nothing_timing = took_none _ _ c.requires.out_timing;
     } in
     let given = c.in-Ok-read_files.given in
     let reading : mends c.args.job ≡ None = search rules in
@@ -70,8 +71,8 @@ pub returns-in-Err-read_files-clause-ends : goal.returns-in-Err-read_files-claus
 returns-in-Err-read_files-clause-ends g c =
     let before : IsBefore (writers_of (used g.O.Write.contents c.args.out.now c.args.out.now)
     (used g.P.Write.contents c.args.out_timing.now c.args.out_timing.now)) = record {
-      nothing = c.writers_join.ensures.nothing _ c.requires.out;
-      nothing_timing = c.writers_join-2.ensures.nothing _ c.requires.out_timing;
+      nothing = took_none _ _ c.requires.out;
+      nothing_timing = took_none _ _ c.requires.out_timing;
     } in
     let unread = c.in-Err-read_files.ensures in
     let reading : mends c.args.job ≡ None = search rules in

@@ -2,4 +2,4 @@ use Rattle.std.proofs.Common.{◌∙◌}
 use Rattle.tape_mend.proofs.losses.put_chunks_line.Goals as goal
 
 pub returns : goal.returns
-returns g c = rw (← (c.as_bytes.ensures.value ∙ c.format.ensures.text)) c.put_all.ensures.puts
+returns g c = rw (← (c.as_bytes.ensures.value ∙ c.format.ensures.text)) c.give_all.ensures

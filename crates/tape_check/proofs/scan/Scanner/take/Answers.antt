@@ -1,6 +1,5 @@
-use Rattle.std.proofs.Common.{◌+◌, ◌∙◌, refl}
+use Rattle.std.proofs.Common.{◌+◌, ◌∙◌, refl, drop, ap, take}
 use Rattle.std.proofs.lemmas.List.{take_rest, drop-drop}
-use Rattle.std.proofs.Common.{drop, ap, take}
 use Rattle.tape_check.specs.Scan.{scan_step}
 use Rattle.std.specs.Prelude.{fold}
 use Rattle.tape_check.proofs.CountLemmas.{scanned_none, scanned_on}

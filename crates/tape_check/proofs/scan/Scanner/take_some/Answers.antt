@@ -1,12 +1,11 @@
 use Rattle.std.proofs.Common.{◌≡◌, take, get_or, Some, refl, sym, ap, ◌∙◌, arith}
 use Rattle.std.proofs.lemmas.List.{length-take}
-use Rattle.std.specs.Prelude.{fold}
+use Rattle.std.specs.Prelude.{fold, Option}
 use Rattle.vt_parser.specs.declared.states.Formless.{Formless}
 use Rattle.vt_parser.specs.Formless.{formless_of}
 use Rattle.tape_check.specs.Unplayed.{formless_names}
 use Rattle.tape_check.specs.Scan.{counted}
 use Rattle.tape_check.specs.Counting.{entries_of}
-use Rattle.std.specs.Prelude.{Option}
 use Rattle.tape_check.proofs.CountLemmas.{first_taken, scanned_told}
 use Rattle.tape_check.proofs.scan.Scanner.take_some.Goals as goal
 

@@ -1,9 +1,11 @@
-use Rattle.std.proofs.Common.{◌≡◌, ap, arith, length}
+use Rattle.std.proofs.Common.{◌≡◌, ap, append_assoc, arith, inr, length}
 use Rattle.std.proofs.lemmas.Bool.Decides.{nat_tests}
 use Rattle.std.proofs.lemmas.List.{nil_from_length}
 use Rattle.std.proofs.lemmas.Result.{err_from_is_err_and}
+use Rattle.tape_core.proofs.GaveLemmas.{gave_join, took_gave}
 use Rattle.tape_core.specs.Text.{lines_of}
 use Rattle.tape_jobs.specs.Requests.{course_of}
+use Rattle.tape_jobs.specs.declared.job.JobFault.TheVariants.{File}
 use Rattle.tape_jobs.proofs.SessionLemmas.{answered_all, answered_more, answers_left, refused_all}
 use Rattle.tape_jobs.proofs.jobs.session.answer_all.Goals as goal
 
@@ -12,14 +14,23 @@ loop-rest-preserved g c =
     let line = c.in_ok-is_refused in
     answered_more c.answer_line.new.out (lines_of c.next_line.result.1.now) c.next_line.result.0.now
     (course_of c.answer_line.new.session) line.is_refused c.loop-rest.invariant
-    c.next_line.ensures.lines line.ensures.course line.ensures.refused (λ x took. c.writers_join.ensures.both _ _ _ x _ line.ensures.puts took)
+    c.next_line.ensures.lines line.ensures.course line.ensures.refused
+    (λ x took. c.in_ok-ask.ensures.puts _ _ (gave_join _ _ _ _ x _ (took_gave _ _ _ x c.requires took) line.ensures.gives))
 
 pub returns-in_err-is_refused-clause-puts : goal.returns-in_err-is_refused-clause-puts
 returns-in_err-is_refused-clause-puts g c =
     let p = err_from_is_err_and c.from_residual.result c.from_residual.ensures.1 in
     let before = c.loop-rest.invariant in
     rw (p.1, p.2, answers_left (lines_of c.next_line.result.1.now) c.next_line.result.0.now before c.next_line.ensures.lines)
-    (c.stops_join.ensures.in_second _ _ _ before.text _ _ (c.stops_join.ensures.in_first _ _ _ _ _ c.in_err-is_refused.ensures.puts) before.took)
+    (c.stops_join.ensures.in_second _ _ _ before.text _ _ (c.stops_join.ensures.in_first _ _ _ _ _ c.in_err-is_refused.ensures.gives) before.took)
+
+pub returns-in_err-ask-clause-puts : goal.returns-in_err-ask-clause-puts
+returns-in_err-ask-clause-puts g c =
+    let p = err_from_is_err_and c.from_residual-in_err-ask.result c.from_residual-in_err-ask.ensures.1 in
+    let before = c.loop-rest.invariant in
+    let stopped = c.in_err-ask.ensures.puts _ _ (gave_join _ _ _ _ before.text _ (took_gave _ _ _ _ c.requires before.took) c.in_ok-is_refused.ensures.gives) in
+    rw (p.1, p.2, answers_left (lines_of c.next_line.result.1.now) c.next_line.result.0.now before c.next_line.ensures.lines, ← append_assoc)
+    (c.stops_join.ensures.in_first _ _ _ _ _ (inr (ap File stopped.0, stopped.1)))
 
 pub returns-clause-puts : goal.returns-clause-puts
 returns-clause-puts g c =

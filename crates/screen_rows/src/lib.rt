@@ -1,0 +1,17 @@
+//! What a row of a screen shows: its cells, the characters of their glyphs, its text and its runs.
+#![tactic(auto)]
+
+mod cells;
+mod glyphs;
+pub mod laws;
+mod outlines;
+mod runs;
+mod same;
+mod texts;
+
+pub use cells::{cells_to_margin, inked, printed_row, trimmed};
+pub use glyphs::character;
+pub use outlines::outline;
+pub use runs::{CELLS, Kind, Run, cells_of, runs_of};
+pub use same::{same_first, same_row};
+pub use texts::{push_bytes, push_bytes_where, push_number};

@@ -1,8 +1,0 @@
-use Rattle.std.proofs.Common.{take}
-use Rattle.tape_core.specs.Devices.{Took}
-use Rattle.tape_core.specs.Tape.{body}
-use Rattle.tape_core.proofs.writing.put_chunks.Given as goal
-
--- the writer has taken the bytes of the chunks so far
-abbrev pub invariant-loop-chunk : goal.invariant-loop-chunk
-invariant-loop-chunk g l = Took g.W.Write.contents l.fn.writer l.writer (body (take l.chunk-index l.chunks))
