@@ -1,14 +1,15 @@
 #!/usr/bin/env python3
-"""Sees that docs/READING.md lists just the definitions that the contract of `seek` rests on.
+"""Sees that docs/READING.md and docs/READING_TODAY.md list just the definitions that the headline rests on.
 
     tests/reading.py [--write]
 
-The list is computed: every name that a clause of `Session::seek` cites, every name that those definitions cite, and so
-on, by the `use` lines of the specs/ folders. A record, a data type and its constructors count as one; so does a type of
-the code that the definitions speak of. With --write the page gets the list's rows anew: its headings and their order
-stay, names that went are dropped, new ones stand behind the definition that stands before them in their file, and one
-that moved to another file keeps its row. A row's text is the comment of the definition, so a wrong text is mended
-there.
+The lists are computed: every name that a clause of `Session::seek` cites, every name that those definitions cite, and
+so on, by the `use` lines of the specs/ folders; for the terminal of today, what the ghost members cite by which it
+plays, without what the first list has. A record, a data type and its constructors count as one; so does a type of
+the code that the definitions speak of. With --write the page gets the list's rows anew, under the names of their files:
+its headings and their order stay, names that went are dropped, new ones stand behind the definition that stands before
+them in their file, and one that moved to another file keeps its row. A row's text is the comment of the definition (UG
+for the chapter that most of them cite), so a wrong text is mended there.
 """
 import glob
 import itertools
@@ -18,8 +19,10 @@ import sys
 
 TOP = os.path.join(os.path.dirname(os.path.abspath(__file__)), "..")
 PAGE = "docs/READING.md"
+TODAY = "docs/READING_TODAY.md"
 NAME = r"[^\W\d]\w*(?:\.\w+)*"
 USE = re.compile(r"^\s*(?:ghost )?use (Rattle\.[\w.]+?)(?:\.\{([^}]*)\}| as (\w+))?;?$", re.M)
+CHAPTER = "EK-VT100-UG chapter 3"
 HEAD = re.compile(r"^(?:abbrev |unfoldable )?pub (?:record |data )?(\w+)", re.M)
 
 
@@ -38,11 +41,13 @@ class Definition:
     def __init__(self, name, place, text, comment):
         self.name, self.place, self.text, self.comment = name, place, text, comment
 
-    def row(self):
+    def group(self):
+        """The line above the rows of its file."""
         crate, _, rest = self.place.removeprefix("crates/").partition("/")
-        return (
-            f"| `{self.name}` | {self.comment.replace('|', chr(92) + '|')} | `{crate}` `{rest.removesuffix('.antt')}` |"
-        )
+        return f"`{crate}` `{rest.removesuffix('.antt')}`:"
+
+    def row(self):
+        return f"- `{self.name}`: {self.comment.replace(CHAPTER, 'UG')}"
 
 
 def imports(text):
@@ -86,17 +91,19 @@ def blocks(path):
 
 
 def code_type(crate, name):
-    """A type of the code: its fields or variants, and what its comment says."""
+    """A type or trait of the code: its fields, variants or ghost members, and what its comment says."""
     for path in files(f"crates/{crate}/src/**/*.rt"):
         text = read(path)
         found = re.search(
-            rf"((?:^///[^\n]*\n)*)(?:^#\[[^\n]*\n)*^pub (?:struct|enum) {name}\b[^{{;]*[{{;](.*?)^\}}",
+            rf"((?:^///[^\n]*\n)*)(?:^#\[[^\n]*\n)*^pub (struct|enum|trait) {name}\b[^{{;]*[{{;](.*?)^\}}",
             text,
             re.M | re.S,
         )
         if found:
             said = sentence(line[3:] for line in found[1].strip().split("\n"))
-            return Definition(name, path, re.sub(r"//.*", "", found[2]), said)
+            body = re.sub(r"//.*", "", found[3])
+            members = "\n".join(re.findall(r"^    ghost \w+: .*;$", body, re.M))
+            return Definition(name, path, members if found[2] == "trait" else body, said)
     sys.exit(f"no type {name} in crates/{crate}/src")
 
 
@@ -203,15 +210,22 @@ def contract_of_seek():
         text = read(path)
         found = re.search(r"^    pub fn seek\(.*?^    \{", text, re.M | re.S)
         if found:
-            values = re.findall(r"ghost Value = \{ (\w+) \};", text)
+            values = re.findall(r"ghost Value = \{ (\w+)[^}]* \};", text)
             return path, text, re.sub(r"//.*", "", found[0]) + " " + " ".join(values)
     sys.exit("no function seek in crates/tape_seek")
 
 
-def rests_on():
-    """The definitions that the contract of `seek` cites, and those that they cite, each once."""
+def members_of_today():
+    """The file in which the terminal of today plays, and its ghost members."""
+    path = "crates/xterm_term/src/playing.rt"
+    text = read(path)
+    return path, text, " ".join(re.findall(r"^    ghost \w+ = \{.*?\};", text, re.M | re.S))
+
+
+def rests_on(contract):
+    """The definitions that a contract cites, and those that they cite, each once."""
     book = Book()
-    _, text, clause = contract_of_seek()
+    _, text, clause = contract
     names, _ = imports(text)
     found, waiting = {}, [book.find(*names[word]) for word in re.findall(r"\w+", clause) if word in names]
     while waiting:
@@ -222,71 +236,106 @@ def rests_on():
     return found, book
 
 
-ROW = re.compile(r"^\| `(\w+)` \| .* \| `(\w+)` `([\w/.]+)` \|$")
+GROUP = re.compile(r"^`(\w+)` `([\w/.]+)`:$")
+ROW = re.compile(r"^- `(\w+)`: ")
 
 
-def key_of(match):
-    rest = match[3] if match[3].endswith(".rt") else f"{match[3]}.antt"
-    return match[1], f"crates/{match[2]}/{rest}"
+def entries_of(page):
+    """The page as a list: a line as it stands, or the key of a row, whose place is that of the file above it."""
+    place, found = "", []
+    for line in page.split("\n"):
+        group, row = GROUP.match(line), ROW.match(line)
+        if group:
+            rest = group[2] if group[2].endswith(".rt") else f"{group[2]}.antt"
+            place = f"crates/{group[1]}/{rest}"
+            if found and not found[-1]:
+                found.pop()
+        else:
+            found.append((row[1], place) if row else line)
+    return found
 
 
 def crate_of(place):
     return place.split("/")[1]
 
 
-def place_of_new(key, lines, order):
+def place_of_new(key, entries, order):
     """Where a row that the page lacks comes in: behind the nearest one before it in its file, or else at the end."""
     name, place = key
     names = order.get(place, [name])
     before = names[: names.index(name)] if name in names else []
-    rows = {key_of(match): at for at, match in enumerate(map(ROW.match, lines)) if match}
+    rows = {entry: at for at, entry in enumerate(entries) if isinstance(entry, tuple)}
     for other in reversed(before):
         if (other, place) in rows:
             return rows[other, place] + 1
     same = [at for (_, where), at in rows.items() if where == place]
-    return min(same) if same else (max(rows.values(), default=len(lines) - 1) + 1)
+    return min(same) if same else (max(rows.values(), default=len(entries) - 1) + 1)
+
+
+def laid_out(entries, found):
+    """The text of a page: above the first row of a file its name, behind a blank line."""
+    lines, place = [], None
+    for entry in entries:
+        if isinstance(entry, str):
+            lines.append(entry)
+            place = None
+            continue
+        if entry[1] != place:
+            place = entry[1]
+            lines += [""] if lines and lines[-1] else []
+            lines.append(found[entry].group())
+        lines.append(found[entry].row())
+    return "\n".join(lines)
 
 
 def written(page, found, book):
     """The page with the rows of these definitions."""
-    listed = {key_of(match) for match in map(ROW.match, page.split("\n")) if match}
+    there = entries_of(page)
+    listed = {entry for entry in there if isinstance(entry, tuple)}
     moved = {(name, crate_of(place)): (name, place) for name, place in found.keys() - listed}
-    lines = []
-    for line in page.split("\n"):
-        match = ROW.match(line)
-        key = match and key_of(match)
-        key = key if key in found else key and moved.get((key[0], crate_of(key[1])))
-        if not match:
-            lines.append(line)
-        elif key:
-            lines.append(found[key].row())
-    there = {key_of(match) for match in map(ROW.match, lines) if match}
+    entries = []
+    for entry in there:
+        if isinstance(entry, tuple) and entry not in found:
+            entry = moved.get((entry[0], crate_of(entry[1])))
+        entries += [] if entry is None else [entry]
+    missing = found.keys() - {entry for entry in entries if isinstance(entry, tuple)}
     rank = {(name, place): at for place, names in book.order.items() for at, name in enumerate(names)}
-    for key in sorted(found.keys() - there, key=lambda key: (key[1], rank.get(key, -1))):
-        lines.insert(place_of_new(key, lines, book.order), found[key].row())
-    text = "\n".join(lines)
+    for key in sorted(missing, key=lambda key: (key[1], rank.get(key, -1))):
+        entries.insert(place_of_new(key, entries, book.order), key)
     count = f"**{len(found)} definitions**"
-    return re.sub(r"\*\*\d+ definitions\*\*", count, text)
+    return re.sub(r"\*\*\d+ definitions\*\*", count, laid_out(entries, found))
+
+
+def pages():
+    """Each page as it is, with the definitions of its list, and as it has to be."""
+    found, book = rests_on(contract_of_seek())
+    yield PAGE, found, book
+    more, book = rests_on(members_of_today())
+    yield TODAY, {key: one for key, one in more.items() if key not in found}, book
 
 
 def main():
-    found, book = rests_on()
-    page = read(PAGE)
-    wanted = written(page, found, book)
-    if sys.argv[1:] == ["--write"]:
-        with open(os.path.join(TOP, PAGE), "w", encoding="utf-8") as file:
-            file.write(wanted)
-        return 0
-    if page == wanted:
-        print(f"reading: {len(found)} definitions passed, 0 failed")
-        return 0
-    old, new = set(page.split("\n")), set(wanted.split("\n"))
-    for line in sorted(old - new):
-        print(f"FAILED {PAGE} has: {line[:150]}")
-    for line in sorted(new - old):
-        print(f"FAILED {PAGE} lacks: {line[:150]}")
-    print("tests/reading.py --write brings the page in step")
-    return 1
+    passed, failed = 0, 0
+    for path, found, book in pages():
+        page = read(path)
+        wanted = written(page, found, book)
+        if sys.argv[1:] == ["--write"]:
+            with open(os.path.join(TOP, path), "w", encoding="utf-8") as file:
+                file.write(wanted)
+        elif page == wanted:
+            passed += len(found)
+        else:
+            old, new = set(page.split("\n")), set(wanted.split("\n"))
+            for line in sorted(old - new):
+                print(f"FAILED {path} has: {line[:150]}")
+            for line in sorted(new - old):
+                print(f"FAILED {path} lacks: {line[:150]}")
+            failed += 1
+    if failed:
+        print("tests/reading.py --write brings the pages in step")
+    if not sys.argv[1:]:
+        print(f"reading: {passed} definitions passed, {failed} pages failed")
+    return failed > 0
 
 
 if __name__ == "__main__":

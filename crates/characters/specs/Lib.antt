@@ -1,0 +1,3 @@
+pub mod Utf8
+pub mod Width
+pub mod Law

@@ -1,0 +1,121 @@
+-- Rows behind an order: what a write to one slot does to the rows by line.
+use Rattle.std.proofs.Common.{◌≡◌, ◌≢◌, ℕ, ◌+◌, ◌-◌, ◌<◌, ◌≤◌, Bool, true, false, List, [], length, get_or, set, sym, ap, ap₂, inl, inr, ◌∙◌, subst, arith}
+use Rattle.std.specs.Prelude.{if◌then◌else◌, ◌==◌}
+use Rattle.std.proofs.lemmas.Bool.{cases_eq, cases_lt}
+use Rattle.std.proofs.lemmas.Bool.Decides.{nat_tests}
+use Rattle.std.proofs.lemmas.List.{length-set, get_or_default, get_or-set_same, get_or-set_other}
+use Rattle.sheet.specs.Cells.{Cell}
+use Rattle.sheet.specs.Table.{table}
+use Rattle.sheet.specs.Halves.{Whole}
+use Rattle.sheet.specs.Grid.{Grid, Told, is_touched, row_at, with_row}
+use Rattle.sheet.specs.Held.{Held, Sound, slot_at, row_in, rows_of, grid_of}
+use Rattle.sheet.proofs.Tables.{length-table, nth-table, nth_is, nth_none, nth_past, table_ext, get_or-set, nth-set}
+
+-- the row of a line lies in the line's slot
+pub row_there : (h : Held) (line : ℕ) → 1 ≤ line → line ≤ length h.order → row_at (rows_of h) line ≡ row_in h.slots (slot_at h.order line)
+row_there h line low high = nth-table [] (length h.order) (λ k. row_in h.slots (slot_at h.order k)) line low high
+
+-- lines that aren't touched_from are lines of the sheet
+pub touched_beyond : (touched : List Bool) (line : ℕ) → is_touched touched line ≡ false → 1 ≤ line
+touched_beyond touched line untouched = elim (cases_lt 0 line) [
+  | inl low ↦ low
+  | inr zero ↦ (let e : line ≡ 0 = omega arith in let f = ap (is_touched touched) e in let n = nth_none true touched in absurd (grind arith))
+]
+
+pub touched_within : (touched : List Bool) (line : ℕ) → is_touched touched line ≡ false → line ≤ length touched
+touched_within touched line untouched = elim (cases_lt (length touched) line) [
+  | inl past ↦ (let n = nth_past true touched line past in absurd (grind arith))
+  | inr high ↦ high
+]
+
+-- What a body leaves that opened a line's slot: the fields held, as the value old that contracts see.
+module _ (held : Held) (old : Grid) (sound : Sound held) (seen : grid_of held ≡ old) (line : ℕ) (low : 1 ≤ line) (high : line ≤ old.lines) where
+  pub inside : line ≤ length held.order
+  inside = omega (arith, ap (λ (g : Grid). g.lines) seen)
+
+  module _ (slot : ℕ) (is_slot : slot ≡ get_or held.order (line - 1) slot) where
+    pub slot_is : slot ≡ slot_at held.order line
+    slot_is = is_slot ∙ get_or_default held.order (line - 1) slot 0 (let i = inside in omega arith) ∙ sym (nth_is 0 held.order line low)
+
+    pub slot_below : slot < length held.slots
+    slot_below = omega (arith, slot_is, sound.once.named line, sound.slots)
+
+    module _ (row : List Cell) (is_row : row ≡ get_or held.slots slot row) where
+      row_slot : row ≡ row_in held.slots slot
+      row_slot = is_row ∙ get_or_default held.slots slot row [] slot_below
+
+      pub row_read : row ≡ row_at old.rows line
+      row_read = row_slot ∙ ap (row_in held.slots) slot_is ∙ sym (row_there held line low inside) ∙ ap (λ (g : Grid). row_at g.rows line) seen
+
+      pub row_whole : Whole row
+      row_whole = subst Whole (sym row_slot) (sound.whole slot (omega (arith, slot_below, sound.slots)))
+
+      pub row_length : length row ≡ held.columns
+      row_length = ap length row_slot ∙ sound.cells slot (omega (arith, slot_below, sound.slots))
+
+      pub row_columns : length row ≡ old.columns
+      row_columns = row_length ∙ ap (λ (g : Grid). g.columns) seen
+
+    module _ (new : List Cell) where
+      abbrev pub replaced : Held
+      replaced = record { columns = held.columns; order = held.order; slots = set held.slots slot new; touched = set held.touched (line - 1) true }
+
+      -- what lies in the slot of line k then
+      one_row_at : (k : ℕ) → 1 ≤ k → k ≤ length held.order → row_in replaced.slots (slot_at held.order k) ≡ (if k == line then new else row_at (rows_of held) k)
+      one_row_at k klow khigh =
+          let there = row_there held k klow khigh in
+          let put = get_or-set [] held.slots slot new (slot_at held.order k) slot_below in
+          let is = slot_is in
+          elim (cases_eq k line) [
+            | inl same ↦
+                let e : slot_at held.order k ≡ slot = ap (slot_at held.order) same ∙ sym is in
+                grind (arith, nat_tests)
+            | inr other ↦
+                let e : slot_at held.order k ≢ slot = λ f. other (sound.once.apart k line klow khigh low inside (f ∙ is)) in
+                grind (arith, nat_tests)
+          ]
+
+      held_changed : rows_of replaced ≡ with_row line new (rows_of held)
+      held_changed =
+          table_ext (length held.order) _ _ one_row_at
+          ∙ sym (ap (λ (n : ℕ). table n (λ k. if k == line then new else row_at (rows_of held) k)) (length-table (length held.order) (λ k. row_in held.slots (slot_at held.order k))))
+
+      pub rows_changed : (after : List Cell) → new ≡ after → rows_of replaced ≡ with_row line after old.rows
+      rows_changed after is_new = held_changed ∙ ap₂ (λ (r : List Cell) (g : Grid). with_row line r g.rows) is_new seen
+
+      pub sound_changed : Whole new → length new ≡ held.columns → Sound replaced
+      sound_changed whole len = record {
+        columns_low = sound.columns_low;
+        columns_high = sound.columns_high;
+        lines_low = sound.lines_low;
+        lines_high = sound.lines_high;
+        slots = length-set held.slots slot new ∙ sound.slots;
+        touched = length-set held.touched (line - 1) true ∙ sound.touched;
+        once = sound.once;
+        cells = λ at below. lies (λ r. length r ≡ held.columns) at len (sound.cells at below);
+        whole = λ at below. lies Whole at whole (sound.whole at below);
+      }
+        where
+          lies : (P : List Cell → Type 0) (at : ℕ) → P new → P (row_in held.slots at) → P (row_in replaced.slots at)
+          lies P at here there =
+              elim (cases_eq at slot) [
+                | inl same ↦ subst P (sym (ap (row_in replaced.slots) same ∙ get_or-set_same held.slots slot new [] slot_below)) here
+                | inr other ↦ subst P (sym (get_or-set_other held.slots slot at new [] other)) there
+              ]
+
+      -- a line that isn't touched_from then wasn't touched_from before, and isn't this one
+      pub told_changed : (before : List (List Cell)) → Told before old → Told before (grid_of replaced)
+      told_changed before told k untouched =
+          let klow : 1 ≤ k = touched_beyond replaced.touched k untouched in
+          let khigh : k ≤ length held.order = omega (arith, touched_within replaced.touched k untouched, length-set held.touched (line - 1) true, sound.touched) in
+          let written : is_touched replaced.touched k ≡ (if k == line - 1 + 1 then true else is_touched held.touched k) = nth-set true held.touched (line - 1) true k (omega (arith, inside, sound.touched)) klow in
+          let other : k ≢ line = λ e. cc' k untouched written e in
+          let was : is_touched held.touched k ≡ false = grind (arith, nat_tests) in
+          let same : row_at (rows_of replaced) k ≡ row_at (rows_of held) k = row_there replaced k klow khigh ∙ one_row_at k klow khigh ∙ unmoved k other in
+          same ∙ ap (λ (g : Grid). row_at g.rows k) seen ∙ told k (sym (ap (λ (g : Grid). is_touched g.touched k) seen) ∙ was)
+        where
+          cc' : (k : ℕ) → is_touched replaced.touched k ≡ false → is_touched replaced.touched k ≡ (if k == line - 1 + 1 then true else is_touched held.touched k) → k ≡ line → ⊥
+          cc' k untouched written e = grind (arith, nat_tests)
+
+          unmoved : (k : ℕ) → k ≢ line → (if k == line then new else row_at (rows_of held) k) ≡ row_at (rows_of held) k
+          unmoved k other = grind (arith, nat_tests)

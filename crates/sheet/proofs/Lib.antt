@@ -1,0 +1,11 @@
+mod Tables
+mod Numbers
+mod Rows
+mod Shifts
+mod Marks
+mod Runs
+mod Index
+mod Turns
+mod Wholes
+mod First
+mod Packed

@@ -1,0 +1,159 @@
+-- Characters that are put one after another, and at once.
+use Rattle.std.proofs.Common.{◌≡◌, ℕ, ◌+◌, ◌-◌, ◌<◌, ◌≤◌, ◌≢◌, Bool, false, List, [], ◌∷◌, length, get_or, drop, refl, sym, ap, inl, inr, ◌∙◌, arith}
+use Rattle.std.specs.Prelude.{if◌then◌else◌, ◌==◌, ◌&&◌, ◌||◌, not}
+use Rattle.std.proofs.lemmas.Bool.{cases_eq, cases_lt}
+use Rattle.std.proofs.lemmas.Bool.Decides.{nat_tests}
+use Rattle.std.proofs.lemmas.List.{at_drop_all, at_drop_more}
+use Rattle.sheet.specs.Cells.{Cell}
+use Rattle.sheet.specs.declared.rendition.Colour.{Colour}
+use Rattle.sheet.specs.declared.rendition.Rendition.{Rendition}
+use Rattle.sheet.specs.Table.{table}
+use Rattle.sheet.specs.Cells.{blank, covering, lettered, is_wide, is_covered, cell_at}
+use Rattle.sheet.specs.Halves.{Whole, mended, border_mended}
+use Rattle.sheet.specs.Edits.{written, put, run_written, run_put}
+use Rattle.sheet.proofs.Tables.{length-table, table_ext}
+use Rattle.sheet.proofs.Rows.{Intact, at_mended, blank_narrow, lettered_wide, lettered_open, written_there, narrow_put, two_mended, mended_same, mended_whole, whole_mended}
+
+module _ (rendition : Rendition) where
+  pub len_written : (column : ℕ) (cs : List ℕ) (row : List Cell) → length (run_written column cs rendition row) ≡ length row
+  len_written column [] row = refl
+  len_written column (c ∷ cs) row = len_written (column + 1) cs (written column c false rendition row) ∙ length-table (length row) _
+
+  -- beside what was written nothing changed
+  pub run_outside : (cs : List ℕ) (column : ℕ) (row : List Cell) (k : ℕ) → 1 ≤ column → column + length cs ≤ length row + 1 → (column ≤ k → column + length cs ≤ k)
+      → cell_at (run_written column cs rendition row) k ≡ cell_at row k
+  run_outside [] column row k low room out = refl
+  run_outside (c ∷ cs) column row k low room out =
+      let w = written column c false rendition row in
+      let len : length w ≡ length row = length-table (length row) _ in
+      run_outside cs (column + 1) w k (omega arith) (omega arith) (λ past. omega (arith, out (omega arith)))
+      ∙ (let here = written_there column c rendition row low false k (omega arith) (λ e. cc) in
+      let ne : k ≢ column = λ e. omega (arith, out (omega arith)) in
+      grind (arith, nat_tests))
+
+  -- each cell that was written is narrow
+  pub run_inside : (cs : List ℕ) (column : ℕ) (row : List Cell) (k : ℕ) → 1 ≤ column → column + length cs ≤ length row + 1 → column ≤ k → k < column + length cs
+      → (is_wide (cell_at (run_written column cs rendition row) k) ≡ false) × (is_covered (cell_at (run_written column cs rendition row) k) ≡ false)
+  run_inside [] column row k low room from to = absurd (omega arith)
+  run_inside (c ∷ cs) column row k low room from to =
+      let w = written column c false rendition row in
+      let len : length w ≡ length row = length-table (length row) _ in
+      elim (cases_lt column k) [
+        | inl past ↦ run_inside cs (column + 1) w k (omega arith) (omega arith) (omega arith) (omega arith)
+        | inr here ↦
+            let same = run_outside cs (column + 1) w k (omega arith) (omega arith) (λ past. absurd (omega arith)) in
+            let is = written_there column c rendition row low false k (omega arith) (λ e. cc) in
+            let narrow = lettered_wide c false rendition in
+            let uncovered = lettered_open c false rendition in
+            let e : k ≡ column = omega arith in
+            (ap is_wide same ∙ grind (arith, nat_tests), ap is_covered same ∙ grind (arith, nat_tests))
+      ]
+
+  pub run_intact : (cs : List ℕ) (column : ℕ) (row : List Cell) (k : ℕ) → Whole row → 1 ≤ column → column + length cs ≤ length row + 1
+      → k + 1 ≢ column → k + 1 ≢ column + length cs → Intact (run_written column cs rendition row) k
+  run_intact cs column row k whole low room a b =
+      elim (cases_lt (k + 1) column) [
+        | inl before ↦ ap is_covered (outside (k + 1) (λ past. absurd (omega arith))) ∙ whole k ∙ sym (ap is_wide (outside k (λ past. absurd (omega arith))))
+        | inr from ↦ elim (cases_lt k (column + length cs)) [
+          | inl inside ↦ sym' (run_inside cs column row (k + 1) low room (omega arith) (omega arith)).1 (run_inside cs column row k low room (omega arith) inside).0
+          | inr past ↦ ap is_covered (outside (k + 1) (λ p. omega arith)) ∙ whole k ∙ sym (ap is_wide (outside k (λ p. past)))
+        ]
+      ]
+    where
+      outside : (j : ℕ) → (column ≤ j → column + length cs ≤ j) → cell_at (run_written column cs rendition row) j ≡ cell_at row j
+      outside j out = run_outside cs column row j low room out
+
+      sym' : {x y : Bool} → x ≡ false → y ≡ false → x ≡ y
+      sym' p q = p ∙ sym q
+
+  -- mending a border and writing right of it may change places
+  pub written_beside : (column at c : ℕ) (paper : Colour) (row : List Cell) → 1 ≤ at → at < column → column ≤ length row
+      → written column c false rendition (border_mended at paper row) ≡ border_mended at paper (written column c false rendition row)
+  written_beside column at c paper row low right high =
+      let mended_row = border_mended at paper row in
+      let w = written column c false rendition row in
+      ap (λ (m : ℕ). table m (λ (k : ℕ). if k == column then lettered c false rendition else (if false && k == column + 1 then covering rendition else cell_at mended_row k))) (length-table (length row) _)
+      ∙ table_ext (length row) _ _ (λ k klow khigh.
+      let old = at_mended at paper row low k in
+      let here = written_there column c rendition row (omega arith) false k high (λ e. cc) in
+      let edge = written_there column c rendition row (omega arith) false at high (λ e. cc) in
+      let before = written_there column c rendition row (omega arith) false (at - 1) high (λ e. cc) in
+      grind (arith, nat_tests))
+      ∙ sym (ap (λ (m : ℕ). table m (λ (k : ℕ).
+      if (k + 1 == at && is_wide (cell_at w k) && not (is_covered (cell_at w at))) || (k == at && is_covered (cell_at w k) && not (is_wide (cell_at w (at - 1))))
+      then blank paper else cell_at w k)) (length-table (length row) _))
+
+  pub run_beside : (cs : List ℕ) (column at : ℕ) (paper : Colour) (row : List Cell) → 1 ≤ at → at < column → column + length cs ≤ length row + 1
+      → run_written column cs rendition (border_mended at paper row) ≡ border_mended at paper (run_written column cs rendition row)
+  run_beside [] column at paper row low right room = refl
+  run_beside (c ∷ cs) column at paper row low right room =
+      let len : length (written column c false rendition row) ≡ length row = length-table (length row) _ in
+      ap (run_written (column + 1) cs rendition) (written_beside column at c paper row low right (omega arith))
+      ∙ run_beside cs (column + 1) at paper (written column c false rendition row) low (omega arith) (omega arith)
+
+  -- what is written over needs no mending
+  pub written_over : (column c : ℕ) (paper : Colour) (row : List Cell) → 1 ≤ column → is_wide (cell_at row (column - 1)) ≡ false
+      → written column c false rendition (border_mended column paper row) ≡ written column c false rendition row
+  written_over column c paper row low narrow =
+      let mended_row = border_mended column paper row in
+      ap (λ (m : ℕ). table m (λ (k : ℕ). if k == column then lettered c false rendition else (if false && k == column + 1 then covering rendition else cell_at mended_row k))) (length-table (length row) _)
+      ∙ table_ext (length row) _ _ (λ k klow khigh.
+      let old = at_mended column paper row low k in
+      elim (cases_eq (k + 1) column) [
+        | inl e ↦ (let g : column - 1 ≡ k = omega arith in let f = ap (cell_at row) g in grind (arith, nat_tests))
+        | inr ne ↦ grind (arith, nat_tests)
+      ])
+
+  -- a character that was put, and those that are written behind it
+  behind : (cs : List ℕ) (column c : ℕ) (paper : Colour) (row : List Cell) → 1 ≤ column → column + 1 + length cs ≤ length row + 1
+      → let w : List Cell = written column c false rendition row in
+      mended paper (run_written (column + 1) cs rendition (border_mended (column + 1) paper (border_mended column paper w))) ≡ mended paper (run_written (column + 1) cs rendition w)
+  behind [] column c paper row low room =
+      let w = written column c false rendition row in
+      mended_same (column + 1) paper (border_mended column paper w) (omega arith) ∙ mended_same column paper w low
+  behind (d ∷ ds) column c paper row low room =
+      let w = written column c false rendition row in
+      let len : length w ≡ length row = length-table (length row) _ in
+      let x = border_mended column paper w in
+      let there = at_mended column paper w low column in
+      let is = written_there column c rendition row low false column (omega arith) (λ e. cc) in
+      let narrow = lettered_wide c false rendition in
+      let n1 = blank_narrow paper in
+      let e : column + 1 - 1 ≡ column = omega arith in
+      let f = ap (cell_at x) e in
+      let edge : is_wide (cell_at x (column + 1 - 1)) ≡ false = ap is_wide (f ∙ there) ∙ grind (arith, nat_tests) in
+      ap (λ (r : List Cell). mended paper (run_written (column + 1 + 1) ds rendition r)) (written_over (column + 1) d paper x (omega arith) edge)
+      ∙ ap (mended paper) (run_beside (d ∷ ds) (column + 1) column paper w low (omega arith) (omega arith))
+      ∙ mended_same column paper (run_written (column + 1) (d ∷ ds) rendition w) low
+
+  -- Characters that are written at once and then mended are put one after another.
+  pub run_mended : (cs : List ℕ) (column : ℕ) (row : List Cell) → Whole row → 1 ≤ column → column + length cs ≤ length row + 1
+      → mended rendition.paper (run_written column cs rendition row) ≡ run_put column cs rendition row
+  run_mended [] column row whole low room = mended_whole rendition.paper row whole
+  run_mended (c ∷ cs) column row whole low room =
+      let w = written column c false rendition row in
+      let p = put column c false rendition row in
+      let len_w : length w ≡ length row = length-table (length row) _ in
+      let len : length p ≡ length row = length-table (length w) _ ∙ len_w in
+      sym (behind cs column c rendition.paper row low (omega arith))
+      ∙ ap (λ (r : List Cell). mended rendition.paper (run_written (column + 1) cs rendition r)) (narrow_put column c rendition row low whole (omega arith))
+      ∙ run_mended cs (column + 1) p (whole_mended rendition.paper w) (omega arith) (omega arith)
+
+  -- as the body mends
+  pub run_is_put : (cs : List ℕ) (column : ℕ) (row : List Cell) → Whole row → 1 ≤ column → column + length cs ≤ length row + 1
+      → border_mended (column + length cs) rendition.paper (border_mended column rendition.paper (run_written column cs rendition row)) ≡ run_put column cs rendition row
+  run_is_put cs column row whole low room =
+      two_mended column (column + length cs) rendition.paper (run_written column cs rendition row) low (omega arith) (λ k a b. run_intact cs column row k whole low room a b)
+      ∙ run_mended cs column row whole low room
+
+  -- nothing is left to write
+  pub run_done : (cs : List ℕ) (i column : ℕ) (row : List Cell) → length cs ≤ i → run_written column (drop i cs) rendition row ≡ row
+  run_done cs i column row all = at_drop_all (λ rest. run_written column rest rendition row) cs i all
+
+  -- one is written
+  pub run_more : (cs : List ℕ) (column i : ℕ) (row : List Cell) → i < length cs
+      → run_written (column + i) (drop i cs) rendition row
+      ≡ run_written (column + (i + 1)) (drop (i + 1) cs) rendition (written (column + i) (get_or cs i 0) false rendition row)
+  run_more cs column i row below =
+      at_drop_more (λ gs. run_written (column + i) gs rendition row) cs i 0 below
+      ∙ ap (λ (k : ℕ). run_written k (drop (i + 1) cs) rendition (written (column + i) (get_or cs i 0) false rendition row)) (omega arith)

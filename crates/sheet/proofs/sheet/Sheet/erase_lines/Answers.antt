@@ -1,0 +1,61 @@
+use Rattle.std.proofs.Common.{◌≡◌, ℕ, ◌+◌, List, length, sym, ap, subst, ◌∙◌, arith, take_at}
+use Rattle.std.specs.Vec.{with_items}
+use Rattle.sheet.specs.Cells.{Cell, blank}
+use Rattle.sheet.specs.Grid.{touched_from}
+use Rattle.sheet.specs.Held.{LinesFilled, Once, SlotsStayOrFill}
+use Rattle.sheet.specs.View.{held_of}
+use Rattle.sheet.proofs.Rows.{blank_narrow, blank_open}
+use Rattle.sheet.proofs.Turns.{filled_rows, filled_sound, filled_told, lines_of}
+use Rattle.sheet.proofs.sheet.Sheet.erase_lines.Goals as goal
+
+pub fill_lines-requires-clause-once : goal.fill_lines-requires-clause-once
+fill_lines-requires-clause-once c = subst Once (sym c.as_slice.ensures.value) c.self.invariant.once
+
+pub fill_lines-requires-clause-slots : goal.fill_lines-requires-clause-slots
+fill_lines-requires-clause-slots c = ap length c.as_mut_slice.ensures.value ∙ c.self.invariant.slots ∙ sym (ap length c.as_slice.ensures.value)
+
+pub fill_lines-requires-clause-high : goal.fill_lines-requires-clause-high
+fill_lines-requires-clause-high c = omega (arith, lines_of (held_of c.self.inside) _ c.self.view_is, ap length c.as_slice.ensures.value)
+
+pub touch_lines-requires-clause-high : goal.touch_lines-requires-clause-high
+touch_lines-requires-clause-high c =
+    omega (arith, lines_of (held_of c.self.inside) _ c.self.view_is, c.self.invariant.touched, ap length c.as_mut_slice-2.ensures.value)
+
+-- what the two fields are in the end
+is_filled : (c : goal.After-self-2-1) → (with_items c.self.inside.slots c.fill_lines.new.slots).items ≡ c.fill_lines.new.slots
+is_filled c = take_at c.fill_lines.new.slots _ c.self.inside.slots.len (c.fill_lines.auto.slots ∙ c.as_mut_slice.ensures.len)
+
+is_touched : (c : goal.After-self-2-1) → (with_items c.self.inside.touched c.touch_lines.new.touched).items ≡ touched_from c.args.from (c.args.to + 1) c.self.inside.touched.items
+is_touched c =
+    take_at c.touch_lines.new.touched _ c.self.inside.touched.len (c.touch_lines.auto.touched ∙ c.as_mut_slice-2.ensures.len) ∙ c.touch_lines.ensures
+    ∙ ap (touched_from c.args.from (c.args.to + 1)) c.as_mut_slice-2.ensures.value
+
+filled : (c : goal.After-self-2-1) → LinesFilled c.args.from (c.args.to + 1) (blank c.args.paper) c.self.inside.order.items c.self.inside.slots.items (with_items c.self.inside.slots c.fill_lines.new.slots).items
+filled c =
+    let first = c.args.from in
+    let last = c.args.to + 1 in
+    subst (λ (new : List (List Cell)). LinesFilled first last (blank c.args.paper) c.self.inside.order.items c.self.inside.slots.items new) (sym (is_filled c))
+    (subst (λ (old : List (List Cell)). LinesFilled first last (blank c.args.paper) c.self.inside.order.items old c.fill_lines.new.slots) c.as_mut_slice.ensures.value
+    (subst (λ (order : List ℕ). LinesFilled first last (blank c.args.paper) order c.as_mut_slice.result.now c.fill_lines.new.slots) c.as_slice.ensures.value
+    (subst (λ (cell : Cell). LinesFilled first last cell c.as_slice.result.now c.as_mut_slice.result.now c.fill_lines.new.slots) c.blank-cell.ensures c.fill_lines.ensures.lines)))
+
+stay : (c : goal.After-self-2-1) → SlotsStayOrFill (blank c.args.paper) c.self.inside.slots.items (with_items c.self.inside.slots c.fill_lines.new.slots).items
+stay c =
+    subst (λ (new : List (List Cell)). SlotsStayOrFill (blank c.args.paper) c.self.inside.slots.items new) (sym (is_filled c))
+    (subst (λ (old : List (List Cell)). SlotsStayOrFill (blank c.args.paper) old c.fill_lines.new.slots) c.as_mut_slice.ensures.value
+    (subst (λ (cell : Cell). SlotsStayOrFill cell c.as_mut_slice.result.now c.fill_lines.new.slots) c.blank-cell.ensures c.fill_lines.ensures.slots))
+
+pub invariant_of-self : goal.invariant_of-self
+invariant_of-self c =
+    filled_sound c.args.from c.args.to (held_of c.self.inside) _ c.self.invariant c.self.view_is (blank c.args.paper) (blank_narrow c.args.paper) (blank_open c.args.paper)
+    _ (filled c) (stay c) _ (is_touched c) (ap length (is_filled c) ∙ c.fill_lines.auto.slots ∙ ap length c.as_mut_slice.ensures.value)
+
+pub returns-clause-rows : goal.returns-clause-rows
+returns-clause-rows c =
+    filled_rows c.args.from c.args.to (held_of c.self.inside) _ c.self.invariant c.self.view_is (blank c.args.paper) (blank_narrow c.args.paper) (blank_open c.args.paper)
+    _ (filled c) (stay c) _ (is_touched c)
+
+pub returns-clause-told : goal.returns-clause-told
+returns-clause-told c =
+    filled_told c.args.from c.args.to (held_of c.self.inside) _ c.self.invariant c.self.view_is (blank c.args.paper) (blank_narrow c.args.paper) (blank_open c.args.paper)
+    _ (filled c) (stay c) _ (is_touched c)

@@ -1,0 +1,87 @@
+-- A sheet as its users see it: rows of cells, and which of them were touched.
+use Rattle.std.specs.Prelude.{◌≡◌, ℕ, ◌+◌, ◌-◌, Bool, true, false, List, [], length, nat_le, nat_lt, ◌&&◌, ◌==◌, if◌then◌else◌}
+use Rattle.sheet.specs.declared.rendition.Colour.{Colour}
+use Rattle.sheet.specs.declared.rendition.Colour.TheVariants.{Default}
+use Rattle.sheet.specs.Table.{table, nth}
+use Rattle.sheet.specs.Cells.{Cell, alignment, blank}
+
+-- the size, the rows from line 1 on, and for each line whether it was touched since that was last cleared (ours)
+pub record Grid : Type 0 where
+  pub columns : ℕ
+  pub lines : ℕ
+  pub rows : List (List Cell)
+  pub touched : List Bool
+
+-- a row of this cell alone (ours)
+abbrev pub row_of : ℕ → Cell → List Cell
+row_of columns cell = table columns (λ _. cell)
+
+-- a row of blank cells (ours)
+abbrev pub blank_row : ℕ → Colour → List Cell
+blank_row columns paper = row_of columns (blank paper)
+
+-- the row of a line, with none outside the sheet (ours)
+abbrev pub row_at : List (List Cell) → ℕ → List Cell
+row_at rows line = nth [] rows line
+
+-- one row is another, and the others stay (ours)
+abbrev pub with_row : ℕ → List Cell → List (List Cell) → List (List Cell)
+with_row at row rows = table (length rows) (λ line. if line == at then row else row_at rows line)
+
+-- the rows from one line to another are this row (ours)
+abbrev pub lines_filled : ℕ → ℕ → List Cell → List (List Cell) → List (List Cell)
+lines_filled from to row rows = table (length rows) (λ line.
+    if nat_le from line && nat_le line to then row else row_at rows line)
+
+-- the rows from one line to another are blank (ECMA-48 8.3.39, ED)
+abbrev pub lines_erased : ℕ → ℕ → ℕ → Colour → List (List Cell) → List (List Cell)
+lines_erased from to columns paper rows = lines_filled from to (blank_row columns paper) rows
+
+-- blank rows alone (ours)
+abbrev pub blank_rows : ℕ → ℕ → Colour → List (List Cell)
+blank_rows columns lines paper = table lines (λ _. blank_row columns paper)
+
+-- rows full of the letter E (xterm: DECALN)
+abbrev pub aligned : ℕ → ℕ → List (List Cell)
+aligned columns lines = table lines (λ _. row_of columns alignment)
+
+-- a line was touched; lines outside the sheet count as touched (ours)
+abbrev pub is_touched : List Bool → ℕ → Bool
+is_touched touched line = nth true touched line
+
+-- the lines from one to before another are touched (ours)
+abbrev pub touched_from : ℕ → ℕ → List Bool → List Bool
+touched_from first last touched = table (length touched) (λ line.
+    if nat_le first line && nat_lt line last then true else is_touched touched line)
+
+-- each line that wasn't touched has the row of before (ours)
+abbrev pub Told : List (List Cell) → Grid → Type 0
+Told before g = (line : ℕ) → is_touched g.touched line ≡ false → row_at g.rows line ≡ row_at before line
+
+-- lines from the top to the bottom become the one n below, and an empty one where there is none
+-- (ECMA-48 8.3.147, SU; 8.3.32, DL)
+abbrev pub scrolled_up : ℕ → ℕ → ℕ → List Cell → List (List Cell) → List (List Cell)
+scrolled_up n top bottom empty rows = table (length rows) (λ line.
+    if nat_le top line && nat_le line bottom
+    then (if nat_le (line + n) bottom then row_at rows (line + n) else empty)
+    else row_at rows line)
+
+-- the mirror image (ECMA-48 8.3.113, SD; 8.3.67, IL)
+abbrev pub scrolled_down : ℕ → ℕ → ℕ → List Cell → List (List Cell) → List (List Cell)
+scrolled_down n top bottom empty rows = table (length rows) (λ line.
+    if nat_le top line && nat_le line bottom
+    then (if nat_le (top + n) line then row_at rows (line - n) else empty)
+    else row_at rows line)
+
+-- blank, and all of it touched (ours)
+abbrev pub first_grid : ℕ → ℕ → Grid
+first_grid columns lines = record {
+  columns = columns;
+  lines = lines;
+  rows = blank_rows columns lines Default;
+  touched = table lines (λ _. true);
+}
+
+-- the same rows, all of them touched (ours)
+abbrev pub all_touched : Grid → Grid
+all_touched g = record g { touched = table g.lines (λ _. true) }

@@ -1,0 +1,10 @@
+pub mod Cells
+pub mod Edits
+pub mod Halves
+pub mod Numbers
+pub mod Table
+pub mod Grid
+pub mod Held
+pub mod Packed
+pub mod View
+pub mod EditOf

@@ -1,0 +1,15 @@
+//! Sheets of cells of any size: rows of narrow and wide characters in colour, behind an order of rows.
+#![tactic(auto)]
+
+mod cell;
+mod edit;
+pub mod limits;
+mod rendition;
+mod row;
+mod sheet;
+mod slot;
+
+pub use cell::{Cell, Kind};
+pub use edit::Edit;
+pub use rendition::{Colour, Rendition};
+pub use sheet::{PackedSheet, Sheet};

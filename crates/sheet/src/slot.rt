@@ -1,0 +1,166 @@
+//! A row that owns its cells.
+
+ghost use Rattle.std.specs.Prelude.{◌≡◌, ◌+◌, ◌-◌, ◌<◌, ◌≤◌, IfOk, false, length, true};
+ghost use Rattle.sheet.specs.Edits.{deleted, erased, inserted, mark_added, put, run_put};
+ghost use Rattle.sheet.specs.EditOf.{Fits, edited};
+ghost use Rattle.sheet.specs.Grid.{blank_row, row_of};
+ghost use Rattle.sheet.specs.Halves.{Whole};
+ghost use Rattle.sheet.specs.Packed.{unpacked};
+
+use crate::cell::Cell;
+use crate::edit::Edit;
+use crate::rendition::{Colour, Rendition};
+use crate::row;
+use std::alloc::{AllocError, Global};
+use std::marker::Model;
+
+/// The cells of a row; their number never changes.
+#[derive(Debug, Drop)]
+pub(crate) struct Slot {
+    cells: Vec<Cell>,
+}
+
+impl Model for Slot {
+    ghost use Rattle.std.specs.Prelude.{List};
+    ghost use Rattle.sheet.specs.Cells.{Cell};
+
+    ghost Value = { List Cell };
+
+    ghost view = { λ s. s.cells.items };
+}
+
+impl Slot {
+    /// A blank row.
+    pub fn new(alloc: Global, columns: u16) -> Result<Self, AllocError>
+        ensures { IfOk result (λ s. s ≡ blank_row columns Colour.Default) }
+    {
+        let cells = vec![in alloc; Cell::blank(Colour::Default); columns as usize]?;
+        Ok(Slot { cells })
+    }
+
+    /// The cells of a row up to the last one that isn't blank.
+    pub fn keep(alloc: Global, cells: &[Cell]) -> Result<Self, AllocError>
+        ensures row { IfOk result (λ s. unpacked (length cells.now) s ≡ cells.now) }
+        ensures short { IfOk result (λ s. length s ≤ length cells.now) }
+    {
+        let used = row::used(cells);
+        let cells = cells[..used].to_vec(alloc)?;
+        Ok(Slot { cells })
+    }
+
+    /// Becomes a row of which these are the first cells.
+    pub fn restore(&mut self, kept: &Slot)
+        requires { length kept.now ≤ length self.old }
+        ensures { self.new ≡ unpacked (length self.old) kept.now }
+    {
+        row::restore(self.cells.as_mut_slice(), kept.cells());
+    }
+
+    /// Becomes the other row.
+    pub fn copy_from(&mut self, other: &Slot)
+        requires { length other.now ≡ length self.old }
+        ensures { self.new ≡ other.now }
+    {
+        self.cells.as_mut_slice().copy_from_slice(other.cells());
+    }
+
+    pub fn cells(&self) -> &[Cell]
+        ensures { result.now ≡ self.now }
+    {
+        self.cells.as_slice()
+    }
+
+    /// Makes all cells the same.
+    pub fn fill(&mut self, cell: Cell)
+        ensures { self.new ≡ row_of (length self.old) cell }
+    {
+        let columns = self.cells.len();
+        row::fill(self.cells.as_mut_slice(), 1, columns, cell);
+    }
+
+    pub fn erase(&mut self, from: usize, to: usize, paper: Colour)
+        requires whole { Whole self.old }
+        requires low { 1 ≤ from }
+        requires apart { from ≤ to }
+        requires high { to ≤ length self.old }
+        ensures { self.new ≡ erased from to paper self.old }
+    {
+        row::erase(self.cells.as_mut_slice(), from, to, paper);
+    }
+
+    pub fn put_narrow(&mut self, column: usize, character: char, rendition: Rendition)
+        requires whole { Whole self.old }
+        requires low { 1 ≤ column }
+        requires high { column ≤ length self.old }
+        ensures { self.new ≡ put column character false rendition self.old }
+    {
+        row::put_narrow(self.cells.as_mut_slice(), column, character, rendition);
+    }
+
+    pub fn put_wide(&mut self, column: usize, character: char, rendition: Rendition)
+        requires whole { Whole self.old }
+        requires low { 1 ≤ column }
+        requires high { column + 1 ≤ length self.old }
+        ensures { self.new ≡ put column character true rendition self.old }
+    {
+        row::put_wide(self.cells.as_mut_slice(), column, character, rendition);
+    }
+
+    pub fn put_run(&mut self, column: usize, characters: &[u8], rendition: Rendition)
+        requires whole { Whole self.old }
+        requires low { 1 ≤ column }
+        requires high { column + length characters.now ≤ length self.old + 1 }
+        ensures { self.new ≡ run_put column characters.now rendition self.old }
+    {
+        row::put_run(self.cells.as_mut_slice(), column, characters, rendition);
+    }
+
+    pub fn add_mark(&mut self, column: usize, mark: char)
+        requires whole { Whole self.old }
+        requires low { 1 ≤ column }
+        requires high { column ≤ length self.old }
+        ensures { self.new ≡ mark_added column mark self.old }
+    {
+        row::add_mark(self.cells.as_mut_slice(), column, mark);
+    }
+
+    pub fn insert(&mut self, n: usize, from: usize, paper: Colour)
+        requires whole { Whole self.old }
+        requires low { 1 ≤ from }
+        requires room { from + n ≤ length self.old + 1 }
+        requires bound { length self.old ≤ 1000 }
+        ensures { self.new ≡ inserted n from paper self.old }
+    {
+        row::insert(self.cells.as_mut_slice(), n, from, paper);
+    }
+
+    pub fn delete(&mut self, n: usize, from: usize, paper: Colour)
+        requires whole { Whole self.old }
+        requires low { 1 ≤ from }
+        requires room { from + n ≤ length self.old + 1 }
+        requires bound { length self.old ≤ 1000 }
+        ensures { self.new ≡ deleted n from paper self.old }
+    {
+        row::delete(self.cells.as_mut_slice(), n, from, paper);
+    }
+
+    pub fn edit(&mut self, edit: Edit)
+        requires whole { Whole self.old }
+        requires bound { length self.old ≤ 1000 }
+        requires fits { Fits (length self.old) edit }
+        ensures { self.new ≡ edited edit self.old }
+    {
+        match edit {
+            Edit::Erase(from, to, paper) => self.erase(from as usize, to as usize, paper),
+            Edit::Narrow(column, character, rendition) => {
+                self.put_narrow(column as usize, character, rendition)
+            }
+            Edit::Wide(column, character, rendition) => {
+                self.put_wide(column as usize, character, rendition)
+            }
+            Edit::Mark(column, mark) => self.add_mark(column as usize, mark),
+            Edit::Insert(n, from, paper) => self.insert(n as usize, from as usize, paper),
+            Edit::Delete(n, from, paper) => self.delete(n as usize, from as usize, paper),
+        }
+    }
+}

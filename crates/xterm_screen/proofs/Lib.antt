@@ -1,0 +1,6 @@
+mod Tables
+mod Soundness
+mod Regions
+mod Stops
+mod Runs
+mod Screens

@@ -1,0 +1,8 @@
+use Rattle.std.proofs.Common.{arith, false}
+use Rattle.xterm_screen.proofs.Screens.{lines_left}
+use Rattle.xterm_screen.proofs.screen.Screen.delete_lines.Goals as goal
+
+pub invariant_of-self : goal.invariant_of-self
+invariant_of-self c =
+    lines_left c.self.inside c.self.invariant c.scroll_up.new.self _ 1 false c.scroll_up.ensures.rows c.scroll_up.ensures.columns c.scroll_up.ensures.lines
+    (omega arith) (omega (arith, c.self.invariant.sound.columns_low))

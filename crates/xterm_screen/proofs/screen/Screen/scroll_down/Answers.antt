@@ -1,0 +1,7 @@
+use Rattle.xterm_screen.proofs.Screens.{lines_left}
+use Rattle.xterm_screen.proofs.screen.Screen.scroll_down.Goals as goal
+
+pub invariant_of-self : goal.invariant_of-self
+invariant_of-self c =
+    lines_left c.self.inside c.self.invariant c.scroll_down.new.self _ c.self.inside.column c.self.inside.wrap c.scroll_down.ensures.rows c.scroll_down.ensures.columns c.scroll_down.ensures.lines
+    c.self.invariant.sound.column_low c.self.invariant.sound.column_high

@@ -1,0 +1,11 @@
+use Rattle.std.proofs.Common.{◌≡◌, ◌≤◌, length}
+use Rattle.xterm_screen.specs.Tabs.{stop_before, times}
+use Rattle.xterm_screen.proofs.screen.tabs.stop_back.Given as goal
+
+-- so many times already
+abbrev pub invariant-loop-step : goal.invariant-loop-step
+invariant-loop-step l = record {
+  walked : l.stop ≡ times l.step (stop_before l.tabs) l.column;
+  low : 1 ≤ l.stop;
+  high : l.stop ≤ length l.tabs;
+}

@@ -1,0 +1,11 @@
+pub mod CellEdits
+pub mod Erasures
+pub mod Margins
+pub mod Moves
+pub mod Packed
+pub mod Picture
+pub mod Puts
+pub mod Scrolls
+pub mod Sheets
+pub mod Tabs
+pub mod View

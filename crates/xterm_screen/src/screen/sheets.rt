@@ -1,0 +1,37 @@
+//! The main and the alternate sheet.
+
+ghost use Rattle.std.specs.Prelude.{◌≡◌, List};
+ghost use Rattle.sheet.specs.Cells.{Cell};
+ghost use Rattle.xterm_screen.specs.Picture.{Told};
+ghost use Rattle.xterm_screen.specs.Sheets.{alternate_shown, main_shown};
+
+use crate::screen::Screen;
+use sheet::Colour;
+use std::mem::swap;
+
+impl Screen {
+    /// From the main sheet the alternate one is shown, blank in a paper; else nothing.
+    pub fn show_alternate(&mut self, paper: Colour)
+        ensures picture { self.new.picture ≡ alternate_shown paper self.old.picture }
+        ensures told { (before : List (List Cell)) → Told before self.old → Told before self.new }
+    {
+        if !self.alternate {
+            swap(&mut self.shown, &mut self.other);
+            self.shown.clear(paper);
+            self.shown.touch_all();
+            self.alternate = true;
+        }
+    }
+
+    /// The main sheet is shown, as it was left.
+    pub fn show_main(&mut self)
+        ensures picture { self.new.picture ≡ main_shown self.old.picture }
+        ensures told { (before : List (List Cell)) → Told before self.old → Told before self.new }
+    {
+        if self.alternate {
+            swap(&mut self.shown, &mut self.other);
+            self.shown.touch_all();
+            self.alternate = false;
+        }
+    }
+}

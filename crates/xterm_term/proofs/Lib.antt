@@ -1,0 +1,14 @@
+pub mod Safe
+pub mod Steps
+pub mod Sinks
+pub mod Feeding
+pub mod Parts
+pub mod Stays
+pub mod Bound
+pub mod Agree
+pub mod Runs
+pub mod Rendered
+pub mod ByteKinds
+pub mod Told
+pub mod Ran
+pub mod Sizes

@@ -1,0 +1,30 @@
+-- What a terminal's queries tell of a term.
+use Rattle.std.specs.Prelude.{◌≡◌, ℕ, List, Some}
+use Rattle.vt_parser.specs.declared.commands.Mode.TheVariants.{Ansi}
+use Rattle.vt_parser.specs.declared.states.ParserState.{ParserState}
+use Rattle.vt_parser.specs.View.{parser_view}
+use Rattle.xterm_term.specs.declared.console.Console.{Console as Fields}
+use Rattle.xterm_term.specs.Console.{Console, IsSafe, console_of}
+use Rattle.xterm_term.specs.Term.{Term}
+
+-- all of a term but the reports, with a parser's state and the bytes of a character that isn't finished in place of what
+-- is pending
+pub record Seen : Type 0 where
+  pub console : Console
+  pub state : ParserState
+  pub character : List ℕ
+
+-- a terminal shows a term: its queries tell what is seen of it
+pub record Shows (seen : Seen) (x : Term) : Type 0 where
+  pub console : x.console ≡ seen.console
+  pub state : parser_view Ansi x.sequence ≡ Some seen.state
+  pub character : x.character ≡ seen.character
+
+-- what every terminal keeps: it is safe, and shows some term
+pub record IsTerminal (seen : Seen) : Type 0 where
+  pub safe : IsSafe seen.console
+  pub term : (x : Term) × Shows seen x
+
+-- Private: what the fields of the code's terminal stand for
+abbrev pub seen_of : Fields → ParserState → List ℕ → Seen
+seen_of fields state character = record { console = console_of fields; state = state; character = character }

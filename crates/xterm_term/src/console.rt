@@ -1,0 +1,151 @@
+//! A terminal without what is pending: the screen, the modes, the sets and what else commands change. `obey` is the top:
+//! from a command to the table that its control or sequence stands in.
+ghost use Rattle.std.specs.Prelude.{◌≡◌, IfOk, IfSome, OnOk, OnErr, IsOk};
+ghost use Rattle.xterm_term.specs.Console.{IsSafe, reset_console, console_of};
+ghost use Rattle.xterm_term.specs.Term.{forgotten_if, title_set};
+ghost use Rattle.xterm_term.specs.Effect.{effect, reply};
+ghost use Rattle.xterm_term.specs.Replies.{reply_of};
+ghost use Rattle.xterm_term.specs.Rows.{effect_of};
+ghost use Rattle.vt_parser.specs.Law.{IsProper};
+ghost use Rattle.plays.specs.Sink.{after_sending, HasRoom};
+
+use crate::{Modes, OutOfMemory, Reports, Saved, Sets, Size};
+use sheet::{Colour, Rendition};
+use std::alloc::{AllocError, Global};
+use vt_parser::Command;
+use xterm_screen::Screen;
+
+/// The state that effects change.
+#[derive(Debug, Drop)]
+pub(crate) struct Console {
+    pub(crate) screen: Screen,
+    pub(crate) modes: Modes,
+    pub(crate) rendition: Rendition,
+    pub(crate) sets: Sets,
+    pub(crate) last: Option<char>,
+    pub(crate) title: bool,
+    pub(crate) main_saved: Option<Saved>,
+    pub(crate) alternate_saved: Option<Saved>,
+}
+
+impl Console {
+    /// The initial state of a size.
+    pub(crate) fn new(alloc: Global, size: Size) -> Result<Self, AllocError>
+        ensures { IfOk result (λ console. console_of console ≡ reset_console size.columns size.lines) }
+    {
+        let screen = Screen::new(alloc, size.columns, size.lines)?;
+        Ok(Console {
+            screen,
+            modes: Modes::first(),
+            rendition: Rendition::plain_on(Colour::Default),
+            sets: Sets::first(),
+            last: None,
+            title: false,
+            main_saved: None,
+            alternate_saved: None,
+        })
+    }
+
+    /// RIS: the initial state of the same size.
+    pub(crate) fn reset(&mut self)
+        ensures { console_of self.new
+            ≡ reset_console self.old.screen.picture.columns self.old.screen.picture.lines }
+    {
+        self.screen.reset();
+        self.modes = Modes::first();
+        self.rendition = Rendition::plain_on(Colour::Default);
+        self.sets = Sets::first();
+        self.last = None;
+        self.title = false;
+        self.main_saved = None;
+        self.alternate_saved = None;
+    }
+
+    /// Becomes another one of the same size.
+    pub(crate) fn copy_from(&mut self, other: &Console)
+        requires columns { self.old.screen.picture.columns ≡ other.now.screen.picture.columns }
+        requires lines { self.old.screen.picture.lines ≡ other.now.screen.picture.lines }
+        ensures { console_of self.new ≡ console_of other.now }
+    {
+        self.screen.copy_from(&other.screen);
+        self.modes = other.modes;
+        self.rendition = other.rendition;
+        self.sets = other.sets;
+        self.last = other.last;
+        self.title = other.title;
+        self.main_saved = other.main_saved;
+        self.alternate_saved = other.alternate_saved;
+    }
+
+    /// Obeys a command: sends the reply to it, and does what it asks for. A refused growth changes nothing.
+    #[tactic(auto, unfolding(crate::specs::Effect::effect, crate::specs::Effect::reply))]
+    pub(crate) fn obey(&mut self, command: &Command, sink: &mut Reports) -> Result<(), OutOfMemory>
+        requires proper { IsProper command.now }
+        requires safe { IsSafe (console_of self.old) }
+        ensures done { OnOk result (console_of self.new ≡ effect command.now (console_of self.old)) }
+        ensures sent { OnOk result
+            (sink.new ≡ after_sending sink.old (reply command.now (console_of self.old))) }
+        ensures err { OnErr result (console_of self.new ≡ console_of self.old) }
+        ensures err_sink { OnErr result (sink.new ≡ sink.old) }
+        ensures room { HasRoom sink.old (reply command.now (console_of self.old)) → IsOk result }
+    {
+        match command {
+            Command::Show(byte) => self.put_byte(*byte),
+            Command::Control(byte) => self.control(*byte),
+            Command::Esc { inter, last } => return self.obey_escape(*inter, *last, sink),
+            Command::Csi {
+                private: true,
+                params,
+                last,
+            } => self.obey_private_sequence(*last, params.as_slice()),
+            Command::Csi {
+                private: false,
+                params,
+                last,
+            } => return self.obey_plain_sequence(*last, params.as_slice(), sink),
+            Command::Error | Command::Vt52(_) | Command::Vt52Address { .. } => {}
+        }
+        Ok(())
+    }
+
+    /// Obeys a command, where there is one.
+    pub(crate) fn obey_if(
+        &mut self,
+        command: &Option<Command>,
+        sink: &mut Reports,
+    ) -> Result<(), OutOfMemory>
+        requires proper { IfSome command.now IsProper }
+        requires safe { IsSafe (console_of self.old) }
+        ensures done { OnOk result
+            (console_of self.new ≡ effect_of effect command.now (console_of self.old)) }
+        ensures sent { OnOk result
+            (sink.new
+            ≡ after_sending sink.old (reply_of reply command.now (console_of self.old))) }
+        ensures err { OnErr result (console_of self.new ≡ console_of self.old) }
+        ensures err_sink { OnErr result (sink.new ≡ sink.old) }
+        ensures room { HasRoom sink.old (reply_of reply command.now (console_of self.old))
+            → IsOk result }
+    {
+        match command {
+            Some(command) => self.obey(command, sink),
+            None => Ok(()),
+        }
+    }
+
+    /// There is no last character any more, if something has ended.
+    #[inline]
+    pub(crate) fn forget_if(&mut self, ended: bool)
+        ensures { console_of self.new ≡ forgotten_if ended (console_of self.old) }
+    {
+        if ended {
+            self.last = None;
+        }
+    }
+
+    /// A title begins or ends.
+    pub(crate) fn set_title(&mut self, value: bool)
+        ensures { console_of self.new ≡ title_set value (console_of self.old) }
+    {
+        self.title = value;
+    }
+}

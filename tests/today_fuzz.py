@@ -1,0 +1,121 @@
+#!/usr/bin/env python3
+"""Plays rows that xterm showed, and random streams, and compares with a plain reading of the terminal of today.
+
+    tests/today_fuzz.py [TYPETOOL [STREAMS [SEED]]]
+
+The rows of xterm_rows.json are played by the plain reading (plain_today.py), and by `typetool screen` and `reports`
+with `--profile xterm` where the program is named. Each random stream (random_today.py) is cut into chunks anywhere, and
+played at a size of its own; the screens after it, and the reports, have to be the plain reading's. The cursor and
+whether a wrap is pending are told by reports, asked for in one more chunk.
+
+The last line is 'N passed, M failed'.
+"""
+import concurrent.futures
+import json
+import os
+import random
+import subprocess
+import sys
+import tempfile
+
+import plain_reader
+import plain_today
+import random_today
+
+program = os.path.abspath(sys.argv[1]) if len(sys.argv) > 1 else None
+count = int(sys.argv[2]) if len(sys.argv) > 2 else 1000
+seed = int(sys.argv[3]) if len(sys.argv) > 3 else 1
+PATIENCE = 20
+HEADER = b"Script started on 2026-11-25 10:00:00+00:00\n"
+# What ends whatever is pending, tells the cursor, and then whether a wrap was pending.
+ASKED = b"\x18\x1b[6nZ\x1b[6n"
+
+
+def by_program(folder, size, chunks):
+    """What the program shows at each second of chunks that are a second apart, and all reports at the end."""
+    recording = (HEADER, [(10**6, chunk) for chunk in chunks], b"")
+    for kind, text in zip(("script", "timing"), plain_reader.files_of(recording)):
+        with open(os.path.join(folder, f"made.{kind}"), "wb") as file:
+            file.write(text)
+    words = ["--profile", "xterm", "--size", f"{size[0]}x{size[1]}", "made.script", "made.timing"]
+    asked = [("screen", len(chunks) - 1), ("screen", len(chunks)), ("reports", len(chunks))]
+    for job, at in asked:
+        run = [program, job, "--at", str(at), *words]
+        done = subprocess.run(run, capture_output=True, cwd=folder, timeout=PATIENCE)
+        if done.returncode:
+            yield f"{job} answers {done.returncode}, {done.stderr!r}"
+        else:
+            yield done.stdout.decode()
+
+
+def by_reading(size, chunks):
+    """The same by the plain reading."""
+    terminal = plain_today.Terminal(*size)
+    for chunk in chunks[:-1]:
+        terminal.feed(chunk)
+    yield plain_today.plain_text(terminal)
+    terminal.feed(chunks[-1])
+    yield plain_today.plain_text(terminal)
+    yield terminal.reports.hex() + "\n"
+
+
+def cut(rng, text):
+    """The text in chunks."""
+    ends = sorted(rng.randrange(len(text) + 1) for _ in range(rng.randint(0, 3)))
+    return [text[first:last] for first, last in zip([0, *ends], [*ends, len(text)])]
+
+
+def one(number):
+    """What went wrong with a random stream."""
+    rng = random.Random(seed * 1_000_003 + number)
+    size, text = random_today.size(rng), random_today.stream(rng)
+    chunks = [*cut(rng, text), ASKED]
+    wanted = list(by_reading(size, chunks))
+    if not program:
+        return number, None
+    with tempfile.TemporaryDirectory(prefix="today-fuzz-") as folder:
+        got = list(by_program(folder, size, chunks))
+    return number, None if got == wanted else f"{size} {chunks}: got {got}, wanted {wanted}"
+
+
+def rows_that_differ(rows, size, play):
+    """The rows that come out otherwise: the first screen, and both cursors."""
+    for row in rows:
+        chunks = [bytes.fromhex(row["bytes"]), b"\x1b[6nZ\x1b[6n"]
+        screen, _, reports = play(size, chunks)
+        places = [list(map(int, told[:-1].split(b";"))) for told in bytes.fromhex(reports).split(b"\x1b[")[-2:]]
+        got = screen.rstrip("\n").split("\n"), *places
+        if got != (row["lines"] or [""], row["cursor"], row["then"]):
+            yield f"{row['row']}: got {got}, wanted {row['lines'], row['cursor'], row['then']}"
+
+
+def rows_judged():
+    """How many rows came out as xterm showed them, and how many otherwise."""
+    with open(os.path.join(os.path.dirname(os.path.abspath(__file__)), "xterm_rows.json"), encoding="utf-8") as file:
+        told = json.load(file)
+    with tempfile.TemporaryDirectory(prefix="today-rows-") as folder:
+        readings = [("plain", by_reading)]
+        if program:
+            readings.append(("typetool", lambda size, chunks: by_program(folder, size, chunks)))
+        failed = 0
+        for name, play in readings:
+            for problem in rows_that_differ(told["rows"], told["size"], play):
+                failed += 1
+                print(f"FAILED {name}, row {problem}")
+    return len(told["rows"]) * len(readings) - failed, failed
+
+
+def main():
+    passed, failed = rows_judged()
+    with concurrent.futures.ThreadPoolExecutor(os.cpu_count()) as pool:
+        for number, problem in pool.map(one, range(count)):
+            passed += not problem
+            failed += bool(problem)
+            if problem:
+                print(f"FAILED stream {number}: {problem}")
+    print(f"the terminal of today: {passed} passed, {failed} failed")
+    return failed > 0
+
+
+if __name__ == "__main__":
+    sys.exit(main())
