@@ -1,11 +1,11 @@
 #!/usr/bin/env python3
-"""Puts the player of a page together of its parts: HTML, style and script.
+"""Puts the player of a page together of its parts: HTML, two styles (a picture's and the page's own) and script.
 
     assets/make_page.py DATA        writes the page with the entries that the file DATA has to standard output
     assets/make_page.py --write     writes the player as the constants of the program that writes pages
     assets/make_page.py --check     tells whether those constants are what --write would write
 
-The page allows itself nothing but this style and this script, by their hashes.
+The page allows itself nothing but these styles and this script, by their hashes.
 """
 import base64
 import hashlib
@@ -27,8 +27,9 @@ def hash_of(text):
 
 def head_and_tail():
     """What stands before the data and behind it."""
-    page, style, script = part("page.html"), "\n" + part("page.css"), "\n" + part("page.js")
-    for name, text in (("STYLE", style), ("SCRIPT", script)):
+    page, drawing = part("page.html"), part("drawing.css")
+    style, script = "\n" + part("page.css"), "\n" + part("page.js")
+    for name, text in (("DRAWING", drawing), ("STYLE", style), ("SCRIPT", script)):
         page = page.replace(f"{name}_HASH", hash_of(text)).replace(f">{name}<", f">{text}<")
     return page.split("DATA")
 

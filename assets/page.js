@@ -136,7 +136,7 @@ function drawnCursor(rows, line, column, paper) {
 }
 
 // What stands there: the rows that were drawn, their elements and grounds, and the flags.
-const shown = { flags: null, rows: [], elements: [], grounds: [], svg: null };
+const shown = { count: -1, flags: null, rows: [], elements: [], grounds: [], svg: null };
 
 function drawFrame(flags) {
   const width = flags & WIDE ? 1340 : 820;
@@ -156,6 +156,7 @@ function drawFrame(flags) {
 
 // Draws the screen of an entry; of its rows only those that aren't drawn so already.
 function drawScreen(count) {
+  if (count === shown.count) return;
   const [, flags, line, column] = entries[count];
   const rows = rowsAt(count);
   const paper = flags & REVERSED ? 'i' : 'p';
@@ -167,6 +168,7 @@ function drawScreen(count) {
     shown.elements[i] = element;
     shown.grounds[i] = ground(row, i);
   });
+  shown.count = count;
   shown.rows = rows;
   shown.ground.setAttribute('d', shown.grounds.join(''));
   const cursor = drawnCursor(rows, line, column, paper);
@@ -177,56 +179,115 @@ function drawScreen(count) {
 // ---- the moment
 
 // Where the player stands: a moment, and how many chunks are shown, which at one moment may be fewer than are due.
-const place = { moment: 0, count: -1 };
+const place = { moment: 0, count: 0 };
+const PLAY = 'M8 5v14l11-7z', PAUSE = 'M7 5h4v14H7zm6 0h4v14h-4z';
+
+function clock(seconds) {
+  const whole = Math.floor(seconds), two = number => String(number % 60).padStart(2, '0');
+  const minutes = Math.floor(whole / 60);
+  return whole < 3600 ? `${minutes}:${two(whole)}` : `${Math.floor(minutes / 60)}:${two(minutes)}:${two(whole)}`;
+}
+
+// A fraction of the recording, on rails that are 1,000 wide.
+function railed(moment) {
+  return end ? Math.round(10000 * moment / end) / 10 : 0;
+}
+
+// A screen reader is told where the player stands while it rests, at most once a second.
+const speech = { told: -Infinity, waiting: 0 };
+
+function speak() {
+  clearTimeout(speech.waiting);
+  if (playing !== null) return;
+  speech.waiting = setTimeout(() => {
+    speech.told = performance.now();
+    at.told.textContent = `${clock(place.moment)}, chunk ${place.count} of ${last}`;
+  }, Math.max(0, speech.told + 1000 - performance.now()));
+}
 
 function tell() {
-  const moment = place.moment.toFixed(3), whole = end.toFixed(3);
-  at.now.textContent = `${moment} of ${whole} s, chunk ${place.count} of ${last}`;
+  const seconds = `${place.moment.toFixed(3)} seconds`;
+  at.clock.textContent = `${clock(place.moment)} / ${clock(end)}`;
+  at.clock.title = `${seconds} of ${end.toFixed(3)}`;
+  at.count.textContent = `chunk ${place.count} of ${last}`;
   at.time.value = place.moment;
-  at.time.setAttribute('aria-valuetext', `${moment} seconds, chunk ${place.count}`);
+  at.time.setAttribute('aria-valuetext', `${seconds}, chunk ${place.count}`);
+  at.done.style.clipPath = `inset(0 ${100 - railed(place.moment) / 10}% 0 0)`;
+  speak();
 }
 
 function stand(moment, count) {
   place.moment = moment;
-  if (count !== place.count) {
-    place.count = count;
-    drawScreen(count);
-  }
+  place.count = count;
+  drawScreen(count);
   tell();
 }
 
+// The poster goes as soon as anything is asked for.
+function begin() {
+  at.figure.classList.add('begun');
+}
+
+// Some places let no page write the address: nothing depends on it.
 function address(text) {
-  if (location.hash !== text) history.replaceState(null, '', text);
+  try {
+    if (location.hash !== text) history.replaceState(null, '', text);
+  } catch {
+    place.unwritten = text;
+  }
+}
+
+function momentAddress() {
+  return `#t=${Number(place.moment.toFixed(6))}`;
 }
 
 function seek(moment) {
+  begin();
   const within = Math.min(Math.max(moment, 0), end);
   stand(within, dueBy(within));
-  address(`#t=${Number(within.toFixed(6))}`);
+  address(momentAddress());
+}
+
+function standAt(count) {
+  const within = Math.min(Math.max(count, 0), last);
+  stand(entries[within][0], within);
 }
 
 function seekCount(count) {
-  const within = Math.min(Math.max(count, 0), last);
-  stand(entries[within][0], within);
-  address(`#n=${within}`);
+  begin();
+  standAt(count);
+  address(`#n=${place.count}`);
 }
 
+// Goes where the address says, a moment, a count of chunks or the number of a chunk, and tells whether it says so.
 function readAddress() {
-  const [, name, value] = /^#([tn])=([0-9]+(?:\.[0-9]*)?)$/.exec(location.hash) || [];
-  if (name === 't') seek(Number(value));
-  else if (name === 'n') seekCount(Math.floor(Number(value)));
+  const [, name, value] = /^#(t|n|chunk)=([0-9]+(?:\.[0-9]*)?)$/.exec(location.hash) || [];
+  if (name === 't') {
+    const moment = Math.min(Number(value), end);
+    stand(moment, dueBy(moment));
+  } else if (name) {
+    standAt(Math.floor(Number(value)) + (name === 'chunk' ? 1 : 0));
+  }
+  return Boolean(name);
 }
 
 // ---- playing
 
 let playing = null;
 
+function tellPlaying(name, icon) {
+  at.play.setAttribute('aria-label', name);
+  at.play.title = `${name} (space)`;
+  at.playIcon.setAttribute('d', icon);
+}
+
 function pause() {
   if (playing === null) return;
   cancelAnimationFrame(playing.frame);
   playing = null;
-  at.play.textContent = 'Play';
-  address(`#t=${Number(place.moment.toFixed(6))}`);
+  tellPlaying('Play', PLAY);
+  address(momentAddress());
+  speak();
 }
 
 // Goes on by what has passed since the last frame; a wait beyond the greatest idle time is cut to that.
@@ -241,9 +302,10 @@ function step(time) {
 }
 
 function play() {
-  if (place.moment >= end) stand(0, dueBy(0));
-  at.play.textContent = 'Pause';
+  begin();
   playing = { time: performance.now() };
+  if (place.moment >= end) stand(0, dueBy(0));
+  tellPlaying('Pause', PAUSE);
   playing.frame = requestAnimationFrame(step);
 }
 
@@ -269,18 +331,22 @@ function changeSpeed(by) {
 function* standing(texts, wanted) {
   for (let first = 0, next = 1; first < LINES; first = next++) {
     while (next < LINES && !texts[next - 1].endsWith(' ')) next++;
-    const rows = texts.slice(first, next), line = rows.join('');
-    for (let i = line.indexOf(wanted); i >= 0; i = line.indexOf(wanted, i + 1)) yield placeIn(rows, i, wanted);
+    yield* placesIn(texts.slice(first, next), wanted);
   }
 }
 
-function placeIn(rows, start, wanted) {
-  const behind = start + wanted.length;
-  const starts = rows.map((_, n) => rows.slice(0, n).join('').length);
-  const line = rows.join('');
-  const begin = Math.max(...starts.filter(n => n <= start));
-  const stop = starts.find(n => n >= behind) ?? line.length;
-  return { left: line.slice(begin, behind), rows: line.slice(begin, stop).trimEnd() };
+// Those in one line: each begins in the row of its first character, and its rows end where its last one stands.
+function* placesIn(rows, wanted) {
+  const line = rows.join(''), ends = [];
+  for (const row of rows) ends.push((ends.at(-1) || 0) + row.length);
+  let begin = 0, row = 0;
+  for (let i = line.indexOf(wanted); i >= 0; i = line.indexOf(wanted, i + 1)) {
+    while (ends[row] <= i) begin = ends[row++];
+    const behind = i + wanted.length;
+    let stop = row;
+    while (ends[stop] < behind) stop++;
+    yield { left: line.slice(begin, behind), rows: line.slice(begin, ends[stop]).replace(/ +$/, '') };
+  }
 }
 
 // The places that are new: those before which as many have the same left part as had it before in all.
@@ -298,7 +364,7 @@ function rowText(row, flags) {
   return textOf(row).padEnd((flags & WIDE ? 132 : 80) / (row[0] === SINGLE ? 1 : 2));
 }
 
-// After which chunks the text came to stand on the screen, and the rows in which it stands.
+// After which chunks the text came to stand on the screen: what stands left of its end, and its rows.
 function* foundAt(wanted) {
   let rows = kept[0], texts = rows.map(row => rowText(row, 0)), places = [];
   for (let n = 1; n <= last; n++) {
@@ -307,57 +373,168 @@ function* foundAt(wanted) {
     const all = (entries[n][1] ^ entries[n - 1][1]) & WIDE;
     texts = after.map((row, i) => row === rows[i] && !all ? texts[i] : rowText(row, entries[n][1]));
     const now = [...standing(texts, wanted)];
-    for (const found of added(places, now)) yield { count: n, rows: found.rows };
+    for (const found of added(places, now)) yield { count: n, ...found };
     [rows, places] = [after, now];
   }
 }
 
+// What was found, and which of it is shown.
+const finds = { list: [], lit: -1 };
+
+function element(name, className, ...children) {
+  const made = document.createElement(name);
+  if (className) made.className = className;
+  made.append(...children);
+  return made;
+}
+
+// A found moment: its time, and its rows from at most 30 characters before the found part on.
+function listed({ count, left, rows }, index, wanted) {
+  const from = left.length - wanted.length, first = rows.search(/[^ ]/), start = Math.max(from - 30, first);
+  const before = (start > first ? '…' : '') + rows.slice(start, from);
+  const row = element('span', 'row', before, element('mark', '', wanted), rows.slice(left.length));
+  const button = element('button', '', element('span', 'moment', clock(entries[count][0])), row);
+  button.type = 'button';
+  button.title = entries[count][0].toFixed(6);
+  button.addEventListener('click', () => showFind(index));
+  return element('li', '', button);
+}
+
+function tellFinds() {
+  const { list, lit } = finds;
+  const which = lit < 0 ? '' : `${lit + 1} of `;
+  const more = list.length > SHOWN ? `, the first ${SHOWN} are listed` : '';
+  at.found.textContent = `${which}${list.length} ${list.length === 1 ? 'moment' : 'moments'}${more}`;
+  [...at.moments.children].forEach((item, i) => item.firstChild.toggleAttribute('aria-current', i === lit));
+}
+
 function listMoments() {
-  const found = at.text.value.trim() === '' ? [] : [...foundAt(at.text.value)];
-  at.moments.replaceChildren(...found.slice(0, SHOWN).map(({ count, rows }) => {
-    const item = document.createElement('li'), button = document.createElement('button');
-    button.type = 'button';
-    button.textContent = `${entries[count][0].toFixed(6)} ${rows}`;
-    button.addEventListener('click', () => { pause(); seekCount(count); });
-    item.append(button);
-    return item;
-  }));
-  const more = found.length > SHOWN ? `, the first ${SHOWN} are listed` : '';
-  at.found.textContent = `${found.length} ${found.length === 1 ? 'moment' : 'moments'}${more}`;
+  const wanted = at.text.value;
+  finds.list = wanted.trim() === '' ? [] : [...foundAt(wanted)];
+  finds.lit = -1;
+  at.moments.replaceChildren(...finds.list.slice(0, SHOWN).map((found, index) => listed(found, index, wanted)));
+  const places = new Set(finds.list.map(({ count }) => railed(entries[count][0])));
+  at.marks.setAttribute('d', [...places].map(x => `M${x} 7v18`).join(''));
+  tellFinds();
+}
+
+function showFind(index) {
+  pause();
+  finds.lit = index;
+  seekCount(finds.list[index].count);
+  tellFinds();
+  at.moments.children[index]?.scrollIntoView({ block: 'nearest' });
+}
+
+// The next found moment, or the one before: from the one that is shown, else from where the player stands.
+function stepFind(by) {
+  const { list, lit } = finds;
+  if (list.length === 0) return;
+  const here = lit >= 0 && list[lit].count === place.count;
+  const later = list.findIndex(({ count }) => count > place.count);
+  const next = later < 0 ? list.length : later;
+  const index = here ? lit + by : by > 0 ? next : next - 1;
+  showFind((index + list.length) % list.length);
 }
 
 // ---- the rest of the page
 
-async function copyText() {
-  const text = plainText(rowsAt(place.count));
+let answered = 0;
+
+function answer(word) {
+  at.answer.textContent = word;
+  clearTimeout(answered);
+  answered = setTimeout(() => { at.answer.textContent = ''; }, 2000);
+}
+
+async function copied(text, word) {
   try {
     await navigator.clipboard.writeText(text);
   } catch {
-    const area = document.createElement('textarea');
+    const area = element('textarea', '');
     area.value = text;
     document.body.append(area);
     area.select();
     document.execCommand('copy');
     area.remove();
   }
+  answer(word);
 }
 
-// A strip under the slider: what is left open are waits of a second and more.
-function markGaps() {
+function copyText() {
+  return copied(plainText(rowsAt(place.count)), 'text copied');
+}
+
+function copyLink() {
+  return copied(location.href.split('#')[0] + momentAddress(), 'link copied');
+}
+
+// The file that `typetool picture` writes of this screen.
+function pictureFile() {
+  const picture = shown.svg.cloneNode(true);
+  const title = draw('title', {}, `Screen at ${place.moment.toFixed(6)} s`);
+  const text = draw('desc', {}, plainText(rowsAt(place.count)));
+  picture.prepend(title, text, draw('style', {}, at.drawing.textContent));
+  return new XMLSerializer().serializeToString(picture);
+}
+
+function savePicture() {
+  const link = element('a', '');
+  link.href = URL.createObjectURL(new Blob([pictureFile()], { type: 'image/svg+xml' }));
+  link.download = `screen-${place.count}.svg`;
+  link.click();
+  setTimeout(() => URL.revokeObjectURL(link.href), 60000);
+  answer('picture saved');
+}
+
+function fillWindow(filled) {
+  at.player.classList.toggle('filled', filled);
+}
+
+let dark = matchMedia('(prefers-color-scheme: dark)').matches;
+
+function turnTheme() {
+  dark = !dark;
+  document.documentElement.style.colorScheme = dark ? 'dark' : 'light';
+}
+
+// The rails: waits of a second and more are paler; those behind one another are one stretch.
+function drawRails() {
+  const stretches = [];
   for (let n = 1; n <= last; n++) {
     const [from, to] = [entries[n - 1][0], entries[n][0]];
     if (to - from < 1) continue;
-    const gap = document.createElement('span');
-    gap.style.left = `${100 * from / end}%`;
-    gap.style.width = `${100 * (to - from) / end}%`;
-    at.gaps.append(gap);
+    if (stretches.length && stretches.at(-1).to === from) stretches.at(-1).to = to;
+    else stretches.push({ from, to });
   }
+  let busy = '', idles = '', behind = 0;
+  for (const { from, to } of stretches) {
+    if (railed(to) === railed(from)) continue;
+    busy += `M${behind} 16H${railed(from)}`;
+    idles += `M${railed(from)} 16H${railed(to)}`;
+    behind = railed(to);
+  }
+  busy += `M${behind} 16H1000`;
+  for (const path of [at.busy, at.busyDone]) path.setAttribute('d', busy);
+  for (const path of [at.idles, at.idlesDone]) path.setAttribute('d', idles);
+}
+
+// The time under the pointer; the slider's thumb is 16 pixels wide.
+function tellUnder(event) {
+  const { left, width } = at.time.getBoundingClientRect();
+  const part = Math.min(Math.max((event.clientX - left - 8) / (width - 16), 0), 1);
+  at.under.textContent = clock(part * end);
+  at.under.style.left = `${8 + part * (width - 16)}px`;
+  at.under.hidden = false;
 }
 
 const KEYS = {
-  ' ': toggle, ',': () => stepChunk(-1), '.': () => stepChunk(1), '<': () => changeSpeed(-1), '>': () => changeSpeed(1),
+  ' ': toggle, k: toggle, ',': () => stepChunk(-1), '.': () => stepChunk(1),
+  '<': () => changeSpeed(-1), '>': () => changeSpeed(1),
   ArrowLeft: () => seek(place.moment - 5), ArrowRight: () => seek(place.moment + 5),
   Home: () => seek(0), End: () => seek(end), '/': () => at.text.focus(),
+  n: () => stepFind(1), N: () => stepFind(-1), f: () => fillWindow(), Escape: () => fillWindow(false),
+  c: copyText, l: copyLink, s: savePicture,
 };
 for (let tenth = 0; tenth < 10; tenth++) KEYS[tenth] = () => seek(end * tenth / 10);
 
@@ -376,15 +553,32 @@ function pressed(event) {
   act();
 }
 
+// A click that ends a selection of text is none.
+function clicked() {
+  if (getSelection().isCollapsed) toggle();
+}
+
+const CLICKS = {
+  theme: turnTheme, poster: play, screen: clicked, play: toggle, back: () => stepChunk(-1), on: () => stepChunk(1),
+  copy: copyText, link: copyLink, save: savePicture, fill: () => fillWindow(),
+  previous: () => stepFind(-1), next: () => stepFind(1),
+};
+for (const [name, act] of Object.entries(CLICKS)) at[name].addEventListener('click', act);
+
+at.player.hidden = false;
 at.time.max = end;
+at.length.textContent = clock(end);
+at.facts.textContent = `${entries.some(entry => entry[1] & WIDE) ? 132 : 80} x ${LINES}, ${last} chunks`;
 at.time.addEventListener('input', () => seek(Number(at.time.value)));
-at.play.addEventListener('click', toggle);
-at.back.addEventListener('click', () => stepChunk(-1));
-at.on.addEventListener('click', () => stepChunk(1));
-at.copy.addEventListener('click', copyText);
+at.time.addEventListener('pointermove', tellUnder);
+at.time.addEventListener('pointerleave', () => { at.under.hidden = true; });
+at.screen.addEventListener('mousedown', event => { if (event.detail > 1) event.preventDefault(); });
+at.screen.addEventListener('dblclick', () => fillWindow());
 at.finder.addEventListener('submit', event => { event.preventDefault(); listMoments(); });
 addEventListener('keydown', pressed);
-addEventListener('hashchange', readAddress);
-markGaps();
-stand(0, dueBy(0));
-readAddress();
+addEventListener('hashchange', () => { if (readAddress()) begin(); });
+drawRails();
+if (!readAddress()) {
+  stand(0, dueBy(0));
+  drawScreen(dueBy(end / 2));
+}

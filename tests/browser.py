@@ -4,10 +4,10 @@
     tests/browser.py TYPETOOL [FOLDER]
 
 The pages are those that `page` writes; tests/page_data.py compares their entries. Each count of a recording, in random
-order, shows the text of `screen` and the elements of the picture; each key and control does what
-it says; nothing is fetched; the address shows the moment and is read; what a screen reader is told has the controls'
-names; a page of 100,000 chunks opens and seeks in time. With a FOLDER screenshots are left there. The last line is
-'N passed, M failed'.
+order, shows the text of `screen` and the elements of the picture; each key and control does what it says; nothing is
+fetched; the address shows the moment and is read; the poster, the strip, the found moments; what a screen reader is
+told, how often, and whether each control has a name; contrast, a narrow window, print, no script; a page of 100,000
+chunks opens and seeks in time. With a FOLDER screenshots are left there. The last line is 'N passed, M failed'.
 """
 import functools
 import glob
@@ -26,6 +26,7 @@ import plain_find
 import plain_picture
 import plain_reader as plain
 import plain_screen
+import skip
 
 HERE = os.path.dirname(os.path.abspath(__file__))
 ASSETS = os.path.join(HERE, "..", "assets")
@@ -40,6 +41,8 @@ SAME = """
   return shown.length === 1 && shown[0].isEqualNode(wanted);
 })()
 """
+# What a control is called.
+NAMED = "at.%s.getAttribute('aria-label')"
 # What only the file has.
 LEFT_OUT = re.compile("<title>.*</title><desc>.*</desc><style>.*</style>", re.DOTALL)
 passed, failed = 0, []
@@ -170,11 +173,11 @@ def try_playing(browser, recording, address):
     browser.open(address)
     browser.value("at.speed.value = '1'; at.idle.value = 'Infinity'")
     browser.press(" ")
-    check("play is told", browser.value("at.play.textContent"), "Pause")
+    check("play is told", browser.value(NAMED % "play"), "Pause")
     passed_by = browser.value("new Promise(done => setTimeout(() => done(place.moment), 1000))")
     check("a second of playing", 0.5 < passed_by < 1.5, True)
     browser.press(" ")
-    check("pause is told", browser.value("at.play.textContent"), "Play")
+    check("pause is told", browser.value(NAMED % "play"), "Play")
     stood = standing(browser)
     check(
         "pause", browser.value("new Promise(done => setTimeout(() => done(place.moment), 200))") - stood[0] < 1e-5, True
@@ -212,8 +215,10 @@ def try_controls(browser, recording, address):
     check("its address", browser.value("location.hash"), f"#n={count + 1}")
     browser.value("at.back.click(); at.back.click()")
     check("chunk back", standing(browser)[1], count - 1)
-    gaps = sum(b - a >= 1_000_000 for a, b in zip([0, *recording.dues], recording.dues))
-    check("gaps", browser.value("at.gaps.children.length"), gaps)
+    idle = [b - a >= 1_000_000 for a, b in zip([0, *recording.dues], recording.dues)]
+    stretches = sum(now and not before for before, now in zip([False, *idle], idle))
+    for name in ("idles", "idlesDone"):
+        check(f"idle stretches, {name}", browser.value(f"at.{name}.getAttribute('d').split('M').length - 1"), stretches)
     browser.value("location.hash = '#t=999999'; new Promise(done => setTimeout(done))")
     check("an address past the end", standing(browser)[1], last)
     browser.value("location.hash = '#elsewhere'; new Promise(done => setTimeout(done))")
@@ -244,21 +249,195 @@ def try_find(browser, recording, address, text):
     dues = [recording.seconds(count + 1) for count in range(len(recording.chunks))]
     lines = plain_find.find_lines(screens, dues, range(len(dues)), text).splitlines()
     wanted = [words for words in (line.split(" ", 5) for line in lines) if words[0] == "+"]
-    told = browser.value("[...at.moments.querySelectorAll('button')].map(button => button.textContent)")
-    check(f"find {text!r}", told, [f"{words[2]} {words[5]}" for words in wanted])
+    listed = "[...at.moments.querySelectorAll('button')].map(button => [button.title, button.children[1].textContent])"
+    told = browser.value(listed)
+    check(f"find {text!r}, when", [when for when, _ in told], [words[2] for words in wanted])
+    rows = [(shown.lstrip("…"), words[5]) for (_, shown), words in zip(told, wanted)]
+    check(f"find {text!r}, rows", [row for row in rows if text not in row[0] or not row[1].endswith(row[0])], [])
     check("how many", browser.value("at.found.textContent").split(" ")[0], str(len(wanted)))
+    marks = browser.value("at.marks.getAttribute('d').split('M').length - 1")
+    check("marks on the strip", 0 < marks <= len(wanted), True)
     browser.value("at.moments.querySelector('button').click()")
     check("going there", standing(browser)[1], int(wanted[0][1]) + 1)
+    check("what is lit", browser.value("finds.lit"), 0)
+    browser.value("at.text.blur()")
+    stepped = [browser.press(key) or standing(browser)[1] for key in "n" * len(wanted) + "N"]
+    counts = [int(words[1]) + 1 for words in wanted]
+    check("stepping through", stepped, counts[1:] + [counts[0], counts[-1]])
+    browser.value("at.text.value = 'x'.repeat(99); listMoments()")
+    check("none", browser.value("[at.found.textContent, at.marks.getAttribute('d')]"), ["0 moments", ""])
+    browser.press("n")
+    check("stepping through none", standing(browser)[1], counts[-1])
+
+
+def click(browser, x, y, times=1):
+    """The mouse is pressed and let go at a place, so many times."""
+    for count in range(1, times + 1):
+        for kind in ("mousePressed", "mouseReleased"):
+            browser.ask("Input.dispatchMouseEvent", type=kind, x=x, y=y, button="left", clickCount=count)
+
+
+def try_poster(browser, recording, address):
+    """Before anything is asked for the middle stands under a large Play, and a click plays."""
+    drawn = "[at.figure.classList.contains('begun'), shown.count, place.moment]"
+    middle = sum(us <= recording.dues[-1] / 2 for us in recording.dues)
+    browser.open(address)
+    check("the poster", browser.value(drawn), [False, middle, 0])
+    check("the poster's length", browser.value("at.length.textContent"), "0:14")
+    width = browser.value("at.poster.firstElementChild.getBoundingClientRect().width")
+    check("the poster's Play", [width, browser.value(NAMED % "poster")], [96, "Play the recording"])
+    click(browser, 100, 200)
+    check(
+        "a click on the poster", browser.value("[playing !== null, at.figure.classList.contains('begun')]"), [True] * 2
+    )
+    click(browser, 100, 200)
+    check("a click on the screen", browser.value("playing"), None)
+    click(browser, 100, 200, 2)
+    check("a double click", browser.value("[at.player.classList.contains('filled'), playing]"), [True, None])
+    box = "(({ left, right, top }) => [left, innerWidth - right, top])(at.figure.getBoundingClientRect())"
+    check("the screen fills the window", browser.value(box), [0, 0, 0])
+    browser.press("Escape")
+    check("and leaves it", browser.value("at.player.classList.contains('filled')"), False)
+    browser.press("k")
+    check("k plays", browser.value("playing !== null"), True)
+    browser.press("k")
+    browser.open(address + "#t=7")
+    check("the poster of an address", browser.value(drawn)[::2], [False, 7])
+
+
+def try_address(browser, recording, address):
+    """Chunks by the numbers that `find` tells, and an address that can't be written."""
+    browser.open(address + "#chunk=77")
+    check("the screen after a chunk", standing(browser)[1], 78)
+    browser.open(address)
+    browser.value("history.replaceState = () => { throw new Error('not here'); }; seek(3); location.hash")
+    check("an address that can't be written", standing(browser)[0], 3)
+    browser.value(
+        "Object.defineProperty(navigator, 'clipboard', { value: { writeText: text => { window.put = text; } } })"
+    )
+    browser.value("copyLink()")
+    check("the link", browser.value("put"), f"{address}#t=3")
+    check("its word", browser.value("at.answer.textContent"), "link copied")
+    wanted = plain_picture.picture(recording.screen(standing(browser)[1]), "3.000000")
+    same = """
+    (() => {
+      const read = text => new DOMParser().parseFromString(text, 'image/svg+xml').documentElement;
+      const wanted = read(%s);
+      for (const node of [...wanted.childNodes]) if (node.nodeType === 3) node.remove();
+      return read(pictureFile()).isEqualNode(wanted);
+    })()
+    """
+    check("the saved picture", browser.value(same % json.dumps(wanted)), True)
+    browser.value("window.saved = []; HTMLAnchorElement.prototype.click = function () { saved.push(this.download); }")
+    browser.value("savePicture()")
+    wanted = [f"screen-{standing(browser)[1]}.svg", "picture saved"]
+    check("its file", browser.value("[saved.join(), at.answer.textContent]"), wanted)
+
+
+def try_speech(browser, address):
+    """A screen reader is told where the player rests, at most once a second, and nothing while it plays."""
+    browser.open(address)
+    watch = """
+    new Promise(done => {
+      let told = 0;
+      new MutationObserver(() => told++).observe(at.told, { childList: true });
+      (%s)();
+      setTimeout(() => done(told), 2600);
+    })
+    """
+    check("nothing is told while it plays", browser.value(watch % "() => { at.idle.value = 'Infinity'; play(); }"), 0)
+    browser.value("pause()")
+    seeks = "() => { let n = 0; const i = setInterval(() => n < 100 ? seek(n++ / 10) : clearInterval(i), 10); }"
+    check("seeks are told now and then", browser.value(watch % seeks) <= 3, True)
+    check("what is told", browser.value("at.told.textContent"), f"0:09, chunk {standing(browser)[1]} of 119")
+
+
+def try_look(browser, address):
+    """Contrast in light and dark, the button that turns them around, sizes of what is pressed, print, no script."""
+    contrast = """
+    (() => {
+      const pen = document.createElement('canvas').getContext('2d', { willReadFrequently: true });
+      const light = colours => {
+        for (const colour of colours) {
+          pen.fillStyle = colour;
+          pen.fillRect(0, 0, 1, 1);
+        }
+        const parts = [...pen.getImageData(0, 0, 1, 1).data].slice(0, 3).map(n => n / 255);
+        const [r, g, b] = parts.map(n => n <= 0.04045 ? n / 12.92 : ((n + 0.055) / 1.055) ** 2.4);
+        return 0.2126 * r + 0.7152 * g + 0.0722 * b;
+      };
+      const under = element => getComputedStyle(element).backgroundColor;
+      const grounds = element => element ? [...grounds(element.parentElement), under(element)] : [];
+      const ratio = element => {
+        const [one, two] = [light([getComputedStyle(element).color]), light(grounds(element))];
+        return (Math.max(one, two) + 0.05) / (Math.min(one, two) + 0.05);
+      };
+      const texts = 'h1, #facts, #clock, #count, #found, select, #text, summary, dd, code, .moment, .row, mark, #under';
+      const low = [...document.querySelectorAll(texts)].filter(element => ratio(element) < 4.5);
+      return low.map(element => element.outerHTML);
+    })()
+    """
+    for scheme in ("light", "dark"):
+        browser.ask("Emulation.setEmulatedMedia", features=[{"name": "prefers-color-scheme", "value": scheme}])
+        browser.open(address)
+        browser.value(
+            "at.text.value = 'Seek'; listMoments(); showFind(0); document.querySelector('details').open = true"
+        )
+        check(f"contrast, {scheme}", browser.value(contrast), [])
+        ground = browser.value("getComputedStyle(document.body).backgroundColor")
+        browser.value("at.theme.click()")
+        check(
+            f"turned around, {scheme}", browser.value("getComputedStyle(document.body).backgroundColor") != ground, True
+        )
+        check(f"contrast, turned around, {scheme}", browser.value(contrast), [])
+    browser.ask("Emulation.setEmulatedMedia", features=[])
+    small = """
+    [...document.querySelectorAll('button, select, #text')].filter(element => {
+      const { width, height } = element.getBoundingClientRect();
+      return element.offsetParent && (width < %d || height < %d);
+    }).map(element => element.id)
+    """
+    check("sizes", browser.value(small % (32, 32)), [])
+    browser.ask("Emulation.setTouchEmulationEnabled", enabled=True)
+    browser.ask("Emulation.setEmulatedMedia", features=[{"name": "pointer", "value": "coarse"}])
+    browser.open(address)
+    if browser.value("matchMedia('(pointer: coarse)').matches"):
+        check("sizes under a finger", browser.value(small % (44, 44)), [])
+    browser.ask("Emulation.setTouchEmulationEnabled", enabled=False)
+    browser.ask("Emulation.setEmulatedMedia", media="print", features=[])
+    seen = "['screen', 'card', 'poster', 'theme'].map(name => at[name].getClientRects().length > 0)"
+    check("what is printed", browser.value(seen), [True, False, False, False])
+    browser.ask("Emulation.setEmulatedMedia", media="")
+    browser.ask("Emulation.setScriptExecutionDisabled", value=True)
+    browser.ask("Page.navigate", url=address + "?plain")
+    time.sleep(1)
+    nodes = browser.ask("Accessibility.getFullAXTree")["nodes"]
+    roles = {node["role"]["value"] for node in nodes if not node.get("ignored")}
+    check("no dead controls without a script", roles & {"button", "slider", "searchbox"}, set())
+    names = " ".join(node.get("name", {}).get("value", "") for node in nodes)
+    check("what is said without a script", "terminal recording" in names, True)
+    browser.ask("Emulation.setScriptExecutionDisabled", value=False)
 
 
 def try_names(browser, address):
     """What a screen reader is told, what was fetched, and whether anything went wrong."""
     browser.open(address)
+    browser.value("at.text.value = 'Seek'; listMoments()")
     nodes = browser.ask("Accessibility.getFullAXTree")["nodes"]
     told = {(node["role"]["value"], node.get("name", {}).get("value")) for node in nodes if not node.get("ignored")}
     wanted = {("slider", "Moment"), ("button", "Play"), ("button", "Chunk back"), ("button", "Chunk on")}
-    wanted |= {("button", "Copy text"), ("button", "Find"), ("searchbox", "Text on the screen"), ("group", "Screen")}
+    wanted |= {
+        ("button", "Copy text"),
+        ("button", "Copy link"),
+        ("button", "Save picture"),
+        ("button", "Fill the window"),
+    }
+    wanted |= {("button", "Play the recording"), ("button", "Dark or light"), ("group", "Screen")}
+    wanted |= {("button", "Next found moment"), ("button", "Found moment before"), ("searchbox", "Text on the screen")}
     check("names", wanted - told, set())
+    check(
+        "no control without a name", {role for role, name in told if role in ("button", "slider") and not name}, set()
+    )
     check("menus", {name for role, name in told if role in ("combobox", "popUpButton")}, {"Speed", "Idle at most"})
     asked = [event["params"] for event in browser.events if event["method"] == "Network.requestWillBeSent"]
     check("what is fetched", [one["request"]["url"] for one in asked if one["type"] != "Document"], [])
@@ -266,8 +445,9 @@ def try_names(browser, address):
     check("complaints", wrong, [])
     widths = browser.value("[document.documentElement.scrollWidth <= innerWidth]")
     check("width", widths, [True])
-    browser.ask("Emulation.setDeviceMetricsOverride", width=360, height=700, deviceScaleFactor=1, mobile=False)
-    check("a narrow window", browser.value("document.documentElement.scrollWidth <= innerWidth"), True)
+    for width in (360, 390, 800, 1280):
+        browser.ask("Emulation.setDeviceMetricsOverride", width=width, height=700, deviceScaleFactor=1, mobile=False)
+        check(f"a window of {width}", browser.value("document.documentElement.scrollWidth <= innerWidth"), True)
     browser.ask("Emulation.clearDeviceMetricsOverride")
 
 
@@ -305,8 +485,8 @@ def try_large(browser, folder):
 
 def main():
     if not chromium.path():
-        print("browser: passed over, since no Chromium is there (apt-get install chromium)")
-        return 0
+        skip.skip("the player of a page", "chromium")
+        return skip.end(0, 0)
     program = os.path.abspath(sys.argv[1])
     with tempfile.TemporaryDirectory() as folder:
         browser = chromium.Chromium(folder)
@@ -319,14 +499,17 @@ def main():
                     for trial in (try_keys, try_playing, try_controls):
                         trial(browser, recording, address)
                     try_find(browser, recording, address, "seconds")
+                    try_poster(browser, recording, address)
+                    try_address(browser, recording, address)
+                    try_speech(browser, address)
                     try_names(browser, address)
+                    try_look(browser, address)
                 if len(sys.argv) > 2:
                     browser.picture(os.path.join(sys.argv[2], f"{name}.png"))
             try_large(browser, folder)
         finally:
             browser.close()
-    print(f"{passed} passed, {len(failed)} failed")
-    return 1 if failed else 0
+    return skip.end(passed, len(failed))
 
 
 if __name__ == "__main__":
