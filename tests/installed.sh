@@ -38,7 +38,7 @@ wanted='./usr/bin/typetool
 check 'install' make -s -o bin/typetool install DESTDIR="$place" PREFIX=/usr
 check 'what is installed' test "$(files)" = "$wanted"
 check 'the program' "$place/usr/bin/typetool" info examples/tour.script examples/tour.timing
-check 'the page' grep -q '^.TH TYPETOOL 1' "$place/usr/share/man/man1/typetool.1"
+check 'the page' grep -q "^.TH TYPETOOL 1 \"\" \"$(bin/typetool --version)\"" "$place/usr/share/man/man1/typetool.1"
 check 'uninstall' make -s uninstall DESTDIR="$place" PREFIX=/usr
 check 'what is left' test -z "$(files)"
 echo "$passed passed, $failed failed"

@@ -3,10 +3,10 @@
 #
 #     tests/lint.sh
 #
-# It takes Debian's shellcheck, flake8, black and eslint (apt-get install shellcheck flake8 black eslint), and rt. A
-# linter that isn't there is passed over with a sentence that says so. The last line is 'N passed, M failed'.
+# It takes Debian's shellcheck, flake8, black and eslint (`make tools`), and rt. The last line is 'N passed, M failed'.
 set -u
 cd "$(dirname "$0")/.." || exit 2
+. tests/skip.sh
 shell=(tests/*.sh bench/*.sh completions/typetool.bash .ci/run)
 python=(tests/*.py bench/*.py examples/*.py assets/*.py)
 passed=0 failed=0
@@ -15,9 +15,8 @@ passed=0 failed=0
 look() {
     local name=$1
     shift
-    if ! command -v "$1" >/dev/null; then
-        echo "lint: $name is passed over, since $1 isn't installed (apt-get install $1)"
-    elif "$@"; then
+    if lacks "$1" "$name"; then return; fi
+    if "$@"; then
         passed=$((passed + 1))
     else
         failed=$((failed + 1))
@@ -46,17 +45,14 @@ look 'the shell' shellcheck "${shell[@]}"
 look 'the Python' flake8 --max-line-length 120 --extend-ignore E203 "${python[@]}"
 # Another edition of black lays out otherwise, and says so without an opinion on the files.
 if command -v black >/dev/null && ! black --version | grep -q '^black, 23'; then
-    echo "lint: the layout of the Python is passed over, since this black isn't Debian 12's 23.1"
+    skip 'the layout of the Python' "Debian 12's black 23.1"
 else
     look 'the layout of the Python' black --quiet --check --diff --line-length 120 "${python[@]}"
 fi
 # Debian's eslint finds what it stands on there, whichever node comes first.
 export NODE_PATH=/usr/share/nodejs
 look 'the JavaScript' eslint assets/page.js
-if command -v rt >/dev/null; then
+if ! lacks rt 'the layout of the crates'; then
     if layout crates/*; then passed=$((passed + 1)); else failed=$((failed + 1)); fi
-else
-    echo "lint: the layout of the crates is passed over, since rt isn't installed"
 fi
-echo "lint: $passed passed, $failed failed"
-[ "$failed" = 0 ]
+end $passed $failed

@@ -6,6 +6,8 @@ set -u
 program=$(realpath "$1")
 examples=$(realpath "$(dirname "$0")/../examples")
 texts=$(realpath "$(dirname "$0")/help")
+# The newest release that the changelog has.
+version=$(sed -n 's/^## \([0-9][^ ,]*\).*/\1/p' "$(dirname "$0")/../CHANGELOG.md" | head -n 1)
 place=$(mktemp -d)
 trap 'rm -rf "$place"' EXIT
 cd "$place" || exit 2
@@ -132,9 +134,10 @@ for text in "$texts"/*.txt; do
     same "help of: $command" help "${words[@]}"
 done
 
-check 'the version' 0 'typetool 0.1.0\n' '' --version
-check 'the version by a letter' 0 'typetool 0.1.0\n' '' -V
-status 'no command' 2
+check 'the version' 0 "typetool $version\n" '' --version
+check 'the version by a letter' 0 "typetool $version\n" '' -V
+"$program" >out.txt 2>err.txt
+verdict 'no command: the help' 2 $? '' "$(cat "$texts/typetool.txt")\n"
 status 'help of an unknown command' 2 help play
 status 'an unknown command' 2 play
 status 'a missing path' 2 due --at 1 ab.script
