@@ -16,6 +16,12 @@ _typetool() {
         mapfile -t COMPREPLY < <(compgen -W "${!taken[*]}" -- "$word")
         return
     fi
+    # bash cuts a word at its =, as in --profile=vt100
+    if [ "$word" = = ]; then
+        word=
+    elif [ "$last" = = ]; then
+        last=${COMP_WORDS[COMP_CWORD - 2]}
+    fi
     case $last in
     --profile) mapfile -t COMPREPLY < <(compgen -W 'vt100 vt102' -- "$word") ;;
     --at | --from | --to | --every) COMPREPLY=() ;;

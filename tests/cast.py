@@ -8,15 +8,13 @@ over the screens that `screen --escaped` draws after each chunk. pyte, fed with 
 screen: its characters, with a space behind each on the double sizes, their renditions, and the cursor. `asciinema cat`
 of a shipped recording's cast writes the texts of its events.
 
-Both are Debian's (apt-get install python3-pyte asciinema). One that isn't there is passed over with a sentence that
-says so. The last line is 'N passed, M failed'.
+Both are Debian's (`make tools`). The last line is 'N passed, M failed'.
 """
 import concurrent.futures
 import glob
 import json
 import os
 import random
-import shutil
 import subprocess
 import sys
 import tempfile
@@ -25,6 +23,7 @@ import plain_cast
 import plain_reader
 import plain_screen
 import random_recordings
+import skip
 from plain_screen import BOLD, LINES, REVERSE, SINGLE, UNDERSCORE
 
 try:
@@ -144,10 +143,9 @@ def recordings(count, seed):
 def main():
     program = os.path.abspath(sys.argv[1])
     count, seed = (int(word) for word in (sys.argv[2:] + ["200", "1"][len(sys.argv) - 2 :]))
-    has_asciinema = shutil.which("asciinema") is not None
-    for name, is_there in (("python3-pyte", pyte), ("asciinema", has_asciinema)):
-        if not is_there:
-            print(f"cast: {name} is passed over, since it isn't installed (apt-get install {name})")
+    if not pyte:
+        skip.skip("what another terminal shows of a cast", "python3-pyte")
+    has_asciinema = not skip.lacks("asciinema", "what another player makes of a cast")
     passed = failed = 0
     with concurrent.futures.ThreadPoolExecutor(os.cpu_count()) as pool:
         made = list(recordings(count, seed))
@@ -155,8 +153,7 @@ def main():
             passed, failed = passed + (not wrongs), failed + bool(wrongs)
             for wrong in wrongs:
                 print(f"FAILED {wrong}")
-    print(f"casts: {passed} passed, {failed} failed")
-    return failed > 0 or not passed
+    return skip.end(passed, failed)
 
 
 sys.exit(main())

@@ -7,7 +7,7 @@ For each NAME it leaves NAME.script and NAME.timing in the folder, and what `typ
 that the kind takes as NAME-mended.script and NAME-mended.timing. That has to be what the plain reading
 (mend_reader.py) makes of them. What `screen` shows of it at its end, and what scriptreplay plays of it and of what
 `save` writes of it, has to be what the recorded command wrote, or, where the recording was killed, a beginning of it.
-Where script isn't installed, nothing is done. The last line is 'N passed, M failed'.
+The last line is 'N passed, M failed'.
 """
 import fcntl
 import os
@@ -21,6 +21,7 @@ import tempfile
 import termios
 
 import mend_reader
+import skip
 
 program = os.path.abspath(sys.argv[1])
 COMMAND = r"""printf 'one\ntwo\n'; sleep 0.1; printf 'three\n'; read -r line; printf 'got %s\n' "$line" """
@@ -152,10 +153,9 @@ def tried(path, name, how, words, signals):
 
 
 def main():
+    if skip.lacks("script", "recordings made here") or skip.lacks("scriptreplay", "playing them"):
+        return skip.end(0, 0)
     folder = sys.argv[2] if len(sys.argv) > 2 else tempfile.mkdtemp(prefix="recordings-")
-    if not shutil.which("script"):
-        print("recordings of script(1): passed over, since script isn't installed")
-        return 0
     os.makedirs(folder, exist_ok=True)
     passed = failed = 0
     for name, how, words, signals in make(folder):
@@ -167,8 +167,7 @@ def main():
             print(f"FAILED {name} in {folder}: {wrong}")
     if not failed and len(sys.argv) < 3:
         shutil.rmtree(folder)
-    print(f"recordings of script(1): {passed} passed, {failed} failed")
-    return failed > 0 or not passed
+    return skip.end(passed, failed)
 
 
 if __name__ == "__main__":

@@ -4,15 +4,17 @@
     tests/manual.py
 
 The page has each command with its sentence, each flag and each argument with its text, each request and fault, and
-no command or flag besides; man finds nothing wrong with it. Each shell that is there offers just the commands, and for
-each command just its flags. The last line is 'N passed, M failed'.
+no command or flag besides, and the sections that people look for; man finds nothing wrong with it. Each help text ends
+with where the page is found. bash and fish offer just the commands, and for each command just its flags. The last line
+is 'N passed, M failed'.
 """
 import glob
 import os
 import re
-import shutil
 import subprocess
 import sys
+
+import skip
 
 TOP = os.path.join(os.path.dirname(os.path.abspath(__file__)), "..")
 PAGE = os.path.join(TOP, "man", "typetool.1")
@@ -75,19 +77,25 @@ def requests(text):
 def in_page():
     page = spoken(read(PAGE))
     texts, (front_flags, commands) = helps(), front()
+    for path in glob.glob(os.path.join(TOP, "tests", "help", "*.txt")):
+        check(f"the end of {os.path.basename(path)}", read(path).split("\n")[-2:], ["The long form: man typetool", ""])
     for command, text in texts.items():
         missing = [sentence for sentence in sentences(text) if sentence.rstrip(".)") not in page]
         missing += [words for words in requests(text) if " ".join(words.split()) not in page]
         check(f"the page on {command}", missing, [])
     flags = front_flags.union(*map(flags_of, texts.values()))
     check("the page's flags", set(re.findall(r"--[a-z]+", page)) - {"--log", "--logging"}, flags)
+    sections = re.findall(r"^\.SH (.*)$", read(PAGE), flags=re.MULTILINE)
+    wanted = ["EXIT STATUS", "FILES", "EXAMPLES", "SEE ALSO"]
+    check("the page's sections", [name for name in sections if name in wanted], wanted)
+    also = re.findall(r"^\.BR (\w+) \(1\)", read(PAGE).split(".SH SEE ALSO\n")[1], flags=re.MULTILINE)
+    check("what the page names besides", also, ["script", "scriptreplay", "asciinema"])
     listed = re.search(r"^\.SH COMMANDS\n(.*?)^\.SH", read(PAGE), flags=re.MULTILINE | re.DOTALL)[1]
     check("the page's commands", set(re.findall(r"^\.TP\n\.B ([a-z]+)$", listed, flags=re.MULTILINE)), commands)
 
 
 def warnings():
-    if not shutil.which("man"):
-        print("manual: man's warnings are passed over, since it isn't installed (apt-get install man-db)")
+    if skip.lacks("man", "man's warnings"):
         return
     words = ["man", "--warnings", "-E", "UTF-8", "-l", "-Tutf8", "-Z", PAGE]
     told = subprocess.run(words, capture_output=True, text=True, env={**os.environ, "LC_ALL": "C.UTF-8"})
@@ -112,8 +120,7 @@ def offered(shell, *words):
 def in_shells():
     texts, (front_flags, commands) = helps(), front()
     for shell in ("bash", "fish"):
-        if not shutil.which(shell):
-            print(f"manual: {shell} is passed over, since it isn't installed (apt-get install {shell})")
+        if skip.lacks(shell, f"what {shell} completes"):
             continue
         check(f"{shell}: commands", {word for word in offered(shell, "typetool", "") if word[0] != "-"}, commands)
         check(f"{shell}: flags", offered(shell, "typetool", "--"), front_flags)
@@ -121,6 +128,11 @@ def in_shells():
         for command, text in texts.items():
             check(f"{shell}: {command}", offered(shell, "typetool", command, "--"), flags_of(text))
         check(f"{shell}: profiles", offered(shell, "typetool", "screen", "--profile", "vt"), {"vt100", "vt102"})
+    # bash cuts words at =, fish doesn't.
+    for words in (["--profile", "="], ["--profile", "=", "vt"]):
+        check(f"bash: {''.join(words)}", offered("bash", "typetool", "screen", *words), {"vt100", "vt102"})
+    wanted = {"--profile=vt100", "--profile=vt102"}
+    check("fish: --profile=", offered("fish", "typetool", "screen", "--profile=vt"), wanted)
     check("bash: files", "README.md" in offered("bash", "typetool", "info", "READ"), True)
     check("bash: no moments", offered("bash", "typetool", "due", "--at", ""), set())
 
@@ -134,7 +146,7 @@ def in_zsh():
         flags = set(re.findall(r"--[a-z]+", said)) | {"--help"} | ({"--profile"} if "$profile" in said else set())
         check(f"zsh: {command}", flags, flags_of(words))
         check(f"zsh: {command} is described", f"'{command}:" in text, True)
-    if shutil.which("zsh"):
+    if not skip.lacks("zsh", "whether zsh reads its completions"):
         told = subprocess.run(["zsh", "-n", "completions/_typetool"], cwd=TOP, capture_output=True, text=True)
         check("zsh: reads", (told.returncode, told.stderr), (0, ""))
 
@@ -143,5 +155,4 @@ in_page()
 warnings()
 in_shells()
 in_zsh()
-print(f"{passed} passed, {failed} failed")
-sys.exit(failed != 0)
+sys.exit(skip.end(passed, failed))

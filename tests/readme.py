@@ -2,11 +2,14 @@
 """Runs the examples of README.md and docs/COMMANDS.md, twice, and compares what they print.
 
     tests/readme.py TYPETOOL
+    tests/readme.py --root FOLDER
 
 Each page's blocks marked `console` are one shell's session, in a copy of the repository's top that has examples/ and
 bin/typetool: a line that begins with `$ ` is a command, and what stands behind it up to the next one is what it prints
-(on the page a text without a last LF has one).
-The second run finds the files that the first one left. The last line is 'N passed, M failed'.
+(on the page a text without a last LF has one). The second run finds the files that the first one left.
+
+With --root the shell has this folder as its root, in which the package is installed: its program and its examples. The
+last line is 'N passed, M failed'.
 """
 import os
 import re
@@ -30,24 +33,34 @@ def examples(page):
             yield command, printed
 
 
-def run(commands, folder):
+def run(commands, root, folder):
     """What each command prints, all of them in one shell."""
     script = "".join(f"{command}\nprintf '%s\\n' '{MARK}'\n" for command in commands)
-    words = ["bash", "-c", "exec 2>&1\n" + script]
-    done = subprocess.run(words, cwd=folder, stdin=subprocess.DEVNULL, capture_output=True, timeout=120)
+    words = ["bash", "-c", f"exec 2>&1\ncd {os.path.join('/', os.path.relpath(folder, root))}\n{script}"]
+    if root != "/":
+        words = ["chroot", root, *words]
+    done = subprocess.run(words, stdin=subprocess.DEVNULL, capture_output=True, timeout=120)
     return done.stdout.decode(errors="replace").split(MARK + "\n")[:-1]
 
 
-def main(program):
+def bring(program, root, folder):
+    """Puts examples/ and the program into a folder, or the examples that the package brought."""
+    if root != "/":
+        shutil.copytree(os.path.join(root, "usr/share/doc/typetool/examples"), os.path.join(folder, "examples"))
+    else:
+        shutil.copytree(os.path.join(TOP, "examples"), os.path.join(folder, "examples"))
+        os.mkdir(os.path.join(folder, "bin"))
+        shutil.copy(program, os.path.join(folder, "bin", "typetool"))
+
+
+def main(program, root="/"):
     passed = failed = 0
     for page in PAGES:
         wanted = list(examples(page))
-        with tempfile.TemporaryDirectory() as folder:
-            shutil.copytree(os.path.join(TOP, "examples"), os.path.join(folder, "examples"))
-            os.mkdir(os.path.join(folder, "bin"))
-            shutil.copy(program, os.path.join(folder, "bin", "typetool"))
+        with tempfile.TemporaryDirectory(dir=os.path.join(root, "tmp") if root != "/" else None) as folder:
+            bring(program, root, folder)
             for turn in ("first", "second"):
-                got = run([command for command, _ in wanted], folder)
+                got = run([command for command, _ in wanted], root, folder)
                 got += [None] * (len(wanted) - len(got))
                 for (command, printed), told in zip(wanted, got):
                     if told == printed or told and not told.endswith("\n") and told + "\n" == printed:
@@ -60,4 +73,4 @@ def main(program):
 
 
 if __name__ == "__main__":
-    sys.exit(main(sys.argv[1]))
+    sys.exit(main(*sys.argv[1:]))
