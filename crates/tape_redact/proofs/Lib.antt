@@ -1,0 +1,2 @@
+mod RedactLemmas
+mod ReadLemmas

@@ -1,0 +1,2 @@
+pub mod Redacted
+pub mod Law
