@@ -29,8 +29,14 @@ ln -s ../vendor-completions/_typetool "$tree/usr/share/zsh/site-functions/_typet
 strip --strip-unneeded "$tree/usr/bin/typetool"
 gzip -9n "$tree/usr/share/man/man1/typetool.1"
 install -d "$docs/examples"
-install -m 644 CHANGELOG.md docs/COMMANDS.md docs/FORMATS.md docs/TERMINAL.md "$docs"
-if [ -e docs/TODAY.md ]; then install -m 644 docs/TODAY.md "$docs"; fi
+install -m 644 CHANGELOG.md "$docs"
+# The pages for those who use the program. A link to one that stays in the repository becomes its words.
+pages=(ARCHIVE COMMANDS FORMATS PICTURES PROMISES TERMINAL TODAY)
+shipped=$(IFS='|' && echo "${pages[*]}")
+for page in "${pages[@]}"; do
+    sed -z -E -e "s/\]\(($shipped)\.md/](@\1.md/g" -e 's/\[([^][]*)\]\([^@):]*\.md[^)]*\)/\1/g' -e 's/\]\(@/](/g' \
+        "docs/$page.md" | install -m 644 /dev/stdin "$docs/$page.md"
+done
 install -m 644 examples/tour.* tests/recordings/*.script tests/recordings/*.timing "$docs/examples"
 gzip -9n >"$docs/changelog.gz" <<END
 typetool ($version) unstable; urgency=medium

@@ -47,14 +47,19 @@ check 'its sums' "$(cd "$place/deb" && dpkg-deb --ctrl-tarfile "$package" | tar 
 check 'the program' "$("$place/deb/usr/bin/typetool" --version)" "typetool $version"
 check 'the page' "$(zcat "$place/deb/usr/share/man/man1/typetool.1.gz" | grep -c "^.TH TYPETOOL 1 \"\" \"typetool $version\"")" 1
 examples=(examples/tour.* tests/recordings/*.script tests/recordings/*.timing)
-pages=(CHANGELOG.md changelog.gz COMMANDS.md FORMATS.md TERMINAL.md)
-if [ -e docs/TODAY.md ]; then pages+=(TODAY.md); fi
+pages=(CHANGELOG.md changelog.gz {ARCHIVE,COMMANDS,FORMATS,PICTURES,PROMISES,TERMINAL,TODAY}.md)
 wanted=$(
     printf './usr/%s\n' bin/typetool share/man/man1/typetool.1.gz share/bash-completion/completions/typetool \
         share/fish/vendor_completions.d/typetool.fish share/zsh/{site-functions,vendor-completions}/_typetool \
         "${pages[@]/#/share/doc/typetool/}" "${examples[@]/#*\//share/doc/typetool/examples/}" | sort
 )
 check 'what is in it' "$(cd "$place/deb" && find . ! -type d | sort)" "$wanted"
+# linked: the pages that shipped pages link to.
+linked() {
+    (cd "$place/deb/usr/share/doc/typetool" && grep -o -h -E '\]\([^):#]+' ./*.md | sed 's/^](//' | sort -u)
+}
+check 'pages that are linked to' "$(linked | grep -v -x -e "$(printf '%s\n' "${pages[@]}")")" ''
+check 'links that are left' "$(linked | grep -c -x -e PICTURES.md -e PROMISES.md -e TERMINAL.md)" 3
 # No licence is given: that is the owner's to choose, and the only error there is.
 if ! lacks lintian "what lintian says of the package"; then
     check 'lintian' "$(lintian --allow-root "$package" 2>&1 | grep '^E:')" 'E: typetool: no-copyright-file'
