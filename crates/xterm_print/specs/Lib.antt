@@ -1,0 +1,5 @@
+pub mod RowText
+pub mod PlainText
+pub mod Moments
+pub mod Headline
+pub mod Lending

@@ -1,0 +1,71 @@
+//! What is printed of a row.
+
+ghost use Rattle.std.specs.Prelude.{◌≡◌, encode_utf8};
+ghost use Rattle.std.specs.List.{flat_map};
+ghost use Rattle.tape_core.specs.Devices.{Gave};
+ghost use Rattle.xterm_print.specs.RowText.{is_space, printed, printed_line, trimmed};
+
+use sheet::Cell;
+use std::io::Write;
+use tape_core::Watched;
+use tape_core::laws::gives_join;
+
+/// Prints a row in UTF-8 without the spaces at its end, and LF.
+#[tactic(auto, unfolding(crate::specs::RowText::printed_line))]
+pub fn put_row<W: Write>(cells: &[Cell], writer: &mut Watched<W>)
+    ensures { Gave W.contents writer.old writer.new (printed_line cells.now) }
+{
+    gives_join::<W>();
+    put_cells(trimmed(cells), writer);
+    writer.give(b"\n");
+}
+
+/// Prints cells.
+fn put_cells<W: Write>(cells: &[Cell], writer: &mut Watched<W>)
+    ensures { Gave W.contents writer.old writer.new (flat_map printed cells.now) }
+{
+    gives_join::<W>();
+    for cell in cells {
+        put_cell(*cell, writer);
+    }
+}
+
+/// Prints a cell: its character and its marks.
+fn put_cell<W: Write>(cell: Cell, writer: &mut Watched<W>)
+    ensures { Gave W.contents writer.old writer.new (printed cell) }
+{
+    gives_join::<W>();
+    if cell.is_covered() {
+        return;
+    }
+    put_character(cell.character(), writer);
+    for n in 0..cell.mark_count() {
+        put_character(cell.mark(n), writer);
+    }
+}
+
+/// Prints a character.
+fn put_character<W: Write>(character: char, writer: &mut Watched<W>)
+    ensures { Gave W.contents writer.old writer.new (encode_utf8 character) }
+{
+    writer.give(character.encode_utf8(&mut [0; 4]).as_bytes());
+}
+
+/// The cells without the spaces at their end, whatever rendition those have.
+pub fn trimmed(cells: &[Cell]) -> &[Cell]
+    ensures { result.now ≡ trimmed cells.now }
+{
+    let mut len = cells.len();
+    while len > 0 && is_space(cells[len - 1]) {
+        len -= 1;
+    }
+    &cells[..len]
+}
+
+/// Whether a cell is a space alone, whatever its rendition.
+#[tactic(auto, unfolding(crate::specs::RowText::is_space))]
+fn is_space(cell: Cell) -> bool
+    ensures { result ≡ is_space cell }
+{
+    !cell.is_covered() && cell.character() == ' ' && cell.mark_count() == 0
+}
