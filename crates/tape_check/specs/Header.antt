@@ -1,9 +1,12 @@
 -- What the header of a recording says of it. script(1): `Script started on DATE [TERM="T" COLUMNS="C" LINES="L"]`.
-use Rattle.std.specs.Prelude.{ℕ, ◌-◌, Bool, true, not, ◌==◌, ◌&&◌, ◌||◌, nat_eq, nat_lt, nat_le, if◌then◌else◌, List, [], ◌∷◌, length, take, drop, position, Option, Some, None}
+use Rattle.std.specs.Prelude.{ℕ, ◌-◌, Bool, true, not, ◌==◌, ◌&&◌, ◌||◌, nat_eq, nat_lt, nat_le, if◌then◌else◌, List, [], ◌∷◌, length, min, take, drop, position, Option, Some, None}
 use Rattle.std.specs.List.{list_all, list_any, starts_with, ends_with}
 use Rattle.std.specs.Option.{option_or, option_map, option_and_then}
 use Rattle.std.specs.Cmp.Lexicographic.{pointwise}
 use Rattle.std.specs.Char.{is_ascii_digit}
+use Rattle.tape_core.specs.Seconds.{last_moment}
+use Rattle.tape_core.specs.Tape.{Tape}
+use Rattle.tape_core.specs.Text.{number_of}
 use Rattle.vt_term.specs.declared.profile.Profile.{Profile}
 use Rattle.vt_term.specs.declared.profile.Profile.TheVariants.{Vt100, Vt102}
 use Rattle.tape_check.specs.declared.words.Word.TheVariants as word
@@ -82,6 +85,19 @@ size_from _ _ = None
 -- at which size it was recorded
 abbrev pub size_of : List ℕ → Option Size
 size_of line = size_from (value_of (text_of word.ColumnsLabel) line) (value_of (text_of word.LinesLabel) line)
+
+-- a number in digits, where one above 10^18 counts as 10^18 (ours)
+abbrev pub number_told : List ℕ → Option ℕ
+number_told text = option_map (λ n. min n last_moment) (number_of text)
+
+-- columns and lines as numbers
+abbrev pub numbers_told : Size → Option (ℕ × ℕ)
+numbers_told size = option_and_then (λ columns. option_map (λ lines. (columns, lines)) (number_told size.lines))
+    (number_told size.columns)
+
+-- the columns and lines that a recording's header tells
+unfoldable pub told_size : Tape → Option (ℕ × ℕ)
+told_size tape = option_and_then numbers_told (size_of (header_line tape.header))
 
 -- ---- against what is played
 

@@ -4,10 +4,11 @@ ghost use Rattle.std.specs.List.{list_any, starts_with};
 ghost use Rattle.std.specs.Option.{option_copied, option_map};
 ghost use Rattle.tape_check.specs.Words.{text_of};
 ghost use Rattle.tape_check.specs.Sizes.{size_seen};
-ghost use Rattle.tape_check.specs.Header.{header_line, is_scripts, is_before_name, behind_prefix, behind_label, behind_last, before_quote, value_of, before_bracket, date_of, term_of, is_count, size_of, is_played_size, is_called, passes, visible};
+ghost use Rattle.tape_check.specs.Header.{header_line, is_scripts, is_before_name, behind_prefix, behind_label, behind_last, before_quote, value_of, before_bracket, date_of, term_of, is_count, size_of, told_size, is_played_size, is_called, passes, visible};
 
 use crate::words::Word;
-use tape_core::text::are_digits;
+use tape_core::Recording;
+use tape_core::text::{are_digits, read_number};
 use vt_term::Profile;
 
 /// Columns and lines, as they are told.
@@ -89,6 +90,17 @@ pub(crate) fn size_of(line: &[u8]) -> Option<Size<'_>>
         return Some(Size { columns, lines });
     }
     None
+}
+
+/// The columns and lines that a recording's header tells, where one above 10^18 counts as 10^18.
+#[tactic(auto, unfolding(crate::specs::Header::told_size))]
+pub fn told_size(recording: &Recording) -> Option<(u64, u64)>
+    ensures { result ≡ told_size recording.now }
+{
+    let size = size_of(header_line(recording.header()))?;
+    let columns = read_number(size.columns)?;
+    let lines = read_number(size.lines)?;
+    Some((columns, lines))
 }
 
 // Whether a text is digits with a value above 0.

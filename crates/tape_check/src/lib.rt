@@ -11,3 +11,4 @@ mod unplayed;
 mod words;
 
 pub use check::{CheckFault, put_parts, write_check};
+pub use header::told_size;
