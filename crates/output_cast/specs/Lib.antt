@@ -1,0 +1,4 @@
+pub mod Events
+pub mod Json
+pub mod Cast
+pub mod Line
