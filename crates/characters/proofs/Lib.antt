@@ -2,3 +2,4 @@ pub mod Bytes
 pub mod Fronts
 pub mod Texts
 pub mod Widths
+pub mod Spelled

@@ -86,6 +86,18 @@ left_by (Character c) pending byte = []
 left_by More pending byte = pending ++ byte ∷ []
 left_by Broken pending byte = []
 
+-- with the last of the bytes a character comes, and more of them are pending before
+abbrev pub SpellsOn : List ℕ → List ℕ → ℕ → Type 0
+SpellsOn pending [] c = ⊥
+SpellsOn pending (byte ∷ []) c = reading pending byte ≡ Character c
+SpellsOn pending (byte ∷ next ∷ rest) c =
+    (reading pending byte ≡ More) × SpellsOn (pending ++ byte ∷ []) (next ∷ rest) c
+
+-- the bytes are a character of more than one
+abbrev pub Spells : List ℕ → ℕ → Type 0
+Spells [] c = ⊥
+Spells (byte ∷ rest) c = (begins byte ≡ true) × SpellsOn (byte ∷ []) rest c
+
 -- bytes that may be pending: those of the front of a character
 abbrev pub IsFront : List ℕ → Type 0
 IsFront [] = Unit {0}

@@ -6,4 +6,4 @@ pub mod laws;
 mod utf8;
 
 pub use columns::width;
-pub use utf8::{Begun, Decoder, Reading, begins};
+pub use utf8::{Begun, Decoder, Reading, begins, character_at};

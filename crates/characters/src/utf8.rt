@@ -1,6 +1,6 @@
 //! UTF-8, a byte at a time (Unicode core specification 3.9, table 3-7).
-ghost use Rattle.std.specs.Prelude.{◌≡◌, ◌<◌, ◌≤◌, [], ◌∷◌, length, true, false};
-ghost use Rattle.characters.specs.Utf8.{row_of, begins, is_trailing, may_follow, code_point, reading, left_by, left_of, bytes_of, IsFront};
+ghost use Rattle.std.specs.Prelude.{◌≡◌, ◌<◌, ◌≤◌, [], ◌∷◌, IfSome, length, take, true, false};
+ghost use Rattle.characters.specs.Utf8.{row_of, begins, Spells, is_trailing, may_follow, code_point, reading, left_by, left_of, bytes_of, IsFront};
 
 use std::marker::Model;
 
@@ -175,6 +175,39 @@ fn read_on(begun: Begun, byte: u8) -> (Reading, Begun)
         Begun::One(a) => with_left(read_second(a, byte), Begun::Two(a, byte)),
         Begun::Two(a, b) => with_left(read_third(a, b, byte), Begun::Three(a, b, byte)),
         Begun::Three(a, b, c) => (read_fourth(a, b, c, byte), Begun::Nothing),
+    }
+}
+
+/// The character of several bytes that these begin with, and how many it takes; none where they begin with none, or where
+/// it goes on past them.
+#[inline]
+pub fn character_at(bytes: &[u8]) -> Option<(char, usize)>
+    ensures within { IfSome result (λ found. found.1 ≤ length bytes.now) }
+    ensures some { IfSome result (λ found. 0 < found.1) }
+    ensures spelled { IfSome result (λ found. Spells (take found.1 bytes.now) found.0) }
+{
+    if bytes.len() < 2 || !begins(bytes[0]) {
+        return None;
+    }
+    match read_second(bytes[0], bytes[1]) {
+        Reading::Character(character) => return Some((character, 2)),
+        Reading::Broken => return None,
+        Reading::More => {}
+    }
+    if bytes.len() < 3 {
+        return None;
+    }
+    match read_third(bytes[0], bytes[1], bytes[2]) {
+        Reading::Character(character) => return Some((character, 3)),
+        Reading::Broken => return None,
+        Reading::More => {}
+    }
+    if bytes.len() < 4 {
+        return None;
+    }
+    match read_fourth(bytes[0], bytes[1], bytes[2], bytes[3]) {
+        Reading::Character(character) => Some((character, 4)),
+        _ => None,
     }
 }
 

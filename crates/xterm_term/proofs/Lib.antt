@@ -11,4 +11,6 @@ pub mod Rendered
 pub mod ByteKinds
 pub mod Told
 pub mod Ran
+pub mod Taken
+pub mod Idle
 pub mod Sizes

@@ -88,7 +88,7 @@ ground_shown (byte ∷ rest) state is =
 
 -- ---- the mode stays
 
-either_mode : (b : Bool) → (if b then Ansi else Ansi) ≡ Ansi
+pub either_mode : (b : Bool) → (if b then Ansi else Ansi) ≡ Ansi
 either_mode true = refl
 either_mode false = refl
 

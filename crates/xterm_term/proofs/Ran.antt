@@ -52,7 +52,7 @@ module _ (laws : LawsBelow) where
       }
 
   -- a term of which ground is seen
-  at_ground : (now_ : Seen) (x : Term) → Shows now_ x → now_.state ≡ Ground → now_.character ≡ [] → x ≡ on_ground now_.console x.reports
+  pub at_ground : (now_ : Seen) (x : Term) → Shows now_ x → now_.state ≡ Ground → now_.character ≡ [] → x ≡ on_ground now_.console x.reports
   at_ground now_ x shows state character =
       let none : x.sequence ≡ [] = laws.ground_is_empty.1 Ansi x.sequence (shows.state ∙ ap (λ (s : ParserState). Some s) state) in
       let no_character : x.character ≡ [] = shows.character ∙ character in

@@ -90,7 +90,7 @@ abbrev pub silent : Console → Outcome
 silent s = outcome s [] [] []
 
 -- the term that an outcome leaves
-abbrev stepped : List ℕ → Outcome → Term
+abbrev pub stepped : List ℕ → Outcome → Term
 stepped reports o = record { console = o.console; sequence = o.sequence; character = o.character; reports = reports ++ o.reply }
 
 module _ (shown : GraphicIsShown) where

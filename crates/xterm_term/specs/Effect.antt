@@ -1,6 +1,8 @@
 -- What a command does to a terminal, and what the terminal replies.
 use Rattle.std.specs.Prelude.{ℕ, Bool, true, false, List, []}
 use Rattle.vt_parser.specs.declared.commands.Command.{Command}
+use Rattle.vt_parser.specs.declared.commands.Token.{Token}
+use Rattle.vt_parser.specs.Token.{command_of_token}
 use Rattle.vt_parser.specs.declared.commands.Command.TheVariants.{Show, Error, Control, Esc, Csi, Vt52, Vt52Address}
 use Rattle.xterm_term.specs.Rows.{named, effect_of}
 use Rattle.xterm_term.specs.Console.{Console}
@@ -27,6 +29,10 @@ effect (Csi private params last) s = control_sequence_effect private last params
 effect (Vt52 last) s = s
 effect (Vt52Address line column) s = s
 
+-- Private: the effect of a token that is no run: that of its command
+abbrev pub token_effect : Token → Console → Console
+token_effect token s = effect (command_of_token token) s
+
 -- the reply to a control sequence: to none with `?`
 abbrev pub control_sequence_reply : Bool → ℕ → List ℕ → Console → List ℕ
 control_sequence_reply true last params s = []
@@ -38,3 +44,7 @@ unfoldable pub reply : Command → Console → List ℕ
 reply (Esc inter last) s = reply_of escape_reply (escape_named inter last) s
 reply (Csi private params last) s = control_sequence_reply private last params.items s
 reply _ s = []
+
+-- Private: the reply to a token
+abbrev pub token_reply : Token → Console → List ℕ
+token_reply token s = reply (command_of_token token) s

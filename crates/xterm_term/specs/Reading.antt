@@ -1,8 +1,10 @@
 -- Private: what the parts of a terminal come to by a byte.
-use Rattle.std.specs.Prelude.{◌≡◌, ℕ, Bool, true, false, List, Some}
+use Rattle.std.specs.Prelude.{◌≡◌, ◌⊎◌, ℕ, Bool, true, false, List, [], ◌∷◌, Some}
+use Rattle.std.specs.List.{list_all}
 use Rattle.vt_parser.specs.declared.commands.Mode.TheVariants.{Ansi}
 use Rattle.vt_parser.specs.declared.states.ParserState.{ParserState}
 use Rattle.vt_parser.specs.declared.states.ParserState.TheVariants.{Ground, Text}
+use Rattle.vt_parser.specs.Syntax.{escape, is_graphic}
 use Rattle.vt_parser.specs.View.{parser_view}
 use Rattle.xterm_term.specs.Console.{Console, IsSafe}
 use Rattle.xterm_term.specs.Term.{Outcome}
@@ -15,6 +17,14 @@ is_ground_state _ = false
 abbrev pub is_text_state : ParserState → Bool
 is_text_state Text = true
 is_text_state _ = false
+
+-- bytes by which a sequence begins or goes on at once: ESC, or a graphic character where one is pending, and graphic
+-- characters behind
+abbrev pub GoesOn : ParserState → List ℕ → Type 0
+GoesOn state [] = ⊥
+GoesOn state (byte ∷ rest) =
+    (list_all is_graphic rest ≡ true)
+    × ((byte ≡ escape) ⊎ ((is_graphic byte ≡ true) × (is_ground_state state ≡ false)))
 
 -- the state shows this sequence
 abbrev pub Stands : List ℕ → ParserState → Type 0

@@ -3,16 +3,17 @@
 ghost use Rattle.std.specs.Prelude.{◌≡◌, IfOk, IfSome, OnOk, OnErr, IsOk};
 ghost use Rattle.xterm_term.specs.Console.{IsSafe, reset_console, console_of};
 ghost use Rattle.xterm_term.specs.Term.{forgotten_if, title_set};
-ghost use Rattle.xterm_term.specs.Effect.{effect, reply};
+ghost use Rattle.xterm_term.specs.Effect.{effect, reply, token_effect, token_reply};
 ghost use Rattle.xterm_term.specs.Replies.{reply_of};
 ghost use Rattle.xterm_term.specs.Rows.{effect_of};
 ghost use Rattle.vt_parser.specs.Law.{IsProper};
+ghost use Rattle.vt_parser.specs.Token.{command_of_token};
 ghost use Rattle.plays.specs.Sink.{after_sending, HasRoom};
 
 use crate::{Modes, OutOfMemory, Reports, Saved, Sets, Size};
 use sheet::{Colour, Rendition};
 use std::alloc::{AllocError, Global};
-use vt_parser::Command;
+use vt_parser::{Command, Token};
 use xterm_screen::Screen;
 
 /// The state that effects change.
@@ -106,6 +107,65 @@ impl Console {
             Command::Error | Command::Vt52(_) | Command::Vt52Address { .. } => {}
         }
         Ok(())
+    }
+
+    /// Obeys a token that is no run, as its command.
+    #[inline]
+    #[tactic(auto, unfolding(crate::specs::Effect::effect, crate::specs::Effect::reply))]
+    pub(crate) fn obey_token(&mut self, token: Token, sink: &mut Reports) -> Result<(), OutOfMemory>
+        requires proper { IsProper (command_of_token token) }
+        requires safe { IsSafe (console_of self.old) }
+        ensures done { OnOk result
+            (console_of self.new ≡ token_effect token.entry (console_of self.old)) }
+        ensures sent { OnOk result
+            (sink.new ≡ after_sending sink.old (token_reply token.entry (console_of self.old))) }
+        ensures err { OnErr result (console_of self.new ≡ console_of self.old) }
+        ensures err_sink { OnErr result (sink.new ≡ sink.old) }
+        ensures room { HasRoom sink.old (token_reply token.entry (console_of self.old))
+            → IsOk result }
+    {
+        match token {
+            Token::Show(run) => self.put_byte(run[0]),
+            Token::Control(byte) => self.control(byte),
+            Token::Esc { inter, last } => return self.obey_escape(inter, last, sink),
+            Token::Csi {
+                private: true,
+                params,
+                last,
+            } => self.obey_private_sequence(last, params),
+            Token::Csi {
+                private: false,
+                params,
+                last,
+            } => return self.obey_plain_sequence(last, params, sink),
+            Token::Error | Token::Vt52(_) | Token::Vt52Address { .. } => {}
+        }
+        Ok(())
+    }
+
+    /// Obeys a token, where there is one.
+    #[inline]
+    pub(crate) fn obey_token_if(
+        &mut self,
+        token: Option<Token>,
+        sink: &mut Reports,
+    ) -> Result<(), OutOfMemory>
+        requires proper { IfSome token (λ token. IsProper (command_of_token token)) }
+        requires safe { IsSafe (console_of self.old) }
+        ensures done { OnOk result
+            (console_of self.new ≡ effect_of token_effect token.entry (console_of self.old)) }
+        ensures sent { OnOk result
+            (sink.new
+            ≡ after_sending sink.old (reply_of token_reply token.entry (console_of self.old))) }
+        ensures err { OnErr result (console_of self.new ≡ console_of self.old) }
+        ensures err_sink { OnErr result (sink.new ≡ sink.old) }
+        ensures room { HasRoom sink.old (reply_of token_reply token.entry (console_of self.old))
+            → IsOk result }
+    {
+        match token {
+            Some(token) => self.obey_token(token, sink),
+            None => Ok(()),
+        }
     }
 
     /// Obeys a command, where there is one.

@@ -1,6 +1,7 @@
 //! A byte, by what is pending: of a character, of a title, or of the control syntax.
-ghost use Rattle.std.specs.Prelude.{◌≡◌, ℕ, ◌<◌, length, ◌&&◌, ◌||◌, List, [], not, nat_le, IsOk, OnOk, OnErr};
+ghost use Rattle.std.specs.Prelude.{◌≡◌, ℕ, ◌<◌, length, ◌&&◌, ◌||◌, List, [], true, false, not, nat_le, IsOk, OnOk, OnErr};
 ghost use Rattle.vt_parser.specs.Forms.{is_string_begun};
+ghost use Rattle.vt_parser.specs.Syntax.{is_within};
 ghost use Rattle.plays.specs.Sink.{after_sending, HasRoom};
 ghost use Rattle.xterm_term.specs.Console.{IsSafe, console_of};
 ghost use Rattle.xterm_term.specs.Term.{is_ground, is_control, ends_title, syntax_read, title_read, upper_read, read, outcome_of};
@@ -13,7 +14,7 @@ use crate::{OutOfMemory, Reports};
 use characters::{Decoder, Reading, begins};
 use vt_parser::{Mode, Parser, ParserState};
 
-const ESC: u8 = 27;
+pub(crate) const ESC: u8 = 27;
 
 // A control character: a byte 0 to 31 but ESC.
 #[inline]
@@ -31,10 +32,27 @@ fn ends_title(byte: u8) -> bool
     matches!(byte, 7 | 24 | 26)
 }
 
-fn is_ground_state(state: &ParserState) -> bool
+#[inline]
+pub(crate) fn is_ground_state(state: &ParserState) -> bool
     ensures { result ≡ is_ground_state state.now }
 {
     matches!(state, ParserState::Ground)
+}
+
+// A control that has an effect: BS to SI.
+#[inline]
+pub(crate) fn is_effective(byte: u8) -> bool
+    ensures { result ≡ is_within 8 15 byte }
+{
+    matches!(byte, 8..=15)
+}
+
+// Whether the text of a control sequence is read.
+#[inline]
+pub(crate) fn is_text_open(state: &ParserState) -> bool
+    ensures { result ≡ true → is_ground_state state.now ≡ false }
+{
+    matches!(state, ParserState::CsiStart | ParserState::Csi { .. })
 }
 
 fn is_text_state(state: &ParserState) -> bool

@@ -1,21 +1,23 @@
 //! The terminal: a decoder and a parser before a console.
-ghost use Rattle.std.specs.Prelude.{◌≡◌, ◌≤◌, ◌<◌, [], length, take, true, false, IsOk, IfOk, OnOk, OnErr};
+ghost use Rattle.std.specs.Prelude.{◌≡◌, ◌≤◌, ◌<◌, [], ◌∷◌, length, take, true, false, IsOk, IfOk, OnOk, OnErr};
 ghost use Rattle.std.specs.List.{list_all};
-ghost use Rattle.vt_parser.specs.Syntax.{is_graphic};
-ghost use Rattle.characters.specs.Utf8.{bytes_of};
+ghost use Rattle.vt_parser.specs.Syntax.{is_graphic, is_within};
+ghost use Rattle.characters.specs.Utf8.{Spells, bytes_of};
+ghost use Rattle.xterm_term.specs.Reading.{GoesOn};
 
 mod packed;
 
 use crate::below::laws_below;
 use crate::console::Console;
-use crate::reading::read_byte;
+use crate::reading::{ESC, is_effective, is_ground_state, is_text_open, read_byte};
 use crate::{Modes, OutOfMemory, Reports, Saved, Sets, Size};
-use characters::{Begun, Decoder};
+use characters::{Begun, Decoder, character_at};
 pub use packed::PackedTerminal;
 use sheet::Rendition;
 use std::alloc::{AllocError, Global};
 use std::marker::Model;
-use vt_parser::{Parser, ParserState, printable_run};
+use vt_parser::laws::control_is_given;
+use vt_parser::{Mode, Parser, ParserState, printable_run};
 use xterm_screen::Screen;
 
 /// A terminal of a size. Contracts see what is seen of it: its picture, modes, rendition, sets and saves, its parser's
@@ -144,29 +146,74 @@ impl Terminal {
         ensures room { (x : Term) → Shows self.old x → HasRoom sink.old (sent x bytes.now)
             → IsOk result }
     {
-        let run = self.run_at(bytes);
-        if run > 0 {
-            self.take_run(&bytes[..run]);
-            return Ok(run);
+        let plain = self.take_plain(bytes);
+        if plain > 0 {
+            return Ok(plain);
+        }
+        let sequence = self.sequence_at(bytes);
+        if sequence > 0 {
+            let taken = self.take_sequence(&bytes[..sequence], sink)?;
+            return Ok(taken);
         }
         self.take_byte(bytes[0], sink)?;
         Ok(1)
     }
 
-    // How many bytes are put just as they come: on ground the graphic ones, and none in a title.
-    fn run_at(&self, bytes: &[u8]) -> usize
-        ensures within { result ≤ length bytes.now }
-        ensures graphic { list_all is_graphic (take result bytes.now) ≡ true }
-        ensures title { 0 < result → self.now.console.title ≡ false }
-        ensures state { 0 < result → self.now.state ≡ ParserState.Ground }
-        ensures character { 0 < result → self.now.character ≡ [] }
+    // Whether nothing is pending, and no title is read.
+    #[inline]
+    fn is_idle(&self) -> bool
+        ensures title { result ≡ true → self.now.console.title ≡ false }
+        ensures state { result ≡ true → self.now.state ≡ ParserState.Ground }
+        ensures character { result ≡ true → self.now.character ≡ [] }
     {
-        if self.console.title || self.decoder.is_pending() {
-            return 0;
+        !self.console.title && is_ground_state(self.parser.state()) && !self.decoder.is_pending()
+    }
+
+    // Takes bytes that have their effect just as they come, if they do: where nothing is pending, a run of graphic
+    // characters, a control, or a character of several bytes.
+    #[inline]
+    fn take_plain(&mut self, bytes: &[u8]) -> usize
+        requires { 0 < length bytes.now }
+        ensures within { result ≤ length bytes.now }
+        ensures shows { (x : Term) → Shows self.old x
+            → Shows self.new (play x (take result bytes.now)) }
+        ensures silent { (x : Term) → Shows self.old x → sent x (take result bytes.now) ≡ [] }
+        ensures size { SameSize self.old.console self.new.console }
+    {
+        if self.is_idle() {
+            self.take_idle(bytes)
+        } else {
+            0
         }
-        match self.parser.state() {
-            ParserState::Ground => printable_run(bytes),
-            _ => 0,
+    }
+
+    #[inline]
+    fn take_idle(&mut self, bytes: &[u8]) -> usize
+        requires some { 0 < length bytes.now }
+        requires title { self.old.console.title ≡ false }
+        requires state { self.old.state ≡ ParserState.Ground }
+        requires character { self.old.character ≡ [] }
+        ensures within { result ≤ length bytes.now }
+        ensures shows { (x : Term) → Shows self.old x
+            → Shows self.new (play x (take result bytes.now)) }
+        ensures silent { (x : Term) → Shows self.old x → sent x (take result bytes.now) ≡ [] }
+        ensures size { SameSize self.old.console self.new.console }
+    {
+        let run = printable_run(bytes);
+        if run > 0 {
+            self.take_run(&bytes[..run]);
+            return run;
+        }
+        if is_effective(bytes[0]) {
+            self.take_control(bytes[0]);
+            return 1;
+        }
+        match character_at(bytes) {
+            Some((character, len)) => {
+                self.take_character(character, &bytes[..len]);
+                len
+            }
+            None => 0,
         }
     }
 
@@ -182,6 +229,86 @@ impl Terminal {
     {
         laws_below();
         self.console.put_bytes(run);
+    }
+
+    // Obeys a control.
+    #[inline]
+    fn take_control(&mut self, byte: u8)
+        requires effective { is_within 8 15 byte ≡ true }
+        requires title { self.old.console.title ≡ false }
+        requires state { self.old.state ≡ ParserState.Ground }
+        requires character { self.old.character ≡ [] }
+        ensures shows { (x : Term) → Shows self.old x → Shows self.new (play x (byte ∷ [])) }
+        ensures silent { (x : Term) → Shows self.old x → sent x (byte ∷ []) ≡ [] }
+        ensures size { SameSize self.old.console self.new.console }
+    {
+        laws_below();
+        control_is_given();
+        self.console.control(byte);
+        self.console.forget_if(true);
+    }
+
+    // Puts the character that these bytes are.
+    #[inline]
+    fn take_character(&mut self, character: char, bytes: &[u8])
+        requires spelled { Spells bytes.now character }
+        requires title { self.old.console.title ≡ false }
+        requires state { self.old.state ≡ ParserState.Ground }
+        requires character { self.old.character ≡ [] }
+        ensures shows { (x : Term) → Shows self.old x → Shows self.new (play x bytes.now) }
+        ensures silent { (x : Term) → Shows self.old x → sent x bytes.now ≡ [] }
+        ensures size { SameSize self.old.console self.new.console }
+    {
+        laws_below();
+        let _bytes = bytes;
+        self.console.put(character);
+    }
+
+    // How many bytes begin a sequence or go on one at once: ESC and the graphic characters behind it, or those of the text
+    // of a control sequence.
+    #[inline]
+    fn sequence_at(&self, bytes: &[u8]) -> usize
+        requires { 0 < length bytes.now }
+        ensures within { result ≤ length bytes.now }
+        ensures goes { 0 < result → GoesOn self.now.state (take result bytes.now) }
+        ensures title { 0 < result → self.now.console.title ≡ false }
+        ensures character { 0 < result → self.now.character ≡ [] }
+    {
+        if self.console.title || self.decoder.is_pending() {
+            return 0;
+        }
+        if is_text_open(self.parser.state()) {
+            return printable_run(bytes);
+        }
+        if bytes[0] == ESC {
+            return 1 + printable_run(&bytes[1..]);
+        }
+        0
+    }
+
+    // Takes some bytes of a sequence.
+    #[inline]
+    fn take_sequence(&mut self, bytes: &[u8], sink: &mut Reports) -> Result<usize, OutOfMemory>
+        requires some { 0 < length bytes.now }
+        requires title { self.old.console.title ≡ false }
+        requires character { self.old.character ≡ [] }
+        requires goes { GoesOn self.old.state bytes.now }
+        ensures some { IfOk result (λ n. 0 < n) }
+        ensures within { IfOk result (λ n. n ≤ length bytes.now) }
+        ensures shows { (x : Term) → Shows self.old x
+            → IfOk result (λ n. Shows self.new (play x (take n bytes.now))) }
+        ensures sent { (x : Term) → Shows self.old x
+            → IfOk result (λ n. sink.new ≡ after_sending sink.old (sent x (take n bytes.now))) }
+        ensures size { SameSize self.old.console self.new.console }
+        ensures front { KeepsFront sink.old sink.new }
+        ensures room { (x : Term) → Shows self.old x → HasRoom sink.old (sent x bytes.now)
+            → IsOk result }
+    {
+        laws_below();
+        let (taken, token) = self.parser.next(Mode::Ansi, bytes);
+        self.console.obey_token_if(token, sink)?;
+        self.console.forget_if(is_ground_state(self.parser.state()));
+        Ok(taken)
     }
 
     // Takes one byte.
