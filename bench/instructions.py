@@ -30,4 +30,5 @@ def main(typetool, libvterm_feed, work, mib):
         os.remove(timing)
 
 
-main(*sys.argv[1:])
+if __name__ == "__main__":
+    main(*sys.argv[1:])

@@ -1,8 +1,8 @@
 /* Feeds the body of a recording to libvterm, a chunk of the timing file at a time, and prints the cursor's place.
  *
- *     libvterm_feed SCRIPT TIMING
+ *     libvterm_feed SCRIPT TIMING [utf8]
  *
- * It is the other side of feed.sh: Debian's libvterm-dev, an 80x24 screen, UTF-8 off.
+ * It is the other side of feed.sh and today.sh: Debian's libvterm-dev, an 80x24 screen, UTF-8 off or on.
  */
 #include <stdio.h>
 #include <stdlib.h>
@@ -31,8 +31,9 @@ static char *read_file(const char *path, size_t *len)
 
 int main(int argc, char **argv)
 {
-	if (argc != 3) {
-		fprintf(stderr, "usage: libvterm_feed SCRIPT TIMING\n");
+	int utf8 = argc == 4 && strcmp(argv[3], "utf8") == 0;
+	if (argc != 3 && !utf8) {
+		fprintf(stderr, "usage: libvterm_feed SCRIPT TIMING [utf8]\n");
 		return 2;
 	}
 	size_t script_len, timing_len;
@@ -46,7 +47,7 @@ int main(int argc, char **argv)
 	body++;
 
 	VTerm *term = vterm_new(24, 80);
-	vterm_set_utf8(term, 0);
+	vterm_set_utf8(term, utf8);
 	VTermScreen *screen = vterm_obtain_screen(term);
 	vterm_screen_reset(screen, 1);
 	while (*line) {
