@@ -55,7 +55,7 @@ test:
 		'tests/mend_fuzz.py bin/typetool 8000' \
 		'tests/make_recordings.py bin/typetool' \
 		'tests/fuzz.py bin/typetool 2000' \
-		tests/today_fuzz.py \
+		'tests/today_fuzz.py bin/typetool 1000' \
 		'tests/pictures.py bin/typetool' \
 		'tests/page_data.py bin/typetool' \
 		'tests/cast.py bin/typetool' \
@@ -75,6 +75,7 @@ soak: bin/typetool
 		'tests/damage.py bin/typetool 20000' \
 		'tests/mend_fuzz.py bin/typetool 20000' \
 		'tests/fuzz.py bin/typetool 20000' \
+		'tests/today_fuzz.py bin/typetool 10000' \
 		'tests/archive.py bin/typetool' \
 		tests/refused.py \
 		tests/edits.sh

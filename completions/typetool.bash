@@ -3,10 +3,10 @@
 _typetool() {
     local word=${COMP_WORDS[COMP_CWORD]} last=${COMP_WORDS[COMP_CWORD - 1]} flags
     local -A taken=(
-        [due]='--at --help' [info]='--help' [check]='--profile --help' [screen]='--at --escaped --profile --help' [save]='--help'
-        [picture]='--at --profile --help' [page]='--profile --help' [cast]='--profile --help'
+        [due]='--at --help' [info]='--help' [check]='--profile --help' [screen]='--at --escaped --profile --size --help' [save]='--help'
+        [picture]='--at --profile --help' [page]='--profile --help' [cast]='--profile --size --help'
         [mend]='--last --headless --help'
-        [changes]='--from --to --profile --help' [find]='--from --to --profile --help' [reports]='--at --profile --help' [session]='--every --profile --help'
+        [changes]='--from --to --profile --help' [find]='--from --to --profile --help' [reports]='--at --profile --size --help' [session]='--every --profile --help'
     )
     if [ "$COMP_CWORD" = 1 ]; then
         mapfile -t COMPREPLY < <(compgen -W "${!taken[*]} help --help --version" -- "$word")
@@ -23,8 +23,12 @@ _typetool() {
         last=${COMP_WORDS[COMP_CWORD - 2]}
     fi
     case $last in
-    --profile) mapfile -t COMPREPLY < <(compgen -W 'vt100 vt102' -- "$word") ;;
-    --at | --from | --to | --every) COMPREPLY=() ;;
+    --profile)
+        flags='vt100 vt102'
+        case ${COMP_WORDS[1]} in screen | reports | cast) flags+=' xterm' ;; esac
+        mapfile -t COMPREPLY < <(compgen -W "$flags" -- "$word")
+        ;;
+    --at | --from | --to | --every | --size) COMPREPLY=() ;;
     *)
         flags=${taken[${COMP_WORDS[1]}]-}
         if [[ $word == -* ]]; then

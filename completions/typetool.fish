@@ -25,4 +25,6 @@ complete -c typetool -n '__fish_seen_subcommand_from mend' -l headless -d 'Put a
 complete -c typetool -n '__fish_seen_subcommand_from changes find' -x -l from -d 'Chunks that are due after this, in seconds'
 complete -c typetool -n '__fish_seen_subcommand_from changes find' -x -l to -d 'Chunks that are due by this, in seconds'
 complete -c typetool -n '__fish_seen_subcommand_from check screen picture changes find reports page cast session' -x -l profile -a 'vt100 vt102' -d 'Which terminal plays'
+complete -c typetool -n '__fish_seen_subcommand_from screen reports cast' -x -l profile -a xterm -d 'A terminal of today'
+complete -c typetool -n '__fish_seen_subcommand_from screen reports cast' -x -l size -d 'Columns, x and lines of the terminal of today'
 complete -c typetool -n '__fish_seen_subcommand_from session' -x -l every -d 'Chunks between terminals that are kept'

@@ -130,7 +130,10 @@ def in_shells():
         check(f"{shell}: profiles", offered(shell, "typetool", "screen", "--profile", "vt"), {"vt100", "vt102"})
     # bash cuts words at =, fish doesn't.
     for words in (["--profile", "="], ["--profile", "=", "vt"]):
-        check(f"bash: {''.join(words)}", offered("bash", "typetool", "screen", *words), {"vt100", "vt102"})
+        check(f"bash: {''.join(words)}", offered("bash", "typetool", "changes", *words), {"vt100", "vt102"})
+    for command in "screen", "reports", "cast":
+        of_today = offered("bash", "typetool", command, "--profile", "")
+        check(f"bash: profiles of {command}", of_today, {"vt100", "vt102", "xterm"})
     wanted = {"--profile=vt100", "--profile=vt102"}
     check("fish: --profile=", offered("fish", "typetool", "screen", "--profile=vt"), wanted)
     check("bash: files", "README.md" in offered("bash", "typetool", "info", "READ"), True)
@@ -144,6 +147,7 @@ def in_zsh():
         arm = re.search(rf"^    {command}\)(.*?);;", text, flags=re.MULTILINE | re.DOTALL)
         said = arm[1] if arm else ""
         flags = set(re.findall(r"--[a-z]+", said)) | {"--help"} | ({"--profile"} if "$profile" in said else set())
+        flags |= {"--profile", "--size"} if "$any" in said else set()
         check(f"zsh: {command}", flags, flags_of(words))
         check(f"zsh: {command} is described", f"'{command}:" in text, True)
     if not skip.lacks("zsh", "whether zsh reads its completions"):

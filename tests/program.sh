@@ -296,7 +296,7 @@ check 'a text that looks like a flag' 0 '+ 0 0.000000 1 1 --help\n' '' find -- -
 check 'a text of spaces' 2 '' 'typetool: bad text\n' find '  ' nowhere nowhere
 check 'a text with a tab' 2 '' 'typetool: bad text\n' find $'a\tb' nowhere nowhere
 check 'bad seconds before a bad text' 2 '' 'typetool: bad seconds\n' find --to x '' nowhere nowhere
-check 'a bad profile before a bad text' 2 '' 'typetool: bad profile: vt100 or vt102\n' find --profile x '' nowhere nowhere
+check 'a bad profile before a bad text' 2 '' 'typetool: bad profile: vt100, vt102 or xterm\n' find --profile x '' nowhere nowhere
 
 # A recording that was made for another terminal: the note stands behind the fault where there is one.
 printf 'Script started on X [TERM="xterm" COLUMNS="120" LINES="40"]\n%b' "${E}[5G${E}[?1049h" >wide.script
@@ -346,7 +346,30 @@ printf '0.5 19\n' >edits.timing
 check 'cells deleted under a VT102' 0 "$(screen_of adef)" '' screen --at 1 --profile vt102 edits.script edits.timing
 asked 'a session of a VT102' 0 'reports 1\nscreen 1\n' '1b5b3f3663\n'"$(screen_of adef)" \
     edits.script edits.timing --profile vt102
-check 'another profile' 2 '' 'typetool: bad profile: vt100 or vt102\n' screen --at 1 --profile vt220 nowhere nowhere
+check 'another profile' 2 '' 'typetool: bad profile: vt100, vt102 or xterm\n' screen --at 1 --profile vt220 nowhere nowhere
+check 'a size out of its range' 2 '' 'typetool: bad size: 2x1 to 1000x500, with --profile xterm\n' \
+    screen --at 1 --profile xterm --size 1x24 nowhere nowhere
+check 'a size without the terminal of today' 2 '' 'typetool: bad size: 2x1 to 1000x500, with --profile xterm\n' \
+    reports --at 1 --size 80x24 nowhere nowhere
+check 'bad seconds before a bad size' 2 '' 'typetool: bad seconds\n' screen --at x --size 0x0 nowhere nowhere
+check 'no terminal of today yet' 2 '' 'typetool: not yet with --profile xterm\n' \
+    changes --to 1 --profile xterm nowhere nowhere
+check 'no escaped print of today yet' 2 '' 'typetool: not yet with --profile xterm\n' \
+    screen --at 1 --escaped --profile xterm nowhere nowhere
+
+# The terminal of today, at the size that the first line tells or that is asked for.
+printf 'Script started on X [TERM="xterm" COLUMNS="12" LINES="2"]\n%b' "Tokyo 東京\r\nna\303\257ve${E}[6n" >today.script
+printf '0.5 24\n' >today.timing
+check 'a screen of today' 0 'Tokyo 東京\nnaïve\n' '' screen --at 1 --profile xterm today.script today.timing
+check 'a screen of today, of a size' 0 'Tokyo 東\n京\nnaïve\n' '' \
+    screen --at 1 --profile xterm --size 8x3 today.script today.timing
+check 'what a terminal of today has answered' 0 '1b5b323b3652\n' '' reports --at 1 --profile xterm today.script today.timing
+for told in 'COLUMNS="1" LINES="24"' 'COLUMNS="12"' 'COLUMNS="12" LINES="501"' 'COLUMNS="0x10" LINES="2"' ''; do
+    printf 'Script started on X [TERM="xterm" %s]\nab' "$told" >told.script
+    printf '0.5 2\n' >told.timing
+    check "80x24 where the first line tells $told" 0 "$(screen_of ab)" '' \
+        screen --at 1 --profile xterm told.script told.timing
+done
 check 'the escaped print' 0 '\033[?7l\033)0\033[1;1Hadef\033[0m\017\033[?7h\033[1;2H' '' \
     screen --at 1 --escaped --profile vt102 edits.script edits.timing
 "$program" session ab.script ab.timing 0>>there >out.txt 2>err.txt

@@ -4,7 +4,7 @@ use std::io;
 use std::process::Abort;
 use std::test::Fail;
 use tape_core::{Fault, Watched};
-use tape_jobs::{Job, JobFault, Outcome, run_with};
+use tape_jobs::{Job, JobFault, Outcome, Player, Print, run_with};
 use vt_term::Profile;
 
 /// A check that has noted something.
@@ -74,19 +74,19 @@ fn compare_note<R: Abort + AllocGlobal>(rt: &R, job: Job, note: &str) {
 #[test]
 fn jobs_that_play_tell_a_note(rt: HostRuntime) {
     let profile = Profile::Vt100;
+    let player = Player::Vt(profile);
     let (from, to, at) = (None, 9, 9);
     let told = [
         Job::Screen {
             at,
-            profile,
-            escaped: false,
+            print: Print::Plain(player),
         },
         Job::Picture { at, profile },
         Job::Changes { from, to, profile },
         Job::Find { from, to, profile },
-        Job::Reports { at, profile },
+        Job::Reports { at, player },
         Job::Page { profile },
-        Job::Cast { profile },
+        Job::Cast { player },
         Job::Session { every: 1, profile },
     ];
     for job in &told {
@@ -102,7 +102,7 @@ fn jobs_that_play_tell_a_note(rt: HostRuntime) {
 fn a_note_that_fails_is_passed_over(rt: HostRuntime) -> Result<(), Fail> {
     let job = Job::Reports {
         at: 9,
-        profile: Profile::Vt100,
+        player: Player::Vt(Profile::Vt100),
     };
     let mut out = Watched::new(Vec::new(rt.alloc()));
     let mut room = [0; 9];

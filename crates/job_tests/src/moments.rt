@@ -2,10 +2,11 @@ use crate::in_memory::{AB, compare, done};
 use std::alloc::{AllocError, Global};
 use std::process::Abort;
 use std::test::Fail;
-use tape_jobs::Job;
+use tape_jobs::{Job, Player, Print};
 use vt_term::Profile;
 
 mod profiles;
+mod today;
 
 /// Half of a line's 80 columns.
 const A40: &str = "AAAAAAAAAAAAAAAAAAAAAAAAAAAAAAAAAAAAAAAA";
@@ -214,8 +215,7 @@ fn one_chunk(alloc: Global, body: &str) -> Result<String, AllocError> {
 fn screen(at: u64) -> Job {
     Job::Screen {
         at,
-        profile: Profile::Vt100,
-        escaped: false,
+        print: Print::Plain(Player::Vt(Profile::Vt100)),
     }
 }
 
@@ -241,7 +241,7 @@ fn sends<R: Abort + AllocGlobal>(
 ) -> Result<(), Fail> {
     let reports = Job::Reports {
         at,
-        profile: Profile::Vt100,
+        player: Player::Vt(Profile::Vt100),
     };
     let line = [sent, "\n"].concat(rt.alloc())?;
     compare(rt, &done(reports, body, timing, line.as_str()))

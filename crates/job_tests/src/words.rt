@@ -2,13 +2,14 @@ use std::alloc::{AllocError, Global};
 use std::process::Abort;
 use std::rt::Runtime;
 use std::test::Fail;
-use tape_jobs::{Job, Words, WordsFault, read_words};
+use tape_jobs::{Job, Player, Print, Words, WordsFault, read_words};
 use vt_term::Profile;
 
 mod every;
 mod find;
 mod flags;
 mod mend;
+mod sizes;
 
 /// The words of a command line, with one space between.
 pub fn words_of(alloc: Global, line: &str) -> Result<Vec<String>, AllocError> {
@@ -61,8 +62,7 @@ fn reads_due(rt: HostRuntime) -> Result<(), Fail> {
 const fn screen(at: u64, profile: Profile) -> Job {
     Job::Screen {
         at,
-        profile,
-        escaped: false,
+        print: Print::Plain(Player::Vt(profile)),
     }
 }
 
@@ -75,7 +75,10 @@ const fn changes(from: Option<u64>, to: u64, profile: Profile) -> Job {
 }
 
 const fn reports(at: u64, profile: Profile) -> Job {
-    Job::Reports { at, profile }
+    Job::Reports {
+        at,
+        player: Player::Vt(profile),
+    }
 }
 
 #[test]
@@ -86,7 +89,12 @@ fn reads_other_jobs(rt: HostRuntime) -> Result<(), Fail> {
         ("typetool info -- s t", Job::Info),
         ("typetool check s t", Job::Check { profile: vt100 }),
         ("typetool page -- s t", Job::Page { profile: vt100 }),
-        ("typetool cast s t", Job::Cast { profile: vt100 }),
+        (
+            "typetool cast s t",
+            Job::Cast {
+                player: Player::Vt(vt100),
+            },
+        ),
         ("typetool save s t u v", Job::Save),
         ("typetool screen --at 0.5 s t", screen(500_000, vt100)),
         ("typetool screen s t --at=12", screen(12_000_000, vt100)),

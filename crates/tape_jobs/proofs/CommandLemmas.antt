@@ -19,7 +19,7 @@ use Rattle.std.specs.Option.{option_and_then}
 use Rattle.std.specs.Str.{bytes_eq}
 use Rattle.std.proofs.lemmas.List.{get_or_default, map-append, take_all, take_more}
 use Rattle.std.proofs.lemmas.List.Sums.{fold_more}
-use Rattle.tape_jobs.specs.CommandLine.{typetool_app, clap_faults, clap_takes, subcommand_in, subcommands_in_order, app_in, after, every_in, fault_of_unread, id_in, job_in, meaning_in, meaning_of, meaning_of_words, moment_given_in, moment_in, moment_or_last_in, name_in, path_count, paths_in, profile_in, rule_in, searched_in, switch_in, text_in, texts_in, top_app, value_in, with_rules, with_subcommands, flags_in, FailsFor, IsNamed}
+use Rattle.tape_jobs.specs.CommandLine.{typetool_app, clap_faults, clap_takes, subcommand_in, subcommands_in_order, app_in, after, every_in, fault_of_unread, id_in, job_in, meaning_in, meaning_of, meaning_of_words, moment_given_in, moment_in, moment_or_last_in, name_in, path_count, paths_in, profile_in, rule_in, searched_in, switch_in, text_in, texts_in, top_app, value_in, with_rules, with_subcommands, flags_in, FailsFor, IsNamed, player_in, print_by}
 use Rattle.tape_jobs.specs.declared.job.Job.{Job}
 use Rattle.tape_jobs.specs.declared.job.Job.TheVariants as jobs
 use Rattle.tape_jobs.specs.declared.words.table.Argument.{Argument}
@@ -209,6 +209,8 @@ pub fails_unread : (words : List Text) (fault : Unreadable) → clap_faults word
 fails_unread words unread.Seconds taken meant = (taken, meant)
 fails_unread words unread.Every taken meant = (taken, meant)
 fails_unread words unread.Profile taken meant = (taken, meant)
+fails_unread words unread.Size taken meant = (taken, meant)
+fails_unread words unread.Today taken meant = (taken, meant)
 fails_unread words unread.Text taken meant = (taken, meant)
 fails_unread words unread.Headers taken meant = (taken, meant)
 
@@ -236,8 +238,11 @@ enough_paths Check rows job e = of_value _ (λ profile. jobs.Check profile) job 
 enough_paths Page rows job e = of_value _ (λ profile. jobs.Page profile) job 2 (λ profile. lit≤ tt) e
 enough_paths Cast rows job e = of_value _ (λ profile. jobs.Cast profile) job 2 (λ profile. lit≤ tt) e
 enough_paths Screen rows job e =
-    after_read (moment_in (id_in At) rows) (λ at. after (profile_in rows) (λ p. Ok (jobs.Screen at p (switch_in (id_in Escaped) rows)))) job 2
-    (λ at later. of_value (profile_in rows) (λ p. jobs.Screen at p (switch_in (id_in Escaped) rows)) job 2 (λ p. lit≤ tt) later) e
+    let escaped = switch_in (id_in Escaped) rows in
+    after_read (moment_in (id_in At) rows)
+    (λ at. after (player_in rows) (λ player. after (print_by escaped player) (λ print. Ok (jobs.Screen at print)))) job 2
+    (λ at later. after_read (player_in rows) (λ player. after (print_by escaped player) (λ print. Ok (jobs.Screen at print))) job 2
+    (λ player last. of_value (print_by escaped player) (λ print. jobs.Screen at print) job 2 (λ print. lit≤ tt) last) later) e
 enough_paths Picture rows job e =
     after_read (moment_in (id_in At) rows) (λ at. after (profile_in rows) (λ p. Ok (jobs.Picture at p))) job 2
     (λ at later. of_value (profile_in rows) (λ p. jobs.Picture at p) job 2 (λ p. lit≤ tt) later) e
@@ -254,8 +259,8 @@ enough_paths Find rows job e =
     (λ to last. after_read (profile_in rows) (searched from to) job 2
     (λ profile end. of_value (searched_in rows) (λ text. jobs.Find from to profile) job 2 (λ text. lit≤ tt) end) last) later) e
 enough_paths Reports rows job e =
-    after_read (moment_in (id_in At) rows) (λ at. after (profile_in rows) (λ p. Ok (jobs.Reports at p))) job 2
-    (λ at later. of_value (profile_in rows) (λ p. jobs.Reports at p) job 2 (λ p. lit≤ tt) later) e
+    after_read (moment_in (id_in At) rows) (λ at. after (player_in rows) (λ p. Ok (jobs.Reports at p))) job 2
+    (λ at later. of_value (player_in rows) (λ p. jobs.Reports at p) job 2 (λ p. lit≤ tt) later) e
 enough_paths Session rows job e =
     after_read (every_in rows) (λ every. after (profile_in rows) (λ p. Ok (jobs.Session every p))) job 2
     (λ every later. of_value (profile_in rows) (λ p. jobs.Session every p) job 2 (λ p. lit≤ tt) later) e

@@ -75,13 +75,13 @@ same_lines : (job : Job) (tape : Tape) (one other text : List ℕ) → (takes_re
 same_lines (jobs.Due at) tape one other text same = refl
 same_lines jobs.Info tape one other text same = refl
 same_lines (jobs.Check profile) tape one other text same = refl
-same_lines (jobs.Screen at profile escaped) tape one other text same = refl
+same_lines (jobs.Screen at print) tape one other text same = refl
 same_lines (jobs.Picture at profile) tape one other text same = refl
 same_lines (jobs.Changes from to profile) tape one other text same = refl
 same_lines (jobs.Find from to profile) tape one other text same = refl
-same_lines (jobs.Reports at profile) tape one other text same = refl
+same_lines (jobs.Reports at player) tape one other text same = refl
 same_lines (jobs.Page profile) tape one other text same = refl
-same_lines (jobs.Cast profile) tape one other text same = refl
+same_lines (jobs.Cast player) tape one other text same = refl
 same_lines (jobs.Mend how) tape one other text same = refl
 same_lines jobs.Save tape one other text same = ap (λ r. done_on jobs.Save tape r text) (same refl)
 same_lines (jobs.Session every profile) tape one other text same =

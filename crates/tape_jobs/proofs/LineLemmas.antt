@@ -1,5 +1,5 @@
 -- What clap makes of a plain command line.
-use Rattle.std.proofs.Common.{◌≡◌, ℕ, ◌&&◌, ◌||◌, Bool, true, false, not, List, [], ◌∷◌, ◌++◌, map, Option, Some, None, Ok, chars, codes, ◌==◌, length, min, nat_lt, ◌+◌, arith, suc, take, refl, sym, ◌∙◌, ap, ap₂, subst, is_some, append_assoc, append-nil, if◌then◌else◌}
+use Rattle.std.proofs.Common.{◌≡◌, ℕ, ◌&&◌, ◌||◌, Bool, true, false, not, List, [], ◌∷◌, ◌++◌, map, Option, Some, None, Result, Ok, chars, zero, drop, position, codes, ◌==◌, length, min, nat_lt, ◌+◌, arith, suc, take, refl, sym, ◌∙◌, ap, ap₂, subst, is_some, append_assoc, append-nil, if◌then◌else◌}
 use Rattle.std.proofs.lemmas.Bool.{eqb-true}
 use Rattle.std.proofs.lemmas.Bool.Decides.{nat_tests}
 use Rattle.std.specs.Char.{is_ascii_digit}
@@ -16,14 +16,20 @@ use Rattle.clap.specs.Walk.{Held, Names, Rule, Step, Walk, Waiting, after_step, 
 use Rattle.clap.proofs.OnLiterals.{clap_on_literals}
 use Rattle.tape_jobs.proofs.CommandLemmas.{is_simple_app, means, means_job}
 use Rattle.tape_core.specs.Seconds.{last_moment, micros, seconds_of}
-use Rattle.tape_jobs.specs.CommandLine.{typetool_app, clap_takes, every_allowed, every_of, usual_every, after, readable, job_in, is_searchable, moment_if, moment_or_last, profile_named, searchable, value_in, subcommand_in, app_in, name_in, id_in, rule_in, flags_in, texts_in, text_in, paths_in}
-use Rattle.tape_jobs.specs.Lines.{Asks, IsPlain, escaped_words, header_words, profile_or_first, profile_words}
+use Rattle.tape_seek.specs.Requests.{place_of}
+use Rattle.tape_jobs.specs.CommandLine.{typetool_app, clap_takes, every_allowed, every_of, usual_every, after, readable, job_in, is_searchable, moment_if, moment_or_last, profile_named, is_today, size_cut, size_from, size_named, today_if, searchable, value_in, subcommand_in, app_in, name_in, id_in, rule_in, flags_in, texts_in, text_in, paths_in}
+use Rattle.tape_jobs.specs.Lines.{Asks, IsPlain, escaped_words, header_words, profile_or_first, profile_words, sized_words, today_words, vt_print}
 use Rattle.tape_mend.specs.declared.opening.Header.{Header}
 use Rattle.tape_mend.specs.declared.opening.Header.TheVariants.{Kept, Last, Made}
 use Rattle.vt_term.specs.declared.profile.Profile.{Profile}
 use Rattle.vt_term.specs.declared.profile.Profile.TheVariants.{Vt100, Vt102}
 use Rattle.tape_jobs.specs.declared.job.Job.{Job}
 use Rattle.tape_jobs.specs.declared.job.Job.TheVariants as job
+use Rattle.tape_jobs.specs.declared.player.Measure.{Measure}
+use Rattle.tape_jobs.specs.declared.player.Player.{Player}
+use Rattle.tape_jobs.specs.declared.player.Player.TheVariants.{Vt, Today}
+use Rattle.tape_jobs.specs.declared.player.Print.TheVariants.{Plain, Escaped}
+use Rattle.tape_jobs.specs.declared.words.values.Unreadable.{Unreadable}
 use Rattle.tape_jobs.specs.declared.words.values.Unreadable.TheVariants as unread
 use Rattle.tape_jobs.specs.declared.words.table.Subcommand.{Subcommand}
 use Rattle.tape_jobs.specs.declared.words.table.Subcommand.TheVariants.{Due, Info, Check, Screen, Picture, Changes, Find, Reports, Page, Cast, Save, Mend, Session}
@@ -393,6 +399,35 @@ number_is_plain [] e = refl
 number_is_plain (c ∷ rest) e =
     is_false (c == 45) (λ same. absurd (omega (arith, eqb-true c 45 same, (digit_range c (first_true _ _ e)).0)))
 
+-- ---- the size that a flag gives
+
+no_place : (n : ℕ) (rest : Text) → place_of (take n (45 ∷ rest)) ≡ None
+no_place zero rest = refl
+no_place (suc n) rest =
+    no_value (λ n. min n last_moment) (digits_value 10 (take (suc n) (45 ∷ rest))) (nat_lt 0 (length (take (suc n) (45 ∷ rest))))
+
+no_columns : (lines : Option ℕ) → size_from None lines ≡ None
+no_columns None = refl
+no_columns (Some lines) = refl
+
+no_cut : (rest : Text) (cross : Option ℕ) → option_and_then (size_cut (45 ∷ rest)) cross ≡ None
+no_cut rest None = refl
+no_cut rest (Some n) =
+    ap (λ columns. size_from columns (place_of (drop (n + 1) (45 ∷ rest)))) (no_place n rest) ∙ no_columns (place_of (drop (n + 1) (45 ∷ rest)))
+
+no_size : (rest : Text) → size_named (45 ∷ rest) ≡ None
+unfolding size_named
+no_size rest = no_cut rest (position (λ byte. byte == 120) (45 ∷ rest))
+
+-- a text that is read as a size begins with a digit
+size_is_plain : (text : Text) (measure : Measure) → size_named text ≡ Some measure → IsPlain text
+unfolding size_named
+size_is_plain [] measure e = refl
+size_is_plain (c ∷ rest) measure e =
+    is_false (c == 45) (λ same.
+    let bad : None ≡ Some measure = sym (no_size rest) ∙ subst (λ x. size_named (x ∷ rest) ≡ Some measure) (eqb-true c 45 same) e in
+    absurd (cc))
+
 -- ---- each line
 
 module _ (program script timing : Text) (p : IsPlain script) (q : IsPlain timing) where
@@ -408,27 +443,44 @@ module _ (program script timing : Text) (p : IsPlain script) (q : IsPlain timing
   abbrev as_vt102 : List Word
   as_vt102 = literal (codes "--profile") ∷ literal (codes "vt102") ∷ files
 
+  abbrev as_today : List Word
+  as_today = literal (codes "--profile") ∷ literal (codes "xterm") ∷ files
+
+  abbrev as_sized : Text → List Word
+  as_sized size = literal (codes "--profile") ∷ literal (codes "xterm") ∷ literal (codes "--size") ∷ value_word size ∷ files
+
   pub info_line : Asks (program ∷ codes "info" ∷ script ∷ timing ∷ []) job.Info [] paths
   unfolding clap_on_literals typetool_app app_in name_in flags_in texts_in paths_in id_in rule_in job_in text_in
   info_line = asks_by program Info files (p, (q, tt)) refl job.Info [] paths refl refl refl
 
   pub check_line : (profile : Option Profile)
       → Asks (program ∷ codes "check" ∷ (profile_words profile ++ paths)) (job.Check (profile_or_first profile)) [] paths
-  unfolding clap_on_literals typetool_app app_in name_in flags_in texts_in paths_in id_in rule_in job_in text_in profile_named
+  unfolding clap_on_literals typetool_app app_in name_in flags_in texts_in paths_in id_in rule_in job_in text_in profile_named is_today
   check_line None = asks_by program Check files (p, (q, tt)) refl (job.Check Vt100) [] paths refl refl refl
   check_line (Some Vt100) = asks_by program Check as_vt100 (p, (q, tt)) refl (job.Check Vt100) [] paths refl refl refl
   check_line (Some Vt102) = asks_by program Check as_vt102 (p, (q, tt)) refl (job.Check Vt102) [] paths refl refl refl
 
   pub cast_line : (profile : Option Profile)
-      → Asks (program ∷ codes "cast" ∷ (profile_words profile ++ paths)) (job.Cast (profile_or_first profile)) [] paths
-  unfolding clap_on_literals typetool_app app_in name_in flags_in texts_in paths_in id_in rule_in job_in text_in profile_named
-  cast_line None = asks_by program Cast files (p, (q, tt)) refl (job.Cast Vt100) [] paths refl refl refl
-  cast_line (Some Vt100) = asks_by program Cast as_vt100 (p, (q, tt)) refl (job.Cast Vt100) [] paths refl refl refl
-  cast_line (Some Vt102) = asks_by program Cast as_vt102 (p, (q, tt)) refl (job.Cast Vt102) [] paths refl refl refl
+      → Asks (program ∷ codes "cast" ∷ (profile_words profile ++ paths)) (job.Cast (Vt (profile_or_first profile))) [] paths
+  unfolding clap_on_literals typetool_app app_in name_in flags_in texts_in paths_in id_in rule_in job_in text_in profile_named is_today
+  cast_line None = asks_by program Cast files (p, (q, tt)) refl (job.Cast (Vt Vt100)) [] paths refl refl refl
+  cast_line (Some Vt100) = asks_by program Cast as_vt100 (p, (q, tt)) refl (job.Cast (Vt Vt100)) [] paths refl refl refl
+  cast_line (Some Vt102) = asks_by program Cast as_vt102 (p, (q, tt)) refl (job.Cast (Vt Vt102)) [] paths refl refl refl
+
+  pub cast_today_line : Asks (program ∷ codes "cast" ∷ (today_words ++ paths)) (job.Cast (Today None)) [] paths
+  unfolding clap_on_literals typetool_app app_in name_in flags_in texts_in paths_in id_in rule_in job_in text_in profile_named is_today
+  cast_today_line = asks_by program Cast as_today (p, (q, tt)) refl (job.Cast (Today None)) [] paths refl refl refl
+
+  pub cast_sized_line : (size : Text) (measure : Measure) → size_named size ≡ Some measure
+      → Asks (program ∷ codes "cast" ∷ (sized_words size ++ paths)) (job.Cast (Today (Some measure))) [] paths
+  unfolding clap_on_literals typetool_app app_in name_in flags_in texts_in paths_in id_in rule_in job_in text_in profile_named is_today
+  cast_sized_line size measure d =
+      asks_by program Cast (as_sized size) (size_is_plain size measure d, (p, (q, tt))) refl (job.Cast (Today (Some measure))) [] paths
+      (ap (λ o. after (after (readable unread.Size o) (λ s. Ok (Today (Some s)))) (λ player. Ok (job.Cast player))) d) refl refl
 
   pub page_line : (profile : Option Profile)
       → Asks (program ∷ codes "page" ∷ (profile_words profile ++ paths)) (job.Page (profile_or_first profile)) [] paths
-  unfolding clap_on_literals typetool_app app_in name_in flags_in texts_in paths_in id_in rule_in job_in text_in profile_named
+  unfolding clap_on_literals typetool_app app_in name_in flags_in texts_in paths_in id_in rule_in job_in text_in profile_named is_today
   page_line None = asks_by program Page files (p, (q, tt)) refl (job.Page Vt100) [] paths refl refl refl
   page_line (Some Vt100) = asks_by program Page as_vt100 (p, (q, tt)) refl (job.Page Vt100) [] paths refl refl refl
   page_line (Some Vt102) = asks_by program Page as_vt102 (p, (q, tt)) refl (job.Page Vt102) [] paths refl refl refl
@@ -458,7 +510,7 @@ module _ (program script timing : Text) (p : IsPlain script) (q : IsPlain timing
 
   pub session_line : (profile : Option Profile)
       → Asks (program ∷ codes "session" ∷ (profile_words profile ++ paths)) (job.Session usual_every (profile_or_first profile)) [] paths
-  unfolding clap_on_literals typetool_app app_in name_in flags_in texts_in paths_in id_in rule_in job_in text_in profile_named
+  unfolding clap_on_literals typetool_app app_in name_in flags_in texts_in paths_in id_in rule_in job_in text_in profile_named is_today
   session_line None = asks_by program Session files (p, (q, tt)) refl (job.Session usual_every Vt100) [] paths refl refl refl
   session_line (Some Vt100) =
       asks_by program Session (as_vt100) (p, (q, tt)) refl (job.Session usual_every Vt100) [] paths refl refl refl
@@ -483,7 +535,7 @@ module _ (program script timing : Text) (p : IsPlain script) (q : IsPlain timing
     pub picture_line : (profile : Option Profile)
         → Asks (program ∷ codes "picture" ∷ codes "--at" ∷ at ∷ (profile_words profile ++ paths))
         (job.Picture moment (profile_or_first profile)) [] paths
-    unfolding clap_on_literals typetool_app app_in name_in flags_in texts_in paths_in id_in rule_in job_in text_in profile_named
+    unfolding clap_on_literals typetool_app app_in name_in flags_in texts_in paths_in id_in rule_in job_in text_in profile_named is_today
     picture_line None =
         asks_by program Picture (literal (codes "--at") ∷ value_word at ∷ files) are_plain refl (job.Picture moment Vt100) [] paths
         (moment_read (λ m. job.Picture m Vt100)) refl refl
@@ -496,46 +548,90 @@ module _ (program script timing : Text) (p : IsPlain script) (q : IsPlain timing
 
     pub reports_line : (profile : Option Profile)
         → Asks (program ∷ codes "reports" ∷ codes "--at" ∷ at ∷ (profile_words profile ++ paths))
-        (job.Reports moment (profile_or_first profile)) [] paths
-    unfolding clap_on_literals typetool_app app_in name_in flags_in texts_in paths_in id_in rule_in job_in text_in profile_named
+        (job.Reports moment (Vt (profile_or_first profile))) [] paths
+    unfolding clap_on_literals typetool_app app_in name_in flags_in texts_in paths_in id_in rule_in job_in text_in profile_named is_today
     reports_line None =
-        asks_by program Reports (literal (codes "--at") ∷ value_word at ∷ files) are_plain refl (job.Reports moment Vt100) [] paths
-        (moment_read (λ m. job.Reports m Vt100)) refl refl
+        asks_by program Reports (literal (codes "--at") ∷ value_word at ∷ files) are_plain refl (job.Reports moment (Vt Vt100)) [] paths
+        (moment_read (λ m. job.Reports m (Vt Vt100))) refl refl
     reports_line (Some Vt100) =
         asks_by program Reports (literal (codes "--at") ∷ value_word at ∷ as_vt100) are_plain refl
-        (job.Reports moment Vt100) [] paths (moment_read (λ m. job.Reports m Vt100)) refl refl
+        (job.Reports moment (Vt Vt100)) [] paths (moment_read (λ m. job.Reports m (Vt Vt100))) refl refl
     reports_line (Some Vt102) =
         asks_by program Reports (literal (codes "--at") ∷ value_word at ∷ as_vt102) are_plain refl
-        (job.Reports moment Vt102) [] paths (moment_read (λ m. job.Reports m Vt102)) refl refl
+        (job.Reports moment (Vt Vt102)) [] paths (moment_read (λ m. job.Reports m (Vt Vt102))) refl refl
 
     pub screen_line : (escaped : Bool) (profile : Option Profile)
         → Asks (program ∷ codes "screen" ∷ codes "--at" ∷ at ∷ ((escaped_words escaped ++ profile_words profile) ++ paths))
-        (job.Screen moment (profile_or_first profile) escaped) [] paths
-    unfolding clap_on_literals typetool_app app_in name_in flags_in texts_in paths_in id_in rule_in job_in text_in profile_named
+        (job.Screen moment (vt_print escaped (profile_or_first profile))) [] paths
+    unfolding clap_on_literals typetool_app app_in name_in flags_in texts_in paths_in id_in rule_in job_in text_in profile_named is_today
     screen_line false None =
-        asks_by program Screen (literal (codes "--at") ∷ value_word at ∷ files) are_plain refl (job.Screen moment Vt100 false) [] paths
-        (moment_read (λ m. job.Screen m Vt100 false)) refl refl
+        asks_by program Screen (literal (codes "--at") ∷ value_word at ∷ files) are_plain refl (job.Screen moment (Plain (Vt Vt100))) [] paths
+        (moment_read (λ m. job.Screen m (Plain (Vt Vt100)))) refl refl
     screen_line false (Some Vt100) =
         asks_by program Screen (literal (codes "--at") ∷ value_word at ∷ as_vt100) are_plain refl
-        (job.Screen moment Vt100 false) [] paths (moment_read (λ m. job.Screen m Vt100 false)) refl refl
+        (job.Screen moment (Plain (Vt Vt100))) [] paths (moment_read (λ m. job.Screen m (Plain (Vt Vt100)))) refl refl
     screen_line false (Some Vt102) =
         asks_by program Screen (literal (codes "--at") ∷ value_word at ∷ as_vt102) are_plain refl
-        (job.Screen moment Vt102 false) [] paths (moment_read (λ m. job.Screen m Vt102 false)) refl refl
+        (job.Screen moment (Plain (Vt Vt102))) [] paths (moment_read (λ m. job.Screen m (Plain (Vt Vt102)))) refl refl
     screen_line true None =
         asks_by program Screen (literal (codes "--at") ∷ value_word at ∷ literal (codes "--escaped") ∷ files) are_plain refl
-        (job.Screen moment Vt100 true) [] paths
-        (moment_read (λ m. job.Screen m Vt100 true)) refl refl
+        (job.Screen moment (Escaped Vt100)) [] paths
+        (moment_read (λ m. job.Screen m (Escaped Vt100))) refl refl
     screen_line true (Some Vt100) =
         asks_by program Screen (literal (codes "--at") ∷ value_word at ∷ literal (codes "--escaped") ∷ as_vt100) are_plain refl
-        (job.Screen moment Vt100 true) [] paths (moment_read (λ m. job.Screen m Vt100 true)) refl refl
+        (job.Screen moment (Escaped Vt100)) [] paths (moment_read (λ m. job.Screen m (Escaped Vt100))) refl refl
     screen_line true (Some Vt102) =
         asks_by program Screen (literal (codes "--at") ∷ value_word at ∷ literal (codes "--escaped") ∷ as_vt102) are_plain refl
-        (job.Screen moment Vt102 true) [] paths (moment_read (λ m. job.Screen m Vt102 true)) refl refl
+        (job.Screen moment (Escaped Vt102)) [] paths (moment_read (λ m. job.Screen m (Escaped Vt102))) refl refl
+
+    -- of a terminal of today
+    pub screen_today_line : Asks (program ∷ codes "screen" ∷ codes "--at" ∷ at ∷ (today_words ++ paths))
+        (job.Screen moment (Plain (Today None))) [] paths
+    unfolding clap_on_literals typetool_app app_in name_in flags_in texts_in paths_in id_in rule_in job_in text_in profile_named is_today
+    screen_today_line =
+        asks_by program Screen (literal (codes "--at") ∷ value_word at ∷ as_today) are_plain refl
+        (job.Screen moment (Plain (Today None))) [] paths (moment_read (λ m. job.Screen m (Plain (Today None)))) refl refl
+
+    pub reports_today_line : Asks (program ∷ codes "reports" ∷ codes "--at" ∷ at ∷ (today_words ++ paths))
+        (job.Reports moment (Today None)) [] paths
+    unfolding clap_on_literals typetool_app app_in name_in flags_in texts_in paths_in id_in rule_in job_in text_in profile_named is_today
+    reports_today_line =
+        asks_by program Reports (literal (codes "--at") ∷ value_word at ∷ as_today) are_plain refl
+        (job.Reports moment (Today None)) [] paths (moment_read (λ m. job.Reports m (Today None))) refl refl
+
+    -- and of a size
+    module _ (size : Text) (measure : Measure) (d : size_named size ≡ Some measure) where
+      sized_plain : ArePlain (value_word at ∷ value_word size ∷ files)
+      sized_plain = (seconds_are_plain at moment e, (size_is_plain size measure d, (p, (q, tt))))
+
+      -- the moment, the size and what is made of them
+      size_read : (of : ℕ → Player → Result Job Unreadable)
+          → after (readable unread.Seconds (seconds_of at)) (λ m. after (today_if (Some size)) (of m))
+          ≡ of moment (Today (Some measure))
+      size_read of =
+          ap (λ o. after (readable unread.Seconds o) (λ m. after (today_if (Some size)) (of m))) e
+          ∙ ap (λ o. after (after (readable unread.Size o) (λ s. Ok (Today (Some s)))) (of moment)) d
+
+      pub screen_sized_line : Asks (program ∷ codes "screen" ∷ codes "--at" ∷ at ∷ (sized_words size ++ paths))
+          (job.Screen moment (Plain (Today (Some measure)))) [] paths
+      unfolding clap_on_literals typetool_app app_in name_in flags_in texts_in paths_in id_in rule_in job_in text_in profile_named is_today
+      screen_sized_line =
+          asks_by program Screen (literal (codes "--at") ∷ value_word at ∷ as_sized size) sized_plain refl
+          (job.Screen moment (Plain (Today (Some measure)))) [] paths
+          (size_read (λ m player. Ok (job.Screen m (Plain player)))) refl refl
+
+      pub reports_sized_line : Asks (program ∷ codes "reports" ∷ codes "--at" ∷ at ∷ (sized_words size ++ paths))
+          (job.Reports moment (Today (Some measure))) [] paths
+      unfolding clap_on_literals typetool_app app_in name_in flags_in texts_in paths_in id_in rule_in job_in text_in profile_named is_today
+      reports_sized_line =
+          asks_by program Reports (literal (codes "--at") ∷ value_word at ∷ as_sized size) sized_plain refl
+          (job.Reports moment (Today (Some measure))) [] paths
+          (size_read (λ m player. Ok (job.Reports m player))) refl refl
 
     pub changes_line : (profile : Option Profile)
         → Asks (program ∷ codes "changes" ∷ codes "--to" ∷ at ∷ (profile_words profile ++ paths))
         (job.Changes None moment (profile_or_first profile)) [] paths
-    unfolding clap_on_literals typetool_app app_in name_in flags_in texts_in paths_in id_in rule_in job_in text_in profile_named
+    unfolding clap_on_literals typetool_app app_in name_in flags_in texts_in paths_in id_in rule_in job_in text_in profile_named is_today
     changes_line None =
         asks_by program Changes (literal (codes "--to") ∷ value_word at ∷ files) are_plain refl (job.Changes None moment Vt100) [] paths
         (moment_read (λ m. job.Changes None m Vt100)) refl refl
@@ -563,7 +659,7 @@ module _ (program script timing : Text) (p : IsPlain script) (q : IsPlain timing
       pub changes_from_line : (profile : Option Profile)
           → Asks (program ∷ codes "changes" ∷ codes "--from" ∷ from ∷ codes "--to" ∷ at ∷ (profile_words profile ++ paths))
           (job.Changes (Some start) moment (profile_or_first profile)) [] paths
-      unfolding clap_on_literals typetool_app app_in name_in flags_in texts_in paths_in id_in rule_in job_in text_in profile_named
+      unfolding clap_on_literals typetool_app app_in name_in flags_in texts_in paths_in id_in rule_in job_in text_in profile_named is_today
       changes_from_line None =
           asks_by program Changes (literal (codes "--from") ∷ value_word from ∷ literal (codes "--to") ∷ value_word at ∷ files) both_plain refl
           (job.Changes (Some start) moment Vt100) [] paths
@@ -595,7 +691,7 @@ module _ (program script timing : Text) (p : IsPlain script) (q : IsPlain timing
     pub find_line : (profile : Option Profile)
         → Asks (program ∷ codes "find" ∷ (profile_words profile ++ text ∷ paths))
         (job.Find None last_moment (profile_or_first profile)) (chars text) paths
-    unfolding clap_on_literals typetool_app app_in name_in flags_in texts_in paths_in id_in rule_in job_in text_in profile_named
+    unfolding clap_on_literals typetool_app app_in name_in flags_in texts_in paths_in id_in rule_in job_in text_in profile_named is_today
     find_line None =
         asks_by program Find (profiled None) text_plain refl (job.Find None last_moment Vt100) (chars text) paths
         (text_read (job.Find None last_moment Vt100)) refl refl
@@ -632,7 +728,7 @@ module _ (program script timing : Text) (p : IsPlain script) (q : IsPlain timing
       pub find_between_line : (profile : Option Profile)
           → Asks (program ∷ codes "find" ∷ codes "--from" ∷ from ∷ codes "--to" ∷ to ∷ (profile_words profile ++ text ∷ paths))
           (job.Find (Some start) end (profile_or_first profile)) (chars text) paths
-      unfolding clap_on_literals typetool_app app_in name_in flags_in texts_in paths_in id_in rule_in job_in text_in profile_named
+      unfolding clap_on_literals typetool_app app_in name_in flags_in texts_in paths_in id_in rule_in job_in text_in profile_named is_today
       find_between_line None =
           asks_by program Find (between None) between_plain refl (job.Find (Some start) end Vt100) (chars text) paths
           (between_read Vt100) refl refl
@@ -655,7 +751,7 @@ module _ (program script timing : Text) (p : IsPlain script) (q : IsPlain timing
     pub session_every_line : (profile : Option Profile)
         → Asks (program ∷ codes "session" ∷ codes "--every" ∷ every ∷ (profile_words profile ++ paths))
         (job.Session count (profile_or_first profile)) [] paths
-    unfolding clap_on_literals typetool_app app_in name_in flags_in texts_in paths_in id_in rule_in job_in text_in profile_named
+    unfolding clap_on_literals typetool_app app_in name_in flags_in texts_in paths_in id_in rule_in job_in text_in profile_named is_today
     session_every_line None =
         asks_by program Session (literal (codes "--every") ∷ value_word every ∷ files) number_plain refl
         (job.Session count Vt100) [] paths (number_read Vt100) refl refl

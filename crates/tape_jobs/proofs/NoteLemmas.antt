@@ -34,20 +34,20 @@ unfaulted (jobs.Due at) tape lines text g e = unfaulted_done (done_on (jobs.Due 
 unfaulted jobs.Info tape lines text g e = unfaulted_done (done_on jobs.Info tape lines text) g refl e
 unfaulted (jobs.Check profile) tape lines text g e =
     unfaulted_done (done_on (jobs.Check profile) tape lines text) g refl e
-unfaulted (jobs.Screen at profile escaped) tape lines text g e =
-    unfaulted_done (done_on (jobs.Screen at profile escaped) tape lines text) g refl e
+unfaulted (jobs.Screen at print) tape lines text g e =
+    unfaulted_done (done_on (jobs.Screen at print) tape lines text) g refl e
 unfaulted (jobs.Picture at profile) tape lines text g e =
     unfaulted_done (done_on (jobs.Picture at profile) tape lines text) g refl e
 unfaulted (jobs.Changes from to profile) tape lines text g e =
     unfaulted_done (done_on (jobs.Changes from to profile) tape lines text) g refl e
 unfaulted (jobs.Find from to profile) tape lines text g e =
     unfaulted_done (done_on (jobs.Find from to profile) tape lines text) g refl e
-unfaulted (jobs.Reports at profile) tape lines text g e =
-    unfaulted_done (done_on (jobs.Reports at profile) tape lines text) g refl e
+unfaulted (jobs.Reports at player) tape lines text g e =
+    unfaulted_done (done_on (jobs.Reports at player) tape lines text) g refl e
 unfaulted (jobs.Page profile) tape lines text g e =
     unfaulted_done (done_on (jobs.Page profile) tape lines text) g refl e
-unfaulted (jobs.Cast profile) tape lines text g e =
-    unfaulted_done (done_on (jobs.Cast profile) tape lines text) g refl e
+unfaulted (jobs.Cast player) tape lines text g e =
+    unfaulted_done (done_on (jobs.Cast player) tape lines text) g refl e
 unfaulted (jobs.Mend how) tape lines text g e =
     unfaulted_done (done_on (jobs.Mend how) tape lines text) g refl e
 unfaulted jobs.Save tape lines text g e = unfaulted_save (saved 1 (started Vt100 tape) (lines_of lines)) g e

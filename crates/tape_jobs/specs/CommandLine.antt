@@ -1,5 +1,5 @@
 -- The command line: the table of subcommands, what clap is told of it, and the job and the paths that its answer means.
-use Rattle.std.specs.Prelude.{◌≡◌, ℕ, ◌⊎◌, ◌++◌, Bool, true, false, List, [], ◌∷◌, map, Option, Some, None, Result, Ok, Err, codes, unwrap_or, string_bytes, chars, find, fold, nat_lt, not, ◌==◌, ◌&&◌, ◌||◌, if◌then◌else◌}
+use Rattle.std.specs.Prelude.{◌≡◌, ℕ, ◌⊎◌, ◌++◌, Bool, true, false, List, [], ◌∷◌, map, Option, Some, None, Result, Ok, Err, codes, unwrap_or, string_bytes, chars, find, fold, nat_lt, not, ◌+◌, take, drop, position, ◌==◌, ◌&&◌, ◌||◌, if◌then◌else◌}
 use Rattle.std.specs.Char.{is_control}
 use Rattle.std.specs.List.{list_all, list_any}
 use Rattle.std.specs.Option.{option_and_then, option_map}
@@ -11,11 +11,18 @@ use Rattle.tape_seek.specs.Requests.{place_of}
 use Rattle.tape_seek.specs.State.{least_every, most_every}
 use Rattle.tape_jobs.specs.declared.job.Job.{Job}
 use Rattle.tape_jobs.specs.declared.job.Job.TheVariants as job
+use Rattle.tape_jobs.specs.Player.{within_of}
+use Rattle.tape_jobs.specs.declared.player.Measure.{Measure}
+use Rattle.tape_jobs.specs.declared.player.Player.{Player}
+use Rattle.tape_jobs.specs.declared.player.Player.TheVariants.{Vt, Today}
+use Rattle.tape_jobs.specs.declared.player.Print.{Print}
+use Rattle.tape_jobs.specs.declared.player.Print.TheVariants as print
+use Rattle.tape_jobs.specs.declared.player.Print.TheVariants.{Plain}
 use Rattle.tape_jobs.specs.declared.words.Words.{Words}
 use Rattle.tape_jobs.specs.declared.words.WordsFault.{WordsFault}
-use Rattle.tape_jobs.specs.declared.words.WordsFault.TheVariants.{Clap, Memory, BadSeconds, BadEvery, BadProfile, BadText, BothHeaders}
+use Rattle.tape_jobs.specs.declared.words.WordsFault.TheVariants.{Clap, Memory, BadSeconds, BadEvery, BadProfile, BadSize, NotPlayed, BadText, BothHeaders}
 use Rattle.tape_jobs.specs.declared.words.table.Argument.{Argument}
-use Rattle.tape_jobs.specs.declared.words.table.Argument.TheVariants.{At, From, To, Until, Every, Profile, Escaped, Last, Headless, Sought, Script, Timing, AnyTiming, NewScript, NewTiming}
+use Rattle.tape_jobs.specs.declared.words.table.Argument.TheVariants.{At, From, To, Until, Every, Profile, AnyProfile, Size, Escaped, Last, Headless, Sought, Script, Timing, AnyTiming, NewScript, NewTiming}
 use Rattle.tape_jobs.specs.declared.words.table.Subcommand.{Subcommand}
 use Rattle.tape_jobs.specs.declared.words.table.Subcommand.TheVariants.{Due, Info, Check, Screen, Picture, Changes, Find, Reports, Page, Cast, Save, Mend, Session}
 use Rattle.tape_jobs.specs.declared.words.values.Unreadable.{Unreadable}
@@ -53,13 +60,13 @@ unfoldable pub flags_in : Subcommand → List Argument
 flags_in Due = At ∷ []
 flags_in Info = []
 flags_in Check = Profile ∷ []
-flags_in Screen = At ∷ Escaped ∷ Profile ∷ []
+flags_in Screen = At ∷ Escaped ∷ AnyProfile ∷ Size ∷ []
 flags_in Picture = At ∷ Profile ∷ []
 flags_in Changes = From ∷ To ∷ Profile ∷ []
 flags_in Find = From ∷ Until ∷ Profile ∷ []
-flags_in Reports = At ∷ Profile ∷ []
+flags_in Reports = At ∷ AnyProfile ∷ Size ∷ []
 flags_in Page = Profile ∷ []
-flags_in Cast = Profile ∷ []
+flags_in Cast = AnyProfile ∷ Size ∷ []
 flags_in Save = []
 flags_in Mend = Last ∷ Headless ∷ []
 flags_in Session = Every ∷ Profile ∷ []
@@ -93,6 +100,8 @@ id_in To = codes "to"
 id_in Until = codes "to"
 id_in Every = codes "every"
 id_in Profile = codes "profile"
+id_in AnyProfile = codes "profile"
+id_in Size = codes "size"
 id_in Escaped = codes "escaped"
 id_in Last = codes "last"
 id_in Headless = codes "headless"
@@ -128,6 +137,8 @@ rule_in To = seconds_rule (id_in To)
 rule_in Until = optional_rule (id_in Until)
 rule_in Every = optional_rule (id_in Every)
 rule_in Profile = optional_rule (id_in Profile)
+rule_in AnyProfile = optional_rule (id_in AnyProfile)
+rule_in Size = optional_rule (id_in Size)
 rule_in Escaped = switch_rule (id_in Escaped)
 rule_in Last = switch_rule (id_in Last)
 rule_in Headless = switch_rule (id_in Headless)
@@ -202,14 +213,55 @@ profile_named name =
     if bytes_eq name (codes "vt100") then Some Vt100
     else (if bytes_eq name (codes "vt102") then Some Vt102 else None)
 
--- the profile that a text names, and a VT100 if there is no text (ours)
+-- `xterm`, the name of the terminal of today (ours)
+unfoldable pub is_today : Text → Bool
+is_today name = bytes_eq name (codes "xterm")
+
+-- the profile that a text names, and a VT100 if there is no text; the terminal of today isn't played here (ours)
 abbrev pub profile_if : Option Text → Result Played Unreadable
 profile_if None = Ok Vt100
-profile_if (Some text) = readable unread.Profile (profile_named text)
+profile_if (Some text) =
+    if is_today text then Err unread.Today else readable unread.Profile (profile_named text)
 
 -- which terminal is to play (ours)
 abbrev pub profile_in : List Row → Result Played Unreadable
 profile_in rows = profile_if (first_of (id_in Profile) rows)
+
+-- columns, `x`, lines: digits each, within the limits of a screen (ours)
+abbrev pub size_from : Option ℕ → Option ℕ → Option Measure
+size_from (Some columns) (Some lines) = within_of (record { columns = columns; lines = lines })
+size_from _ _ = None
+
+abbrev pub size_cut : Text → ℕ → Option Measure
+size_cut text n = size_from (place_of (take n text)) (place_of (drop (n + 1) text))
+
+unfoldable pub size_named : Text → Option Measure
+size_named text = option_and_then (size_cut text) (position (λ byte. byte == 120) text)
+
+-- a terminal of today, of this size if there is a text (ours)
+abbrev pub today_if : Option Text → Result Player Unreadable
+today_if None = Ok (Today None)
+today_if (Some text) = after (readable unread.Size (size_named text)) (λ size. Ok (Today (Some size)))
+
+-- a VT, which takes no size (ours)
+abbrev pub vt_if : Option Text → Played → Result Player Unreadable
+vt_if None profile = Ok (Vt profile)
+vt_if (Some text) profile = Err unread.Size
+
+-- which terminal is to play, by `--profile` and `--size` (ours)
+abbrev pub player_by : Option Text → Option Text → Result Player Unreadable
+player_by None size = vt_if size Vt100
+player_by (Some name) size =
+    if is_today name then today_if size else after (readable unread.Profile (profile_named name)) (vt_if size)
+
+abbrev pub player_in : List Row → Result Player Unreadable
+player_in rows = player_by (first_of (id_in AnyProfile) rows) (first_of (id_in Size) rows)
+
+-- how a screen is printed: a terminal of today has no escaped print yet (ours)
+abbrev pub print_by : Bool → Player → Result Print Unreadable
+print_by false player = Ok (Plain player)
+print_by true (Vt profile) = Ok (print.Escaped profile)
+print_by true (Today size) = Err unread.Today
 
 -- whether these characters can be looked for: one of them isn't a space, and none is a control character, below U+0020
 -- or from U+007F to U+009F (ours)
@@ -243,8 +295,8 @@ job_in Due rows = after (moment_in (id_in At) rows) (λ at. Ok (job.Due at))
 job_in Info rows = Ok job.Info
 job_in Check rows = after (profile_in rows) (λ profile. Ok (job.Check profile))
 job_in Screen rows =
-    after (moment_in (id_in At) rows) (λ at. after (profile_in rows) (λ profile.
-    Ok (job.Screen at profile (switch_in (id_in Escaped) rows))))
+    after (moment_in (id_in At) rows) (λ at. after (player_in rows) (λ player.
+    after (print_by (switch_in (id_in Escaped) rows) player) (λ print. Ok (job.Screen at print))))
 job_in Picture rows =
     after (moment_in (id_in At) rows) (λ at. after (profile_in rows) (λ profile.
     Ok (job.Picture at profile)))
@@ -256,10 +308,10 @@ job_in Find rows =
     after (profile_in rows) (λ profile. after (searched_in rows) (λ text.
     Ok (job.Find from to profile)))))
 job_in Reports rows =
-    after (moment_in (id_in At) rows) (λ at. after (profile_in rows) (λ profile.
-    Ok (job.Reports at profile)))
+    after (moment_in (id_in At) rows) (λ at. after (player_in rows) (λ player.
+    Ok (job.Reports at player)))
 job_in Page rows = after (profile_in rows) (λ profile. Ok (job.Page profile))
-job_in Cast rows = after (profile_in rows) (λ profile. Ok (job.Cast profile))
+job_in Cast rows = after (player_in rows) (λ player. Ok (job.Cast player))
 job_in Save rows = Ok job.Save
 job_in Mend rows = after (header_in rows) (λ how. Ok (job.Mend how))
 job_in Session rows =
@@ -354,13 +406,13 @@ abbrev pub path_count : Job → ℕ
 path_count (job.Due at) = 2
 path_count job.Info = 2
 path_count (job.Check profile) = 2
-path_count (job.Screen at profile escaped) = 2
+path_count (job.Screen at print) = 2
 path_count (job.Picture at profile) = 2
 path_count (job.Changes from to profile) = 2
 path_count (job.Find from to profile) = 2
-path_count (job.Reports at profile) = 2
+path_count (job.Reports at player) = 2
 path_count (job.Page profile) = 2
-path_count (job.Cast profile) = 2
+path_count (job.Cast player) = 2
 path_count job.Save = 4
 path_count (job.Mend how) = 4
 path_count (job.Session every profile) = 2
@@ -370,6 +422,8 @@ abbrev pub fault_of_unread : Unreadable → WordsFault
 fault_of_unread unread.Seconds = BadSeconds
 fault_of_unread unread.Every = BadEvery
 fault_of_unread unread.Profile = BadProfile
+fault_of_unread unread.Size = BadSize
+fault_of_unread unread.Today = NotPlayed
 fault_of_unread unread.Text = BadText
 fault_of_unread unread.Headers = BothHeaders
 
@@ -379,7 +433,8 @@ IsUnreadable words fault =
     (clap_faults words ≡ []) × (meaning_of_words words ≡ Some (Err fault))
 
 -- why words aren't a job: clap finds a fault of that kind in them and doesn't promise to take them, or it reads them
--- and some seconds aren't readable, or the number of chunks, the profile, or the text, or two headers are asked for;
+-- and some seconds aren't readable, or the number of chunks, the profile, the size, or the text, or the terminal of
+-- today isn't played, or two headers are asked for;
 -- memory may always be refused (ours)
 abbrev pub FailsFor : List Text → WordsFault → Type 0
 FailsFor words (Clap e) = IsAmong (kind_of e) (clap_faults words) × (clap_takes words ≡ false)
@@ -387,5 +442,7 @@ FailsFor words Memory = Unit {0}
 FailsFor words BadSeconds = IsUnreadable words unread.Seconds
 FailsFor words BadEvery = IsUnreadable words unread.Every
 FailsFor words BadProfile = IsUnreadable words unread.Profile
+FailsFor words BadSize = IsUnreadable words unread.Size
+FailsFor words NotPlayed = IsUnreadable words unread.Today
 FailsFor words BadText = IsUnreadable words unread.Text
 FailsFor words BothHeaders = IsUnreadable words unread.Headers

@@ -6,5 +6,6 @@ pub mod Mending
 pub mod Moment
 pub mod Notes
 pub mod Output
+pub mod Player
 pub mod Requests
 pub mod Session

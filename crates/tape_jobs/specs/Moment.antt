@@ -6,23 +6,50 @@ use Rattle.screen_print.specs.PlainText.{plain_text}
 use Rattle.screen_print.specs.Stills.{still_of}
 use Rattle.screen_picture.specs.Picture.{picture_text}
 use Rattle.tape_core.specs.Seconds.{last_moment}
+use Rattle.tape_core.specs.Tape.{Tape}
+use Rattle.tape_seek.specs.Moments.{term_at}
+use Rattle.tape_jobs.specs.Player.{today_at}
+use Rattle.tape_jobs.specs.declared.player.Player.{Player}
+use Rattle.tape_jobs.specs.declared.player.Player.TheVariants.{Vt, Today}
+use Rattle.tape_jobs.specs.declared.player.Print.{Print}
+use Rattle.tape_jobs.specs.declared.player.Print.TheVariants.{Plain, Escaped}
 use Rattle.tape_jobs.specs.declared.shared.Asked.{Asked}
 use Rattle.tape_jobs.specs.declared.shared.Asked.TheVariants as asks
+use Rattle.tape_jobs.specs.declared.jobs.moment.AskedOfToday.{AskedOfToday}
+use Rattle.tape_jobs.specs.declared.jobs.moment.AskedOfToday.TheVariants as today
 use Rattle.vt_term.specs.Console.{Console}
 use Rattle.vt_term.specs.Term.{Term}
+use Rattle.xterm_term.specs.Term.{Term as TodayTerm}
+use Rattle.xterm_print.specs.PlainText.{plain_text as plain_today}
 
 -- a screen, as a text that draws it again or as plain text (ours)
 unfoldable pub screen_text : Bool → Console → List ℕ
 screen_text true s = escaped_text s
 screen_text false s = plain_text s.picture
 
+-- bytes as a line: in lower-case hexadecimal, with LF (ours)
+abbrev pub hex_line : List ℕ → List ℕ
+hex_line bytes = encode_lower bytes ++ 10 ∷ []
+
+-- the screen at a moment, as its terminal prints it (ours)
+unfoldable pub printed_at : Print → Tape → ℕ → List ℕ
+printed_at (Plain (Vt profile)) tape at = screen_text false (term_at profile tape at).console
+printed_at (Plain (Today asked)) tape at = plain_today (today_at asked tape at).console.picture
+printed_at (Escaped profile) tape at = screen_text true (term_at profile tape at).console
+
+-- all that a terminal has sent by a moment (ours)
+unfoldable pub sent_at : Player → Tape → ℕ → List ℕ
+sent_at (Vt profile) tape at = hex_line (term_at profile tape at).reports
+sent_at (Today asked) tape at = hex_line (today_at asked tape at).reports
+
 -- a screen as a picture with the moment in its title, which is at most the last one (ours)
 abbrev pub drawn_text : ℕ → Console → List ℕ
 drawn_text at s = picture_text (min at last_moment) (still_of s)
 
--- bytes as a line: in lower-case hexadecimal, with LF (ours)
-abbrev pub hex_line : List ℕ → List ℕ
-hex_line bytes = encode_lower bytes ++ 10 ∷ []
+-- Private: what is asked of a terminal of today, as a text (ours)
+abbrev pub asked_of_today : AskedOfToday → TodayTerm → List ℕ
+asked_of_today today.Screen term = plain_today term.console.picture
+asked_of_today today.Reports term = hex_line term.reports
 
 -- Private: what is asked of a terminal, as a text (ours)
 abbrev pub asked_text : Asked → Term → List ℕ

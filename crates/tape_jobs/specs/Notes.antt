@@ -13,17 +13,31 @@ use Rattle.tape_jobs.specs.declared.job.Job.{Job}
 use Rattle.tape_jobs.specs.declared.job.Job.TheVariants.{Screen, Picture, Changes, Find, Reports, Page, Cast, Session}
 use Rattle.tape_jobs.specs.declared.job.JobFault.{JobFault}
 use Rattle.tape_jobs.specs.declared.job.JobFault.TheVariants.{File}
+use Rattle.tape_jobs.specs.declared.player.Player.{Player}
+use Rattle.tape_jobs.specs.declared.player.Player.TheVariants.{Vt, Today}
+use Rattle.tape_jobs.specs.declared.player.Print.{Print}
+use Rattle.tape_jobs.specs.declared.player.Print.TheVariants.{Plain, Escaped}
 use Rattle.vt_term.specs.declared.profile.Profile.{Profile}
+
+-- as which VT a terminal plays, if it is one: what a terminal of today plays isn't noted (ours)
+abbrev pub vt_of : Player → Option Profile
+vt_of (Vt profile) = Some profile
+vt_of (Today asked) = None
+
+-- the same of a screen (ours)
+abbrev pub vt_of_print : Print → Option Profile
+vt_of_print (Plain player) = vt_of player
+vt_of_print (Escaped profile) = Some profile
 
 -- as which terminal a job plays the recording, if it plays it (ours)
 abbrev pub played_by : Job → Option Profile
-played_by (Screen at profile escaped) = Some profile
+played_by (Screen at print) = vt_of_print print
 played_by (Picture at profile) = Some profile
 played_by (Changes from to profile) = Some profile
 played_by (Find from to profile) = Some profile
-played_by (Reports at profile) = Some profile
+played_by (Reports at player) = vt_of player
 played_by (Page profile) = Some profile
-played_by (Cast profile) = Some profile
+played_by (Cast player) = vt_of player
 played_by (Session every profile) = Some profile
 played_by _ = None
 

@@ -1,6 +1,5 @@
 -- What a job comes to: a function of its files, with no device and no want of memory in it.
 use Rattle.std.specs.Prelude.{◌≡◌, ℕ, ◌⊎◌, Bool, true, false, List, [], Option, Some, None, MatchOption, Result, Ok, Err, if◌then◌else◌}
-use Rattle.screen_cast.specs.Cast.{cast_text}
 use Rattle.screen_page.specs.Page.{page_text}
 use Rattle.screen_print.specs.ChangeLines.{change_lines}
 use Rattle.screen_print.specs.FindLines.{find_lines}
@@ -19,7 +18,8 @@ use Rattle.tape_seek.specs.Moments.{term_at}
 use Rattle.vt_term.specs.declared.profile.Profile.TheVariants.{Vt100}
 use Rattle.tape_seek.specs.declared.edits.EditFault.{EditFault}
 use Rattle.tape_jobs.specs.Info.{info_text}
-use Rattle.tape_jobs.specs.Moment.{drawn_text, hex_line, screen_text}
+use Rattle.tape_jobs.specs.Moment.{drawn_text, printed_at, sent_at}
+use Rattle.tape_jobs.specs.Player.{cast_of}
 use Rattle.tape_jobs.specs.Requests.{saved, started}
 use Rattle.tape_jobs.specs.Session.{answered, any_refused}
 use Rattle.tape_jobs.specs.declared.job.Job.{Job}
@@ -115,18 +115,16 @@ done_on (Due at) tape requests text = done_with (due tape.chunks at) []
 done_on Info tape requests text = done_with (info_text tape) []
 done_on (Check profile) tape requests text =
     done_ending (check_text profile tape) (ending_of_check (is_noted profile tape))
-done_on (Screen at profile escaped) tape requests text =
-    done_with (screen_text escaped (term_at profile tape at).console) []
+done_on (Screen at print) tape requests text = done_with (printed_at print tape at) []
 done_on (Picture at profile) tape requests text =
     done_with (drawn_text at (term_at profile tape at).console) []
 done_on (Changes from to profile) tape requests text =
     done_with (change_lines profile tape from to) []
 done_on (Find from to profile) tape requests text =
     done_with (find_lines profile tape from to text) []
-done_on (Reports at profile) tape requests text =
-    done_with (hex_line (term_at profile tape at).reports) []
+done_on (Reports at player) tape requests text = done_with (sent_at player tape at) []
 done_on (Page profile) tape requests text = done_with (page_text profile tape) []
-done_on (Cast profile) tape requests text = done_with (cast_text profile tape) []
+done_on (Cast player) tape requests text = done_with (cast_of player tape) []
 done_on Save tape requests text = saved_by tape requests
 done_on (Mend how) tape requests text = done_with (script_text tape) (timing_text tape)
 done_on (Session every profile) tape requests text =
@@ -159,7 +157,7 @@ abbrev pub writes_last : Job → Bool
 writes_last (Changes from to profile) = false
 writes_last (Find from to profile) = false
 writes_last (Page profile) = false
-writes_last (Cast profile) = false
+writes_last (Cast player) = false
 writes_last (Session every profile) = false
 writes_last _ = true
 

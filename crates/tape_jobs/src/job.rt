@@ -15,13 +15,14 @@ use crate::jobs::due::write_due;
 use crate::jobs::find::write_found;
 use crate::jobs::info::write_info;
 use crate::jobs::mend::{read_remains, write_remains};
-use crate::jobs::moment::write_moment;
+use crate::jobs::moment::{write_reports, write_screen};
 use crate::jobs::note::tell_note;
 use crate::jobs::page::write_page;
 use crate::jobs::picture::write_picture;
 use crate::jobs::save::write_edited;
 use crate::jobs::session::write_answers;
-use crate::shared::{Asked, name_of};
+use crate::player::{Player, Print};
+use crate::shared::name_of;
 use screen_print::ChangesFault;
 use std::alloc::Global;
 use std::io;
@@ -50,8 +51,7 @@ pub enum Job {
     /// Write the screen of a moment as plain text, or as a text that draws it again.
     Screen {
         at: u64,
-        profile: Profile,
-        escaped: bool,
+        print: Print,
     },
     /// Write the screen of a moment as a picture.
     Picture {
@@ -75,7 +75,7 @@ pub enum Job {
     /// Write in hexadecimal what the terminal has sent by a moment.
     Reports {
         at: u64,
-        profile: Profile,
+        player: Player,
     },
     /// Write the whole recording as one file for a browser, which plays it.
     Page {
@@ -83,7 +83,7 @@ pub enum Job {
     },
     /// Write the recording as an asciicast.
     Cast {
-        profile: Profile,
+        player: Player,
     },
     /// Make the edits of request lines, and write both files anew.
     Save,
@@ -320,18 +320,7 @@ fn perform<O: Write, P: Write>(
         Job::Check { profile } => {
             return write_checked(alloc, &ManuallyDrop::new(recording), profile, out);
         }
-        Job::Screen {
-            at,
-            profile,
-            escaped,
-        } => write_moment(
-            alloc,
-            recording,
-            profile,
-            at,
-            Asked::Screen { escaped },
-            out,
-        )?,
+        Job::Screen { at, print } => write_screen(alloc, recording, print, at, out)?,
         Job::Picture { at, profile } => write_picture(alloc, recording, profile, at, out)?,
         Job::Changes { from, to, profile } => {
             write_changes(alloc, recording, profile, from, to, out)?
@@ -339,11 +328,9 @@ fn perform<O: Write, P: Write>(
         Job::Find { from, to, profile } => {
             write_found(alloc, recording, profile, from, to, text, out)?
         }
-        Job::Reports { at, profile } => {
-            write_moment(alloc, recording, profile, at, Asked::Reports, out)?
-        }
+        Job::Reports { at, player } => write_reports(alloc, recording, player, at, out)?,
         Job::Page { profile } => write_page(alloc, recording, profile, out)?,
-        Job::Cast { profile } => write_cast(alloc, recording, profile, out)?,
+        Job::Cast { player } => write_cast(alloc, recording, player, out)?,
         Job::Save => return write_edited(alloc, recording, &requests, out, out_timing),
         Job::Mend { .. } => unreachable!(),
         Job::Session { every, profile } => {

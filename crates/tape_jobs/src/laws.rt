@@ -3,11 +3,14 @@
 ghost use Rattle.std.specs.Prelude.{◌≡◌, ◌++◌, ◌∷◌, [], ℕ, Bool, List, None, Option, Some, codes, false};
 ghost use Rattle.clap.specs.Words.{Text};
 ghost use Rattle.tape_core.specs.Seconds.{last_moment, seconds_of};
-ghost use Rattle.tape_jobs.specs.CommandLine.{every_of, usual_every};
-ghost use Rattle.tape_jobs.specs.Lines.{Asks, FindAsks, IsPlain, LineAsks, escaped_words, header_words, profile_or_first, profile_words};
+ghost use Rattle.tape_jobs.specs.CommandLine.{every_of, size_named, usual_every};
+ghost use Rattle.tape_jobs.specs.Lines.{Asks, FindAsks, IsPlain, LineAsks, escaped_words, header_words, profile_or_first, profile_words, sized_words, today_words, vt_print};
 ghost use Rattle.tape_mend.specs.declared.opening.Header.{Header};
 ghost use Rattle.vt_term.specs.declared.profile.Profile.{Profile};
 ghost use Rattle.tape_jobs.specs.declared.job.Job.TheVariants as job;
+ghost use Rattle.tape_jobs.specs.declared.player.Measure.{Measure};
+ghost use Rattle.tape_jobs.specs.declared.player.Player.TheVariants.{Vt, Today};
+ghost use Rattle.tape_jobs.specs.declared.player.Print.TheVariants.{Plain};
 ghost use Rattle.tape_core.specs.Devices.{Took, has_failed};
 ghost use Rattle.tape_core.specs.declared.devices.Watched.{Watched};
 ghost use Rattle.tape_jobs.specs.Endings.{StopsIn};
@@ -37,7 +40,14 @@ pub fn plain_lines_are_read()
     ensures screen { (at : Text) (moment : ℕ) → seconds_of at ≡ Some moment
         → (escaped : Bool) (profile : Option Profile) → LineAsks (codes "screen")
         (codes "--at" ∷ at ∷ (escaped_words escaped ++ profile_words profile))
-        (job.Screen moment (profile_or_first profile) escaped) }
+        (job.Screen moment (vt_print escaped (profile_or_first profile))) }
+    ensures screen_today { (at : Text) (moment : ℕ) → seconds_of at ≡ Some moment
+        → LineAsks (codes "screen") (codes "--at" ∷ at ∷ today_words)
+        (job.Screen moment (Plain (Today None))) }
+    ensures screen_sized { (at : Text) (moment : ℕ) → seconds_of at ≡ Some moment
+        → (size : Text) (measure : Measure) → size_named size ≡ Some measure
+        → LineAsks (codes "screen") (codes "--at" ∷ at ∷ sized_words size)
+        (job.Screen moment (Plain (Today (Some measure)))) }
     ensures picture { (at : Text) (moment : ℕ) → seconds_of at ≡ Some moment
         → (profile : Option Profile) → LineAsks (codes "picture")
         (codes "--at" ∷ at ∷ profile_words profile)
@@ -60,11 +70,21 @@ pub fn plain_lines_are_read()
     ensures reports { (at : Text) (moment : ℕ) → seconds_of at ≡ Some moment
         → (profile : Option Profile) → LineAsks (codes "reports")
         (codes "--at" ∷ at ∷ profile_words profile)
-        (job.Reports moment (profile_or_first profile)) }
+        (job.Reports moment (Vt (profile_or_first profile))) }
+    ensures reports_today { (at : Text) (moment : ℕ) → seconds_of at ≡ Some moment
+        → LineAsks (codes "reports") (codes "--at" ∷ at ∷ today_words)
+        (job.Reports moment (Today None)) }
+    ensures reports_sized { (at : Text) (moment : ℕ) → seconds_of at ≡ Some moment
+        → (size : Text) (measure : Measure) → size_named size ≡ Some measure
+        → LineAsks (codes "reports") (codes "--at" ∷ at ∷ sized_words size)
+        (job.Reports moment (Today (Some measure))) }
     ensures page { (profile : Option Profile) → LineAsks (codes "page")
         (profile_words profile) (job.Page (profile_or_first profile)) }
     ensures cast { (profile : Option Profile) → LineAsks (codes "cast")
-        (profile_words profile) (job.Cast (profile_or_first profile)) }
+        (profile_words profile) (job.Cast (Vt (profile_or_first profile))) }
+    ensures cast_today { LineAsks (codes "cast") today_words (job.Cast (Today None)) }
+    ensures cast_sized { (size : Text) (measure : Measure) → size_named size ≡ Some measure
+        → LineAsks (codes "cast") (sized_words size) (job.Cast (Today (Some measure))) }
     ensures save { (program script timing : Text) → IsPlain script → IsPlain timing
         → (new_script new_timing : Text) → IsPlain new_script → IsPlain new_timing
         → Asks (program ∷ codes "save" ∷ script ∷ timing ∷ new_script ∷ new_timing ∷ [])

@@ -4,9 +4,11 @@
 mod job;
 mod jobs;
 pub mod laws;
+mod player;
 mod shared;
 mod words;
 
 pub use job::{Ending, Job, JobFault, Outcome, run, run_with};
 pub use jobs::mend::mend;
+pub use player::{Measure, Player, Print};
 pub use words::{Words, WordsFault, read_words};

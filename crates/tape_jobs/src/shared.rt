@@ -111,7 +111,7 @@ pub fn put_moment<O: Write>(
 }
 
 /// Writes bytes in lower-case hexadecimal and then LF, and flushes.
-fn put_hex_line<O: Write>(bytes: &[u8], out: &mut Watched<O>) -> Result<(), Fault>
+pub fn put_hex_line<O: Write>(bytes: &[u8], out: &mut Watched<O>) -> Result<(), Fault>
     requires { has_failed out.old ≡ false }
     ensures puts { Puts O.contents out.old out.new (hex_line bytes.now) result }
     ensures flushed { OnOk result (is_flushed out.new ≡ true) }

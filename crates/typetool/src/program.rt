@@ -72,6 +72,8 @@ fn status_of(stop: &Stop) -> u8
             WordsFault::BadSeconds
             | WordsFault::BadEvery
             | WordsFault::BadProfile
+            | WordsFault::BadSize
+            | WordsFault::NotPlayed
             | WordsFault::BadText
             | WordsFault::BothHeaders,
         )

@@ -3,7 +3,7 @@ use super::{one_chunk, screen_text};
 use crate::in_memory::{compare, done};
 use std::process::Abort;
 use std::test::Fail;
-use tape_jobs::Job;
+use tape_jobs::{Job, Player, Print};
 use vt_term::Profile;
 
 /// Four lines, and a region of the two in the middle.
@@ -53,11 +53,12 @@ fn compare_print<R: Abort + AllocGlobal>(
     body: &str,
     text: &str,
 ) -> Result<(), Fail> {
-    let screen = Job::Screen {
-        at: 0,
-        profile,
-        escaped,
+    let print = if escaped {
+        Print::Escaped(profile)
+    } else {
+        Print::Plain(Player::Vt(profile))
     };
+    let screen = Job::Screen { at: 0, print };
     let timing = one_chunk(rt.alloc(), body)?;
     compare(rt, &done(screen, body, timing.as_str(), text))
 }
@@ -71,7 +72,8 @@ const ATTRIBUTES: [(Profile, &str); 2] = [
 #[test]
 fn profiles_answer_for_themselves(rt: HostRuntime) -> Result<(), Fail> {
     for (profile, line) in ATTRIBUTES {
-        let reports = Job::Reports { at: 0, profile };
+        let player = Player::Vt(profile);
+        let reports = Job::Reports { at: 0, player };
         compare(&rt, &done(reports, "\x1b[c", "0 3\n", line))?;
     }
     Ok(())

@@ -5,7 +5,7 @@ use std::io;
 use std::io::{ErrorKind, Read, Write};
 use std::process::Abort;
 use tape_core::{Fault, Watched};
-use tape_jobs::{Job, JobFault, Outcome, run_with};
+use tape_jobs::{Job, JobFault, Outcome, Player, Print, run_with};
 use vt_term::Profile;
 
 mod mending;
@@ -129,8 +129,7 @@ fn cases() -> [Case<'static>; 11] {
     let profile = Profile::Vt100;
     let screen = Job::Screen {
         at: END,
-        profile,
-        escaped: false,
+        print: Print::Plain(Player::Vt(profile)),
     };
     let changes = Job::Changes {
         from: None,
@@ -151,7 +150,13 @@ fn cases() -> [Case<'static>; 11] {
         plain_case(Job::Picture { at: END, profile }, AB_PICTURE.as_bytes()),
         plain_case(changes, b"0 0.000000 1\n1 0.500000 1\n"),
         find_case(profile),
-        plain_case(Job::Reports { at: END, profile }, b"\n"),
+        plain_case(
+            Job::Reports {
+                at: END,
+                player: Player::Vt(profile),
+            },
+            b"\n",
+        ),
         cast_case(profile),
         save_case(),
         session_case(profile),
@@ -174,7 +179,9 @@ fn find_case(profile: Profile) -> Case<'static> {
 /// Both chunks draw the first line.
 fn cast_case(profile: Profile) -> Case<'static> {
     plain_case(
-        Job::Cast { profile },
+        Job::Cast {
+            player: Player::Vt(profile),
+        },
         b"{\"version\": 2, \"width\": 80, \"height\": 24}\n\
             [0.000000, \"o\", \"\\u001b[1;1H\\u001b[0m\\u001b[2K\\u001b[0ma\\u001b[0m\\u001b[1;2H\"]\n\
             [0.500000, \"o\", \"\\u001b[1;1H\\u001b[0m\\u001b[2K\\u001b[0mab\\u001b[0m\\u001b[1;3H\"]\n",

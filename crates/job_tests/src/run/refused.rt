@@ -9,7 +9,7 @@ use std::process::Abort;
 use std::rt::Runtime;
 use std::test::Fail;
 use tape_core::{Fault, Watched};
-use tape_jobs::{Job, JobFault, Outcome, mend, run_with};
+use tape_jobs::{Job, JobFault, Outcome, Player, Print, mend, run_with};
 use tape_mend::Header;
 use vt_term::Profile;
 
@@ -157,10 +157,15 @@ fn run_info(rt: HostRuntime) -> Result<(), Fail> {
 
 /// The screen at the end.
 fn screen(escaped: bool) -> Job {
+    let profile = Profile::Vt100;
+    let print = if escaped {
+        Print::Escaped(profile)
+    } else {
+        Print::Plain(Player::Vt(profile))
+    };
     Job::Screen {
         at: 1_500_000,
-        profile: Profile::Vt100,
-        escaped,
+        print,
     }
 }
 
@@ -201,7 +206,7 @@ fn run_page(rt: HostRuntime) -> Result<(), Fail> {
 #[test]
 fn run_cast(rt: HostRuntime) -> Result<(), Fail> {
     let job = Job::Cast {
-        profile: Profile::Vt102,
+        player: Player::Vt(Profile::Vt102),
     };
     let text = b"{\"version\": 2, \"width\": 80, \"height\": 24}\n\
         [0.500000, \"o\", \"\\u001b[1;1H\\u001b[0m\\u001b[2K\\u001b[0mab\\u001b[0m\\u001b[1;3H\"]\n\
@@ -240,7 +245,7 @@ fn run_find(rt: HostRuntime) -> Result<(), Fail> {
 fn run_reports(rt: HostRuntime) -> Result<(), Fail> {
     let job = Job::Reports {
         at: 1_000_000,
-        profile: Profile::Vt100,
+        player: Player::Vt(Profile::Vt100),
     };
     compare(&rt, plain_case(job, b"1b5b313b33521b5b3f313b3263\n"))
 }

@@ -90,7 +90,7 @@ const UNREADABLE: [(&[&str], &str); 8] = [
     ),
     (
         &["typetool", "find", "--profile=x", " ", "s", "t"],
-        "bad profile: vt100 or vt102",
+        "bad profile: vt100, vt102 or xterm",
     ),
 ];
 

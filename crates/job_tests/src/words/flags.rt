@@ -1,7 +1,7 @@
 //! The flags `--profile` and `--escaped`, and with which subcommands they go.
 use super::{changes, compare_job, compare_left, picture, reports, screen, told, words_of};
 use std::test::Fail;
-use tape_jobs::Job;
+use tape_jobs::{Job, Player, Print};
 use vt_term::Profile;
 
 #[test]
@@ -9,8 +9,7 @@ fn reads_profiles_and_the_escaped_print(rt: HostRuntime) -> Result<(), Fail> {
     let (vt100, vt102) = (Profile::Vt100, Profile::Vt102);
     let escaped = Job::Screen {
         at: 1_000_000,
-        profile: vt100,
-        escaped: true,
+        print: Print::Escaped(vt100),
     };
     let rows = [
         ("typetool screen --at=1 --escaped s t", escaped),
@@ -48,7 +47,9 @@ fn reads_profiles_of_whole_recordings(rt: HostRuntime) -> Result<(), Fail> {
         ),
         (
             "typetool cast s --profile vt102 t",
-            Job::Cast { profile: vt102 },
+            Job::Cast {
+                player: Player::Vt(vt102),
+            },
         ),
         ("typetool session s t", session(100, vt100)),
         (
@@ -72,7 +73,11 @@ fn refuses_other_profiles(rt: HostRuntime) -> Result<(), Fail> {
     ] {
         let words = words_of(rt.alloc(), line)?;
         let told = told(rt.alloc(), words.as_slice())?;
-        assert_eq!(rt; told.as_str(), "bad profile: vt100 or vt102", "{line:?}");
+        assert_eq!(rt;
+            told.as_str(),
+            "bad profile: vt100, vt102 or xterm",
+            "{line:?}"
+        );
     }
     Ok(())
 }

@@ -4,11 +4,12 @@ ghost use Rattle.std.specs.Prelude.{◌≡◌, false, true, OnOk};
 ghost use Rattle.screen_cast.specs.Cast.{cast_text};
 ghost use Rattle.tape_core.specs.Devices.{has_failed, is_flushed};
 ghost use Rattle.tape_jobs.specs.Endings.{JobPuts};
+ghost use Rattle.tape_jobs.specs.Player.{cast_of, today_cast};
 
 use crate::job::JobFault;
 use crate::laws::stops_join;
+use crate::player::{Measure, Player, played_size};
 use crate::shared::{EVERY, open_session};
-use screen_cast::cast;
 use std::alloc::Global;
 use std::io::Write;
 use std::mem::ManuallyDrop;
@@ -16,19 +17,52 @@ use tape_core::{Recording, Watched};
 use vt_term::Profile;
 
 /// Writes the cast, and flushes. Where memory is refused, a beginning of it has gone out.
+#[tactic(auto, unfolding(crate::specs::Player::cast_of))]
 pub fn write_cast<O: Write>(
+    alloc: Global,
+    recording: Recording,
+    player: Player,
+    out: &mut Watched<O>,
+) -> Result<(), JobFault>
+    requires { has_failed out.old ≡ false }
+    ensures puts { JobPuts O.contents out.old out.new (cast_of player recording) result }
+    ensures flushed { OnOk result (is_flushed out.new ≡ true) }
+{
+    match player {
+        Player::Vt(profile) => write_drawn(alloc, recording, profile, out),
+        Player::Today(asked) => write_output(&ManuallyDrop::new(recording), asked, out),
+    }
+}
+
+/// Writes a cast whose events draw what a VT shows.
+fn write_drawn<O: Write>(
     alloc: Global,
     recording: Recording,
     profile: Profile,
     out: &mut Watched<O>,
 ) -> Result<(), JobFault>
     requires { has_failed out.old ≡ false }
-    ensures puts { JobPuts O.contents out.old out.new
-        (cast_text profile recording) result }
+    ensures puts { JobPuts O.contents out.old out.new (cast_text profile recording) result }
     ensures flushed { OnOk result (is_flushed out.new ≡ true) }
 {
     stops_join::<O>();
     let session = open_session(alloc, recording, EVERY, profile)?;
-    cast(&mut ManuallyDrop::new(session), out)?;
+    screen_cast::cast(&mut ManuallyDrop::new(session), out)?;
+    Ok(())
+}
+
+/// Writes a cast of the output itself.
+fn write_output<O: Write>(
+    recording: &Recording,
+    asked: Option<Measure>,
+    out: &mut Watched<O>,
+) -> Result<(), JobFault>
+    requires { has_failed out.old ≡ false }
+    ensures puts { JobPuts O.contents out.old out.new (today_cast asked recording.now) result }
+    ensures flushed { OnOk result (is_flushed out.new ≡ true) }
+{
+    stops_join::<O>();
+    let size = played_size(asked, recording);
+    output_cast::cast(size.columns, size.lines, recording, out)?;
     Ok(())
 }

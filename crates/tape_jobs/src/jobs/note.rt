@@ -3,10 +3,11 @@
 ghost use Rattle.std.specs.Prelude.{◌≡◌, false, true, None, OnOk, Some};
 ghost use Rattle.tape_check.specs.Lines.{note_line};
 ghost use Rattle.tape_core.specs.Devices.{Puts, has_failed, is_flushed};
-ghost use Rattle.tape_jobs.specs.Notes.{IsTold, played_by};
+ghost use Rattle.tape_jobs.specs.Notes.{IsTold, played_by, vt_of, vt_of_print};
 ghost use Rattle.vt_term.specs.declared.profile.Profile.{Profile as Played};
 
 use crate::job::Job;
+use crate::player::{Player, Print};
 use std::io::Write;
 use tape_check::put_parts;
 use tape_core::{Fault, Recording, Watched};
@@ -43,14 +44,34 @@ fn played_by(job: Job) -> Option<Profile>
     ensures { result ≡ played_by job }
 {
     match job {
-        Job::Screen { profile, .. }
-        | Job::Picture { profile, .. }
+        Job::Screen { print, .. } => vt_of_print(print),
+        Job::Reports { player, .. } | Job::Cast { player } => vt_of(player),
+        Job::Picture { profile, .. }
         | Job::Changes { profile, .. }
         | Job::Find { profile, .. }
-        | Job::Reports { profile, .. }
         | Job::Page { profile }
-        | Job::Cast { profile }
         | Job::Session { profile, .. } => Some(profile),
         Job::Due { .. } | Job::Info | Job::Check { .. } | Job::Save | Job::Mend { .. } => None,
+    }
+}
+
+/// As which VT a job plays a recording that this terminal plays, if it is one: a note on what a terminal of today plays
+/// isn't told yet.
+fn vt_of(player: Player) -> Option<Profile>
+    ensures { result ≡ vt_of player }
+{
+    match player {
+        Player::Vt(profile) => Some(profile),
+        Player::Today(_) => None,
+    }
+}
+
+/// The same of a screen.
+fn vt_of_print(print: Print) -> Option<Profile>
+    ensures { result ≡ vt_of_print print }
+{
+    match print {
+        Print::Plain(player) => vt_of(player),
+        Print::Escaped(profile) => Some(profile),
     }
 }

@@ -90,7 +90,12 @@ fn arg_of<'a>(alloc: Global, argument: Argument) -> Arg<'a>
             value_name_of(argument),
             help_of(argument),
         ),
-        Argument::From | Argument::Until | Argument::Every | Argument::Profile => optional_flag(
+        Argument::From
+        | Argument::Until
+        | Argument::Every
+        | Argument::Profile
+        | Argument::AnyProfile
+        | Argument::Size => optional_flag(
             alloc,
             id_of(argument),
             value_name_of(argument),

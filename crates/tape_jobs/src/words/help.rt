@@ -16,7 +16,7 @@ pub fn about_of<'a>(subcommand: Subcommand) -> &'a str {
         Subcommand::Info => "Tell how many chunks and bytes the recording has, and how long it is",
         Subcommand::Check =>
             "Tell what the recording says of itself, and what this terminal can't show of it",
-        Subcommand::Screen => "Write the screen as it is at a moment: 24 lines of text",
+        Subcommand::Screen => "Write the screen as it is at a moment, as lines of text",
         Subcommand::Picture => "Draw the screen as it is at a moment, as one SVG file",
         Subcommand::Changes => "Tell which lines of the screen each chunk changes",
         Subcommand::Find => "Tell when a text came to stand on the screen, and when it went",
@@ -116,6 +116,8 @@ const CAST_DETAILS: &str =
     "For asciinema and other players. A line with the size, and then one for each chunk that changes what is\n\
     shown: when it is due, and a text that draws it. Players without double sizes, VT52 mode or reversed\n\
     screens show the right text; on lines of double size a space stands behind each character.\n\n\
+    With --profile xterm the lines have the recorded output itself, as characters: for players that are a\n\
+    terminal of today.\n\n\
     Example: typetool cast demo.script demo.timing >demo.cast\n\n\
     The long form: man typetool";
 
@@ -171,7 +173,8 @@ pub fn value_name_of<'a>(argument: Argument) -> &'a str {
     match argument {
         Argument::At | Argument::From | Argument::To | Argument::Until => "SECONDS",
         Argument::Every => "CHUNKS",
-        Argument::Profile => "PROFILE",
+        Argument::Profile | Argument::AnyProfile => "PROFILE",
+        Argument::Size => "CxL",
         Argument::Escaped | Argument::Last | Argument::Headless => "",
         Argument::Sought => "TEXT",
         Argument::Script => "SCRIPT",
@@ -198,6 +201,14 @@ pub fn help_of<'a>(argument: Argument) -> &'a str {
         }
         Argument::Profile =>
             "Which terminal plays: vt100 (if not given), or vt102, which can insert and delete",
+        Argument::AnyProfile => {
+            "Which terminal plays: vt100 (if not given), vt102, which can insert and delete, or xterm, a \
+             terminal of today"
+        }
+        Argument::Size => {
+            "With --profile xterm the size of its screen, as columns, x and lines, from 2x1 to 1000x500; that \
+             of the recording's first line, or 80x24, if not given"
+        }
         Argument::Escaped => {
             "Write a text that draws the screen again on a reset terminal, with renditions and sizes"
         }

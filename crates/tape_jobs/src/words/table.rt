@@ -34,8 +34,12 @@ pub enum Argument {
     Until,
     /// How many chunks lie between stored terminals.
     Every,
-    /// Which terminal plays.
+    /// Which terminal plays, where that of today can't yet.
     Profile,
+    /// Which terminal plays, where any can.
+    AnyProfile,
+    /// The size of the terminal of today.
+    Size,
     /// A text that draws the screen again is asked for.
     Escaped,
     /// The last session of the typescript is asked for.
@@ -106,11 +110,18 @@ pub fn flags_of(subcommand: Subcommand) -> &'static [Argument]
 {
     match subcommand {
         Subcommand::Due => &[Argument::At],
-        Subcommand::Check | Subcommand::Page | Subcommand::Cast => &[Argument::Profile],
-        Subcommand::Screen => &[Argument::At, Argument::Escaped, Argument::Profile],
+        Subcommand::Check | Subcommand::Page => &[Argument::Profile],
+        Subcommand::Cast => &[Argument::AnyProfile, Argument::Size],
+        Subcommand::Screen => &[
+            Argument::At,
+            Argument::Escaped,
+            Argument::AnyProfile,
+            Argument::Size,
+        ],
         Subcommand::Changes => &[Argument::From, Argument::To, Argument::Profile],
         Subcommand::Find => &[Argument::From, Argument::Until, Argument::Profile],
-        Subcommand::Picture | Subcommand::Reports => &[Argument::At, Argument::Profile],
+        Subcommand::Picture => &[Argument::At, Argument::Profile],
+        Subcommand::Reports => &[Argument::At, Argument::AnyProfile, Argument::Size],
         Subcommand::Mend => &[Argument::Last, Argument::Headless],
         Subcommand::Session => &[Argument::Every, Argument::Profile],
         Subcommand::Info | Subcommand::Save => &[],
@@ -181,7 +192,8 @@ pub fn id_of<'a>(argument: Argument) -> &'a str
         Argument::From => "from",
         Argument::To | Argument::Until => "to",
         Argument::Every => "every",
-        Argument::Profile => "profile",
+        Argument::Profile | Argument::AnyProfile => "profile",
+        Argument::Size => "size",
         Argument::Escaped => "escaped",
         Argument::Last => "last",
         Argument::Headless => "headless",

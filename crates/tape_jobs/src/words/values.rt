@@ -1,15 +1,16 @@
 //! The job and the paths that a subcommand's values mean.
 
-ghost use Rattle.std.specs.Prelude.{◌≡◌, ◌==◌, IfOk, chars, not, map, string_bytes, vec_len, length};
+ghost use Rattle.std.specs.Prelude.{◌≡◌, ◌==◌, ◌<◌, IfOk, chars, not, map, position, string_bytes, vec_len, length};
 ghost use Rattle.std.specs.Option.{option_map};
 ghost use Rattle.std.specs.Char.{is_control};
 ghost use Rattle.std.specs.List.{list_all, list_any};
 ghost use Rattle.clap.specs.Words.{first_of, found_of, rows_of};
-ghost use Rattle.tape_jobs.specs.CommandLine.{every_allowed, every_in, every_of, header_in, id_in, is_searchable, job_in, moment_in, moment_given_in, moment_or_last_in, paths_in, profile_in, profile_named, switch_in, text_in, value_in};
+ghost use Rattle.tape_jobs.specs.CommandLine.{every_allowed, every_in, every_of, header_in, id_in, is_searchable, is_today, job_in, player_in, print_by, size_cut, size_named, today_if, vt_if, moment_in, moment_given_in, moment_or_last_in, paths_in, profile_in, profile_named, switch_in, text_in, value_in};
 ghost use Rattle.tape_jobs.specs.declared.words.table.Subcommand.TheVariants.{Find as find, Screen as screen};
 
 use super::table::{Argument, Subcommand, id_of, paths_of};
 use crate::job::Job;
+use crate::player::{Measure, Player, Print, is_size};
 use crate::shared::EVERY;
 use clap::ArgMatches;
 use std::alloc::{AllocError, Global};
@@ -29,6 +30,10 @@ pub enum Unreadable {
     Every,
     /// Which terminal plays.
     Profile,
+    /// The size of the terminal of today.
+    Size,
+    /// The terminal of today, where it isn't played yet.
+    Today,
     /// The text that is looked for.
     Text,
     /// Which header mending takes: both flags that say it are given.
@@ -61,13 +66,13 @@ pub fn read_job(subcommand: Subcommand, values: &ArgMatches<'_>) -> Result<Job, 
         Subcommand::Find => read_find(values),
         Subcommand::Reports => Ok(Job::Reports {
             at: read_moment(values, Argument::At)?,
-            profile: read_profile(values)?,
+            player: read_player(values)?,
         }),
         Subcommand::Page => Ok(Job::Page {
             profile: read_profile(values)?,
         }),
         Subcommand::Cast => Ok(Job::Cast {
-            profile: read_profile(values)?,
+            player: read_player(values)?,
         }),
         Subcommand::Save => Ok(Job::Save),
         Subcommand::Mend => Ok(Job::Mend {
@@ -112,11 +117,10 @@ fn read_moment_or_last(values: &ArgMatches<'_>, flag: Argument) -> Result<u64, U
 fn read_screen(values: &ArgMatches<'_>) -> Result<Job, Unreadable>
     ensures { result ≡ job_in screen (rows_of (found_of values.now)) }
 {
-    Ok(Job::Screen {
-        at: read_moment(values, Argument::At)?,
-        profile: read_profile(values)?,
-        escaped: is_given(values, Argument::Escaped),
-    })
+    let at = read_moment(values, Argument::At)?;
+    let player = read_player(values)?;
+    let print = print_by(is_given(values, Argument::Escaped), player)?;
+    Ok(Job::Screen { at, print })
 }
 
 /// The job `find` that the values mean.
@@ -194,7 +198,98 @@ fn read_profile(values: &ArgMatches<'_>) -> Result<Profile, Unreadable>
     let Some(name) = value_given(values, Argument::Profile) else {
         return Ok(Profile::Vt100);
     };
+    if is_today(name) {
+        return Err(Unreadable::Today);
+    }
     profile_named(name).ok_or(Unreadable::Profile)
+}
+
+/// Whether a name is that of the terminal of today.
+#[tactic(auto, unfolding(crate::specs::CommandLine::is_today))]
+fn is_today(name: &str) -> bool
+    ensures { result ≡ is_today name.now }
+{
+    name == "xterm"
+}
+
+/// Which terminal is to play, of any.
+fn read_player(values: &ArgMatches<'_>) -> Result<Player, Unreadable>
+    ensures { result ≡ player_in (rows_of (found_of values.now)) }
+{
+    let size = value_given(values, Argument::Size);
+    let Some(name) = value_given(values, Argument::AnyProfile) else {
+        return vt_if(size, Profile::Vt100);
+    };
+    if is_today(name) {
+        return today_if(size);
+    }
+    match profile_named(name) {
+        Some(profile) => vt_if(size, profile),
+        None => Err(Unreadable::Profile),
+    }
+}
+
+/// A VT, which takes no size.
+fn vt_if(size: Option<&str>, profile: Profile) -> Result<Player, Unreadable>
+    ensures { result ≡ vt_if (option_map (λ text. text.now) size.entry) profile }
+{
+    match size {
+        None => Ok(Player::Vt(profile)),
+        Some(_) => Err(Unreadable::Size),
+    }
+}
+
+/// A terminal of today, of this size if there is one.
+fn today_if(size: Option<&str>) -> Result<Player, Unreadable>
+    ensures { result ≡ today_if (option_map (λ text. text.now) size.entry) }
+{
+    let Some(text) = size else {
+        return Ok(Player::Today(None));
+    };
+    match size_named(text.as_bytes()) {
+        Some(size) => Ok(Player::Today(Some(size))),
+        None => Err(Unreadable::Size),
+    }
+}
+
+/// A size as it is written: columns, `x`, lines.
+#[tactic(auto, unfolding(crate::specs::CommandLine::size_named))]
+fn size_named(text: &[u8]) -> Option<Measure>
+    ensures { result ≡ size_named text.now }
+{
+    match cross_in(text) {
+        None => None,
+        Some(cross) => size_cut(text, cross),
+    }
+}
+
+/// Where the first `x` stands.
+fn cross_in(text: &[u8]) -> Option<usize>
+    ensures { result ≡ position (λ byte. byte == 120) text.now }
+{
+    text.iter().position(|byte| *byte == b'x')
+}
+
+/// The size that is cut there.
+fn size_cut(text: &[u8], cross: usize) -> Option<Measure>
+    requires { cross < length text.now }
+    ensures { result ≡ size_cut text.now cross }
+{
+    let columns = read_number(&text[..cross])?;
+    let lines = read_number(&text[cross + 1..])?;
+    let size = Measure { columns, lines };
+    if is_size(size) { Some(size) } else { None }
+}
+
+/// How a screen is printed.
+fn print_by(escaped: bool, player: Player) -> Result<Print, Unreadable>
+    ensures { result ≡ print_by escaped player }
+{
+    match (escaped, player) {
+        (false, _) => Ok(Print::Plain(player)),
+        (true, Player::Vt(profile)) => Ok(Print::Escaped(profile)),
+        (true, Player::Today(_)) => Err(Unreadable::Today),
+    }
 }
 
 /// The profile of this name.

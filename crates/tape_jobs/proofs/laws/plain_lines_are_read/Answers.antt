@@ -1,4 +1,4 @@
-use Rattle.tape_jobs.proofs.LineLemmas.{cast_line, changes_from_line, changes_line, check_line, due_line, find_between_line, find_line, info_line, mend_line, page_line, picture_line, reports_line, save_line, screen_line, session_every_line, session_line}
+use Rattle.tape_jobs.proofs.LineLemmas.{cast_line, cast_sized_line, cast_today_line, changes_from_line, changes_line, check_line, due_line, find_between_line, find_line, info_line, mend_line, page_line, picture_line, reports_line, reports_sized_line, reports_today_line, save_line, screen_line, screen_sized_line, screen_today_line, session_every_line, session_line}
 use Rattle.tape_jobs.proofs.laws.plain_lines_are_read.Goals as goal
 
 pub returns-clause-due : goal.returns-clause-due
@@ -12,6 +12,20 @@ returns-clause-check c = λ profile program script timing p q. check_line progra
 
 pub returns-clause-screen : goal.returns-clause-screen
 returns-clause-screen c = λ at moment e escaped profile program script timing p q. screen_line program script timing p q at moment e escaped profile
+
+pub returns-clause-screen_today : goal.returns-clause-screen_today
+returns-clause-screen_today c = λ at moment e program script timing p q. screen_today_line program script timing p q at moment e
+
+pub returns-clause-screen_sized : goal.returns-clause-screen_sized
+returns-clause-screen_sized c = λ at moment e size measure d program script timing p q.
+    screen_sized_line program script timing p q at moment e size measure d
+
+pub returns-clause-reports_today : goal.returns-clause-reports_today
+returns-clause-reports_today c = λ at moment e program script timing p q. reports_today_line program script timing p q at moment e
+
+pub returns-clause-reports_sized : goal.returns-clause-reports_sized
+returns-clause-reports_sized c = λ at moment e size measure d program script timing p q.
+    reports_sized_line program script timing p q at moment e size measure d
 
 pub returns-clause-picture : goal.returns-clause-picture
 returns-clause-picture c = λ at moment e profile program script timing p q. picture_line program script timing p q at moment e profile
@@ -38,6 +52,12 @@ returns-clause-page c = λ profile program script timing p q. page_line program 
 
 pub returns-clause-cast : goal.returns-clause-cast
 returns-clause-cast c = λ profile program script timing p q. cast_line program script timing p q profile
+
+pub returns-clause-cast_today : goal.returns-clause-cast_today
+returns-clause-cast_today c = cast_today_line
+
+pub returns-clause-cast_sized : goal.returns-clause-cast_sized
+returns-clause-cast_sized c = λ size measure d program script timing p q. cast_sized_line program script timing p q size measure d
 
 pub returns-clause-save : goal.returns-clause-save
 returns-clause-save c = save_line

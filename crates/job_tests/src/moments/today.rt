@@ -1,0 +1,46 @@
+//! The jobs `screen` and `reports` of a terminal of today.
+use crate::in_memory::{compare, done};
+use std::test::Fail;
+use tape_jobs::{Job, Measure, Player, Print};
+
+/// A terminal of today of a size.
+const fn sized(columns: u64, lines: u64) -> Player {
+    Player::Today(Some(Measure { columns, lines }))
+}
+
+/// Columns, lines, a chunk, and what is shown then.
+const SHOWN: [(u64, u64, &str, &str); 7] = [
+    (6, 2, "日本\r\nab  ", "日本\nab\n"),
+    (4, 1, "日本語", "語\n"),
+    (3, 2, "日本", "日\n本\n"),
+    (5, 1, "e\u{301}x\x1b[41m  ", "e\u{301}x\n"),
+    (5, 1, "\x1b[8mab", "ab\n"),
+    (5, 1, "ab\x1b[1;2H日", "a日\n"),
+    (5, 2, "ab\x1b[?1049hcd\x1b[?1049l", "ab\n\n"),
+];
+
+#[test]
+fn a_terminal_of_today_is_printed(rt: HostRuntime) -> Result<(), Fail> {
+    for (columns, lines, body, text) in SHOWN {
+        let screen = Job::Screen {
+            at: 0,
+            print: Print::Plain(sized(columns, lines)),
+        };
+        let timing = format!(in rt.alloc(); "0 {}\n", body.len())?;
+        compare(&rt, &done(screen, body, timing.as_str(), text))?;
+    }
+    Ok(())
+}
+
+#[test]
+fn a_terminal_of_today_answers(rt: HostRuntime) -> Result<(), Fail> {
+    let reports = Job::Reports {
+        at: 0,
+        player: sized(10, 3),
+    };
+    let body = "\x1b[3;9H日\x1b[6n\x1b[c";
+    compare(
+        &rt,
+        &done(reports, body, "0 16\n", "1b5b333b3130521b5b3f313b3263\n"),
+    )
+}

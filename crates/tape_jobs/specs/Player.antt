@@ -1,0 +1,59 @@
+-- Which terminal plays a recording, and of which size.
+use Rattle.std.specs.Prelude.{ℕ, List, Bool, ◌&&◌, nat_le, if◌then◌else◌, unwrap_or, Option, Some, None}
+use Rattle.std.specs.Option.{option_map, option_or}
+use Rattle.output_cast.specs.Cast.{cast_text as output_text}
+use Rattle.screen_cast.specs.Cast.{cast_text}
+use Rattle.tape_check.specs.Header.{told_size}
+use Rattle.tape_core.specs.Due.{due}
+use Rattle.tape_core.specs.Tape.{Tape}
+use Rattle.vt_term.specs.declared.profile.Profile.{Profile}
+use Rattle.xterm_term.specs.declared.measure.Size.{Size}
+use Rattle.xterm_term.specs.Term.{Term, reset_term, play}
+use Rattle.tape_jobs.specs.declared.player.Measure.{Measure}
+use Rattle.tape_jobs.specs.declared.player.Player.{Player}
+use Rattle.tape_jobs.specs.declared.player.Player.TheVariants.{Vt, Today}
+
+-- within the limits of a screen: 2 to 1,000 columns and 1 to 500 lines (ours)
+abbrev pub is_size : Measure → Bool
+is_size m = (nat_le 2 m.columns && nat_le m.columns 1000) && (nat_le 1 m.lines && nat_le m.lines 500)
+
+abbrev pub within_of : Measure → Option Measure
+within_of m = if is_size m then Some m else None
+
+-- a measure, if there is one that is within the limits (ours)
+abbrev pub within : Option Measure → Option Measure
+within None = None
+within (Some m) = within_of m
+
+-- the measure that a recording's header tells: COLUMNS and LINES (script(1))
+abbrev pub told_measure : Tape → Option Measure
+told_measure tape = option_map (λ told. record { columns = told.0; lines = told.1 }) (told_size tape)
+
+-- that of a VT100 (ours)
+abbrev pub usual_measure : Measure
+usual_measure = record { columns = 80; lines = 24 }
+
+-- The size of a terminal of today that plays a recording: the one that is asked for, else the one that the header tells,
+-- each where it is within the limits, else 80 columns and 24 lines (ours).
+abbrev pub played_size : Option Measure → Tape → Measure
+played_size asked tape = unwrap_or (option_or (within asked) (within (told_measure tape))) usual_measure
+
+abbrev pub measure_of : Size → Measure
+measure_of size = record { columns = size.columns; lines = size.lines }
+
+-- the terminal of today that plays a recording, at a moment
+abbrev pub today_at : Option Measure → Tape → ℕ → Term
+today_at asked tape at =
+    let size = played_size asked tape in
+    play (reset_term size.columns size.lines) (due tape.chunks at)
+
+-- the recorded output as an asciicast, of the size of that terminal
+abbrev pub today_cast : Option Measure → Tape → List ℕ
+today_cast asked tape =
+    let size = played_size asked tape in
+    output_text size.columns size.lines tape
+
+-- a recording as an asciicast: what a VT shows, or for a terminal of today the output itself (ours)
+unfoldable pub cast_of : Player → Tape → List ℕ
+cast_of (Vt profile) tape = cast_text profile tape
+cast_of (Today asked) tape = today_cast asked tape
