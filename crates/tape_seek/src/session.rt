@@ -267,6 +267,14 @@ impl<T: Plays> Session<T> {
         self.replay.head
     }
 
+    /// The working terminal, which stands at the head.
+    pub fn terminal(&self) -> &T
+        ensures { T.shows self.now.profile result.now
+            (bytes_of_first self.now.recording.chunks self.now.marks.head) }
+    {
+        &self.replay.working
+    }
+
     /// How many terminals are kept, the working one included.
     pub fn held(&self) -> usize
         ensures { result ≡ self.now.marks.frontier / self.now.every + 1 }

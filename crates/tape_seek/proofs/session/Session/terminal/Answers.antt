@@ -1,0 +1,10 @@
+use Rattle.std.proofs.Common.{subst}
+use Rattle.tape_core.specs.Due.{first}
+use Rattle.tape_seek.specs.State.{StateOf}
+use Rattle.tape_seek.proofs.session.Session.terminal.Goals as goal
+
+pub returns : goal.returns
+returns g c =
+    let working = c.self.inside.replay.working in
+    subst (λ (s : StateOf g.row.T-Profile.Denot). g.T.Plays.shows s.profile working (first s.recording.chunks s.marks.head)) c.self.view_is
+    c.self.invariant.replay.working
