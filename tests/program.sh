@@ -299,13 +299,13 @@ check 'bad seconds before a bad text' 2 '' 'typetool: bad seconds\n' find --to x
 check 'a bad profile before a bad text' 2 '' 'typetool: bad profile: vt100, vt102 or xterm\n' find --profile x '' nowhere nowhere
 
 # A recording that was made for another terminal: the note stands behind the fault where there is one.
-printf 'Script started on X [TERM="xterm" COLUMNS="120" LINES="40"]\n%b' "${E}[5G${E}[?1049h" >wide.script
+printf 'Script started on X [TERM="xterm" COLUMNS="120" LINES="40"]\n%b' "${E}[5Q${E}[?1049h" >wide.script
 printf '0.5 12\n' >wide.timing
 printf '%b' "$head${E}[P" >delete.script
 printf '0 3\n' >delete.timing
 note='typetool: note: size: recorded at 120x40, played at 80x24; term: recorded under xterm, played as vt100 (see typetool check)\n'
 facts='started X\nterm xterm\nsize 120x40\nnote size: recorded at 120x40, played at 80x24\n'
-check 'a check' 1 "${facts}note term: recorded under xterm, played as vt100\nunplayed 1 ESC [ ? 1049 h\nunplayed 1 ESC [ G\n" '' \
+check 'a check' 1 "${facts}note term: recorded under xterm, played as vt100\nunplayed 1 ESC [ ? 1049 h\nunplayed 1 ESC [ Q\n" '' \
     check wide.script wide.timing
 check 'a check without a note' 0 'started X\n' '' check ab.script ab.timing
 check 'a check of a sequence of a VT102' 1 'started X\nunplayed 1 ESC [ P\n' '' check delete.script delete.timing

@@ -65,7 +65,7 @@ DRAWS = [
 
 # What a VT100 has no row for, or what is no sequence.
 UNKNOWN = [
-    b"\x1b[G",
+    b"\x1b[Q",
     b"\x1b[3d",
     b"\x1b[?1049h",
     b"\x1b[?25l",

@@ -258,12 +258,12 @@ note term: recorded under xterm, played as vt102
 note bytes: 1 from 128 on: this terminal has no UTF-8
 note trailer: 20 bytes behind the last chunk are never shown
 note sessions: 1 more in the trailer
-unplayed 1 ESC [ G
+unplayed 1 ESC [ Q
 ";
 
 #[test]
 fn tells_all_lines_in_their_order(rt: HostRuntime) -> Result<(), Fail> {
-    let recording = recorded(&rt, FOREIGN, b"\xe9\x1b[G", APPENDED)?;
+    let recording = recorded(&rt, FOREIGN, b"\xe9\x1b[Q", APPENDED)?;
     compare(&rt, &recording, Profile::Vt102, ALL);
     Ok(())
 }
@@ -278,7 +278,7 @@ fn an_empty_recording(rt: HostRuntime) -> Result<(), Fail> {
 
 #[test]
 fn stops_where_the_writer_fails(rt: HostRuntime) -> Result<(), Fail> {
-    let recording = recorded(&rt, FOREIGN, b"\xe9\x1b[G", APPENDED)?;
+    let recording = recorded(&rt, FOREIGN, b"\xe9\x1b[Q", APPENDED)?;
     for room in 0..=ALL.len() {
         let mut writer = Watched::new(small_writer(rt.alloc(), room, false));
         let answer = match write_check(rt.alloc(), &recording, Profile::Vt102, &mut writer) {
@@ -321,7 +321,7 @@ const PARTS: [(&[u8], &[u8], &str); 5] = [
 #[test]
 fn tells_whoever_plays_it_in_one_line(rt: HostRuntime) -> Result<(), Fail> {
     for (header, trailer, line) in &PARTS {
-        let recording = recorded(&rt, header, b"\xe9\x1b[G", trailer)?;
+        let recording = recorded(&rt, header, b"\xe9\x1b[Q", trailer)?;
         let mut writer = Watched::new(Vec::new(rt.alloc()));
         let told = put_parts(&recording, Profile::Vt100, &mut writer);
         assert_eq!(&rt;

@@ -11,7 +11,7 @@ use vt_term::Profile;
 
 /// Unplayed sequences, more than fit where the first ones are counted.
 const SCRIPT: &[u8] =
-    b"Script started on X\n\x1bN\x1bO\x1b[G\x1b[d\x1b[e\x1b[X\x1b[S\x1b[T\x1b[6h\x1b[10h\x1b%G\x1bN";
+    b"Script started on X\n\x1bN\x1bO\x1b[Q\x1b[d\x1b[e\x1b[X\x1b[S\x1b[T\x1b[6h\x1b[10h\x1b%G\x1bN";
 
 const TIMING: &[u8] = b"0 36\n";
 
@@ -21,7 +21,7 @@ unplayed 2 ESC N
 unplayed 1 ESC O
 unplayed 1 ESC [ 10 h
 unplayed 1 ESC [ 6 h
-unplayed 1 ESC [ G
+unplayed 1 ESC [ Q
 unplayed 1 ESC [ S
 unplayed 1 ESC [ T
 unplayed 1 ESC [ X

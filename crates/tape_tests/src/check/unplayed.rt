@@ -22,7 +22,7 @@ fn compare_unplayed(
 
 /// Sequences of each form, in another order than that of their bytes.
 const FORMS: &[u8] =
-    b"\x1bN\x1b[G\x1b(X\x1b[1 q\x1b[?1049h\x1b[5G\x1b#(8\x1b[6;10h\x1b[>c\x1bO\x1b%G\x1b[?J\x1b#7\x1b<";
+    b"\x1bN\x1b[Q\x1b(X\x1b[1 q\x1b[?1049h\x1b[5Q\x1b#(8\x1b[6;10h\x1b[>c\x1bO\x1b%G\x1b[?J\x1b#7\x1b<";
 
 /// Their lines.
 const FORM_LINES: &str = "unplayed 1 ESC # 7
@@ -38,7 +38,7 @@ unplayed 1 ESC [ 10 h
 unplayed 1 ESC [ 6 h
 unplayed 1 ESC [ ? 1049 h
 unplayed 1 ESC [ ? J
-unplayed 2 ESC [ G
+unplayed 2 ESC [ Q
 ";
 
 #[test]
@@ -115,7 +115,7 @@ fn are_no_rows_and_no_strings(rt: HostRuntime) -> Result<(), Fail> {
 #[test]
 fn are_other_ones_in_vt52_mode(rt: HostRuntime) -> Result<(), Fail> {
     let chunks =
-        b"\x1bI\x1b[?2;99l\x1bA\x1bY!N\x1bI\x1b=\x1b\\\x1bE\x1b[G\x1bc\x1b(0\x1bE\x1b<\x1bE\x1bI";
+        b"\x1bI\x1b[?2;99l\x1bA\x1bY!N\x1bI\x1b=\x1b\\\x1bE\x1b[Q\x1bc\x1b(0\x1bE\x1b<\x1bE\x1bI";
     let unplayed =
         "unplayed 1 ESC (\nunplayed 2 ESC E\nunplayed 2 ESC I\nunplayed 1 ESC [\nunplayed 1 ESC [ ? 99 l\nunplayed 1 ESC c\n";
     compare_unplayed(&rt, chunks, Profile::Vt100, unplayed)?;
@@ -125,8 +125,8 @@ fn are_other_ones_in_vt52_mode(rt: HostRuntime) -> Result<(), Fail> {
 /// They run on over the ends of chunks, and controls and DEL in them change nothing.
 #[test]
 fn run_on_into_the_next_chunk(rt: HostRuntime) -> Result<(), Fail> {
-    let chunks = b"\x1b[|G\x1b|N\x1b[?10|\r4\x7f9||h";
-    let unplayed = "unplayed 1 ESC N\nunplayed 1 ESC [ ? 1049 h\nunplayed 1 ESC [ G\n";
+    let chunks = b"\x1b[|Q\x1b|N\x1b[?10|\r4\x7f9||h";
+    let unplayed = "unplayed 1 ESC N\nunplayed 1 ESC [ ? 1049 h\nunplayed 1 ESC [ Q\n";
     compare_unplayed(&rt, chunks, Profile::Vt100, unplayed)
 }
 
@@ -135,7 +135,7 @@ fn run_on_into_the_next_chunk(rt: HostRuntime) -> Result<(), Fail> {
 fn are_finished(rt: HostRuntime) -> Result<(), Fail> {
     compare_unplayed(
         &rt,
-        b"\x1b[\x18G\x1b\x1aN\x1b[5\x1b[\x1b7\x1b[",
+        b"\x1b[\x18Q\x1b\x1aN\x1b[5\x1b[\x1b7\x1b[",
         Profile::Vt100,
         "",
     )?;
