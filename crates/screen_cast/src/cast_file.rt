@@ -3,11 +3,12 @@
 ghost use Rattle.std.specs.Prelude.{◌≡◌, ◌≢◌, ◌≤◌, Err, IfErr, OnOk, false, length, true};
 ghost use Rattle.tape_core.specs.Devices.{Took, has_failed, is_flushed};
 ghost use Rattle.tape_seek.specs.State.{KeepsHistory};
-ghost use Rattle.screen_print.specs.Stops.{OnlySeeks, StopsWalk};
+ghost use Rattle.chunk_walk.specs.Stops.{OnlySeeks};
+ghost use Rattle.screen_print.specs.Stops.{StopsWalk};
 ghost use Rattle.screen_cast.specs.Cast.{cast_text, header_line};
 
 use crate::events::EventPrinter;
-use screen_print::laws::walks_end_sound;
+use chunk_walk::laws::walks_end_sound;
 use screen_print::{ChangesFault, put_all_chunks};
 use std::io::Write;
 use tape_core::Watched;

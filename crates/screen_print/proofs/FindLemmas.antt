@@ -1,21 +1,18 @@
 -- Row texts, lines, and the places of a text.
-use Rattle.std.proofs.Common.{◌≡◌, ℕ, zero, suc, ◌+◌, ◌-◌, ◌<◌, ◌≤◌, Bool, true, false, List, [], ◌∷◌, ◌++◌, length, get_or, take, drop, filter, map, nat_le, refl, ap, sym, ◌∙◌, arith, append_assoc, append-nil, cond}
+use Rattle.std.proofs.Common.{◌≡◌, ℕ, zero, suc, ◌+◌, ◌-◌, ◌<◌, ◌≤◌, Bool, true, false, List, [], ◌∷◌, ◌++◌, length, get_or, drop, filter, map, nat_le, refl, ap, sym, ◌∙◌, arith, append_assoc, append-nil, cond}
 use Rattle.std.specs.List.{range_with_len}
 use Rattle.std.proofs.lemmas.Bool.{le-leb, lt-leb}
-use Rattle.std.proofs.lemmas.List.{drop_all, drop_more, get_or-map, length-map, length-take-le, map-append}
+use Rattle.std.proofs.lemmas.List.{drop_all, drop_more, get_or-map, length-map, map-append}
 use Rattle.std.proofs.lemmas.List.Elements.{filter-append}
-use Rattle.vt_screen.specs.declared.cell.Row.{Row}
 use Rattle.vt_screen.specs.Cells.{blank_row, row_at}
-use Rattle.vt_screen.specs.Picture.{margin_of}
 use Rattle.screen_print.specs.declared.standing.Place.{Place}
 use Rattle.screen_print.specs.FindLines.{begins, ends_line, line_text_from, place_in, places_from, places_in, row_texts, rows_reaching, standing}
 use Rattle.screen_rows.specs.RowText.{row_text}
-use Rattle.screen_rows.specs.Glyphs.{character}
 use Rattle.screen_print.specs.Places.{IsPlace}
 use Rattle.screen_print.specs.Stills.{Still}
 use Rattle.screen_print.proofs.RowLemmas.{nth_is}
 use Rattle.screen_rows.proofs.RangeLemmas.{range_more}
-use Rattle.screen_print.proofs.WalkLemmas.{one_more, texts_around, texts_from}
+use Rattle.chunk_walk.proofs.TextLemmas.{one_more, texts_around, texts_from}
 
 -- the rows' texts from one on
 pub texts_at : (still : Still) (line : ℕ) → length still.rows ≡ 24 → 1 ≤ line → line ≤ 24

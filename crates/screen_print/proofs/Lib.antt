@@ -1,7 +1,6 @@
 mod PlainLemmas
 mod RowLemmas
 mod StillLemmas
-mod WalkLemmas
 mod ChangeLemmas
 mod FindLemmas
 mod FoundLemmas

@@ -1,15 +1,13 @@
 -- The plain print line by line.
-use Rattle.std.proofs.Common.{◌≡◌, ℕ, ◌+◌, ◌-◌, ◌≤◌, ◌<◌, Bool, List, [], ◌∷◌, ◌++◌, length, take, get_or, refl, sym, ◌∙◌, ap, append-nil, arith}
+use Rattle.std.proofs.Common.{◌≡◌, ℕ, ◌+◌, ◌-◌, ◌≤◌, ◌<◌, List, [], ◌∷◌, ◌++◌, length, take, get_or, sym, ◌∙◌, ap, append-nil, arith}
 use Rattle.std.specs.List.{flat_map}
 use Rattle.std.proofs.lemmas.List.{take_more, take_all}
 use Rattle.std.proofs.lemmas.Grind.{flat_map-append}
-use Rattle.vt_screen.specs.declared.cell.Cell.{Cell}
-use Rattle.vt_screen.specs.declared.cell.Row.{Row}
 use Rattle.vt_screen.specs.Cells.{blank_row, row_at}
-use Rattle.vt_screen.specs.Picture.{Picture, margin_of}
+use Rattle.vt_screen.specs.Picture.{Picture}
 use Rattle.vt_screen.specs.Table.{nth}
 use Rattle.screen_print.specs.PlainText.{plain_text}
-use Rattle.screen_rows.specs.RowText.{printed, trimmed, printed_line}
+use Rattle.screen_rows.specs.RowText.{printed_line}
 
 -- the text of the first lines
 abbrev pub first_lines : Picture → ℕ → List ℕ

@@ -20,7 +20,7 @@ use Rattle.screen_print.specs.Quiet.{AllPlacesStay, BeginsUpTo, LineStays, Place
 use Rattle.screen_print.specs.Stills.{Still}
 use Rattle.screen_print.proofs.FindLemmas.{line_ends, no_texts, texts_at}
 use Rattle.screen_print.proofs.StillLemmas.{in_range}
-use Rattle.screen_print.proofs.WalkLemmas.{none_in}
+use Rattle.chunk_walk.proofs.TextLemmas.{none_in}
 use Rattle.screen_rows.proofs.RangeLemmas.{range_split}
 
 -- ---- columns

@@ -1,21 +1,14 @@
 -- Rows by line.
-use Rattle.std.proofs.Common.{◌≡◌, ◌≢◌, ℕ, zero, suc, ◌+◌, ◌*◌, ◌-◌, ◌<◌, ◌≤◌, Bool, true, false, ◌&&◌, List, [], ◌∷◌, ◌++◌, length, get_or, set, take, filter, nat_eq, Decides, refl, ap, sym, ◌∙◌, arith, get_or-set_same, get_or-set_other, add-one, add-zero, cond}
-use Rattle.std.specs.Cmp.Lexicographic.{pointwise}
+use Rattle.std.proofs.Common.{◌≡◌, ◌≢◌, ℕ, ◌+◌, ◌-◌, ◌<◌, ◌≤◌, Bool, List, [], ◌∷◌, ◌++◌, length, get_or, set, filter, refl, ap, sym, ◌∙◌, arith, get_or-set_same, get_or-set_other, cond}
 use Rattle.std.specs.List.{range_with_len}
-use Rattle.std.proofs.lemmas.Bool.{and_parts, eqb-true, eq-eqb}
 use Rattle.std.proofs.lemmas.List.{get_or_default}
 use Rattle.std.proofs.lemmas.List.Elements.{filter-append}
 use Rattle.std.proofs.lemmas.List.FromFn.{fill_by_all}
-use Rattle.std.proofs.lemmas.Slice.Eq.{slice_eq-Decides}
-use Rattle.vt_screen.specs.declared.cell.Cell.{Cell}
 use Rattle.vt_screen.specs.declared.cell.Row.{Row}
-use Rattle.vt_screen.specs.declared.cell.Size.{Size}
-use Rattle.vt_screen.specs.declared.cell.Size.TheVariants.{Single, Double, Top, Bottom}
-use Rattle.vt_screen.specs.Attributes.{Attributes, attributes_of, byte_of}
 use Rattle.vt_screen.specs.Cells.{blank_row, row_at}
 use Rattle.vt_screen.specs.Table.{nth}
 use Rattle.screen_rows.proofs.RangeLemmas.{range_more}
-use Rattle.screen_rows.specs.SameRows.{changed_lines, is_changed, same_cell, same_row, size_number}
+use Rattle.screen_rows.specs.SameRows.{changed_lines, is_changed}
 
 pub nth_is : (rows : List Row) (line : ℕ) → row_at rows line ≡ get_or rows (line - 1) blank_row
 unfolding nth

@@ -1,22 +1,14 @@
 -- Stills: rows that are copied where they differ.
-use Rattle.std.proofs.Common.{◌≡◌, ◌⊎◌, ℕ, zero, suc, ◌+◌, ◌-◌, ◌<◌, ◌≤◌, Bool, false, List, [], ◌∷◌, length, get_or, set, subst, All, take, drop, filter, refl, ap, sym, ◌∙◌, arith, inl, inr}
-use Rattle.std.specs.Cmp.Lexicographic.{pointwise}
+use Rattle.std.proofs.Common.{◌≡◌, ◌⊎◌, ℕ, zero, suc, ◌+◌, ◌-◌, ◌<◌, ◌≤◌, Bool, false, List, [], ◌∷◌, length, get_or, set, subst, All, drop, filter, ap, sym, ◌∙◌, arith, inl, inr}
 use Rattle.std.specs.List.{range_with_len}
-use Rattle.std.proofs.lemmas.Bool.{cases_Bool, cases_eq, cases_lt, not-false}
-use Rattle.std.proofs.lemmas.List.{drop_all, drop_more, get_or-take}
+use Rattle.std.proofs.lemmas.Bool.{cases_Bool, cases_eq, not-false}
+use Rattle.std.proofs.lemmas.List.{drop_all, drop_more}
 use Rattle.std.proofs.lemmas.List.Elements.{All-filter, All-get_or}
-use Rattle.std.proofs.lemmas.List.FromFn.{fill_by_all}
-use Rattle.std.proofs.lemmas.Slice.Eq.{slice_eq-Decides}
-use Rattle.vt_screen.specs.declared.cell.Cell.{Cell}
 use Rattle.vt_screen.specs.declared.cell.Row.{Row}
-use Rattle.vt_screen.specs.declared.cell.Size.{Size}
-use Rattle.vt_screen.specs.declared.cell.Size.TheVariants.{Single, Double, Top, Bottom}
-use Rattle.vt_screen.specs.Cells.{blank, cell_at, row_at}
-use Rattle.vt_screen.specs.Picture.{SoundRow, margin_of}
-use Rattle.vt_screen.specs.Table.{nth}
-use Rattle.screen_rows.specs.SameRows.{changed_lines, is_changed, same_cell, same_row}
+use Rattle.vt_screen.specs.Cells.{row_at}
+use Rattle.screen_rows.specs.SameRows.{changed_lines, is_changed, same_row}
 use Rattle.screen_print.proofs.RowLemmas.{row_set_same, row_set_other}
-use Rattle.screen_rows.proofs.SameLemmas.{same_cell_decides, same_row_decides, same_truth}
+use Rattle.screen_rows.proofs.SameLemmas.{same_row_decides}
 
 -- a number is one of these, or something holds
 abbrev pub IsIn : List ℕ → ℕ → Type 0 → Type 0

@@ -1,10 +1,7 @@
--- How a walk over chunks ends early, and what it leaves of a session.
-use Rattle.std.specs.Prelude.{◌≡◌, ℕ, ◌≤◌, ◌++◌, true, false, List, Option, None, Some}
-use Rattle.tape_core.specs.Devices.{Gave, TookPart, has_failed}
-use Rattle.tape_core.specs.Due.{due_count}
-use Rattle.tape_core.specs.declared.chunk.Chunk.{Chunk}
+-- How a print of chunks ends early.
+use Rattle.std.specs.Prelude.{ℕ, true, false, List, Option}
+use Rattle.tape_core.specs.Devices.{TookPart}
 use Rattle.tape_core.specs.declared.devices.Watched.{Watched}
-use Rattle.tape_seek.specs.State.{State}
 use Rattle.screen_print.specs.declared.walk.ChangesFault.{ChangesFault}
 use Rattle.screen_print.specs.declared.walk.ChangesFault.TheVariants.{Write, Memory}
 
@@ -12,24 +9,3 @@ use Rattle.screen_print.specs.declared.walk.ChangesFault.TheVariants.{Write, Mem
 abbrev pub StopsWalk : {T : Type 0} → (T → Option (List ℕ)) → Watched T → Watched T → List ℕ → ChangesFault → Type 0
 StopsWalk contents old new text Write = TookPart contents old new text true
 StopsWalk contents old new text Memory = TookPart contents old new text false
-
--- memory was refused behind a beginning of the text, which a writer that is sound was given (ours)
-pub record StopsSound {T : Type 0} (contents : T → Option (List ℕ)) (old new : Watched T) (text : List ℕ) : Type 0 where
-  pub sound : has_failed new ≡ false
-  pub front : List ℕ
-  pub rest : List ℕ
-  pub cut : text ≡ front ++ rest
-  pub gave : Gave contents old new front
-
--- seeks alone were made: profile, recording and log stay, and the frontier isn't lowered
-pub record OnlySeeks (old new : State) : Type 0 where
-  pub profile : new.profile ≡ old.profile
-  pub recording : new.recording ≡ old.recording
-  pub log : new.log ≡ old.log
-  pub every : new.every ≡ old.every
-  pub frontier : old.marks.frontier ≤ new.marks.frontier
-
--- the first chunk that is due after the moment, or chunk 0
-abbrev pub first_asked : List Chunk → Option ℕ → ℕ
-first_asked chunks None = 0
-first_asked chunks (Some from) = due_count chunks from

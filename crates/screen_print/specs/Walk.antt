@@ -1,22 +1,14 @@
 -- A walk over the chunks of a recording: for each of them, what stands on the screen before and after it
 -- alone (ours).
-use Rattle.std.specs.Prelude.{ℕ, ◌+◌, Bool, ◌&&◌, List, filter, Option, None, Some, nat_lt, nat_le}
+use Rattle.std.specs.Prelude.{ℕ, ◌+◌, List, Option}
 use Rattle.std.specs.List.{flat_map}
 use Rattle.tape_core.specs.Due.{due_time, indices}
 use Rattle.tape_core.specs.Tape.{Tape}
+use Rattle.chunk_walk.specs.Walk.{asked_places}
 use Rattle.tape_seek.specs.Moments.{up_to}
 use Rattle.vt_term.specs.declared.profile.Profile.{Profile}
+use Rattle.vt_term.specs.Term.{play, reset_term_as}
 use Rattle.screen_print.specs.Stills.{Still, still_of}
-
--- due by a moment, and after another one if it is given
-abbrev pub is_asked : Option ℕ → ℕ → ℕ → Bool
-is_asked None to due = nat_le due to
-is_asked (Some from) to due = nat_lt from due && nat_le due to
-
--- the chunks that are asked for, in order
-abbrev pub asked_places : Tape → Option ℕ → ℕ → List ℕ
-asked_places tape from to =
-    filter (λ index. is_asked from to (due_time tape.chunks index)) (indices tape.chunks)
 
 -- what stands on the screen of a profile after so many chunks
 abbrev pub still_after : Profile → Tape → ℕ → Still
@@ -40,3 +32,12 @@ whole_text text profile tape = flat_map (text_at text profile tape) (indices tap
 unfoldable pub walk_text : ChunkText → Profile → Tape → Option ℕ → ℕ → List ℕ
 walk_text text profile tape from to =
     flat_map (text_at text profile tape) (asked_places tape from to)
+
+-- Private, for the walk over any terminal, which tells all by the bytes that were played: what stands on the screen of a
+-- profile after them
+abbrev pub still_by : Profile → List ℕ → Still
+still_by profile bytes = still_of (play (reset_term_as profile) bytes).console
+
+-- and what is written of a chunk, by those before it and by its end
+abbrev pub text_by : ChunkText → Profile → ℕ → ℕ → List ℕ → List ℕ → List ℕ
+text_by text profile index due before after = text index due (still_by profile before) (still_by profile after)

@@ -18,12 +18,13 @@ ghost use Rattle.tape_core.specs.Devices.{Gave, Took, has_failed, is_flushed};
 ghost use Rattle.tape_core.specs.Due.{due_count};
 ghost use Rattle.tape_core.specs.Written.{seconds_form};
 ghost use Rattle.tape_seek.specs.State.{KeepsHistory};
+ghost use Rattle.chunk_walk.specs.Stops.{OnlySeeks};
 ghost use Rattle.screen_print.specs.ChangeLines.{change_line, change_lines, spaced_number};
-ghost use Rattle.screen_print.specs.Stops.{OnlySeeks, StopsWalk};
+ghost use Rattle.screen_print.specs.Stops.{StopsWalk};
 
-use crate::laws::walks_end_sound;
 use crate::still::Still;
 use crate::walk::{ChangesFault, ChunkPrinter, put_chunks};
+use chunk_walk::laws::walks_end_sound;
 use itoa::Buffer;
 use std::io::Write;
 use tape_core::laws::gives_join;
@@ -34,7 +35,7 @@ use vt_term::Terminal;
 /// Writes, for each chunk that is due after `from` (None: from chunk 0 on) and by `to`, the lines that
 /// it changes, and flushes. It works by seeks. After a fault a beginning of the text has gone out. The
 /// recording and the log stay, and the frontier isn't lowered.
-#[tactic(auto, using(crate::proofs::WalkLemmas::seeks_keep_history), unfolding(crate::specs::ChangeLines::change_lines))]
+#[tactic(auto, using(chunk_walk::proofs::SeekLemmas::seeks_keep_history), unfolding(crate::specs::ChangeLines::change_lines))]
 pub fn changes<W: Write>(
     session: &mut Session,
     from: Option<u64>,

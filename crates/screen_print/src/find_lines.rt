@@ -28,6 +28,7 @@ ghost use Rattle.std.specs.List.{flat_map};
 ghost use Rattle.tape_core.specs.Devices.{Gave, Took, has_failed, is_flushed};
 ghost use Rattle.tape_core.specs.Due.{due_count};
 ghost use Rattle.tape_seek.specs.State.{KeepsHistory};
+ghost use Rattle.chunk_walk.specs.Stops.{OnlySeeks};
 ghost use Rattle.screen_print.specs.FindLines.{
   count_left,
   find_lines,
@@ -46,14 +47,14 @@ ghost use Rattle.screen_print.specs.Places.{IsPlace};
 ghost use Rattle.screen_rows.specs.RowText.{characters};
 ghost use Rattle.screen_print.specs.Start.{IsStart};
 ghost use Rattle.screen_print.specs.Stills.{still_of};
-ghost use Rattle.screen_print.specs.Stops.{OnlySeeks, StopsWalk};
+ghost use Rattle.screen_print.specs.Stops.{StopsWalk};
 
-use crate::laws::walks_end_sound;
 use crate::quiet::stays;
 use crate::standing::{Place, found_rows, standing};
 use crate::start::Start;
 use crate::still::Still;
 use crate::walk::{ChangesFault, ChunkPrinter, put_chunks};
+use chunk_walk::laws::walks_end_sound;
 use itoa::Buffer;
 use screen_rows::{cells_to_margin, character, printed_row};
 use std::io::Write;
@@ -67,7 +68,7 @@ use vt_term::Terminal;
 /// the screen a text came to stand in it and from which it went, and flushes. It works by seeks. After a
 /// fault a beginning of the text has gone out. The recording and the log stay, and the frontier isn't
 /// lowered.
-#[tactic(auto, using(crate::proofs::WalkLemmas::seeks_keep_history), unfolding(crate::specs::FindLines::find_lines))]
+#[tactic(auto, using(chunk_walk::proofs::SeekLemmas::seeks_keep_history), unfolding(crate::specs::FindLines::find_lines))]
 pub fn find<W: Write>(
     session: &mut Session,
     from: Option<u64>,

@@ -1,30 +1,18 @@
 //! A walk over the chunks of a recording: what a printer writes of each, as it is told what stands on
 //! the screen before and after it.
 
-ghost use Rattle.std.specs.Prelude.{
-  ◌≡◌,
-  ◌+◌,
-  ◌-◌,
-  ◌<◌,
-  ◌≤◌,
-  length,
-  OnOk,
-  OnErr,
-  IfOk,
-  IsOk,
-};
-ghost use Rattle.std.specs.List.{flat_map, range_with_len};
+ghost use Rattle.std.specs.Prelude.{◌≡◌, ◌≤◌, length, OnOk, OnErr, IsOk};
 ghost use Rattle.tape_core.specs.Devices.{Gave};
 ghost use Rattle.tape_core.specs.Due.{due_count};
-ghost use Rattle.tape_seek.specs.State.{KeepsHistory, Leaves};
+ghost use Rattle.tape_seek.specs.State.{KeepsHistory};
+ghost use Rattle.chunk_walk.specs.Stops.{OnlySeeks, StopsSound};
 ghost use Rattle.screen_rows.specs.SameRows.{changed_lines};
 ghost use Rattle.screen_print.specs.Stills.{still_of};
-ghost use Rattle.screen_print.specs.Stops.{OnlySeeks, StopsSound, first_asked};
-ghost use Rattle.screen_print.specs.Walk.{still_after, text_at, walk_text, whole_text};
+ghost use Rattle.screen_print.specs.Walk.{walk_text, whole_text};
 
 use crate::still::Still;
+use chunk_walk::{Visitor, visit_all_chunks, visit_chunks};
 use std::io::Write;
-use tape_core::laws::{due_is_below_the_count, gives_end, gives_join};
 use tape_core::{Fault, Watched};
 use tape_seek::{OutOfMemory, Session};
 use vt_term::Terminal;
@@ -85,6 +73,7 @@ pub trait ChunkPrinter {
 /// Writes what the printer writes of each chunk that is due after `from` (None: from chunk 0 on) and by
 /// `to`, as long as the writer doesn't fail. It works by seeks. The recording and the log stay, and the
 /// frontier isn't lowered.
+#[tactic(auto, unfolding(chunk_walk::specs::Walk::asked_texts, crate::specs::Walk::walk_text))]
 pub fn put_chunks<P: ChunkPrinter, W: Write>(
     session: &mut Session,
     from: Option<u64>,
@@ -99,18 +88,11 @@ pub fn put_chunks<P: ChunkPrinter, W: Write>(
     ensures stays { OnlySeeks session.old session.new }
     ensures room { due_count session.old.recording.chunks to ≤ session.old.marks.frontier → IsOk result }
 {
-    due_is_below_the_count();
-    gives_join::<W>();
-    let start = first_asked(session, from);
-    let end = session.recording().due_count(to);
-    if start < end {
-        return put_between(session, start, end, printer, writer);
-    }
-    Ok(())
+    visit_chunks(session, from, to, &Printing { printer }, writer)
 }
 
 /// Writes what the printer writes of each chunk, as `put_chunks` does.
-#[tactic(auto, using(crate::proofs::WalkLemmas::seeks_keep_history), unfolding(crate::specs::Walk::whole_text))]
+#[tactic(auto, using(chunk_walk::proofs::SeekLemmas::seeks_keep_history), unfolding(chunk_walk::specs::Walk::all_texts, crate::specs::Walk::whole_text))]
 pub fn put_all_chunks<P: ChunkPrinter, W: Write>(
     session: &mut Session,
     printer: &P,
@@ -126,90 +108,46 @@ pub fn put_all_chunks<P: ChunkPrinter, W: Write>(
     ensures history { KeepsHistory session.old session.new }
     ensures room { length session.old.recording.chunks ≤ session.old.marks.frontier → IsOk result }
 {
-    let end = session.recording().chunks().len();
-    put_between(session, 0, end, printer, writer)
+    visit_all_chunks(session, &Printing { printer }, writer)
 }
 
-/// The first chunk that is due after the moment.
-fn first_asked(session: &Session, from: Option<u64>) -> usize
-    ensures { result ≡ first_asked session.now.recording.chunks from }
-{
-    match from {
-        None => 0,
-        Some(moment) => session.recording().due_count(moment),
+/// A printer, as what visits the chunks that a VT100 plays.
+#[derive(Drop)]
+struct Printing<'a, P> {
+    printer: &'a P,
+}
+
+impl<'a, P: ChunkPrinter> Visitor<Terminal> for Printing<'a, P> {
+    ghost use Rattle.screen_print.specs.Walk.{still_by, text_by};
+
+    type Kept = Still;
+
+    ghost text = { λ v. text_by (P.text v.printer.now) };
+
+    ghost keeps = { λ profile still bytes. still ≡ still_by profile bytes };
+
+    ghost takes_none = { Unit {0} };
+
+    fn go_to(session: &mut Session, count: usize) -> Result<(), OutOfMemory> {
+        session.seek_count(count)?;
+        Ok(())
     }
-}
 
-/// Writes the texts of the chunks from one place up to and without another, as long as the writer doesn't fail.
-fn put_between<P: ChunkPrinter, W: Write>(
-    session: &mut Session,
-    start: usize,
-    end: usize,
-    printer: &P,
-    writer: &mut Watched<W>,
-) -> Result<(), OutOfMemory>
-    requires rising { start ≤ end }
-    requires within { end ≤ length session.old.recording.chunks }
-    ensures gave { OnOk result (Gave W.contents writer.old writer.new
-        (flat_map (text_at (P.text printer.now) session.old.profile session.old.recording)
-        (range_with_len start (end - start)))) }
-    ensures refused { OnErr result (StopsSound W.contents writer.old writer.new
-        (flat_map (text_at (P.text printer.now) session.old.profile session.old.recording)
-        (range_with_len start (end - start)))) }
-    ensures stays { OnlySeeks session.old session.new }
-    ensures room { end ≤ session.old.marks.frontier → IsOk result }
-{
-    gives_join::<W>();
-    gives_end::<W>();
-    if writer.failed() {
-        return Ok(());
+    fn keep(&self, terminal: &Terminal) -> Result<Still, OutOfMemory> {
+        Ok(Still::of(terminal))
     }
-    let mut still = still_at(session, start)?;
-    for index in start..end {
-        put_chunk(session, index, &mut still, printer, writer)?;
-        if writer.failed() {
-            return Ok(());
-        }
+
+    fn visit<W: Write>(
+        &self,
+        index: usize,
+        due: u64,
+        kept: &mut Still,
+        terminal: &Terminal,
+        writer: &mut Watched<W>,
+    ) -> Result<(), OutOfMemory> {
+        put_seen(index, due, kept, terminal, self.printer, writer);
+        Ok(())
     }
-    Ok(())
-}
-
-/// What stands on the screen after so many chunks.
-fn still_at(session: &mut Session, count: usize) -> Result<Still, OutOfMemory>
-    requires { count ≤ length session.old.recording.chunks }
-    ensures state { Leaves result count session.old session.new }
-    ensures history { KeepsHistory session.old session.new }
-    ensures still { IfOk result (λ still.
-        still ≡ still_after session.old.profile session.old.recording count) }
-    ensures room { count ≤ session.old.marks.frontier → IsOk result }
-{
-    let view = session.seek_count(count)?;
-    Ok(Still::of(view.terminal()))
-}
-
-/// Writes the text of one chunk, by what stands before it, which becomes what stands after it.
-fn put_chunk<P: ChunkPrinter, W: Write>(
-    session: &mut Session,
-    index: usize,
-    still: &mut Still,
-    printer: &P,
-    writer: &mut Watched<W>,
-) -> Result<(), OutOfMemory>
-    requires within { index < length session.old.recording.chunks }
-    requires fits { index < usize.MAX }
-    requires before { still.old ≡ still_after session.old.profile session.old.recording index }
-    ensures ok { OnOk result (Gave W.contents writer.old writer.new
-        (text_at (P.text printer.now) session.old.profile session.old.recording index)) }
-    ensures after { OnOk result (still.new
-        ≡ still_after session.old.profile session.old.recording (index + 1)) }
-    ensures untouched { OnErr result (writer.new ≡ writer.old) }
-    ensures stays { OnlySeeks session.old session.new }
-    ensures room { index < session.old.marks.frontier → IsOk result }
-{
-    let due = session.recording().due_time(index);
-    let view = session.seek_count(index + 1)?;
-    put_seen(index, due, still, view.terminal(), printer, writer);
-    Ok(())
 }
 
 /// Writes the text of a chunk, by what stands before it and on the terminal after it, which becomes what

@@ -5,6 +5,7 @@
 #![tactic(auto)]
 
 pub mod client;
+pub mod lines;
 #[cfg(test)]
 mod sessions;
 pub mod strip;

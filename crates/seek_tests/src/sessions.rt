@@ -11,6 +11,7 @@ mod client;
 mod large;
 mod refused;
 mod rows;
+mod walked;
 
 /// A call of a session.
 #[derive(Clone, Copy, Debug)]

@@ -1,11 +1,13 @@
 //! Refused growths. `tests/refused.py` runs these with the first, second, .. growth of memory refused, until none is,
 //! and counts the lines `refused: WHAT`. After a refusal all is as before, and the same call then answers.
+use crate::lines::Lines;
 use crate::strip::{Setup, Strip};
+use chunk_walk::visit_all_chunks;
 use std::alloc::Global;
 use std::process::Abort;
 use std::rt::Runtime;
 use std::test::Fail;
-use tape_core::{Bytes, Recording, read_recording};
+use tape_core::{Bytes, Recording, Watched, read_recording};
 use tape_seek::{Edit, EditFault, Session};
 
 /// Reads a recording; where memory is refused, once more.
@@ -188,5 +190,61 @@ fn refused_edits(rt: HostRuntime) -> Result<(), Fail> {
         (left.marks, left.recording),
         ((1, 0, 1), (4, 11, 3_000_007))
     );
+    Ok(())
+}
+
+/// A line of each of the four chunks.
+const LINES: &[u8] =
+    b"0 1.000000 ... ...\n1 2.000000 ... a..\n2 3.000000 a.. abc\n3 4.000000 abc d..\n";
+
+/// Room for all lines; where memory is refused, once more.
+fn room(rt: &impl Runtime<A = Global>) -> Result<Vec<u8>, Fail> {
+    match Vec::with_capacity(rt.alloc(), LINES.len()) {
+        Ok(room) => Ok(room),
+        Err(_) => {
+            println!(rt; "refused: room for a writer")?;
+            Ok(Vec::with_capacity(rt.alloc(), LINES.len())?)
+        }
+    }
+}
+
+/// Walks over all chunks, and tells whether memory was refused: then whole lines from the first on have gone out, and
+/// recording and log are as before.
+fn stops_early(
+    rt: &(impl Runtime<A = Global> + Abort),
+    session: &mut Session<Strip>,
+) -> Result<bool, Fail> {
+    let before = told_by(session);
+    let alloc = rt.alloc();
+    let mut writer = Watched::new(room(rt)?);
+    let stopped = visit_all_chunks(session, &Lines { alloc }, &mut writer).is_err();
+    let failed = writer.failed();
+    let begun = writer.into_inner();
+    if !stopped {
+        assert_eq!(rt; (begun.as_slice(), failed), (LINES, false));
+        return Ok(false);
+    }
+    println!(rt; "refused: a walk")?;
+    assert!(rt; LINES.starts_with(begun.as_slice()), "{begun:?} went out");
+    assert_eq!(rt;
+        (begun.len() % 19, begun.len() < LINES.len(), failed),
+        (0, true, false)
+    );
+    let after = told_by(session);
+    assert_eq!(rt;
+        (after.recording, after.log),
+        (before.recording, before.log)
+    );
+    Ok(true)
+}
+
+/// What a walk keeps takes memory at each chunk.
+#[test]
+fn refused_walks(rt: HostRuntime) -> Result<(), Fail> {
+    let mut session = four(&rt)?;
+    if stops_early(&rt, &mut session)? {
+        assert!(rt; !stops_early(&rt, &mut session)?, "refused twice");
+    }
+    assert_eq!(rt; told_by(&session).marks, (4, 4, 3));
     Ok(())
 }

@@ -1,6 +1,6 @@
 use Rattle.tape_core.specs.Devices.{Gave}
 use Rattle.screen_print.specs.FindLines.{less_line}
-use Rattle.screen_print.proofs.WalkLemmas.{texts_from}
+use Rattle.chunk_walk.proofs.TextLemmas.{texts_from}
 use Rattle.screen_print.proofs.find_lines.put_less.Given as goal
 
 -- the lines of the places so far have gone out

@@ -1,5 +1,5 @@
-use Rattle.screen_print.proofs.WalkLemmas.{ends_between, ends_sound}
-use Rattle.screen_print.proofs.laws.walks_end_sound.Goals as goal
+use Rattle.chunk_walk.proofs.SeekLemmas.{ends_between, ends_sound}
+use Rattle.chunk_walk.proofs.laws.walks_end_sound.Goals as goal
 
 pub returns-clause-alone : goal.returns-clause-alone
 returns-clause-alone g c = λ a b text stops. ends_sound g.W.Write.contents a b text stops
