@@ -1,14 +1,15 @@
 #!/usr/bin/env python3
 """Puts the player of a page together of its parts: HTML, two styles (a picture's and the page's own) and script.
 
-    assets/make_page.py DATA        writes the page with the entries that the file DATA has to standard output
-    assets/make_page.py --write     writes the player as the constants of the program that writes pages
-    assets/make_page.py --check     tells whether those constants are what --write would write
+    assets/make_page.py DATA [TITLE]  writes the page of this title with the entries that the file DATA has
+    assets/make_page.py --write       writes the player as the constants of the program that writes pages
+    assets/make_page.py --check       tells whether those constants are what --write would write
 
 The page allows itself nothing but these styles and this script, by their hashes.
 """
 import base64
 import hashlib
+import html
 import os
 import sys
 
@@ -25,27 +26,39 @@ def hash_of(text):
     return "sha256-" + base64.b64encode(hashlib.sha256(text.encode()).digest()).decode()
 
 
-def head_and_tail():
-    """What stands before the data and behind it."""
+def parts():
+    """What stands before the title, between it and the heading, between this and the data, and behind the data."""
     page, drawing = part("page.html"), part("drawing.css")
     style, script = "\n" + part("page.css"), "\n" + part("page.js")
     for name, text in (("DRAWING", drawing), ("STYLE", style), ("SCRIPT", script)):
         page = page.replace(f"{name}_HASH", hash_of(text)).replace(f">{name}<", f">{text}<")
-    return page.split("DATA")
+    front, tail = page.split("DATA")
+    return [*front.split("TITLE"), tail]
+
+
+def titled(text):
+    """A title as it stands in the page: none of it is markup or a control character."""
+    return html.escape("".join("?" if ord(c) < 32 or 127 <= ord(c) < 160 else c for c in text), quote=False)
 
 
 def constants():
-    """The player as source code: two texts between quotes that neither has."""
-    head, tail = head_and_tail()
-    quote = next(marks for marks in ("#", "##", "###", "####") if f'"{marks}' not in head + tail)
-    return f"""//! Written by assets/make_page.py of the files beside it; edit those, and run it with --write.
-
-/// What stands before the data of a page.
-pub(crate) const HEAD: &str = r{quote}"{head}"{quote};
-
-/// What stands behind it.
-pub(crate) const TAIL: &str = r{quote}"{tail}"{quote};
-"""
+    """The player as source code: texts between quotes that none of them has."""
+    texts = parts()
+    quote = next(marks for marks in ("#", "##", "###", "####") if f'"{marks}' not in "".join(texts))
+    names = (
+        ("HEAD", "What stands before the title of a page."),
+        ("MIDDLE", "What stands between the title and the same as a heading."),
+        ("REST", "What stands between the heading and the data."),
+        ("TAIL", "What stands behind the data."),
+    )
+    told = [
+        f'\n/// {what}\npub(crate) const {name}: &str = r{quote}"{text}"{quote};\n'
+        for (name, what), text in zip(names, texts)
+    ]
+    return (
+        "//! Written by assets/make_page.py of the files beside it; edit those, and run it with --write.\n"
+        + "".join(told)
+    )
 
 
 def check():
@@ -62,9 +75,10 @@ def main():
         with open(CONSTANTS, "w", encoding="utf-8") as file:
             file.write(constants())
         return 0
-    head, tail = head_and_tail()
+    head, middle, rest, tail = parts()
+    title = titled(sys.argv[2] if len(sys.argv) > 2 else "Terminal recording")
     with open(sys.argv[1], encoding="utf-8") as file:
-        sys.stdout.write(head + file.read() + tail)
+        sys.stdout.write(head + title + middle + title + rest + file.read() + tail)
     return 0
 
 

@@ -5,7 +5,8 @@
 
 Of each recording of tests/ and examples/ and of so many random ones (500 if not given), in both profiles: the rows that
 the entries fold to are those of the same bytes a second apart, as `session` answers; the whole data is what
-plain_picture.py makes of what `screen --escaped` prints there; and before and behind it stands the player of assets/.
+plain_picture.py makes of what `screen --escaped` prints there; and before and behind it stands the player of assets/,
+with a title that would be markup.
 The last line is 'N passed, M failed'.
 """
 import concurrent.futures
@@ -29,6 +30,8 @@ seed = int(sys.argv[3]) if len(sys.argv) > 3 else 1
 MAKE_PAGE = os.path.join(os.path.dirname(os.path.abspath(__file__)), "..", "assets", "make_page.py")
 # Data that no player has.
 MARK = "the data of a page"
+# A title that would be markup, with quotes and control characters.
+TITLE = "</title><script>'\"&amp;\x1b\n\x7f\x9b é─\U0001f600"
 PATIENCE = 120
 
 
@@ -63,12 +66,12 @@ def compare(folder, profile, recording):
     header, chunks, trailer = recording
     pair = written(folder, "made", recording)
     apart = written(folder, "apart", (header, [(10**6, text) for _, text in chunks], trailer))
-    status, page, note = run(folder, "page", "--profile", profile, *pair)
+    status, page, note = run(folder, "page", "--profile", profile, "--title", TITLE, *pair)
     if (status, note) != (0, check_reader.note_line(profile, header, trailer)):
         return f"status {status}, {note}"
     head, tail = PLAYER
     if not page.startswith(head) or not page.endswith(tail):
-        return "the player isn't that of assets/"
+        return "the player or the title isn't that of assets/"
     data = page[len(head) : len(page) - len(tail)].decode()
     questions = "".join(f"screen {after}\n" for after in range(len(chunks) + 1)).encode()
     told = run(folder, "session", "--profile", profile, *apart, stdin=questions)[1].decode().split("\n")
@@ -105,7 +108,9 @@ def player():
     with tempfile.NamedTemporaryFile("w", suffix=".json") as file:
         file.write(MARK)
         file.flush()
-        return subprocess.run([MAKE_PAGE, file.name], capture_output=True, check=True).stdout.split(MARK.encode())
+        return subprocess.run([MAKE_PAGE, file.name, TITLE], capture_output=True, check=True).stdout.split(
+            MARK.encode()
+        )
 
 
 PLAYER = player()

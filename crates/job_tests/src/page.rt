@@ -1,5 +1,5 @@
-//! The job `page`: the entries that stand in the player.
-use crate::in_memory::{AB, DONE, do_job};
+//! The job `page`: the title and the entries that stand in the player.
+use crate::in_memory::{AB, DONE, do_job, do_job_beside};
 use std::process::Abort;
 use std::test::Fail;
 use tape_jobs::Job;
@@ -50,4 +50,16 @@ fn page_holds_the_entries_of_each_chunk(rt: HostRuntime) -> Result<(), Fail> {
     let empty = (b"Script started on X\n".as_slice(), b"".as_slice());
     compare_entries(&rt, Profile::Vt100, empty, "[[0.000000,0,1,1]]");
     Ok(())
+}
+
+/// The text beside the job is the title.
+#[test]
+fn page_has_the_title_that_stands_beside_it(rt: HostRuntime) {
+    let job = Job::Page {
+        profile: Profile::Vt100,
+    };
+    let ended = do_job_beside(rt.alloc(), job, &['<', 'é'], SCRIPT, TIMING, b"");
+    let page = str::from_utf8(ended.text.as_slice()).unwrap_or("");
+    assert!(rt; page.contains("<title>&lt;é</title>\n"), "no title");
+    assert!(rt; page.contains("<h1>&lt;é</h1>\n"), "no heading");
 }

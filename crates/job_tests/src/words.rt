@@ -2,7 +2,7 @@ use std::alloc::{AllocError, Global};
 use std::process::Abort;
 use std::rt::Runtime;
 use std::test::Fail;
-use tape_jobs::{Job, Player, Print, Words, WordsFault, read_words};
+use tape_jobs::{Job, Player, Print, VERSION, Words, WordsFault, read_words};
 use vt_term::Profile;
 
 mod every;
@@ -10,6 +10,16 @@ mod find;
 mod flags;
 mod mend;
 mod sizes;
+mod title;
+
+/// The words of a command line, which may have spaces in them.
+fn words_from(alloc: Global, words: &[&str]) -> Result<Vec<String>, AllocError> {
+    let mut all = Vec::new(alloc);
+    for word in words {
+        all.push(String::from_str(alloc, word)?)?;
+    }
+    Ok(all)
+}
 
 /// The words of a command line, with one space between.
 pub fn words_of(alloc: Global, line: &str) -> Result<Vec<String>, AllocError> {
@@ -189,7 +199,7 @@ pub fn compare_left(rt: &(impl Runtime<A = Global> + Abort), line: &str) -> Resu
 }
 
 /// Lines that are none of the program's.
-const MISTAKES: [&str; 37] = [
+const MISTAKES: [&str; 40] = [
     "typetool",
     "typetool dew",
     "typetool help dew",
@@ -221,6 +231,9 @@ const MISTAKES: [&str; 37] = [
     "typetool page s",
     "typetool page --at 1 s t",
     "typetool page s t u",
+    "typetool page --title s t",
+    "typetool page --title a --title b s t",
+    "typetool cast --title a s t",
     "typetool cast s",
     "typetool cast --to 1 s t",
     "typetool save s t",
@@ -257,7 +270,8 @@ fn asked(rt: &(impl Runtime<A = Global> + Abort), line: &str) -> Result<String, 
 fn tells_its_version(rt: HostRuntime) -> Result<(), Fail> {
     for line in ["typetool --version", "typetool -V"] {
         let told = asked(&rt, line)?;
-        assert_eq!(rt; told.as_str(), "typetool 0.1.0\n", "{line:?}");
+        let wanted = format!(in rt.alloc(); "typetool {VERSION}\n")?;
+        assert_eq!(rt; told.as_str(), wanted.as_str(), "{line:?}");
     }
     Ok(())
 }

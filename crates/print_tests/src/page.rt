@@ -54,11 +54,15 @@ fn session_of(rt: &impl Runtime<A = Global>, chunks: &[u8]) -> Result<Session, F
     Ok(Session::open(alloc, recording, 1)?)
 }
 
-/// The page of chunks.
-fn page_of(rt: &(impl Runtime<A = Global> + Abort), chunks: &[u8]) -> Result<Vec<u8>, Fail> {
+/// The page of chunks, of this title.
+fn page_of(
+    rt: &(impl Runtime<A = Global> + Abort),
+    title: &[char],
+    chunks: &[u8],
+) -> Result<Vec<u8>, Fail> {
     let mut session = session_of(rt, chunks)?;
     let mut writer = Watched::new(Vec::new(rt.alloc()));
-    let answer = page(&mut session, &mut writer);
+    let answer = page(&mut session, title, &mut writer);
     assert_eq!(rt; answer, Ok(()));
     Ok(writer.into_inner())
 }
@@ -67,7 +71,7 @@ fn page_of(rt: &(impl Runtime<A = Global> + Abort), chunks: &[u8]) -> Result<Vec
 #[test]
 fn holds_the_entries_of_its_recording(rt: HostRuntime) -> Result<(), Fail> {
     for (chunks, entries) in &ROWS {
-        let page = page_of(&rt, chunks)?;
+        let page = page_of(&rt, &[], chunks)?;
         let text = std::str::from_utf8(page.as_slice()).unwrap_or("");
         let (head, rest) = text.split_once(" id=\"entries\">\n").unwrap_or(("", ""));
         let (data, tail) = rest.split_once("\n</script>\n").unwrap_or(("", ""));
@@ -78,18 +82,55 @@ fn holds_the_entries_of_its_recording(rt: HostRuntime) -> Result<(), Fail> {
     Ok(())
 }
 
+/// Characters that HTML escapes, quotes, controls, and what takes two, three and four bytes.
+const TITLE: &[char] = &[
+    'a',
+    '&',
+    '<',
+    '>',
+    '"',
+    '\'',
+    '\0',
+    '\n',
+    '\u{1b}',
+    '\u{7f}',
+    '\u{9f}',
+    '\u{a0}',
+    'é',
+    '─',
+    '\u{1f600}',
+];
+
+/// The title stands in the head and once more as the heading, and nothing of it is markup.
+#[test]
+fn tells_its_title_twice(rt: HostRuntime) -> Result<(), Fail> {
+    for (title, wanted) in [
+        (TITLE, "a&amp;&lt;&gt;\"'?????\u{a0}é─\u{1f600}"),
+        (&[], ""),
+    ] {
+        let page = page_of(&rt, title, b"x")?;
+        let text = std::str::from_utf8(page.as_slice()).unwrap_or("");
+        let (_, behind) = text.split_once("\n<title>").unwrap_or(("", ""));
+        let (titled, rest) = behind.split_once("</title>\n").unwrap_or(("", ""));
+        let (_, behind) = rest.split_once("\n<h1>").unwrap_or(("", ""));
+        let (headed, _) = behind.split_once("</h1>\n").unwrap_or(("", ""));
+        assert_eq!(&rt; [titled, headed], [wanted, wanted]);
+    }
+    Ok(())
+}
+
 /// A page of which a writer takes only the first bytes, cut in each of its parts.
 #[test]
 fn stops_where_the_writer_fails(rt: HostRuntime) -> Result<(), Fail> {
     let chunks = ROWS[1].0;
-    let whole = page_of(&rt, chunks)?;
+    let whole = page_of(&rt, TITLE, chunks)?;
     let len = whole.len();
     let data = len.saturating_sub(15_000);
     for room in [0, 1, 2_000, data, len.saturating_sub(1), len] {
         for flush_fails in [false, true] {
             let mut session = session_of(&rt, chunks)?;
             let mut writer = Watched::new(small_writer(rt.alloc(), room, flush_fails));
-            let answer = page(&mut session, &mut writer).map_err(|fault| match fault {
+            let answer = page(&mut session, TITLE, &mut writer).map_err(|fault| match fault {
                 ChangesFault::Write => Fault::WriteFault,
                 ChangesFault::Memory => Fault::OutOfMemory,
             });

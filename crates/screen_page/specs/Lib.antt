@@ -6,3 +6,4 @@ pub mod Page
 pub mod Parts
 pub mod Plain
 pub mod Reading
+pub mod Title

@@ -2,17 +2,26 @@
 use Rattle.std.specs.Prelude.{ℕ, List, ◌++◌}
 use Rattle.tape_core.specs.Tape.{Tape}
 use Rattle.vt_term.specs.declared.profile.Profile.{Profile}
-use Rattle.screen_page.specs.declared.player.TheConstants.{HEAD, TAIL}
+use Rattle.screen_page.specs.declared.player.TheConstants.{HEAD, MIDDLE, REST, TAIL}
 use Rattle.screen_page.specs.Entries.{entries}
 use Rattle.screen_page.specs.EntryText.{data_text}
+use Rattle.screen_page.specs.Title.{title_text}
 
--- what stands before the data of every page, and behind it: the player, in HTML with its style and its script
+-- the player, in HTML with its style and its script: what stands before the title of every page, between it and the same
+-- as a heading, between this and the data, and behind the data
 unfoldable pub head : List ℕ
 head = HEAD.now
+
+unfoldable pub middle : List ℕ
+middle = MIDDLE.now
+
+unfoldable pub rest : List ℕ
+rest = REST.now
 
 unfoldable pub tail : List ℕ
 tail = TAIL.now
 
--- the page: the player around the recording's entries
-unfoldable pub page_text : Profile → Tape → List ℕ
-page_text profile tape = head ++ data_text (entries profile tape) ++ tail
+-- the page with a title of these characters: the player around the title, twice, and the recording's entries
+unfoldable pub page_text : List ℕ → Profile → Tape → List ℕ
+page_text title profile tape =
+    head ++ title_text title ++ middle ++ title_text title ++ rest ++ data_text (entries profile tape) ++ tail

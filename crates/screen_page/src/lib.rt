@@ -7,5 +7,6 @@ pub mod laws;
 mod page_file;
 mod player;
 mod rows;
+mod title;
 
 pub use page_file::page;

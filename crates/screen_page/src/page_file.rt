@@ -3,28 +3,34 @@
 ghost use Rattle.std.specs.Prelude.{◌≡◌, ◌≢◌, ◌≤◌, length, true, false, Err, OnOk, IfErr};
 ghost use Rattle.tape_core.specs.Devices.{Gave, Took, has_failed, is_flushed};
 ghost use Rattle.tape_seek.specs.State.{KeepsHistory};
-ghost use Rattle.screen_print.specs.Stops.{OnlySeeks, StopsWalk};
-ghost use Rattle.screen_page.specs.Page.{head, page_text, tail};
+ghost use Rattle.chunk_walk.specs.Stops.{OnlySeeks};
+ghost use Rattle.screen_print.specs.Stops.{StopsWalk};
+ghost use Rattle.screen_page.specs.Page.{head, middle, page_text, rest, tail};
 ghost use Rattle.screen_page.specs.Parts.{closing, first_text, opening};
 
 use crate::entry_printer::EntryPrinter;
-use crate::player::{HEAD, TAIL};
-use screen_print::laws::walks_end_sound;
+use crate::player::{HEAD, MIDDLE, REST, TAIL};
+use crate::title::put_title;
+use chunk_walk::laws::walks_end_sound;
 use screen_print::{ChangesFault, put_all_chunks};
 use std::io::Write;
 use tape_core::Watched;
 use tape_core::laws::gives_join;
 use tape_seek::Session;
 
-/// Writes the session's recording as one HTML file that plays it, and flushes. It works by seeks. After a fault a
-/// beginning of the file has gone out. The recording and the log stay, and the frontier isn't lowered.
-pub fn page<W: Write>(session: &mut Session, writer: &mut Watched<W>) -> Result<(), ChangesFault>
+/// Writes the session's recording as one HTML file of this title that plays it, and flushes. It works by seeks. After a
+/// fault a beginning of the file has gone out. The recording and the log stay, and the frontier isn't lowered.
+pub fn page<W: Write>(
+    session: &mut Session,
+    title: &[char],
+    writer: &mut Watched<W>,
+) -> Result<(), ChangesFault>
     requires { has_failed writer.old ≡ false }
     ensures ok { OnOk result (Took W.contents writer.old writer.new
-        (page_text session.old.profile session.old.recording)) }
+        (page_text title.now session.old.profile session.old.recording)) }
     ensures flushed { OnOk result (is_flushed writer.new ≡ true) }
     ensures fault { IfErr result (StopsWalk W.contents writer.old writer.new
-        (page_text session.old.profile session.old.recording)) }
+        (page_text title.now session.old.profile session.old.recording)) }
     ensures stays { OnlySeeks session.old session.new }
     // Whatever recording the session was opened with: where its own is that one edited by the log, it is so still.
     ensures history { KeepsHistory session.old session.new }
@@ -33,7 +39,7 @@ pub fn page<W: Write>(session: &mut Session, writer: &mut Watched<W>) -> Result<
 {
     gives_join::<W>();
     walks_end_sound::<W>();
-    put_opening(writer);
+    put_opening(title, writer);
     put_all_chunks(session, &EntryPrinter, writer)?;
     put_closing(writer);
     writer.settle()?;
@@ -41,10 +47,15 @@ pub fn page<W: Write>(session: &mut Session, writer: &mut Watched<W>) -> Result<
 }
 
 /// Writes what stands before the chunks' entries.
-fn put_opening<W: Write>(writer: &mut Watched<W>)
-    ensures { Gave W.contents writer.old writer.new opening }
+fn put_opening<W: Write>(title: &[char], writer: &mut Watched<W>)
+    ensures { Gave W.contents writer.old writer.new (opening title.now) }
 {
-    writer.give_all(&[head(), first_text()]);
+    gives_join::<W>();
+    writer.give(head());
+    put_title(title, writer);
+    writer.give(middle());
+    put_title(title, writer);
+    writer.give_all(&[rest(), first_text()]);
 }
 
 /// Writes what stands behind them.
@@ -67,6 +78,20 @@ fn head() -> &'static [u8]
     ensures { result.now ≡ head }
 {
     HEAD.as_bytes()
+}
+
+#[tactic(auto, unfolding(crate::specs::Page::middle))]
+fn middle() -> &'static [u8]
+    ensures { result.now ≡ middle }
+{
+    MIDDLE.as_bytes()
+}
+
+#[tactic(auto, unfolding(crate::specs::Page::rest))]
+fn rest() -> &'static [u8]
+    ensures { result.now ≡ rest }
+{
+    REST.as_bytes()
 }
 
 #[tactic(auto, unfolding(crate::specs::Page::tail))]

@@ -1,13 +1,16 @@
 //! Written by assets/make_page.py of the files beside it; edit those, and run it with --write.
 
-/// What stands before the data of a page.
+/// What stands before the title of a page.
 pub(crate) const HEAD: &str = r#"<!DOCTYPE html>
 <html lang="en">
 <head>
 <meta charset="utf-8">
 <meta http-equiv="Content-Security-Policy" content="default-src 'none'; style-src 'sha256-ug8s/zp6byAsKfQh0lSwGytOSG4zEe1908TjyzNpOb4=' 'sha256-41ZjWXbLzhTafYEyERDbGKbMVNxsK3OwEvW/XNHXbgg='; script-src 'sha256-w8CZ2TmTArRcf4cY4Vi6kacl+F2RLHEGfM0bQnSCRSc='; form-action 'none'; base-uri 'none'">
 <meta name="viewport" content="width=device-width, initial-scale=1">
-<title>Terminal recording</title>
+<title>"#;
+
+/// What stands between the title and the same as a heading.
+pub(crate) const MIDDLE: &str = r#"</title>
 <style id="drawing">text{font:16.67px 'DejaVu Sans Mono',Menlo,Consolas,'Liberation Mono',monospace;white-space:pre}path{shape-rendering:crispEdges}.i{fill:#ddd}.p{fill:#111}.b{font-weight:bold}.n{fill:none}.k{animation:k 1s step-end infinite}@keyframes k{50%{opacity:.2}}@media print{.i{fill:#111}.p{fill:#fff}}@media print,(prefers-reduced-motion:reduce){.k{animation:none}}</style>
 <style>
 :root {
@@ -100,7 +103,10 @@ main.filled { display: flex; flex-direction: column; box-sizing: border-box; max
 <body>
 <main id="player" hidden>
 <header>
-<h1>Terminal recording</h1>
+<h1>"#;
+
+/// What stands between the heading and the data.
+pub(crate) const REST: &str = r#"</h1>
 <p id="facts"></p>
 <button id="theme" type="button" aria-label="Dark or light" title="Dark or light"><svg viewBox="0 0 24 24" aria-hidden="true"><path d="M20 14.5A8.5 8.5 0 0 1 9.5 4a8.5 8.5 0 1 0 10.5 10.5z"/></svg></button>
 </header>
@@ -167,7 +173,7 @@ recording it was made of.</p></noscript>
 <script type="application/json" id="entries">
 "#;
 
-/// What stands behind it.
+/// What stands behind the data.
 pub(crate) const TAIL: &str = r#"
 </script>
 <script>

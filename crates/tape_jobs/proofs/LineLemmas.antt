@@ -17,7 +17,7 @@ use Rattle.clap.proofs.OnLiterals.{clap_on_literals}
 use Rattle.tape_jobs.proofs.CommandLemmas.{is_simple_app, means, means_job}
 use Rattle.tape_core.specs.Seconds.{last_moment, micros, seconds_of}
 use Rattle.tape_seek.specs.Requests.{place_of}
-use Rattle.tape_jobs.specs.CommandLine.{typetool_app, clap_takes, every_allowed, every_of, usual_every, after, readable, job_in, is_searchable, moment_if, moment_or_last, profile_named, is_today, size_cut, size_from, size_named, today_if, searchable, value_in, subcommand_in, app_in, name_in, id_in, rule_in, flags_in, texts_in, text_in, paths_in}
+use Rattle.tape_jobs.specs.CommandLine.{typetool_app, clap_takes, every_allowed, every_of, usual_every, after, readable, job_in, is_searchable, moment_if, moment_or_last, profile_named, is_today, size_cut, size_from, size_named, stem_of, today_if, searchable, value_in, subcommand_in, app_in, name_in, id_in, rule_in, flags_in, texts_in, text_in, paths_in}
 use Rattle.tape_jobs.specs.Lines.{Asks, IsPlain, escaped_words, header_words, profile_or_first, profile_words, sized_words, today_words, vt_print}
 use Rattle.tape_mend.specs.declared.opening.Header.{Header}
 use Rattle.tape_mend.specs.declared.opening.Header.TheVariants.{Kept, Last, Made}
@@ -479,11 +479,31 @@ module _ (program script timing : Text) (p : IsPlain script) (q : IsPlain timing
       (ap (λ o. after (after (readable unread.Size o) (λ s. Ok (Today (Some s)))) (λ player. Ok (job.Cast player))) d) refl refl
 
   pub page_line : (profile : Option Profile)
-      → Asks (program ∷ codes "page" ∷ (profile_words profile ++ paths)) (job.Page (profile_or_first profile)) [] paths
+      → Asks (program ∷ codes "page" ∷ (profile_words profile ++ paths)) (job.Page (profile_or_first profile)) (chars (stem_of script)) paths
   unfolding clap_on_literals typetool_app app_in name_in flags_in texts_in paths_in id_in rule_in job_in text_in profile_named is_today
-  page_line None = asks_by program Page files (p, (q, tt)) refl (job.Page Vt100) [] paths refl refl refl
-  page_line (Some Vt100) = asks_by program Page as_vt100 (p, (q, tt)) refl (job.Page Vt100) [] paths refl refl refl
-  page_line (Some Vt102) = asks_by program Page as_vt102 (p, (q, tt)) refl (job.Page Vt102) [] paths refl refl refl
+  page_line None = asks_by program Page files (p, (q, tt)) refl (job.Page Vt100) (chars (stem_of script)) paths refl refl refl
+  page_line (Some Vt100) =
+      asks_by program Page as_vt100 (p, (q, tt)) refl (job.Page Vt100) (chars (stem_of script)) paths refl refl refl
+  page_line (Some Vt102) =
+      asks_by program Page as_vt102 (p, (q, tt)) refl (job.Page Vt102) (chars (stem_of script)) paths refl refl refl
+
+  -- and with a title
+  module _ (title : Text) (r : IsPlain title) where
+    abbrev titled : List Word
+    titled = literal (codes "--title") ∷ value_word title ∷ files
+
+    pub page_titled_line : (profile : Option Profile)
+        → Asks (program ∷ codes "page" ∷ ((profile_words profile ++ codes "--title" ∷ title ∷ []) ++ paths))
+        (job.Page (profile_or_first profile)) (chars title) paths
+    unfolding clap_on_literals typetool_app app_in name_in flags_in texts_in paths_in id_in rule_in job_in text_in profile_named is_today
+    page_titled_line None =
+        asks_by program Page titled (r, (p, (q, tt))) refl (job.Page Vt100) (chars title) paths refl refl refl
+    page_titled_line (Some Vt100) =
+        asks_by program Page (literal (codes "--profile") ∷ literal (codes "vt100") ∷ titled) (r, (p, (q, tt))) refl
+        (job.Page Vt100) (chars title) paths refl refl refl
+    page_titled_line (Some Vt102) =
+        asks_by program Page (literal (codes "--profile") ∷ literal (codes "vt102") ∷ titled) (r, (p, (q, tt))) refl
+        (job.Page Vt102) (chars title) paths refl refl refl
 
   pub save_line : (new_script new_timing : Text) → IsPlain new_script → IsPlain new_timing
       → Asks (program ∷ codes "save" ∷ script ∷ timing ∷ new_script ∷ new_timing ∷ []) job.Save [] (script ∷ timing ∷ new_script ∷ new_timing ∷ [])

@@ -3,6 +3,7 @@ use Rattle.std.specs.Prelude.{◌≡◌, ℕ, ◌⊎◌, ◌++◌, Bool, true, f
 use Rattle.std.specs.Char.{is_control}
 use Rattle.std.specs.List.{list_all, list_any}
 use Rattle.std.specs.Option.{option_and_then, option_map}
+use Rattle.std.specs.Path.{path_file_stem}
 use Rattle.std.specs.Str.{bytes_eq}
 use Rattle.clap.specs.Words.{App, IsAmong, Kinds, Row, Rule, Shape, Text, fault_of, first_of, kind_of, new_app, new_rule, subcommand_of, takes, with_subcommand}
 use Rattle.clap.specs.declared.builder.ArgAction.TheVariants.{Set, SetTrue}
@@ -22,7 +23,7 @@ use Rattle.tape_jobs.specs.declared.words.Words.{Words}
 use Rattle.tape_jobs.specs.declared.words.WordsFault.{WordsFault}
 use Rattle.tape_jobs.specs.declared.words.WordsFault.TheVariants.{Clap, Memory, BadSeconds, BadEvery, BadProfile, BadSize, NotPlayed, BadText, BothHeaders}
 use Rattle.tape_jobs.specs.declared.words.table.Argument.{Argument}
-use Rattle.tape_jobs.specs.declared.words.table.Argument.TheVariants.{At, From, To, Until, Every, Profile, AnyProfile, Size, Escaped, Last, Headless, Sought, Script, Timing, AnyTiming, NewScript, NewTiming}
+use Rattle.tape_jobs.specs.declared.words.table.Argument.TheVariants.{At, From, To, Until, Every, Profile, AnyProfile, Size, Escaped, Last, Headless, Title, Sought, Script, Timing, AnyTiming, NewScript, NewTiming}
 use Rattle.tape_jobs.specs.declared.words.table.Subcommand.{Subcommand}
 use Rattle.tape_jobs.specs.declared.words.table.Subcommand.TheVariants.{Due, Info, Check, Screen, Picture, Changes, Find, Reports, Page, Cast, Save, Mend, Session}
 use Rattle.tape_jobs.specs.declared.words.values.Unreadable.{Unreadable}
@@ -65,7 +66,7 @@ flags_in Picture = At ∷ Profile ∷ []
 flags_in Changes = From ∷ To ∷ Profile ∷ []
 flags_in Find = From ∷ Until ∷ Profile ∷ []
 flags_in Reports = At ∷ AnyProfile ∷ Size ∷ []
-flags_in Page = Profile ∷ []
+flags_in Page = Profile ∷ Title ∷ []
 flags_in Cast = AnyProfile ∷ Size ∷ []
 flags_in Save = []
 flags_in Mend = Last ∷ Headless ∷ []
@@ -105,6 +106,7 @@ id_in Size = codes "size"
 id_in Escaped = codes "escaped"
 id_in Last = codes "last"
 id_in Headless = codes "headless"
+id_in Title = codes "title"
 id_in Sought = codes "text"
 id_in Script = codes "script"
 id_in Timing = codes "timing"
@@ -142,6 +144,7 @@ rule_in Size = optional_rule (id_in Size)
 rule_in Escaped = switch_rule (id_in Escaped)
 rule_in Last = switch_rule (id_in Last)
 rule_in Headless = switch_rule (id_in Headless)
+rule_in Title = optional_rule (id_in Title)
 rule_in Sought = positional_rule (id_in Sought)
 rule_in Script = positional_rule (id_in Script)
 rule_in Timing = positional_rule (id_in Timing)
@@ -374,9 +377,18 @@ pub record Meaning : Type 0 where
   pub text : List ℕ
   pub paths : List Text
 
--- the characters of the text beside a job: what `find` looks for, and none for the others (ours)
+-- the name of a path without its ending: its last part up to the last point, where something stands before that (ours)
+unfoldable pub stem_of : Text → Text
+stem_of path = unwrap_or (path_file_stem path) []
+
+-- the title of a page: the one that is given, and else the name of the script without its ending (ours)
+abbrev pub title_in : List Row → Text
+title_in rows = unwrap_or (first_of (id_in Title) rows) (stem_of (value_in (id_in Script) rows))
+
+-- the characters of the text beside a job: what `find` looks for, the title of a page, and none for the others (ours)
 unfoldable pub text_in : Subcommand → List Row → List ℕ
 text_in Find rows = chars (value_in (id_in Sought) rows)
+text_in Page rows = chars (title_in rows)
 text_in _ rows = []
 
 -- what a subcommand means with these values, or what of them isn't readable (ours)

@@ -69,6 +69,13 @@ abbrev pub LineAsks : Text → List Text → Job → Type 0
 LineAsks name flags job = (program script timing : Text) → IsPlain script → IsPlain timing
     → Asks (program ∷ name ∷ (flags ++ script ∷ timing ∷ [])) job [] (script ∷ timing ∷ [])
 
+-- a line that asks for a page, with the title that it has by the script: the program's name, the subcommand's, these
+-- flags, a script and a timing (ours)
+abbrev pub PageAsks : List Text → (Text → Text) → Job → Type 0
+PageAsks flags title job = (program script timing : Text) → IsPlain script → IsPlain timing
+    → Asks (program ∷ codes "page" ∷ (flags ++ script ∷ timing ∷ [])) job (chars (title script))
+    (script ∷ timing ∷ [])
+
 -- a line that asks where a text came to stand, of characters that can be looked for: the program's name, the
 -- subcommand's, these flags, the text, a script and a timing (ours)
 abbrev pub FindAsks : List Text → Job → Type 0

@@ -109,7 +109,7 @@ done_ending text ending = record {
 -- what a job comes to on a recording, request lines and a text: the bytes that are due, what the recording holds, what
 -- it says of itself and isn't played of it, what the terminal shows, as text or as a picture, which lines of it each chunk
 -- changes, where the text came to stand and where it went, what the terminal has sent by then, the
--- page, the asciicast, both files anew, or the answers to the lines (ours)
+-- page of which the text is the title, the asciicast, both files anew, or the answers to the lines (ours)
 abbrev pub done_on : Job → Tape → List ℕ → List ℕ → Done
 done_on (Due at) tape requests text = done_with (due tape.chunks at) []
 done_on Info tape requests text = done_with (info_text tape) []
@@ -123,7 +123,7 @@ done_on (Changes from to profile) tape requests text =
 done_on (Find from to profile) tape requests text =
     done_with (find_lines profile tape from to text) []
 done_on (Reports at player) tape requests text = done_with (sent_at player tape at) []
-done_on (Page profile) tape requests text = done_with (page_text profile tape) []
+done_on (Page profile) tape requests text = done_with (page_text text profile tape) []
 done_on (Cast player) tape requests text = done_with (cast_of player tape) []
 done_on Save tape requests text = saved_by tape requests
 done_on (Mend how) tape requests text = done_with (script_text tape) (timing_text tape)

@@ -77,7 +77,7 @@ pub enum Job {
         at: u64,
         player: Player,
     },
-    /// Write the whole recording as one file for a browser, which plays it.
+    /// Write the whole recording as one file for a browser, which plays it. Its title is the text beside the job.
     Page {
         profile: Profile,
     },
@@ -245,7 +245,8 @@ pub fn run<S: Read, T: Read, R: Read, O: Write, P: Write>(
     )
 }
 
-/// Does a job as `run` does, with a text beside it, which is what `find` looks for, and tells the note of the recording.
+/// Does a job as `run` does, with a text beside it, which is what `find` looks for and the title of a page, and tells the
+/// note of the recording.
 ///
 /// Where a job plays a recording, the note says what of it this terminal plays otherwise than it was recorded. A note that
 /// can't be written, or not whole, changes neither the outcome nor the output.
@@ -329,7 +330,7 @@ fn perform<O: Write, P: Write>(
             write_found(alloc, recording, profile, from, to, text, out)?
         }
         Job::Reports { at, player } => write_reports(alloc, recording, player, at, out)?,
-        Job::Page { profile } => write_page(alloc, recording, profile, out)?,
+        Job::Page { profile } => write_page(alloc, recording, profile, text, out)?,
         Job::Cast { player } => write_cast(alloc, recording, player, out)?,
         Job::Save => return write_edited(alloc, recording, &requests, out, out_timing),
         Job::Mend { .. } => unreachable!(),

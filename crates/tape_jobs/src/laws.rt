@@ -3,8 +3,8 @@
 ghost use Rattle.std.specs.Prelude.{◌≡◌, ◌++◌, ◌∷◌, [], ℕ, Bool, List, None, Option, Some, codes, false};
 ghost use Rattle.clap.specs.Words.{Text};
 ghost use Rattle.tape_core.specs.Seconds.{last_moment, seconds_of};
-ghost use Rattle.tape_jobs.specs.CommandLine.{every_of, size_named, usual_every};
-ghost use Rattle.tape_jobs.specs.Lines.{Asks, FindAsks, IsPlain, LineAsks, escaped_words, header_words, profile_or_first, profile_words, sized_words, today_words, vt_print};
+ghost use Rattle.tape_jobs.specs.CommandLine.{every_of, size_named, stem_of, usual_every};
+ghost use Rattle.tape_jobs.specs.Lines.{Asks, FindAsks, IsPlain, LineAsks, PageAsks, escaped_words, header_words, profile_or_first, profile_words, sized_words, today_words, vt_print};
 ghost use Rattle.tape_mend.specs.declared.opening.Header.{Header};
 ghost use Rattle.vt_term.specs.declared.profile.Profile.{Profile};
 ghost use Rattle.tape_jobs.specs.declared.job.Job.TheVariants as job;
@@ -78,8 +78,11 @@ pub fn plain_lines_are_read()
         → (size : Text) (measure : Measure) → size_named size ≡ Some measure
         → LineAsks (codes "reports") (codes "--at" ∷ at ∷ sized_words size)
         (job.Reports moment (Today (Some measure))) }
-    ensures page { (profile : Option Profile) → LineAsks (codes "page")
-        (profile_words profile) (job.Page (profile_or_first profile)) }
+    ensures page { (profile : Option Profile) → PageAsks (profile_words profile) stem_of
+        (job.Page (profile_or_first profile)) }
+    ensures page_titled { (title : Text) → IsPlain title → (profile : Option Profile)
+        → PageAsks (profile_words profile ++ codes "--title" ∷ title ∷ []) (λ _. title)
+        (job.Page (profile_or_first profile)) }
     ensures cast { (profile : Option Profile) → LineAsks (codes "cast")
         (profile_words profile) (job.Cast (Vt (profile_or_first profile))) }
     ensures cast_today { LineAsks (codes "cast") today_words (job.Cast (Today None)) }

@@ -11,4 +11,4 @@ mod words;
 pub use job::{Ending, Job, JobFault, Outcome, run, run_with};
 pub use jobs::mend::mend;
 pub use player::{Measure, Player, Print};
-pub use words::{Words, WordsFault, read_words};
+pub use words::{VERSION, Words, WordsFault, read_words};

@@ -13,13 +13,14 @@ use crate::job::Job;
 use clap::error::ErrorKind;
 use clap::{ArgMatches, Error};
 use command::typetool_command;
+pub use help::VERSION;
 use std::alloc::{AllocError, Global};
 use table::{Subcommand, name_of, subcommands};
 use thiserror::Error as ThisError;
 use values::{Unreadable, read_job, read_paths, read_text};
 
-/// A command line that was read: the job, the characters of the text beside it, which but for `find` has none, and the
-/// paths in the line's order.
+/// A command line that was read: the job, the characters of the text beside it, which but for `find` and `page` has none,
+/// and the paths in the line's order.
 #[derive(Debug, Drop)]
 pub struct Words {
     pub job: Job,

@@ -40,7 +40,7 @@ fn plain_case<'a>(job: Job, text: &'a [u8]) -> Case<'a> {
 }
 
 /// Bytes for the longest text, which is a page.
-const ROOM: usize = 30_000;
+const ROOM: usize = 40_000;
 
 /// Room for either text; where memory is refused, once more.
 fn room(rt: &impl Runtime<A = Global>) -> Result<Vec<u8>, Fail> {

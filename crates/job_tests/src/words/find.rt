@@ -1,20 +1,9 @@
 //! The text of `find`, and its flags.
-use super::{compare_left, told};
-use std::alloc::{AllocError, Global};
-use std::process::Abort;
+use super::{compare_left, told, words_from};
 use std::test::Fail;
 use tape_core::limits::LAST_MOMENT;
 use tape_jobs::{Job, read_words};
 use vt_term::Profile;
-
-/// The words of a command line, which may have spaces in them.
-fn words_from(alloc: Global, words: &[&str]) -> Result<Vec<String>, AllocError> {
-    let mut all = Vec::new(alloc);
-    for word in words {
-        all.push(String::from_str(alloc, word)?)?;
-    }
-    Ok(all)
-}
 
 /// A line's words, what stands for `--from`, for `--to` and for `--profile`, and the text.
 const LINES: [(&[&str], Option<u64>, u64, Profile, &[char]); 4] = [

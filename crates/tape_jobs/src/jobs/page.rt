@@ -15,20 +15,21 @@ use std::mem::ManuallyDrop;
 use tape_core::{Recording, Watched};
 use vt_term::Profile;
 
-/// Writes the page, and flushes. Where memory is refused, a beginning of it has gone out.
+/// Writes the page of this title, and flushes. Where memory is refused, a beginning of it has gone out.
 pub fn write_page<O: Write>(
     alloc: Global,
     recording: Recording,
     profile: Profile,
+    title: &[char],
     out: &mut Watched<O>,
 ) -> Result<(), JobFault>
     requires { has_failed out.old ≡ false }
     ensures puts { JobPuts O.contents out.old out.new
-        (page_text profile recording) result }
+        (page_text title.now profile recording) result }
     ensures flushed { OnOk result (is_flushed out.new ≡ true) }
 {
     stops_join::<O>();
     let session = open_session(alloc, recording, EVERY, profile)?;
-    page(&mut ManuallyDrop::new(session), out)?;
+    page(&mut ManuallyDrop::new(session), title, out)?;
     Ok(())
 }

@@ -95,7 +95,8 @@ fn arg_of<'a>(alloc: Global, argument: Argument) -> Arg<'a>
         | Argument::Every
         | Argument::Profile
         | Argument::AnyProfile
-        | Argument::Size => optional_flag(
+        | Argument::Size
+        | Argument::Title => optional_flag(
             alloc,
             id_of(argument),
             value_name_of(argument),

@@ -176,7 +176,7 @@ pub fn value_name_of<'a>(argument: Argument) -> &'a str {
         Argument::Profile | Argument::AnyProfile => "PROFILE",
         Argument::Size => "CxL",
         Argument::Escaped | Argument::Last | Argument::Headless => "",
-        Argument::Sought => "TEXT",
+        Argument::Title | Argument::Sought => "TEXT",
         Argument::Script => "SCRIPT",
         Argument::Timing | Argument::AnyTiming => "TIMING",
         Argument::NewScript => "NEWSCRIPT",
@@ -219,6 +219,8 @@ pub fn help_of<'a>(argument: Argument) -> &'a str {
         Argument::Headless => {
             "Put a line 'Script started' before the typescript, for one that has lost its first line"
         }
+        Argument::Title =>
+            "The title of the page; the name of SCRIPT without its ending, if not given",
         Argument::Sought =>
             "What to look for: characters as they stand on the screen, not only spaces",
         Argument::Script => "The typescript that script(1) wrote: the bytes themselves",

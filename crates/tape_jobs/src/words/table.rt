@@ -46,6 +46,8 @@ pub enum Argument {
     Last,
     /// The typescript has no header.
     Headless,
+    /// The title of a page.
+    Title,
     /// The text that is looked for.
     Sought,
     /// The typescript.
@@ -110,7 +112,8 @@ pub fn flags_of(subcommand: Subcommand) -> &'static [Argument]
 {
     match subcommand {
         Subcommand::Due => &[Argument::At],
-        Subcommand::Check | Subcommand::Page => &[Argument::Profile],
+        Subcommand::Check => &[Argument::Profile],
+        Subcommand::Page => &[Argument::Profile, Argument::Title],
         Subcommand::Cast => &[Argument::AnyProfile, Argument::Size],
         Subcommand::Screen => &[
             Argument::At,
@@ -197,6 +200,7 @@ pub fn id_of<'a>(argument: Argument) -> &'a str
         Argument::Escaped => "escaped",
         Argument::Last => "last",
         Argument::Headless => "headless",
+        Argument::Title => "title",
         Argument::Sought => "text",
         Argument::Script => "script",
         Argument::Timing | Argument::AnyTiming => "timing",

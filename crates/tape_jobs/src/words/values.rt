@@ -5,7 +5,7 @@ ghost use Rattle.std.specs.Option.{option_map};
 ghost use Rattle.std.specs.Char.{is_control};
 ghost use Rattle.std.specs.List.{list_all, list_any};
 ghost use Rattle.clap.specs.Words.{first_of, found_of, rows_of};
-ghost use Rattle.tape_jobs.specs.CommandLine.{every_allowed, every_in, every_of, header_in, id_in, is_searchable, is_today, job_in, player_in, print_by, size_cut, size_named, today_if, vt_if, moment_in, moment_given_in, moment_or_last_in, paths_in, profile_in, profile_named, switch_in, text_in, value_in};
+ghost use Rattle.tape_jobs.specs.CommandLine.{every_allowed, every_in, every_of, header_in, id_in, is_searchable, is_today, job_in, player_in, print_by, size_cut, size_named, today_if, vt_if, moment_in, moment_given_in, moment_or_last_in, paths_in, profile_in, profile_named, stem_of, switch_in, text_in, title_in, value_in};
 ghost use Rattle.tape_jobs.specs.declared.words.table.Subcommand.TheVariants.{Find as find, Screen as screen};
 
 use super::table::{Argument, Subcommand, id_of, paths_of};
@@ -14,6 +14,7 @@ use crate::player::{Measure, Player, Print, is_size};
 use crate::shared::EVERY;
 use clap::ArgMatches;
 use std::alloc::{AllocError, Global};
+use std::path::Path;
 use tape_core::limits::LAST_MOMENT;
 use tape_core::read_seconds;
 use tape_core::text::read_number;
@@ -327,7 +328,7 @@ fn is_given(values: &ArgMatches<'_>, flag: Argument) -> bool
     value_text(values, flag) == "true"
 }
 
-/// The characters of the text beside a job: what `find` looks for, and none for the others.
+/// The characters of the text beside a job: what `find` looks for, the title of a page, and none for the others.
 #[tactic(auto, unfolding(crate::specs::CommandLine::text_in))]
 pub fn read_text(
     alloc: Global,
@@ -337,10 +338,29 @@ pub fn read_text(
     ensures { IfOk result (λ text. text.items
         ≡ text_in subcommand (rows_of (found_of values.now))) }
 {
-    let Subcommand::Find = subcommand else {
-        return Ok(Vec::new(alloc));
-    };
-    value_text(values, Argument::Sought).chars().collect(alloc)
+    match subcommand {
+        Subcommand::Find => value_text(values, Argument::Sought).chars().collect(alloc),
+        Subcommand::Page => title_of(values).chars().collect(alloc),
+        _ => Ok(Vec::new(alloc)),
+    }
+}
+
+/// The title of a page: the one that is given, or else the name of the script.
+fn title_of<'a>(values: &ArgMatches<'a>) -> &'a str
+    ensures { result.now ≡ title_in (rows_of (found_of values.now)) }
+{
+    match value_given(values, Argument::Title) {
+        Some(title) => title,
+        None => stem_of(value_text(values, Argument::Script)),
+    }
+}
+
+/// The name of a file without its ending.
+#[tactic(auto, unfolding(crate::specs::CommandLine::stem_of))]
+fn stem_of(path: &str) -> &str
+    ensures { result.now ≡ stem_of path.now }
+{
+    Path::new(path).file_stem().unwrap_or("")
 }
 
 /// The paths of a subcommand, in the line's order.

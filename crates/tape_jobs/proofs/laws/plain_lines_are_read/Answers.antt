@@ -1,4 +1,4 @@
-use Rattle.tape_jobs.proofs.LineLemmas.{cast_line, cast_sized_line, cast_today_line, changes_from_line, changes_line, check_line, due_line, find_between_line, find_line, info_line, mend_line, page_line, picture_line, reports_line, reports_sized_line, reports_today_line, save_line, screen_line, screen_sized_line, screen_today_line, session_every_line, session_line}
+use Rattle.tape_jobs.proofs.LineLemmas.{cast_line, cast_sized_line, cast_today_line, changes_from_line, changes_line, check_line, due_line, find_between_line, find_line, info_line, mend_line, page_line, page_titled_line, picture_line, reports_line, reports_sized_line, reports_today_line, save_line, screen_line, screen_sized_line, screen_today_line, session_every_line, session_line}
 use Rattle.tape_jobs.proofs.laws.plain_lines_are_read.Goals as goal
 
 pub returns-clause-due : goal.returns-clause-due
@@ -49,6 +49,9 @@ returns-clause-reports c = λ at moment e profile program script timing p q. rep
 
 pub returns-clause-page : goal.returns-clause-page
 returns-clause-page c = λ profile program script timing p q. page_line program script timing p q profile
+
+pub returns-clause-page_titled : goal.returns-clause-page_titled
+returns-clause-page_titled c = λ title r profile program script timing p q. page_titled_line program script timing p q title r profile
 
 pub returns-clause-cast : goal.returns-clause-cast
 returns-clause-cast c = λ profile program script timing p q. cast_line program script timing p q profile

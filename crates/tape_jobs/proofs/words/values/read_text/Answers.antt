@@ -3,6 +3,10 @@ use Rattle.std.proofs.lemmas.Str.{chars_from_encodes}
 use Rattle.tape_jobs.specs.CommandLine.{text_in}
 use Rattle.tape_jobs.proofs.words.values.read_text.Goals as goal
 
-pub returns : goal.returns
+pub returns-in-Find : goal.returns-in-Find
 unfolding text_in
-returns c = search (rules, chars_from_encodes)
+returns-in-Find c = search (rules, chars_from_encodes)
+
+pub returns-in-Page : goal.returns-in-Page
+unfolding text_in
+returns-in-Page c = search (rules, chars_from_encodes)
