@@ -1,2 +1,3 @@
 mod RedactLemmas
 mod ReadLemmas
+mod TextLemmas

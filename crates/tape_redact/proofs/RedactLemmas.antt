@@ -1,13 +1,13 @@
 -- Occurrences, and what is written over them.
-use Rattle.std.proofs.Common.{◌≡◌, ℕ, zero, suc, ◌+◌, ◌-◌, ◌<◌, ◌≤◌, Bool, true, false, ◌||◌, ◌==◌, List, [], ◌∷◌, ◌++◌, length, get_or, set, map, drop, take, nat_eq, nat_lt, add-zero, refl, ap, sym, ◌∙◌, subst, arith, inl, inr, zero-add, cond, append_assoc, length-append, length-drop}
+use Rattle.std.proofs.Common.{◌≡◌, ℕ, zero, suc, ◌+◌, ◌-◌, ◌<◌, ◌≤◌, Bool, true, false, ◌==◌, List, [], ◌∷◌, ◌++◌, length, get_or, set, map, drop, take, nat_eq, nat_lt, add-zero, refl, ap, sym, ◌∙◌, arith, inl, inr, zero-add, cond, append_assoc, length-append, length-drop}
 use Rattle.std.specs.List.{All, count_by, list_any, range_with_len, starts_with}
 use Rattle.std.proofs.lemmas.Bool.{both_ways, cases_Bool, cases_order, cond-false, cond-true, eqb-false, false_from_ne_true, le-ltb, lt-ltb, or_cases, or_left, or_right}
 use Rattle.std.proofs.lemmas.Bool.Decides.{Decides-eqb}
-use Rattle.std.proofs.lemmas.List.{drop_at, get_or_append_left, get_or_default, length-take, get_or-drop, get_or-map, get_or-take, get_or_past, length-map, length-take-le, same_lists, take_at, drop-set-lt, drop-drop, map-id, take_more, take_more_set}
+use Rattle.std.proofs.lemmas.List.{drop_at, get_or_append_left, get_or_default, length-take, get_or-drop, get_or-map, get_or-take, length-map, length-take-le, same_lists, drop-set-lt, drop-drop, map-id, take_more, take_more_set}
 use Rattle.std.proofs.lemmas.List.FromFn.{get_or-range_with_len, length-range_with_len, map-range_with_len_more}
 use Rattle.std.proofs.lemmas.List.Sums.{count_by-le-length, sum_by_push}
 use Rattle.std.proofs.lemmas.Slice.Eq.{slice_eq-Decides}
-use Rattle.tape_redact.specs.Law.{HidesAll, LinesStay, NoneIsLeft, SameLines}
+use Rattle.tape_redact.specs.Law.{HidesAll, LinesStay, NoneIsLeft}
 use Rattle.tape_redact.specs.Redacted.{begins_at, byte_at, is_covered, redacted}
 
 -- ---- some number in a row of them

@@ -1,9 +1,11 @@
 -- What holds of redacted bytes, and of a recording whose bytes change: statements of the crate's laws.
-use Rattle.std.specs.Prelude.{◌≡◌, ℕ, ◌+◌, ◌<◌, ◌==◌, Bool, true, false, List, [], ◌∷◌, ◌++◌, drop, length, map, slice_index, take}
-use Rattle.std.specs.List.{All, Contains}
+use Rattle.std.specs.Prelude.{◌≡◌, ℕ, ◌+◌, ◌<◌, ◌==◌, true, false, List, ◌++◌, length, map, slice_index}
+use Rattle.std.specs.List.{All}
 use Rattle.tape_core.specs.declared.chunk.Chunk.{Chunk}
 use Rattle.tape_core.specs.Reading.{fault_of, reads}
-use Rattle.tape_core.specs.Tape.{Tape, body}
+use Rattle.tape_core.specs.Tape.{Tape}
+use Rattle.tape_core.specs.Written.{script_text, timing_text}
+use Rattle.tape_redact.specs.Recording.{cut, recut}
 use Rattle.tape_redact.specs.Redacted.{begins_at, is_covered, redacted}
 
 -- nothing else changes, and each byte of an occurrence does
@@ -28,20 +30,7 @@ pub record SameLines (old new : List ℕ) : Type 0 where
 abbrev pub LinesStay : Type 0
 LinesStay = (text bytes : List ℕ) → All (λ b. (b == 10) ≡ false) text → SameLines bytes (redacted text bytes)
 
--- the chunks with other bytes, cut from these by their lengths
-abbrev pub cut : List Chunk → List ℕ → List Chunk
-cut [] bytes = []
-cut (c ∷ cs) bytes = record c { bytes = take (length c.bytes) bytes } ∷ cut cs (drop (length c.bytes) bytes)
-
--- the recording with the bytes of another script
-abbrev pub recut : Tape → List ℕ → Tape
-recut tape script = record {
-  header = take (length tape.header) script;
-  chunks = cut tape.chunks (drop (length tape.header) script);
-  trailer = drop (length (body tape.chunks)) (drop (length tape.header) script);
-}
-
--- with them it is read as that recording, or with the same fault
+-- with other bytes it is read as that recording, or with the same fault
 pub record ReadsAlike : Type 0 where
   pub faults : (old new timing : List ℕ) → SameLines old new → fault_of new timing ≡ fault_of old timing
   pub recordings : (old new timing : List ℕ) (tape : Tape) → SameLines old new → reads old timing tape
@@ -52,3 +41,9 @@ pub record TimesStay : Type 0 where
   pub delays : (chunks : List Chunk) (bytes : List ℕ) → map (λ c. c.delay) (cut chunks bytes) ≡ map (λ c. c.delay) chunks
   pub counts : (old new timing : List ℕ) (tape : Tape) → SameLines old new → reads old timing tape
       → map (λ c. length c.bytes) (recut tape new).chunks ≡ map (λ c. length c.bytes) tape.chunks
+
+-- both files of a recording whose bytes are cut from another script: that script, and the old timing where it is as long
+pub record WrittenAnew : Type 0 where
+  pub script : (tape : Tape) (script : List ℕ) → script_text (recut tape script) ≡ script
+  pub timing : (tape : Tape) (script : List ℕ) → length script ≡ length (script_text tape)
+      → timing_text (recut tape script) ≡ timing_text tape

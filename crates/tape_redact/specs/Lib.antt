@@ -1,2 +1,3 @@
 pub mod Redacted
+pub mod Recording
 pub mod Law

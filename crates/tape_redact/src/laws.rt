@@ -1,7 +1,7 @@
 //! Laws over the definitions alone, as functions with empty bodies.
 
 ghost use Rattle.std.specs.Prelude.{ℕ, List};
-ghost use Rattle.tape_redact.specs.Law.{HidesAll, LinesStay, NoneIsLeft, ReadsAlike, TimesStay};
+ghost use Rattle.tape_redact.specs.Law.{HidesAll, LinesStay, NoneIsLeft, ReadsAlike, TimesStay, WrittenAnew};
 
 /// Each byte of an occurrence is hidden, and no other byte changes.
 pub fn redacting_hides_all()
@@ -27,4 +27,9 @@ pub fn scripts_read_alike()
 /// It has the same delays and counts.
 pub fn times_stay()
     ensures { TimesStay }
+{}
+
+/// Written, a recording whose bytes are cut from another script is that script, with the timing of before.
+pub fn what_is_cut_anew_is_written()
+    ensures { WrittenAnew }
 {}

@@ -1,4 +1,4 @@
-use Rattle.std.proofs.Common.{◌≡◌, ◌+◌, ◌<◌, ◌≤◌, ◌∙◌, ap, arith, cond, get_or, length, nat_lt, ◌-◌, subst, sym}
+use Rattle.std.proofs.Common.{◌≡◌, ◌+◌, ◌<◌, ◌∙◌, ap, arith, cond, get_or, length, nat_lt, ◌-◌, sym}
 use Rattle.std.proofs.lemmas.List.{take_all}
 use Rattle.tape_redact.specs.Redacted.{begins_at, byte_at, is_covered, occurrences, redacted}
 use Rattle.tape_redact.proofs.RedactLemmas.{begun_few, begun_more, begun_before, begins_same, here_is, hidden_more, is_reached, length-redacted, reach_more, rest_more}
