@@ -189,8 +189,13 @@ def lines_of(text):
 
 
 def faults_of(text):
-    """What is told of recordings and is no note; engines may tell of the machine besides."""
-    return sorted(line for line in lines_of(text) if "\ttypetool: " in line and "\ttypetool: note: " not in line)
+    """What is told of recordings and is no hint and no note; engines may tell of the machine besides."""
+    return sorted(line for line in lines_of(text) if "\ttypetool: " in line and not is_beside(line))
+
+
+def is_beside(line):
+    """Whether a line is told beside a fault."""
+    return ": hint: " in line or ": note: " in line
 
 
 def free_ports():
@@ -344,7 +349,7 @@ def try_wrong(program):
             status = archive.run(number, f"exec 2>{place}/errors")
             check(f"a full disk: {engine}", archive.file("errors"), "tee: ../found: No space left on device\n")
             check(f"a full disk: the status of {engine}", status != 0, True)
-            told = [line for line in lines_of(archive.file("told")) if mark in line and ": note: " not in line]
+            told = [line for line in lines_of(archive.file("told")) if mark in line and not is_beside(line)]
             check(f"a full disk: {engine} asks all", len(told), expected(archive, asked)[2])
             os.remove(os.path.join(place, "found"))
         compare(archive, "room again", archive.run(2), asked)

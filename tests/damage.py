@@ -24,6 +24,8 @@ import plain_reader as plain
 program = os.path.abspath(sys.argv[1])
 pairs = int(sys.argv[2]) if len(sys.argv) > 2 else 200
 seed = int(sys.argv[3]) if len(sys.argv) > 3 else 1
+# What follows a request line that save refuses.
+STAY = "typetool: hint: NEWSCRIPT and NEWTIMING stay, empty: remove them before you try again\n"
 # Far above what any of these files takes: a command that isn't done by then is stuck.
 PATIENCE = 20
 
@@ -107,7 +109,7 @@ class Damage:
         self.write("t", timing)
         recording = plain.read(script, timing)
         if isinstance(recording, str):
-            return self.refused(recording)
+            return self.refused(plain.told(recording, script, timing))
         header, chunks, trailer = recording
         self.note = check_reader.note_line("vt100", header, trailer)
         text, status = check_reader.check("vt100", header, b"".join(chunk for _, chunk in chunks), trailer)
@@ -115,8 +117,8 @@ class Damage:
         self.played(recording)
         self.edited(recording)
 
-    def refused(self, fault):
-        told = (1, b"", f"typetool: {fault}\n".encode())
+    def refused(self, errors):
+        told = (1, b"", errors)
         for words in (
             ["due", "--at", "1"],
             ["info"],
@@ -204,7 +206,7 @@ class Damage:
         wanted = plain.save(recording, edits)
         got = self.run(["save", "s", "t", "s2", "t2"], edits)
         if isinstance(wanted, str):
-            self.expect("save", got, (1, b"", f"typetool: {wanted}\n".encode()))
+            self.expect("save", got, (1, b"", f"typetool: {wanted}\n{STAY}".encode()))
             wanted = (b"", b"")
         else:
             self.expect("save", got, (0, b"", b""))

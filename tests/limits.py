@@ -40,7 +40,14 @@ def check(name, got, wanted):
 
 
 def told(fault):
-    return 1, b"", f"typetool: {fault}\n".encode()
+    """Of the pair in the files s and t."""
+    return 1, b"", plain.told(fault, *open_all("s", "t"))
+
+
+def refused(fault):
+    """Of a request line that save refuses."""
+    hint = "NEWSCRIPT and NEWTIMING stay, empty: remove them before you try again"
+    return 1, b"", f"typetool: {fault}\ntypetool: hint: {hint}\n".encode()
 
 
 def pair(script, timing):
@@ -209,7 +216,9 @@ def limits_of_edits():
         (b"delete 99999999999999999999 99999999999999999999", "E6 BadRange"),
         (b"insert 99999999999999999999 0 -", "E1 NoSuchChunk"),
     ]:
-        check(line[:40].decode(), saved(line + b"\n"), told(f"request line 1: {answer}") if answer else (0, b"", b""))
+        check(
+            line[:40].decode(), saved(line + b"\n"), refused(f"request line 1: {answer}") if answer else (0, b"", b"")
+        )
         text = f"refused {answer}\n" if answer else "ok\n"
         check(
             line[:40].decode() + " in a session",
@@ -217,7 +226,7 @@ def limits_of_edits():
             (int(bool(answer)), text.encode(), b""),
         )
     pair(HEADER, b"0 0\n" * 999_999)
-    check("chunks by edits", saved(b"insert 0 0 -\ninsert 0 0 -\n"), told("request line 2: E4 TooManyChunks"))
+    check("chunks by edits", saved(b"insert 0 0 -\ninsert 0 0 -\n"), refused("request line 2: E4 TooManyChunks"))
     check(
         "chunks by edits in a session",
         run(["session", "s", "t"], b"insert 0 0 -\ninsert 0 0 -\n"),
@@ -253,7 +262,7 @@ def full_body():
     check("a full body", (status, err), (1, b""))
     for (line, answer), got in zip(rows, out.split(b"\n")):
         check("a full body: " + line[:40].decode(), got.decode(), f"refused {answer}" if answer else "ok")
-    check("a byte too many", saved(b"cap 1\nreplace 1024 4141\n"), told("request line 2: E5 TooManyBytes"))
+    check("a byte too many", saved(b"cap 1\nreplace 1024 4141\n"), refused("request line 2: E5 TooManyBytes"))
     os.remove("s")
 
 

@@ -19,6 +19,7 @@ import tempfile
 
 import harm
 import mend_reader
+import plain_reader as plain
 
 program = os.path.abspath(sys.argv[1])
 pairs = int(sys.argv[2]) if len(sys.argv) > 2 else 200
@@ -108,11 +109,15 @@ class Mending:
         got = self.run("mend", how, "s", "t", "s2", "t2")
         mended = mend_reader.mend(how, script, timing)
         if mended is None:
-            self.expect(f"mend {how}", got, (1, b"", b"typetool: typescript has no header line\n"))
+            fault = plain.told("typescript has no header line", script, timing)
+            self.expect(f"mend {how}", got, (1, b"", fault))
             self.expect("what is left", (self.text("s2"), self.text("t2")), (b"", b""))
             return
         new_script, new_timing, told, status = mended
-        self.expect(f"mend {how}", got, (status, told.encode(), b""))
+        hint = (
+            plain.hint("timing line 1: bad stream", script, timing) if timing.startswith(b"Script started on ") else ""
+        )
+        self.expect(f"mend {how}", got, (status, told.encode(), hint.encode()))
         self.expect("the new pair", (self.text("s2"), self.text("t2")), (new_script, new_timing))
         self.expect("what info says of it", self.run("info", "s2", "t2")[::2], (0, b""))
         status, _, errors = self.run("check", "s2", "t2")

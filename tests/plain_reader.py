@@ -84,6 +84,30 @@ def read(script, timing):
     return header, chunks, script[at:]
 
 
+def hint(fault, script, timing):
+    """The line behind the fault of a pair: what to do about it."""
+    swapped = timing.startswith(b"Script started on ")
+    words = next((fields(line) for line in lines_of(timing) if fields(line)), [b""])
+    if fault == "typescript has no header line":
+        empty, headless = (
+            "the typescript is empty: was a save interrupted?",
+            "takes a typescript without its header line",
+        )
+        text = f"typetool mend --headless {headless}" if script else empty
+    elif fault.startswith("timing line 1:") and swapped:
+        text = "the timing file comes second: SCRIPT TIMING"
+    elif fault.endswith("multi-stream format") and words[0] in (b"H", b"I", b"O", b"S"):
+        text = "typetool mend writes this in the classic format"
+    else:
+        text = "typetool mend keeps what can be read"
+    return f"typetool: hint: {text}\n"
+
+
+def told(fault, script, timing):
+    """What is told of the fault of a pair."""
+    return f"typetool: {fault}\n{hint(fault, script, timing)}".encode()
+
+
 def due(chunks, moment):
     """The bytes of the chunks that are due by a moment."""
     time, out = 0, b""

@@ -69,6 +69,24 @@ screen_of() {
     printf '%s' "$text"
 }
 
+# titled NAME TITLE WORD..: a page whose title and heading are TITLE.
+titled() {
+    "$program" page "${@:3}" >page.html 2>err.txt
+    local status=$?
+    grep -aE '^<(title|h1)>' page.html >out.txt
+    verdict "$1" 0 $status "<title>$2</title>\n<h1>$2</h1>\n" ''
+}
+
+titled 'a page is called as its script' ab ab.script ab.timing
+cp ab.script '<i>.&.script'
+titled 'a name that is no markup' '&lt;i&gt;.&amp;' './<i>.&.script' ab.timing
+titled 'a title' 'Words: "a", b' --title 'Words: "a", b' ab.script ab.timing
+titled 'an empty title' '' --title= ab.script ab.timing
+titled 'a title that is no markup' '&lt;/title&gt;&lt;script&gt;x()&lt;/script&gt; &amp;amp;' \
+    --title '</title><script>x()</script> &amp;' ab.script ab.timing
+titled 'control characters in a title' '?[31m ? ? ?' --title $'\e[31m \n \x7f \xc2\x9b' ab.script ab.timing
+check 'a title that is not UTF-8' 2 '' 'typetool: an argument is not UTF-8\n' page --title $'a\xff' ab.script ab.timing
+
 E='\x1b'
 check 'a screen before the second chunk' 0 "$(screen_of a)" '' screen --at 0.499999 ab.script ab.timing
 check 'a screen at the second chunk' 0 "$(screen_of ab)" '' screen --at 0.5 ab.script ab.timing
@@ -76,38 +94,55 @@ printf '%b%b' "$head" "${E}[cx" >asks.script
 printf '0 3\n0 1\n' >asks.timing
 check 'an answer' 0 '1b5b3f313b3263\n' '' reports --at 0 asks.script asks.timing
 
-# refused NAME STATUS ERR SCRIPT TIMING: a damaged pair, which is only told, whatever the command.
+# What follows a fault: what to do about it.
+hint() { printf 'typetool: hint: %s\\n' "$1"; }
+keeps='typetool mend keeps what can be read'
+headless='typetool mend --headless takes a typescript without its header line'
+streams='typetool mend writes this in the classic format'
+swapped='the timing file comes second: SCRIPT TIMING'
+interrupted='the typescript is empty: was a save interrupted?'
+missing='no such file or directory'
+seconds=$(hint 'SECONDS is digits, and a point and digits where wanted: 12.5')
+unwritten="typetool: write fault\n$(hint 'writing standard output')"
+
+# refused NAME STATUS FAULT HINT SCRIPT TIMING: a damaged pair, which is only told, whatever the command.
 refused() {
     local command words
     for command in 'due --at 1' info 'screen --at 1' 'picture --at 1' check 'changes --to 1' 'find a' 'reports --at 1' page cast session; do
         read -ra words <<<"$command"
-        check "$1: ${words[0]}" "$2" '' "typetool: $3\n" "${words[@]}" "$4" "$5" </dev/null
+        check "$1: ${words[0]}" "$2" '' "typetool: $3\n$(hint "$4")" "${words[@]}" "$5" "$6" </dev/null
     done
 }
 
 timing() { printf '%b' "$1" >bad.timing; }
-timing '0.5 3\n'; refused 'a short script' 1 'typescript ends inside chunk 0' ab.script bad.timing
-timing '0.1 1\nO 0.1 5\n'; refused 'multi-stream' 1 'timing line 2: multi-stream format' ab.script bad.timing
-timing '0.1 1\nO 0.1 5\n'; refused 'multi-stream, empty script' 1 'timing line 2: multi-stream format' /dev/null bad.timing
-timing '.5 1\n'; refused 'a bad delay' 1 'timing line 1: bad delay' headless.script bad.timing
-timing '\n1 2 3\n'; refused 'a bad count' 1 'timing line 2: bad count' ab.script bad.timing
-timing '1 1\r\n'; refused 'a CR is no blank' 1 'timing line 1: bad count' ab.script bad.timing
-timing '1000000.000001 0\n'; refused 'a delay too large' 1 'timing line 1: delay too large' empty.script bad.timing
-timing '0 1048577\n'; refused 'a chunk too long' 1 'timing line 1: chunk too long' empty.script bad.timing
+timing '0.5 3\n'; refused 'a short script' 1 'typescript ends inside chunk 0' "$keeps" ab.script bad.timing
+timing '0.1 1\nO 0.1 5\n'; refused 'multi-stream' 1 'timing line 2: multi-stream format' "$keeps" ab.script bad.timing
+timing '0.1 1\nO 0.1 5\n'; refused 'multi-stream, empty script' 1 'timing line 2: multi-stream format' "$keeps" /dev/null bad.timing
+timing '.5 1\n'; refused 'a bad delay' 1 'timing line 1: bad delay' "$keeps" headless.script bad.timing
+timing '\n1 2 3\n'; refused 'a bad count' 1 'timing line 2: bad count' "$keeps" ab.script bad.timing
+timing '1 1\r\n'; refused 'a CR is no blank' 1 'timing line 1: bad count' "$keeps" ab.script bad.timing
+timing '1000000.000001 0\n'; refused 'a delay too large' 1 'timing line 1: delay too large' "$keeps" empty.script bad.timing
+timing '0 1048577\n'; refused 'a chunk too long' 1 'timing line 1: chunk too long' "$keeps" empty.script bad.timing
 yes '0 0' | head -n 1000001 >many.timing
-refused 'too many chunks' 1 'timing line 1000001: too many chunks' empty.script many.timing
+refused 'too many chunks' 1 'timing line 1000001: too many chunks' "$keeps" empty.script many.timing
 head -n 1000000 many.timing >most.timing
 check 'as many chunks as there may be' 0 '' '' due --at 1 empty.script most.timing
 (yes '0 1048576' | head -n 1024; echo '0 1') >long.timing
-refused 'too many bytes' 1 'timing line 1025: too many bytes' empty.script long.timing
-refused 'no header line' 1 'typescript has no header line' headless.script empty.timing
-refused 'a missing file' 3 'cannot open nowhere' nowhere ab.timing
-refused 'a missing timing' 3 'cannot open nowhere' ab.script nowhere
-refused 'both missing: the script is opened first' 3 'cannot open neither' neither nowhere
-refused 'a directory' 3 'read fault' . ab.timing
-refused 'script and timing swapped' 1 'timing line 1: multi-stream format' ab.timing ab.script
+refused 'too many bytes' 1 'timing line 1025: too many bytes' "$keeps" empty.script long.timing
+refused 'no header line' 1 'typescript has no header line' "$headless" headless.script empty.timing
+refused 'a missing file' 3 'cannot open nowhere' "$missing" nowhere ab.timing
+refused 'a missing timing' 3 'cannot open nowhere' "$missing" ab.script nowhere
+refused 'both missing: the script is opened first' 3 'cannot open neither' "$missing" neither nowhere
+refused 'a directory' 3 'read fault' 'reading .' . ab.timing
+timing 'O 0.5 1\n'; refused 'all streams' 1 'timing line 1: multi-stream format' "$streams" ab.script bad.timing
+timing ' \n\n\tI'; refused 'streams behind blank lines' 1 'timing line 3: multi-stream format' "$streams" ab.script bad.timing
+timing 'OX 0.5 1\n'; refused 'a word that is no stream' 1 'timing line 1: multi-stream format' "$keeps" ab.script bad.timing
+timing 'Script started on'; refused 'nearly a typescript' 1 'timing line 1: multi-stream format' "$keeps" ab.script bad.timing
+timing '\nScript started on X\n'; refused 'a typescript behind a line' 1 'timing line 2: multi-stream format' "$keeps" ab.script bad.timing
+refused 'an empty script' 1 'typescript has no header line' "$interrupted" /dev/null empty.timing
+refused 'script and timing swapped' 1 'timing line 1: multi-stream format' "$swapped" ab.timing ab.script
 
-check 'bad seconds' 2 '' 'typetool: bad seconds\n' due --at .5 nowhere nowhere
+check 'bad seconds' 2 '' "typetool: bad seconds\n$seconds" due --at .5 nowhere nowhere
 
 # status NAME STATUS WORD..: what clap tells of a mistake is its own text, of which only the place and the status count.
 status() {
@@ -164,11 +199,23 @@ saved 'an insert' 0 '' 'insert 1 0.25 58\n' ab.script ab.timing
 holds 'an insert' new.script "$head"aXb
 holds 'an insert' new.timing '0.000000 1\n0.250000 1\n0.500000 1\n'
 check 'what was saved is read' 0 'aXb' '' due --at 1 new.script new.timing
-saved 'a bad range' 1 'typetool: request line 3: E6 BadRange\n' 'delete 0 1\n\ndelete 5 6\n' ab.script ab.timing
+stay=$(hint 'NEWSCRIPT and NEWTIMING stay, empty: remove them before you try again')
+saved 'a bad range' 1 "typetool: request line 3: E6 BadRange\n$stay" 'delete 0 1\n\ndelete 5 6\n' ab.script ab.timing
 holds 'a bad range' new.script ''
 holds 'a bad range' new.timing ''
-saved 'a short script' 1 'typetool: typescript ends inside chunk 0\n' 'nonsense' empty.script ab.timing
+saved 'a short script' 1 "typetool: typescript ends inside chunk 0\n$(hint "$keeps")" 'nonsense' empty.script ab.timing
 holds 'a short script' new.script ''
+
+# same_text NAME FILE: a file has the text of want.bin.
+same_text() {
+    if cmp -s "$2" want.bin; then
+        passed=$((passed + 1))
+    else
+        failed=$((failed + 1))
+        echo "FAILED $1"
+        cat "$2"
+    fi
+}
 
 # absent NAME FILE: there is no such file.
 absent() {
@@ -181,41 +228,91 @@ absent() {
 }
 
 # Creating is exclusive, and what was there stays as it is.
-# uncreated NAME PATH NEWSCRIPT NEWTIMING: PATH can't be created.
+# uncreated NAME PATH HINT NEWSCRIPT NEWTIMING: PATH can't be created; of the files beside the new ones none is left.
 uncreated() {
-    "$program" save ab.script ab.timing "$3" "$4" </dev/null >out.txt 2>err.txt
-    verdict "$1" 3 $? '' "typetool: cannot create $2\n"
+    "$program" save ab.script ab.timing "$4" "$5" </dev/null >out.txt 2>err.txt
+    verdict "$1" 3 $? '' "typetool: cannot create $2\n$(hint "$3")"
+    if [ "$4.part" != "$2" ]; then absent "$1" "$4.part"; fi
+    if [ "$5.part" != "$2" ]; then absent "$1" "$5.part"; fi
 }
+exists='it exists already'
 rm -f new.script new.timing
 echo kept >there
 ln -s nowhere dangling
-uncreated 'an existing script' there there new.timing
+uncreated 'an existing script' there "$exists" there new.timing
 holds 'an existing script' there 'kept\n'
 absent 'no timing is created after a script that exists' new.timing
-uncreated 'an existing timing' there new.script there
+uncreated 'an existing timing' there "$exists" new.script there
 holds 'a script created before' new.script ''
 rm -f new.script
-uncreated 'a dangling link' dangling dangling new.timing
-uncreated 'the same path twice' new.script new.script new.script
+uncreated 'a dangling link' dangling "$exists" dangling new.timing
+uncreated 'the same path twice' new.script "$exists" new.script new.script
 rm -f new.script
-uncreated 'a directory' . . new.timing
-uncreated 'no such directory' nowhere/new nowhere/new new.timing
-uncreated 'its own script' ab.script ab.script new.timing
+uncreated 'a directory' . "$exists" . new.timing
+uncreated 'a new directory' new.folder/ 'it is a directory' new.folder/ new.timing
+uncreated 'no such directory' nowhere/new "$missing" nowhere/new new.timing
+uncreated 'its own script' ab.script "$exists" ab.script new.timing
+uncreated 'no directory' there/new 'Not a directory (os error 20)' there/new new.timing
+
+# The files beside the new ones: both are made before anything is read.
+echo kept >new.script.part
+uncreated 'an existing file beside the script' new.script.part "$exists" new.script new.timing
+holds 'an existing file beside the script' new.script.part 'kept\n'
+holds 'an existing file beside the script' new.timing ''
+rm -f new.script new.timing new.script.part
+echo kept >new.timing.part
+uncreated 'an existing file beside the timing' new.timing.part "$exists" new.script new.timing
+holds 'an existing file beside the timing' new.timing.part 'kept\n'
+rm -f new.script new.timing new.timing.part
+uncreated 'names that meet' new.part "$exists" new.part new
+rm -f new new.part
+long=$(printf 'x%.0s' $(seq 252))
+uncreated 'a name too long for a file beside it' "$long.part" 'File name too long (os error 36)' "$long" new.timing
+rm -f "$long" new.timing
+
+# Who may use the new files: who may use the old ones, where those are regular files.
+chmod 640 ab.script
+chmod 404 ab.timing
+saved 'the bits of the old files' 0 '' '' ab.script ab.timing
+printf '%s\n' '640 new.script' '404 new.timing' >want.bin
+stat -c '%a %n' new.script new.timing >bits
+same_text 'the bits of the old files' bits
+rm -f new.script new.timing
+(umask 027; "$program" mend <(cat ab.script) <(cat ab.timing) new.script new.timing >out.txt 2>err.txt)
+verdict 'a pair from pipes' 0 $? '' ''
+printf '%s\n' '640 new.script' '640 new.timing' >want.bin
+stat -c '%a %n' new.script new.timing >bits
+same_text 'the bits that the umask leaves' bits
+chmod 644 ab.script ab.timing
+mkdir folder
+(cd folder && "$program" save ../ab.script ../ab.timing "$place/folder/new.script" ./new.timing </dev/null)
+holds 'a pair in two spellings of a folder' folder/new.script "$head"ab
+holds 'a pair in two spellings of a folder' folder/new.timing '0.000000 1\n0.500000 1\n'
+rm -rf folder new.script new.timing
+
 "$program" save nowhere ab.timing new.script new.timing </dev/null >out.txt 2>err.txt
-verdict 'a missing script' 3 $? '' 'typetool: cannot open nowhere\n'
+verdict 'a missing script' 3 $? '' "typetool: cannot open nowhere\n$(hint "$missing")"
 absent 'nothing is created where a file is missing' new.script
+unread="typetool: read fault\n$(hint 'reading standard input')"
 "$program" save ab.script ab.timing new.script new.timing 0>>there >out.txt 2>err.txt
-verdict 'a standard input that is only written' 3 $? '' 'typetool: read fault\n'
+verdict 'a standard input that is only written' 3 $? '' "$unread"
+absent 'a standard input that is only written' new.script.part
 rm -f new.script new.timing
 "$program" save ab.script ab.timing new.script new.timing <. >out.txt 2>err.txt
-verdict 'a directory as standard input' 3 $? '' 'typetool: read fault\n'
+verdict 'a directory as standard input' 3 $? '' "$unread"
+rm -f new.script new.timing
+"$program" save ab.script . new.script new.timing </dev/null >out.txt 2>err.txt
+verdict 'a directory as timing' 3 $? '' "typetool: read fault\n$(hint 'reading .')"
 rm -f new.script new.timing
 head -c 4000 /dev/zero | od -An -v -tx1 | tr -d ' \n' | sed 's/^/insert 0 0 /' >long.requests
 (ulimit -f 1; trap '' XFSZ; exec "$program" save ab.script ab.timing new.script new.timing <long.requests >out.txt 2>err.txt)
 got=$?
 : >out.txt
-verdict 'a limit on file size' 3 $got '' 'typetool: write fault\n'
+verdict 'a limit on file size' 3 $got '' "typetool: write fault\n$(hint 'writing new.script')"
+holds 'the script is empty where it can not be whole' new.script ''
 holds 'no timing before the script is whole' new.timing ''
+absent 'no file beside the script' new.script.part
+absent 'no file beside the timing' new.timing.part
 
 # mended NAME STATUS OUT ERR SCRIPT TIMING [FLAG..]: mends a pair into new.script and new.timing.
 mended() {
@@ -243,12 +340,17 @@ timing '0.5 1\nzero\n'
 mended 'a line that is none' 1 'timing line 2: multi-stream format, 1 lines left out\n' '' ab.script bad.timing
 holds 'a line that is none' new.script "$head"ab
 holds 'a line that is none' new.timing '0.500000 1\n'
+mended 'script and timing swapped' 1 'timing line 1: bad stream, 2 lines left out\n' "$(hint "$swapped")" ab.timing ab.script
+timing 'OX 0.5 1\nO 0.1 1\n'
+mended 'a stream that is none' 1 'timing line 1: bad stream, 2 lines left out\n' '' ab.script bad.timing
 mended 'a whole pair' 0 '' '' ab.script ab.timing
 holds 'a whole pair' new.script "$head"ab
 holds 'a whole pair' new.timing '0.000000 1\n0.500000 1\n'
-mended 'no header line' 1 '' 'typetool: typescript has no header line\n' headless.script ab.timing
+mended 'no header line' 1 '' "typetool: typescript has no header line\n$(hint "$headless")" headless.script ab.timing
 holds 'no header line' new.script ''
 holds 'no header line' new.timing ''
+absent 'no header line' new.script.part
+mended 'an empty script' 1 '' "typetool: typescript has no header line\n$(hint "$interrupted")" /dev/null ab.timing
 mended 'a header that is made' 0 '' '' headless.script ab.timing --headless
 holds 'a header that is made' new.script 'Script started\nno line'
 printf '%bold\nScript done on X\n%bab' "$head" 'Script started on Y\n' >appended.script
@@ -258,11 +360,11 @@ check 'both headers' 2 '' 'typetool: --last and --headless exclude each other\n'
 status 'mend with a profile' 2 mend --profile vt100 ab.script ab.timing none none
 rm -f new.script new.timing
 "$program" mend ab.script ab.timing there new.timing </dev/null >out.txt 2>err.txt
-verdict 'mending over a script that exists' 3 $? '' 'typetool: cannot create there\n'
+verdict 'mending over a script that exists' 3 $? '' "typetool: cannot create there\n$(hint "$exists")"
 holds 'mending over a script that exists' there 'kept\n'
 absent 'mending over a script that exists' new.timing
 "$program" mend nowhere ab.timing new.script new.timing </dev/null >out.txt 2>err.txt
-verdict 'mending a missing script' 3 $? '' 'typetool: cannot open nowhere\n'
+verdict 'mending a missing script' 3 $? '' "typetool: cannot open nowhere\n$(hint "$missing")"
 absent 'mending a missing script' new.script
 "$program" mend ab.script ab.timing new.script new.timing 0>>there >out.txt 2>err.txt
 verdict 'mending reads no standard input' 0 $? '' ''
@@ -270,17 +372,19 @@ rm -f new.script new.timing
 "$program" mend cut.script axb.timing new.script new.timing >/dev/full 2>err.txt
 got=$?
 : >out.txt
-verdict 'losses told to a full device' 3 $got '' 'typetool: write fault\n'
-holds 'losses told to a full device' new.timing '0.000000 1\n0.250000 1\n'
+verdict 'losses told to a full device' 3 $got '' "$unwritten"
+holds 'losses told to a full device' new.script ''
+holds 'losses told to a full device' new.timing ''
+absent 'losses told to a full device' new.timing.part
 rm -f new.script new.timing
 "$program" mend cut.script axb.timing new.script new.timing >&- 2>err.txt
-verdict 'losses told to a closed output' 3 $? '' 'typetool: write fault\n'
+verdict 'losses told to a closed output' 3 $? '' "$unwritten"
 rm -f new.script new.timing
 { printf '%b' "$head"; head -c 4000 /dev/zero; } >zero.script
 (ulimit -f 1; trap '' XFSZ; exec "$program" mend zero.script axb.timing new.script new.timing >out.txt 2>err.txt)
 got=$?
 : >out.txt
-verdict 'mending under a limit on file size' 3 $got '' 'typetool: write fault\n'
+verdict 'mending under a limit on file size' 3 $got '' "typetool: write fault\n$(hint 'writing new.script')"
 holds 'no mended timing before the script is whole' new.timing ''
 
 printf '%b%b' "$head" "a${E}[m${E}[3;1Hb" >three.script
@@ -295,7 +399,7 @@ printf '0 6\n' >flag.timing
 check 'a text that looks like a flag' 0 '+ 0 0.000000 1 1 --help\n' '' find -- --help flag.script flag.timing
 check 'a text of spaces' 2 '' 'typetool: bad text\n' find '  ' nowhere nowhere
 check 'a text with a tab' 2 '' 'typetool: bad text\n' find $'a\tb' nowhere nowhere
-check 'bad seconds before a bad text' 2 '' 'typetool: bad seconds\n' find --to x '' nowhere nowhere
+check 'bad seconds before a bad text' 2 '' "typetool: bad seconds\n$seconds" find --to x '' nowhere nowhere
 check 'a bad profile before a bad text' 2 '' 'typetool: bad profile: vt100, vt102 or xterm\n' find --profile x '' nowhere nowhere
 
 # A recording that was made for another terminal: the note stands behind the fault where there is one.
@@ -315,11 +419,11 @@ check 'a note beside reports' 0 '\n' "$note" reports --at 1 wide.script wide.tim
 check 'a note beside find lines' 0 '' "$note" find a wide.script wide.timing
 check 'no note beside what is due' 0 '' '' due --at 0 wide.script wide.timing
 timing '0.5 99\n'
-check 'no note of a pair that is not read' 1 '' 'typetool: typescript ends inside chunk 0\n' screen --at 1 wide.script bad.timing
+check 'no note of a pair that is not read' 1 '' "typetool: typescript ends inside chunk 0\n$(hint "$keeps")" screen --at 1 wide.script bad.timing
 "$program" reports --at 1 wide.script wide.timing >/dev/full 2>err.txt
 got=$?
 : >out.txt
-verdict 'a note behind a fault' 3 $got '' "typetool: write fault\n$note"
+verdict 'a note behind a fault' 3 $got '' "$unwritten$note"
 
 # asked NAME STATUS LINES OUT SCRIPT TIMING [FLAG..]: a session over request lines, with nothing on standard error.
 asked() {
@@ -351,7 +455,7 @@ check 'a size out of its range' 2 '' 'typetool: bad size: 2x1 to 1000x500, with 
     screen --at 1 --profile xterm --size 1x24 nowhere nowhere
 check 'a size without the terminal of today' 2 '' 'typetool: bad size: 2x1 to 1000x500, with --profile xterm\n' \
     reports --at 1 --size 80x24 nowhere nowhere
-check 'bad seconds before a bad size' 2 '' 'typetool: bad seconds\n' screen --at x --size 0x0 nowhere nowhere
+check 'bad seconds before a bad size' 2 '' "typetool: bad seconds\n$seconds" screen --at x --size 0x0 nowhere nowhere
 check 'no terminal of today yet' 2 '' 'typetool: not yet with --profile xterm\n' \
     changes --to 1 --profile xterm nowhere nowhere
 check 'no escaped print of today yet' 2 '' 'typetool: not yet with --profile xterm\n' \
@@ -373,42 +477,130 @@ done
 check 'the escaped print' 0 '\033[?7l\033)0\033[1;1Hadef\033[0m\017\033[?7h\033[1;2H' '' \
     screen --at 1 --escaped --profile vt102 edits.script edits.timing
 "$program" session ab.script ab.timing 0>>there >out.txt 2>err.txt
-verdict 'a session without an input to read' 3 $? '' 'typetool: read fault\n'
+verdict 'a session without an input to read' 3 $? '' "$unread"
 "$program" session empty.script ab.timing 0>>there >out.txt 2>err.txt
-verdict 'an input is read before the recording' 3 $? '' 'typetool: read fault\n'
+verdict 'an input is read before the recording' 3 $? '' "$unread"
 : >out.txt
 printf 'info\n' | "$program" session ab.script ab.timing >/dev/full 2>err.txt
-verdict 'a session into a full device' 3 $? '' 'typetool: write fault\n'
+verdict 'a session into a full device' 3 $? '' "$unwritten"
 "$program" changes --to 1 ab.script ab.timing >/dev/full 2>err.txt
-verdict 'changes into a full device' 3 $? '' 'typetool: write fault\n'
+verdict 'changes into a full device' 3 $? '' "$unwritten"
 "$program" picture --at 1 ab.script ab.timing >/dev/full 2>err.txt
-verdict 'a picture into a full device' 3 $? '' 'typetool: write fault\n'
+verdict 'a picture into a full device' 3 $? '' "$unwritten"
 "$program" page ab.script ab.timing >/dev/full 2>err.txt
-verdict 'a page into a full device' 3 $? '' 'typetool: write fault\n'
+verdict 'a page into a full device' 3 $? '' "$unwritten"
 "$program" cast ab.script ab.timing >/dev/full 2>err.txt
-verdict 'a cast into a full device' 3 $? '' 'typetool: write fault\n'
+verdict 'a cast into a full device' 3 $? '' "$unwritten"
 "$program" find a ab.script ab.timing >/dev/full 2>err.txt
-verdict 'find into a full device' 3 $? '' 'typetool: write fault\n'
+verdict 'find into a full device' 3 $? '' "$unwritten"
 printf 'info\n' | "$program" session ab.script ab.timing >&- 2>err.txt
-verdict 'a session into a closed output' 3 $? '' 'typetool: write fault\n'
+verdict 'a session into a closed output' 3 $? '' "$unwritten"
 "$program" changes --to 1 ab.script ab.timing >&- 2>err.txt
-verdict 'changes into a closed output' 3 $? '' 'typetool: write fault\n'
+verdict 'changes into a closed output' 3 $? '' "$unwritten"
 yes 'screen 9' | head -n 400 >many.requests
 (ulimit -f 1; trap '' XFSZ; exec "$program" session ab.script ab.timing <many.requests >limited.txt 2>err.txt)
-verdict 'a session and a limit on file size' 3 $? '' 'typetool: write fault\n'
+verdict 'a session and a limit on file size' 3 $? '' "$unwritten"
 
 "$program" due --at 1 ab.script ab.timing >/dev/full 2>err.txt
 got=$?
 : >out.txt
-verdict 'a full device' 3 $got '' 'typetool: write fault\n'
+verdict 'a full device' 3 $got '' "$unwritten"
 "$program" screen --at 1 ab.script ab.timing >/dev/full 2>err.txt
 got=$?
 : >out.txt
-verdict 'a screen on a full device' 3 $got '' 'typetool: write fault\n'
+verdict 'a screen on a full device' 3 $got '' "$unwritten"
 "$program" due --at 1 ab.script ab.timing >&- 2>err.txt
 got=$?
 : >out.txt
-verdict 'a closed standard output' 3 $got '' 'typetool: write fault\n'
+verdict 'a closed standard output' 3 $got '' "$unwritten"
+
+# Where whoever reads standard output is gone nothing is told.
+# gone NAME WORD..: the status is 3, and nothing stands on standard error.
+gone() {
+    local name=$1
+    shift
+    { sleep 0.3; "$program" "$@" <many.requests 2>err.txt; echo $? >got; } | :
+    : >out.txt
+    verdict "nobody reads: $name" 3 "$(cat got)" '' ''
+}
+for words in 'due --at 1' 'screen --at 1' 'picture --at 1' check page cast session; do
+    read -ra words <<<"$words"
+    gone "${words[0]}" "${words[@]}" wide.script wide.timing
+done
+rm -f new.script new.timing
+gone mend mend cut.script axb.timing new.script new.timing
+holds 'nobody reads what was lost' new.script ''
+absent 'nobody reads what was lost' new.script.part
+gone find find a ab.script ab.timing
+gone help --help
+gone version --version
+"$program" --help >/dev/full 2>err.txt
+got=$?
+: >out.txt
+verdict 'help into a full device' 3 $got '' "$unwritten"
+
+# A file that may not be read.
+cp "$program" own
+chmod 755 . own
+cp ab.script locked.script
+chmod 0 locked.script
+as_other=()
+if [ "$(id -u)" = 0 ]; then as_other=(setpriv --reuid 65534 --regid 65534 --clear-groups); fi
+"${as_other[@]}" ./own info locked.script ab.timing >out.txt 2>err.txt
+verdict 'a file that may not be read' 3 $? '' "typetool: cannot open locked.script\n$(hint 'permission denied')"
+
+# What comes from outside can't move a reader's cursor, turn a line around or forge one.
+# named NAME PATH TOLD: a file of this path is missing, and its path is told so.
+named() { check "$1" 3 '' "typetool: cannot open $3\n$(hint "$missing")" info "$2" ab.timing; }
+named 'a name with ESC' $'no\e[2Jname' 'no?[2Jname'
+named 'a name with LF' $'no\ntypetool: all is well' 'no?typetool: all is well'
+named 'a name with CR and TAB' $'no\r\tname' 'no??name'
+named 'a name with DEL' $'no\x7fname' 'no?name'
+named 'a name with U+0080' $'no\xc2\x80name' 'no?name'
+named 'a name with U+009B' $'no\xc2\x9b2Jname' 'no?2Jname'
+named 'a name with U+00A0' $'no\xc2\xa0name' $'no\xc2\xa0name'
+named 'a name with U+2027 and U+2028' $'no\xe2\x80\xa7\xe2\x80\xa8name' $'no\xe2\x80\xa7?name'
+named 'a name with U+202E and U+202F' $'no\xe2\x80\xae\xe2\x80\xafname' $'no?\xe2\x80\xafname'
+named 'a name with U+2065, U+2066, U+2069 and U+206A' $'\xe2\x81\xa5\xe2\x81\xa6\xe2\x81\xa9\xe2\x81\xaa' $'\xe2\x81\xa5??\xe2\x81\xaa'
+named 'a name beyond ASCII' 'naïve 東京 🙂' 'naïve 東京 🙂'
+check 'a name that is no UTF-8' 2 '' 'typetool: an argument is not UTF-8\n' info $'no\xffname' ab.timing
+check 'a name of half a character' 2 '' 'typetool: an argument is not UTF-8\n' info $'no\xc3' ab.timing
+"$program" save ab.script ab.timing $'there\e/new' new.timing </dev/null >out.txt 2>err.txt
+verdict 'a name that can not be created' 3 $? '' "typetool: cannot create there?/new\n$(hint "$missing")"
+mkdir $'a\e[7mfolder'
+check 'a name in a hint' 3 '' "typetool: read fault\n$(hint 'reading a?[7mfolder')" info $'a\e[7mfolder' ab.timing
+# quoted NAME WORD TOLD WORD..: what clap tells of a word quotes it so, in lines of its own.
+quoted() {
+    local name=$1 told=$2
+    shift 2
+    "$program" "$@" >out.txt 2>err.txt
+    if [ $? = 2 ] && head -n 1 err.txt | grep -qF -- "'$told'" && ! LC_ALL=C grep -q $'[\x01-\x09\x0b-\x1f\x7f]' err.txt; then
+        passed=$((passed + 1))
+    else
+        failed=$((failed + 1))
+        echo "FAILED $name"
+        cat -v err.txt
+    fi
+}
+quoted 'a command with ESC' 'pl?[31may' $'pl\e[31may'
+quoted 'a command with LF' 'pl?error: all is well' $'pl\nerror: all is well'
+quoted 'a flag with U+009B' '--t?2Jo' due $'--t\xc2\x9b2Jo' 1
+quoted 'a word too many with U+202E' '?word' info ab.script ab.timing $'\xe2\x80\xaeword'
+
+# A note's parts are cut. What the header tells is ASCII there.
+letters=$(printf 'x%.0s' $(seq 200))
+printf 'Script started on X [TERM="%s"]\n' "$letters" >noted.script
+check 'a long note is cut' 0 "$(screen_of '')" "typetool: note: term: recorded under ${letters:0:179}.. (see typetool check)\n" \
+    screen --at 0 noted.script empty.timing
+printf 'Script started on X [TERM="%s"]\n' "${letters:0:162}" >noted.script
+check 'a note of 200 characters' 0 "$(screen_of '')" \
+    "typetool: note: term: recorded under ${letters:0:162}, played as vt100 (see typetool check)\n" screen --at 0 noted.script empty.timing
+printf 'Script started on X [TERM="%s"]\n' "${letters:0:163}" >noted.script
+check 'a note of 201 characters' 0 "$(screen_of '')" \
+    "typetool: note: term: recorded under ${letters:0:163}, played as vt10.. (see typetool check)\n" screen --at 0 noted.script empty.timing
+printf 'Script started on X [TERM="a%b[2Jb"]\n' "$E" >noted.script
+check 'a header with ESC' 0 "$(screen_of '')" \
+    'typetool: note: term: recorded under a?[2Jb, played as vt100 (see typetool check)\n' screen --at 0 noted.script empty.timing
 
 # 40 MiB in chunks of the greatest length, each of its own digits.
 printf '%b' "$head" >long.script

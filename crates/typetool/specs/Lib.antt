@@ -1,1 +1,5 @@
+pub mod Beginning
+pub mod Cleaning
+pub mod Hints
+pub mod Pair
 pub mod Program

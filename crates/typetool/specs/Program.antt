@@ -1,11 +1,12 @@
 -- The statuses of the program.
-use Rattle.std.specs.Prelude.{◌≡◌, ℕ, List, MatchOption, string_bytes}
+use Rattle.std.specs.Prelude.{◌≡◌, ◌⊎◌, ◌++◌, ℕ, List, MatchOption, codes, string_bytes}
 use Rattle.clap.specs.Words.{kind_of}
 use Rattle.clap.specs.declared.error.ErrorKind.{ErrorKind}
 use Rattle.clap.specs.declared.error.ErrorKind.TheVariants.{DisplayHelp, DisplayVersion}
 use Rattle.tape_jobs.specs.Output.{Comes, Done, Files, IsDoneStatus, status_of}
 use Rattle.tape_jobs.specs.declared.job.Job.{Job}
 use Rattle.tape_jobs.specs.declared.job.Outcome.{Outcome}
+use Rattle.typetool.specs.Cleaning.{cleaned}
 use Rattle.typetool.specs.declared.program.Stop.{Stop}
 use Rattle.typetool.specs.declared.program.Stop.TheVariants.{Words, NotText, Memory, CannotOpen, CannotCreate, Job as of_job}
 use Rattle.tape_jobs.specs.declared.words.WordsFault.TheVariants as words
@@ -29,8 +30,8 @@ stop_status (Words words.BothHeaders) = 2
 stop_status (Words words.Memory) = 3
 stop_status NotText = 2
 stop_status Memory = 3
-stop_status (CannotOpen path) = 3
-stop_status (CannotCreate path) = 3
+stop_status (CannotOpen path error) = 3
+stop_status (CannotCreate path error) = 3
 stop_status (of_job fault) = status_of fault
 
 -- how the job ends: with the status of its fault where it has one, and else with one of a job that is done (ours)
@@ -44,18 +45,27 @@ IsAnswer job files outcome = (done : Done) × Comes job files done × (outcome �
 
 -- why a file isn't open: the file of this path can't be opened, or memory was refused (ours)
 abbrev pub IsNotOpen : List ℕ → Stop → Type 0
-IsNotOpen path (CannotOpen name) = string_bytes name ≡ path
+IsNotOpen path (CannotOpen name error) = string_bytes name ≡ cleaned path
 IsNotOpen path Memory = Unit {0}
-IsNotOpen path (CannotCreate name) = ⊥
+IsNotOpen path (CannotCreate name error) = ⊥
 IsNotOpen path (Words fault) = ⊥
 IsNotOpen path NotText = ⊥
 IsNotOpen path (of_job fault) = ⊥
 
 -- why a file isn't created: none of this path can be created, or memory was refused (ours)
 abbrev pub IsNotCreated : List ℕ → Stop → Type 0
-IsNotCreated path (CannotCreate name) = string_bytes name ≡ path
+IsNotCreated path (CannotCreate name error) = string_bytes name ≡ cleaned path
 IsNotCreated path Memory = Unit {0}
-IsNotCreated path (CannotOpen name) = ⊥
+IsNotCreated path (CannotOpen name error) = ⊥
 IsNotCreated path (Words fault) = ⊥
 IsNotCreated path NotText = ⊥
 IsNotCreated path (of_job fault) = ⊥
+
+-- the path of the file beside a new one (ours)
+abbrev pub part_of : List ℕ → List ℕ
+part_of path = path ++ codes ".part"
+
+-- why the new files aren't created: one of them can't be, or a file beside them (ours)
+abbrev pub IsNoPair : List ℕ → List ℕ → Stop → Type 0
+IsNoPair script timing stop = IsNotCreated script stop ⊎ (IsNotCreated timing stop
+    ⊎ (IsNotCreated (part_of script) stop ⊎ IsNotCreated (part_of timing) stop))

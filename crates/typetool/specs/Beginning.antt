@@ -1,0 +1,79 @@
+-- What a text begins with, as far as a hint depends on it.
+use Rattle.std.specs.Prelude.{◌==◌, ◌+◌, ℕ, Bool, true, false, List, Option, Some, None, cond, ◌&&◌, ◌||◌, not, nat_lt, slice_index, codes, is_none}
+use Rattle.typetool.specs.declared.beginning.Beginning.{Beginning}
+use Rattle.typetool.specs.declared.beginning.Begun.{Begun}
+use Rattle.typetool.specs.declared.beginning.FirstField.{FirstField}
+use Rattle.typetool.specs.declared.beginning.FirstField.TheVariants.{Awaited, Letter, Stream, Other}
+
+-- the bytes with which a typescript begins. script(1)
+abbrev pub session : List ℕ
+session = codes "Script started on "
+
+-- what stands between fields and lines: space, tab and LF (ours)
+abbrev pub is_gap : ℕ → Bool
+is_gap byte = byte == 32 || byte == 9 || byte == 10
+
+-- the letter of a stream of the multi-stream format: H, I, O and S. script(1), "advanced"
+abbrev pub is_stream : ℕ → Bool
+is_stream byte = byte == 72 || byte == 73 || byte == 79 || byte == 83
+
+-- of the empty text (ours)
+abbrev pub nothing : Beginning
+nothing = record { empty = true; session = Some 0; first = Awaited }
+
+-- how many bytes are a typescript's first ones, behind one more: none are, once another byte stood there (ours)
+abbrev pub session_after : Option ℕ → ℕ → Option ℕ
+session_after None byte = None
+session_after (Some n) byte = cond (nat_lt n 18) (cond (slice_index session n == byte) (Some (n + 1)) None) (Some n)
+
+-- the first field, behind one more byte (ours)
+abbrev pub field_after : FirstField → ℕ → FirstField
+field_after Awaited byte = cond (is_gap byte) Awaited (cond (is_stream byte) Letter Other)
+field_after Letter byte = cond (is_gap byte) Stream Other
+field_after Stream byte = Stream
+field_after Other byte = Other
+
+-- of a text that goes on with this byte (ours)
+abbrev pub after_byte : Beginning → ℕ → Beginning
+after_byte beginning byte = record {
+  empty = false;
+  session = session_after beginning.session byte;
+  first = field_after beginning.first byte;
+}
+
+-- the text has no byte (ours)
+abbrev pub is_empty : Beginning → Bool
+is_empty beginning = beginning.empty
+
+-- it begins as script(1) begins a typescript (ours)
+abbrev pub is_all : Option ℕ → Bool
+is_all None = false
+is_all (Some n) = n == 18
+
+abbrev pub is_typescript : Beginning → Bool
+is_typescript beginning = is_all beginning.session
+
+-- its first field is the letter of a stream (ours)
+abbrev pub is_letter : FirstField → Bool
+is_letter Awaited = false
+is_letter Letter = true
+is_letter Stream = true
+is_letter Other = false
+
+abbrev pub is_streams : Beginning → Bool
+is_streams beginning = is_letter beginning.first
+
+-- Private: nothing that comes changes it (ours)
+abbrev pub is_whole : FirstField → Bool
+is_whole Awaited = false
+is_whole Letter = false
+is_whole Stream = true
+is_whole Other = true
+
+abbrev pub is_settled : Beginning → Bool
+is_settled beginning = not beginning.empty && (is_none beginning.session || is_typescript beginning)
+    && is_whole beginning.first
+
+-- a reader that is looked at tells what the one inside tells (ours)
+abbrev pub remaining_of : {R : Type 0} → (R → Option (List ℕ)) → Begun R → Option (List ℕ)
+remaining_of remaining reader = remaining reader.inner

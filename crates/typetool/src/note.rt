@@ -1,0 +1,38 @@
+//! The note that a job tells of its recording.
+
+ghost use Rattle.std.specs.Prelude.{◌≡◌, ◌<◌, IfSome, length, take};
+
+use tape_core::Watched;
+
+/// What stands before the parts of a note, and behind them.
+const BEFORE: &str = "typetool: note: ";
+
+const BEHIND: &str = " (see typetool check)\n";
+
+/// How many characters of a note's parts are told.
+const MOST: usize = 200;
+
+/// Tells a note, if there is one that was kept whole.
+pub fn tell_note<R: Eprint>(rt: &R, note: Watched<Vec<u8>>) {
+    if note.failed() {
+        return;
+    }
+    let note = note.into_inner();
+    let Ok(text) = str::from_utf8(note.as_slice()) else {
+        return;
+    };
+    let _ = match cut(text) {
+        Some(parts) => rt.eprint(format_args!("{BEFORE}{parts}..{BEHIND}")),
+        None => rt.eprint(text),
+    };
+}
+
+/// The front of a note's parts that is told where they are too long. They are ASCII.
+fn cut(note: &str) -> Option<&str> {
+    let parts = note.strip_prefix(BEFORE)?.strip_suffix(BEHIND)?;
+    if parts.len() > MOST {
+        parts.get(..MOST)
+    } else {
+        None
+    }
+}

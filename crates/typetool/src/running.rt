@@ -1,0 +1,286 @@
+//! A job over the files that its command line names.
+
+ghost use Rattle.std.specs.Prelude.{◌≡◌, ◌≢◌, ◌≤◌, false, IfErr, IfOk, None, vec_len};
+ghost use Rattle.tape_core.specs.Devices.{has_failed};
+ghost use Rattle.tape_jobs.specs.CommandLine.{path_count};
+ghost use Rattle.tape_jobs.specs.Endings.{HoldFiles, readers_of, used};
+ghost use Rattle.tape_jobs.specs.Output.{Files as Given, is_stopped};
+ghost use Rattle.typetool.specs.Beginning.{remaining_of};
+ghost use Rattle.typetool.specs.Program.{IsAnswer, IsOutcome, stop_status};
+
+use crate::beginning::Sources;
+use crate::devices::{Outlet, buffered, released};
+use crate::files::open;
+use crate::hints::{Device, Hint, first_failed, hint_at_end};
+use crate::pair::{New, NewPair, create_pair};
+use crate::program::Stop;
+use std::io;
+use std::rt::Files;
+use tape_core::{Fault, Watched};
+use tape_jobs::{Job, JobFault, Outcome, Words, mend, run, run_with};
+use tape_mend::Header;
+
+/// The paths of a command line, in its order.
+const SCRIPT: Device = Device::File(0);
+
+const TIMING: Device = Device::File(1);
+
+const NEW_SCRIPT: Device = Device::File(2);
+
+const NEW_TIMING: Device = Device::File(3);
+
+/// How a job ended, the note that it told of the recording, what follows its fault, and whether whoever reads standard
+/// output is gone.
+#[derive(Drop)]
+pub struct Ended {
+    pub outcome: Outcome,
+    pub note: Watched<Vec<u8>>,
+    pub hint: Option<Hint>,
+    pub silent: bool,
+}
+
+/// A run of a job: how it ended, the note, the device that has failed, if one has, and whether whoever reads standard
+/// output is gone.
+#[derive(Drop)]
+struct Ran {
+    outcome: Outcome,
+    note: Watched<Vec<u8>>,
+    failed: Option<Device>,
+    silent: bool,
+}
+
+/// Opens the files in order, creates the new ones, and does the job.
+pub fn open_and_run<R: Files + Input + Print + AllocGlobal>(
+    rt: &R,
+    words: &Words,
+) -> Result<Ended, Stop>
+    requires { path_count words.now.job ≤ vec_len words.now.paths }
+    ensures outcome { IfOk result (λ ended. IsOutcome words.now.job ended.outcome) }
+    // Else a file or memory was refused.
+    ensures stop { IfErr result (λ stop. stop_status stop ≡ 3) }
+{
+    let script = open(rt, words.paths[0].as_str())?;
+    let timing = open(rt, words.paths[1].as_str())?;
+    let (job, text) = (words.job, words.text.as_slice());
+    match job {
+        Job::Save => {
+            let paths = (words.paths[2].as_str(), words.paths[3].as_str());
+            let pair = create_pair(rt, paths, (&script, &timing))?;
+            let mut sources = Sources::new(script, timing);
+            let ran = save_into(rt, &mut sources, pair);
+            Ok(ended_by(job, ran, sources))
+        }
+        Job::Mend { header } => {
+            let paths = (words.paths[2].as_str(), words.paths[3].as_str());
+            let pair = create_pair(rt, paths, (&script, &timing))?;
+            let mut sources = Sources::new(script, timing);
+            let ran = mend_into(rt, header, &mut sources, pair)?;
+            Ok(ended_by(job, ran, sources))
+        }
+        Job::Session { .. } => {
+            let mut sources = Sources::new(script, timing);
+            let mut requests = Watched::new(rt.reader());
+            let ran = print(rt, job, text, &mut sources, &mut requests)?;
+            Ok(ended_by(job, ran, sources))
+        }
+        _ => {
+            let mut sources = Sources::new(script, timing);
+            let mut requests = Watched::new(io::empty());
+            let ran = print(rt, job, text, &mut sources, &mut requests)?;
+            Ok(ended_by(job, ran, sources))
+        }
+    }
+}
+
+/// How a job ended, with the hint that follows it.
+fn ended_by<F: Drop>(job: Job, ran: Ran, sources: Sources<F>) -> Ended
+    ensures { result.outcome ≡ ran.outcome }
+{
+    let Ran {
+        outcome,
+        note,
+        failed,
+        silent,
+    } = ran;
+    Ended {
+        outcome,
+        note,
+        hint: hint_at_end(job, outcome.fault, sources.into_beginnings(), failed),
+        silent,
+    }
+}
+
+/// Does a job that writes one text, over standard output.
+fn print<R: Files + Print + AllocGlobal, Q: io::Read>(
+    rt: &R,
+    job: Job,
+    text: &[char],
+    sources: &mut Sources<R::File>,
+    requests: &mut Watched<Q>,
+) -> Result<Ran, Stop>
+    requires script { has_failed sources.old.script ≡ false }
+    requires timing { has_failed sources.old.timing ≡ false }
+    requires requests { has_failed requests.old ≡ false }
+    ensures outcome { IfOk result (λ ran. IsOutcome job ran.outcome) }
+    // Where nothing stopped the job, it is what the job comes to on these files.
+    ensures answer { let told = remaining_of R.File.remaining in
+        let readers = readers_of (used told sources.old.script sources.new.script)
+        (used told sources.old.timing sources.new.timing)
+        (used Q.remaining requests.old requests.new) text.now in
+        IfOk result (λ ran. is_stopped ran.outcome.fault ≡ false → (files : Given)
+        → HoldFiles readers job files → IsAnswer job files ran.outcome) }
+    ensures stop { IfErr result (λ stop. stop ≡ Stop.Memory) }
+{
+    let mut out = buffered(rt, Outlet::new(io::writer(rt)))?;
+    let mut note = Watched::new(Vec::new(rt.alloc()));
+    let outcome = run_with(
+        rt.alloc(),
+        job,
+        text,
+        &mut sources.script,
+        &mut sources.timing,
+        requests,
+        &mut out,
+        &mut Watched::new(io::sink()),
+        &mut note,
+    );
+    let failed = first_failed(&[
+        (sources.script.failed(), SCRIPT),
+        (sources.timing.failed(), TIMING),
+        (requests.failed(), Device::Input),
+        (out.failed(), Device::Output),
+    ]);
+    Ok(Ran {
+        outcome,
+        note,
+        failed,
+        silent: released(out).is_closed(),
+    })
+}
+
+/// Saves what standard input asks for into two new files.
+fn save_into<R: Files + Input + AllocGlobal>(
+    rt: &R,
+    sources: &mut Sources<R::File>,
+    pair: NewPair<'_, R::File>,
+) -> Ran
+    requires script { has_failed sources.old.script ≡ false }
+    requires timing { has_failed sources.old.timing ≡ false }
+    requires out { has_failed pair.script.out ≡ false }
+    requires out_timing { has_failed pair.timing.out ≡ false }
+    ensures { IsOutcome Job.Save result.outcome }
+{
+    let NewPair {
+        script: mut new_script,
+        timing: mut new_timing,
+    } = pair;
+    let mut requests = Watched::new(rt.reader());
+    let outcome = run(
+        rt.alloc(),
+        Job::Save,
+        &mut sources.script,
+        &mut sources.timing,
+        &mut requests,
+        &mut new_script.out,
+        &mut new_timing.out,
+    );
+    let failed = first_failed(&[
+        (sources.script.failed(), SCRIPT),
+        (sources.timing.failed(), TIMING),
+        (requests.failed(), Device::Input),
+        (new_script.out.failed(), NEW_SCRIPT),
+        (new_timing.out.failed(), NEW_TIMING),
+    ]);
+    let pair = NewPair {
+        script: new_script,
+        timing: new_timing,
+    };
+    let (outcome, failed) = place(rt, pair, outcome, failed);
+    Ran {
+        outcome,
+        note: Watched::new(Vec::new(rt.alloc())),
+        failed,
+        silent: false,
+    }
+}
+
+/// Mends a pair of files into two new ones, and tells over standard output what was lost.
+fn mend_into<R: Files + Print + AllocGlobal>(
+    rt: &R,
+    header: Header,
+    sources: &mut Sources<R::File>,
+    pair: NewPair<'_, R::File>,
+) -> Result<Ran, Stop>
+    requires script { has_failed sources.old.script ≡ false }
+    requires timing { has_failed sources.old.timing ≡ false }
+    requires out { has_failed pair.script.out ≡ false }
+    requires out_timing { has_failed pair.timing.out ≡ false }
+    ensures outcome { IfOk result (λ ran. IsOutcome (Job.Mend header) ran.outcome) }
+    ensures stop { IfErr result (λ stop. stop ≡ Stop.Memory) }
+{
+    let mut told = match buffered(rt, Outlet::new(io::writer(rt))) {
+        Ok(told) => told,
+        Err(stop) => {
+            pair.give_up(rt);
+            return Err(stop);
+        }
+    };
+    let NewPair {
+        script: mut new_script,
+        timing: mut new_timing,
+    } = pair;
+    let outcome = mend(
+        rt.alloc(),
+        header,
+        &mut sources.script,
+        &mut sources.timing,
+        &mut new_script.out,
+        &mut new_timing.out,
+        &mut told,
+    );
+    let failed = first_failed(&[
+        (sources.script.failed(), SCRIPT),
+        (sources.timing.failed(), TIMING),
+        (new_script.out.failed(), NEW_SCRIPT),
+        (new_timing.out.failed(), NEW_TIMING),
+        (told.failed(), Device::Output),
+    ]);
+    let pair = NewPair {
+        script: new_script,
+        timing: new_timing,
+    };
+    let (outcome, failed) = place(rt, pair, outcome, failed);
+    Ok(Ran {
+        outcome,
+        note: Watched::new(Vec::new(rt.alloc())),
+        failed,
+        silent: released(told).is_closed(),
+    })
+}
+
+/// Puts the new files of a job that is done in place, and gives up those of any other. A step that fails is a write fault.
+fn place<R: Files>(
+    rt: &R,
+    pair: NewPair<'_, R::File>,
+    outcome: Outcome,
+    failed: Option<Device>,
+) -> (Outcome, Option<Device>)
+    ensures outcome { (job : Job) → IsOutcome job outcome → IsOutcome job result.0 }
+    ensures refused { outcome.fault ≢ None → result.0 ≡ outcome }
+{
+    if outcome.fault.is_some() {
+        pair.give_up(rt);
+        return (outcome, failed);
+    }
+    match pair.put_in_place(rt) {
+        Ok(()) => (outcome, failed),
+        Err(New::Script) => (UNWRITTEN, Some(NEW_SCRIPT)),
+        Err(New::Timing) => (UNWRITTEN, Some(NEW_TIMING)),
+    }
+}
+
+/// How a job ends whose new files can't be written.
+const UNWRITTEN: Outcome = Outcome {
+    status: 3,
+    fault: Some(JobFault::File(Fault::WriteFault)),
+};
