@@ -6,7 +6,7 @@ use Rattle.std.proofs.lemmas.Grind.{flat_map-append}
 use Rattle.sheet.specs.Cells.{Cell, is_covered}
 use Rattle.sheet.specs.Grid.{row_at}
 use Rattle.sheet.specs.Table.{nth}
-use Rattle.xterm_print.specs.RowText.{characters, printed, printed_line}
+use Rattle.xterm_rows.specs.RowText.{characters, printed, printed_line}
 
 -- the text of the first elements of a list
 abbrev pub first_texts : {X : Type 0} → (X → List ℕ) → List X → ℕ → List ℕ

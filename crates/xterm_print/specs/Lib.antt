@@ -1,4 +1,3 @@
-pub mod RowText
 pub mod PlainText
 pub mod Moments
 pub mod Headline

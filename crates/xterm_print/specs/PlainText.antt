@@ -2,7 +2,7 @@
 use Rattle.std.specs.Prelude.{ℕ, List}
 use Rattle.std.specs.List.{flat_map}
 use Rattle.xterm_screen.specs.Picture.{Picture}
-use Rattle.xterm_print.specs.RowText.{printed_line}
+use Rattle.xterm_rows.specs.RowText.{printed_line}
 
 -- the lines in turn
 unfoldable pub plain_text : Picture → List ℕ

@@ -3,15 +3,16 @@
 ghost use Rattle.std.specs.Prelude.{◌≡◌, encode_utf8};
 ghost use Rattle.std.specs.List.{flat_map};
 ghost use Rattle.tape_core.specs.Devices.{Gave};
-ghost use Rattle.xterm_print.specs.RowText.{is_space, printed, printed_line, trimmed};
+ghost use Rattle.xterm_rows.specs.RowText.{printed, printed_line};
 
 use sheet::Cell;
 use std::io::Write;
 use tape_core::Watched;
 use tape_core::laws::gives_join;
+use xterm_rows::trimmed;
 
 /// Prints a row in UTF-8 without the spaces at its end, and LF.
-#[tactic(auto, unfolding(crate::specs::RowText::printed_line))]
+#[tactic(auto, unfolding(xterm_rows::specs::RowText::printed_line))]
 pub fn put_row<W: Write>(cells: &[Cell], writer: &mut Watched<W>)
     ensures { Gave W.contents writer.old writer.new (printed_line cells.now) }
 {
@@ -49,23 +50,4 @@ fn put_character<W: Write>(character: char, writer: &mut Watched<W>)
     ensures { Gave W.contents writer.old writer.new (encode_utf8 character) }
 {
     writer.give(character.encode_utf8(&mut [0; 4]).as_bytes());
-}
-
-/// The cells without the spaces at their end, whatever rendition those have.
-pub fn trimmed(cells: &[Cell]) -> &[Cell]
-    ensures { result.now ≡ trimmed cells.now }
-{
-    let mut len = cells.len();
-    while len > 0 && is_space(cells[len - 1]) {
-        len -= 1;
-    }
-    &cells[..len]
-}
-
-/// Whether a cell is a space alone, whatever its rendition.
-#[tactic(auto, unfolding(crate::specs::RowText::is_space))]
-fn is_space(cell: Cell) -> bool
-    ensures { result ≡ is_space cell }
-{
-    !cell.is_covered() && cell.character() == ' ' && cell.mark_count() == 0
 }

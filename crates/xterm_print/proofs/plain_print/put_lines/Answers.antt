@@ -1,6 +1,6 @@
 use Rattle.std.proofs.Common.{◌≡◌, ◌+◌, ◌-◌, ◌≤◌, ◌++◌, length, arith, ap, sym, ◌∙◌, subst}
 use Rattle.tape_core.specs.Devices.{Gave}
-use Rattle.xterm_print.specs.RowText.{printed_line}
+use Rattle.xterm_rows.specs.RowText.{printed_line}
 use Rattle.xterm_print.specs.PlainText.{plain_text}
 use Rattle.xterm_print.proofs.PlainLemmas.{first_all, first_lines_more, first_texts}
 use Rattle.xterm_print.proofs.plain_print.put_lines.Goals as goal

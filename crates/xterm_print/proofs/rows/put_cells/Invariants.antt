@@ -1,7 +1,7 @@
 use Rattle.std.proofs.Common.{take}
 use Rattle.std.specs.List.{flat_map}
 use Rattle.tape_core.specs.Devices.{Gave}
-use Rattle.xterm_print.specs.RowText.{printed}
+use Rattle.xterm_rows.specs.RowText.{printed}
 use Rattle.xterm_print.proofs.rows.put_cells.Given as goal
 
 -- the cells so far have gone out

@@ -1,13 +1,13 @@
 use Rattle.std.proofs.Common.{◌≡◌, ◌+◌, ◌≤◌, length, take}
 use Rattle.std.specs.List.{suffix_len}
-use Rattle.xterm_print.specs.RowText.{is_space}
-use Rattle.xterm_print.proofs.rows.trimmed.Given as goal
+use Rattle.xterm_rows.specs.Ink.{is_blank}
+use Rattle.xterm_rows.proofs.cells.inked.Given as goal
 
--- only spaces were passed
+-- only blank cells were passed
 abbrev pub invariant-loop-len : goal.invariant-loop-len
 invariant-loop-len l = record {
   within : l.len ≤ length l.cells;
-  passed : l.len + suffix_len is_space l.cells ≡ length l.cells + suffix_len is_space (take l.len l.cells);
+  passed : l.len + suffix_len is_blank l.cells ≡ length l.cells + suffix_len is_blank (take l.len l.cells);
 }
 
 abbrev pub decreases-loop-len : goal.decreases-loop-len

@@ -1,0 +1,11 @@
+//! Tests of what is drawn of the terminal of today, which call what their crates make public.
+//!
+//! They stand in a crate of their own, so that the gate proves those crates once, and tests see no more than other crates do.
+#![tactic(auto)]
+
+#[cfg(test)]
+mod colours;
+#[cfg(test)]
+mod files;
+#[cfg(test)]
+mod pictures;

@@ -1,0 +1,11 @@
+pub mod Palette
+pub mod Colours
+pub mod Attributes
+pub mod Texts
+pub mod Letters
+pub mod Strokes
+pub mod Grounds
+pub mod Cursor
+pub mod Framed
+pub mod Still
+pub mod Picture

@@ -1,0 +1,14 @@
+use Rattle.std.proofs.Common.{◌≡◌, ◌+◌, ◌≤◌, length, take}
+use Rattle.std.specs.List.{suffix_len}
+use Rattle.xterm_rows.specs.RowText.{is_space}
+use Rattle.xterm_rows.proofs.cells.trimmed.Given as goal
+
+-- only spaces were passed
+abbrev pub invariant-loop-len : goal.invariant-loop-len
+invariant-loop-len l = record {
+  within : l.len ≤ length l.cells;
+  passed : l.len + suffix_len is_space l.cells ≡ length l.cells + suffix_len is_space (take l.len l.cells);
+}
+
+abbrev pub decreases-loop-len : goal.decreases-loop-len
+decreases-loop-len l = l.len

@@ -1,0 +1,107 @@
+//! The runs of a row.
+
+ghost use Rattle.std.specs.Prelude.{◌≡◌, ◌≤◌, ◌<◌, length};
+ghost use Rattle.xterm_rows.specs.Groups.{group_end};
+ghost use Rattle.xterm_rows.specs.Runs.{begins, goes_on, kind_number, kind_of, run_at};
+
+use crate::cells::{cell_behind, owner};
+use crate::outlines::is_outlined;
+use crate::renditions::{attribute_number, bit_of, colour_number};
+use sheet::{Cell, Rendition};
+
+/// What the characters of a run have in common: their rendition, whether they are drawn, whether they are of width 2,
+/// and whether it is one with marks, which is a run by itself (ours).
+#[derive(Clone, Copy, Debug, PartialEq, Eq)]
+pub struct Kind {
+    pub rendition: Rendition,
+    pub drawn: bool,
+    pub wide: bool,
+    pub marked: bool,
+}
+
+/// A group of neighbours of one kind in a row: how many cells stand before it, how many to its end, and their kind.
+#[derive(Clone, Copy, Debug, PartialEq, Eq)]
+pub struct Run {
+    pub before: usize,
+    pub end: usize,
+    pub kind: Kind,
+}
+
+impl Kind {
+    /// The kind of a cell's character.
+    #[tactic(auto, unfolding(crate::specs::Runs::kind_of))]
+    fn of(cell: Cell) -> Self
+        ensures { result ≡ kind_of cell }
+    {
+        let marked = cell.mark_count() > 0;
+        Kind {
+            rendition: cell.rendition(),
+            drawn: is_outlined(cell.character()) && !marked,
+            wide: cell.is_wide(),
+            marked,
+        }
+    }
+
+    /// The kind but for its colours as a number: that of the attributes, 16 drawn, 512 of width 2, 1024 with marks
+    /// (ours).
+    #[tactic(auto, unfolding(crate::specs::Runs::kind_number))]
+    pub fn number(self) -> u16
+        ensures { result ≡ kind_number self }
+    {
+        let shape = 16 * bit_of(self.drawn) + 512 * bit_of(self.wide);
+        attribute_number(self.rendition) + shape + 1024 * bit_of(self.marked)
+    }
+
+    /// Whether a character of another kind goes on with the run of the one before it, which is of this kind.
+    fn goes_on(self, other: Kind) -> bool
+        ensures { result ≡ goes_on self other }
+    {
+        self.number() == other.number()
+            && colour_number(self.rendition.ink) == colour_number(other.rendition.ink)
+            && colour_number(self.rendition.paper) == colour_number(other.rendition.paper)
+            && !self.marked
+    }
+}
+
+/// The run that begins at a place, counted from 0 (ours).
+#[tactic(auto, unfolding(crate::specs::Runs::run_at))]
+pub fn run_at(cells: &[Cell], at: usize) -> Run
+    requires { at < length cells.now }
+    ensures run { result ≡ run_at cells.now at }
+    ensures before { result.before ≡ at }
+    ensures end { result.end ≡ group_end (begins cells.now) at (length cells.now) }
+    ensures some { at < result.end }
+    ensures within { result.end ≤ length cells.now }
+{
+    Run {
+        before: at,
+        end: run_end(cells, at),
+        kind: Kind::of(cell_behind(cells, at)),
+    }
+}
+
+/// Where the run ends that begins at a place.
+fn run_end(cells: &[Cell], at: usize) -> usize
+    requires { at < length cells.now }
+    ensures end { result ≡ group_end (begins cells.now) at (length cells.now) }
+    ensures some { at < result }
+    ensures within { result ≤ length cells.now }
+{
+    let mut end = at + 1;
+    while end < cells.len() && !begins(cells, end) {
+        end += 1;
+    }
+    end
+}
+
+/// Whether a run begins at a place.
+#[tactic(auto, unfolding(crate::specs::Runs::begins))]
+fn begins(cells: &[Cell], at: usize) -> bool
+    ensures { result ≡ begins cells.now at }
+{
+    if at == 0 {
+        return true;
+    }
+    let cell = cell_behind(cells, at);
+    !cell.is_covered() && !Kind::of(owner(cells, at - 1)).goes_on(Kind::of(cell))
+}
