@@ -14,3 +14,4 @@ pub mod Ran
 pub mod Taken
 pub mod Idle
 pub mod Sizes
+pub mod Rowless

@@ -11,6 +11,7 @@ pub mod Sequences
 pub mod PrivateModes
 pub mod Replies
 pub mod Effect
+pub mod Played
 pub mod Term
 pub mod SameSize
 pub mod Seen

@@ -3,6 +3,7 @@ ghost use Rattle.std.specs.Prelude.{ℕ};
 ghost use Rattle.xterm_term.specs.Size.{IsSize};
 ghost use Rattle.xterm_term.specs.Console.{IsSafe};
 ghost use Rattle.xterm_term.specs.Term.{reset_term};
+ghost use Rattle.xterm_term.specs.Played.{RowlessDoNothing, RowlessModesStay, RowlessAnsiModesStay, TitleGoesAlone};
 ghost use Rattle.xterm_term.specs.Law.{PlaysInParts, SendsInParts, SentIsAppended, SeenDecides, SendsLittle, StaysSafe, SizeStays};
 
 use crate::below::laws_below;
@@ -51,4 +52,16 @@ pub fn stays_safe()
 /// Whatever bytes a term takes, its size stays.
 pub fn size_stays()
     ensures { SizeStays }
+{}
+
+/// Finished sequences and parameters of modes that have no row do nothing.
+pub fn rowless_do_nothing()
+    ensures commands { RowlessDoNothing }
+    ensures modes { RowlessModesStay }
+    ensures ansi_modes { RowlessAnsiModesStay }
+{}
+
+/// Whether a title is read goes by the commands alone.
+pub fn title_goes_alone()
+    ensures { TitleGoesAlone }
 {}

@@ -11,6 +11,7 @@ mod escapes;
 pub mod laws;
 mod measure;
 mod modes;
+pub mod played;
 mod playing;
 mod private_modes;
 mod puts;
