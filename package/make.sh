@@ -34,7 +34,7 @@ install -m 644 CHANGELOG.md "$docs"
 pages=(ARCHIVE COMMANDS FORMATS PICTURES PROMISES TERMINAL TODAY)
 shipped=$(IFS='|' && echo "${pages[*]}")
 for page in "${pages[@]}"; do
-    sed -z -E -e "s/\]\(($shipped)\.md/](@\1.md/g" -e 's/\[([^][]*)\]\([^@):]*\.md[^)]*\)/\1/g' -e 's/\]\(@/](/g' \
+    sed -z -E -e "s/\]\(($shipped)\.md/](@\1.md/g" -e 's/\[([^][]*)\]\([^@#):][^):]*\)/\1/g' -e 's/\]\(@/](/g' \
         "docs/$page.md" | install -m 644 /dev/stdin "$docs/$page.md"
 done
 install -m 644 examples/tour.* tests/recordings/*.script tests/recordings/*.timing "$docs/examples"
