@@ -34,7 +34,8 @@ demo: bin/typetool
 	@echo "file://$(CURDIR)/bin/tour.html"
 
 # A look over shell, Python, layout, the pages and the edits, in seconds and without the program.
-LINTS := tests/edits_apply.py tests/reading.py tests/pages.py 'assets/make_page.py --check' tests/manual.py \
+LINTS := tests/edits_apply.py tests/reading.py tests/pages.py 'assets/make_page.py --check' \
+	'assets/make_outlines.py --check' tests/manual.py \
 	tests/runs.sh tests/lint.sh
 
 lint:
@@ -53,6 +54,7 @@ test:
 		'tests/memory.py bin/typetool' \
 		'tests/damage.py bin/typetool 500' \
 		'tests/mend_fuzz.py bin/typetool 8000' \
+		'tests/whole.py bin/typetool 100' \
 		'tests/make_recordings.py bin/typetool' \
 		'tests/fuzz.py bin/typetool 2000' \
 		'tests/today_fuzz.py bin/typetool 1000' \
@@ -67,13 +69,14 @@ test:
 browser: bin/typetool
 	tests/run.py 'tests/browser.py bin/typetool'
 
-# The long forms: more limits on memory, 20,000 damaged pairs and random recordings, an archive of 2,000, every growth
-# refused in turn, and more wrong bodies.
+# The long forms: more limits on memory, 20,000 damaged pairs and random recordings, 1,000 kills of each job that writes a
+# pair, an archive of 2,000, every growth refused in turn, and more wrong bodies.
 soak: bin/typetool
 	tests/run.py \
 		'tests/memory.py bin/typetool 16' \
 		'tests/damage.py bin/typetool 20000' \
 		'tests/mend_fuzz.py bin/typetool 20000' \
+		'tests/whole.py bin/typetool 1000' \
 		'tests/fuzz.py bin/typetool 20000' \
 		'tests/today_fuzz.py bin/typetool 10000' \
 		'tests/archive.py bin/typetool' \

@@ -83,14 +83,14 @@ class Recording:
     def seconds(self, count):
         return plain.written(self.dues[count - 1] if count else 0).decode()
 
-    def page(self, folder, name):
-        """The address of the page that the program writes."""
+    def page(self, folder, name, *words):
+        """The address of the page that the program writes, with these flags."""
         paths = [os.path.join(folder, f"{name}.{kind}") for kind in ("script", "timing", "html")]
         for path, content in zip(paths, plain.files_of((HEADER, self.chunks, b""))):
             with open(path, "wb") as file:
                 file.write(content)
         with open(paths[2], "wb") as file:
-            subprocess.run([self.program, "page", *paths[:2]], check=True, stdout=file)
+            subprocess.run([self.program, "page", *words, *paths[:2]], check=True, stdout=file)
         return f"file://{paths[2]}"
 
 
@@ -419,6 +419,27 @@ def try_look(browser, address):
     browser.ask("Emulation.setScriptExecutionDisabled", value=False)
 
 
+# Titles that would be markup, end an attribute, or have what HTML or a terminal takes for something else.
+TITLES = (
+    "</title><script>broken = 1</script>",
+    "</h1><img src=x onerror='broken = 1'>",
+    '" onload="broken = 1',
+    "&lt;b&gt; &amp; &#60; &copy",
+    "<!-- ]]>",
+    "\x1b[31m \x7f \x9b \r\n",
+    "é─\U0001f600",
+)
+
+
+def try_titles(browser, recording, folder):
+    """The title and the heading are the characters of a title, control characters aside, and nothing of it is run."""
+    seen = "[document.title, document.querySelector('h1').textContent, document.scripts.length, typeof broken]"
+    for number, title in enumerate(TITLES):
+        browser.open(recording.page(folder, f"title{number}", "--title", title))
+        wanted = "".join("?" if ord(c) < 32 or 127 <= ord(c) < 160 else c for c in title)
+        check(f"title {title!r}", browser.value(seen), [wanted, wanted, 2, "undefined"])
+
+
 def try_names(browser, address):
     """What a screen reader is told, what was fetched, and whether anything went wrong."""
     browser.open(address)
@@ -495,12 +516,14 @@ def main():
                 recording = Recording(program, chunks)
                 address = recording.page(folder, name)
                 try_counts(browser, name, recording, address)
+                check(f"{name}: title", browser.value("document.title"), name)
                 if name == "tour":
                     for trial in (try_keys, try_playing, try_controls):
                         trial(browser, recording, address)
                     try_find(browser, recording, address, "seconds")
                     try_poster(browser, recording, address)
                     try_address(browser, recording, address)
+                    try_titles(browser, recording, folder)
                     try_speech(browser, address)
                     try_names(browser, address)
                     try_look(browser, address)

@@ -177,7 +177,10 @@ def parts(profile, line, trailer):
 def note_line(profile, header, trailer):
     """The line that is told to whoever plays the recording, or nothing."""
     told = parts(profile, header.removesuffix(b"\n"), trailer)
-    return b"typetool: note: " + b"; ".join(told.values()) + b" (see typetool check)\n" if told else b""
+    text = b"; ".join(told.values())
+    if len(text) > 200:
+        text = text[:200] + b".."
+    return b"typetool: note: " + text + b" (see typetool check)\n" if told else b""
 
 
 def notes(profile, line, body, trailer):
