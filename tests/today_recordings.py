@@ -340,7 +340,8 @@ def judged(path, columns, lines, display):
         played = len(data)
         ours = shown(plain.rows())
         compare("tmux", moment, ours, shown(screen_of_tmux(data, columns, lines)))
-        if display:
+        # A character that is cut is U+FFFD to xterm, once what is pending is cancelled.
+        if display and not plain.pending:
             texts = [composed(text) for text in plain.texts()]
             compare("xterm", moment, texts, screen_of_xterm(display, data, columns, lines))
         if program:
