@@ -5,7 +5,7 @@
 
 The rows of xterm_rows.json are played by the plain reading (plain_today.py), and by `typetool screen`, `picture` and
 `reports` with `--profile xterm` where the program is named. Each random stream (random_today.py) is cut into chunks
-anywhere, and played at a size of its own; the screens after it, as text and as a picture (plain_today_picture.py), and
+anywhere, and played at a size of its own; the screens after it, as text and as a picture (plain_today_drawing.py), and
 the reports, have to be the plain reading's. The cursor and whether a wrap is pending are told by reports, asked for in
 one more chunk.
 
@@ -21,7 +21,7 @@ import tempfile
 
 import plain_reader
 import plain_today
-import plain_today_picture
+import plain_today_drawing
 import random_today
 
 program = os.path.abspath(sys.argv[1]) if len(sys.argv) > 1 else None
@@ -57,7 +57,7 @@ def by_reading(size, chunks):
     for chunk in chunks[:-1]:
         terminal.feed(chunk)
     yield plain_today.plain_text(terminal)
-    yield plain_today_picture.picture(terminal, f"{len(chunks) - 1}.000000")
+    yield plain_today_drawing.picture(terminal, f"{len(chunks) - 1}.000000")
     terminal.feed(chunks[-1])
     yield plain_today.plain_text(terminal)
     yield terminal.reports.hex() + "\n"
