@@ -240,9 +240,8 @@ enough_paths Cast rows job e = of_value _ (λ profile. jobs.Cast profile) job 2 
 enough_paths Screen rows job e =
     let escaped = switch_in (id_in Escaped) rows in
     after_read (moment_in (id_in At) rows)
-    (λ at. after (player_in rows) (λ player. after (print_by escaped player) (λ print. Ok (jobs.Screen at print)))) job 2
-    (λ at later. after_read (player_in rows) (λ player. after (print_by escaped player) (λ print. Ok (jobs.Screen at print))) job 2
-    (λ player last. of_value (print_by escaped player) (λ print. jobs.Screen at print) job 2 (λ print. lit≤ tt) last) later) e
+    (λ at. after (player_in rows) (λ player. Ok (jobs.Screen at (print_by escaped player)))) job 2
+    (λ at later. of_value (player_in rows) (λ player. jobs.Screen at (print_by escaped player)) job 2 (λ player. lit≤ tt) later) e
 enough_paths Picture rows job e =
     after_read (moment_in (id_in At) rows) (λ at. after (player_in rows) (λ p. Ok (jobs.Picture at p))) job 2
     (λ at later. of_value (player_in rows) (λ p. jobs.Picture at p) job 2 (λ p. lit≤ tt) later) e

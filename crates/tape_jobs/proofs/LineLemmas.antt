@@ -17,8 +17,8 @@ use Rattle.clap.proofs.OnLiterals.{clap_on_literals}
 use Rattle.tape_jobs.proofs.CommandLemmas.{is_simple_app, means, means_job}
 use Rattle.tape_core.specs.Seconds.{last_moment, micros, seconds_of}
 use Rattle.tape_seek.specs.Requests.{place_of}
-use Rattle.tape_jobs.specs.CommandLine.{typetool_app, clap_takes, every_allowed, every_of, usual_every, after, readable, job_in, is_searchable, moment_if, moment_or_last, profile_named, is_today, size_cut, size_from, size_named, stem_of, today_if, searchable, value_in, subcommand_in, app_in, name_in, id_in, rule_in, flags_in, texts_in, text_in, paths_in}
-use Rattle.tape_jobs.specs.Lines.{Asks, IsPlain, escaped_words, header_words, profile_or_first, profile_words, sized_words, today_words, vt_print}
+use Rattle.tape_jobs.specs.CommandLine.{typetool_app, clap_takes, every_allowed, every_of, usual_every, after, readable, job_in, is_searchable, moment_if, moment_or_last, profile_named, is_today, size_cut, size_from, size_named, stem_of, today_if, searchable, value_in, subcommand_in, app_in, name_in, id_in, rule_in, flags_in, texts_in, text_in, paths_in, print_by}
+use Rattle.tape_jobs.specs.Lines.{Asks, IsPlain, escaped_words, header_words, profile_or_first, profile_words, sized_words, today_words}
 use Rattle.tape_mend.specs.declared.opening.Header.{Header}
 use Rattle.tape_mend.specs.declared.opening.Header.TheVariants.{Kept, Last, Made}
 use Rattle.vt_term.specs.declared.profile.Profile.{Profile}
@@ -582,7 +582,7 @@ module _ (program script timing : Text) (p : IsPlain script) (q : IsPlain timing
 
     pub screen_line : (escaped : Bool) (profile : Option Profile)
         → Asks (program ∷ codes "screen" ∷ codes "--at" ∷ at ∷ ((escaped_words escaped ++ profile_words profile) ++ paths))
-        (job.Screen moment (vt_print escaped (profile_or_first profile))) [] paths
+        (job.Screen moment (print_by escaped (Vt (profile_or_first profile)))) [] paths
     unfolding clap_on_literals typetool_app app_in name_in flags_in texts_in paths_in id_in rule_in job_in text_in profile_named is_today
     screen_line false None =
         asks_by program Screen (literal (codes "--at") ∷ value_word at ∷ files) are_plain refl (job.Screen moment (Plain (Vt Vt100))) [] paths
@@ -595,22 +595,26 @@ module _ (program script timing : Text) (p : IsPlain script) (q : IsPlain timing
         (job.Screen moment (Plain (Vt Vt102))) [] paths (moment_read (λ m. job.Screen m (Plain (Vt Vt102)))) refl refl
     screen_line true None =
         asks_by program Screen (literal (codes "--at") ∷ value_word at ∷ literal (codes "--escaped") ∷ files) are_plain refl
-        (job.Screen moment (Escaped Vt100)) [] paths
-        (moment_read (λ m. job.Screen m (Escaped Vt100))) refl refl
+        (job.Screen moment (Escaped (Vt Vt100))) [] paths
+        (moment_read (λ m. job.Screen m (Escaped (Vt Vt100)))) refl refl
     screen_line true (Some Vt100) =
         asks_by program Screen (literal (codes "--at") ∷ value_word at ∷ literal (codes "--escaped") ∷ as_vt100) are_plain refl
-        (job.Screen moment (Escaped Vt100)) [] paths (moment_read (λ m. job.Screen m (Escaped Vt100))) refl refl
+        (job.Screen moment (Escaped (Vt Vt100))) [] paths (moment_read (λ m. job.Screen m (Escaped (Vt Vt100)))) refl refl
     screen_line true (Some Vt102) =
         asks_by program Screen (literal (codes "--at") ∷ value_word at ∷ literal (codes "--escaped") ∷ as_vt102) are_plain refl
-        (job.Screen moment (Escaped Vt102)) [] paths (moment_read (λ m. job.Screen m (Escaped Vt102))) refl refl
+        (job.Screen moment (Escaped (Vt Vt102))) [] paths (moment_read (λ m. job.Screen m (Escaped (Vt Vt102)))) refl refl
 
     -- of a terminal of today
-    pub screen_today_line : Asks (program ∷ codes "screen" ∷ codes "--at" ∷ at ∷ (today_words ++ paths))
-        (job.Screen moment (Plain (Today None))) [] paths
+    pub screen_today_line : (escaped : Bool)
+        → Asks (program ∷ codes "screen" ∷ codes "--at" ∷ at ∷ ((escaped_words escaped ++ today_words) ++ paths))
+        (job.Screen moment (print_by escaped (Today None))) [] paths
     unfolding clap_on_literals typetool_app app_in name_in flags_in texts_in paths_in id_in rule_in job_in text_in profile_named is_today
-    screen_today_line =
+    screen_today_line false =
         asks_by program Screen (literal (codes "--at") ∷ value_word at ∷ as_today) are_plain refl
         (job.Screen moment (Plain (Today None))) [] paths (moment_read (λ m. job.Screen m (Plain (Today None)))) refl refl
+    screen_today_line true =
+        asks_by program Screen (literal (codes "--at") ∷ value_word at ∷ literal (codes "--escaped") ∷ as_today) are_plain refl
+        (job.Screen moment (Escaped (Today None))) [] paths (moment_read (λ m. job.Screen m (Escaped (Today None)))) refl refl
 
     pub reports_today_line : Asks (program ∷ codes "reports" ∷ codes "--at" ∷ at ∷ (today_words ++ paths))
         (job.Reports moment (Today None)) [] paths
@@ -639,13 +643,18 @@ module _ (program script timing : Text) (p : IsPlain script) (q : IsPlain timing
           ap (λ o. after (readable unread.Seconds o) (λ m. after (today_if (Some size)) (of m))) e
           ∙ ap (λ o. after (after (readable unread.Size o) (λ s. Ok (Today (Some s)))) (of moment)) d
 
-      pub screen_sized_line : Asks (program ∷ codes "screen" ∷ codes "--at" ∷ at ∷ (sized_words size ++ paths))
-          (job.Screen moment (Plain (Today (Some measure)))) [] paths
+      pub screen_sized_line : (escaped : Bool)
+          → Asks (program ∷ codes "screen" ∷ codes "--at" ∷ at ∷ ((escaped_words escaped ++ sized_words size) ++ paths))
+          (job.Screen moment (print_by escaped (Today (Some measure)))) [] paths
       unfolding clap_on_literals typetool_app app_in name_in flags_in texts_in paths_in id_in rule_in job_in text_in profile_named is_today
-      screen_sized_line =
+      screen_sized_line false =
           asks_by program Screen (literal (codes "--at") ∷ value_word at ∷ as_sized size) sized_plain refl
           (job.Screen moment (Plain (Today (Some measure)))) [] paths
           (size_read (λ m player. Ok (job.Screen m (Plain player)))) refl refl
+      screen_sized_line true =
+          asks_by program Screen (literal (codes "--at") ∷ value_word at ∷ literal (codes "--escaped") ∷ as_sized size) sized_plain refl
+          (job.Screen moment (Escaped (Today (Some measure)))) [] paths
+          (size_read (λ m player. Ok (job.Screen m (Escaped player)))) refl refl
 
       pub reports_sized_line : Asks (program ∷ codes "reports" ∷ codes "--at" ∷ at ∷ (sized_words size ++ paths))
           (job.Reports moment (Today (Some measure))) [] paths

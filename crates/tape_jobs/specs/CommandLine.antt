@@ -260,11 +260,10 @@ player_by (Some name) size =
 abbrev pub player_in : List Row → Result Player Unreadable
 player_in rows = player_by (first_of (id_in AnyProfile) rows) (first_of (id_in Size) rows)
 
--- how a screen is printed: a terminal of today has no escaped print yet (ours)
-abbrev pub print_by : Bool → Player → Result Print Unreadable
-print_by false player = Ok (Plain player)
-print_by true (Vt profile) = Ok (print.Escaped profile)
-print_by true (Today size) = Err unread.Today
+-- how a screen is printed, by whether `--escaped` is given (ours)
+abbrev pub print_by : Bool → Player → Print
+print_by false player = Plain player
+print_by true player = print.Escaped player
 
 -- whether these characters can be looked for: one of them isn't a space, and none is a control character, below U+0020
 -- or from U+007F to U+009F (ours)
@@ -299,7 +298,7 @@ job_in Info rows = Ok job.Info
 job_in Check rows = after (profile_in rows) (λ profile. Ok (job.Check profile))
 job_in Screen rows =
     after (moment_in (id_in At) rows) (λ at. after (player_in rows) (λ player.
-    after (print_by (switch_in (id_in Escaped) rows) player) (λ print. Ok (job.Screen at print))))
+    Ok (job.Screen at (print_by (switch_in (id_in Escaped) rows) player))))
 job_in Picture rows =
     after (moment_in (id_in At) rows) (λ at. after (player_in rows) (λ player.
     Ok (job.Picture at player)))

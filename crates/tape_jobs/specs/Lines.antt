@@ -3,9 +3,6 @@ use Rattle.std.specs.Prelude.{◌≡◌, ℕ, chars, ◌==◌, ◌++◌, Bool, t
 use Rattle.clap.specs.Words.{Text}
 use Rattle.tape_jobs.specs.CommandLine.{clap_takes, is_searchable, meaning_of_words}
 use Rattle.tape_jobs.specs.declared.job.Job.{Job}
-use Rattle.tape_jobs.specs.declared.player.Player.TheVariants.{Vt}
-use Rattle.tape_jobs.specs.declared.player.Print.{Print}
-use Rattle.tape_jobs.specs.declared.player.Print.TheVariants.{Plain, Escaped}
 use Rattle.tape_mend.specs.declared.opening.Header.{Header}
 use Rattle.tape_mend.specs.declared.opening.Header.TheVariants.{Kept, Last, Made}
 use Rattle.vt_term.specs.declared.profile.Profile.{Profile}
@@ -38,11 +35,6 @@ profile_words (Some profile) = codes "--profile" ∷ profile_name profile ∷ []
 abbrev pub profile_or_first : Option Profile → Profile
 profile_or_first None = Vt100
 profile_or_first (Some profile) = profile
-
--- the screen of a VT as plain text, or as a text that draws it again (ours)
-abbrev pub vt_print : Bool → Profile → Print
-vt_print false profile = Plain (Vt profile)
-vt_print true profile = Escaped profile
 
 -- `--profile xterm` (ours)
 abbrev pub today_words : List Text

@@ -21,6 +21,7 @@ use Rattle.vt_term.specs.Console.{Console}
 use Rattle.vt_term.specs.Term.{Term}
 use Rattle.xterm_term.specs.Console.{Console as TodayConsole}
 use Rattle.xterm_term.specs.Term.{Term as TodayTerm}
+use Rattle.xterm_escaped.specs.EscapedText.{escaped_text as escaped_today}
 use Rattle.xterm_picture.specs.Picture.{picture_text as picture_today}
 use Rattle.xterm_picture.specs.Still.{still_of as still_today}
 use Rattle.xterm_print.specs.PlainText.{plain_text as plain_today}
@@ -38,7 +39,8 @@ hex_line bytes = encode_lower bytes ++ 10 ∷ []
 unfoldable pub printed_at : Print → Tape → ℕ → List ℕ
 printed_at (Plain (Vt profile)) tape at = screen_text false (term_at profile tape at).console
 printed_at (Plain (Today asked)) tape at = plain_today (today_at asked tape at).console.picture
-printed_at (Escaped profile) tape at = screen_text true (term_at profile tape at).console
+printed_at (Escaped (Vt profile)) tape at = screen_text true (term_at profile tape at).console
+printed_at (Escaped (Today asked)) tape at = escaped_today (today_at asked tape at).console
 
 -- all that a terminal has sent by a moment (ours)
 unfoldable pub sent_at : Player → Tape → ℕ → List ℕ
@@ -61,6 +63,7 @@ drawn_at (Today asked) tape at = drawn_today at (today_at asked tape at).console
 -- Private: what is asked of a terminal of today at a moment, as a text (ours)
 abbrev pub asked_of_today : AskedOfToday → ℕ → TodayTerm → List ℕ
 asked_of_today today.Screen at term = plain_today term.console.picture
+asked_of_today today.Escaped at term = escaped_today term.console
 asked_of_today today.Picture at term = drawn_today at term.console
 asked_of_today today.Reports at term = hex_line term.reports
 

@@ -27,7 +27,7 @@ vt_of (Today asked) = None
 -- the same of a screen (ours)
 abbrev pub vt_of_print : Print → Option Profile
 vt_of_print (Plain player) = vt_of player
-vt_of_print (Escaped profile) = Some profile
+vt_of_print (Escaped player) = vt_of player
 
 -- as which terminal a job plays the recording, if it plays it (ours)
 abbrev pub played_by : Job → Option Profile

@@ -3,14 +3,13 @@
 ghost use Rattle.std.specs.Prelude.{◌≡◌, ◌++◌, ◌∷◌, [], ℕ, Bool, List, None, Option, Some, codes, false};
 ghost use Rattle.clap.specs.Words.{Text};
 ghost use Rattle.tape_core.specs.Seconds.{last_moment, seconds_of};
-ghost use Rattle.tape_jobs.specs.CommandLine.{every_of, size_named, stem_of, usual_every};
-ghost use Rattle.tape_jobs.specs.Lines.{Asks, FindAsks, IsPlain, LineAsks, PageAsks, escaped_words, header_words, profile_or_first, profile_words, sized_words, today_words, vt_print};
+ghost use Rattle.tape_jobs.specs.CommandLine.{every_of, print_by, size_named, stem_of, usual_every};
+ghost use Rattle.tape_jobs.specs.Lines.{Asks, FindAsks, IsPlain, LineAsks, PageAsks, escaped_words, header_words, profile_or_first, profile_words, sized_words, today_words};
 ghost use Rattle.tape_mend.specs.declared.opening.Header.{Header};
 ghost use Rattle.vt_term.specs.declared.profile.Profile.{Profile};
 ghost use Rattle.tape_jobs.specs.declared.job.Job.TheVariants as job;
 ghost use Rattle.tape_jobs.specs.declared.player.Measure.{Measure};
 ghost use Rattle.tape_jobs.specs.declared.player.Player.TheVariants.{Vt, Today};
-ghost use Rattle.tape_jobs.specs.declared.player.Print.TheVariants.{Plain};
 ghost use Rattle.tape_core.specs.Devices.{Took, has_failed};
 ghost use Rattle.tape_core.specs.declared.devices.Watched.{Watched};
 ghost use Rattle.tape_jobs.specs.Endings.{StopsIn};
@@ -40,14 +39,16 @@ pub fn plain_lines_are_read()
     ensures screen { (at : Text) (moment : ℕ) → seconds_of at ≡ Some moment
         → (escaped : Bool) (profile : Option Profile) → LineAsks (codes "screen")
         (codes "--at" ∷ at ∷ (escaped_words escaped ++ profile_words profile))
-        (job.Screen moment (vt_print escaped (profile_or_first profile))) }
+        (job.Screen moment (print_by escaped (Vt (profile_or_first profile)))) }
     ensures screen_today { (at : Text) (moment : ℕ) → seconds_of at ≡ Some moment
-        → LineAsks (codes "screen") (codes "--at" ∷ at ∷ today_words)
-        (job.Screen moment (Plain (Today None))) }
+        → (escaped : Bool) → LineAsks (codes "screen")
+        (codes "--at" ∷ at ∷ (escaped_words escaped ++ today_words))
+        (job.Screen moment (print_by escaped (Today None))) }
     ensures screen_sized { (at : Text) (moment : ℕ) → seconds_of at ≡ Some moment
         → (size : Text) (measure : Measure) → size_named size ≡ Some measure
-        → LineAsks (codes "screen") (codes "--at" ∷ at ∷ sized_words size)
-        (job.Screen moment (Plain (Today (Some measure)))) }
+        → (escaped : Bool) → LineAsks (codes "screen")
+        (codes "--at" ∷ at ∷ (escaped_words escaped ++ sized_words size))
+        (job.Screen moment (print_by escaped (Today (Some measure)))) }
     ensures picture { (at : Text) (moment : ℕ) → seconds_of at ≡ Some moment
         → (profile : Option Profile) → LineAsks (codes "picture")
         (codes "--at" ∷ at ∷ profile_words profile)

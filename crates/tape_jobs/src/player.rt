@@ -30,8 +30,8 @@ pub enum Player {
 pub enum Print {
     /// As plain text.
     Plain(Player),
-    /// As a text that draws it again, which no terminal of today has yet.
-    Escaped(Profile),
+    /// As a text that draws it again on a reset terminal of the same kind and size.
+    Escaped(Player),
 }
 
 /// The size of the terminal of today that plays a recording.

@@ -54,7 +54,7 @@ fn compare_print<R: Abort + AllocGlobal>(
     text: &str,
 ) -> Result<(), Fail> {
     let print = if escaped {
-        Print::Escaped(profile)
+        Print::Escaped(Player::Vt(profile))
     } else {
         Print::Plain(Player::Vt(profile))
     };

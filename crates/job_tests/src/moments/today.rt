@@ -32,6 +32,36 @@ fn a_terminal_of_today_is_printed(rt: HostRuntime) -> Result<(), Fail> {
     Ok(())
 }
 
+/// Columns, lines, a chunk, and the text that draws it again.
+const DRAWN_AGAIN: [(u64, u64, &str, &str); 3] = [
+    (5, 2, "", "\x1b[0m\x1b[1;1H"),
+    (
+        6,
+        2,
+        "\x1b[1;31ma日\x1b[m\r\nb",
+        "\x1b[1;1H\x1b[0;1;31ma日\x1b[2;1H\x1b[0mb\x1b[0m\x1b[2;2H",
+    ),
+    (
+        4,
+        1,
+        "\x1b[?5h\x1b[?25l\x1b[48;5;200me\u{301}",
+        "\x1b[?5h\x1b[1;1H\x1b[0m\x1b[48;5;200me\u{301}\x1b[0m\x1b[?25l\x1b[1;2H",
+    ),
+];
+
+#[test]
+fn a_terminal_of_today_is_drawn_again(rt: HostRuntime) -> Result<(), Fail> {
+    for (columns, lines, body, text) in DRAWN_AGAIN {
+        let screen = Job::Screen {
+            at: 0,
+            print: Print::Escaped(sized(columns, lines)),
+        };
+        let timing = format!(in rt.alloc(); "0 {}\n", body.len())?;
+        compare(&rt, &done(screen, body, timing.as_str(), text))?;
+    }
+    Ok(())
+}
+
 #[test]
 fn a_terminal_of_today_answers(rt: HostRuntime) -> Result<(), Fail> {
     let reports = Job::Reports {

@@ -159,7 +159,7 @@ fn run_info(rt: HostRuntime) -> Result<(), Fail> {
 fn screen(escaped: bool) -> Job {
     let profile = Profile::Vt100;
     let print = if escaped {
-        Print::Escaped(profile)
+        Print::Escaped(Player::Vt(profile))
     } else {
         Print::Plain(Player::Vt(profile))
     };

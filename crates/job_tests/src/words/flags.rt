@@ -9,7 +9,7 @@ fn reads_profiles_and_the_escaped_print(rt: HostRuntime) -> Result<(), Fail> {
     let (vt100, vt102) = (Profile::Vt100, Profile::Vt102);
     let escaped = Job::Screen {
         at: 1_000_000,
-        print: Print::Escaped(vt100),
+        print: Print::Escaped(Player::Vt(vt100)),
     };
     let rows = [
         ("typetool screen --at=1 --escaped s t", escaped),

@@ -48,11 +48,17 @@ fn reads_sizes(rt: HostRuntime) -> Result<(), Fail> {
         at: 1_000_000,
         player: Player::Today(None),
     };
-    compare_job(&rt, "typetool picture --at=1 --profile=xterm s t", picture)
+    compare_job(&rt, "typetool picture --at=1 --profile=xterm s t", picture)?;
+    let escaped = Job::Screen {
+        at: 1_000_000,
+        print: Print::Escaped(Player::Today(None)),
+    };
+    let line = "typetool screen --at=1 --escaped --profile=xterm s t";
+    compare_job(&rt, line, escaped)
 }
 
 /// What a line is refused for.
-const REFUSED: [(&str, &str); 16] = [
+const REFUSED: [(&str, &str); 15] = [
     ("screen --at=1 --profile=xterm --size=1x24", BAD_SIZE),
     ("screen --at=1 --profile=xterm --size=1001x24", BAD_SIZE),
     ("screen --at=1 --profile=xterm --size=80x0", BAD_SIZE),
@@ -70,7 +76,6 @@ const REFUSED: [(&str, &str); 16] = [
         "screen --at=1 --profile=XTERM --size=0x0",
         "bad profile: vt100, vt102 or xterm",
     ),
-    ("screen --at=1 --profile=xterm --escaped", NOT_YET),
     ("changes --to=1 --profile=xterm", NOT_YET),
 ];
 

@@ -17,6 +17,7 @@ use std::mem::ManuallyDrop;
 use tape_core::limits::LAST_MOMENT;
 use tape_core::{Recording, Watched};
 use vt_term::Profile;
+use xterm_escaped::escaped;
 use xterm_picture::picture;
 
 /// Prints the screen of the moment, and flushes. Nothing is written where memory is refused.
@@ -41,9 +42,12 @@ pub fn write_screen<O: Write>(
         Print::Plain(Player::Today(size)) => {
             write_today(alloc, recording, size, at, AskedOfToday::Screen, out)
         }
-        Print::Escaped(profile) => {
+        Print::Escaped(Player::Vt(profile)) => {
             let asked = Asked::Screen { escaped: true };
             write_moment(alloc, recording, profile, at, asked, out)
+        }
+        Print::Escaped(Player::Today(size)) => {
+            write_today(alloc, recording, size, at, AskedOfToday::Escaped, out)
         }
     }
 }
@@ -95,6 +99,8 @@ fn write_moment<O: Write>(
 pub enum AskedOfToday {
     /// Its screen as plain text.
     Screen,
+    /// Its screen as a text that draws it again.
+    Escaped,
     /// Its screen as a picture.
     Picture,
     /// All that it has sent.
@@ -123,6 +129,7 @@ pub fn write_today<O: Write>(
     let view = xterm_print::seek(&mut session, at)?;
     match asked {
         AskedOfToday::Screen => xterm_print::plain(view.terminal(), out)?,
+        AskedOfToday::Escaped => escaped(view.terminal(), out)?,
         AskedOfToday::Picture => picture(view.terminal(), at.min(LAST_MOMENT), out)?,
         AskedOfToday::Reports => put_hex_line(view.reports(), out)?,
     }

@@ -72,7 +72,6 @@ fn vt_of_print(print: Print) -> Option<Profile>
     ensures { result ≡ vt_of_print print }
 {
     match print {
-        Print::Plain(player) => vt_of(player),
-        Print::Escaped(profile) => Some(profile),
+        Print::Plain(player) | Print::Escaped(player) => vt_of(player),
     }
 }

@@ -120,7 +120,7 @@ fn read_screen(values: &ArgMatches<'_>) -> Result<Job, Unreadable>
 {
     let at = read_moment(values, Argument::At)?;
     let player = read_player(values)?;
-    let print = print_by(is_given(values, Argument::Escaped), player)?;
+    let print = print_by(is_given(values, Argument::Escaped), player);
     Ok(Job::Screen { at, print })
 }
 
@@ -283,13 +283,13 @@ fn size_cut(text: &[u8], cross: usize) -> Option<Measure>
 }
 
 /// How a screen is printed.
-fn print_by(escaped: bool, player: Player) -> Result<Print, Unreadable>
+fn print_by(escaped: bool, player: Player) -> Print
     ensures { result ≡ print_by escaped player }
 {
-    match (escaped, player) {
-        (false, _) => Ok(Print::Plain(player)),
-        (true, Player::Vt(profile)) => Ok(Print::Escaped(profile)),
-        (true, Player::Today(_)) => Err(Unreadable::Today),
+    if escaped {
+        Print::Escaped(player)
+    } else {
+        Print::Plain(player)
     }
 }
 

@@ -14,11 +14,12 @@ pub returns-clause-screen : goal.returns-clause-screen
 returns-clause-screen c = λ at moment e escaped profile program script timing p q. screen_line program script timing p q at moment e escaped profile
 
 pub returns-clause-screen_today : goal.returns-clause-screen_today
-returns-clause-screen_today c = λ at moment e program script timing p q. screen_today_line program script timing p q at moment e
+returns-clause-screen_today c = λ at moment e escaped program script timing p q.
+    screen_today_line program script timing p q at moment e escaped
 
 pub returns-clause-screen_sized : goal.returns-clause-screen_sized
-returns-clause-screen_sized c = λ at moment e size measure d program script timing p q.
-    screen_sized_line program script timing p q at moment e size measure d
+returns-clause-screen_sized c = λ at moment e size measure d escaped program script timing p q.
+    screen_sized_line program script timing p q at moment e size measure d escaped
 
 pub returns-clause-reports_today : goal.returns-clause-reports_today
 returns-clause-reports_today c = λ at moment e program script timing p q. reports_today_line program script timing p q at moment e
