@@ -7,9 +7,10 @@ The pages are those that `page` writes; tests/page_data.py compares their entrie
 order, shows the text of `screen` and the elements of the picture; each key and control does what it says; nothing is
 fetched; the address shows the moment and is read; the poster, the strip, the found moments; what a screen reader is
 told, how often, and whether each control has a name; contrast, a narrow window, print, no script; a page of 100,000
-chunks opens and seeks in time. Pages of a terminal of today, of a recording by hand and of random ones, show the
-elements of its picture at each count, draw only what changed, and find what runs on over a margin. With a FOLDER
-screenshots are left there. The last line is 'N passed, M failed'.
+chunks opens and seeks in time. Of a terminal of today the data is made by plain_today_drawing.py, as `page` doesn't
+write it yet: of a recording by hand and of random ones each count shows the elements of the plain picture, and of the
+former those that `picture --profile xterm` draws; only what changed is drawn, and what runs on over a margin is found.
+With a FOLDER screenshots are left there. The last line is 'N passed, M failed'.
 """
 import functools
 import glob
@@ -526,6 +527,25 @@ TODAY = (
 FOUND = {"a日": 1, "9a": 1, "the  end": 1, "\u3000": 1, "本": 0}
 
 
+# What this recording's first chunk changes, written by hand.
+FIRST_ENTRY = (
+    '[0.500000,0,2,4,1,[0,1,2,"ab",544,0,5,"日",56,0,5,"─",1064,0,5,"e\u0301"],'
+    '2,[0,256,66308,"\\u003c",768,66308,"\U0001f600"]]'
+)
+
+
+def drawn_today(program, folder, size, chunks):
+    """What `picture --profile xterm` draws after each count of chunks, half a second apart, as elements of a page."""
+    paths = [os.path.join(folder, f"today.{kind}") for kind in ("script", "timing")]
+    for path, content in zip(paths, plain.files_of((HEADER, [(500_000, chunk) for chunk in chunks], b""))):
+        with open(path, "wb") as file:
+            file.write(content)
+    words = [program, "picture", "--profile", "xterm", "--size", "%dx%d" % size, *paths, "--at"]
+    for count in range(len(chunks) + 1):
+        told = subprocess.run([*words, str(count / 2)], check=True, capture_output=True).stdout
+        yield LEFT_OUT.sub("", told.decode())
+
+
 def try_today(browser, folder, name, size, chunks):
     """Every count of a recording of today, in random order: its text and its picture."""
     dues = [f"{number / 2:.6f}" for number in range(1, len(chunks) + 1)]
@@ -552,13 +572,22 @@ def try_today(browser, folder, name, size, chunks):
     check(f"{name}: complaints", wrong, [])
 
 
-def try_todays(browser, folder):
+def try_todays(browser, program, folder):
     """Pages of a terminal of today."""
     for number in range(6):
         rng = random.Random(number)
         chunks = [random_today.stream(rng)[:200] for _ in range(40)]
         try_today(browser, folder, f"today-{number}", (rng.choice([2, 20, 80]), rng.choice([1, 5, 24])), chunks)
-    try_today(browser, folder, "today", (12, 3), [text.encode() for text in TODAY])
+    chunks = [text.encode() for text in TODAY]
+    try_today(browser, folder, "today", (12, 3), chunks)
+    data = plain_today_drawing.data((12, 3), chunks[:1], ["0.500000"])
+    check("an entry of today", data, f"[[12,3],\n[0.000000,0,1,1],\n{FIRST_ENTRY}]")
+    wrong = []
+    for count, picture in enumerate(drawn_today(program, folder, (12, 3), chunks)):
+        browser.value(f"seekCount({count})")
+        if not browser.value(SAME % json.dumps(picture)):
+            wrong.append(count)
+    check("what picture draws today", wrong, [])
     kept = """
     (() => {
       seekCount(4);
@@ -615,7 +644,7 @@ def main():
                 if len(sys.argv) > 2:
                     browser.picture(os.path.join(sys.argv[2], f"{name}.png"))
             try_large(browser, folder)
-            try_todays(browser, folder)
+            try_todays(browser, program, folder)
         finally:
             browser.close()
     return skip.end(passed, len(failed))
