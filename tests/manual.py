@@ -130,8 +130,8 @@ def in_shells():
         check(f"{shell}: profiles", offered(shell, "typetool", "screen", "--profile", "vt"), {"vt100", "vt102"})
     # bash cuts words at =, fish doesn't.
     for words in (["--profile", "="], ["--profile", "=", "vt"]):
-        check(f"bash: {''.join(words)}", offered("bash", "typetool", "changes", *words), {"vt100", "vt102"})
-    for command in "screen", "picture", "reports", "cast":
+        check(f"bash: {''.join(words)}", offered("bash", "typetool", "find", *words), {"vt100", "vt102"})
+    for command in "screen", "picture", "changes", "reports", "cast":
         of_today = offered("bash", "typetool", command, "--profile", "")
         check(f"bash: profiles of {command}", of_today, {"vt100", "vt102", "xterm"})
     wanted = {"--profile=vt100", "--profile=vt102"}

@@ -457,7 +457,7 @@ check 'a size without the terminal of today' 2 '' 'typetool: bad size: 2x1 to 10
     reports --at 1 --size 80x24 nowhere nowhere
 check 'bad seconds before a bad size' 2 '' "typetool: bad seconds\n$seconds" screen --at x --size 0x0 nowhere nowhere
 check 'no terminal of today yet' 2 '' 'typetool: not yet with --profile xterm\n' \
-    changes --to 1 --profile xterm nowhere nowhere
+    session --profile xterm nowhere nowhere
 
 # The terminal of today, at the size that the first line tells or that is asked for.
 printf 'Script started on X [TERM="xterm" COLUMNS="12" LINES="2"]\n%b' "Tokyo 東京\r\nna\303\257ve${E}[6n" >today.script
@@ -467,6 +467,7 @@ check 'a text that draws a screen of today again' 0 \
     "${E}[1;1HTokyo 東京${E}[2;1Hnaïve${E}[0m${E}[2;6H" '' screen --at 1 --escaped --profile xterm today.script today.timing
 check 'a screen of today, of a size' 0 'Tokyo 東\n京\nnaïve\n' '' \
     screen --at 1 --profile xterm --size 8x3 today.script today.timing
+check 'changes of today' 0 '0 0.500000 1 2\n' '' changes --to 1 --profile xterm today.script today.timing
 check 'what a terminal of today has answered' 0 '1b5b323b3652\n' '' reports --at 1 --profile xterm today.script today.timing
 "$program" picture --at 1 --profile xterm today.script today.timing >today.svg 2>err.txt
 status=$?

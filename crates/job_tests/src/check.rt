@@ -82,7 +82,7 @@ fn jobs_that_play_tell_a_note(rt: HostRuntime) {
             print: Print::Plain(player),
         },
         Job::Picture { at, player },
-        Job::Changes { from, to, profile },
+        Job::Changes { from, to, player },
         Job::Find { from, to, profile },
         Job::Reports { at, player },
         Job::Page { profile },

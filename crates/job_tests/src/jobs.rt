@@ -4,7 +4,7 @@ use std::fmt::Write;
 use std::process::Abort;
 use std::test::Fail;
 use tape_core::Fault;
-use tape_jobs::{Job, JobFault, Outcome};
+use tape_jobs::{Job, JobFault, Outcome, Player};
 use tape_seek::EditFault;
 use vt_term::Profile;
 
@@ -68,7 +68,7 @@ fn changes_tells_what_each_chunk_changes(rt: HostRuntime) -> Result<(), Fail> {
         let job = Job::Changes {
             from,
             to,
-            profile: Profile::Vt100,
+            player: Player::Vt(Profile::Vt100),
         };
         compare(&rt, &done(job, THREE, THREE_TIMING, text))?;
     }
@@ -126,7 +126,7 @@ fn changes_tells_of_renditions_sizes_and_wide_lines(rt: HostRuntime) -> Result<(
     let job = Job::Changes {
         from: None,
         to: 9_000_000,
-        profile: Profile::Vt100,
+        player: Player::Vt(Profile::Vt100),
     };
     for (chunks, lines) in &CHANGED {
         let body = chunks.concat(rt.alloc())?;

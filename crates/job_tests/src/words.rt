@@ -84,7 +84,11 @@ const fn picture(at: u64, profile: Profile) -> Job {
 }
 
 const fn changes(from: Option<u64>, to: u64, profile: Profile) -> Job {
-    Job::Changes { from, to, profile }
+    Job::Changes {
+        from,
+        to,
+        player: Player::Vt(profile),
+    }
 }
 
 const fn reports(at: u64, profile: Profile) -> Job {

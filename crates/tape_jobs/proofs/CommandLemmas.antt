@@ -247,9 +247,9 @@ enough_paths Picture rows job e =
     (λ at later. of_value (player_in rows) (λ p. jobs.Picture at p) job 2 (λ p. lit≤ tt) later) e
 enough_paths Changes rows job e =
     after_read (moment_given_in (id_in From) rows)
-    (λ from. after (moment_in (id_in To) rows) (λ to. after (profile_in rows) (λ p. Ok (jobs.Changes from to p)))) job 2
-    (λ from later. after_read (moment_in (id_in To) rows) (λ to. after (profile_in rows) (λ p. Ok (jobs.Changes from to p))) job 2
-    (λ to last. of_value (profile_in rows) (λ p. jobs.Changes from to p) job 2 (λ p. lit≤ tt) last) later) e
+    (λ from. after (moment_in (id_in To) rows) (λ to. after (player_in rows) (λ p. Ok (jobs.Changes from to p)))) job 2
+    (λ from later. after_read (moment_in (id_in To) rows) (λ to. after (player_in rows) (λ p. Ok (jobs.Changes from to p))) job 2
+    (λ to last. of_value (player_in rows) (λ p. jobs.Changes from to p) job 2 (λ p. lit≤ tt) last) later) e
 enough_paths Find rows job e =
     let searched = λ (from : Option ℕ) (to : ℕ) (profile : Profile). after (searched_in rows) (λ text. Ok (jobs.Find from to profile)) in
     after_read (moment_given_in (id_in From) rows)

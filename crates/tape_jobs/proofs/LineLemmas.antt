@@ -630,6 +630,13 @@ module _ (program script timing : Text) (p : IsPlain script) (q : IsPlain timing
         asks_by program Picture (literal (codes "--at") ∷ value_word at ∷ as_today) are_plain refl
         (job.Picture moment (Today None)) [] paths (moment_read (λ m. job.Picture m (Today None))) refl refl
 
+    pub changes_today_line : Asks (program ∷ codes "changes" ∷ codes "--to" ∷ at ∷ (today_words ++ paths))
+        (job.Changes None moment (Today None)) [] paths
+    unfolding clap_on_literals typetool_app app_in name_in flags_in texts_in paths_in id_in rule_in job_in text_in profile_named is_today
+    changes_today_line =
+        asks_by program Changes (literal (codes "--to") ∷ value_word at ∷ as_today) are_plain refl
+        (job.Changes None moment (Today None)) [] paths (moment_read (λ m. job.Changes None m (Today None))) refl refl
+
     -- and of a size
     module _ (size : Text) (measure : Measure) (d : size_named size ≡ Some measure) where
       sized_plain : ArePlain (value_word at ∷ value_word size ∷ files)
@@ -672,26 +679,34 @@ module _ (program script timing : Text) (p : IsPlain script) (q : IsPlain timing
           (job.Picture moment (Today (Some measure))) [] paths
           (size_read (λ m player. Ok (job.Picture m player))) refl refl
 
+      pub changes_sized_line : Asks (program ∷ codes "changes" ∷ codes "--to" ∷ at ∷ (sized_words size ++ paths))
+          (job.Changes None moment (Today (Some measure))) [] paths
+      unfolding clap_on_literals typetool_app app_in name_in flags_in texts_in paths_in id_in rule_in job_in text_in profile_named is_today
+      changes_sized_line =
+          asks_by program Changes (literal (codes "--to") ∷ value_word at ∷ as_sized size) sized_plain refl
+          (job.Changes None moment (Today (Some measure))) [] paths
+          (size_read (λ m player. Ok (job.Changes None m player))) refl refl
+
     pub changes_line : (profile : Option Profile)
         → Asks (program ∷ codes "changes" ∷ codes "--to" ∷ at ∷ (profile_words profile ++ paths))
-        (job.Changes None moment (profile_or_first profile)) [] paths
+        (job.Changes None moment (Vt (profile_or_first profile))) [] paths
     unfolding clap_on_literals typetool_app app_in name_in flags_in texts_in paths_in id_in rule_in job_in text_in profile_named is_today
     changes_line None =
-        asks_by program Changes (literal (codes "--to") ∷ value_word at ∷ files) are_plain refl (job.Changes None moment Vt100) [] paths
-        (moment_read (λ m. job.Changes None m Vt100)) refl refl
+        asks_by program Changes (literal (codes "--to") ∷ value_word at ∷ files) are_plain refl (job.Changes None moment (Vt Vt100)) [] paths
+        (moment_read (λ m. job.Changes None m (Vt Vt100))) refl refl
     changes_line (Some Vt100) =
         asks_by program Changes (literal (codes "--to") ∷ value_word at ∷ as_vt100) are_plain refl
-        (job.Changes None moment Vt100) [] paths (moment_read (λ m. job.Changes None m Vt100)) refl refl
+        (job.Changes None moment (Vt Vt100)) [] paths (moment_read (λ m. job.Changes None m (Vt Vt100))) refl refl
     changes_line (Some Vt102) =
         asks_by program Changes (literal (codes "--to") ∷ value_word at ∷ as_vt102) are_plain refl
-        (job.Changes None moment Vt102) [] paths (moment_read (λ m. job.Changes None m Vt102)) refl refl
+        (job.Changes None moment (Vt Vt102)) [] paths (moment_read (λ m. job.Changes None m (Vt Vt102))) refl refl
 
     -- and with two
     module _ (from : Text) (start : ℕ) (d : seconds_of from ≡ Some start) where
       both_plain : ArePlain (value_word from ∷ value_word at ∷ files)
       both_plain = (seconds_are_plain from start d, are_plain)
 
-      both_read : (played : Profile)
+      both_read : (played : Player)
           → after (after (readable unread.Seconds (seconds_of from)) (λ m. Ok (Some m)))
           (λ first. after (readable unread.Seconds (seconds_of at)) (λ m. Ok (job.Changes first m played)))
           ≡ Ok (job.Changes (Some start) moment played)
@@ -702,18 +717,18 @@ module _ (program script timing : Text) (p : IsPlain script) (q : IsPlain timing
 
       pub changes_from_line : (profile : Option Profile)
           → Asks (program ∷ codes "changes" ∷ codes "--from" ∷ from ∷ codes "--to" ∷ at ∷ (profile_words profile ++ paths))
-          (job.Changes (Some start) moment (profile_or_first profile)) [] paths
+          (job.Changes (Some start) moment (Vt (profile_or_first profile))) [] paths
       unfolding clap_on_literals typetool_app app_in name_in flags_in texts_in paths_in id_in rule_in job_in text_in profile_named is_today
       changes_from_line None =
           asks_by program Changes (literal (codes "--from") ∷ value_word from ∷ literal (codes "--to") ∷ value_word at ∷ files) both_plain refl
-          (job.Changes (Some start) moment Vt100) [] paths
-          (both_read Vt100) refl refl
+          (job.Changes (Some start) moment (Vt Vt100)) [] paths
+          (both_read (Vt Vt100)) refl refl
       changes_from_line (Some Vt100) =
           asks_by program Changes (literal (codes "--from") ∷ value_word from ∷ literal (codes "--to") ∷ value_word at ∷ as_vt100) both_plain refl
-          (job.Changes (Some start) moment Vt100) [] paths (both_read Vt100) refl refl
+          (job.Changes (Some start) moment (Vt Vt100)) [] paths (both_read (Vt Vt100)) refl refl
       changes_from_line (Some Vt102) =
           asks_by program Changes (literal (codes "--from") ∷ value_word from ∷ literal (codes "--to") ∷ value_word at ∷ as_vt102) both_plain refl
-          (job.Changes (Some start) moment Vt102) [] paths (both_read Vt102) refl refl
+          (job.Changes (Some start) moment (Vt Vt102)) [] paths (both_read (Vt Vt102)) refl refl
 
   -- the lines with a text
   module _ (text : Text) (r : IsPlain text) (found : is_searchable (chars text) ≡ true) where

@@ -38,8 +38,8 @@ unfaulted (jobs.Screen at print) tape lines text g e =
     unfaulted_done (done_on (jobs.Screen at print) tape lines text) g refl e
 unfaulted (jobs.Picture at player) tape lines text g e =
     unfaulted_done (done_on (jobs.Picture at player) tape lines text) g refl e
-unfaulted (jobs.Changes from to profile) tape lines text g e =
-    unfaulted_done (done_on (jobs.Changes from to profile) tape lines text) g refl e
+unfaulted (jobs.Changes from to player) tape lines text g e =
+    unfaulted_done (done_on (jobs.Changes from to player) tape lines text) g refl e
 unfaulted (jobs.Find from to profile) tape lines text g e =
     unfaulted_done (done_on (jobs.Find from to profile) tape lines text) g refl e
 unfaulted (jobs.Reports at player) tape lines text g e =

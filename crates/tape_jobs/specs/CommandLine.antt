@@ -63,7 +63,7 @@ flags_in Info = []
 flags_in Check = Profile ∷ []
 flags_in Screen = At ∷ Escaped ∷ AnyProfile ∷ Size ∷ []
 flags_in Picture = At ∷ AnyProfile ∷ Size ∷ []
-flags_in Changes = From ∷ To ∷ Profile ∷ []
+flags_in Changes = From ∷ To ∷ AnyProfile ∷ Size ∷ []
 flags_in Find = From ∷ Until ∷ Profile ∷ []
 flags_in Reports = At ∷ AnyProfile ∷ Size ∷ []
 flags_in Page = Profile ∷ Title ∷ []
@@ -304,7 +304,7 @@ job_in Picture rows =
     Ok (job.Picture at player)))
 job_in Changes rows =
     after (moment_given_in (id_in From) rows) (λ from. after (moment_in (id_in To) rows) (λ to.
-    after (profile_in rows) (λ profile. Ok (job.Changes from to profile))))
+    after (player_in rows) (λ player. Ok (job.Changes from to player))))
 job_in Find rows =
     after (moment_given_in (id_in From) rows) (λ from. after (moment_or_last_in (id_in Until) rows) (λ to.
     after (profile_in rows) (λ profile. after (searched_in rows) (λ text.
@@ -419,7 +419,7 @@ path_count job.Info = 2
 path_count (job.Check profile) = 2
 path_count (job.Screen at print) = 2
 path_count (job.Picture at player) = 2
-path_count (job.Changes from to profile) = 2
+path_count (job.Changes from to player) = 2
 path_count (job.Find from to profile) = 2
 path_count (job.Reports at player) = 2
 path_count (job.Page profile) = 2

@@ -11,6 +11,8 @@
 --                   has failed or it hasn't
 --   IsUnwritten     neither writer was asked for anything
 use Rattle.std.specs.Prelude.{◌≡◌, ℕ, ◌⊎◌, Bool, true, false, List, Option, Some, None, MatchOption, Result, MatchResult, Ok, not}
+use Rattle.chunk_walk.specs.declared.stop.WalkFault.{WalkFault}
+use Rattle.chunk_walk.specs.declared.stop.WalkFault.TheVariants as walk
 use Rattle.screen_print.specs.declared.walk.ChangesFault.{ChangesFault}
 use Rattle.screen_print.specs.declared.walk.ChangesFault.TheVariants as changes
 use Rattle.tape_check.specs.declared.check.CheckFault.{CheckFault}
@@ -130,6 +132,11 @@ JobGives contents old new text result =
 abbrev pub fault_of_changes : ChangesFault → JobFault
 fault_of_changes changes.Write = File fault.WriteFault
 fault_of_changes changes.Memory = Memory
+
+-- the same of a print of chunks (ours)
+abbrev pub fault_of_walk : WalkFault → JobFault
+fault_of_walk walk.Write = File fault.WriteFault
+fault_of_walk walk.Memory = Memory
 
 -- why a check ends early, as a fault of a job (ours)
 abbrev pub fault_of_check : CheckFault → JobFault

@@ -33,7 +33,7 @@ vt_of_print (Escaped player) = vt_of player
 abbrev pub played_by : Job → Option Profile
 played_by (Screen at print) = vt_of_print print
 played_by (Picture at player) = vt_of player
-played_by (Changes from to profile) = Some profile
+played_by (Changes from to player) = vt_of player
 played_by (Find from to profile) = Some profile
 played_by (Reports at player) = vt_of player
 played_by (Page profile) = Some profile

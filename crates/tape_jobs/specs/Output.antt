@@ -1,7 +1,6 @@
 -- What a job comes to: a function of its files, with no device and no want of memory in it.
 use Rattle.std.specs.Prelude.{◌≡◌, ℕ, ◌⊎◌, Bool, true, false, List, [], Option, Some, None, MatchOption, Result, Ok, Err, if◌then◌else◌}
 use Rattle.screen_page.specs.Page.{page_text}
-use Rattle.screen_print.specs.ChangeLines.{change_lines}
 use Rattle.screen_print.specs.FindLines.{find_lines}
 use Rattle.tape_check.specs.Lines.{check_text, is_noted}
 use Rattle.tape_core.specs.Due.{due}
@@ -18,7 +17,7 @@ use Rattle.vt_term.specs.declared.profile.Profile.TheVariants.{Vt100}
 use Rattle.tape_seek.specs.declared.edits.EditFault.{EditFault}
 use Rattle.tape_jobs.specs.Info.{info_text}
 use Rattle.tape_jobs.specs.Moment.{drawn_at, printed_at, sent_at}
-use Rattle.tape_jobs.specs.Player.{cast_of}
+use Rattle.tape_jobs.specs.Player.{cast_of, changes_of}
 use Rattle.tape_jobs.specs.Requests.{saved, started}
 use Rattle.tape_jobs.specs.Session.{answered, any_refused}
 use Rattle.tape_jobs.specs.declared.job.Job.{Job}
@@ -116,8 +115,7 @@ done_on (Check profile) tape requests text =
     done_ending (check_text profile tape) (ending_of_check (is_noted profile tape))
 done_on (Screen at print) tape requests text = done_with (printed_at print tape at) []
 done_on (Picture at player) tape requests text = done_with (drawn_at player tape at) []
-done_on (Changes from to profile) tape requests text =
-    done_with (change_lines profile tape from to) []
+done_on (Changes from to player) tape requests text = done_with (changes_of player tape from to) []
 done_on (Find from to profile) tape requests text =
     done_with (find_lines profile tape from to text) []
 done_on (Reports at player) tape requests text = done_with (sent_at player tape at) []
@@ -152,7 +150,7 @@ TakesMemory _ = Unit {0}
 
 -- the jobs that take all their memory before they write anything: the others write as they go (ours)
 abbrev pub writes_last : Job → Bool
-writes_last (Changes from to profile) = false
+writes_last (Changes from to player) = false
 writes_last (Find from to profile) = false
 writes_last (Page profile) = false
 writes_last (Cast player) = false

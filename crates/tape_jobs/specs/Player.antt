@@ -3,12 +3,18 @@ use Rattle.std.specs.Prelude.{ℕ, List, Bool, ◌&&◌, nat_le, if◌then◌els
 use Rattle.std.specs.Option.{option_map, option_or}
 use Rattle.output_cast.specs.Cast.{cast_text as output_text}
 use Rattle.screen_cast.specs.Cast.{cast_text}
+use Rattle.screen_print.specs.ChangeLines.{change_lines}
 use Rattle.tape_check.specs.Header.{told_size}
 use Rattle.tape_core.specs.Due.{due}
 use Rattle.tape_core.specs.Tape.{Tape}
 use Rattle.vt_term.specs.declared.profile.Profile.{Profile}
 use Rattle.xterm_term.specs.declared.measure.Size.{Size}
 use Rattle.xterm_term.specs.Term.{Term, reset_term, play}
+use Rattle.xterm_print.specs.ChangeLines.{changed_lines}
+use Rattle.sheet.specs.Cells.{Cell}
+use Rattle.chunk_walk.specs.ChangeLine.{change_line}
+use Rattle.chunk_walk.specs.Walk.{asked_texts}
+use Rattle.std.specs.Fmt.{decimal}
 use Rattle.tape_jobs.specs.declared.player.Measure.{Measure}
 use Rattle.tape_jobs.specs.declared.player.Player.{Player}
 use Rattle.tape_jobs.specs.declared.player.Player.TheVariants.{Vt, Today}
@@ -57,3 +63,21 @@ today_cast asked tape =
 unfoldable pub cast_of : Player → Tape → List ℕ
 cast_of (Vt profile) tape = cast_text profile tape
 cast_of (Today asked) tape = today_cast asked tape
+
+-- the rows of a terminal of today of a size once these bytes were played
+abbrev pub today_rows : Measure → List ℕ → List (List Cell)
+today_rows size bytes = (play (reset_term size.columns size.lines) bytes).console.picture.rows
+
+-- what is written of a chunk that it plays, by the bytes before it and by its end
+abbrev pub today_change : Measure → ℕ → ℕ → List ℕ → List ℕ → List ℕ
+today_change size index due before after =
+    change_line decimal index due (changed_lines size.lines (today_rows size before) (today_rows size after))
+
+-- and of the chunks that are asked for
+unfoldable pub today_lines : Measure → Tape → Option ℕ → ℕ → List ℕ
+today_lines size tape from to = asked_texts today_change size tape from to
+
+-- the lines of the screen that each chunk changes, of those that are asked for (ours)
+unfoldable pub changes_of : Player → Tape → Option ℕ → ℕ → List ℕ
+changes_of (Vt profile) tape from to = change_lines profile tape from to
+changes_of (Today asked) tape from to = today_lines (played_size asked tape) tape from to

@@ -23,6 +23,7 @@ use crate::jobs::save::write_edited;
 use crate::jobs::session::write_answers;
 use crate::player::{Player, Print};
 use crate::shared::name_of;
+use chunk_walk::WalkFault;
 use screen_print::ChangesFault;
 use std::alloc::Global;
 use std::io;
@@ -63,7 +64,7 @@ pub enum Job {
     Changes {
         from: Option<u64>,
         to: u64,
-        profile: Profile,
+        player: Player,
     },
     /// Write where on the screen a text came to stand and from where it went, in chunks that are due after `from` (None:
     /// from chunk 0 on) and by `to`. The text stands beside the job.
@@ -169,6 +170,20 @@ impl From<ChangesFault> for JobFault {
         match stop {
             ChangesFault::Write => JobFault::File(Fault::WriteFault),
             ChangesFault::Memory => JobFault::Memory,
+        }
+    }
+}
+
+impl From<WalkFault> for JobFault {
+    ghost use Rattle.std.specs.Prelude.{◌≡◌};
+    ghost use Rattle.tape_jobs.specs.Endings.{fault_of_walk};
+
+    ghost from_gives = { λ stop fault. fault ≡ fault_of_walk stop };
+
+    fn from(stop: WalkFault) -> JobFault {
+        match stop {
+            WalkFault::Write => JobFault::File(Fault::WriteFault),
+            WalkFault::Memory => JobFault::Memory,
         }
     }
 }
@@ -323,8 +338,8 @@ fn perform<O: Write, P: Write>(
         }
         Job::Screen { at, print } => write_screen(alloc, recording, print, at, out)?,
         Job::Picture { at, player } => write_picture(alloc, recording, player, at, out)?,
-        Job::Changes { from, to, profile } => {
-            write_changes(alloc, recording, profile, from, to, out)?
+        Job::Changes { from, to, player } => {
+            write_changes(alloc, recording, player, from, to, out)?
         }
         Job::Find { from, to, profile } => {
             write_found(alloc, recording, profile, from, to, text, out)?

@@ -63,12 +63,19 @@ pub fn plain_lines_are_read()
     ensures changes { (to : Text) (moment : ℕ) → seconds_of to ≡ Some moment
         → (profile : Option Profile) → LineAsks (codes "changes")
         (codes "--to" ∷ to ∷ profile_words profile)
-        (job.Changes None moment (profile_or_first profile)) }
+        (job.Changes None moment (Vt (profile_or_first profile))) }
+    ensures changes_today { (to : Text) (moment : ℕ) → seconds_of to ≡ Some moment
+        → LineAsks (codes "changes") (codes "--to" ∷ to ∷ today_words)
+        (job.Changes None moment (Today None)) }
+    ensures changes_sized { (to : Text) (moment : ℕ) → seconds_of to ≡ Some moment
+        → (size : Text) (measure : Measure) → size_named size ≡ Some measure
+        → LineAsks (codes "changes") (codes "--to" ∷ to ∷ sized_words size)
+        (job.Changes None moment (Today (Some measure))) }
     ensures changes_from { (to : Text) (moment : ℕ) → seconds_of to ≡ Some moment
         → (from : Text) (start : ℕ) → seconds_of from ≡ Some start
         → (profile : Option Profile) → LineAsks (codes "changes")
         (codes "--from" ∷ from ∷ codes "--to" ∷ to ∷ profile_words profile)
-        (job.Changes (Some start) moment (profile_or_first profile)) }
+        (job.Changes (Some start) moment (Vt (profile_or_first profile))) }
     ensures find { (profile : Option Profile) → FindAsks (profile_words profile)
         (job.Find None last_moment (profile_or_first profile)) }
     ensures find_between { (from : Text) (start : ℕ) → seconds_of from ≡ Some start

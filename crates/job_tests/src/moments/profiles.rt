@@ -91,7 +91,7 @@ fn changes_of_a_vt102(rt: HostRuntime) -> Result<(), Fail> {
         let changes = Job::Changes {
             from: None,
             to: 500_000,
-            profile,
+            player: Player::Vt(profile),
         };
         let fed = "a\r\nb\x1b[H\x1b[M";
         compare(&rt, &done(changes, fed, "0 4\n0.5 6\n", lines))?;

@@ -1,4 +1,4 @@
-//! The jobs `screen` and `reports` of a terminal of today.
+//! The jobs `screen`, `changes` and `reports` of a terminal of today.
 use crate::in_memory::{compare, done};
 use std::test::Fail;
 use tape_jobs::{Job, Measure, Player, Print};
@@ -73,4 +73,40 @@ fn a_terminal_of_today_answers(rt: HostRuntime) -> Result<(), Fail> {
         &rt,
         &done(reports, body, "0 16\n", "1b5b333b3130521b5b3f313b3263\n"),
     )
+}
+
+/// Two chunks, at 0 and 0.5 s, on 4 columns and 3 lines, how many bytes the second one has, and the change lines.
+const CHANGED: [(&str, u64, &str); 6] = [
+    ("ab\r\ncd\x1b[Hab", 4, "0 0.000000 1 2\n"),
+    // A rendition alone, also of blank cells.
+    (
+        "ab\r\ncd\x1b[H\x1b[1ma",
+        8,
+        "0 0.000000 1 2\n1 0.500000 1\n",
+    ),
+    ("\x1b[K\x1b[44m\x1b[K", 8, "1 0.500000 1\n"),
+    // A mark alone.
+    ("abcdefg\u{301}", 2, "0 0.000000 1 2\n1 0.500000 2\n"),
+    // The cursor alone, and one screen in place of another.
+    ("ab\r\ncd\r\n\x1b[H", 3, "0 0.000000 1 2\n"),
+    (
+        "ab\r\ncd\r\n\x1b[?47h",
+        6,
+        "0 0.000000 1 2\n1 0.500000 1 2\n",
+    ),
+];
+
+#[test]
+fn changes_of_a_terminal_of_today(rt: HostRuntime) -> Result<(), Fail> {
+    let changes = Job::Changes {
+        from: None,
+        to: 500_000,
+        player: sized(4, 3),
+    };
+    for (body, second, text) in CHANGED {
+        let first = body.len().saturating_sub(second as usize);
+        let timing = format!(in rt.alloc(); "0 {first}\n0.5 {second}\n")?;
+        compare(&rt, &done(changes, body, timing.as_str(), text))?;
+    }
+    Ok(())
 }

@@ -138,7 +138,7 @@ fn cases() -> [Case<'static>; 11] {
     let changes = Job::Changes {
         from: None,
         to: END,
-        profile,
+        player: Player::Vt(profile),
     };
     [
         plain_case(Job::Due { at: END }, b"ab"),

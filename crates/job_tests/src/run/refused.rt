@@ -220,7 +220,7 @@ fn run_changes(rt: HostRuntime) -> Result<(), Fail> {
     let job = Job::Changes {
         from: None,
         to: 9_000_000,
-        profile: Profile::Vt102,
+        player: Player::Vt(Profile::Vt102),
     };
     let text = b"0 0.500000 1\n1 1.000000 3\n2 1.500000 1\n";
     compare(&rt, plain_case(job, text))

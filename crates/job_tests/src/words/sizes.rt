@@ -54,7 +54,13 @@ fn reads_sizes(rt: HostRuntime) -> Result<(), Fail> {
         print: Print::Escaped(Player::Today(None)),
     };
     let line = "typetool screen --at=1 --escaped --profile=xterm s t";
-    compare_job(&rt, line, escaped)
+    compare_job(&rt, line, escaped)?;
+    let changes = Job::Changes {
+        from: None,
+        to: 1_000_000,
+        player: Player::Today(None),
+    };
+    compare_job(&rt, "typetool changes --to=1 --profile=xterm s t", changes)
 }
 
 /// What a line is refused for.
@@ -76,7 +82,7 @@ const REFUSED: [(&str, &str); 15] = [
         "screen --at=1 --profile=XTERM --size=0x0",
         "bad profile: vt100, vt102 or xterm",
     ),
-    ("changes --to=1 --profile=xterm", NOT_YET),
+    ("session --profile=xterm", NOT_YET),
 ];
 
 const BAD_SIZE: &str = "bad size: 2x1 to 1000x500, with --profile xterm";
@@ -91,5 +97,5 @@ fn refuses_sizes_and_what_has_no_terminal_of_today(rt: HostRuntime) -> Result<()
         let told = told(rt.alloc(), words.as_slice())?;
         assert_eq!(rt; told.as_str(), wanted, "{part:?}");
     }
-    compare_left(&rt, "typetool changes --to=1 --size=80x24 s t")
+    compare_left(&rt, "typetool find --size=80x24 a s t")
 }

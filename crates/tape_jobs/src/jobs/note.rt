@@ -45,13 +45,13 @@ fn played_by(job: Job) -> Option<Profile>
 {
     match job {
         Job::Screen { print, .. } => vt_of_print(print),
-        Job::Picture { player, .. } | Job::Reports { player, .. } | Job::Cast { player } => {
-            vt_of(player)
-        }
-        Job::Changes { profile, .. }
-        | Job::Find { profile, .. }
-        | Job::Page { profile }
-        | Job::Session { profile, .. } => Some(profile),
+        Job::Picture { player, .. }
+        | Job::Changes { player, .. }
+        | Job::Reports { player, .. }
+        | Job::Cast { player } => vt_of(player),
+        Job::Find { profile, .. } | Job::Page { profile } | Job::Session { profile, .. } => Some(
+            profile,
+        ),
         Job::Due { .. } | Job::Info | Job::Check { .. } | Job::Save | Job::Mend { .. } => None,
     }
 }

@@ -151,7 +151,7 @@ pub fn details_of<'a>(subcommand: Subcommand) -> &'a str {
         }
         Subcommand::Changes => {
             "A line for each chunk that changes the screen: the chunk (counted from 0), when it is due (seconds),\n\
-             and the lines that differ before and after it alone (1 to 24), one space between.\n\n\
+             and the lines that differ before and after it alone (from 1 on), one space between.\n\n\
              Example: typetool changes --from 12.5 --to 60 demo.script demo.timing\n\n\
              The long form: man typetool"
         }

@@ -121,7 +121,12 @@ pub fn flags_of(subcommand: Subcommand) -> &'static [Argument]
             Argument::AnyProfile,
             Argument::Size,
         ],
-        Subcommand::Changes => &[Argument::From, Argument::To, Argument::Profile],
+        Subcommand::Changes => &[
+            Argument::From,
+            Argument::To,
+            Argument::AnyProfile,
+            Argument::Size,
+        ],
         Subcommand::Find => &[Argument::From, Argument::Until, Argument::Profile],
         Subcommand::Picture | Subcommand::Reports => {
             &[Argument::At, Argument::AnyProfile, Argument::Size]

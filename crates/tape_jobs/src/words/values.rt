@@ -62,7 +62,7 @@ pub fn read_job(subcommand: Subcommand, values: &ArgMatches<'_>) -> Result<Job, 
         Subcommand::Changes => Ok(Job::Changes {
             from: read_moment_given(values, Argument::From)?,
             to: read_moment(values, Argument::To)?,
-            profile: read_profile(values)?,
+            player: read_player(values)?,
         }),
         Subcommand::Find => read_find(values),
         Subcommand::Reports => Ok(Job::Reports {
