@@ -6,3 +6,4 @@ mod MendLemmas
 mod NoteLemmas
 mod RequestLemmas
 mod SessionLemmas
+mod ChangedLemmas

@@ -63,7 +63,6 @@ fn write_lines<O: Write>(
 }
 
 /// Writes those of a terminal of today of a size.
-#[tactic(auto, unfolding(crate::specs::Player::today_lines, xterm_print::specs::ChangeLines::change_lines, chunk_walk::specs::Walk::asked_texts))]
 fn write_today<O: Write>(
     alloc: Global,
     recording: Recording,
