@@ -85,8 +85,12 @@ fn writes_only_what_the_screen_needs(rt: HostRuntime) -> Result<(), Fail> {
 
 /// Whether two terminals of 3 lines show the same cells, reversed flag and cursor.
 fn look_alike(one: &Terminal, other: &Terminal) -> bool {
-    for line in 1..4 {
-        if *one.screen().row(line) != *other.screen().row(line) {
+    let (first, second) = (one.screen(), other.screen());
+    if first.lines() != second.lines() {
+        return false;
+    }
+    for line in 1..first.lines() + 1 {
+        if *first.row(line) != *second.row(line) {
             return false;
         }
     }
