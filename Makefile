@@ -58,6 +58,8 @@ test:
 		'tests/make_recordings.py bin/typetool' \
 		'tests/fuzz.py bin/typetool 2000' \
 		'tests/today_fuzz.py bin/typetool 1000' \
+		'tests/today_recordings.py bin/typetool' \
+		'tests/linear.py bin/typetool' \
 		'tests/pictures.py bin/typetool' \
 		'tests/page_data.py bin/typetool' \
 		'tests/cast.py bin/typetool' \

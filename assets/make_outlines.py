@@ -1,8 +1,8 @@
 #!/usr/bin/env python3
-"""Writes the outlines of the characters that a picture draws, from outlines.tsv, as the table of the definitions and as
-that of the code.
+"""Writes the outlines of the characters that a picture draws, from outlines.tsv, as the table of the definitions, as
+that of the code and as that of the player.
 
-    assets/make_outlines.py --write     writes both tables
+    assets/make_outlines.py --write     writes the tables
     assets/make_outlines.py --check     tells whether they are what --write would write
 
 A line of outlines.tsv has a character's number, the character, and its outline in the words of an SVG path, in a cell
@@ -10,9 +10,12 @@ of 10 by 20 units.
 """
 import os
 import sys
+import textwrap
 
 HERE = os.path.dirname(os.path.abspath(__file__))
 CRATE = os.path.join(HERE, "..", "crates", "xterm_rows")
+# A space inside an entry, at which no line is broken.
+GLUE = "\0"
 
 
 def rows():
@@ -83,6 +86,32 @@ def code():
     return "\n".join(lines) + "\n"
 
 
+def script():
+    """The table of the player, in lines of at most 120 characters."""
+    lines = [
+        "'use strict';",
+        "/* exported OUTLINES */",
+        "",
+        "// The outlines of the characters that are drawn, written by assets/make_outlines.py.",
+    ]
+    lines += ["const OUTLINES = {"]
+    pairs = [f"'{named(code)}': '{outline}'," for code, outline in rows()]
+    lines += textwrap.wrap(
+        "\n".join(pair.replace(" ", GLUE) for pair in pairs),
+        width=120,
+        initial_indent="  ",
+        subsequent_indent="  ",
+        break_long_words=False,
+        break_on_hyphens=False,
+    )
+    return "\n".join([*lines, "};"]).replace(GLUE, " ") + "\n\n"
+
+
+def named(code):
+    """A character in a script."""
+    return f"\\u{code:04x}" if 0xE000 <= code < 0xF900 else chr(code)
+
+
 def told(code):
     """A character in a comment; the arrows of prompts stand in an area for private use, so no font has them."""
     return "an arrow of prompts" if 0xE000 <= code < 0xF900 else chr(code)
@@ -91,6 +120,7 @@ def told(code):
 FILES = {
     os.path.join(CRATE, "specs", "OutlineTable.antt"): definitions,
     os.path.join(CRATE, "src", "outline_table.rt"): code,
+    os.path.join(HERE, "outlines.js"): script,
 }
 
 

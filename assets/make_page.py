@@ -1,5 +1,6 @@
 #!/usr/bin/env python3
-"""Puts the player of a page together of its parts: HTML, two styles (a picture's and the page's own) and script.
+"""Puts the player of a page together of its parts: HTML, three styles (a picture's of a VT100, one's of a terminal of
+today, and the page's own), the outlines of characters and the script.
 
     assets/make_page.py DATA [TITLE]  writes the page of this title with the entries that the file DATA has
     assets/make_page.py --write       writes the player as the constants of the program that writes pages
@@ -28,9 +29,14 @@ def hash_of(text):
 
 def parts():
     """What stands before the title, between it and the heading, between this and the data, and behind the data."""
-    page, drawing = part("page.html"), part("drawing.css")
-    style, script = "\n" + part("page.css"), "\n" + part("page.js")
-    for name, text in (("DRAWING", drawing), ("STYLE", style), ("SCRIPT", script)):
+    page = part("page.html")
+    texts = {
+        "DRAWING": part("drawing.css"),
+        "TODAY": part("drawing_today.css"),
+        "STYLE": "\n" + part("page.css"),
+        "SCRIPT": "\n" + part("outlines.js") + part("page.js"),
+    }
+    for name, text in texts.items():
         page = page.replace(f"{name}_HASH", hash_of(text)).replace(f">{name}<", f">{text}<")
     front, tail = page.split("DATA")
     return [*front.split("TITLE"), tail]

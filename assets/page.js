@@ -1,26 +1,29 @@
-'use strict';
+/* global OUTLINES */
 
 // A recording's entries: [seconds, flags, line, column, row, change, row, change, ..], entry 0 before the first chunk
-// and then one for each. The terminal's work is done: this folds rows and draws them.
+// and then one for each. The terminal's work is done: this folds rows and draws them. Before the entries of a terminal
+// of today stands its size; a VT100 has 24 lines of 80 columns, or 132.
 const entries = JSON.parse(document.getElementById('entries').textContent);
+const TODAY = entries[0].length === 2;
+const [COLUMNS, LINES] = TODAY ? entries.shift() : [80, 24];
 const last = entries.length - 1;
 const end = entries[last][0];
-const LINES = 24;
 const EVERY = 64;
 const SHOWN = 1000;
-const WIDE = 1, REVERSED = 2;
-const BOLD = 1, UNDERSCORE = 2, BLINK = 4, REVERSE = 8, DRAWN = 16;
+const WIDE = 1, REVERSED = 2, HIDDEN = 4;
+const BOLD = 1, UNDERSCORE = 2, BLINK = 4, REVERSE = 8, DRAWN = 16, FAINT = 32, ITALIC = 64, CONCEALED = 128;
+const CROSSED = 256, BROAD = 512, MARKED = 1024;
 const SINGLE = 0, DOUBLE = 1;
-const OUTLINES = {
-  '◆': 'm5 5l4 5-4 5-4-5z', '▒': 'm0 0h5v5h-5zm5 5h5v5h-5zm-5 5h5v5h-5zm5 5h5v5h-5z', '┘': 'm0 9h4v-9h2v11h-6z',
-  '┐': 'm0 9h6v11h-2v-9h-4z', '┌': 'm4 9h6v2h-4v9h-2z', '└': 'm4 0h2v9h4v2h-6z',
-  '┼': 'm4 0h2v9h4v2h-4v9h-2v-9h-4v-2h4z', '⎺': 'm0 1h10v2h-10z', '⎻': 'm0 5h10v2h-10z', '─': 'm0 9h10v2h-10z',
-  '⎼': 'm0 13h10v2h-10z', '⎽': 'm0 17h10v2h-10z', '├': 'm4 0h2v9h4v2h-4v9h-2z', '┤': 'm4 0h2v20h-2v-9h-4v-2h4z',
-  '┴': 'm4 0h2v9h4v2h-10v-2h4z', '┬': 'm0 9h10v2h-4v9h-2v-9h-4z', '│': 'm4 0h2v20h-2z',
-};
+// What characters and cells are painted with: the screen's ink, its ground, else a colour.
+const INK = '', BACK = 'back';
+const FIRST_COLOURS = [
+  0x000000, 0xd64d4d, 0x3fa33f, 0xe0bc48, 0x3564c8, 0xb565b5, 0x3fb0b0, 0xcccccc,
+  0x767676, 0xff8078, 0x7fd97f, 0xffe066, 0x8fb8ff, 0xe8a0e8, 0x7fe0e0, 0xffffff,
+];
+const LEVELS = [0x00, 0x5f, 0x87, 0xaf, 0xd7, 0xff];
 const at = Object.fromEntries([...document.querySelectorAll('[id]')].map(element => [element.id, element]));
 
-// ---- rows: [size, kind, text, kind, text, ..]
+// ---- rows: [size, kind, text, kind, text, ..], today [0, kind, ink, ground, text, ..] without noughts before a text
 
 // The rows after an entry, of those before it: a change is a row, or the number of the row that it was before.
 function folded(rows, entry) {
@@ -60,12 +63,43 @@ function dueBy(moment) {
   return low;
 }
 
+// How many columns the screen has.
+function columnsOf(flags) {
+  return flags & WIDE ? 132 : COLUMNS;
+}
+
 function textOf(row) {
-  return row.filter((_, i) => i > 0 && i % 2 === 0).join('');
+  return row.filter(part => typeof part === 'string').join('');
+}
+
+// A text without the spaces at its end, and no other characters.
+function trimmed(text) {
+  let length = text.length;
+  while (text[length - 1] === ' ') length--;
+  return text.slice(0, length);
 }
 
 function plainText(rows) {
-  return rows.map(row => textOf(row).trimEnd() + '\n').join('');
+  return rows.map(row => trimmed(textOf(row)) + '\n').join('');
+}
+
+// The runs of a row: their kind and colours, their characters, each with its marks, of so many columns, and the columns
+// before them and in them.
+function runsOf(row) {
+  const runs = [];
+  let before = 0, numbers = [];
+  for (const part of row.slice(1)) {
+    if (typeof part === 'number') {
+      numbers.push(part);
+      continue;
+    }
+    const [kind = 0, ink = 0, ground = 0] = numbers;
+    const characters = kind & MARKED ? [part] : [...part], step = kind & BROAD ? 2 : 1;
+    const width = step * characters.length;
+    runs.push({ kind, ink, ground, characters, step, before, width });
+    [before, numbers] = [before + width, []];
+  }
+  return runs;
 }
 
 // ---- drawing
@@ -77,31 +111,87 @@ function draw(name, attributes, ...children) {
   return element;
 }
 
-// The runs of a row: their kind, characters, and the cells before them.
-function runsOf(row) {
-  const runs = [];
-  let before = 0;
-  for (let i = 1; i < row.length; i += 2) {
-    const characters = [...row[i + 1]];
-    runs.push({ kind: row[i], characters, before });
-    before += characters.length;
+// The palette: 16 colours, 216 of six levels of red, green and blue, and 24 greys.
+function palette(n) {
+  if (n < 16) return FIRST_COLOURS[n];
+  if (n > 231) return 0x010101 * (8 + 10 * (n - 232));
+  return [36, 6, 1].reduce((colour, unit) => 256 * colour + LEVELS[Math.floor((n - 16) / unit) % 6], 0);
+}
+
+// A colour by its number: 0 is the default, then come those of the palette, then red, green and blue.
+function painted(number, usual) {
+  if (number === 0) return usual;
+  return '#' + (number > 256 ? number - 257 : palette(number - 1)).toString(16).padStart(6, '0');
+}
+
+// What a run is painted with, and what it stands on: the first eight colours are bright where they are bold.
+function paintsOf({ kind, ink, ground }) {
+  const bright = kind & BOLD && ink > 0 && ink < 9 ? 8 : 0;
+  const paints = [painted(ink + bright, INK), painted(ground, BACK)];
+  return kind & REVERSE ? paints.reverse() : paints;
+}
+
+// The attributes that these classes and a run's colour make.
+function coloured(run, names, paper) {
+  const [paint] = paintsOf(run);
+  const classes = [...names, paint === BACK && paper].filter(Boolean).join(' ');
+  return { class: classes, fill: paint === BACK ? '' : paint, 'fill-opacity': run.kind & FAINT ? '.7' : '' };
+}
+
+// A list of places serves only characters of one column and one UTF-16 unit that don't end a line.
+function isAlone(character, kind) {
+  return kind & BROAD || character.length > 1 || '\u00ad\u2028\u2029'.includes(character);
+}
+
+// No XML may have these two.
+function allowed(text) {
+  return text.replace(/[\ufffe\uffff]/g, '\ufffd');
+}
+
+// The letters of a run, in pieces that a list of places serves.
+function letters(run, paper) {
+  const { kind, characters, step, before } = run;
+  if (kind & CONCEALED) return [];
+  const names = [kind & BOLD && 'b', kind & ITALIC && 't', kind & BLINK && 'k'];
+  const drawn = { class: [...names, 'n'].filter(Boolean).join(' ') };
+  const attributes = kind & DRAWN ? drawn : coloured(run, names, paper);
+  const pieces = [];
+  characters.forEach((character, i) => {
+    const alone = isAlone(character, kind), place = 10 * (before + step * i);
+    if (i === 0 || alone || pieces.at(-1).alone) pieces.push({ alone, text: character, places: [place] });
+    else {
+      pieces.at(-1).text += character;
+      pieces.at(-1).places.push(place);
+    }
+  });
+  return pieces.map(({ text, places }) => draw('tspan', { ...attributes, x: places.join(' ') }, allowed(text)));
+}
+
+// The dots of a Braille pattern, each told from the one before it.
+function dots(pattern) {
+  let told = '', left = 0, top = 0;
+  for (let bit = 0; bit < 8; bit++) {
+    if (!(pattern >> bit & 1)) continue;
+    const x = [3, 4, 5, 7].includes(bit) ? 6 : 1, y = bit > 5 ? 16 : 1 + 5 * (bit % 3);
+    told += `m${x - left}${y < top ? '' : ' '}${y - top}h3v3h-3z`;
+    [left, top] = [x, y];
   }
-  return runs;
+  return told;
 }
 
-function letters({ kind, characters, before }, paper) {
-  const names = [kind & BOLD && 'b', kind & BLINK && 'k', kind & DRAWN ? 'n' : kind & REVERSE && paper].filter(Boolean);
-  const places = characters.map((_, i) => 10 * (before + i));
-  return draw('tspan', { class: names.join(' '), x: places.join(' ') }, characters.join(''));
+function outline(character) {
+  return OUTLINES[character] || dots(character.charCodeAt(0) - 0x2800);
 }
 
-function strokes({ kind, characters, before }, paper) {
-  const names = [kind & BLINK && 'k', kind & REVERSE && paper].filter(Boolean);
-  const outlines = characters.map((character, i) => `M${10 * (before + i)} 0${OUTLINES[character]}`);
-  const width = 10 * characters.length;
-  const line = `M${10 * before} 17h${width}v1h-${width}z`;
-  const path = (kind & DRAWN ? outlines.join('') : '') + (kind & UNDERSCORE ? line : '');
-  return draw('path', { class: names.join(' '), d: path });
+// The outlines of a run and its lines.
+function strokes(run, paper) {
+  const { kind, characters, before, width } = run;
+  if (kind & CONCEALED || !(kind & (DRAWN | UNDERSCORE | CROSSED))) return [];
+  const line = (y, high) => `M${10 * before} ${y}h${10 * width}v${high}h-${10 * width}z`;
+  const outlines = characters.map((character, i) => `M${10 * (before + i)} 0${outline(character)}`);
+  const drawn = kind & DRAWN ? outlines.join('') : '';
+  const under = kind & UNDERSCORE ? line(17, TODAY ? 2 : 1) : '', through = kind & CROSSED ? line(9, 2) : '';
+  return [draw('path', { ...coloured(run, [kind & BLINK && 'k'], paper), d: drawn + under + through })];
 }
 
 function framed(size, line, children) {
@@ -112,46 +202,72 @@ function framed(size, line, children) {
   return draw('svg', { y, width: 1320, height: 20, viewBox: box }, ...children);
 }
 
-function drawnRow(row, line, paper) {
-  const runs = runsOf(row);
-  const text = runs.length ? [draw('text', { y: 15 }, ...runs.map(run => letters(run, paper)))] : [];
-  const stroked = runs.filter(run => run.kind & (DRAWN | UNDERSCORE)).map(run => strokes(run, paper));
-  return framed(row[0], line, [...text, ...stroked]);
+function drawnRow(size, runs, line, paper) {
+  const spans = runs.flatMap(run => letters(run, paper));
+  const text = runs.length ? [draw('text', { y: 15 }, ...spans)] : [];
+  return framed(size, line, [...text, ...runs.flatMap(run => strokes(run, paper))]);
 }
 
-// The path of a row's reversed runs.
-function ground(row, line) {
-  const step = row[0] === SINGLE ? 10 : 20;
-  return runsOf(row).filter(run => run.kind & REVERSE).map(({ characters, before }) => {
-    const width = step * characters.length;
-    return `M${step * before} ${20 * line}h${width}v20h-${width}z`;
-  }).join('');
+function square(line, before, width) {
+  return `M${before} ${20 * line}h${width}v20h-${width}z`;
 }
 
-function drawnCursor(rows, line, column, paper) {
-  const x = 10 * (column - 1);
-  const outer = draw('path', { class: paper, d: `M${x} 0h10v20h-10zm1 1v18h8v-18z` });
-  const inner = draw('path', { d: `M${x + 1} 1h8v18h-8zm1 1v16h6v-16z` });
-  return framed(rows[line - 1][0], line - 1, [outer, inner]);
+// The grounds of a VT100's row are part of one path: its reversed runs.
+function pathOf(size, runs, line) {
+  const step = size === SINGLE ? 10 : 20;
+  return runs.filter(run => run.kind & REVERSE).map(run => square(line, step * run.before, step * run.width)).join('');
+}
+
+// Those of a row today are a path for each group of neighbours on one ground, but for the screen's.
+function groundsOf(runs, line) {
+  const groups = [];
+  for (const run of runs) {
+    const [, paint] = paintsOf(run), group = groups.at(-1);
+    if (group && group.paint === paint) group.width += run.width;
+    else groups.push({ paint, before: run.before, width: run.width });
+  }
+  return groups.filter(({ paint }) => paint !== BACK).map(({ paint, before, width }) =>
+    draw('path', { fill: paint, d: square(line, 10 * before, 10 * width) }));
+}
+
+// Two rings on the cursor's cell, or round both of a character's.
+function drawnCursor(row, flags, line, column, paper) {
+  if (flags & HIDDEN) return framed(row[0], line - 1, []);
+  const broad = runsOf(row).find(({ kind, before, width }) =>
+    kind & BROAD && before < column && column <= before + width);
+  const x = 10 * (broad ? column - 1 - (column - 1 - broad.before) % 2 : column - 1), wide = broad ? 20 : 10;
+  const ring = (x, y, wide, high) => `M${x} ${y}h${wide}v${high}h-${wide}zm1 1v${high - 2}h${wide - 2}v-${high - 2}z`;
+  const outer = draw('path', { class: paper, d: ring(x, 0, wide, 20) });
+  const inner = draw('path', { d: ring(x + 1, 1, wide - 2, 18) });
+  return framed(row[0], line - 1, [outer, inner]);
 }
 
 // What stands there: the rows that were drawn, their elements and grounds, and the flags.
 const shown = { count: -1, flags: null, rows: [], elements: [], grounds: [], svg: null };
 
 function drawFrame(flags) {
-  const width = flags & WIDE ? 1340 : 820;
+  const width = 10 * columnsOf(flags) + 20, height = 20 * LINES + 20;
   const [ink, paper] = flags & REVERSED ? ['p', 'i'] : ['i', 'p'];
-  const box = `-10 -10 ${width} 500`;
-  const back = draw('path', { class: paper, d: `M-10 -10h${width}v500h-${width}z` });
-  shown.ground = draw('path', {});
+  const box = `-10 -10 ${width} ${height}`;
+  const back = draw('path', { class: paper, d: `M-10 -10h${width}v${height}h-${width}z` });
+  shown.ground = draw(TODAY ? 'g' : 'path', {});
   shown.elements = Array.from({ length: LINES }, (_, line) => framed(SINGLE, line, []));
   shown.cursor = draw('g', {});
-  shown.svg = draw('svg', { class: ink, viewBox: box, width, height: 500, role: 'group', 'aria-label': 'Screen' },
+  shown.svg = draw('svg', { class: ink, viewBox: box, width, height, role: 'group', 'aria-label': 'Screen' },
     back, shown.ground, ...shown.elements, shown.cursor);
   shown.svg.setAttributeNS('http://www.w3.org/XML/1998/namespace', 'xml:space', 'preserve');
   shown.rows = [];
+  shown.grounds = Array(LINES).fill(TODAY ? [] : '');
   shown.flags = flags;
   at.screen.replaceChildren(shown.svg);
+}
+
+// Puts a row's grounds in the place of those that were drawn, before those of the rows below.
+function replaceGrounds(line, grounds) {
+  for (const path of shown.grounds[line]) path.remove();
+  const below = shown.grounds.find((paths, i) => i > line && paths.length);
+  for (const path of grounds) shown.ground.insertBefore(path, below ? below[0] : null);
+  shown.grounds[line] = grounds;
 }
 
 // Draws the screen of an entry; of its rows only those that aren't drawn so already.
@@ -160,18 +276,19 @@ function drawScreen(count) {
   const [, flags, line, column] = entries[count];
   const rows = rowsAt(count);
   const paper = flags & REVERSED ? 'i' : 'p';
-  if (flags !== shown.flags) drawFrame(flags);
+  if ((flags & ~HIDDEN) !== shown.flags) drawFrame(flags & ~HIDDEN);
   rows.forEach((row, i) => {
     if (row === shown.rows[i]) return;
-    const element = drawnRow(row, i, paper);
+    const runs = runsOf(row), element = drawnRow(row[0], runs, i, paper);
     shown.elements[i].replaceWith(element);
     shown.elements[i] = element;
-    shown.grounds[i] = ground(row, i);
+    if (TODAY) replaceGrounds(i, groundsOf(runs, i));
+    else shown.grounds[i] = pathOf(row[0], runs, i);
   });
   shown.count = count;
   shown.rows = rows;
-  shown.ground.setAttribute('d', shown.grounds.join(''));
-  const cursor = drawnCursor(rows, line, column, paper);
+  if (!TODAY) shown.ground.setAttribute('d', shown.grounds.join(''));
+  const cursor = drawnCursor(rows[line - 1], flags, line, column, paper);
   shown.cursor.replaceWith(cursor);
   shown.cursor = cursor;
 }
@@ -326,12 +443,19 @@ function changeSpeed(by) {
 
 // ---- finding
 
-// The places of a text on a screen: what stands left of its end, and its rows. A row whose last character isn't a space
-// runs on into the next one.
-function* standing(texts, wanted) {
+// A row whose last cell isn't a space runs on into the next one. So does one whose last cell alone is, where the next
+// row begins with a character of two columns, which may not have fit: that cell is left out.
+function runsOn(text, next) {
+  if (!text.endsWith(' ')) return true;
+  return typeof next[1] === 'number' && Boolean(next[1] & BROAD) && text.at(-2) !== ' ';
+}
+
+// The places of a text on a screen: what stands left of its end, and its rows.
+function* standing(rows, texts, wanted) {
   for (let first = 0, next = 1; first < LINES; first = next++) {
-    while (next < LINES && !texts[next - 1].endsWith(' ')) next++;
-    yield* placesIn(texts.slice(first, next), wanted);
+    while (next < LINES && runsOn(texts[next - 1], rows[next])) next++;
+    const cut = texts.slice(first, next - 1).map(text => text.endsWith(' ') ? text.slice(0, -1) : text);
+    yield* placesIn([...cut, texts[next - 1]], wanted);
   }
 }
 
@@ -345,7 +469,7 @@ function* placesIn(rows, wanted) {
     const behind = i + wanted.length;
     let stop = row;
     while (ends[stop] < behind) stop++;
-    yield { left: line.slice(begin, behind), rows: line.slice(begin, ends[stop]).replace(/ +$/, '') };
+    yield { left: line.slice(begin, behind), rows: trimmed(line.slice(begin, ends[stop])) };
   }
 }
 
@@ -361,7 +485,8 @@ function added(before, after) {
 }
 
 function rowText(row, flags) {
-  return textOf(row).padEnd((flags & WIDE ? 132 : 80) / (row[0] === SINGLE ? 1 : 2));
+  const width = runsOf(row).reduce((sum, run) => sum + run.width, 0);
+  return textOf(row) + ' '.repeat(columnsOf(flags) / (row[0] === SINGLE ? 1 : 2) - width);
 }
 
 // After which chunks the text came to stand on the screen: what stands left of its end, and its rows.
@@ -369,10 +494,10 @@ function* foundAt(wanted) {
   let rows = kept[0], texts = rows.map(row => rowText(row, 0)), places = [];
   for (let n = 1; n <= last; n++) {
     const after = folded(rows, entries[n]);
-    if (after === rows && entries[n][1] === entries[n - 1][1]) continue;
     const all = (entries[n][1] ^ entries[n - 1][1]) & WIDE;
+    if (after === rows && !all) continue;
     texts = after.map((row, i) => row === rows[i] && !all ? texts[i] : rowText(row, entries[n][1]));
-    const now = [...standing(texts, wanted)];
+    const now = [...standing(after, texts, wanted)];
     for (const found of added(places, now)) yield { count: n, ...found };
     [rows, places] = [after, now];
   }
@@ -390,7 +515,8 @@ function element(name, className, ...children) {
 
 // A found moment: its time, and its rows from at most 30 characters before the found part on.
 function listed({ count, left, rows }, index, wanted) {
-  const from = left.length - wanted.length, first = rows.search(/[^ ]/), start = Math.max(from - 30, first);
+  const from = left.length - wanted.length, first = rows.search(/[^ ]/);
+  const near = Math.max(from - 30, first), start = /[\udc00-\udfff]/.test(rows[near]) ? near + 1 : near;
   const before = (start > first ? '…' : '') + rows.slice(start, from);
   const row = element('span', 'row', before, element('mark', '', wanted), rows.slice(left.length));
   const button = element('button', '', element('span', 'moment', clock(entries[count][0])), row);
@@ -410,7 +536,7 @@ function tellFinds() {
 
 function listMoments() {
   const wanted = at.text.value;
-  finds.list = wanted.trim() === '' ? [] : [...foundAt(wanted)];
+  finds.list = trimmed(wanted) === '' ? [] : [...foundAt(wanted)];
   finds.lit = -1;
   at.moments.replaceChildren(...finds.list.slice(0, SHOWN).map((found, index) => listed(found, index, wanted)));
   const places = new Set(finds.list.map(({ count }) => railed(entries[count][0])));
@@ -473,8 +599,8 @@ function copyLink() {
 function pictureFile() {
   const picture = shown.svg.cloneNode(true);
   const title = draw('title', {}, `Screen at ${place.moment.toFixed(6)} s`);
-  const text = draw('desc', {}, plainText(rowsAt(place.count)));
-  picture.prepend(title, text, draw('style', {}, at.drawing.textContent));
+  const text = draw('desc', {}, allowed(plainText(rowsAt(place.count))));
+  picture.prepend(title, text, draw('style', {}, (TODAY ? at.today : at.drawing).textContent));
   return new XMLSerializer().serializeToString(picture);
 }
 
@@ -565,10 +691,11 @@ const CLICKS = {
 };
 for (const [name, act] of Object.entries(CLICKS)) at[name].addEventListener('click', act);
 
+(TODAY ? at.drawing : at.today).disabled = true;
 at.player.hidden = false;
 at.time.max = end;
 at.length.textContent = clock(end);
-at.facts.textContent = `${entries.some(entry => entry[1] & WIDE) ? 132 : 80} x ${LINES}, ${last} chunks`;
+at.facts.textContent = `${entries.some(entry => entry[1] & WIDE) ? 132 : COLUMNS} x ${LINES}, ${last} chunks`;
 at.time.addEventListener('input', () => seek(Number(at.time.value)));
 at.time.addEventListener('pointermove', tellUnder);
 at.time.addEventListener('pointerleave', () => { at.under.hidden = true; });

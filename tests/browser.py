@@ -7,7 +7,9 @@ The pages are those that `page` writes; tests/page_data.py compares their entrie
 order, shows the text of `screen` and the elements of the picture; each key and control does what it says; nothing is
 fetched; the address shows the moment and is read; the poster, the strip, the found moments; what a screen reader is
 told, how often, and whether each control has a name; contrast, a narrow window, print, no script; a page of 100,000
-chunks opens and seeks in time. With a FOLDER screenshots are left there. The last line is 'N passed, M failed'.
+chunks opens and seeks in time. Pages of a terminal of today, of a recording by hand and of random ones, show the
+elements of its picture at each count, draw only what changed, and find what runs on over a margin. With a FOLDER
+screenshots are left there. The last line is 'N passed, M failed'.
 """
 import functools
 import glob
@@ -26,6 +28,9 @@ import plain_find
 import plain_picture
 import plain_reader as plain
 import plain_screen
+import plain_today
+import plain_today_drawing
+import random_today
 import skip
 
 HERE = os.path.dirname(os.path.abspath(__file__))
@@ -504,6 +509,86 @@ def try_large(browser, folder):
     check("a large page seeks in time", statistics.median(took) < 50, True)
 
 
+# A recording of today on 12 columns and 3 lines: colours, marks, both widths, what is drawn, a hidden cursor, a
+# reversed screen, what a list of places doesn't serve, a cursor on a right half, rows that move, and a text over the
+# margin.
+TODAY = (
+    "\x1b[1;31mab\x1b[0;2;44m日\x1b[7m─e\u0301\x1b[m\r\n\x1b[38;2;1;2;3;9m<😀\x1b[m",
+    "\x1b[2;3Hx\x1b[?25l",
+    "\x1b[?5h\x1b[?25h",
+    "\x1b[H\x1b[7;3mA⣿⠁⠀\x1b[8;4mhid─\x1b[m  \x1b[41m \x1b[m",
+    "\x1b[3;1H\x1b[4;5mZ─x\ufffe\u2028y\u00adz\ue0b0日",
+    "\x1b[3;11H",
+    "\n\n",
+    "\x1b[48;5;200;38;5;250mQ\x1b[1;33;7mR\x1b[?5l",
+    "\x1b[m\x1b[H\x1b[2J0123456789a日b\x1b[3;1Hthe  end\u3000",
+)
+FOUND = {"a日": 1, "9a": 1, "the  end": 1, "\u3000": 1, "本": 0}
+
+
+def try_today(browser, folder, name, size, chunks):
+    """Every count of a recording of today, in random order: its text and its picture."""
+    dues = [f"{number / 2:.6f}" for number in range(1, len(chunks) + 1)]
+    browser.open(page_of(folder, name, plain_today_drawing.data(size, chunks, dues)))
+    terminal, screens = plain_today.Terminal(*size), []
+    for chunk in (b"", *chunks):
+        terminal.feed(chunk)
+        picture = plain_today_drawing.picture(terminal, "0.000000")
+        screens.append((LEFT_OUT.sub("", picture), plain_today.plain_text(terminal)))
+    counts = list(range(len(screens)))
+    random.Random(name).shuffle(counts)
+    wrong = []
+    for count in counts:
+        picture, text = screens[count]
+        browser.value(f"location.hash = '#n={count}'; new Promise(done => setTimeout(done))")
+        same = browser.value(SAME % json.dumps(picture))
+        printed = browser.value("plainText(rowsAt(place.count))") == text
+        if not (same and printed):
+            wrong.append((count, same, printed))
+    check(f"{name}: counts", wrong, [])
+    size_told = browser.value("at.facts.textContent")
+    check(f"{name}: size", size_told, f"{size[0]} x {size[1]}, {len(chunks)} chunks")
+    wrong = [event for event in browser.events if event["method"] in ("Runtime.exceptionThrown", "Log.entryAdded")]
+    check(f"{name}: complaints", wrong, [])
+
+
+def try_todays(browser, folder):
+    """Pages of a terminal of today."""
+    for number in range(6):
+        rng = random.Random(number)
+        chunks = [random_today.stream(rng)[:200] for _ in range(40)]
+        try_today(browser, folder, f"today-{number}", (rng.choice([2, 20, 80]), rng.choice([1, 5, 24])), chunks)
+    try_today(browser, folder, "today", (12, 3), [text.encode() for text in TODAY])
+    kept = """
+    (() => {
+      seekCount(4);
+      const before = [...shown.elements], grounds = [...shown.ground.children], rows = rowsAt(4);
+      seekCount(5);
+      const same = rowsAt(5).map((row, i) => (row === rows[i]) === (shown.elements[i] === before[i])).every(Boolean);
+      return same && grounds.length > 0 && grounds.every((path, i) => path === shown.ground.children[i]);
+    })()
+    """
+    check("only changed rows are drawn today", browser.value(kept), True)
+    hidden = "(() => { seekCount(1); const svg = shown.svg; seekCount(2); return svg === shown.svg; })()"
+    check("a hidden cursor draws nothing else", browser.value(hidden), True)
+    for text, many in FOUND.items():
+        browser.value(f"at.text.value = {json.dumps(text)}; listMoments()")
+        check(f"find today {text!r}", browser.value("finds.list.length"), many)
+    saved = """
+    (() => {
+      seekCount(9);
+      const read = text => new DOMParser().parseFromString(text, 'image/svg+xml').documentElement;
+      const wanted = read(%s);
+      for (const node of [...wanted.childNodes]) if (node.nodeType === 3) node.remove();
+      return read(pictureFile()).isEqualNode(wanted);
+    })()
+    """
+    terminal = plain_today.Terminal(12, 3)
+    terminal.feed("".join(TODAY).encode())
+    picture = plain_today_drawing.picture(terminal, "4.500000")
+    check("the saved picture of today", browser.value(saved % json.dumps(picture)), True)
+
+
 def main():
     if not chromium.path():
         skip.skip("the player of a page", "chromium")
@@ -530,6 +615,7 @@ def main():
                 if len(sys.argv) > 2:
                     browser.picture(os.path.join(sys.argv[2], f"{name}.png"))
             try_large(browser, folder)
+            try_todays(browser, folder)
         finally:
             browser.close()
     return skip.end(passed, len(failed))

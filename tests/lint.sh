@@ -51,7 +51,7 @@ else
 fi
 # Debian's eslint finds what it stands on there, whichever node comes first.
 export NODE_PATH=/usr/share/nodejs
-look 'the JavaScript' eslint assets/page.js
+look 'the JavaScript' eslint assets/outlines.js assets/page.js
 if ! lacks rt 'the layout of the crates'; then
     if layout crates/*; then passed=$((passed + 1)); else failed=$((failed + 1)); fi
 fi

@@ -468,6 +468,13 @@ check 'a screen of today' 0 'Tokyo 東京\nnaïve\n' '' screen --at 1 --profile 
 check 'a screen of today, of a size' 0 'Tokyo 東\n京\nnaïve\n' '' \
     screen --at 1 --profile xterm --size 8x3 today.script today.timing
 check 'what a terminal of today has answered' 0 '1b5b323b3652\n' '' reports --at 1 --profile xterm today.script today.timing
+"$program" picture --at 1 --profile xterm today.script today.timing >today.svg 2>err.txt
+status=$?
+grep '^<g transform="translate' today.svg | grep '<text' >out.txt
+narrow='<tspan x="0 10 20 30 40 50">Tokyo </tspan>'
+verdict 'a picture of today' 0 $status \
+    "<g transform=\"translate(0 0)\"><text y=\"15\">$narrow<tspan x=\"60\">東</tspan><tspan x=\"80\">京</tspan></text></g>\n\
+<g transform=\"translate(0 20)\"><text y=\"15\"><tspan x=\"0 10 20 30 40\">naïve</tspan></text></g>\n" ''
 for told in 'COLUMNS="1" LINES="24"' 'COLUMNS="12"' 'COLUMNS="12" LINES="501"' 'COLUMNS="0x10" LINES="2"' ''; do
     printf 'Script started on X [TERM="xterm" %s]\nab' "$told" >told.script
     printf '0.5 2\n' >told.timing

@@ -3,10 +3,11 @@
 
     tests/today_fuzz.py [TYPETOOL [STREAMS [SEED]]]
 
-The rows of xterm_rows.json are played by the plain reading (plain_today.py), and by `typetool screen` and `reports`
-with `--profile xterm` where the program is named. Each random stream (random_today.py) is cut into chunks anywhere, and
-played at a size of its own; the screens after it, and the reports, have to be the plain reading's. The cursor and
-whether a wrap is pending are told by reports, asked for in one more chunk.
+The rows of xterm_rows.json are played by the plain reading (plain_today.py), and by `typetool screen`, `picture` and
+`reports` with `--profile xterm` where the program is named. Each random stream (random_today.py) is cut into chunks
+anywhere, and played at a size of its own; the screens after it, as text and as a picture (plain_today_drawing.py), and
+the reports, have to be the plain reading's. The cursor and whether a wrap is pending are told by reports, asked for in
+one more chunk.
 
 The last line is 'N passed, M failed'.
 """
@@ -20,6 +21,7 @@ import tempfile
 
 import plain_reader
 import plain_today
+import plain_today_drawing
 import random_today
 
 program = os.path.abspath(sys.argv[1]) if len(sys.argv) > 1 else None
@@ -38,7 +40,8 @@ def by_program(folder, size, chunks):
         with open(os.path.join(folder, f"made.{kind}"), "wb") as file:
             file.write(text)
     words = ["--profile", "xterm", "--size", f"{size[0]}x{size[1]}", "made.script", "made.timing"]
-    asked = [("screen", len(chunks) - 1), ("screen", len(chunks)), ("reports", len(chunks))]
+    end = len(chunks)
+    asked = [("screen", end - 1), ("picture", end - 1), ("screen", end), ("reports", end)]
     for job, at in asked:
         run = [program, job, "--at", str(at), *words]
         done = subprocess.run(run, capture_output=True, cwd=folder, timeout=PATIENCE)
@@ -54,6 +57,7 @@ def by_reading(size, chunks):
     for chunk in chunks[:-1]:
         terminal.feed(chunk)
     yield plain_today.plain_text(terminal)
+    yield plain_today_drawing.picture(terminal, f"{len(chunks) - 1}.000000")
     terminal.feed(chunks[-1])
     yield plain_today.plain_text(terminal)
     yield terminal.reports.hex() + "\n"
@@ -82,7 +86,7 @@ def rows_that_differ(rows, size, play):
     """The rows that come out otherwise: the first screen, and both cursors."""
     for row in rows:
         chunks = [bytes.fromhex(row["bytes"]), b"\x1b[6nZ\x1b[6n"]
-        screen, _, reports = play(size, chunks)
+        screen, _, _, reports = play(size, chunks)
         places = [list(map(int, told[:-1].split(b";"))) for told in bytes.fromhex(reports).split(b"\x1b[")[-2:]]
         got = screen.rstrip("\n").split("\n"), *places
         if got != (row["lines"] or [""], row["cursor"], row["then"]):

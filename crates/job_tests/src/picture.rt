@@ -4,7 +4,7 @@ use std::alloc::{AllocError, Global};
 use std::process::Abort;
 use std::test::Fail;
 use tape_core::limits::LAST_MOMENT;
-use tape_jobs::Job;
+use tape_jobs::{Job, Player};
 use vt_term::Profile;
 
 /// The picture of a screen at half a second with `ab` on its first line, and the cursor behind that.
@@ -106,7 +106,10 @@ fn draws<R: Abort + AllocGlobal>(
     drawn: &Drawn,
 ) -> Result<(), Fail> {
     let text = file_of(rt.alloc(), seconds, drawn)?;
-    let job = Job::Picture { at, profile };
+    let job = Job::Picture {
+        at,
+        player: Player::Vt(profile),
+    };
     compare(rt, &done(job, BODY, TIMING, text.as_str()))
 }
 

@@ -6,4 +6,5 @@ mod rows;
 mod seeking;
 
 pub use plain_print::plain;
+pub use rows::put_cell;
 pub use seeking::{open, seek, seek_count};

@@ -131,6 +131,10 @@ fn cases() -> [Case<'static>; 11] {
         at: END,
         print: Print::Plain(Player::Vt(profile)),
     };
+    let picture = Job::Picture {
+        at: END,
+        player: Player::Vt(profile),
+    };
     let changes = Job::Changes {
         from: None,
         to: END,
@@ -147,7 +151,7 @@ fn cases() -> [Case<'static>; 11] {
             screen,
             b"ab\n\n\n\n\n\n\n\n\n\n\n\n\n\n\n\n\n\n\n\n\n\n\n\n",
         ),
-        plain_case(Job::Picture { at: END, profile }, AB_PICTURE.as_bytes()),
+        plain_case(picture, AB_PICTURE.as_bytes()),
         plain_case(changes, b"0 0.000000 1\n1 0.500000 1\n"),
         find_case(profile),
         plain_case(

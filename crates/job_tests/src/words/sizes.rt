@@ -43,7 +43,12 @@ fn reads_sizes(rt: HostRuntime) -> Result<(), Fail> {
         })),
     };
     let line = "typetool reports --at=1 --profile=xterm --size=9x3 s t";
-    compare_job(&rt, line, reports)
+    compare_job(&rt, line, reports)?;
+    let picture = Job::Picture {
+        at: 1_000_000,
+        player: Player::Today(None),
+    };
+    compare_job(&rt, "typetool picture --at=1 --profile=xterm s t", picture)
 }
 
 /// What a line is refused for.

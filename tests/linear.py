@@ -1,0 +1,140 @@
+#!/usr/bin/env python3
+"""Counts instructions of each job on its worst inputs that are known, once and twice as long, so that a form that is
+worse than linear is found by itself.
+
+    tests/linear.py TYPETOOL
+
+An input of n parts costs what the program takes beyond one of a single part; twice as many parts may cost at most 2.2
+times as much. The last line is 'N passed, M failed'. It takes valgrind.
+"""
+import concurrent.futures
+import os
+import re
+import subprocess
+import sys
+import tempfile
+
+import plain_reader
+import skip
+
+program = os.path.abspath(sys.argv[1])
+HEADER = b"Script started on 2026-11-25 10:00:00+00:00\n"
+MOST = 2.2
+PATIENCE = 120
+CALLGRIND = ["valgrind", "--tool=callgrind", "--callgrind-out-file=/dev/null"]
+END = "1000000000000"
+
+
+def cells(n):
+    """One character a chunk, on a screen of 132 columns."""
+    return [b"\x1b[?3h"] + [b"x"] * n
+
+
+def zeros(n):
+    """What od -v prints of zeros: full lines of the same words."""
+    return [b"%07o" % (16 * at) + b" 000000" * 8 + b"\r\n" for at in range(n)]
+
+
+def equal_lines(n):
+    """Equal lines, all in one chunk."""
+    return [b"the same line\r\n" * n]
+
+
+def scrolls(n):
+    """Lines that move up by one in each chunk."""
+    return [b"%d %s\r\n" % (at, b"ab" * (at % 30)) for at in range(n)]
+
+
+def reversals(n):
+    """A screen of many runs, turned to reverse and back in each chunk."""
+    runs = b"".join(b"\x1b[%d;1H" % line + b"\x1b[7ma\x1b[mb" * 40 for line in range(1, 25))
+    return [runs] + [b"\x1b[?5h", b"\x1b[?5l"] * n
+
+
+def sequences(n):
+    """Sequences that aren't played, each another one."""
+    return [b"\x1b[%dQ" % (at % 9999) for at in range(n)]
+
+
+def modes(n):
+    """Sequences of sixteen modes that aren't played."""
+    return [b"\x1b[?%sh" % b";".join(b"%d" % (2000 + (16 * at + k) % 7999) for k in range(16)) for at in range(n)]
+
+
+def resets(n):
+    """Resets and alignment patterns by turns."""
+    return [b"\x1bc\x1b#8"] * n
+
+
+def wide(n):
+    """Wide characters with marks in colours."""
+    return ["\x1b[38;5;%dm日e\u0301".encode() % (at % 256) for at in range(n)]
+
+
+TODAY = ("--profile", "xterm", "--size", "132x43")
+# The job, what stands before the files, the input, and how many parts it has.
+RUNS = [
+    (("info",), cells, 20000),
+    (("check",), sequences, 4000),
+    (("check",), modes, 1000),
+    (("screen", "--at", END), cells, 20000),
+    (("screen", "--at", END), resets, 500),
+    (("screen", "--at", END, *TODAY), wide, 8000),
+    (("screen", "--at", END, *TODAY), resets, 200),
+    (("reports", "--at", END, *TODAY), cells, 20000),
+    (("changes", "--to", END), cells, 8000),
+    (("changes", "--to", END), scrolls, 1500),
+    (("find", "no such text"), zeros, 300),
+    (("find", "x"), scrolls, 600),
+    (("page",), cells, 4000),
+    (("page",), scrolls, 600),
+    (("page",), reversals, 100),
+    (("cast",), cells, 4000),
+    (("cast",), scrolls, 400),
+    (("cast",), reversals, 30),
+    (("cast", *TODAY), wide, 8000),
+    (("mend",), cells, 20000),
+]
+
+
+def counted(folder, words, parts):
+    """How many instructions the program takes on a recording of these parts."""
+    recording = (HEADER, [(1000, part) for part in parts], b"")
+    paths = [os.path.join(folder, f"made.{kind}") for kind in ("script", "timing")]
+    for path, text in zip(paths, plain_reader.files_of(recording)):
+        with open(path, "wb") as file:
+            file.write(text)
+    new = [os.path.join(folder, f"new.{kind}") for kind in ("script", "timing")]
+    words = [*words, *paths, *(new if words[0] == "mend" else ())]
+    done = subprocess.run(
+        [*CALLGRIND, program, *words], capture_output=True, text=True, errors="replace", timeout=PATIENCE
+    )
+    for path in new:
+        if os.path.exists(path):
+            os.remove(path)
+    return int(re.search(r"Collected : (\d+)", done.stderr)[1])
+
+
+def one(run):
+    """How much more twice as many parts cost."""
+    words, made, n = run
+    with tempfile.TemporaryDirectory(prefix="linear-") as folder:
+        start, once, twice = (counted(folder, words, made(parts)) for parts in (1, n, 2 * n))
+    return run, once - start, (twice - start) / (once - start)
+
+
+def main():
+    if skip.lacks("valgrind", "instructions at n and 2n"):
+        return skip.end(0, 0)
+    passed = 0
+    with concurrent.futures.ThreadPoolExecutor(os.cpu_count()) as pool:
+        for (words, made, n), cost, ratio in pool.map(one, RUNS):
+            passed += ratio <= MOST
+            parts = f"{n} {made.__name__.replace('_', ' ')}"
+            told = f"{' '.join(words)}: {parts} take {cost:,} instructions, twice as many {ratio:.2f}"
+            print(told if ratio <= MOST else f"FAILED {told}", flush=True)
+    return skip.end(passed, len(RUNS) - passed)
+
+
+if __name__ == "__main__":
+    sys.exit(main())
