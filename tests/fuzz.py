@@ -64,12 +64,19 @@ def written(folder, name, recording):
 
 
 def screens_of(folder, profile, recording):
-    """What stands on the screen before the first chunk and after each, row by row."""
+    """What stands on the screen before each chunk and after each of its bytes, row by row."""
     header, chunks, trailer = recording
-    pair = written(folder, "apart", (header, [(10**6, text) for _, text in chunks], trailer))
-    for after in range(len(chunks) + 1):
+    body = b"".join(text for _, text in chunks)
+    pair = written(folder, "apart", (header, [(10**6, body[at : at + 1]) for at in range(len(body))], trailer))
+    rows, at = [], 0
+    for after in range(len(body) + 1):
         _, text, _ = run(folder, "screen", "--at", str(after), "--escaped", "--profile", profile, *pair)
-        yield plain_find.rows_of(text)
+        rows.append(plain_find.rows_of(text))
+    screens = []
+    for _, text in chunks:
+        screens.append(rows[at : at + len(text) + 1])
+        at += len(text)
+    return screens, rows
 
 
 def bounds_of(rng, moments):
@@ -96,7 +103,13 @@ def found(rng, folder, profile, recording, pair):
         index for index, due in enumerate(moments) if (first is None or due > first) and (last is None or due <= last)
     ]
     dues = [plain_reader.written(due).decode() for due in moments]
-    wanted = plain_find.find_lines(list(screens_of(folder, profile, recording)), dues, asked, text).encode()
+    screens, rows = screens_of(folder, profile, recording)
+    start = None
+    if first is not None:
+        count = sum(due <= first for due in moments)
+        fed = sum(len(text) for _, text in recording[1][:count])
+        start = (plain_reader.written(first).decode(), count, rows[fed])
+    wanted = plain_find.find_lines(screens, dues, asked, start, text).encode()
     words = ["--profile", profile]
     words += [] if first is None else ["--from", plain_reader.written(first).decode()]
     words += [] if last is None else ["--to", plain_reader.written(last).decode()]

@@ -394,6 +394,15 @@ check 'changes by a moment' 0 '0 0.000000 1\n2 1.500000 3\n' '' changes --to 2 t
 check 'a text that came' 0 '+ 0 0.000000 1 1 a\n' '' find a three.script three.timing
 check 'a text that came later' 0 '+ 2 1.500000 3 1 b\n' '' find --from 1 --to 1.5 b three.script three.timing
 check 'a text that never came' 0 '' '' find c three.script three.timing
+check 'a text that stands already' 0 '= 2 1.000000 1 1 a\n' '' find --from 1 a three.script three.timing
+seen() { # what it is, the body (one chunk), the text, the lines
+    printf '%b%b' "$head" "$2" >seen.script
+    printf '0 %d\n' "$(printf '%b' "$2" | wc -c)" >seen.timing
+    check "$1" 0 "$4" '' find "$3" seen.script seen.timing
+}
+seen 'a text that scrolled off' "a$(printf '\\n%.0s' $(seq 30))" a '~ 0 0.000000 1 1 a\n'
+seen 'a text that was written over' 'err\rok ' err '~ 0 0.000000 1 1 err\n'
+seen 'a text that was written again' "err\r${E}[Kerr" err '+ 0 0.000000 1 1 err\n'
 printf '%b--help' "$head" >flag.script
 printf '0 6\n' >flag.timing
 check 'a text that looks like a flag' 0 '+ 0 0.000000 1 1 --help\n' '' find -- --help flag.script flag.timing

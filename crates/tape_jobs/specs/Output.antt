@@ -2,7 +2,7 @@
 use Rattle.std.specs.Prelude.{◌≡◌, ℕ, ◌⊎◌, Bool, true, false, List, [], Option, Some, None, MatchOption, Result, Ok, Err, if◌then◌else◌}
 use Rattle.screen_page.specs.Page.{page_text}
 use Rattle.screen_print.specs.ChangeLines.{change_lines}
-use Rattle.screen_print.specs.FindLines.{find_lines}
+use Rattle.screen_print.specs.EachByte.{find_lines}
 use Rattle.tape_check.specs.Lines.{check_text, is_noted}
 use Rattle.tape_core.specs.Due.{due}
 use Rattle.tape_core.specs.Faults.{is_stop}

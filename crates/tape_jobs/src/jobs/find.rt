@@ -1,14 +1,14 @@
-//! The job `find`: at which chunks a text comes to stand on the screen, and at which it goes.
+//! The job `find`: where a text stands at a moment, and at which chunks it comes, goes, or does both.
 
 ghost use Rattle.std.specs.Prelude.{◌≡◌, false, true, OnOk};
-ghost use Rattle.screen_print.specs.FindLines.{find_lines};
+ghost use Rattle.screen_print.specs.EachByte.{find_lines};
 ghost use Rattle.tape_core.specs.Devices.{has_failed, is_flushed};
 ghost use Rattle.tape_jobs.specs.Endings.{JobPuts};
 
 use crate::job::JobFault;
 use crate::laws::stops_join;
 use crate::shared::{EVERY, open_session};
-use screen_print::find;
+use screen_print::{find, scratch};
 use std::alloc::Global;
 use std::io::Write;
 use std::mem::ManuallyDrop;
@@ -32,6 +32,14 @@ pub fn write_found<O: Write>(
 {
     stops_join::<O>();
     let session = open_session(alloc, recording, EVERY, profile)?;
-    find(&mut ManuallyDrop::new(session), from, to, text, out)?;
+    let mut scratch = scratch(alloc)?;
+    find(
+        &mut ManuallyDrop::new(session),
+        from,
+        to,
+        text,
+        &mut scratch,
+        out,
+    )?;
     Ok(())
 }

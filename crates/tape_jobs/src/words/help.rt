@@ -92,9 +92,12 @@ const MEND_DETAILS: &str =
 
 /// The lines that `find` writes, and what it doesn't find.
 const FIND_DETAILS: &str =
-    "A line for each place at which the text came to stand (+) or from which it went (-): the sign, the\n\
-    chunk (counted from 0), when it is due (seconds), line and column of the first character, and the\n\
-    rows in which it stands, one space between. Text that only scrolls isn't told again.\n\n\
+    "A line for each place at which the text came to stand (+), from which it went (-), or at which it\n\
+    came and went between two bytes of a chunk (~): the sign, the chunk (counted from 0), when it is due\n\
+    (seconds), line and column of the first character, and the rows in which it stands, one space between.\n\
+    Text that only scrolls isn't told again. With --from the first lines (=) tell where the text stands at\n\
+    that moment, with the number of chunks due by then. So where no line is written, the text stood\n\
+    nowhere: not at that moment, and not after any byte of these chunks.\n\n\
     A text is found where it runs on over the right margin, too; but a phrase whose space falls on the\n\
     right margin isn't found, since a row that ends with a space doesn't run on.\n\n\
     A TEXT that begins with - stands behind --, as in the second example.\n\n\
