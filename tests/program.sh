@@ -407,12 +407,17 @@ printf 'Script started on X [TERM="xterm" COLUMNS="120" LINES="40"]\n%b' "${E}[5
 printf '0.5 12\n' >wide.timing
 printf '%b' "$head${E}[P" >delete.script
 printf '0 3\n' >delete.timing
-note='typetool: note: size: recorded at 120x40, played at 80x24; term: recorded under xterm, played as vt100 (see typetool check)\n'
+note='typetool: note: size: recorded at 120x40, played at 80x24; term: recorded under xterm, played as vt100 (see typetool check, or try --profile xterm)\n'
 facts='started X\nterm xterm\nsize 120x40\nnote size: recorded at 120x40, played at 80x24\n'
-check 'a check' 1 "${facts}note term: recorded under xterm, played as vt100\nunplayed 1 ESC [ ? 1049 h\nunplayed 1 ESC [ Q\n" '' \
+check 'a check' 1 "${facts}note term: recorded under xterm, played as vt100\nunplayed 1 ESC [ ? 1049 h\nunplayed 1 ESC [ Q\ntry --profile xterm\n" '' \
     check wide.script wide.timing
 check 'a check without a note' 0 'started X\n' '' check ab.script ab.timing
-check 'a check of a sequence of a VT102' 1 'started X\nunplayed 1 ESC [ P\n' '' check delete.script delete.timing
+check 'a check of a sequence of a VT102' 1 'started X\nunplayed 1 ESC [ P\ntry --profile xterm\n' '' check delete.script delete.timing
+check 'a check by a terminal of today' 1 'started X\nterm xterm\nsize 120x40\nunplayed 1 ESC [ Q\n' '' \
+    check --profile xterm wide.script wide.timing
+check 'a check by a terminal of today, of a size' 1 \
+    'started X\nterm xterm\nsize 120x40\nnote size: recorded at 120x40, played at 90x30\nunplayed 1 ESC [ Q\n' '' \
+    check --profile xterm --size 90x30 wide.script wide.timing
 check 'a check as a VT102' 0 'started X\n' '' check --profile vt102 delete.script delete.timing
 check 'a note beside a screen' 0 "$(screen_of '')" "$note" screen --at 1 wide.script wide.timing
 check 'a note beside reports' 0 '\n' "$note" reports --at 1 wide.script wide.timing
@@ -597,17 +602,17 @@ quoted 'a word too many with U+202E' '?word' info ab.script ab.timing $'\xe2\x80
 # A note's parts are cut. What the header tells is ASCII there.
 letters=$(printf 'x%.0s' $(seq 200))
 printf 'Script started on X [TERM="%s"]\n' "$letters" >noted.script
-check 'a long note is cut' 0 "$(screen_of '')" "typetool: note: term: recorded under ${letters:0:179}.. (see typetool check)\n" \
+check 'a long note is cut' 0 "$(screen_of '')" "typetool: note: term: recorded under ${letters:0:179}.. (see typetool check, or try --profile xterm)\n" \
     screen --at 0 noted.script empty.timing
 printf 'Script started on X [TERM="%s"]\n' "${letters:0:162}" >noted.script
 check 'a note of 200 characters' 0 "$(screen_of '')" \
-    "typetool: note: term: recorded under ${letters:0:162}, played as vt100 (see typetool check)\n" screen --at 0 noted.script empty.timing
+    "typetool: note: term: recorded under ${letters:0:162}, played as vt100 (see typetool check, or try --profile xterm)\n" screen --at 0 noted.script empty.timing
 printf 'Script started on X [TERM="%s"]\n' "${letters:0:163}" >noted.script
 check 'a note of 201 characters' 0 "$(screen_of '')" \
-    "typetool: note: term: recorded under ${letters:0:163}, played as vt10.. (see typetool check)\n" screen --at 0 noted.script empty.timing
+    "typetool: note: term: recorded under ${letters:0:163}, played as vt10.. (see typetool check, or try --profile xterm)\n" screen --at 0 noted.script empty.timing
 printf 'Script started on X [TERM="a%b[2Jb"]\n' "$E" >noted.script
 check 'a header with ESC' 0 "$(screen_of '')" \
-    'typetool: note: term: recorded under a?[2Jb, played as vt100 (see typetool check)\n' screen --at 0 noted.script empty.timing
+    'typetool: note: term: recorded under a?[2Jb, played as vt100 (see typetool check, or try --profile xterm)\n' screen --at 0 noted.script empty.timing
 
 # 40 MiB in chunks of the greatest length, each of its own digits.
 printf '%b' "$head" >long.script

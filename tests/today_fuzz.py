@@ -6,7 +6,7 @@
 The rows of xterm_rows.json are played by the plain reading (plain_today.py), and by `typetool screen`, `picture` and
 `reports` with `--profile xterm` where the program is named. Each random stream (random_today.py) is cut into chunks
 anywhere, and played at a size of its own; the screens after it, as text and as a picture (plain_today_drawing.py), and
-the reports, have to be the plain reading's. The cursor and whether a wrap is pending are told by reports, asked for in
+the reports, and what check tells (check_reader.py), have to be the plain reading's. The cursor and whether a wrap is pending are told by reports, asked for in
 one more chunk.
 
 The last line is 'N passed, M failed'.
@@ -19,6 +19,7 @@ import subprocess
 import sys
 import tempfile
 
+import check_reader
 import plain_reader
 import plain_today
 import plain_today_drawing
@@ -49,6 +50,8 @@ def by_program(folder, size, chunks):
             yield f"{job} answers {done.returncode}, {done.stderr!r}"
         else:
             yield done.stdout.decode()
+    done = subprocess.run([program, "check", *words], capture_output=True, cwd=folder, timeout=PATIENCE)
+    yield done.stdout, done.returncode
 
 
 def by_reading(size, chunks):
@@ -61,6 +64,7 @@ def by_reading(size, chunks):
     terminal.feed(chunks[-1])
     yield plain_today.plain_text(terminal)
     yield terminal.reports.hex() + "\n"
+    yield check_reader.check("xterm", HEADER, b"".join(chunks), b"", size)
 
 
 def cut(rng, text):
@@ -86,7 +90,7 @@ def rows_that_differ(rows, size, play):
     """The rows that come out otherwise: the first screen, and both cursors."""
     for row in rows:
         chunks = [bytes.fromhex(row["bytes"]), b"\x1b[6nZ\x1b[6n"]
-        screen, _, _, reports = play(size, chunks)
+        screen, _, _, reports, _ = play(size, chunks)
         places = [list(map(int, told[:-1].split(b";"))) for told in bytes.fromhex(reports).split(b"\x1b[")[-2:]]
         got = screen.rstrip("\n").split("\n"), *places
         if got != (row["lines"] or [""], row["cursor"], row["then"]):

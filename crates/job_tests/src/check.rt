@@ -24,7 +24,7 @@ const CHECKED: [(&[u8], Outcome, &str); 4] = [
     (
         b"Script started on X [TERM=\"xterm\"]\nab",
         NOTED,
-        "started X\nterm xterm\nnote term: recorded under xterm, played as vt100\n",
+        "started X\nterm xterm\nnote term: recorded under xterm, played as vt100\ntry --profile xterm\n",
     ),
     (b"Script started on X\n\x1b=", DONE, "started X\n"),
 ];
@@ -32,7 +32,7 @@ const CHECKED: [(&[u8], Outcome, &str); 4] = [
 /// Does the job, and compares what came out.
 fn compare_checked<R: Abort + AllocGlobal>(rt: &R, script: &[u8], outcome: Outcome, lines: &str) {
     let job = Job::Check {
-        profile: Profile::Vt100,
+        player: Player::Vt(Profile::Vt100),
     };
     let ended = do_job(rt.alloc(), job, script, AB.as_bytes(), b"");
     assert_eq!(rt;
@@ -53,7 +53,7 @@ fn check_tells_what_is_noted(rt: HostRuntime) {
 const WIDE: &[u8] = b"Script started on X [TERM=\"xterm\" COLUMNS=\"90\" LINES=\"24\"]\nab";
 
 const NOTE: &str =
-    "typetool: note: size: recorded at 90x24, played at 80x24; term: recorded under xterm, played as vt100 (see typetool check)\n";
+    "typetool: note: size: recorded at 90x24, played at 80x24; term: recorded under xterm, played as vt100 (see typetool check, or try --profile xterm)\n";
 
 /// Sees that a job tells this note of that recording, and none of one that isn't read.
 fn compare_note<R: Abort + AllocGlobal>(rt: &R, job: Job, note: &str) {

@@ -2,3 +2,4 @@ mod HeaderLemmas
 mod ScanLemmas
 mod CountLemmas
 mod NoteLemmas
+mod TallyLemmas

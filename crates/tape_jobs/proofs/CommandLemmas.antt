@@ -234,7 +234,7 @@ pub enough_paths : (s : Subcommand) (rows : List Row) (job : Job) → job_in s r
 unfolding paths_in job_in
 enough_paths Due rows job e = of_value _ (λ at. jobs.Due at) job 2 (λ at. lit≤ tt) e
 enough_paths Info rows job e = let same : jobs.Info ≡ job = cc in subst (λ j. path_count j ≤ 2) same (lit≤ tt)
-enough_paths Check rows job e = of_value _ (λ profile. jobs.Check profile) job 2 (λ profile. lit≤ tt) e
+enough_paths Check rows job e = of_value _ (λ player. jobs.Check player) job 2 (λ player. lit≤ tt) e
 enough_paths Page rows job e = of_value _ (λ profile. jobs.Page profile) job 2 (λ profile. lit≤ tt) e
 enough_paths Cast rows job e = of_value _ (λ profile. jobs.Cast profile) job 2 (λ profile. lit≤ tt) e
 enough_paths Screen rows job e =

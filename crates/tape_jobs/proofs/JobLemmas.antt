@@ -74,7 +74,7 @@ same_lines : (job : Job) (tape : Tape) (one other text : List ℕ) → (takes_re
     → done_on job tape one text ≡ done_on job tape other text
 same_lines (jobs.Due at) tape one other text same = refl
 same_lines jobs.Info tape one other text same = refl
-same_lines (jobs.Check profile) tape one other text same = refl
+same_lines (jobs.Check player) tape one other text same = refl
 same_lines (jobs.Screen at print) tape one other text same = refl
 same_lines (jobs.Picture at player) tape one other text same = refl
 same_lines (jobs.Changes from to profile) tape one other text same = refl

@@ -454,11 +454,22 @@ module _ (program script timing : Text) (p : IsPlain script) (q : IsPlain timing
   info_line = asks_by program Info files (p, (q, tt)) refl job.Info [] paths refl refl refl
 
   pub check_line : (profile : Option Profile)
-      → Asks (program ∷ codes "check" ∷ (profile_words profile ++ paths)) (job.Check (profile_or_first profile)) [] paths
+      → Asks (program ∷ codes "check" ∷ (profile_words profile ++ paths)) (job.Check (Vt (profile_or_first profile))) [] paths
   unfolding clap_on_literals typetool_app app_in name_in flags_in texts_in paths_in id_in rule_in job_in text_in profile_named is_today
-  check_line None = asks_by program Check files (p, (q, tt)) refl (job.Check Vt100) [] paths refl refl refl
-  check_line (Some Vt100) = asks_by program Check as_vt100 (p, (q, tt)) refl (job.Check Vt100) [] paths refl refl refl
-  check_line (Some Vt102) = asks_by program Check as_vt102 (p, (q, tt)) refl (job.Check Vt102) [] paths refl refl refl
+  check_line None = asks_by program Check files (p, (q, tt)) refl (job.Check (Vt Vt100)) [] paths refl refl refl
+  check_line (Some Vt100) = asks_by program Check as_vt100 (p, (q, tt)) refl (job.Check (Vt Vt100)) [] paths refl refl refl
+  check_line (Some Vt102) = asks_by program Check as_vt102 (p, (q, tt)) refl (job.Check (Vt Vt102)) [] paths refl refl refl
+
+  pub check_today_line : Asks (program ∷ codes "check" ∷ (today_words ++ paths)) (job.Check (Today None)) [] paths
+  unfolding clap_on_literals typetool_app app_in name_in flags_in texts_in paths_in id_in rule_in job_in text_in profile_named is_today
+  check_today_line = asks_by program Check as_today (p, (q, tt)) refl (job.Check (Today None)) [] paths refl refl refl
+
+  pub check_sized_line : (size : Text) (measure : Measure) → size_named size ≡ Some measure
+      → Asks (program ∷ codes "check" ∷ (sized_words size ++ paths)) (job.Check (Today (Some measure))) [] paths
+  unfolding clap_on_literals typetool_app app_in name_in flags_in texts_in paths_in id_in rule_in job_in text_in profile_named is_today
+  check_sized_line size measure d =
+      asks_by program Check (as_sized size) (size_is_plain size measure d, (p, (q, tt))) refl (job.Check (Today (Some measure))) [] paths
+      (ap (λ o. after (after (readable unread.Size o) (λ s. Ok (Today (Some s)))) (λ player. Ok (job.Check player))) d) refl refl
 
   pub cast_line : (profile : Option Profile)
       → Asks (program ∷ codes "cast" ∷ (profile_words profile ++ paths)) (job.Cast (Vt (profile_or_first profile))) [] paths

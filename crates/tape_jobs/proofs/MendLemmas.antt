@@ -30,7 +30,7 @@ one_failed writers told done stopped = elim stopped [
 pub is_mend : (job : Job) (how : Header) → mends job ≡ Some how → job ≡ jobs.Mend how
 is_mend (jobs.Due at) how e = absurd (cc)
 is_mend jobs.Info how e = absurd (cc)
-is_mend (jobs.Check profile) how e = absurd (cc)
+is_mend (jobs.Check player) how e = absurd (cc)
 is_mend (jobs.Screen at print) how e = absurd (cc)
 is_mend (jobs.Picture at player) how e = absurd (cc)
 is_mend (jobs.Changes from to profile) how e = absurd (cc)

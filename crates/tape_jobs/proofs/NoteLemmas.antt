@@ -32,8 +32,8 @@ unfaulted : (job : Job) (tape : Tape) (lines text : List ℕ) (g : Fault)
     → done_on job tape lines text ≡ refused_with (File g) → ⊥
 unfaulted (jobs.Due at) tape lines text g e = unfaulted_done (done_on (jobs.Due at) tape lines text) g refl e
 unfaulted jobs.Info tape lines text g e = unfaulted_done (done_on jobs.Info tape lines text) g refl e
-unfaulted (jobs.Check profile) tape lines text g e =
-    unfaulted_done (done_on (jobs.Check profile) tape lines text) g refl e
+unfaulted (jobs.Check player) tape lines text g e =
+    unfaulted_done (done_on (jobs.Check player) tape lines text) g refl e
 unfaulted (jobs.Screen at print) tape lines text g e =
     unfaulted_done (done_on (jobs.Screen at print) tape lines text) g refl e
 unfaulted (jobs.Picture at player) tape lines text g e =

@@ -60,7 +60,7 @@ name_in Session = codes "session"
 unfoldable pub flags_in : Subcommand → List Argument
 flags_in Due = At ∷ []
 flags_in Info = []
-flags_in Check = Profile ∷ []
+flags_in Check = AnyProfile ∷ Size ∷ []
 flags_in Screen = At ∷ Escaped ∷ AnyProfile ∷ Size ∷ []
 flags_in Picture = At ∷ AnyProfile ∷ Size ∷ []
 flags_in Changes = From ∷ To ∷ Profile ∷ []
@@ -296,7 +296,7 @@ header_in rows = header_by (switch_in (id_in Last) rows) (switch_in (id_in Headl
 unfoldable pub job_in : Subcommand → List Row → Result Job Unreadable
 job_in Due rows = after (moment_in (id_in At) rows) (λ at. Ok (job.Due at))
 job_in Info rows = Ok job.Info
-job_in Check rows = after (profile_in rows) (λ profile. Ok (job.Check profile))
+job_in Check rows = after (player_in rows) (λ player. Ok (job.Check player))
 job_in Screen rows =
     after (moment_in (id_in At) rows) (λ at. after (player_in rows) (λ player.
     after (print_by (switch_in (id_in Escaped) rows) player) (λ print. Ok (job.Screen at print))))
@@ -417,7 +417,7 @@ meaning_read words =
 abbrev pub path_count : Job → ℕ
 path_count (job.Due at) = 2
 path_count job.Info = 2
-path_count (job.Check profile) = 2
+path_count (job.Check player) = 2
 path_count (job.Screen at print) = 2
 path_count (job.Picture at player) = 2
 path_count (job.Changes from to profile) = 2

@@ -18,7 +18,7 @@ use Rattle.vt_term.specs.declared.profile.Profile.TheVariants.{Vt100}
 use Rattle.tape_seek.specs.declared.edits.EditFault.{EditFault}
 use Rattle.tape_jobs.specs.Info.{info_text}
 use Rattle.tape_jobs.specs.Moment.{drawn_at, printed_at, sent_at}
-use Rattle.tape_jobs.specs.Player.{cast_of}
+use Rattle.tape_jobs.specs.Player.{cast_of, played_of}
 use Rattle.tape_jobs.specs.Requests.{saved, started}
 use Rattle.tape_jobs.specs.Session.{answered, any_refused}
 use Rattle.tape_jobs.specs.declared.job.Job.{Job}
@@ -112,8 +112,8 @@ done_ending text ending = record {
 abbrev pub done_on : Job → Tape → List ℕ → List ℕ → Done
 done_on (Due at) tape requests text = done_with (due tape.chunks at) []
 done_on Info tape requests text = done_with (info_text tape) []
-done_on (Check profile) tape requests text =
-    done_ending (check_text profile tape) (ending_of_check (is_noted profile tape))
+done_on (Check player) tape requests text =
+    done_ending (check_text (played_of player tape) tape) (ending_of_check (is_noted (played_of player tape) tape))
 done_on (Screen at print) tape requests text = done_with (printed_at print tape at) []
 done_on (Picture at player) tape requests text = done_with (drawn_at player tape at) []
 done_on (Changes from to profile) tape requests text =
@@ -180,7 +180,7 @@ is_stopped (Some (Line line f)) = false
 -- the status of the program where a job is done (ours)
 abbrev pub IsDoneStatus : Job → ℕ → Type 0
 IsDoneStatus (Session every profile) status = (status ≡ 0) ⊎ (status ≡ 1)
-IsDoneStatus (Check profile) status = (status ≡ 0) ⊎ (status ≡ 1)
+IsDoneStatus (Check player) status = (status ≡ 0) ⊎ (status ≡ 1)
 IsDoneStatus (Mend how) status = (status ≡ 0) ⊎ (status ≡ 1)
 IsDoneStatus _ status = status ≡ 0
 

@@ -4,6 +4,8 @@ use Rattle.std.specs.Option.{option_map, option_or}
 use Rattle.output_cast.specs.Cast.{cast_text as output_text}
 use Rattle.screen_cast.specs.Cast.{cast_text}
 use Rattle.tape_check.specs.Header.{told_size}
+use Rattle.tape_check.specs.declared.played.PlayedAs.{PlayedAs}
+use Rattle.tape_check.specs.declared.played.PlayedAs.TheVariants as played
 use Rattle.tape_core.specs.Due.{due}
 use Rattle.tape_core.specs.Tape.{Tape}
 use Rattle.vt_term.specs.declared.profile.Profile.{Profile}
@@ -40,6 +42,12 @@ played_size asked tape = unwrap_or (option_or (within asked) (within (told_measu
 
 abbrev pub measure_of : Size → Measure
 measure_of size = record { columns = size.columns; lines = size.lines }
+
+-- as what a recording is played, with the size
+abbrev pub played_of : Player → Tape → PlayedAs
+played_of (Vt profile) tape = played.Vt profile
+played_of (Today asked) tape =
+    let size = played_size asked tape in played.Today size.columns size.lines
 
 -- the terminal of today that plays a recording, at a moment
 abbrev pub today_at : Option Measure → Tape → ℕ → Term

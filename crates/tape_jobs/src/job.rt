@@ -46,7 +46,7 @@ pub enum Job {
     Info,
     /// Write what the recording says of itself, and what a terminal can't show of it.
     Check {
-        profile: Profile,
+        player: Player,
     },
     /// Write the screen of a moment as plain text, or as a text that draws it again.
     Screen {
@@ -318,8 +318,8 @@ fn perform<O: Write, P: Write>(
     match job {
         Job::Due { at } => write_due(&ManuallyDrop::new(recording), at, out)?,
         Job::Info => write_info(&ManuallyDrop::new(recording), out)?,
-        Job::Check { profile } => {
-            return write_checked(alloc, &ManuallyDrop::new(recording), profile, out);
+        Job::Check { player } => {
+            return write_checked(alloc, &ManuallyDrop::new(recording), player, out);
         }
         Job::Screen { at, print } => write_screen(alloc, recording, print, at, out)?,
         Job::Picture { at, player } => write_picture(alloc, recording, player, at, out)?,

@@ -36,7 +36,10 @@ pub fn plain_lines_are_read()
         → LineAsks (codes "due") (codes "--at" ∷ at ∷ []) (job.Due moment) }
     ensures info { LineAsks (codes "info") [] job.Info }
     ensures check { (profile : Option Profile) → LineAsks (codes "check")
-        (profile_words profile) (job.Check (profile_or_first profile)) }
+        (profile_words profile) (job.Check (Vt (profile_or_first profile))) }
+    ensures check_today { LineAsks (codes "check") today_words (job.Check (Today None)) }
+    ensures check_sized { (size : Text) (measure : Measure) → size_named size ≡ Some measure
+        → LineAsks (codes "check") (sized_words size) (job.Check (Today (Some measure))) }
     ensures screen { (at : Text) (moment : ℕ) → seconds_of at ≡ Some moment
         → (escaped : Bool) (profile : Option Profile) → LineAsks (codes "screen")
         (codes "--at" ∷ at ∷ (escaped_words escaped ++ profile_words profile))

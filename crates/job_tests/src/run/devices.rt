@@ -127,6 +127,7 @@ const END: u64 = 500_000;
 /// Each job at the end of the recording.
 fn cases() -> [Case<'static>; 11] {
     let profile = Profile::Vt100;
+    let player = Player::Vt(profile);
     let screen = Job::Screen {
         at: END,
         print: Print::Plain(Player::Vt(profile)),
@@ -146,7 +147,7 @@ fn cases() -> [Case<'static>; 11] {
             Job::Info,
             b"chunks 2\nbytes 2\nlength 0.500000\nheader 20\ntrailer 0\n",
         ),
-        plain_case(Job::Check { profile }, b"started X\n"),
+        plain_case(Job::Check { player }, b"started X\n"),
         plain_case(
             screen,
             b"ab\n\n\n\n\n\n\n\n\n\n\n\n\n\n\n\n\n\n\n\n\n\n\n\n",

@@ -144,7 +144,7 @@ fn run_due(rt: HostRuntime) -> Result<(), Fail> {
 #[test]
 fn run_check(rt: HostRuntime) -> Result<(), Fail> {
     let job = Job::Check {
-        profile: Profile::Vt100,
+        player: Player::Vt(Profile::Vt100),
     };
     compare(&rt, plain_case(job, b"started X\n"))
 }

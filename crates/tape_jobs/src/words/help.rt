@@ -67,9 +67,10 @@ const SESSION_DETAILS: &str =
 const CHECK_DETAILS: &str =
     "Lines, each only where it applies: when the recording was started, under which terminal and at which\n\
     size; a note for each thing that makes the screen doubtful (another terminal or size, bytes from 128\n\
-    on, a trailer that isn't script's, further sessions in it); and unplayed N SEQUENCE for each control\n\
-    sequence that this terminal doesn't have, with how often it comes. The status is 0 where nothing is\n\
-    noted or unplayed, and else 1. No screen is played.\n\n\
+    on, or with --profile xterm parts that are no UTF-8, a trailer that isn't script's, further sessions\n\
+    in it); unplayed N SEQUENCE for each control sequence that this terminal doesn't have, with how often\n\
+    it comes; and the advice to try --profile xterm. The status is 0 where nothing is noted or unplayed,\n\
+    and else 1. No screen is played.\n\n\
     The commands that play a recording tell the notes on size, terminal and sessions on standard error.\n\n\
     Example: typetool check demo.script demo.timing\n\n\
     The long form: man typetool";

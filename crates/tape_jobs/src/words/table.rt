@@ -112,9 +112,8 @@ pub fn flags_of(subcommand: Subcommand) -> &'static [Argument]
 {
     match subcommand {
         Subcommand::Due => &[Argument::At],
-        Subcommand::Check => &[Argument::Profile],
         Subcommand::Page => &[Argument::Profile, Argument::Title],
-        Subcommand::Cast => &[Argument::AnyProfile, Argument::Size],
+        Subcommand::Check | Subcommand::Cast => &[Argument::AnyProfile, Argument::Size],
         Subcommand::Screen => &[
             Argument::At,
             Argument::Escaped,

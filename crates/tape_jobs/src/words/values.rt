@@ -52,7 +52,7 @@ pub fn read_job(subcommand: Subcommand, values: &ArgMatches<'_>) -> Result<Job, 
         }),
         Subcommand::Info => Ok(Job::Info),
         Subcommand::Check => Ok(Job::Check {
-            profile: read_profile(values)?,
+            player: read_player(values)?,
         }),
         Subcommand::Screen => read_screen(values),
         Subcommand::Picture => Ok(Job::Picture {

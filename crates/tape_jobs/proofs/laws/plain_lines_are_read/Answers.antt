@@ -1,4 +1,4 @@
-use Rattle.tape_jobs.proofs.LineLemmas.{cast_line, cast_sized_line, cast_today_line, changes_from_line, changes_line, check_line, due_line, find_between_line, find_line, info_line, mend_line, page_line, page_titled_line, picture_line, picture_sized_line, picture_today_line, reports_line, reports_sized_line, reports_today_line, save_line, screen_line, screen_sized_line, screen_today_line, session_every_line, session_line}
+use Rattle.tape_jobs.proofs.LineLemmas.{cast_line, cast_sized_line, cast_today_line, changes_from_line, changes_line, check_line, check_sized_line, check_today_line, due_line, find_between_line, find_line, info_line, mend_line, page_line, page_titled_line, picture_line, picture_sized_line, picture_today_line, reports_line, reports_sized_line, reports_today_line, save_line, screen_line, screen_sized_line, screen_today_line, session_every_line, session_line}
 use Rattle.tape_jobs.proofs.laws.plain_lines_are_read.Goals as goal
 
 pub returns-clause-due : goal.returns-clause-due
@@ -9,6 +9,12 @@ returns-clause-info c = info_line
 
 pub returns-clause-check : goal.returns-clause-check
 returns-clause-check c = λ profile program script timing p q. check_line program script timing p q profile
+
+pub returns-clause-check_today : goal.returns-clause-check_today
+returns-clause-check_today c = λ program script timing p q. check_today_line program script timing p q
+
+pub returns-clause-check_sized : goal.returns-clause-check_sized
+returns-clause-check_sized c = λ size measure d program script timing p q. check_sized_line program script timing p q size measure d
 
 pub returns-clause-screen : goal.returns-clause-screen
 returns-clause-screen c = λ at moment e escaped profile program script timing p q. screen_line program script timing p q at moment e escaped profile
