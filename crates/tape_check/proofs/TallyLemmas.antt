@@ -1,5 +1,5 @@
 -- The text of a control sequence by its marks, and what bytes do to a tally.
-use Rattle.std.proofs.Common.{◌≡◌, ℕ, zero, suc, ◌+◌, ◌<◌, ◌==◌, ◌&&◌, ◌||◌, Bool, true, false, not, nat_eq, nat_le, cond, List, [], ◌∷◌, ◌++◌, take, drop, length, get_or, refl, sym, ap, ap₂, ◌∙◌, subst, inl, inr, append_assoc, arith}
+use Rattle.std.proofs.Common.{◌≡◌, ℕ, ◌+◌, ◌<◌, ◌==◌, ◌&&◌, ◌||◌, Bool, true, false, not, nat_eq, nat_le, cond, List, [], ◌∷◌, ◌++◌, take, drop, length, get_or, refl, sym, ap, ap₂, ◌∙◌, subst, inl, inr, append_assoc, arith}
 use Rattle.std.specs.Prelude.{Option, Some, None, OnOk, fold, if◌then◌else◌}
 use Rattle.std.specs.List.{list_all, list_any}
 use Rattle.std.specs.Cmp.Lexicographic.{pointwise}
@@ -34,10 +34,7 @@ use Rattle.tape_check.specs.Tally.{Tally, any_today, forms_at, title_by, syntax_
 use Rattle.tape_core.specs.declared.chunk.Chunk.{Chunk}
 use Rattle.tape_core.specs.Tape.{body}
 use Rattle.characters.specs.Utf8.{reading}
-use Rattle.characters.specs.Width.{width}
 use Rattle.vt_parser.specs.declared.commands.Command.{Command}
-use Rattle.xterm_term.specs.Console.{Console, forgotten}
-use Rattle.xterm_term.specs.Puts.{put, put_by_width, is_c1}
 use Rattle.xterm_term.specs.Term.{is_ground}
 
 -- ---- what marks tell of a text
@@ -335,19 +332,6 @@ chunk_more t chunks i d within =
     ∙ ap (fold tallied t) (flat_map-append (λ (k : Chunk). k.bytes) (take i chunks) (get_or chunks i d ∷ [])
     ∙ ap (λ (l : List ℕ). body (take i chunks) ++ l) (append-nil (get_or chunks i d).bytes))
     ∙ fold-append tallied t (body (take i chunks)) (get_or chunks i d).bytes
-
--- ---- the law
-
-put_untitled : (c : ℕ) (s : Console) → (put c s).title ≡ s.title
-unfolding put
-put_untitled c s = by (is_c1 c) (width c)
-  where
-    by_width : (n : ℕ) → (put_by_width n c s).title ≡ s.title
-    by_width zero = refl
-    by_width (suc n) = refl
-    by : (b : Bool) (n : ℕ) → (if b then forgotten s else put_by_width n c s).title ≡ s.title
-    by true n = refl
-    by false n = by_width n
 
 -- ---- a sequence without a command is counted
 

@@ -1,6 +1,6 @@
 -- What a terminal of today leaves out of a recording: bytes read as it reads them, with the unplayed sequences and the
 -- malformed parts counted.
-use Rattle.std.specs.Prelude.{◌≡◌, ℕ, ◌+◌, Bool, true, false, not, ◌==◌, ◌&&◌, nat_le, List, [], ◌∷◌, ◌++◌, drop, fold, if◌then◌else◌, Option, Some, None}
+use Rattle.std.specs.Prelude.{ℕ, ◌+◌, Bool, true, false, not, ◌==◌, ◌&&◌, nat_le, List, [], ◌∷◌, ◌++◌, drop, fold, if◌then◌else◌, Option, Some, None}
 use Rattle.characters.specs.declared.utf8.Reading.{Reading}
 use Rattle.characters.specs.declared.utf8.Reading.TheVariants.{Character, More, Broken}
 use Rattle.characters.specs.Utf8.{begins, reading}
@@ -9,7 +9,7 @@ use Rattle.vt_parser.specs.declared.commands.Command.{Command}
 use Rattle.vt_parser.specs.Syntax.{escape}
 use Rattle.vt_parser.specs.Step.{command_of, pending_after}
 use Rattle.vt_parser.specs.Formless.{formless_of}
-use Rattle.xterm_term.specs.Term.{Term, is_ground, ends_title, play}
+use Rattle.xterm_term.specs.Term.{is_ground, ends_title}
 use Rattle.xterm_term.specs.Played.{title_left}
 use Rattle.tape_check.specs.declared.played.PlayedAs.{PlayedAs}
 use Rattle.tape_check.specs.declared.played.PlayedAs.TheVariants.{Today}
@@ -93,16 +93,3 @@ tallied t byte = if is_ground t.character then read t byte else gone_on (reading
 -- what the end leaves unfinished is one part more
 abbrev pub parts_of : Tally → ℕ
 parts_of t = if is_ground t.character then t.parts else t.parts + 1
-
--- ---- the law
-
--- a tally stands where a terminal does
-pub record GoesWith (t : Tally) (x : Term) : Type 0 where
-  pub title : t.title ≡ x.console.title
-  pub sequence : t.sequence ≡ x.sequence
-  pub character : t.character ≡ x.character
-
--- Whatever bytes a terminal of today plays, a tally that stands where it does goes with it.
-abbrev pub TallyFollowsPlay : Type 0
-TallyFollowsPlay =
-    (x : Term) (t : Tally) (bytes : List ℕ) → GoesWith t x → GoesWith (fold tallied t bytes) (play x bytes)
