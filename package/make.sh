@@ -38,6 +38,8 @@ for page in "${pages[@]}"; do
         "docs/$page.md" | install -m 644 /dev/stdin "$docs/$page.md"
 done
 install -m 644 examples/tour.* tests/recordings/*.script tests/recordings/*.timing "$docs/examples"
+install -d "$docs/examples/today"
+install -m 644 examples/today/* "$docs/examples/today"
 gzip -9n >"$docs/changelog.gz" <<END
 typetool ($version) unstable; urgency=medium
 

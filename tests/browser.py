@@ -509,9 +509,9 @@ def try_large(browser, folder):
     check("a large page seeks in time", statistics.median(took) < 50, True)
 
 
-# A recording of today on 12 columns and 3 lines: colours, marks, both widths, what is drawn, a hidden cursor, a
-# reversed screen, what a list of places doesn't serve, a cursor on a right half, rows that move, and a text over the
-# margin.
+# A recording of today on 12 columns and 3 lines: colours, marks, both widths, what is drawn, a hidden cursor,
+# a reversed screen, what a list of places doesn't serve, a cursor on a right half, rows that move, a text over
+# the margin.
 TODAY = (
     "\x1b[1;31mab\x1b[0;2;44m日\x1b[7m─e\u0301\x1b[m\r\n\x1b[38;2;1;2;3;9m<😀\x1b[m",
     "\x1b[2;3Hx\x1b[?25l",

@@ -46,12 +46,14 @@ check 'the tree of both' "$(diff -r "$place/deb" "$place/tar" 2>&1)" ''
 check 'its sums' "$(cd "$place/deb" && dpkg-deb --ctrl-tarfile "$package" | tar -x -O ./md5sums | md5sum --check --quiet 2>&1)" ''
 check 'the program' "$("$place/deb/usr/bin/typetool" --version)" "typetool $version"
 check 'the page' "$(zcat "$place/deb/usr/share/man/man1/typetool.1.gz" | grep -c "^.TH TYPETOOL 1 \"\" \"typetool $version\"")" 1
+today=(examples/today/*)
 examples=(examples/tour.* tests/recordings/*.script tests/recordings/*.timing)
 pages=(CHANGELOG.md changelog.gz {ARCHIVE,COMMANDS,FORMATS,PICTURES,PROMISES,TERMINAL,TODAY}.md)
 wanted=$(
     printf './usr/%s\n' bin/typetool share/man/man1/typetool.1.gz share/bash-completion/completions/typetool \
         share/fish/vendor_completions.d/typetool.fish share/zsh/{site-functions,vendor-completions}/_typetool \
-        "${pages[@]/#/share/doc/typetool/}" "${examples[@]/#*\//share/doc/typetool/examples/}" | sort
+        "${pages[@]/#/share/doc/typetool/}" "${examples[@]/#*\//share/doc/typetool/examples/}" \
+        "${today[@]/#/share/doc/typetool/}" | sort
 )
 check 'what is in it' "$(cd "$place/deb" && find . ! -type d | sort)" "$wanted"
 # linked: the pages that shipped pages link to.

@@ -21,8 +21,8 @@ import plain_screen
 HERE = os.path.dirname(os.path.abspath(__file__))
 PROGRAM = os.path.abspath(sys.argv[1])
 MOMENTS = int(sys.argv[2]) if len(sys.argv) > 2 else 60
-# The moment of the picture in examples/.
-SHOWN = "1"
+# The pictures in examples/, and what draws them.
+SHOWN = (("tour", "--at", "1"), ("today/greet", "--at", "4.9", "--profile", "xterm"))
 
 
 def run(*words):
@@ -70,11 +70,11 @@ def main():
     ]
     with concurrent.futures.ThreadPoolExecutor(os.cpu_count()) as pool:
         told = list(pool.map(lambda words: drawn(*words), asked))
-    examples = os.path.join(HERE, "..", "examples")
-    pair = [os.path.join(examples, f"tour.{kind}") for kind in ("script", "timing")]
-    told.append(run("picture", "--at", SHOWN, *pair) == read(os.path.join(examples, "tour.svg")))
-    if not told[-1]:
-        print(f"FAILED examples/tour.svg isn't what `typetool picture --at {SHOWN}` writes of the tour")
+    for name, *flags in SHOWN:
+        path = os.path.join(HERE, "..", "examples", name)
+        told.append(run("picture", *flags, f"{path}.script", f"{path}.timing") == read(f"{path}.svg"))
+        if not told[-1]:
+            print(f"FAILED examples/{name}.svg isn't what `typetool picture {' '.join(flags)}` writes")
     print(f"pictures: {sum(told)} passed, {len(told) - sum(told)} failed")
     return not all(told)
 

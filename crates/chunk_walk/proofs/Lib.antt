@@ -1,3 +1,4 @@
 pub mod TextLemmas
 pub mod SeekLemmas
 mod AskedLemmas
+mod ChangeLemmas

@@ -1,7 +1,11 @@
 //! Walks over the chunks of a recording, on any terminal that plays.
 #![tactic(auto)]
 
+mod change_line;
 pub mod laws;
+mod stop;
 mod walk;
 
+pub use change_line::put_change;
+pub use stop::WalkFault;
 pub use walk::{Visitor, visit_all_chunks, visit_chunks};

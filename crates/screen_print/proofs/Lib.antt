@@ -1,7 +1,6 @@
 mod PlainLemmas
 mod RowLemmas
 mod StillLemmas
-mod ChangeLemmas
 mod FindLemmas
 mod FoundLemmas
 mod QuietLemmas

@@ -1,34 +1,19 @@
 //! The lines of the screen that each chunk of a recording changes.
 
-ghost use Rattle.std.specs.Prelude.{
-  ◌≡◌,
-  ◌≢◌,
-  ◌≤◌,
-  ◌++◌,
-  ◌∷◌,
-  true,
-  false,
-  Err,
-  OnOk,
-  IfErr,
-};
-ghost use Rattle.std.specs.Fmt.{decimal};
-ghost use Rattle.std.specs.List.{flat_map};
-ghost use Rattle.tape_core.specs.Devices.{Gave, Took, has_failed, is_flushed};
+ghost use Rattle.std.specs.Prelude.{◌≡◌, ◌≢◌, ◌≤◌, true, false, Err, OnOk, IfErr};
+ghost use Rattle.tape_core.specs.Devices.{Took, has_failed, is_flushed};
 ghost use Rattle.tape_core.specs.Due.{due_count};
-ghost use Rattle.tape_core.specs.Written.{seconds_form};
 ghost use Rattle.tape_seek.specs.State.{KeepsHistory};
 ghost use Rattle.chunk_walk.specs.Stops.{OnlySeeks};
-ghost use Rattle.screen_print.specs.ChangeLines.{change_line, change_lines, spaced_number};
+ghost use Rattle.screen_print.specs.ChangeLines.{change_lines};
 ghost use Rattle.screen_print.specs.Stops.{StopsWalk};
 
 use crate::still::Still;
 use crate::walk::{ChangesFault, ChunkPrinter, put_chunks};
 use chunk_walk::laws::walks_end_sound;
-use itoa::Buffer;
+use chunk_walk::put_change;
 use std::io::Write;
-use tape_core::laws::gives_join;
-use tape_core::{Watched, seconds_text};
+use tape_core::Watched;
 use tape_seek::Session;
 use vt_term::Terminal;
 
@@ -80,44 +65,4 @@ impl ChunkPrinter for ChangedLines {
     ) {
         put_change(index, due, lines, writer);
     }
-}
-
-/// Writes the line of a chunk, or nothing where it changes no line.
-fn put_change<W: Write>(index: usize, due: u64, lines: &[u8], writer: &mut Watched<W>)
-    ensures { Gave W.contents writer.old writer.new (change_line index due lines.now) }
-{
-    gives_join::<W>();
-    if lines.is_empty() {
-        return;
-    }
-    put_place(index, due, writer);
-    put_numbers(lines, writer);
-    writer.give(b"\n");
-}
-
-/// Writes a chunk's place and when it is due.
-fn put_place<W: Write>(index: usize, due: u64, writer: &mut Watched<W>)
-    ensures { Gave W.contents writer.old writer.new
-        (decimal index ++ 32 ∷ seconds_form due) }
-{
-    let mut digits = Buffer::new();
-    let index = digits.format(index).as_bytes();
-    writer.give_all(&[index, b" ", seconds_text(due).as_bytes()]);
-}
-
-/// Writes numbers, a space before each.
-fn put_numbers<W: Write>(numbers: &[u8], writer: &mut Watched<W>)
-    ensures { Gave W.contents writer.old writer.new (flat_map spaced_number numbers.now) }
-{
-    gives_join::<W>();
-    for number in numbers {
-        put_number(*number, writer);
-    }
-}
-
-/// Writes a space and a number.
-fn put_number<W: Write>(number: u8, writer: &mut Watched<W>)
-    ensures { Gave W.contents writer.old writer.new (spaced_number number) }
-{
-    writer.give_all(&[b" ", Buffer::new().format(number).as_bytes()]);
 }

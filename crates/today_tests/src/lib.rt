@@ -6,6 +6,8 @@
 #[cfg(test)]
 mod colours;
 #[cfg(test)]
+mod escaped;
+#[cfg(test)]
 mod files;
 #[cfg(test)]
 mod pictures;

@@ -1,1 +1,3 @@
 mod PlainLemmas
+mod KeptLemmas
+mod ShownLemmas

@@ -31,8 +31,8 @@ fn put_cells<W: Write>(cells: &[Cell], writer: &mut Watched<W>)
     }
 }
 
-/// Prints a cell: its character and its marks.
-fn put_cell<W: Write>(cell: Cell, writer: &mut Watched<W>)
+/// Prints a cell in UTF-8: its character and its marks, or nothing of a right half.
+pub fn put_cell<W: Write>(cell: Cell, writer: &mut Watched<W>)
     ensures { Gave W.contents writer.old writer.new (printed cell) }
 {
     gives_join::<W>();

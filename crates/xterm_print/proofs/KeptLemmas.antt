@@ -1,0 +1,134 @@
+-- Rows that are kept, and which of them another sheet changes.
+use Rattle.std.proofs.Common.{◌≡◌, ◌≢◌, ℕ, zero, suc, ◌+◌, ◌-◌, ◌<◌, ◌≤◌, Bool, true, not, List, [], ◌∷◌, ◌++◌, length, get_or, set, filter, cond, refl, ap, sym, ◌∙◌, subst, arith, add-zero, add-one, length-append, inl, inr, get_or-set_same, get_or-set_other}
+use Rattle.std.proofs.lemmas.Bool.{cases_eq, cases_lt}
+use Rattle.std.proofs.lemmas.List.{get_or_append_left, get_or-append-add, get_or_default}
+use Rattle.std.proofs.lemmas.List.Elements.{filter-append}
+use Rattle.std.proofs.Math.Seq.{get_or-append_seam}
+use Rattle.std.specs.Cmp.{IsEquivalence, and_equiv, on_equiv, nat_eq_equiv}
+use Rattle.std.specs.Cmp.Lexicographic.{lists_equiv}
+use Rattle.std.specs.List.{range_with_len}
+use Rattle.sheet.specs.Cells.{Cell}
+use Rattle.sheet.specs.Grid.{row_at}
+use Rattle.sheet.specs.Table.{nth}
+use Rattle.xterm_print.specs.ChangeLines.{changed_lines, is_changed, same_cell, same_row, style_of, text_of}
+use Rattle.xterm_print.specs.Kept.{FollowAll, Follows}
+
+-- ---- rows that are the same
+
+same_cells : IsEquivalence same_cell
+same_cells = and_equiv (on_equiv text_of nat_eq_equiv) (on_equiv style_of nat_eq_equiv)
+
+same_rows : IsEquivalence same_row
+same_rows = lists_equiv same_cells
+
+-- a row is the same as itself
+pub same_itself : (row : List Cell) → same_row row row ≡ true
+same_itself row = same_rows.refl row
+
+-- of two rows that are the same, each is the same as a third, or neither
+same_as : (one other third : List Cell) → same_row one other ≡ true → same_row one third ≡ same_row other third
+same_as one other third h = same_rows.congr one other third h
+
+-- a row that is another follows it
+pub follows_itself : (row other : List Cell) → row ≡ other → Follows (length other) row other
+follows_itself row other is = record {
+  columns = ap length is;
+  same = ap (λ r. same_row r other) is ∙ same_itself other;
+}
+
+-- a row that is the same as another follows it
+pub follows_same : (row other : List Cell) → length row ≡ length other → true ≡ same_row row other → Follows (length other) row other
+follows_same row other long same = record { columns = long; same = sym same }
+
+-- ---- rows by line
+
+row_is : (rows : List (List Cell)) (line : ℕ) → 1 ≤ line → row_at rows line ≡ get_or rows (line - 1) []
+unfolding nth
+row_is rows zero low = absurd (omega (arith, low))
+row_is rows (suc k) low = let same : suc k - 1 ≡ k = omega arith in ap (λ n. get_or rows n []) (sym same)
+
+-- a row that is read
+pub row_read : (rows : List (List Cell)) (line : ℕ) (d : List Cell) → 1 ≤ line → line ≤ length rows → row_at rows line ≡ get_or rows (line - 1) d
+row_read rows line d low high =
+    let within : line - 1 < length rows = omega arith in
+    row_is rows line low ∙ get_or_default rows (line - 1) [] d within
+
+-- a row that is written
+row_set_same : (rows : List (List Cell)) (line : ℕ) (row : List Cell) → 1 ≤ line → line ≤ length rows → row_at (set rows (line - 1) row) line ≡ row
+row_set_same rows line row low high =
+    let within : line - 1 < length rows = omega arith in
+    row_is (set rows (line - 1) row) line low ∙ get_or-set_same rows (line - 1) row [] within
+
+pub row_set_other : (rows : List (List Cell)) (line k : ℕ) (row : List Cell) → 1 ≤ line → 1 ≤ k → k ≢ line → row_at (set rows (line - 1) row) k ≡ row_at rows k
+row_set_other rows line k row low here other =
+    let apart : k - 1 ≢ line - 1 = omega arith in
+    row_is (set rows (line - 1) row) k here ∙ get_or-set_other rows (line - 1) (k - 1) row [] apart ∙ sym (row_is rows k here)
+
+-- one row more is kept
+pub follow_more : (n width : ℕ) (rows others : List (List Cell)) (row : List Cell) → FollowAll n width rows others
+    → Follows width row (row_at others (n + 1)) → FollowAll (n + 1) width (rows ++ row ∷ []) others
+follow_more n width rows others row kept more = record {
+  lines = length-append rows (row ∷ []) ∙ ap (λ m. m + 1) kept.lines;
+  row = λ k low high. elim (cases_eq k (n + 1)) [
+    | inl e ↦
+        let at : k - 1 ≡ length rows = omega (arith, kept.lines) in
+        subst (λ r. Follows width r (row_at others k))
+        (sym (row_is (rows ++ row ∷ []) k low ∙ ap (λ i. get_or (rows ++ row ∷ []) i []) at ∙ get_or-append_seam rows row [] []))
+        (subst (λ m. Follows width row (row_at others m)) (sym e) more)
+    | inr ne ↦
+        let below : k - 1 < length rows = omega (arith, kept.lines) in
+        subst (λ r. Follows width r (row_at others k))
+        (row_is rows k low ∙ sym (row_is (rows ++ row ∷ []) k low ∙ get_or_append_left rows (row ∷ []) [] (k - 1) below))
+        (kept.row k low (omega arith))
+  ];
+}
+
+-- none are kept
+pub follow_none : (width : ℕ) (rows others : List (List Cell)) → rows ≡ [] → FollowAll 0 width rows others
+follow_none width rows others none = record { lines = ap length none; row = λ k low high. absurd (omega (arith, low, high)) }
+
+-- a row more follows
+pub caught_more : (width line k : ℕ) (rows others : List (List Cell)) (row : List Cell) → 1 ≤ line → line ≤ length rows → 1 ≤ k → k < line + 1
+    → (k ≡ line → Follows width row (row_at others line)) → (k < line → Follows width (row_at rows k) (row_at others k))
+    → Follows width (row_at (set rows (line - 1) row) k) (row_at others k)
+caught_more width line k rows others row low high here below at before = elim (cases_eq k line) [
+  | inl e ↦ subst (λ m. Follows width (row_at (set rows (line - 1) row) m) (row_at others m)) (sym e)
+      (subst (λ r. Follows width r (row_at others line)) (sym (row_set_same rows line row low high)) (at e))
+  | inr ne ↦ subst (λ r. Follows width r (row_at others k)) (sym (row_set_other rows line k row low here ne)) (before (omega arith))
+]
+
+-- ---- the lines that differ
+
+range_more : (a n : ℕ) → range_with_len a (n + 1) ≡ range_with_len a n ++ (a + n) ∷ []
+range_more a zero = ap (λ m. m ∷ []) (sym (add-zero a))
+range_more a (suc n) =
+    let next : a + 1 + n ≡ a + suc n = omega arith in
+    ap (range_with_len a) (add-one (suc n))
+    ∙ ap (λ l. a ∷ l) (ap (range_with_len (a + 1)) (sym (add-one n)) ∙ range_more (a + 1) n ∙ ap (λ m. range_with_len (a + 1) n ++ m ∷ []) next)
+
+-- the numbers so far that pass, and one more
+pub passing_more : (p : ℕ → Bool) (line : ℕ) (here : Bool) (old new : List ℕ) → 1 ≤ line → here ≡ p line
+    → old ≡ filter p (range_with_len 1 (line - 1)) → new ≡ old ++ cond here (line ∷ []) [] → new ≡ filter p (range_with_len 1 (line + 1 - 1))
+passing_more p line here old new low is so_far more =
+    let n = line - 1 in
+    let at : n + 1 ≡ line + 1 - 1 = omega arith in
+    let next : line ≡ 1 + n = omega arith in
+    more ∙ ap (λ b. old ++ cond b (line ∷ []) []) is ∙ ap (λ l. l ++ cond (p line) (line ∷ []) []) so_far
+    ∙ ap (λ m. filter p (range_with_len 1 n) ++ filter p (m ∷ [])) next
+    ∙ sym (filter-append p (range_with_len 1 n) ((1 + n) ∷ []))
+    ∙ ap (filter p) (sym (range_more 1 n)) ∙ ap (λ m. filter p (range_with_len 1 m)) at
+
+-- tests that agree on numbers let the same ones pass
+same_passing : (p q : ℕ → Bool) (a n : ℕ) → ((k : ℕ) → a ≤ k → k < a + n → p k ≡ q k) → filter p (range_with_len a n) ≡ filter q (range_with_len a n)
+same_passing p q a zero agree = refl
+same_passing p q a (suc n) agree =
+    ap (λ b. cond b (a ∷ filter p (range_with_len (a + 1) n)) (filter p (range_with_len (a + 1) n))) (agree a (omega arith) (omega arith))
+    ∙ ap (λ l. cond (q a) (a ∷ l) l) (same_passing p q (a + 1) n (λ k low high. agree k (omega arith) (omega arith)))
+
+-- rows that follow others are changed where those are
+pub changed_alike : (height width : ℕ) (kept before after : List (List Cell)) → FollowAll height width kept before
+    → changed_lines height kept after ≡ changed_lines height before after
+unfolding changed_lines
+changed_alike height width kept before after follow =
+    same_passing (is_changed kept after) (is_changed before after) 1 height
+    (λ k low high. ap not (same_as (row_at kept k) (row_at before k) (row_at after k) (follow.row k low (omega arith)).same))
