@@ -1,1 +1,2 @@
 mod EscapedLemmas
+mod Led
