@@ -1,2 +1,7 @@
 mod EscapedLemmas
 mod Led
+mod Tables
+mod Drawn
+mod Numbers
+mod Shown
+mod Colours
