@@ -54,7 +54,7 @@ leads_as s t u one two leads same_text same = subst (λ (l : List ℕ). Leads s 
 
 -- ---- a control sequence
 
-abbrev low_byte : ℕ → Bool
+abbrev pub low_byte : ℕ → Bool
 low_byte byte = nat_le byte 127
 
 -- a term with no character pending

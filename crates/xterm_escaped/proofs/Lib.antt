@@ -5,3 +5,10 @@ mod Drawn
 mod Numbers
 mod Shown
 mod Colours
+mod Same
+mod Texts
+mod Params
+mod Cells
+mod Redrawing
+mod RowDrawn
+mod Lines
