@@ -1,24 +1,23 @@
 -- A cell drawn behind others: its rendition, its character and its marks.
-use Rattle.std.proofs.Common.{◌≡◌, ◌⊎◌, ℕ, zero, suc, ◌+◌, ◌-◌, ◌<◌, ◌≤◌, Bool, true, false, not, List, [], ◌∷◌, ◌++◌, length, drop, min, encode_utf8, refl, sym, ap, ap₂, inl, inr, ◌∙◌, arith, subst, append-nil}
-use Rattle.std.specs.Prelude.{decimal, nat_le, nat_lt, ◌==◌, if◌then◌else◌, Option, Some, None}
+use Rattle.std.proofs.Common.{◌≡◌, ◌⊎◌, ℕ, ◌<◌, ◌≤◌, Bool, true, false, List, [], ◌∷◌, ◌++◌, length, drop, encode_utf8, refl, sym, ap, inl, inr, ◌∙◌, arith}
+use Rattle.std.specs.Prelude.{nat_lt, if◌then◌else◌, Option}
 use Rattle.std.specs.List.{flat_map}
 use Rattle.std.proofs.lemmas.Bool.{cases_Bool}
 use Rattle.std.proofs.lemmas.Bool.Decides.{nat_tests}
 use Rattle.std.proofs.lemmas.Str.{encode_ascii}
 use Rattle.characters.specs.Utf8.{Spells}
-use Rattle.characters.specs.Width.{width}
 use Rattle.vt_parser.specs.Decimals.{params_text}
 use Rattle.vt_parser.specs.Law.{GraphicIsShown, WrittenSequencesFinish, WrittenPrivatesFinish}
 use Rattle.vt_parser.specs.Syntax.{escape, is_graphic}
 use Rattle.sheet.specs.declared.rendition.Colour.{Colour}
 use Rattle.sheet.specs.declared.rendition.Colour.TheVariants.{Default, Palette, Direct}
 use Rattle.sheet.specs.declared.rendition.Rendition.{Rendition}
-use Rattle.sheet.specs.Cells.{Cell, is_covered, is_wide}
+use Rattle.sheet.specs.Cells.{Cell}
 use Rattle.xterm_rows.specs.Ink.{colour_number}
 use Rattle.xterm_term.specs.declared.sets.CharacterSet.{CharacterSet}
 use Rattle.xterm_term.specs.declared.sets.CharacterSet.TheVariants.{Ascii}
 use Rattle.xterm_term.specs.Console.{Console}
-use Rattle.xterm_term.specs.Puts.{is_c1, put}
+use Rattle.xterm_term.specs.Puts.{put}
 use Rattle.xterm_term.specs.Sets.{character_of, set_in_use}
 use Rattle.xterm_escaped.specs.EscapedText.{colour_text, is_told, letters_text, paper_text, rendition_set_text, rendition_text, same_rendition, text_where}
 use Rattle.xterm_escaped.proofs.Colours.{IsByteColour, paper_set}

@@ -1,13 +1,13 @@
 -- The parameters of colours, and what they set.
-use Rattle.std.proofs.Common.{◌≡◌, ℕ, ◌+◌, ◌-◌, ◌<◌, ◌≤◌, Bool, true, false, List, [], ◌∷◌, refl, sym, ap, inl, inr, ◌∙◌, arith}
-use Rattle.std.specs.Prelude.{nat_lt, nat_le, ◌==◌, ◌&&◌, ◌||◌, if◌then◌else◌, Option, Some, None}
+use Rattle.std.proofs.Common.{◌≡◌, ℕ, ◌+◌, ◌-◌, ◌<◌, ◌≤◌, true, false, [], ◌∷◌, refl, ap, inl, inr, ◌∙◌, arith}
+use Rattle.std.specs.Prelude.{nat_lt, nat_le, ◌==◌, if◌then◌else◌, Some}
 use Rattle.std.proofs.lemmas.Bool.{cases_lt}
 use Rattle.std.proofs.lemmas.Bool.Decides.{nat_tests}
 use Rattle.sheet.specs.declared.rendition.Colour.{Colour}
 use Rattle.sheet.specs.declared.rendition.Colour.TheVariants.{Default, Palette, Direct}
 use Rattle.sheet.specs.declared.rendition.Rendition.{Rendition}
 use Rattle.xterm_term.specs.Renditions.{renditions_set, rendition_set, tells_colour, colour_set, colour_taken, is_within}
-use Rattle.xterm_escaped.proofs.Numbers.{colour_numbers, palette_numbers}
+use Rattle.xterm_escaped.proofs.Numbers.{colour_numbers}
 
 -- its numbers are those of a byte
 abbrev pub IsByteColour : Colour → Type 0

@@ -1,8 +1,8 @@
 -- What bytes play to where nothing is pending, whatever the last character is: nothing here asks for it.
-use Rattle.std.proofs.Common.{◌≡◌, ℕ, ◌≤◌, ◌<◌, Bool, true, false, List, [], ◌∷◌, ◌++◌, refl, sym, ap, ap₂, subst, ◌∙◌, nat_le, ◌&&◌, arith, length}
+use Rattle.std.proofs.Common.{◌≡◌, ℕ, Bool, true, false, List, [], ◌∷◌, ◌++◌, refl, sym, ap, ap₂, subst, ◌∙◌, nat_le, ◌&&◌, arith}
 use Rattle.std.specs.Prelude.{Option, Some, None, if◌then◌else◌}
 use Rattle.std.specs.List.{list_all}
-use Rattle.std.proofs.lemmas.Bool.{and_parts, cases_Bool}
+use Rattle.std.proofs.lemmas.Bool.{and_parts}
 use Rattle.std.proofs.lemmas.Bool.Decides.{nat_tests}
 use Rattle.std.proofs.lemmas.List.{append-nil}
 use Rattle.std.proofs.lemmas.List.Folds.{list_all-append}
@@ -14,15 +14,15 @@ use Rattle.vt_parser.specs.declared.commands.Command.TheVariants.{Csi}
 use Rattle.vt_parser.specs.Syntax.{escape, is_graphic}
 use Rattle.vt_parser.specs.Forms.{held, is_control_sequence_final}
 use Rattle.vt_parser.specs.Decimals.{params_text}
-use Rattle.vt_parser.specs.Step.{command_of, pending_after, mode_after}
+use Rattle.vt_parser.specs.Step.{pending_after, mode_after}
 use Rattle.vt_parser.specs.Fold.{pending_after_bytes, Gives}
 use Rattle.vt_parser.specs.Law.{AreParams, GraphicIsShown, WrittenSequencesFinish, WrittenPrivatesFinish}
 use Rattle.xterm_term.specs.Rows.{effect_of}
 use Rattle.xterm_term.specs.Console.{Console}
 use Rattle.xterm_term.specs.Effect.{effect, reply, control_sequence_effect, control_sequence_reply}
-use Rattle.xterm_term.specs.Puts.{put, all_put, character_for}
+use Rattle.xterm_term.specs.Puts.{put, character_for}
 use Rattle.xterm_term.specs.Replies.{reply_of}
-use Rattle.xterm_term.specs.Term.{Term, Outcome, outcome_of, syntax_read, is_ground, ends_last, forgotten_if, step, play}
+use Rattle.xterm_term.specs.Term.{Term, Outcome, syntax_read, is_ground, ends_last, forgotten_if, step, play}
 use Rattle.xterm_term.proofs.ByteKinds.{first, other}
 use Rattle.xterm_term.proofs.Idle.{character_brings}
 use Rattle.xterm_term.proofs.Runs.{on_ground, run_played, stepped}

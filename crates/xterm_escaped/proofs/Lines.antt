@@ -1,17 +1,11 @@
 -- The lines are drawn one after another, and the whole text.
-use Rattle.std.proofs.Common.{◌≡◌, ℕ, zero, suc, ◌+◌, ◌-◌, ◌<◌, ◌≤◌, Bool, true, false, not, List, [], ◌∷◌, ◌++◌, length, take, get_or, min, refl, sym, ap, ap₂, inl, inr, ◌∙◌, arith, subst, lit<, append_assoc}
-use Rattle.std.specs.Prelude.{codes, decimal, nat_le, ◌==◌, if◌then◌else◌, Option}
-use Rattle.std.specs.List.{suffix_len, list_all}
-use Rattle.std.proofs.lemmas.Bool.{cases_Bool, cases_eq, cases_lt}
+use Rattle.std.proofs.Common.{◌≡◌, ℕ, ◌≤◌, Bool, true, false, List, [], ◌∷◌, ◌++◌, refl, sym, ap, ap₂, ◌∙◌, arith, lit<, append_assoc}
+use Rattle.std.specs.Prelude.{decimal, nat_le, ◌==◌}
 use Rattle.std.proofs.lemmas.Bool.Decides.{nat_tests}
-use Rattle.std.proofs.lemmas.List.{length-take-le}
 use Rattle.vt_parser.specs.Decimals.{params_text}
 use Rattle.vt_parser.specs.Syntax.{escape}
-use Rattle.sheet.specs.declared.rendition.Colour.TheVariants.{Default}
 use Rattle.sheet.specs.declared.rendition.Rendition.{Rendition}
-use Rattle.sheet.specs.Cells.{Cell, blank, cell_at}
-use Rattle.sheet.specs.Grid.{blank_row, row_at, with_row}
-use Rattle.sheet.specs.Table.{table}
+use Rattle.sheet.specs.Cells.{Cell}
 use Rattle.xterm_screen.specs.Moves.{placed}
 use Rattle.xterm_screen.specs.Picture.{Picture}
 use Rattle.xterm_term.specs.Console.{Console, on_picture}

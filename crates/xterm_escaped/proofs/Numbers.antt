@@ -1,20 +1,13 @@
 -- The parameters of a rendition: how they are written, and what they set.
-use Rattle.std.proofs.Common.{◌≡◌, ℕ, zero, suc, ◌+◌, ◌-◌, ◌<◌, ◌≤◌, Bool, true, false, not, List, [], ◌∷◌, ◌++◌, length, refl, sym, ap, ap₂, subst, inl, inr, ◌∙◌, arith, append_assoc, append-nil}
-use Rattle.std.specs.Prelude.{codes, decimal, nat_lt, nat_le, ◌==◌, ◌&&◌, ◌||◌, if◌then◌else◌, Some, None}
-use Rattle.std.specs.List.{flat_map, list_all}
-use Rattle.std.proofs.lemmas.Bool.{cases_eq, cases_lt}
-use Rattle.std.proofs.lemmas.Bool.Decides.{nat_tests}
-use Rattle.std.proofs.lemmas.Fmt.{decimal_digit}
-use Rattle.std.proofs.lemmas.Grind.{flat_map-append}
-use Rattle.vt_parser.specs.Syntax.{escape}
+use Rattle.std.proofs.Common.{◌≡◌, ℕ, ◌+◌, Bool, true, false, List, [], ◌∷◌, ◌++◌, refl, sym, ap, ◌∙◌, append_assoc, append-nil}
+use Rattle.std.specs.Prelude.{decimal, nat_lt, if◌then◌else◌}
+use Rattle.std.specs.List.{flat_map}
 use Rattle.vt_parser.specs.Decimals.{params_text}
 use Rattle.sheet.specs.declared.rendition.Colour.{Colour}
 use Rattle.sheet.specs.declared.rendition.Colour.TheVariants.{Default, Palette, Direct}
 use Rattle.sheet.specs.declared.rendition.Rendition.{Rendition}
 use Rattle.sheet.specs.Cells.{plain_on}
-use Rattle.xterm_rows.specs.Ink.{colour_number}
-use Rattle.xterm_term.specs.Renditions.{renditions_set, rendition_set, tells_colour, used_up, colour_told, colour_taken}
-use Rattle.xterm_escaped.specs.EscapedText.{attributes_text, colour_text, direct_text, ink_text, is_told, letters_text, palette_text, paper_text, text_where}
+use Rattle.xterm_term.specs.Renditions.{renditions_set, rendition_set}
 
 -- ---- how they are written
 

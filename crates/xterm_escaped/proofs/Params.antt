@@ -1,8 +1,8 @@
 -- Parameters that a text can hold, and renditions that are set by them.
-use Rattle.std.proofs.Common.{◌≡◌, ℕ, ◌+◌, ◌/◌, ◌%◌, ◌^◌, ◌<◌, ◌≤◌, Bool, true, false, List, [], ◌∷◌, ◌++◌, length, refl, sym, ap, ap₂, inl, inr, ◌∙◌, arith, lit<, subst}
-use Rattle.std.specs.Prelude.{decimal, nat_le, nat_lt, ◌==◌, ◌&&◌, if◌then◌else◌, Option, All}
+use Rattle.std.proofs.Common.{◌≡◌, ℕ, ◌+◌, ◌%◌, ◌^◌, ◌<◌, ◌≤◌, Bool, true, false, List, [], ◌∷◌, ◌++◌, length, refl, sym, ap, ◌∙◌, arith}
+use Rattle.std.specs.Prelude.{decimal, nat_le, nat_lt, if◌then◌else◌}
 use Rattle.std.specs.List.{list_all}
-use Rattle.std.proofs.lemmas.Bool.{and_parts, cases_lt, cases_Bool, leb-true}
+use Rattle.std.proofs.lemmas.Bool.{and_parts, leb-true}
 use Rattle.std.proofs.lemmas.Bool.Decides.{nat_tests}
 use Rattle.std.proofs.lemmas.Fmt.{decimal_by_steps}
 use Rattle.std.proofs.lemmas.List.{length-append}
@@ -20,7 +20,7 @@ use Rattle.xterm_term.specs.Renditions.{renditions_set}
 use Rattle.xterm_escaped.specs.EscapedText.{letters_text}
 use Rattle.xterm_escaped.proofs.Colours.{IsByteColour, ink_set}
 use Rattle.xterm_escaped.proofs.Led.{Leads, ended, leads_as, low_byte, sequence_leads}
-use Rattle.xterm_escaped.proofs.Numbers.{attribute_numbers, attributes_set, colour_numbers, number_where, palette_numbers}
+use Rattle.xterm_escaped.proofs.Numbers.{attribute_numbers, attributes_set, colour_numbers, number_where}
 use Rattle.xterm_escaped.proofs.Shown.{drawing}
 use Rattle.xterm_escaped.proofs.Texts.{letters_numbers, letters_written}
 

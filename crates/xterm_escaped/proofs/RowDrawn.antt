@@ -1,9 +1,8 @@
 -- The cells of a row are drawn one after another.
-use Rattle.std.proofs.Common.{◌≡◌, ℕ, zero, suc, ◌+◌, ◌-◌, ◌<◌, ◌≤◌, Bool, true, false, List, [], ◌∷◌, ◌++◌, length, take, get_or, encode_utf8, refl, sym, ap, ap₂, inl, inr, ◌∙◌, arith, subst}
-use Rattle.std.specs.Prelude.{nat_le, ◌==◌, if◌then◌else◌}
+use Rattle.std.proofs.Common.{◌≡◌, ℕ, zero, suc, ◌+◌, ◌-◌, ◌<◌, ◌≤◌, true, false, List, [], ◌∷◌, ◌++◌, length, take, get_or, encode_utf8, refl, sym, ap, inl, inr, ◌∙◌, arith, subst}
+use Rattle.std.specs.Prelude.{if◌then◌else◌}
 use Rattle.std.specs.List.{flat_map}
 use Rattle.std.proofs.lemmas.Bool.{cases_Bool, cases_lt, false≢true}
-use Rattle.std.proofs.lemmas.Bool.Decides.{nat_tests}
 use Rattle.sheet.specs.declared.rendition.Colour.TheVariants.{Default}
 use Rattle.sheet.specs.declared.rendition.Rendition.{Rendition}
 use Rattle.sheet.specs.Cells.{Cell, blank, cell_at, covering, is_covered, is_wide}
@@ -18,7 +17,7 @@ use Rattle.xterm_escaped.proofs.EscapedLemmas.{cells_text_more, rendition_after_
 use Rattle.xterm_escaped.proofs.Led.{Leads, leads_as, leads_both, leads_none}
 use Rattle.xterm_escaped.proofs.Redrawing.{Draws, IsLetter, cell_leads}
 use Rattle.xterm_escaped.proofs.Shown.{behind_of}
-use Rattle.xterm_escaped.proofs.Tables.{nth_next, nth_none}
+use Rattle.xterm_escaped.proofs.Tables.{nth_next}
 
 -- what a row of a terminal is
 pub record IsRow (row : List Cell) : Type 0 where

@@ -1,7 +1,7 @@
 -- What a character puts on a console that draws.
-use Rattle.std.proofs.Common.{◌≡◌, ℕ, zero, suc, ◌+◌, ◌-◌, ◌<◌, ◌≤◌, Bool, true, false, List, [], ◌∷◌, ◌++◌, length, min, refl, sym, ap, ap₂, subst, inl, inr, ◌∙◌, arith}
-use Rattle.std.specs.Prelude.{if◌then◌else◌, ◌==◌, ◌&&◌, nat_le, nat_lt, Option, Some, None}
-use Rattle.std.proofs.lemmas.Bool.{cases_eq, cases_lt}
+use Rattle.std.proofs.Common.{◌≡◌, ℕ, ◌+◌, ◌-◌, ◌≤◌, Bool, true, false, List, min, refl, sym, ap, ap₂, inl, inr, ◌∙◌, arith}
+use Rattle.std.specs.Prelude.{if◌then◌else◌, ◌==◌, ◌&&◌, nat_lt, Option, Some, None}
+use Rattle.std.proofs.lemmas.Bool.{cases_eq}
 use Rattle.std.proofs.lemmas.Bool.Decides.{nat_tests}
 use Rattle.characters.specs.Width.{width}
 use Rattle.sheet.specs.declared.rendition.Colour.{Colour}
@@ -9,10 +9,10 @@ use Rattle.sheet.specs.declared.rendition.Rendition.{Rendition}
 use Rattle.sheet.specs.Cells.{Cell}
 use Rattle.sheet.specs.Edits.{mark_added, put as letter_put}
 use Rattle.sheet.specs.Grid.{row_at, with_row}
-use Rattle.xterm_screen.specs.Picture.{Picture, reset}
+use Rattle.xterm_screen.specs.Picture.{Picture}
 use Rattle.xterm_screen.specs.Puts.{advanced, character_put, character_written, is_dropped, line_found, made_ready, mark_column, mark_joined, next_line, overhangs, room_made, shown, width as columns_of}
 use Rattle.xterm_term.specs.Console.{Console, first_modes, reset_console}
-use Rattle.xterm_term.specs.Puts.{is_c1, put, put_by_width, shown_with}
+use Rattle.xterm_term.specs.Puts.{is_c1, put, shown_with}
 use Rattle.xterm_escaped.proofs.Led.{ended}
 
 -- where lines are drawn: a reset console, with the reversed flag
