@@ -1,0 +1,5 @@
+pub mod Same
+pub mod Entries
+pub mod EntryText
+pub mod Page
+pub mod Parts
