@@ -81,7 +81,7 @@ fn jobs_that_play_tell_a_note(rt: HostRuntime) {
             at,
             print: Print::Plain(player),
         },
-        Job::Picture { at, profile },
+        Job::Picture { at, player },
         Job::Changes { from, to, profile },
         Job::Find { from, to, profile },
         Job::Reports { at, player },

@@ -4,7 +4,7 @@ use std::alloc::{AllocError, Global};
 use std::process::Abort;
 use std::test::Fail;
 use tape_core::limits::LAST_MOMENT;
-use tape_jobs::Job;
+use tape_jobs::{Job, Measure, Player};
 use vt_term::Profile;
 
 /// The picture of a screen at half a second with `ab` on its first line, and the cursor behind that.
@@ -106,7 +106,8 @@ fn draws<R: Abort + AllocGlobal>(
     drawn: &Drawn,
 ) -> Result<(), Fail> {
     let text = file_of(rt.alloc(), seconds, drawn)?;
-    let job = Job::Picture { at, profile };
+    let player = Player::Vt(profile);
+    let job = Job::Picture { at, player };
     compare(rt, &done(job, BODY, TIMING, text.as_str()))
 }
 
@@ -127,4 +128,31 @@ fn picture_tells_no_moment_past_the_last_one(rt: HostRuntime) -> Result<(), Fail
         draws(&rt, at, Profile::Vt100, last, &RETURNED)?;
     }
     Ok(())
+}
+
+/// Red letters on a screen of 4 columns and a line, the cursor hidden.
+const TODAY: &str = "\x1b[31mab\x1b[?25l";
+
+/// Their picture at half a second.
+const TODAY_PICTURE: &str =
+    "<svg xmlns=\"http://www.w3.org/2000/svg\" class=\"i\" viewBox=\"-10 -10 60 40\" width=\"60\" height=\"40\" role=\"group\" aria-label=\"Screen\" xml:space=\"preserve\"><title>Screen at 0.500000 s</title><desc>ab\n</desc>\
+<style>text{font:16.67px 'DejaVu Sans Mono',Menlo,Consolas,'Liberation Mono',monospace;white-space:pre}path{shape-rendering:crispEdges}g:last-child path{shape-rendering:auto}tspan{unicode-bidi:isolate-override}.i{fill:#ddd}.p{fill:#111}.b{font-weight:bold}.t{font-style:italic}.n{fill:none}.k{animation:k 1s step-end infinite}@keyframes k{50%{opacity:.2}}@media print,(prefers-reduced-motion:reduce){.k{animation:none}}</style>\n\
+<path class=\"p\" d=\"M-10 -10h60v40h-60z\"/>\n\
+<g></g>\n\
+<g transform=\"translate(0 0)\"><text y=\"15\"><tspan fill=\"#d64d4d\" x=\"0 10\">ab</tspan></text></g>\n\
+<g transform=\"translate(0 0)\"></g>\n\
+</svg>\n";
+
+/// A terminal of today is drawn in its colours, as large as its screen.
+#[test]
+fn picture_of_today_has_its_colours(rt: HostRuntime) -> Result<(), Fail> {
+    let size = Measure {
+        columns: 4,
+        lines: 1,
+    };
+    let job = Job::Picture {
+        at: 500_000,
+        player: Player::Today(Some(size)),
+    };
+    compare(&rt, &done(job, TODAY, "0.5 13\n", TODAY_PICTURE))
 }

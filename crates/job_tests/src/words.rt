@@ -77,7 +77,10 @@ const fn screen(at: u64, profile: Profile) -> Job {
 }
 
 const fn picture(at: u64, profile: Profile) -> Job {
-    Job::Picture { at, profile }
+    Job::Picture {
+        at,
+        player: Player::Vt(profile),
+    }
 }
 
 const fn changes(from: Option<u64>, to: u64, profile: Profile) -> Job {

@@ -244,8 +244,8 @@ enough_paths Screen rows job e =
     (λ at later. after_read (player_in rows) (λ player. after (print_by escaped player) (λ print. Ok (jobs.Screen at print))) job 2
     (λ player last. of_value (print_by escaped player) (λ print. jobs.Screen at print) job 2 (λ print. lit≤ tt) last) later) e
 enough_paths Picture rows job e =
-    after_read (moment_in (id_in At) rows) (λ at. after (profile_in rows) (λ p. Ok (jobs.Picture at p))) job 2
-    (λ at later. of_value (profile_in rows) (λ p. jobs.Picture at p) job 2 (λ p. lit≤ tt) later) e
+    after_read (moment_in (id_in At) rows) (λ at. after (player_in rows) (λ p. Ok (jobs.Picture at p))) job 2
+    (λ at later. of_value (player_in rows) (λ p. jobs.Picture at p) job 2 (λ p. lit≤ tt) later) e
 enough_paths Changes rows job e =
     after_read (moment_given_in (id_in From) rows)
     (λ from. after (moment_in (id_in To) rows) (λ to. after (profile_in rows) (λ p. Ok (jobs.Changes from to p)))) job 2

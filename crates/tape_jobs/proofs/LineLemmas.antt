@@ -554,17 +554,17 @@ module _ (program script timing : Text) (p : IsPlain script) (q : IsPlain timing
 
     pub picture_line : (profile : Option Profile)
         → Asks (program ∷ codes "picture" ∷ codes "--at" ∷ at ∷ (profile_words profile ++ paths))
-        (job.Picture moment (profile_or_first profile)) [] paths
+        (job.Picture moment (Vt (profile_or_first profile))) [] paths
     unfolding clap_on_literals typetool_app app_in name_in flags_in texts_in paths_in id_in rule_in job_in text_in profile_named is_today
     picture_line None =
-        asks_by program Picture (literal (codes "--at") ∷ value_word at ∷ files) are_plain refl (job.Picture moment Vt100) [] paths
-        (moment_read (λ m. job.Picture m Vt100)) refl refl
+        asks_by program Picture (literal (codes "--at") ∷ value_word at ∷ files) are_plain refl (job.Picture moment (Vt Vt100)) [] paths
+        (moment_read (λ m. job.Picture m (Vt Vt100))) refl refl
     picture_line (Some Vt100) =
         asks_by program Picture (literal (codes "--at") ∷ value_word at ∷ as_vt100) are_plain refl
-        (job.Picture moment Vt100) [] paths (moment_read (λ m. job.Picture m Vt100)) refl refl
+        (job.Picture moment (Vt Vt100)) [] paths (moment_read (λ m. job.Picture m (Vt Vt100))) refl refl
     picture_line (Some Vt102) =
         asks_by program Picture (literal (codes "--at") ∷ value_word at ∷ as_vt102) are_plain refl
-        (job.Picture moment Vt102) [] paths (moment_read (λ m. job.Picture m Vt102)) refl refl
+        (job.Picture moment (Vt Vt102)) [] paths (moment_read (λ m. job.Picture m (Vt Vt102))) refl refl
 
     pub reports_line : (profile : Option Profile)
         → Asks (program ∷ codes "reports" ∷ codes "--at" ∷ at ∷ (profile_words profile ++ paths))
@@ -612,6 +612,13 @@ module _ (program script timing : Text) (p : IsPlain script) (q : IsPlain timing
         asks_by program Screen (literal (codes "--at") ∷ value_word at ∷ as_today) are_plain refl
         (job.Screen moment (Plain (Today None))) [] paths (moment_read (λ m. job.Screen m (Plain (Today None)))) refl refl
 
+    pub picture_today_line : Asks (program ∷ codes "picture" ∷ codes "--at" ∷ at ∷ (today_words ++ paths))
+        (job.Picture moment (Today None)) [] paths
+    unfolding clap_on_literals typetool_app app_in name_in flags_in texts_in paths_in id_in rule_in job_in text_in profile_named is_today
+    picture_today_line =
+        asks_by program Picture (literal (codes "--at") ∷ value_word at ∷ as_today) are_plain refl
+        (job.Picture moment (Today None)) [] paths (moment_read (λ m. job.Picture m (Today None))) refl refl
+
     pub reports_today_line : Asks (program ∷ codes "reports" ∷ codes "--at" ∷ at ∷ (today_words ++ paths))
         (job.Reports moment (Today None)) [] paths
     unfolding clap_on_literals typetool_app app_in name_in flags_in texts_in paths_in id_in rule_in job_in text_in profile_named is_today
@@ -639,6 +646,14 @@ module _ (program script timing : Text) (p : IsPlain script) (q : IsPlain timing
           asks_by program Screen (literal (codes "--at") ∷ value_word at ∷ as_sized size) sized_plain refl
           (job.Screen moment (Plain (Today (Some measure)))) [] paths
           (size_read (λ m player. Ok (job.Screen m (Plain player)))) refl refl
+
+      pub picture_sized_line : Asks (program ∷ codes "picture" ∷ codes "--at" ∷ at ∷ (sized_words size ++ paths))
+          (job.Picture moment (Today (Some measure))) [] paths
+      unfolding clap_on_literals typetool_app app_in name_in flags_in texts_in paths_in id_in rule_in job_in text_in profile_named is_today
+      picture_sized_line =
+          asks_by program Picture (literal (codes "--at") ∷ value_word at ∷ as_sized size) sized_plain refl
+          (job.Picture moment (Today (Some measure))) [] paths
+          (size_read (λ m player. Ok (job.Picture m player))) refl refl
 
       pub reports_sized_line : Asks (program ∷ codes "reports" ∷ codes "--at" ∷ at ∷ (sized_words size ++ paths))
           (job.Reports moment (Today (Some measure))) [] paths

@@ -36,8 +36,8 @@ unfaulted (jobs.Check profile) tape lines text g e =
     unfaulted_done (done_on (jobs.Check profile) tape lines text) g refl e
 unfaulted (jobs.Screen at print) tape lines text g e =
     unfaulted_done (done_on (jobs.Screen at print) tape lines text) g refl e
-unfaulted (jobs.Picture at profile) tape lines text g e =
-    unfaulted_done (done_on (jobs.Picture at profile) tape lines text) g refl e
+unfaulted (jobs.Picture at player) tape lines text g e =
+    unfaulted_done (done_on (jobs.Picture at player) tape lines text) g refl e
 unfaulted (jobs.Changes from to profile) tape lines text g e =
     unfaulted_done (done_on (jobs.Changes from to profile) tape lines text) g refl e
 unfaulted (jobs.Find from to profile) tape lines text g e =

@@ -62,7 +62,7 @@ flags_in Due = At ∷ []
 flags_in Info = []
 flags_in Check = Profile ∷ []
 flags_in Screen = At ∷ Escaped ∷ AnyProfile ∷ Size ∷ []
-flags_in Picture = At ∷ Profile ∷ []
+flags_in Picture = At ∷ AnyProfile ∷ Size ∷ []
 flags_in Changes = From ∷ To ∷ Profile ∷ []
 flags_in Find = From ∷ Until ∷ Profile ∷ []
 flags_in Reports = At ∷ AnyProfile ∷ Size ∷ []
@@ -301,8 +301,8 @@ job_in Screen rows =
     after (moment_in (id_in At) rows) (λ at. after (player_in rows) (λ player.
     after (print_by (switch_in (id_in Escaped) rows) player) (λ print. Ok (job.Screen at print))))
 job_in Picture rows =
-    after (moment_in (id_in At) rows) (λ at. after (profile_in rows) (λ profile.
-    Ok (job.Picture at profile)))
+    after (moment_in (id_in At) rows) (λ at. after (player_in rows) (λ player.
+    Ok (job.Picture at player)))
 job_in Changes rows =
     after (moment_given_in (id_in From) rows) (λ from. after (moment_in (id_in To) rows) (λ to.
     after (profile_in rows) (λ profile. Ok (job.Changes from to profile))))
@@ -419,7 +419,7 @@ path_count (job.Due at) = 2
 path_count job.Info = 2
 path_count (job.Check profile) = 2
 path_count (job.Screen at print) = 2
-path_count (job.Picture at profile) = 2
+path_count (job.Picture at player) = 2
 path_count (job.Changes from to profile) = 2
 path_count (job.Find from to profile) = 2
 path_count (job.Reports at player) = 2

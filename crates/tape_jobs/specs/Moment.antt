@@ -19,6 +19,9 @@ use Rattle.tape_jobs.specs.declared.jobs.moment.AskedOfToday.{AskedOfToday}
 use Rattle.tape_jobs.specs.declared.jobs.moment.AskedOfToday.TheVariants as today
 use Rattle.vt_term.specs.Console.{Console}
 use Rattle.vt_term.specs.Term.{Term}
+use Rattle.xterm_picture.specs.Picture.{picture_text as picture_today}
+use Rattle.xterm_picture.specs.Still.{still_of as still_today}
+use Rattle.xterm_term.specs.Console.{Console as TodayConsole}
 use Rattle.xterm_term.specs.Term.{Term as TodayTerm}
 use Rattle.xterm_print.specs.PlainText.{plain_text as plain_today}
 
@@ -46,10 +49,20 @@ sent_at (Today asked) tape at = hex_line (today_at asked tape at).reports
 abbrev pub drawn_text : ℕ → Console → List ℕ
 drawn_text at s = picture_text (min at last_moment) (still_of s)
 
--- Private: what is asked of a terminal of today, as a text (ours)
-abbrev pub asked_of_today : AskedOfToday → TodayTerm → List ℕ
-asked_of_today today.Screen term = plain_today term.console.picture
-asked_of_today today.Reports term = hex_line term.reports
+-- the same of a terminal of today, in its colours (ours)
+abbrev pub drawn_today : ℕ → TodayConsole → List ℕ
+drawn_today at s = picture_today (min at last_moment) (still_today s)
+
+-- the screen at a moment, as a picture of its terminal (ours)
+unfoldable pub drawn_at : Player → Tape → ℕ → List ℕ
+drawn_at (Vt profile) tape at = drawn_text at (term_at profile tape at).console
+drawn_at (Today asked) tape at = drawn_today at (today_at asked tape at).console
+
+-- Private: what is asked of a terminal of today at a moment, as a text (ours)
+abbrev pub asked_of_today : AskedOfToday → ℕ → TodayTerm → List ℕ
+asked_of_today today.Screen at term = plain_today term.console.picture
+asked_of_today today.Picture at term = drawn_today at term.console
+asked_of_today today.Reports at term = hex_line term.reports
 
 -- Private: what is asked of a terminal, as a text (ours)
 abbrev pub asked_text : Asked → Term → List ℕ

@@ -32,7 +32,7 @@ vt_of_print (Escaped profile) = Some profile
 -- as which terminal a job plays the recording, if it plays it (ours)
 abbrev pub played_by : Job → Option Profile
 played_by (Screen at print) = vt_of_print print
-played_by (Picture at profile) = Some profile
+played_by (Picture at player) = vt_of player
 played_by (Changes from to profile) = Some profile
 played_by (Find from to profile) = Some profile
 played_by (Reports at player) = vt_of player

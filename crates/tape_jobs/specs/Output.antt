@@ -14,11 +14,10 @@ use Rattle.tape_core.specs.declared.fault.Fault.TheVariants.{NoHeader}
 use Rattle.tape_mend.specs.Mended.{Remains, mended, seen}
 use Rattle.tape_mend.specs.Told.{is_damaged}
 use Rattle.tape_mend.specs.declared.opening.Header.{Header}
-use Rattle.tape_seek.specs.Moments.{term_at}
 use Rattle.vt_term.specs.declared.profile.Profile.TheVariants.{Vt100}
 use Rattle.tape_seek.specs.declared.edits.EditFault.{EditFault}
 use Rattle.tape_jobs.specs.Info.{info_text}
-use Rattle.tape_jobs.specs.Moment.{drawn_text, printed_at, sent_at}
+use Rattle.tape_jobs.specs.Moment.{drawn_at, printed_at, sent_at}
 use Rattle.tape_jobs.specs.Player.{cast_of}
 use Rattle.tape_jobs.specs.Requests.{saved, started}
 use Rattle.tape_jobs.specs.Session.{answered, any_refused}
@@ -116,8 +115,7 @@ done_on Info tape requests text = done_with (info_text tape) []
 done_on (Check profile) tape requests text =
     done_ending (check_text profile tape) (ending_of_check (is_noted profile tape))
 done_on (Screen at print) tape requests text = done_with (printed_at print tape at) []
-done_on (Picture at profile) tape requests text =
-    done_with (drawn_text at (term_at profile tape at).console) []
+done_on (Picture at player) tape requests text = done_with (drawn_at player tape at) []
 done_on (Changes from to profile) tape requests text =
     done_with (change_lines profile tape from to) []
 done_on (Find from to profile) tape requests text =

@@ -56,7 +56,7 @@ pub enum Job {
     /// Write the screen of a moment as a picture.
     Picture {
         at: u64,
-        profile: Profile,
+        player: Player,
     },
     /// Write which lines of the screen each chunk changes, of those that are due after `from` (None: from chunk 0 on) and
     /// by `to`.
@@ -322,7 +322,7 @@ fn perform<O: Write, P: Write>(
             return write_checked(alloc, &ManuallyDrop::new(recording), profile, out);
         }
         Job::Screen { at, print } => write_screen(alloc, recording, print, at, out)?,
-        Job::Picture { at, profile } => write_picture(alloc, recording, profile, at, out)?,
+        Job::Picture { at, player } => write_picture(alloc, recording, player, at, out)?,
         Job::Changes { from, to, profile } => {
             write_changes(alloc, recording, profile, from, to, out)?
         }

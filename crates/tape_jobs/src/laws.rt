@@ -51,7 +51,14 @@ pub fn plain_lines_are_read()
     ensures picture { (at : Text) (moment : ℕ) → seconds_of at ≡ Some moment
         → (profile : Option Profile) → LineAsks (codes "picture")
         (codes "--at" ∷ at ∷ profile_words profile)
-        (job.Picture moment (profile_or_first profile)) }
+        (job.Picture moment (Vt (profile_or_first profile))) }
+    ensures picture_today { (at : Text) (moment : ℕ) → seconds_of at ≡ Some moment
+        → LineAsks (codes "picture") (codes "--at" ∷ at ∷ today_words)
+        (job.Picture moment (Today None)) }
+    ensures picture_sized { (at : Text) (moment : ℕ) → seconds_of at ≡ Some moment
+        → (size : Text) (measure : Measure) → size_named size ≡ Some measure
+        → LineAsks (codes "picture") (codes "--at" ∷ at ∷ sized_words size)
+        (job.Picture moment (Today (Some measure))) }
     ensures changes { (to : Text) (moment : ℕ) → seconds_of to ≡ Some moment
         → (profile : Option Profile) → LineAsks (codes "changes")
         (codes "--to" ∷ to ∷ profile_words profile)

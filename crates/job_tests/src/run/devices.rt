@@ -147,7 +147,13 @@ fn cases() -> [Case<'static>; 11] {
             screen,
             b"ab\n\n\n\n\n\n\n\n\n\n\n\n\n\n\n\n\n\n\n\n\n\n\n\n",
         ),
-        plain_case(Job::Picture { at: END, profile }, AB_PICTURE.as_bytes()),
+        plain_case(
+            Job::Picture {
+                at: END,
+                player: Player::Vt(profile),
+            },
+            AB_PICTURE.as_bytes(),
+        ),
         plain_case(changes, b"0 0.000000 1\n1 0.500000 1\n"),
         find_case(profile),
         plain_case(

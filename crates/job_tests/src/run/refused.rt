@@ -185,7 +185,7 @@ fn run_escaped_screen(rt: HostRuntime) -> Result<(), Fail> {
 fn run_picture(rt: HostRuntime) -> Result<(), Fail> {
     let job = Job::Picture {
         at: 500_000,
-        profile: Profile::Vt100,
+        player: Player::Vt(Profile::Vt100),
     };
     compare(&rt, plain_case(job, AB_PICTURE.as_bytes()))
 }

@@ -43,7 +43,13 @@ fn reads_sizes(rt: HostRuntime) -> Result<(), Fail> {
         })),
     };
     let line = "typetool reports --at=1 --profile=xterm --size=9x3 s t";
-    compare_job(&rt, line, reports)
+    compare_job(&rt, line, reports)?;
+    let picture = Job::Picture {
+        at: 1_000_000,
+        player: Player::Today(None),
+    };
+    let line = "typetool picture s --profile=xterm --at=1 t";
+    compare_job(&rt, line, picture)
 }
 
 /// What a line is refused for.

@@ -14,8 +14,10 @@ use crate::shared::{Asked, EVERY, open_session, put_hex_line, put_moment};
 use std::alloc::Global;
 use std::io::Write;
 use std::mem::ManuallyDrop;
+use tape_core::limits::LAST_MOMENT;
 use tape_core::{Recording, Watched};
 use vt_term::Profile;
+use xterm_picture::picture;
 
 /// Prints the screen of the moment, and flushes. Nothing is written where memory is refused.
 #[tactic(auto, unfolding(crate::specs::Moment::printed_at))]
@@ -93,12 +95,14 @@ fn write_moment<O: Write>(
 pub enum AskedOfToday {
     /// Its screen as plain text.
     Screen,
+    /// Its screen as a picture.
+    Picture,
     /// All that it has sent.
     Reports,
 }
 
 /// Writes what is asked of a terminal of today at the moment, and flushes.
-fn write_today<O: Write>(
+pub fn write_today<O: Write>(
     alloc: Global,
     recording: Recording,
     asked_size: Option<Measure>,
@@ -108,7 +112,7 @@ fn write_today<O: Write>(
 ) -> Result<(), JobFault>
     requires { has_failed out.old ≡ false }
     ensures puts { JobPuts O.contents out.old out.new
-        (asked_of_today asked (today_at asked_size recording at)) result }
+        (asked_of_today asked at (today_at asked_size recording at)) result }
     ensures flushed { OnOk result (is_flushed out.new ≡ true) }
     ensures unwritten { result ≡ Err JobFault.Memory → out.new ≡ out.old }
 {
@@ -119,6 +123,7 @@ fn write_today<O: Write>(
     let view = xterm_print::seek(&mut session, at)?;
     match asked {
         AskedOfToday::Screen => xterm_print::plain(view.terminal(), out)?,
+        AskedOfToday::Picture => picture(view.terminal(), at.min(LAST_MOMENT), out)?,
         AskedOfToday::Reports => put_hex_line(view.reports(), out)?,
     }
     Ok(())

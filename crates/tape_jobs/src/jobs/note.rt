@@ -45,9 +45,10 @@ fn played_by(job: Job) -> Option<Profile>
 {
     match job {
         Job::Screen { print, .. } => vt_of_print(print),
-        Job::Reports { player, .. } | Job::Cast { player } => vt_of(player),
-        Job::Picture { profile, .. }
-        | Job::Changes { profile, .. }
+        Job::Picture { player, .. } | Job::Reports { player, .. } | Job::Cast { player } => {
+            vt_of(player)
+        }
+        Job::Changes { profile, .. }
         | Job::Find { profile, .. }
         | Job::Page { profile }
         | Job::Session { profile, .. } => Some(profile),

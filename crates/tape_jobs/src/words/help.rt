@@ -144,7 +144,8 @@ pub fn details_of<'a>(subcommand: Subcommand) -> &'a str {
         }
         Subcommand::Picture => {
             "One file for browsers and programs that draw SVG, which needs nothing else: line drawing, double\n\
-             sizes, renditions and the cursor on an exact grid, and text that can be copied.\n\n\
+             sizes, renditions and the cursor on an exact grid, and text that can be copied. With --profile\n\
+             xterm in the colours of a terminal of today.\n\n\
              Example: typetool picture --at 12.5 demo.script demo.timing >screen.svg\n\n\
              The long form: man typetool"
         }

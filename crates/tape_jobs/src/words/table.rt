@@ -123,8 +123,9 @@ pub fn flags_of(subcommand: Subcommand) -> &'static [Argument]
         ],
         Subcommand::Changes => &[Argument::From, Argument::To, Argument::Profile],
         Subcommand::Find => &[Argument::From, Argument::Until, Argument::Profile],
-        Subcommand::Picture => &[Argument::At, Argument::Profile],
-        Subcommand::Reports => &[Argument::At, Argument::AnyProfile, Argument::Size],
+        Subcommand::Picture | Subcommand::Reports => {
+            &[Argument::At, Argument::AnyProfile, Argument::Size]
+        }
         Subcommand::Mend => &[Argument::Last, Argument::Headless],
         Subcommand::Session => &[Argument::Every, Argument::Profile],
         Subcommand::Info | Subcommand::Save => &[],

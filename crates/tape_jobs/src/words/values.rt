@@ -57,7 +57,7 @@ pub fn read_job(subcommand: Subcommand, values: &ArgMatches<'_>) -> Result<Job, 
         Subcommand::Screen => read_screen(values),
         Subcommand::Picture => Ok(Job::Picture {
             at: read_moment(values, Argument::At)?,
-            profile: read_profile(values)?,
+            player: read_player(values)?,
         }),
         Subcommand::Changes => Ok(Job::Changes {
             from: read_moment_given(values, Argument::From)?,

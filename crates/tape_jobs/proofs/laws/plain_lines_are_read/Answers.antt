@@ -1,4 +1,4 @@
-use Rattle.tape_jobs.proofs.LineLemmas.{cast_line, cast_sized_line, cast_today_line, changes_from_line, changes_line, check_line, due_line, find_between_line, find_line, info_line, mend_line, page_line, page_titled_line, picture_line, reports_line, reports_sized_line, reports_today_line, save_line, screen_line, screen_sized_line, screen_today_line, session_every_line, session_line}
+use Rattle.tape_jobs.proofs.LineLemmas.{cast_line, cast_sized_line, cast_today_line, changes_from_line, changes_line, check_line, due_line, find_between_line, find_line, info_line, mend_line, page_line, page_titled_line, picture_line, picture_sized_line, picture_today_line, reports_line, reports_sized_line, reports_today_line, save_line, screen_line, screen_sized_line, screen_today_line, session_every_line, session_line}
 use Rattle.tape_jobs.proofs.laws.plain_lines_are_read.Goals as goal
 
 pub returns-clause-due : goal.returns-clause-due
@@ -29,6 +29,13 @@ returns-clause-reports_sized c = λ at moment e size measure d program script ti
 
 pub returns-clause-picture : goal.returns-clause-picture
 returns-clause-picture c = λ at moment e profile program script timing p q. picture_line program script timing p q at moment e profile
+
+pub returns-clause-picture_today : goal.returns-clause-picture_today
+returns-clause-picture_today c = λ at moment e program script timing p q. picture_today_line program script timing p q at moment e
+
+pub returns-clause-picture_sized : goal.returns-clause-picture_sized
+returns-clause-picture_sized c = λ at moment e size measure d program script timing p q.
+    picture_sized_line program script timing p q at moment e size measure d
 
 pub returns-clause-changes : goal.returns-clause-changes
 returns-clause-changes c = λ to moment e profile program script timing p q. changes_line program script timing p q to moment e profile
