@@ -5,7 +5,7 @@ _typetool() {
     local -A taken=(
         [due]='--at --help' [info]='--help' [check]='--profile --help' [screen]='--at --escaped --profile --size --help' [save]='--help'
         [picture]='--at --profile --size --help' [page]='--profile --title --help' [cast]='--profile --size --help'
-        [mend]='--last --headless --help'
+        [mend]='--last --headless --help' [redact]='--profile --size --help'
         [changes]='--from --to --profile --help' [find]='--from --to --profile --help' [reports]='--at --profile --size --help' [session]='--every --profile --help'
     )
     if [ "$COMP_CWORD" = 1 ]; then
@@ -25,7 +25,7 @@ _typetool() {
     case $last in
     --profile)
         flags='vt100 vt102'
-        case ${COMP_WORDS[1]} in screen | picture | reports | cast) flags+=' xterm' ;; esac
+        case ${COMP_WORDS[1]} in screen | picture | reports | cast | redact) flags+=' xterm' ;; esac
         mapfile -t COMPREPLY < <(compgen -W "$flags" -- "$word")
         ;;
     --at | --from | --to | --every | --size | --title) COMPREPLY=() ;;

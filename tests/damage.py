@@ -135,6 +135,9 @@ class Damage:
             self.expect(words[0], self.run([*words, "s", "t"], b"info\n"), told)
         self.expect("save", self.run(["save", "s", "t", "s2", "t2"], b"cap 1\n"), told)
         self.expect("what save left", (self.text("s2"), self.text("t2")), (b"", b""))
+        self.remove_new()
+        self.expect("redact", self.run(["redact", "a", "s", "t", "s2", "t2"]), (3, b"", errors))
+        self.expect("what redact left", (self.text("s2"), self.text("t2")), (b"", b""))
 
     def played(self, recording):
         at = moment(self.rng)

@@ -77,6 +77,7 @@ COMMANDS = [
     (["cast", "s", "t"], b""),
     (["save", "s", "t", "s2", "t2"], REQUESTS),
     (["mend", "s", "t", "s2", "t2"], b""),
+    (["redact", "line 5", "s", "t", "s2", "t2"], b""),
     (["session", "s", "t"], REQUESTS + b"screen 99\nreports 99\nchanges - 99\nscreen 0\nlog\ninfo\n"),
 ]
 

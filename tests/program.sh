@@ -356,6 +356,32 @@ holds 'a header that is made' new.script 'Script started\nno line'
 printf '%bold\nScript done on X\n%bab' "$head" 'Script started on Y\n' >appended.script
 mended 'a typescript that was appended to' 0 '' '' appended.script ab.timing --last
 holds 'a typescript that was appended to' new.script 'Script started on Y\nab'
+# redacted NAME STATUS OUT TEXT SCRIPT TIMING: takes a text out of a pair into new.script and new.timing.
+redacted() {
+    rm -f new.script new.timing
+    "$program" redact "$4" "$5" "$6" new.script new.timing </dev/null >out.txt 2>err.txt
+    verdict "redacted: $1" "$2" $? "$3" ''
+}
+printf '%bsecret x' "$head" >secret.script
+printf '0 2\n0.5 6\n' >secret.timing
+redacted 'over the border of two chunks' 0 'redacted 1\n' secret secret.script secret.timing
+check 'what is left of a secret' 0 '****** x' '' due --at 1 new.script new.timing
+check 'its delays and counts' 0 'chunks 2\nbytes 8\nlength 0.500000\nheader 20\ntrailer 0\n' '' info new.script new.timing
+printf '%bsex\bcret' "$head" >typed.script
+printf '0 8\n' >typed.timing
+redacted 'what was typed with a correction' 1 'redacted 0\n+ 0 0.000000 1 1 secret\n' secret typed.script typed.timing
+printf '%baaa' "$head" >aaa.script
+printf '0 3\n' >aaa.timing
+redacted 'overlapping' 0 'redacted 2\n' aa aaa.script aaa.timing
+printf '%bab' "$head" >trailed.script
+printf '0 1\n' >trailed.timing
+redacted 'into the trailer' 1 'redacted 1\n' ab trailed.script trailed.timing
+rm -f new.script new.timing
+check 'a secret in a damaged pair' 3 '' "typetool: typescript ends inside chunk 0\n$(hint "$keeps")" \
+    redact a aaa.script secret.timing new.script new.timing
+rm -f new.script new.timing
+check 'a secret with a star' 2 '' 'typetool: bad text\n' redact 'a*' nowhere nowhere none none
+check 'a secret under xterm' 2 '' 'typetool: not yet with --profile xterm\n' redact --profile xterm '*' nowhere nowhere none none
 check 'both headers' 2 '' 'typetool: --last and --headless exclude each other\n' mend --last --headless nowhere nowhere none none
 status 'mend with a profile' 2 mend --profile vt100 ab.script ab.timing none none
 rm -f new.script new.timing

@@ -51,10 +51,15 @@ def mended(script, timing):
     return mend_reader.mend("", script, timing)[:2]
 
 
+def redacted(script, timing):
+    return script.replace(b"started on", b"*" * 10), plain.save(plain.read(script, timing), b"")[1]
+
+
 # A job: its name and flags, what it reads from standard input, and the pair that it makes of one.
 JOBS = [
     (["save"], EDITS, saved),
     (["mend"], b"", mended),
+    (["redact", "started on"], b"", redacted),
 ]
 
 

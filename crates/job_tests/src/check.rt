@@ -87,6 +87,7 @@ fn jobs_that_play_tell_a_note(rt: HostRuntime) {
         Job::Reports { at, player },
         Job::Page { profile },
         Job::Cast { player },
+        Job::Redact { profile },
         Job::Session { every: 1, profile },
     ];
     for job in &told {

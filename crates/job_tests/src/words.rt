@@ -9,6 +9,7 @@ mod every;
 mod find;
 mod flags;
 mod mend;
+mod redact;
 mod sizes;
 mod title;
 

@@ -12,3 +12,4 @@ mod words;
 
 pub use check::{CheckFault, put_parts, write_check};
 pub use header::told_size;
+pub use trailer::is_usual;

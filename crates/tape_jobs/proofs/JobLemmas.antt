@@ -83,6 +83,7 @@ same_lines (jobs.Reports at player) tape one other text same = refl
 same_lines (jobs.Page profile) tape one other text same = refl
 same_lines (jobs.Cast player) tape one other text same = refl
 same_lines (jobs.Mend how) tape one other text same = refl
+same_lines (jobs.Redact profile) tape one other text same = refl
 same_lines jobs.Save tape one other text same = ap (λ r. done_on jobs.Save tape r text) (same refl)
 same_lines (jobs.Session every profile) tape one other text same =
     ap (λ r. done_on (jobs.Session every profile) tape r text) (same refl)

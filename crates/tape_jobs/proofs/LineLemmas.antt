@@ -17,7 +17,7 @@ use Rattle.clap.proofs.OnLiterals.{clap_on_literals}
 use Rattle.tape_jobs.proofs.CommandLemmas.{is_simple_app, means, means_job}
 use Rattle.tape_core.specs.Seconds.{last_moment, micros, seconds_of}
 use Rattle.tape_seek.specs.Requests.{place_of}
-use Rattle.tape_jobs.specs.CommandLine.{typetool_app, clap_takes, every_allowed, every_of, usual_every, after, readable, job_in, is_searchable, moment_if, moment_or_last, profile_named, is_today, size_cut, size_from, size_named, stem_of, today_if, searchable, value_in, subcommand_in, app_in, name_in, id_in, rule_in, flags_in, texts_in, text_in, paths_in}
+use Rattle.tape_jobs.specs.CommandLine.{typetool_app, clap_takes, every_allowed, every_of, usual_every, after, readable, job_in, is_searchable, is_secret, moment_if, moment_or_last, profile_named, is_today, size_cut, size_from, size_named, stem_of, today_if, searchable, secret, value_in, subcommand_in, app_in, name_in, id_in, rule_in, flags_in, texts_in, text_in, paths_in}
 use Rattle.tape_jobs.specs.Lines.{Asks, IsPlain, escaped_words, header_words, profile_or_first, profile_words, sized_words, today_words, vt_print}
 use Rattle.tape_mend.specs.declared.opening.Header.{Header}
 use Rattle.tape_mend.specs.declared.opening.Header.TheVariants.{Kept, Last, Made}
@@ -32,7 +32,7 @@ use Rattle.tape_jobs.specs.declared.player.Print.TheVariants.{Plain, Escaped}
 use Rattle.tape_jobs.specs.declared.words.values.Unreadable.{Unreadable}
 use Rattle.tape_jobs.specs.declared.words.values.Unreadable.TheVariants as unread
 use Rattle.tape_jobs.specs.declared.words.table.Subcommand.{Subcommand}
-use Rattle.tape_jobs.specs.declared.words.table.Subcommand.TheVariants.{Due, Info, Check, Screen, Picture, Changes, Find, Reports, Page, Cast, Save, Mend, Session}
+use Rattle.tape_jobs.specs.declared.words.table.Subcommand.TheVariants.{Due, Info, Check, Screen, Picture, Changes, Find, Reports, Page, Cast, Save, Mend, Redact, Session}
 
 both_true : (a b : Bool) → a ≡ true → b ≡ true → (a && b) ≡ true
 both_true a b e f = ap₂ (λ x y. x && y) e f
@@ -252,6 +252,7 @@ enters Page words = halted_walk (built typetool_app).top.rules (names_of (built 
 enters Cast words = halted_walk (built typetool_app).top.rules (names_of (built typetool_app)) (name_in Cast) [] words
 enters Save words = halted_walk (built typetool_app).top.rules (names_of (built typetool_app)) (name_in Save) [] words
 enters Mend words = halted_walk (built typetool_app).top.rules (names_of (built typetool_app)) (name_in Mend) [] words
+enters Redact words = halted_walk (built typetool_app).top.rules (names_of (built typetool_app)) (name_in Redact) [] words
 enters Session words = halted_walk (built typetool_app).top.rules (names_of (built typetool_app)) (name_in Session) [] words
 
 enter_passes : (s : Subcommand) (words : List Text)
@@ -269,6 +270,7 @@ enter_passes Page words = halted_passes (built typetool_app).top (names_of (buil
 enter_passes Cast words = halted_passes (built typetool_app).top (names_of (built typetool_app)) (name_in Cast) [] words
 enter_passes Save words = halted_passes (built typetool_app).top (names_of (built typetool_app)) (name_in Save) [] words
 enter_passes Mend words = halted_passes (built typetool_app).top (names_of (built typetool_app)) (name_in Mend) [] words
+enter_passes Redact words = halted_passes (built typetool_app).top (names_of (built typetool_app)) (name_in Redact) [] words
 enter_passes Session words = halted_passes (built typetool_app).top (names_of (built typetool_app)) (name_in Session) [] words
 
 -- what is entered is the subcommand
@@ -287,6 +289,7 @@ entered_leaf Page words = refl
 entered_leaf Cast words = refl
 entered_leaf Save words = refl
 entered_leaf Mend words = refl
+entered_leaf Redact words = refl
 entered_leaf Session words = refl
 
 leaf_passes : (s : Subcommand) (words : List Text) → level_passes (leaf s) [] nothing_held words false ≡ true
@@ -304,6 +307,7 @@ leaf_passes Page words e = e
 leaf_passes Cast words e = e
 leaf_passes Save words e = e
 leaf_passes Mend words e = e
+leaf_passes Redact words e = e
 leaf_passes Session words e = e
 
 above_passes : settles (built typetool_app).top nothing_held true ≡ true
@@ -773,6 +777,32 @@ module _ (program script timing : Text) (p : IsPlain script) (q : IsPlain timing
       find_between_line (Some Vt102) =
           asks_by program Find (between (Some Vt102)) between_plain refl (job.Find (Some start) end Vt102) (chars text) paths
           (between_read Vt102) refl refl
+
+  -- the line with a text that is taken out
+  module _ (text : Text) (r : IsPlain text) (hidden : is_secret (chars text) ≡ true) (new_script new_timing : Text)
+      (t : IsPlain new_script) (u : IsPlain new_timing) where
+    abbrev new_files : List Word
+    new_files = value_word text ∷ value_word script ∷ value_word timing ∷ value_word new_script ∷ value_word new_timing ∷ []
+
+    abbrev all_paths : List Text
+    all_paths = script ∷ timing ∷ new_script ∷ new_timing ∷ []
+
+    secret_read : (job : Job) → after (readable unread.Text (secret (chars text))) (λ t. Ok job) ≡ Ok job
+    secret_read job = ap (λ b. after (readable unread.Text (if b then Some (chars text) else None)) (λ t. Ok job)) hidden
+
+    pub redact_line : (profile : Option Profile)
+        → Asks (program ∷ codes "redact" ∷ (profile_words profile ++ text ∷ all_paths))
+        (job.Redact (profile_or_first profile)) (chars text) all_paths
+    unfolding clap_on_literals typetool_app app_in name_in flags_in texts_in paths_in id_in rule_in job_in text_in profile_named is_today
+    redact_line None =
+        asks_by program Redact new_files (r, (p, (q, (t, (u, tt))))) refl (job.Redact Vt100) (chars text) all_paths
+        (secret_read (job.Redact Vt100)) refl refl
+    redact_line (Some Vt100) =
+        asks_by program Redact (literal (codes "--profile") ∷ literal (codes "vt100") ∷ new_files) (r, (p, (q, (t, (u, tt))))) refl
+        (job.Redact Vt100) (chars text) all_paths (secret_read (job.Redact Vt100)) refl refl
+    redact_line (Some Vt102) =
+        asks_by program Redact (literal (codes "--profile") ∷ literal (codes "vt102") ∷ new_files) (r, (p, (q, (t, (u, tt))))) refl
+        (job.Redact Vt102) (chars text) all_paths (secret_read (job.Redact Vt102)) refl refl
 
   -- the line with a number of chunks
   module _ (every : Text) (count : ℕ) (e : every_of every ≡ Some count) where

@@ -40,6 +40,7 @@ is_mend (jobs.Page profile) how e = absurd (cc)
 is_mend (jobs.Cast player) how e = absurd (cc)
 is_mend jobs.Save how e = absurd (cc)
 is_mend (jobs.Mend other) how e = let same : other ≡ how = cc in ap (λ h. jobs.Mend h) same
+is_mend (jobs.Redact profile) how e = absurd (cc)
 is_mend (jobs.Session every profile) how e = absurd (cc)
 
 module _ (how : Header) (script timing : List ℕ) where

@@ -50,6 +50,8 @@ unfaulted (jobs.Cast player) tape lines text g e =
     unfaulted_done (done_on (jobs.Cast player) tape lines text) g refl e
 unfaulted (jobs.Mend how) tape lines text g e =
     unfaulted_done (done_on (jobs.Mend how) tape lines text) g refl e
+unfaulted (jobs.Redact profile) tape lines text g e =
+    unfaulted_done (done_on (jobs.Redact profile) tape lines text) g refl e
 unfaulted jobs.Save tape lines text g e = unfaulted_save (saved 1 (started Vt100 tape) (lines_of lines)) g e
 unfaulted (jobs.Session every profile) tape lines text g e =
     unfaulted_done (done_on (jobs.Session every profile) tape lines text) g refl e

@@ -10,7 +10,7 @@ use Rattle.tape_core.specs.declared.fault.Fault.TheVariants as fault
 use Rattle.tape_jobs.specs.Endings.{AsksNothing, Device, HoldFiles, Readers}
 use Rattle.tape_jobs.specs.Output.{Files}
 use Rattle.tape_jobs.specs.declared.job.Job.{Job}
-use Rattle.tape_jobs.specs.declared.job.Job.TheVariants.{Screen, Picture, Changes, Find, Reports, Page, Cast, Session}
+use Rattle.tape_jobs.specs.declared.job.Job.TheVariants.{Screen, Picture, Changes, Find, Reports, Page, Cast, Redact, Session}
 use Rattle.tape_jobs.specs.declared.job.JobFault.{JobFault}
 use Rattle.tape_jobs.specs.declared.job.JobFault.TheVariants.{File}
 use Rattle.tape_jobs.specs.declared.player.Player.{Player}
@@ -38,6 +38,7 @@ played_by (Find from to profile) = Some profile
 played_by (Reports at player) = vt_of player
 played_by (Page profile) = Some profile
 played_by (Cast player) = vt_of player
+played_by (Redact profile) = Some profile
 played_by (Session every profile) = Some profile
 played_by _ = None
 

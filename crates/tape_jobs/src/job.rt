@@ -19,6 +19,7 @@ use crate::jobs::moment::{write_reports, write_screen};
 use crate::jobs::note::tell_note;
 use crate::jobs::page::write_page;
 use crate::jobs::picture::write_picture;
+use crate::jobs::redact::write_redacted;
 use crate::jobs::save::write_edited;
 use crate::jobs::session::write_answers;
 use crate::player::{Player, Print};
@@ -91,6 +92,11 @@ pub enum Job {
     Mend {
         header: Header,
     },
+    /// Write both files anew without a text, with `*` over each byte of it. The text stands beside the job. What is told
+    /// of it besides is told by `redact`.
+    Redact {
+        profile: Profile,
+    },
     /// Answer request lines. A terminal is stored at every so many chunks, of 1 to 1,000,000.
     Session {
         every: usize,
@@ -109,16 +115,18 @@ pub enum Ending {
     WithNotes,
     /// Of a pair of files that was mended a line or a chunk was left out or cut.
     WithLosses,
+    /// A text that was taken out stood nowhere, or something of it may be left.
+    WithTraces,
 }
 
 impl Ending {
-    /// The status of the program: 1 where a line was refused, something noted or something lost, and else 0.
+    /// The status of the program: 1 where a line was refused, something noted, lost or left, and else 0.
     fn status(self) -> u8
         ensures { result ≡ status_after self }
     {
         match self {
             Ending::Clean => 0,
-            Ending::WithRefusals | Ending::WithNotes | Ending::WithLosses => 1,
+            Ending::WithRefusals | Ending::WithNotes | Ending::WithLosses | Ending::WithTraces => 1,
         }
     }
 }
@@ -245,8 +253,8 @@ pub fn run<S: Read, T: Read, R: Read, O: Write, P: Write>(
     )
 }
 
-/// Does a job as `run` does, with a text beside it, which is what `find` looks for and the title of a page, and tells the
-/// note of the recording.
+/// Does a job as `run` does, with a text beside it, which is what `find` looks for, what `redact` takes out and the title of
+/// a page, and tells the note of the recording.
 ///
 /// Where a job plays a recording, the note says what of it this terminal plays otherwise than it was recorded. A note that
 /// can't be written, or not whole, changes neither the outcome nor the output.
@@ -334,6 +342,9 @@ fn perform<O: Write, P: Write>(
         Job::Cast { player } => write_cast(alloc, recording, player, out)?,
         Job::Save => return write_edited(alloc, recording, &requests, out, out_timing),
         Job::Mend { .. } => unreachable!(),
+        Job::Redact { profile } => {
+            return write_redacted(alloc, recording, profile, text, out, out_timing);
+        }
         Job::Session { every, profile } => {
             return write_answers(alloc, recording, profile, every, &requests, out);
         }

@@ -11,5 +11,6 @@ pub mod moment;
 pub mod note;
 pub mod page;
 pub mod picture;
+pub mod redact;
 pub mod save;
 pub mod session;

@@ -4,7 +4,7 @@ ghost use Rattle.std.specs.Prelude.{◌≡◌, ◌++◌, ◌∷◌, [], ℕ, Boo
 ghost use Rattle.clap.specs.Words.{Text};
 ghost use Rattle.tape_core.specs.Seconds.{last_moment, seconds_of};
 ghost use Rattle.tape_jobs.specs.CommandLine.{every_of, size_named, stem_of, usual_every};
-ghost use Rattle.tape_jobs.specs.Lines.{Asks, FindAsks, IsPlain, LineAsks, PageAsks, escaped_words, header_words, profile_or_first, profile_words, sized_words, today_words, vt_print};
+ghost use Rattle.tape_jobs.specs.Lines.{Asks, FindAsks, IsPlain, LineAsks, PageAsks, RedactAsks, escaped_words, header_words, profile_or_first, profile_words, sized_words, today_words, vt_print};
 ghost use Rattle.tape_mend.specs.declared.opening.Header.{Header};
 ghost use Rattle.vt_term.specs.declared.profile.Profile.{Profile};
 ghost use Rattle.tape_jobs.specs.declared.job.Job.TheVariants as job;
@@ -104,6 +104,8 @@ pub fn plain_lines_are_read()
         → Asks (program ∷ codes "mend"
         ∷ (header_words how ++ script ∷ timing ∷ new_script ∷ new_timing ∷ []))
         (job.Mend how) [] (script ∷ timing ∷ new_script ∷ new_timing ∷ []) }
+    ensures redact { (profile : Option Profile) → RedactAsks (profile_words profile)
+        (job.Redact (profile_or_first profile)) }
     ensures session { (profile : Option Profile) → LineAsks (codes "session")
         (profile_words profile) (job.Session usual_every (profile_or_first profile)) }
     ensures session_every { (every : Text) (count : ℕ) → every_of every ≡ Some count

@@ -10,5 +10,6 @@ mod words;
 
 pub use job::{Ending, Job, JobFault, Outcome, run, run_with};
 pub use jobs::mend::mend;
+pub use jobs::redact::redact;
 pub use player::{Measure, Player, Print};
 pub use words::{VERSION, Words, WordsFault, read_words};

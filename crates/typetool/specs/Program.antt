@@ -1,10 +1,12 @@
 -- The statuses of the program.
-use Rattle.std.specs.Prelude.{◌≡◌, ◌⊎◌, ◌++◌, ℕ, List, MatchOption, codes, string_bytes}
+use Rattle.std.specs.Prelude.{◌≡◌, ◌⊎◌, ◌++◌, ℕ, Bool, true, false, List, MatchOption, codes, string_bytes, if◌then◌else◌}
 use Rattle.clap.specs.Words.{kind_of}
 use Rattle.clap.specs.declared.error.ErrorKind.{ErrorKind}
 use Rattle.clap.specs.declared.error.ErrorKind.TheVariants.{DisplayHelp, DisplayVersion}
 use Rattle.tape_jobs.specs.Output.{Comes, Done, Files, IsDoneStatus, status_of}
 use Rattle.tape_jobs.specs.declared.job.Job.{Job}
+use Rattle.tape_jobs.specs.declared.job.Job.TheVariants.{Redact}
+use Rattle.tape_jobs.specs.declared.job.JobFault.{JobFault}
 use Rattle.tape_jobs.specs.declared.job.Outcome.{Outcome}
 use Rattle.typetool.specs.Cleaning.{cleaned}
 use Rattle.typetool.specs.declared.program.Stop.{Stop}
@@ -34,10 +36,19 @@ stop_status (CannotOpen path error) = 3
 stop_status (CannotCreate path error) = 3
 stop_status (of_job fault) = status_of fault
 
+-- whether a job takes out a text: each of its faults has status 3, since its status answers whether all went well (ours)
+abbrev pub redacts : Job → Bool
+redacts (Redact profile) = true
+redacts _ = false
+
+-- the status of a job's fault (ours)
+abbrev pub status_in : Job → JobFault → ℕ
+status_in job fault = if redacts job then 3 else status_of fault
+
 -- how the job ends: with the status of its fault where it has one, and else with one of a job that is done (ours)
 abbrev pub IsOutcome : Job → Outcome → Type 0
 IsOutcome job outcome = MatchOption outcome.fault (IsDoneStatus job outcome.status)
-    (λ fault. outcome.status ≡ status_of fault)
+    (λ fault. outcome.status ≡ status_in job fault)
 
 -- it ends as the job does on these files (ours)
 abbrev pub IsAnswer : Job → Files → Outcome → Type 0

@@ -51,6 +51,7 @@ fn played_by(job: Job) -> Option<Profile>
         Job::Changes { profile, .. }
         | Job::Find { profile, .. }
         | Job::Page { profile }
+        | Job::Redact { profile }
         | Job::Session { profile, .. } => Some(profile),
         Job::Due { .. } | Job::Info | Job::Check { .. } | Job::Save | Job::Mend { .. } => None,
     }

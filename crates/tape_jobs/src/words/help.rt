@@ -30,6 +30,8 @@ pub fn about_of<'a>(subcommand: Subcommand) -> &'a str {
             "Make the edits that standard input asks for, and write both files anew",
         Subcommand::Mend =>
             "Write both files anew of all that can be read of them, and tell what was lost",
+        Subcommand::Redact =>
+            "Write both files anew without a text, and tell whether it may still be seen",
         Subcommand::Session => "Answer the requests of standard input, each in turn",
     }
 }
@@ -88,6 +90,22 @@ const MEND_DETAILS: &str =
     No one can bring back bytes that a file no longer has, when bytes came that no line counts or only one\n\
     behind a fault, and what a lost first line said.\n\n\
     Example: typetool mend demo.script demo.timing new.script new.timing\n\n\
+    The long form: man typetool";
+
+/// What `redact` tells, its status, and what it can't do.
+const REDACT_DETAILS: &str =
+    "In the typescript as a whole (first line, chunks over their borders, what stands behind them) each byte of\n\
+    the text becomes *. Delays and counts stay. Both new files are created before anything is read, and must\n\
+    not exist. Then it is told: redacted N (how often the text stood there), and as by find where it stands on\n\
+    the screen of the new recording all the same, typed with corrections or drawn in parts. The status is 0\n\
+    where N isn't 0, no such line follows, the first line tells the size of before, and behind the last chunk\n\
+    stands nothing but script's closing line; else 1, and 3 for each fault.\n\n\
+    It can't take out the same secret in another spelling, or one that is shown under another profile or size,\n\
+    or one in a timing file, or a phrase whose space falls on the right margin. A TEXT that is part of an\n\
+    escape sequence breaks it, so that hidden text may come to show; and under xterm one * for each byte\n\
+    moves what stands right of a TEXT that isn't ASCII. At last look yourself:\n\
+    LC_ALL=C grep -acF -- TEXT NEWSCRIPT NEWTIMING\n\n\
+    Example: typetool redact secret demo.script demo.timing new.script new.timing\n\n\
     The long form: man typetool";
 
 /// The lines that `find` writes, and what it doesn't find.
@@ -165,6 +183,7 @@ pub fn details_of<'a>(subcommand: Subcommand) -> &'a str {
         Subcommand::Cast => CAST_DETAILS,
         Subcommand::Save => SAVE_DETAILS,
         Subcommand::Mend => MEND_DETAILS,
+        Subcommand::Redact => REDACT_DETAILS,
         Subcommand::Session => SESSION_DETAILS,
     }
 }
@@ -177,7 +196,7 @@ pub fn value_name_of<'a>(argument: Argument) -> &'a str {
         Argument::Profile | Argument::AnyProfile => "PROFILE",
         Argument::Size => "CxL",
         Argument::Escaped | Argument::Last | Argument::Headless => "",
-        Argument::Title | Argument::Sought => "TEXT",
+        Argument::Title | Argument::Sought | Argument::Secret => "TEXT",
         Argument::Script => "SCRIPT",
         Argument::Timing | Argument::AnyTiming => "TIMING",
         Argument::NewScript => "NEWSCRIPT",
@@ -224,6 +243,8 @@ pub fn help_of<'a>(argument: Argument) -> &'a str {
             "The title of the page; the name of SCRIPT without its ending, if not given",
         Argument::Sought =>
             "What to look for: characters as they stand on the screen, not only spaces",
+        Argument::Secret =>
+            "What to take out: characters as they stand on the screen, not only spaces, and no *",
         Argument::Script => "The typescript that script(1) wrote: the bytes themselves",
         Argument::Timing => {
             "Its timing file, in the classic format: a line of a delay and a count for each chunk. \

@@ -1,4 +1,4 @@
-use Rattle.tape_jobs.proofs.LineLemmas.{cast_line, cast_sized_line, cast_today_line, changes_from_line, changes_line, check_line, due_line, find_between_line, find_line, info_line, mend_line, page_line, page_titled_line, picture_line, picture_sized_line, picture_today_line, reports_line, reports_sized_line, reports_today_line, save_line, screen_line, screen_sized_line, screen_today_line, session_every_line, session_line}
+use Rattle.tape_jobs.proofs.LineLemmas.{cast_line, cast_sized_line, cast_today_line, changes_from_line, changes_line, check_line, due_line, find_between_line, find_line, info_line, mend_line, page_line, page_titled_line, picture_line, picture_sized_line, picture_today_line, redact_line, reports_line, reports_sized_line, reports_today_line, save_line, screen_line, screen_sized_line, screen_today_line, session_every_line, session_line}
 use Rattle.tape_jobs.proofs.laws.plain_lines_are_read.Goals as goal
 
 pub returns-clause-due : goal.returns-clause-due
@@ -74,6 +74,10 @@ returns-clause-save c = save_line
 
 pub returns-clause-mend : goal.returns-clause-mend
 returns-clause-mend c = λ how program script timing p q. mend_line program script timing p q how
+
+pub returns-clause-redact : goal.returns-clause-redact
+returns-clause-redact c = λ profile text r hidden program script timing p q new_script new_timing t u.
+    redact_line program script timing p q text r hidden new_script new_timing t u profile
 
 pub returns-clause-session : goal.returns-clause-session
 returns-clause-session c = λ profile program script timing p q. session_line program script timing p q profile
