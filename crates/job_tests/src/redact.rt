@@ -69,11 +69,11 @@ const ROWS: [(Given<'static>, Wanted<'static>); 8] = [
     (
         (
             &['1', '0', '0'],
-            b"Script started on X [TERM=\"vt100\" COLUMNS=\"100\" LINES=\"30\"]\nab",
+            b"Script started on X [TERM=\"ansi\" COLUMNS=\"100\" LINES=\"30\"]\nab",
             b"0 2\n",
         ),
         (
-            b"Script started on X [TERM=\"vt100\" COLUMNS=\"***\" LINES=\"30\"]\nab",
+            b"Script started on X [TERM=\"ansi\" COLUMNS=\"***\" LINES=\"30\"]\nab",
             b"0.000000 2\n",
             b"redacted 1\n",
             LEFT,
@@ -139,7 +139,10 @@ fn compare_redaction<R: Abort + AllocGlobal>(rt: &R, given: Given<'_>, wanted: W
     );
     assert_eq!(rt;
         (texts.0.as_slice(), Some(texts.1.as_slice())),
-        (&wanted.2[..count.min(wanted.2.len())], wanted.2.get(count..)),
+        (
+            &wanted.2[..count.min(wanted.2.len())],
+            wanted.2.get(count..)
+        ),
         "{text:?}"
     );
 }

@@ -12,7 +12,16 @@ fn reads_redact(rt: HostRuntime) -> Result<(), Fail> {
             Profile::Vt100,
         ),
         (
-            &["typetool", "redact", "--profile=vt102", "é x", "s", "t", "u", "v"],
+            &[
+                "typetool",
+                "redact",
+                "--profile=vt102",
+                "é x",
+                "s",
+                "t",
+                "u",
+                "v",
+            ],
             Profile::Vt102,
         ),
     ] {
@@ -36,7 +45,11 @@ const REFUSED: [(&str, &str, &str); 7] = [
     ("--profile=vt100", "a*b", "bad text"),
     ("--profile=vt100", "a\nb", "bad text"),
     ("--profile=vt220", "*", "bad profile: vt100, vt102 or xterm"),
-    ("--size=80x24", "*", "bad size: 2x1 to 1000x500, with --profile xterm"),
+    (
+        "--size=80x24",
+        "*",
+        "bad size: 2x1 to 1000x500, with --profile xterm",
+    ),
     ("--profile=xterm", "*", "not yet with --profile xterm"),
 ];
 
