@@ -506,8 +506,8 @@ def try_large(browser, folder):
         """
     )
     print(f"100,000 chunks: opened in {opened:.2f} s, a seek takes {statistics.median(took):.2f} ms")
-    check("a large page opens in time", opened < 30, True)
-    check("a large page seeks in time", statistics.median(took) < 500, True)
+    check("a large page opens in time", opened < 5, True)
+    check("a large page seeks in time", statistics.median(took) < 50, True)
 
 
 # A recording of today on 12 columns and 3 lines: colours, marks, both widths, what is drawn, a hidden cursor,
