@@ -1,1 +1,2 @@
 pub mod EscapedText
+pub mod Redrawn

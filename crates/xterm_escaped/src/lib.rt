@@ -2,6 +2,7 @@
 #![tactic(auto)]
 
 mod escaped_print;
+pub mod laws;
 mod renditions;
 
 pub use escaped_print::escaped;

@@ -1,3 +1,3 @@
-mod PlainLemmas
-mod KeptLemmas
-mod ShownLemmas
+pub mod PlainLemmas
+pub mod KeptLemmas
+pub mod ShownLemmas

@@ -1,7 +1,7 @@
-use Rattle.std.proofs.Common.{◌++◌, take, get_or, ap, ap₂, sym, ◌∙◌, subst}
+use Rattle.std.proofs.Common.{◌++◌, take, ap, ap₂, sym, ◌∙◌, subst}
 use Rattle.sheet.specs.Cells.{Cell}
 use Rattle.tape_core.specs.Devices.{Gave}
-use Rattle.xterm_escaped.specs.EscapedText.{cell_text, cells_text, rendition_after}
+use Rattle.xterm_escaped.specs.EscapedText.{cell_text, cells_text}
 use Rattle.xterm_escaped.proofs.EscapedLemmas.{cells_text_more, rendition_after_more}
 use Rattle.xterm_escaped.proofs.escaped_print.put_cells.Goals as goal
 

@@ -1,4 +1,4 @@
-use Rattle.std.proofs.Common.{◌≡◌, ◌++◌, ◌∷◌, [], List, ℕ, ap, ap₂, sym, ◌∙◌, subst, not}
+use Rattle.std.proofs.Common.{◌∷◌, [], ap, ap₂, ◌∙◌, subst, not}
 use Rattle.tape_core.specs.Devices.{Gave}
 use Rattle.vt_parser.specs.Syntax.{escape}
 use Rattle.xterm_term.specs.declared.modes.Modes.{Modes}

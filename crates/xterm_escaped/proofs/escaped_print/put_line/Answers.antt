@@ -1,4 +1,4 @@
-use Rattle.std.proofs.Common.{◌≡◌, ◌++◌, List, ℕ, length, true, false, ap, sym, ◌∙◌, subst, not}
+use Rattle.std.proofs.Common.{◌≡◌, ◌++◌, List, ℕ, length, false, ap, sym, ◌∙◌, subst, not}
 use Rattle.std.specs.Prelude.{◌==◌}
 use Rattle.tape_core.specs.Devices.{Gave}
 use Rattle.sheet.specs.Cells.{Cell}

@@ -1,5 +1,4 @@
 use Rattle.std.proofs.Common.{◌≡◌, ◌+◌, ◌-◌, ◌≤◌, ◌++◌, length, take, ap, ap₂, sym, ◌∙◌, subst, arith}
-use Rattle.sheet.specs.Grid.{row_at}
 use Rattle.tape_core.specs.Devices.{Gave}
 use Rattle.xterm_escaped.specs.EscapedText.{no_rendition, line_text, lines_text, rendition_after_line, rendition_after_lines}
 use Rattle.xterm_escaped.proofs.EscapedLemmas.{no_lines_text, no_lines_rendition, lines_text_more, rendition_after_lines_more, all_lines_text}

@@ -1,6 +1,6 @@
 use Rattle.std.proofs.Common.{◌≡◌, ◌∷◌, List, ℕ, true, ap, sym, subst}
 use Rattle.tape_core.specs.Devices.{Gave}
-use Rattle.xterm_escaped.specs.EscapedText.{colour_text, ink_text, is_told, text_where}
+use Rattle.xterm_escaped.specs.EscapedText.{colour_text, is_told, text_where}
 use Rattle.xterm_escaped.proofs.renditions.put_ink.Goals as goal
 
 pub returns-then-is_told : goal.returns-then-is_told

@@ -1,7 +1,7 @@
 use Rattle.std.proofs.Common.{◌≡◌, ◌++◌, ◌∷◌, [], List, ℕ, true, ap, sym, subst}
 use Rattle.tape_core.specs.Devices.{Gave}
 use Rattle.vt_parser.specs.Syntax.{escape}
-use Rattle.xterm_escaped.specs.EscapedText.{colour_text, is_told, paper_text, text_where}
+use Rattle.xterm_escaped.specs.EscapedText.{colour_text, is_told, text_where}
 use Rattle.xterm_escaped.proofs.renditions.put_paper.Goals as goal
 
 pub returns-then-is_told : goal.returns-then-is_told
