@@ -1,6 +1,6 @@
 //! Find lines.
 
-use screen_print::find;
+use screen_print::{find, scratch};
 use std::alloc::Global;
 use std::process::Abort;
 use std::rt::Runtime;
@@ -10,7 +10,7 @@ use tape_seek::Session;
 use tape_tests::once_more::read;
 
 /// Chunks without delays, divided by bars, a text, and its find lines.
-const ROWS: [(&[u8], &str, &str); 9] = [
+const ROWS: [(&[u8], &str, &str); 20] = [
     // The screen is erased.
     (
         b"ab\r\nab|\x1b[2J",
@@ -45,12 +45,51 @@ const ROWS: [(&[u8], &str, &str); 9] = [
         "err",
         "+ 0 0.000000 2 1 err\n",
     ),
+    // It scrolls away.
+    (
+        b"a\n\n\n\n\n\n\n\n\n\n\n\n\n\n\n\n\n\n\n\n\n\n\n\n\n\n\n\n\n\n",
+        "a",
+        "~ 0 0.000000 1 1 a\n",
+    ),
+    // It is written over.
+    (b"err\rok ", "err", "~ 0 0.000000 1 1 err\n"),
+    // It is written again.
+    (b"err|\rerr", "err", "+ 0 0.000000 1 1 err\n"),
+    // It is erased and written again: it stands at the end.
+    (b"err\r\x1b[Kerr", "err", "+ 0 0.000000 1 1 err\n"),
+    // It comes to stand over a border of chunks.
+    (b"rm |-rf\x1b[2J", "rm -rf", "~ 1 0.000000 1 1 rm -rf\n"),
+    // It stands nowhere.
+    (b"x", "y", ""),
+    // Another left part.
+    (
+        b"err\r\x1b[@xerr|z",
+        "err",
+        "~ 0 0.000000 1 1 err\n+ 0 0.000000 1 2 xerr\n",
+    ),
+    (
+        b"a|\x1b[2J",
+        "a",
+        "+ 0 0.000000 1 1 a\n- 1 0.000000 1 1 a\n",
+    ),
+    (
+        b"a|\x1b[2J\x1b[5;5Ha",
+        "a",
+        "+ 0 0.000000 1 1 a\n- 1 0.000000 1 1 a\n+ 1 0.000000 5 5     a\n",
+    ),
+    (
+        b"ab\rx\rab\rx",
+        "ab",
+        "~ 0 0.000000 1 1 ab\n~ 0 0.000000 1 1 ab\n",
+    ),
+    (b"\x1b[6n\x1b[c\x1bZa", "a", "+ 0 0.000000 1 1 a\n"),
 ];
 
 /// The find lines of chunks without delays.
 fn found(
     rt: &(impl Runtime<A = Global> + Abort),
     chunks: &[u8],
+    from: Option<u64>,
     text: &str,
 ) -> Result<Vec<u8>, Fail> {
     let alloc = rt.alloc();
@@ -67,7 +106,15 @@ fn found(
         characters.push(character)?;
     }
     let mut writer = Watched::new(Vec::new(alloc));
-    let answer = find(&mut session, None, 0, characters.as_slice(), &mut writer);
+    let mut scratch = scratch(alloc)?;
+    let answer = find(
+        &mut session,
+        from,
+        0,
+        characters.as_slice(),
+        &mut scratch,
+        &mut writer,
+    );
     assert_eq!(rt; answer, Ok(()));
     Ok(writer.into_inner())
 }
@@ -75,7 +122,7 @@ fn found(
 #[test]
 fn tells_where_a_text_comes_and_goes(rt: HostRuntime) -> Result<(), Fail> {
     for (chunks, text, lines) in &ROWS {
-        let got = found(&rt, chunks, text)?;
+        let got = found(&rt, chunks, None, text)?;
         assert_eq!(&rt; got.as_slice(), lines.as_bytes(), "{text}");
     }
     Ok(())
@@ -103,7 +150,30 @@ fn a_body_that_scrolls_keeps_its_places(rt: HostRuntime) -> Result<(), Fail> {
             lines.push_str(line.as_str())?;
         }
     }
-    let got = found(&rt, chunks.as_slice(), "err")?;
+    let got = found(&rt, chunks.as_slice(), None, "err")?;
+    assert_eq!(&rt; got.as_slice(), lines.as_bytes());
+    Ok(())
+}
+
+#[test]
+fn tells_what_stands_at_the_moment(rt: HostRuntime) -> Result<(), Fail> {
+    let got = found(&rt, b"ab|x", Some(0), "a")?;
+    assert_eq!(&rt; got.as_slice(), b"= 2 0.000000 1 1 abx\n".as_slice());
+    Ok(())
+}
+
+#[test]
+fn lines_that_scroll_dont_pass(rt: HostRuntime) -> Result<(), Fail> {
+    let alloc = rt.alloc();
+    let mut chunks = Vec::new(alloc);
+    let mut lines = String::new(alloc);
+    for _ in 0..60 {
+        chunks.extend_from_slice(b"l\r\n")?;
+    }
+    for row in 1u8..24 {
+        lines.push_str(format!(in alloc; "+ 0 0.000000 {row} 1 l\n")?.as_str())?;
+    }
+    let got = found(&rt, chunks.as_slice(), None, "l")?;
     assert_eq!(&rt; got.as_slice(), lines.as_bytes());
     Ok(())
 }

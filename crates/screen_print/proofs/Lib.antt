@@ -10,3 +10,8 @@ mod StartLemmas
 mod EscapedLemmas
 mod InkLemmas
 mod Redrawn
+mod AskedLemmas
+mod NowhereLemmas
+mod StoodLemmas
+mod EachByteLemmas
+mod ReplyLemmas

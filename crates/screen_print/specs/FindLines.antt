@@ -1,16 +1,13 @@
--- At which chunks a text comes to stand on the screen, and at which it goes (ours).
-use Rattle.std.specs.Prelude.{ℕ, ◌+◌, ◌-◌, Bool, List, [], ◌∷◌, ◌++◌, Option, encode_utf8, drop, filter, if◌then◌else◌, length, map, nat_eq, nat_le, slice_index_or, take, ◌==◌}
+-- Where a text stands on a screen, and what of it came and went between two screens (ours).
+use Rattle.std.specs.Prelude.{ℕ, ◌+◌, ◌-◌, Bool, List, [], ◌∷◌, ◌++◌, encode_utf8, drop, filter, if◌then◌else◌, length, map, nat_eq, nat_le, slice_index_or, take, ◌==◌}
 use Rattle.std.specs.Cmp.Lexicographic.{pointwise}
 use Rattle.std.specs.Fmt.{decimal}
 use Rattle.std.specs.List.{count_by, flat_map, range_with_len, starts_with, suffix_len}
-use Rattle.tape_core.specs.Tape.{Tape}
 use Rattle.tape_core.specs.Written.{seconds_form}
 use Rattle.vt_screen.specs.Cells.{row_at}
-use Rattle.vt_term.specs.declared.profile.Profile.{Profile}
 use Rattle.screen_print.specs.declared.standing.Place.{Place}
 use Rattle.screen_rows.specs.RowText.{row_text}
 use Rattle.screen_print.specs.Stills.{Still}
-use Rattle.screen_print.specs.Walk.{walk_text}
 
 -- ---- lines
 
@@ -111,12 +108,8 @@ abbrev pub less_lines : ℕ → ℕ → ℕ → ℕ → Still → List Place →
 less_lines sign index due len one places other others =
     flat_map (less_line sign index due len one places other others) (range_with_len 0 (length places))
 
--- what is written of one chunk: - for what went, then + for what came
+-- what is written of two screens: - for what went, then + for what came
 unfoldable pub find_text : List ℕ → ℕ → ℕ → Still → Still → List ℕ
 find_text text index due before after =
     less_lines 45 index due (length text) before (standing text before) after (standing text after)
     ++ less_lines 43 index due (length text) after (standing text after) before (standing text before)
-
--- the find lines
-unfoldable pub find_lines : Profile → Tape → Option ℕ → ℕ → List ℕ → List ℕ
-find_lines profile tape from to text = walk_text (find_text text) profile tape from to

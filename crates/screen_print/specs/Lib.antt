@@ -10,3 +10,4 @@ pub mod Places
 pub mod Quiet
 pub mod Start
 pub mod Stops
+pub mod EachByte

@@ -1,4 +1,4 @@
-//! At which chunks of a recording a text comes to stand on the screen, and at which it goes.
+//! What of a text came and went between two screens, and how its lines are written.
 
 ghost use Rattle.std.specs.Prelude.{
   ◌≡◌,
@@ -6,7 +6,6 @@ ghost use Rattle.std.specs.Prelude.{
   ◌≤◌,
   ◌<◌,
   ◌+◌,
-  ◌-◌,
   ◌++◌,
   ◌∷◌,
   [],
@@ -14,25 +13,14 @@ ghost use Rattle.std.specs.Prelude.{
   encode_utf8,
   length,
   nat_eq,
-  nat_le,
-  slice_index_or,
-  take,
   true,
   false,
-  Err,
-  OnOk,
-  IfErr,
 };
 ghost use Rattle.std.specs.Cmp.Lexicographic.{pointwise};
 ghost use Rattle.std.specs.List.{flat_map};
-ghost use Rattle.tape_core.specs.Devices.{Gave, Took, has_failed, is_flushed};
-ghost use Rattle.tape_core.specs.Due.{due_count};
-ghost use Rattle.tape_seek.specs.State.{KeepsHistory};
-ghost use Rattle.chunk_walk.specs.Stops.{OnlySeeks};
+ghost use Rattle.tape_core.specs.Devices.{Gave};
 ghost use Rattle.screen_print.specs.FindLines.{
   count_left,
-  find_lines,
-  find_text,
   found_line,
   found_rows,
   heading,
@@ -40,158 +28,37 @@ ghost use Rattle.screen_print.specs.FindLines.{
   left_of,
   less_line,
   less_lines,
-  place_in,
 };
 ghost use Rattle.screen_rows.specs.Glyphs.{character};
 ghost use Rattle.screen_print.specs.Places.{IsPlace};
 ghost use Rattle.screen_rows.specs.RowText.{characters};
-ghost use Rattle.screen_print.specs.Start.{IsStart};
-ghost use Rattle.screen_print.specs.Stills.{still_of};
-ghost use Rattle.screen_print.specs.Stops.{StopsWalk};
 
-use crate::quiet::stays;
-use crate::standing::{Place, found_rows, standing};
-use crate::start::Start;
+use crate::standing::{Place, found_rows};
 use crate::still::Still;
-use crate::walk::{ChangesFault, ChunkPrinter, put_chunks};
-use chunk_walk::laws::walks_end_sound;
 use itoa::Buffer;
 use screen_rows::{cells_to_margin, character, printed_row};
 use std::io::Write;
 use tape_core::laws::gives_join;
 use tape_core::{Watched, seconds_text};
-use tape_seek::Session;
 use vt_screen::Cell;
-use vt_term::Terminal;
-
-/// Writes, for each chunk that is due after `from` (None: from chunk 0 on) and by `to`, at which places of
-/// the screen a text came to stand in it and from which it went, and flushes. It works by seeks. After a
-/// fault a beginning of the text has gone out. The recording and the log stay, and the frontier isn't
-/// lowered.
-#[tactic(auto, using(chunk_walk::proofs::SeekLemmas::seeks_keep_history), unfolding(crate::specs::FindLines::find_lines))]
-pub fn find<W: Write>(
-    session: &mut Session,
-    from: Option<u64>,
-    to: u64,
-    text: &[char],
-    writer: &mut Watched<W>,
-) -> Result<(), ChangesFault>
-    requires { has_failed writer.old ≡ false }
-    ensures ok { OnOk result (Took W.contents writer.old writer.new
-        (find_lines session.old.profile session.old.recording from to text.now)) }
-    ensures flushed { OnOk result (is_flushed writer.new ≡ true) }
-    ensures fault { IfErr result (StopsWalk W.contents writer.old writer.new
-        (find_lines session.old.profile session.old.recording from to text.now)) }
-    ensures stays { OnlySeeks session.old session.new }
-    // Whatever recording the session was opened with: where its own is that one edited by the log,
-    // it is so still.
-    ensures history { KeepsHistory session.old session.new }
-    ensures room { due_count session.old.recording.chunks to ≤ session.old.marks.frontier
-        → result ≢ Err ChangesFault.Memory }
-{
-    walks_end_sound::<W>();
-    let start = Start::of(text);
-    put_chunks(session, from, to, &Finder { text, start }, writer)?;
-    writer.settle()?;
-    Ok(())
-}
-
-/// Writes where a text came to stand and from where it went.
-#[derive(Drop)]
-struct Finder<'a> {
-    text: &'a [char],
-    start: Start,
-    ghost begins: { IsStart text.now start },
-}
-
-impl<'a> ChunkPrinter for Finder<'a> {
-    ghost use Rattle.screen_print.specs.FindLines.{find_text};
-
-    ghost text = { λ f. find_text f.text.now };
-
-    fn put<W: Write>(
-        &self,
-        index: usize,
-        due: u64,
-        before: &Still,
-        after: &Terminal,
-        lines: &[u8],
-        writer: &mut Watched<W>,
-    ) {
-        gives_join::<W>();
-        if !stays(self.text, &self.start, before, after, lines) {
-            put_laid_out(self.text, index, due, before, after, writer);
-        }
-    }
-}
-
-/// The same by laying out both screens. Its variables are large, so it stands apart from the walk.
-#[cold]
-#[inline(never)]
-fn put_laid_out<W: Write>(
-    text: &[char],
-    index: usize,
-    due: u64,
-    before: &Still,
-    after: &Terminal,
-    writer: &mut Watched<W>,
-)
-    ensures { Gave W.contents writer.old writer.new
-        (find_text text.now index due before.now (still_of after.now.console)) }
-{
-    let chunk = Chunk {
-        index,
-        due,
-        len: text.len(),
-    };
-    put_moves(text, &chunk, before, &Still::of(after), writer);
-}
-
-/// Writes from where a text went in a chunk, and where it came to stand.
-#[tactic(auto, unfolding(crate::specs::FindLines::find_text))]
-fn put_moves<W: Write>(
-    text: &[char],
-    chunk: &Chunk,
-    before: &Still,
-    after: &Still,
-    writer: &mut Watched<W>,
-)
-    requires len { chunk.now.len ≡ length text.now }
-    ensures { Gave W.contents writer.old writer.new
-        (find_text text.now chunk.now.index chunk.now.due before.now after.now) }
-{
-    gives_join::<W>();
-    let went = standing(before, text);
-    let came = standing(after, text);
-    let went = Standing {
-        still: before,
-        places: went.as_slice(),
-    };
-    let came = Standing {
-        still: after,
-        places: came.as_slice(),
-    };
-    put_less(b'-', chunk, &went, &came, writer);
-    put_less(b'+', chunk, &came, &went, writer);
-}
 
 /// Where a text stands on a screen.
 #[derive(Drop)]
-struct Standing<'a> {
-    still: &'a Still,
-    places: &'a [Place],
+pub(crate) struct Standing<'a> {
+    pub(crate) still: &'a Still,
+    pub(crate) places: &'a [Place],
 }
 
 /// A chunk's place, when it is due, and how long the text is that is looked for.
 #[derive(Drop)]
-struct Chunk {
-    index: usize,
-    due: u64,
-    len: usize,
+pub(crate) struct Chunk {
+    pub(crate) index: usize,
+    pub(crate) due: u64,
+    pub(crate) len: usize,
 }
 
 /// Writes the lines of what stands on one screen and is less on the other.
-fn put_less<W: Write>(
+pub(crate) fn put_less<W: Write>(
     sign: u8,
     chunk: &Chunk,
     one: &Standing<'_>,
@@ -233,7 +100,7 @@ fn put_if_less<W: Write>(
 }
 
 /// Whether a place is less on the other screen.
-fn is_less(one: &Standing<'_>, at: usize, other: &Standing<'_>) -> bool
+pub(crate) fn is_less(one: &Standing<'_>, at: usize, other: &Standing<'_>) -> bool
     requires within { at < length one.now.places.now }
     requires here { All (IsPlace one.now.still.now) one.now.places.now }
     requires there { All (IsPlace other.now.still.now) other.now.places.now }
@@ -247,7 +114,7 @@ fn is_less(one: &Standing<'_>, at: usize, other: &Standing<'_>) -> bool
 }
 
 /// How many of the places have the same to the left as another place.
-fn count_left(still: &Still, places: &[Place], other: &Still, there: Place) -> usize
+pub(crate) fn count_left(still: &Still, places: &[Place], other: &Still, there: Place) -> usize
     requires here { All (IsPlace still.now) places.now }
     requires there { IsPlace other.now there }
     ensures { result ≡ count_left still.now places.now (left_of other.now there) }
@@ -298,7 +165,7 @@ fn read_alike(one: u8, other: u8) -> bool
 }
 
 /// Writes a find line.
-fn put_found<W: Write>(
+pub(crate) fn put_found<W: Write>(
     sign: u8,
     chunk: &Chunk,
     still: &Still,

@@ -2,6 +2,7 @@
 #![tactic(auto)]
 
 mod change_lines;
+mod each_byte;
 mod escaped_print;
 mod find_lines;
 pub mod laws;
@@ -13,8 +14,8 @@ mod still;
 mod walk;
 
 pub use change_lines::changes;
+pub use each_byte::{find, scratch};
 pub use escaped_print::escaped;
-pub use find_lines::find;
 pub use plain_print::plain;
 pub use still::Still;
 pub use walk::{ChangesFault, ChunkPrinter, put_all_chunks, put_chunks};

@@ -1,0 +1,82 @@
+-- What is found stood there.
+use Rattle.std.proofs.Common.{◌≡◌, ℕ, ◌+◌, ◌<◌, ◌&&◌, List, [], ◌∷◌, ◌++◌, length, get_or, filter, map, Option, None, Some, refl, sym, arith}
+use Rattle.std.specs.List.{All, Contains, flat_map, range_with_len}
+use Rattle.std.proofs.lemmas.List.Elements.{All-append, All-contains_itself, All-filter, All-from_recursion, All-map, All-nil, All-weaker, Contains-get_or}
+use Rattle.tape_core.specs.Due.{bytes_at, due_count, due_time}
+use Rattle.tape_core.specs.Tape.{Tape}
+use Rattle.tape_seek.specs.Moments.{up_to}
+use Rattle.vt_term.specs.declared.profile.Profile.{Profile}
+use Rattle.screen_print.specs.declared.standing.Place.{Place}
+use Rattle.screen_print.specs.EachByte.{Stood, WhatIsFoundStood, all_found, all_passed, found, found_from, found_in, found_of, gone, is_lone, less, passed, passed_at, still_from, still_within}
+use Rattle.screen_print.specs.FindLines.{is_less, left_of, place_in, standing}
+use Rattle.screen_print.specs.Stills.{Still}
+use Rattle.chunk_walk.specs.Walk.{asked_places}
+use Rattle.screen_print.proofs.NowhereLemmas.{range_below, within_start}
+
+-- what holds of each element of each part
+all_parts : {X Y : Type 0} (P : Y → Type 0) (f : X → List Y) → ((x : X) → All P (f x)) → (xs : List X) → All P (flat_map f xs)
+all_parts P f h [] = All-nil P
+all_parts P f h (x ∷ xs) = All-append P (f x) (flat_map f xs) (h x) (all_parts P f h xs)
+
+-- what is less stood there
+less_stood : (one : Still) (places : List Place) (other : Still) (others : List Place) → All (Contains places) (less one places other others)
+less_stood one places other others =
+    let pick : ℕ → Place = λ n. get_or places n (place_in 1 1) in
+    let same : 0 + length places ≡ length places = omega arith in
+    All-map (Contains places) pick (filter (is_less one places other others) (range_with_len 0 (length places)))
+    (All-filter (is_less one places other others) (λ n. Contains places (pick n)) (range_with_len 0 (length places))
+    (All-weaker (λ n. n < 0 + length places) (λ n. Contains places (pick n)) (λ n lt. Contains-get_or places n (place_in 1 1) (omega arith)) (range_with_len 0 (length places))
+    (All-from_recursion (λ n. n < 0 + length places) (range_with_len 0 (length places)) (range_below 0 (length places)))))
+
+gone_stood : (text : List ℕ) (one other : Still) → All (Contains (standing text one)) (gone text one other)
+unfolding gone
+gone_stood text one other = less_stood one (standing text one) other (standing text other)
+
+passed_stood : (text : List ℕ) (first last one other : Still) → All (Contains (standing text one)) (passed text first last one other)
+unfolding passed
+passed_stood text first last one other =
+    All-filter (λ (place : Place). is_lone first (standing text first) (left_of one place) && is_lone last (standing text last) (left_of one place))
+    (Contains (standing text one)) (gone text one other) (gone_stood text one other)
+
+all_stood : (profile : Profile) (tape : Tape) (text : List ℕ) (sign index due count : ℕ) (still : Still) (places : List Place)
+    → still ≡ still_within (up_to profile tape.chunks index) (bytes_at tape.chunks index) count → All (Contains (standing text still)) places
+    → All (Stood profile tape text) (map (found sign index due still) places)
+all_stood profile tape text sign index due count still places is h =
+    All-map (Stood profile tape text) (found sign index due still) places
+    (All-weaker (Contains (standing text still)) (λ place. Stood profile tape text (found sign index due still place)) (λ place has. record { stands = has; seen = (count, is) }) places h)
+
+chunk_stood : (profile : Profile) (tape : Tape) (text : List ℕ) (index : ℕ) → All (Stood profile tape text) (found_of text profile tape index)
+unfolding found_in
+chunk_stood profile tape text index =
+    let x = up_to profile tape.chunks index in
+    let bytes = bytes_at tape.chunks index in
+    let due = due_time tape.chunks index in
+    let n = length bytes in
+    let before = still_within x bytes 0 in
+    let after = still_within x bytes n in
+    let went = map (found 45 index due before) (gone text before after) in
+    let middle = all_passed text index due x bytes in
+    let came = map (found 43 index due after) (gone text after before) in
+    All-append (Stood profile tape text) (went ++ middle) came
+    (All-append (Stood profile tape text) went middle
+    (all_stood profile tape text 45 index due 0 before (gone text before after) refl (gone_stood text before after))
+    (all_parts (Stood profile tape text) (passed_at text index due x bytes)
+    (λ count. all_stood profile tape text 126 index due count (still_within x bytes count) (passed text before after (still_within x bytes count) (still_within x bytes (count + 1))) refl
+    (passed_stood text before after (still_within x bytes count) (still_within x bytes (count + 1))))
+    (range_with_len 0 n)))
+    (all_stood profile tape text 43 index due n after (gone text after before) refl (gone_stood text after before))
+
+from_stood : (profile : Profile) (tape : Tape) (from : Option ℕ) (text : List ℕ) → All (Stood profile tape text) (found_from text profile tape from)
+unfolding found_from
+from_stood profile tape None text = All-nil (Stood profile tape text)
+from_stood profile tape (Some moment) text =
+    let index = due_count tape.chunks moment in
+    let still = still_from profile tape moment in
+    all_stood profile tape text 61 index moment 0 still (standing text still) (sym (within_start (up_to profile tape.chunks index) (bytes_at tape.chunks index))) (All-contains_itself (standing text still))
+
+pub what_is_found_stood : WhatIsFoundStood
+unfolding all_found
+what_is_found_stood profile tape from to text =
+    All-append (Stood profile tape text) (found_from text profile tape from) (flat_map (found_of text profile tape) (asked_places tape from to))
+    (from_stood profile tape from text)
+    (all_parts (Stood profile tape text) (found_of text profile tape) (chunk_stood profile tape text) (asked_places tape from to))

@@ -1,0 +1,11 @@
+use Rattle.std.proofs.Common.{◌≤◌, length, take}
+use Rattle.vt_term.specs.Seen.{Shows}
+use Rattle.vt_term.specs.Term.{Term, play}
+use Rattle.screen_print.proofs.each_byte.play_all.Given as goal
+
+-- the bytes so far were played
+abbrev pub invariant-loop-at : goal.invariant-loop-at
+invariant-loop-at l = record {
+  shows : (x : Term) → Shows l.fn.terminal x → Shows l.terminal (play x (take l.at l.bytes));
+  scratch : 20 ≤ length l.scratch.bytes;
+}

@@ -1,0 +1,19 @@
+use Rattle.std.proofs.Common.{length, ap, subst, sym, arith}
+use Rattle.std.specs.Prelude.{Result, Ok, Err}
+use Rattle.std.specs.Result.{IsOk, OnOk}
+use Rattle.vt_term.specs.Console.{IsSafe}
+use Rattle.plays.specs.Sink.{Sink}
+use Rattle.screen_print.proofs.ReplyLemmas.{replies_are_short}
+use Rattle.screen_print.proofs.each_byte.step.Goals as goal
+
+on_ok_is : {T E P : Type 0} (r : Result T E) → IsOk r → OnOk r P → P
+on_ok_is (Ok x) is h = h
+on_ok_is (Err e) is h = cc
+
+pub returns-clause-shows : goal.returns-clause-shows
+returns-clause-shows c = λ x shows.
+    let safe : IsSafe x.console = subst IsSafe (sym shows.console) c.screen-screen.ensures.proper.safe in
+    let short = replies_are_short c.right_margins.ensures.high x c.args.byte safe in
+    let bytes = ap (λ (s : Sink). length s.bytes) c.set_place.ensures in
+    let place = ap (λ (s : Sink). s.place) c.set_place.ensures in
+    on_ok_is c.feed_in_place-done.result (c.feed_in_place-done.ensures.room x shows (omega (arith, short, bytes, place, c.requires))) (c.feed_in_place-done.ensures.shows x shows)

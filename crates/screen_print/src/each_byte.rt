@@ -1,0 +1,571 @@
+//! Where a text came to stand in a recording and where it went, looked at byte by byte.
+
+ghost use Rattle.std.specs.Prelude.{
+  ◌≡◌,
+  ◌≢◌,
+  ◌≤◌,
+  ◌<◌,
+  ◌+◌,
+  ◌-◌,
+  ◌++◌,
+  ◌∷◌,
+  ◌&&◌,
+  [],
+  All,
+  length,
+  slice_index_or,
+  true,
+  false,
+  Err,
+  IfOk,
+  IsOk,
+  IfErr,
+  OnOk,
+};
+ghost use Rattle.std.specs.List.{flat_map, range_with_len};
+ghost use Rattle.tape_core.specs.Devices.{Gave, Took, has_failed, has_written, is_flushed};
+ghost use Rattle.tape_core.specs.Due.{due_count};
+ghost use Rattle.tape_seek.specs.Moments.{up_to};
+ghost use Rattle.tape_seek.specs.State.{KeepsHistory, Leaves};
+ghost use Rattle.chunk_walk.specs.Stops.{OnlySeeks, first_asked};
+ghost use Rattle.vt_term.specs.Seen.{Shows};
+ghost use Rattle.vt_term.specs.Term.{Term, play};
+ghost use Rattle.vt_term.specs.declared.profile.Profile.{Profile};
+ghost use Rattle.screen_print.specs.EachByte.{
+  StandsNowhere,
+  byte_lines,
+  chunk_lines,
+  chunk_lines_at,
+  find_lines,
+  from_lines,
+  has_ink,
+  is_lone,
+  passed_line,
+  passed_lines,
+  standing_lines,
+};
+ghost use Rattle.screen_print.specs.FindLines.{found_line, left_of, place_in, standing};
+ghost use Rattle.screen_print.specs.Places.{IsPlace};
+ghost use Rattle.screen_print.specs.Start.{IsStart};
+ghost use Rattle.screen_print.specs.Stills.{still_of};
+ghost use Rattle.screen_rows.specs.SameRows.{changed_lines};
+ghost use Rattle.screen_print.specs.Stops.{StopsWalk};
+
+use crate::find_lines::{Chunk, Standing, count_left, is_less, put_found, put_less};
+use crate::laws::nowhere_means_nowhere;
+use crate::quiet::stays;
+use crate::standing::{Place, standing};
+use crate::start::Start;
+use crate::still::Still;
+use crate::walk::ChangesFault;
+use plays::laws::the_front_stays;
+use std::alloc::Global;
+use std::io::Write;
+use tape_core::laws::{due_is_below_the_count, first_grows_by_a_chunk, gives_end, gives_join};
+use tape_core::{Recording, Watched};
+use tape_seek::{OutOfMemory, Session};
+use vt_screen::laws::right_margins;
+use vt_term::laws::plays_in_parts;
+use vt_term::{Reports, Terminal};
+
+/// How many bytes the list has over which replies go: no reply to a byte is longer.
+const SCRATCH: usize = 20;
+
+/// A list over which replies go.
+pub fn scratch(alloc: Global) -> Result<Reports, OutOfMemory>
+    ensures { IfOk result (λ scratch. SCRATCH ≤ length scratch.bytes) }
+{
+    let mut scratch = Reports::new(alloc);
+    scratch.send(&[0; SCRATCH])?;
+    Ok(scratch)
+}
+
+/// Writes, as `=`, where a text stands at the moment `from`, if that is given; and for each chunk that is due
+/// after it and by `to`: `-` for where it went, `~` for where it came and went between two bytes, `+` for
+/// where it came to stand. It works by one seek, and takes no memory besides: replies go over what the
+/// scratch list holds. After a fault a beginning of the text has gone out. The recording and the log stay,
+/// and the frontier isn't lowered.
+#[tactic(auto, using(chunk_walk::proofs::SeekLemmas::seeks_keep_history))]
+pub fn find<W: Write>(
+    session: &mut Session,
+    from: Option<u64>,
+    to: u64,
+    text: &[char],
+    scratch: &mut Reports,
+    writer: &mut Watched<W>,
+) -> Result<(), ChangesFault>
+    requires scratch { SCRATCH ≤ length scratch.old.bytes }
+    requires sound { has_failed writer.old ≡ false }
+    ensures ok { OnOk result (Took W.contents writer.old writer.new
+        (find_lines session.old.profile session.old.recording from to text.now)) }
+    ensures flushed { OnOk result (is_flushed writer.new ≡ true) }
+    ensures fault { IfErr result (StopsWalk W.contents writer.old writer.new
+        (find_lines session.old.profile session.old.recording from to text.now)) }
+    // Nowhere means nowhere: where not a byte was written, a text with ink stands on no screen, neither at the
+    // moment `from` nor after any byte of a chunk that is asked for.
+    ensures nowhere { OnOk result (has_written writer.new ≡ false → has_ink text.now ≡ true
+        → StandsNowhere session.old.profile session.old.recording from to text.now) }
+    ensures stays { OnlySeeks session.old session.new }
+    // Whatever recording the session was opened with: where its own is that one edited by the log,
+    // it is so still.
+    ensures history { KeepsHistory session.old session.new }
+    ensures room { first_asked session.old.recording.chunks from ≤ session.old.marks.frontier
+        → result ≢ Err ChangesFault.Memory }
+{
+    nowhere_means_nowhere();
+    let start = start_of(session, from);
+    let mut terminal = terminal_at(session, start)?;
+    let recording = session.recording();
+    put_lines(
+        recording,
+        from,
+        to,
+        start,
+        text,
+        &mut terminal,
+        scratch,
+        writer,
+    );
+    writer.settle()?;
+    Ok(())
+}
+
+/// The first chunk that is due after the moment.
+fn start_of(session: &Session, from: Option<u64>) -> usize
+    ensures value { result ≡ first_asked session.now.recording.chunks from }
+    ensures within { result ≤ length session.now.recording.chunks }
+{
+    match from {
+        None => 0,
+        Some(moment) => session.recording().due_count(moment),
+    }
+}
+
+/// A copy of the terminal of a session after so many chunks.
+fn terminal_at(session: &mut Session, count: usize) -> Result<Terminal, OutOfMemory>
+    requires { count ≤ length session.old.recording.chunks }
+    ensures shows { IfOk result (λ terminal.
+        Shows terminal (up_to session.old.profile session.old.recording.chunks count)) }
+    ensures state { Leaves result count session.old session.new }
+    ensures history { KeepsHistory session.old session.new }
+    ensures room { count ≤ session.old.marks.frontier → IsOk result }
+{
+    let view = session.seek_count(count)?;
+    let mut terminal = Terminal::reset();
+    terminal.copy_from(view.terminal());
+    Ok(terminal)
+}
+
+/// Writes all lines by a terminal that shows what stands before the first chunk that is asked for.
+fn put_lines<W: Write>(
+    recording: &Recording,
+    from: Option<u64>,
+    to: u64,
+    start: usize,
+    text: &[char],
+    terminal: &mut Terminal,
+    scratch: &mut Reports,
+    writer: &mut Watched<W>,
+)
+    requires start { start ≡ first_asked recording.now.chunks from }
+    requires within { start ≤ length recording.now.chunks }
+    requires scratch { SCRATCH ≤ length scratch.old.bytes }
+    ensures { (profile : Profile) → Shows terminal.old (up_to profile recording.now.chunks start)
+        → Gave W.contents writer.old writer.new
+        (find_lines profile recording.now from to text.now) }
+{
+    due_is_below_the_count();
+    gives_join::<W>();
+    let end = recording.due_count(to).max(start);
+    put_from(from, start, text, terminal, writer);
+    put_between(recording, start, end, text, terminal, scratch, writer);
+}
+
+/// Writes where the text stands at the moment from which chunks are asked for, if there is one.
+fn put_from<W: Write>(
+    from: Option<u64>,
+    index: usize,
+    text: &[char],
+    terminal: &Terminal,
+    writer: &mut Watched<W>,
+)
+    ensures { Gave W.contents writer.old writer.new
+        (from_lines text.now (still_of terminal.now.console) index from) }
+{
+    gives_join::<W>();
+    if let Some(moment) = from {
+        put_standing(moment, index, text, terminal, writer);
+    }
+}
+
+/// Writes where the text stands on a terminal.
+fn put_standing<W: Write>(
+    moment: u64,
+    index: usize,
+    text: &[char],
+    terminal: &Terminal,
+    writer: &mut Watched<W>,
+)
+    ensures { Gave W.contents writer.old writer.new
+        (standing_lines text.now index moment (still_of terminal.now.console)) }
+{
+    let still = Still::of(terminal);
+    let places = standing(&still, text);
+    let chunk = Chunk {
+        index,
+        due: moment,
+        len: text.len(),
+    };
+    put_places(&chunk, &still, places.as_slice(), writer);
+}
+
+/// Writes a line for each place.
+fn put_places<W: Write>(chunk: &Chunk, still: &Still, places: &[Place], writer: &mut Watched<W>)
+    requires here { All (IsPlace still.now) places.now }
+    ensures { Gave W.contents writer.old writer.new
+        (flat_map (found_line 61 chunk.now.index chunk.now.due chunk.now.len still.now) places.now) }
+{
+    gives_join::<W>();
+    for place in places {
+        put_found(b'=', chunk, still, *place, writer);
+    }
+}
+
+/// Plays the chunks from one place up to and without another, and writes their lines, as long as the writer
+/// doesn't fail.
+fn put_between<W: Write>(
+    recording: &Recording,
+    start: usize,
+    end: usize,
+    text: &[char],
+    terminal: &mut Terminal,
+    scratch: &mut Reports,
+    writer: &mut Watched<W>,
+)
+    requires rising { start ≤ end }
+    requires within { end ≤ length recording.now.chunks }
+    requires scratch { SCRATCH ≤ length scratch.old.bytes }
+    ensures { (profile : Profile) → Shows terminal.old (up_to profile recording.now.chunks start)
+        → Gave W.contents writer.old writer.new
+        (flat_map (chunk_lines_at text.now profile recording.now)
+        (range_with_len start (end - start))) }
+{
+    gives_join::<W>();
+    gives_end::<W>();
+    let begins = Start::of(text);
+    for index in start..end {
+        put_chunk_at(recording, index, text, &begins, terminal, scratch, writer);
+        if writer.failed() {
+            return;
+        }
+    }
+}
+
+/// Plays a chunk of a recording, and writes its lines.
+fn put_chunk_at<W: Write>(
+    recording: &Recording,
+    index: usize,
+    text: &[char],
+    start: &Start,
+    terminal: &mut Terminal,
+    scratch: &mut Reports,
+    writer: &mut Watched<W>,
+)
+    requires start { IsStart text.now start.now }
+    requires within { index < length recording.now.chunks }
+    requires scratch { SCRATCH ≤ length scratch.old.bytes }
+    ensures gave { (profile : Profile) → Shows terminal.old (up_to profile recording.now.chunks index)
+        → Gave W.contents writer.old writer.new
+        (chunk_lines_at text.now profile recording.now index) }
+    ensures shows { (profile : Profile) → Shows terminal.old (up_to profile recording.now.chunks index)
+        → Shows terminal.new (up_to profile recording.now.chunks (index + 1)) }
+    ensures scratch { SCRATCH ≤ length scratch.new.bytes }
+{
+    first_grows_by_a_chunk();
+    plays_in_parts();
+    let chunk = Chunk {
+        index,
+        due: recording.due_time(index),
+        len: text.len(),
+    };
+    let bytes = recording.chunks()[index].bytes.as_slice();
+    put_chunk(text, start, &chunk, bytes, terminal, scratch, writer);
+}
+
+/// What stands on the screen at both ends of a chunk, and where the text stands there.
+#[derive(Drop)]
+struct Ends<'a> {
+    first: Standing<'a>,
+    last: Standing<'a>,
+}
+
+/// Plays a chunk, and writes what went, what came and went inside it, and what came. Lines of what went stand
+/// before all others, so a chunk is played twice.
+fn put_chunk<W: Write>(
+    text: &[char],
+    start: &Start,
+    chunk: &Chunk,
+    bytes: &[u8],
+    terminal: &mut Terminal,
+    scratch: &mut Reports,
+    writer: &mut Watched<W>,
+)
+    requires len { chunk.now.len ≡ length text.now }
+    requires start { IsStart text.now start.now }
+    requires scratch { SCRATCH ≤ length scratch.old.bytes }
+    ensures gave { (x : Term) → Shows terminal.old x → Gave W.contents writer.old writer.new
+        (chunk_lines text.now chunk.now.index chunk.now.due x bytes.now) }
+    ensures shows { (x : Term) → Shows terminal.old x
+        → Shows terminal.new (play x bytes.now) }
+    ensures scratch { SCRATCH ≤ length scratch.new.bytes }
+{
+    gives_join::<W>();
+    let before = Still::of(terminal);
+    let after = still_behind(terminal, bytes, scratch);
+    let firsts = standing(&before, text);
+    let lasts = standing(&after, text);
+    let ends = Ends {
+        first: Standing {
+            still: &before,
+            places: firsts.as_slice(),
+        },
+        last: Standing {
+            still: &after,
+            places: lasts.as_slice(),
+        },
+    };
+    put_less(b'-', chunk, &ends.first, &ends.last, writer);
+    put_bytes(text, start, chunk, &ends, bytes, terminal, scratch, writer);
+    put_less(b'+', chunk, &ends.last, &ends.first, writer);
+}
+
+/// What stands on the screen of a terminal, once it has taken these bytes. It stays as it is.
+fn still_behind(terminal: &Terminal, bytes: &[u8], scratch: &mut Reports) -> Still
+    requires { SCRATCH ≤ length scratch.old.bytes }
+    ensures still { (x : Term) → Shows terminal.now x
+        → result ≡ still_of (play x bytes.now).console }
+    ensures scratch { SCRATCH ≤ length scratch.new.bytes }
+{
+    let mut played = Terminal::reset();
+    played.copy_from(terminal);
+    play_all(&mut played, bytes, scratch);
+    Still::of(&played)
+}
+
+/// Plays bytes one by one.
+fn play_all(terminal: &mut Terminal, bytes: &[u8], scratch: &mut Reports)
+    requires { SCRATCH ≤ length scratch.old.bytes }
+    ensures shows { (x : Term) → Shows terminal.old x → Shows terminal.new (play x bytes.now) }
+    ensures scratch { SCRATCH ≤ length scratch.new.bytes }
+{
+    plays_in_parts();
+    for at in 0..bytes.len() {
+        step(terminal, bytes[at], scratch);
+    }
+}
+
+/// Plays one byte, and never wants memory: the reply to it goes over what the scratch list holds.
+fn step(terminal: &mut Terminal, byte: u8, scratch: &mut Reports)
+    requires { SCRATCH ≤ length scratch.old.bytes }
+    ensures shows { (x : Term) → Shows terminal.old x → Shows terminal.new (play x (byte ∷ [])) }
+    ensures scratch { SCRATCH ≤ length scratch.new.bytes }
+{
+    right_margins();
+    the_front_stays();
+    let _screen = terminal.screen();
+    scratch.set_place(0);
+    let _done = terminal.feed_in_place(&[byte], scratch);
+}
+
+/// Plays a chunk's bytes, and writes what went inside it.
+fn put_bytes<W: Write>(
+    text: &[char],
+    start: &Start,
+    chunk: &Chunk,
+    ends: &Ends<'_>,
+    bytes: &[u8],
+    terminal: &mut Terminal,
+    scratch: &mut Reports,
+    writer: &mut Watched<W>,
+)
+    requires len { chunk.now.len ≡ length text.now }
+    requires start { IsStart text.now start.now }
+    requires first { All (IsPlace ends.now.first.still.now) ends.now.first.places.now }
+    requires last { All (IsPlace ends.now.last.still.now) ends.now.last.places.now }
+    requires scratch { SCRATCH ≤ length scratch.old.bytes }
+    ensures gave { (x : Term) → Shows terminal.old x → Gave W.contents writer.old writer.new
+        (flat_map (byte_lines text.now chunk.now.index chunk.now.due
+        ends.now.first.still.now ends.now.first.places.now
+        ends.now.last.still.now ends.now.last.places.now x bytes.now)
+        (range_with_len 0 (length bytes.now))) }
+    ensures shows { (x : Term) → Shows terminal.old x
+        → Shows terminal.new (play x bytes.now) }
+    ensures scratch { SCRATCH ≤ length scratch.new.bytes }
+{
+    gives_join::<W>();
+    plays_in_parts();
+    let mut still = Still::of(terminal);
+    for at in 0..bytes.len() {
+        step(terminal, bytes[at], scratch);
+        put_byte(text, start, chunk, ends, &mut still, terminal, writer);
+    }
+}
+
+/// Writes what went at a byte, by what stood before it and on the terminal after it, which becomes what stands
+/// before the next one.
+fn put_byte<W: Write>(
+    text: &[char],
+    start: &Start,
+    chunk: &Chunk,
+    ends: &Ends<'_>,
+    still: &mut Still,
+    terminal: &Terminal,
+    writer: &mut Watched<W>,
+)
+    requires start { IsStart text.now start.now }
+    requires first { All (IsPlace ends.now.first.still.now) ends.now.first.places.now }
+    requires last { All (IsPlace ends.now.last.still.now) ends.now.last.places.now }
+    ensures gave { let other = still_of terminal.now.console in
+        Gave W.contents writer.old writer.new
+        (passed_lines chunk.now.index chunk.now.due chunk.now.len
+        ends.now.first.still.now ends.now.first.places.now
+        ends.now.last.still.now ends.now.last.places.now
+        still.old (standing text.now still.old) other (standing text.now other)) }
+    ensures after { still.new ≡ still_of terminal.now.console }
+{
+    let changed = still.changed_lines(terminal);
+    let lines = changed.as_slice();
+    put_changed(text, start, chunk, ends, still, terminal, lines, writer);
+    still.catch_up(terminal, lines);
+}
+
+/// The same by the lines that the byte changed: where the text surely stays in them nothing went.
+fn put_changed<W: Write>(
+    text: &[char],
+    start: &Start,
+    chunk: &Chunk,
+    ends: &Ends<'_>,
+    before: &Still,
+    terminal: &Terminal,
+    lines: &[u8],
+    writer: &mut Watched<W>,
+)
+    requires start { IsStart text.now start.now }
+    requires changed { lines.now
+        ≡ changed_lines before.now.rows terminal.now.console.picture.rows }
+    requires first { All (IsPlace ends.now.first.still.now) ends.now.first.places.now }
+    requires last { All (IsPlace ends.now.last.still.now) ends.now.last.places.now }
+    ensures { let other = still_of terminal.now.console in
+        Gave W.contents writer.old writer.new
+        (passed_lines chunk.now.index chunk.now.due chunk.now.len
+        ends.now.first.still.now ends.now.first.places.now
+        ends.now.last.still.now ends.now.last.places.now
+        before.now (standing text.now before.now) other (standing text.now other)) }
+{
+    gives_join::<W>();
+    if stays(text, start, before, terminal, lines) {
+        return;
+    }
+    put_laid_out(text, chunk, ends, before, terminal, writer);
+}
+
+/// Writes what went at a byte, by laying out both screens. Its variables are large, so it stands apart.
+#[cold]
+#[inline(never)]
+fn put_laid_out<W: Write>(
+    text: &[char],
+    chunk: &Chunk,
+    ends: &Ends<'_>,
+    before: &Still,
+    terminal: &Terminal,
+    writer: &mut Watched<W>,
+)
+    requires first { All (IsPlace ends.now.first.still.now) ends.now.first.places.now }
+    requires last { All (IsPlace ends.now.last.still.now) ends.now.last.places.now }
+    ensures { let other = still_of terminal.now.console in
+        Gave W.contents writer.old writer.new
+        (passed_lines chunk.now.index chunk.now.due chunk.now.len
+        ends.now.first.still.now ends.now.first.places.now
+        ends.now.last.still.now ends.now.last.places.now
+        before.now (standing text.now before.now) other (standing text.now other)) }
+{
+    let after = Still::of(terminal);
+    let went = standing(before, text);
+    let left = standing(&after, text);
+    let one = Standing {
+        still: before,
+        places: went.as_slice(),
+    };
+    let other = Standing {
+        still: &after,
+        places: left.as_slice(),
+    };
+    put_passed(chunk, ends, &one, &other, writer);
+}
+
+/// Writes the lines of what went at a byte and stood so at neither end.
+fn put_passed<W: Write>(
+    chunk: &Chunk,
+    ends: &Ends<'_>,
+    one: &Standing<'_>,
+    other: &Standing<'_>,
+    writer: &mut Watched<W>,
+)
+    requires first { All (IsPlace ends.now.first.still.now) ends.now.first.places.now }
+    requires last { All (IsPlace ends.now.last.still.now) ends.now.last.places.now }
+    requires here { All (IsPlace one.now.still.now) one.now.places.now }
+    requires there { All (IsPlace other.now.still.now) other.now.places.now }
+    ensures { Gave W.contents writer.old writer.new
+        (passed_lines chunk.now.index chunk.now.due chunk.now.len
+        ends.now.first.still.now ends.now.first.places.now
+        ends.now.last.still.now ends.now.last.places.now
+        one.now.still.now one.now.places.now other.now.still.now other.now.places.now) }
+{
+    gives_join::<W>();
+    for at in 0..one.places.len() {
+        put_if_passed(chunk, ends, one, at, other, writer);
+    }
+}
+
+/// Writes the line of one place, where it went at a byte and stood so at neither end.
+fn put_if_passed<W: Write>(
+    chunk: &Chunk,
+    ends: &Ends<'_>,
+    one: &Standing<'_>,
+    at: usize,
+    other: &Standing<'_>,
+    writer: &mut Watched<W>,
+)
+    requires within { at < length one.now.places.now }
+    requires first { All (IsPlace ends.now.first.still.now) ends.now.first.places.now }
+    requires last { All (IsPlace ends.now.last.still.now) ends.now.last.places.now }
+    requires here { All (IsPlace one.now.still.now) one.now.places.now }
+    requires there { All (IsPlace other.now.still.now) other.now.places.now }
+    ensures { Gave W.contents writer.old writer.new
+        (passed_line chunk.now.index chunk.now.due chunk.now.len
+        ends.now.first.still.now ends.now.first.places.now
+        ends.now.last.still.now ends.now.last.places.now
+        one.now.still.now one.now.places.now other.now.still.now other.now.places.now at) }
+{
+    gives_join::<W>();
+    if is_less(one, at, other) && is_lone(ends, one, at) {
+        put_found(b'~', chunk, one.still, one.places[at], writer);
+    }
+}
+
+/// Whether neither end has anything with the same to the left.
+fn is_lone(ends: &Ends<'_>, one: &Standing<'_>, at: usize) -> bool
+    requires within { at < length one.now.places.now }
+    requires first { All (IsPlace ends.now.first.still.now) ends.now.first.places.now }
+    requires last { All (IsPlace ends.now.last.still.now) ends.now.last.places.now }
+    requires here { All (IsPlace one.now.still.now) one.now.places.now }
+    ensures { let place = slice_index_or one.now.places.now at (place_in 1 1) in
+        result ≡ (is_lone ends.now.first.still.now ends.now.first.places.now
+        (left_of one.now.still.now place)
+        && is_lone ends.now.last.still.now ends.now.last.places.now
+        (left_of one.now.still.now place)) }
+{
+    let place = one.places[at];
+    count_left(ends.first.still, ends.first.places, one.still, place) == 0
+        && count_left(ends.last.still, ends.last.places, one.still, place) == 0
+}
