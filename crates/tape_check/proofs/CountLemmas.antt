@@ -22,6 +22,7 @@ use Rattle.vt_parser.specs.Formless.{formless_of, NoneEndsBehind}
 use Rattle.vt_parser.specs.Token.{TellsOf, Leads}
 use Rattle.vt_term.specs.declared.profile.Profile.{Profile}
 use Rattle.tape_check.specs.declared.unplayed.Counts.{Counts}
+use Rattle.tape_check.specs.declared.played.PlayedAs.TheVariants.{Vt}
 use Rattle.tape_check.specs.Unplayed.{command_names, formless_names}
 use Rattle.tape_check.specs.declared.scan.Scanner.{Scanner}
 use Rattle.tape_check.specs.Scan.{Scan, mode_left_by, scan_step, names_in, counted}
@@ -115,7 +116,7 @@ pub scanned_told : (laws : LawsBelow) (old : Scanner) (mid new : Counts) (state 
     → TellsOf old.mode s.mode s.pending taken given → NoneEndsBehind old.mode s.mode s.pending taken → Leads old.parser old.mode taken state
     → mode ≡ mode_left_by (told token) old.mode
     → entries_of mid ≡ fold counted (entries_of old.counts) (formless_names (formless_of s.mode s.pending (get_or taken 0 0)))
-    → entries_of new ≡ fold counted (entries_of mid) (command_names old.profile (told token))
+    → entries_of new ≡ fold counted (entries_of mid) (command_names (Vt old.profile) (told token))
     → Scanned old (scanner old.profile mode state new) s taken
 scanned_told laws old mid new state mode s [] given token some same follows tells none leads mode_is first more = absurd (omega arith)
 scanned_told laws old mid new state mode s (byte ∷ rest) given token some same follows tells none leads mode_is first more =
@@ -133,7 +134,7 @@ scanned_told laws old mid new state mode s (byte ∷ rest) given token some same
     = ap (λ (n : Mode). parser_view n pending) (sym (mode_same_bytes m bytes)) ∙ leads_here in
     let comes = comes_told laws old.profile m s.pending byte rest token tells_here none_here in
     let form = formless_names (formless_of m s.pending byte) in
-    let names = command_names old.profile (told token) in
+    let names = command_names (Vt old.profile) (told token) in
     record {
       follows = subst (Follows (scanner old.profile mode state new)) (sym comes.scan_is) (record {
         mode = ap (mode_left_by (told token)) follows.mode ∙ sym mode_is;

@@ -2,3 +2,5 @@ mod HeaderLemmas
 mod ScanLemmas
 mod CountLemmas
 mod NoteLemmas
+mod TallyLemmas
+mod TallyLaw

@@ -23,6 +23,7 @@ use Rattle.vt_term.specs.Console.{Console, effect_of}
 use Rattle.vt_term.specs.Effect.{effect}
 use Rattle.vt_term.specs.Term.{mode_of, play, step}
 use Rattle.vt_term.specs.Played.{mode_left, ModeGoesAlone}
+use Rattle.tape_check.specs.declared.played.PlayedAs.TheVariants.{Vt}
 use Rattle.tape_check.specs.Unplayed.{command_names, formless_names}
 use Rattle.tape_check.specs.Scan.{Scan, mode_left_by, scan_step, names_at, names_in, ScanFollowsPlay}
 use Rattle.tape_check.specs.Counting.{LawsBelow}
@@ -60,7 +61,7 @@ names_append profile s (byte ∷ first) second =
 abbrev scan : Mode → List ℕ → Scan
 scan mode pending = record { mode = mode; pending = pending }
 
-mode_same : (m : Mode) (byte : ℕ) → mode_after m m byte ≡ m
+pub mode_same : (m : Mode) (byte : ℕ) → mode_after m m byte ≡ m
 mode_same m byte = same (byte == escape) m
   where
     same : (b : Bool) (m : Mode) → cond b m m ≡ m
@@ -73,7 +74,7 @@ mode_same_bytes m (byte ∷ rest) = ap (λ (n : Mode). mode_after_bytes m n rest
 
 -- bytes come to a command, or none, and the sequence without one that the first of them ends
 pub record Comes (profile : Profile) (m : Mode) (pending : List ℕ) (byte : ℕ) (rest : List ℕ) (command : Option Command) : Type 0 where
-  pub names : names_in profile (scan m pending) (byte ∷ rest) ≡ formless_names (formless_of m pending byte) ++ command_names profile command
+  pub names : names_in profile (scan m pending) (byte ∷ rest) ≡ formless_names (formless_of m pending byte) ++ command_names (Vt profile) command
   pub scan_is : fold scan_step (scan m pending) (byte ∷ rest)
       ≡ scan (mode_left_by command m) (pending_after_bytes m m pending (byte ∷ rest))
 
@@ -81,8 +82,8 @@ comes_gives : (profile : Profile) (m : Mode) (pending : List ℕ) (byte : ℕ) (
     → Gives m m pending (byte ∷ rest) command → NoneEndsBehind m m pending (byte ∷ rest) → Comes profile m pending byte rest command
 unfolding names_in
 comes_gives profile m pending byte [] command gives none = record {
-  names = append-nil (formless_names (formless_of m pending byte) ++ command_names profile (command_of m pending byte))
-      ∙ ap (λ (c : Option Command). formless_names (formless_of m pending byte) ++ command_names profile c) gives;
+  names = append-nil (formless_names (formless_of m pending byte) ++ command_names (Vt profile) (command_of m pending byte))
+      ∙ ap (λ (c : Option Command). formless_names (formless_of m pending byte) ++ command_names (Vt profile) c) gives;
   scan_is = ap (λ (c : Option Command). scan (mode_left_by c m) (pending_after m pending byte)) gives;
 }
 comes_gives profile m pending byte (next ∷ rest) command gives none =
@@ -94,9 +95,9 @@ comes_gives profile m pending byte (next ∷ rest) command gives none =
     let ends : formless_of m after next ≡ None = subst (λ (n : Mode). formless_of n after next ≡ None) same none.0 in
     let form = formless_names (formless_of m pending byte) in
     record {
-      names = ap (λ (c : Option Command). (form ++ command_names profile c) ++ names_in profile (scan (mode_left_by c m) after) (next ∷ rest)) gives.0
+      names = ap (λ (c : Option Command). (form ++ command_names (Vt profile) c) ++ names_in profile (scan (mode_left_by c m) after) (next ∷ rest)) gives.0
           ∙ ap (λ (l : List (List ℕ)). l ++ names_in profile (scan m after) (next ∷ rest)) (append-nil form)
-          ∙ ap (λ (l : List (List ℕ)). form ++ l) (more.names ∙ ap (λ (f : Option Formless). formless_names f ++ command_names profile command) ends);
+          ∙ ap (λ (l : List (List ℕ)). form ++ l) (more.names ∙ ap (λ (f : Option Formless). formless_names f ++ command_names (Vt profile) command) ends);
       scan_is = ap (λ (c : Option Command). fold scan_step (scan (mode_left_by c m) after) (next ∷ rest)) gives.0 ∙ more.scan_is
           ∙ ap (λ (n : Mode). scan (mode_left_by command m) (pending_after_bytes m n after (next ∷ rest))) (sym same);
     }
@@ -114,8 +115,8 @@ module _ (laws : LawsBelow) where
   unfolding names_in
   comes_run profile m byte [] shown graphic none =
       let given = laws.graphic_is_shown m byte (and_parts (is_graphic byte) true graphic).0 in record {
-        names = append-nil (formless_names (formless_of m [] byte) ++ command_names profile (command_of m [] byte))
-            ∙ ap (λ (c : Option Command). formless_names (formless_of m [] byte) ++ command_names profile c) given.0;
+        names = append-nil (formless_names (formless_of m [] byte) ++ command_names (Vt profile) (command_of m [] byte))
+            ∙ ap (λ (c : Option Command). formless_names (formless_of m [] byte) ++ command_names (Vt profile) c) given.0;
         scan_is = ap (λ (c : Option Command). scan (mode_left_by c m) (pending_after m [] byte)) given.0;
       }
   comes_run profile m byte (next ∷ rest) shown graphic none =
@@ -131,7 +132,7 @@ module _ (laws : LawsBelow) where
       let more = comes_run profile m next rest shown parts.1 behind in
       let form = formless_names (formless_of m [] byte) in
       record {
-        names = ap (λ (c : Option Command). (form ++ command_names profile c)
+        names = ap (λ (c : Option Command). (form ++ command_names (Vt profile) c)
             ++ names_in profile (scan (mode_left_by c m) (pending_after m [] byte)) (next ∷ rest)) given.0
             ∙ ap (λ (p : List ℕ). (form ++ []) ++ names_in profile (scan m p) (next ∷ rest)) given.1
             ∙ ap (λ (l : List (List ℕ)). l ++ names_in profile (scan m []) (next ∷ rest)) (append-nil form)

@@ -1,14 +1,16 @@
 -- What the header of a recording says of it. script(1): `Script started on DATE [TERM="T" COLUMNS="C" LINES="L"]`.
-use Rattle.std.specs.Prelude.{ℕ, ◌-◌, Bool, true, not, ◌==◌, ◌&&◌, ◌||◌, nat_eq, nat_lt, nat_le, if◌then◌else◌, List, [], ◌∷◌, length, min, take, drop, position, Option, Some, None}
+use Rattle.std.specs.Prelude.{ℕ, ◌-◌, Bool, true, false, not, ◌==◌, ◌&&◌, ◌||◌, nat_eq, nat_lt, nat_le, if◌then◌else◌, List, [], ◌∷◌, length, min, take, drop, position, Option, Some, None}
 use Rattle.std.specs.List.{list_all, list_any, starts_with, ends_with}
-use Rattle.std.specs.Option.{option_or, option_map, option_and_then}
+use Rattle.std.specs.Option.{option_or, option_map, option_and_then, option_map_or}
 use Rattle.std.specs.Cmp.Lexicographic.{pointwise}
 use Rattle.std.specs.Char.{is_ascii_digit}
 use Rattle.tape_core.specs.Seconds.{last_moment}
 use Rattle.tape_core.specs.Tape.{Tape}
 use Rattle.tape_core.specs.Text.{number_of}
-use Rattle.vt_term.specs.declared.profile.Profile.{Profile}
 use Rattle.vt_term.specs.declared.profile.Profile.TheVariants.{Vt100, Vt102}
+use Rattle.tape_check.specs.declared.played.PlayedAs.{PlayedAs}
+use Rattle.tape_check.specs.declared.played.PlayedAs.TheVariants.{Vt, Today}
+use Rattle.tape_check.specs.declared.words.Word.{Word}
 use Rattle.tape_check.specs.declared.words.Word.TheVariants as word
 use Rattle.tape_check.specs.Words.{text_of}
 
@@ -101,11 +103,17 @@ told_size tape = option_and_then numbers_told (size_of (header_line tape.header)
 
 -- ---- against what is played
 
--- the size is 80x24, which is played
-abbrev pub is_played_size : Size → Bool
-is_played_size size =
+-- a text tells this number
+abbrev pub tells : ℕ → List ℕ → Bool
+tells n text = option_map_or (λ told. told == n) (number_told text) false
+
+-- The size is the one that is played: under a VT100 or a VT102 the text 80x24, under a terminal of today its columns and
+-- lines as numbers (ours).
+abbrev pub is_played_size : PlayedAs → Size → Bool
+is_played_size (Vt profile) size =
     pointwise nat_eq size.columns (text_of word.EightyColumns)
     && pointwise nat_eq size.lines (text_of word.TwentyFourLines)
+is_played_size (Today columns lines) size = tells columns size.columns && tells lines size.lines
 
 -- nothing, or `-` and anything
 abbrev pub is_variant : List ℕ → Bool
@@ -116,11 +124,31 @@ is_variant (byte ∷ rest) = byte == 45
 abbrev pub is_called : List ℕ → List ℕ → Bool
 is_called name term = starts_with nat_eq term name && is_variant (drop (length name) term)
 
--- The profile plays what was recorded under such a terminal: its own, a VT52, and a VT100 on a VT102 (ours).
-abbrev pub passes : Profile → List ℕ → Bool
-passes Vt100 term = is_called (text_of word.Vt100) term || is_called (text_of word.Vt52) term
-passes Vt102 term =
+-- `-` and `.`
+abbrev pub parts_kind : ℕ → Bool
+parts_kind byte = (byte == 45) || (byte == 46)
+
+-- the kind of a terminal: its name up to the first of these
+abbrev pub kind_of : List ℕ → List ℕ
+kind_of term = option_map_or (λ end. take end term) (position parts_kind term) term
+
+-- the kinds that a terminal of today plays (ours)
+abbrev pub kinds_of_today : List Word
+kinds_of_today =
+    word.Xterm ∷ word.Screen ∷ word.Tmux ∷ word.Linux ∷ word.Vt100 ∷ word.Vt102 ∷ word.Vt220 ∷ word.Rxvt
+    ∷ word.Alacritty ∷ word.Kitty ∷ word.Foot ∷ word.St ∷ word.Gnome ∷ word.Konsole ∷ word.Putty ∷ word.Ansi ∷ []
+
+-- a text is one of these words
+abbrev pub is_among : List Word → List ℕ → Bool
+is_among words text = list_any (λ known. pointwise nat_eq text (text_of known)) words
+
+-- What was recorded under such a terminal is played: under its own, a VT52, and a VT100 on a VT102; the kinds of today
+-- by one of today (ours).
+abbrev pub passes : PlayedAs → List ℕ → Bool
+passes (Vt Vt100) term = is_called (text_of word.Vt100) term || is_called (text_of word.Vt52) term
+passes (Vt Vt102) term =
     is_called (text_of word.Vt102) term || is_called (text_of word.Vt100) term || is_called (text_of word.Vt52) term
+passes (Today columns lines) term = is_among kinds_of_today (kind_of term)
 
 -- a byte as it is written: below 32 and from 127 on as `?` (ours)
 abbrev pub visible : ℕ → ℕ

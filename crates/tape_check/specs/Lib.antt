@@ -2,8 +2,11 @@ pub mod Words
 pub mod Header
 pub mod Sizes
 pub mod Trailer
+pub mod Quiet
 pub mod Unplayed
 pub mod Scan
+pub mod Tally
 pub mod Counting
+pub mod Tallying
 pub mod Lines
 pub mod Noting

@@ -1,11 +1,12 @@
 -- The lines of a check: facts, notes and unplayed sequences, and which of them make the recording a noted one (ours).
-use Rattle.std.specs.Prelude.{◌≡◌, ℕ, Bool, true, false, ◌||◌, nat_le, if◌then◌else◌, ◌==◌, List, [], ◌∷◌, ◌++◌, length, map, count_by, Option, Some, None, is_some, decimal}
+use Rattle.std.specs.Prelude.{◌≡◌, ℕ, Bool, true, false, ◌&&◌, ◌||◌, nat_le, fold, if◌then◌else◌, ◌==◌, List, [], ◌∷◌, ◌++◌, length, map, count_by, Option, Some, None, is_some, decimal}
 use Rattle.std.specs.List.{flat_map}
 use Rattle.tape_core.specs.Devices.{TookPart}
 use Rattle.tape_core.specs.declared.devices.Watched.{Watched}
 use Rattle.tape_core.specs.Tape.{Tape, body}
-use Rattle.vt_term.specs.declared.profile.Profile.{Profile}
 use Rattle.vt_term.specs.declared.profile.Profile.TheVariants.{Vt100, Vt102}
+use Rattle.tape_check.specs.declared.played.PlayedAs.{PlayedAs}
+use Rattle.tape_check.specs.declared.played.PlayedAs.TheVariants.{Vt, Today}
 use Rattle.tape_check.specs.declared.words.Word.TheVariants as word
 use Rattle.tape_check.specs.declared.check.CheckFault.{CheckFault}
 use Rattle.tape_check.specs.declared.check.CheckFault.TheVariants.{Write, Memory}
@@ -13,6 +14,7 @@ use Rattle.tape_check.specs.Words.{text_of}
 use Rattle.tape_check.specs.Header.{header_line, is_scripts, date_of, term_of, Size, size_of, is_played_size, passes, visible}
 use Rattle.tape_check.specs.Trailer.{is_usual, sessions_in}
 use Rattle.tape_check.specs.Scan.{unplayed_in}
+use Rattle.tape_check.specs.Tally.{tallied, tally_start, parts_of}
 
 -- ---- facts
 
@@ -51,24 +53,30 @@ facts_text line =
 abbrev pub header_note : List ℕ → Option (List ℕ)
 header_note line = if is_scripts line then None else Some (text_of word.NoHeader)
 
+-- columns, `x` and lines that are played
+abbrev pub played_size_text : PlayedAs → List ℕ
+played_size_text (Vt profile) = decimal 80 ++ (120 ∷ []) ++ decimal 24
+played_size_text (Today columns lines) = decimal columns ++ (120 ∷ []) ++ decimal lines
+
 -- another size
-abbrev pub size_note : Option Size → Option (List ℕ)
-size_note None = None
-size_note (Some size) =
-    if is_played_size size then None
-    else Some (text_of word.OtherSize ++ size_text size ++ text_of word.PlayedSize)
+abbrev pub size_note : PlayedAs → Option Size → Option (List ℕ)
+size_note played None = None
+size_note played (Some size) =
+    if is_played_size played size then None
+    else Some (text_of word.OtherSize ++ size_text size ++ (text_of word.PlayedSize ++ played_size_text played))
 
 -- the name of a profile
-abbrev pub profile_name : Profile → List ℕ
-profile_name Vt100 = text_of word.Vt100
-profile_name Vt102 = text_of word.Vt102
+abbrev pub profile_name : PlayedAs → List ℕ
+profile_name (Vt Vt100) = text_of word.Vt100
+profile_name (Vt Vt102) = text_of word.Vt102
+profile_name (Today columns lines) = text_of word.Xterm
 
 -- another terminal
-abbrev pub term_note : Profile → Option (List ℕ) → Option (List ℕ)
-term_note profile None = None
-term_note profile (Some term) =
-    if passes profile term then None
-    else Some (text_of word.OtherTerm ++ shown term ++ (text_of word.PlayedTerm ++ profile_name profile))
+abbrev pub term_note : PlayedAs → Option (List ℕ) → Option (List ℕ)
+term_note played None = None
+term_note played (Some term) =
+    if passes played term then None
+    else Some (text_of word.OtherTerm ++ shown term ++ (text_of word.PlayedTerm ++ profile_name played))
 
 -- a number between two words, where it is above 0
 abbrev pub number_note : List ℕ → ℕ → List ℕ → Option (List ℕ)
@@ -78,8 +86,24 @@ number_note head n tail = if n == 0 then None else Some (head ++ decimal n ++ ta
 unfoldable pub high_bytes : List ℕ → ℕ
 high_bytes body = count_by (λ byte. nat_le 128 byte) body
 
-abbrev pub bytes_note : ℕ → Option (List ℕ)
-bytes_note n = number_note (text_of word.HighBytes) n (text_of word.NoUtf8)
+-- what of a recording the terminal leaves out: unplayed sequences, and bytes that it doesn't show as they were meant
+pub record Left : Type 0 where
+  pub unplayed : List (List ℕ × ℕ)
+  pub bytes : ℕ
+
+-- under a VT100 or a VT102 the bytes from 128 on, under a terminal of today the parts that are no UTF-8
+unfoldable pub left_of : PlayedAs → List ℕ → Left
+left_of (Vt profile) body = record { unplayed = unplayed_in profile body; bytes = high_bytes body }
+left_of (Today columns lines) body =
+    let t = fold tallied tally_start body in record { unplayed = t.entries; bytes = parts_of t }
+
+-- what is said of such bytes
+abbrev pub bytes_word : PlayedAs → List ℕ
+bytes_word (Vt profile) = text_of word.NoUtf8
+bytes_word (Today columns lines) = text_of word.NotUtf8
+
+abbrev pub bytes_note : PlayedAs → ℕ → Option (List ℕ)
+bytes_note played n = number_note (text_of word.HighBytes) n (bytes_word played)
 
 -- bytes behind the last chunk that aren't the usual ones
 abbrev pub trailer_note : List ℕ → Option (List ℕ)
@@ -100,12 +124,12 @@ pub record Notes : Type 0 where
   pub trailer : Option (List ℕ)
   pub sessions : Option (List ℕ)
 
-abbrev pub notes_of : Profile → Tape → Notes
-notes_of profile tape = let line = header_line tape.header in record {
+abbrev pub notes_of : PlayedAs → Tape → Notes
+notes_of played tape = let line = header_line tape.header in record {
   header = header_note line;
-  size = size_note (size_of line);
-  term = term_note profile (term_of line);
-  bytes = bytes_note (high_bytes (body tape.chunks));
+  size = size_note played (size_of line);
+  term = term_note played (term_of line);
+  bytes = bytes_note played (left_of played (body tape.chunks)).bytes;
   trailer = trailer_note tape.trailer;
   sessions = sessions_note (sessions_in tape.trailer);
 }
@@ -139,21 +163,36 @@ has_note notes =
 abbrev pub unplayed_line : List ℕ × ℕ → List ℕ
 unplayed_line entry = text_of word.Unplayed ++ decimal entry.1 ++ (32 ∷ []) ++ entry.0 ++ 10 ∷ []
 
--- all lines of a check
-unfoldable pub check_text : Profile → Tape → List ℕ
-check_text profile tape =
-    facts_text (header_line tape.header)
-    ++ note_lines (notes_of profile tape)
-    ++ flat_map unplayed_line (unplayed_in profile (body tape.chunks))
-
 -- there is an entry
 abbrev pub has_any : List (List ℕ × ℕ) → Bool
 has_any [] = false
 has_any (entry ∷ rest) = true
 
+-- another terminal than one of today plays
+abbrev pub is_older : PlayedAs → Bool
+is_older (Vt profile) = true
+is_older (Today columns lines) = false
+
+-- a note speaks against the picture: on the size, the terminal or the bytes
+abbrev pub has_picture_note : Notes → Bool
+has_picture_note notes = is_some notes.size || is_some notes.term || is_some notes.bytes
+
+-- the advice to play it as a terminal of today, where another one plays and the picture isn't to be trusted (ours)
+abbrev pub advice : PlayedAs → Notes → List (List ℕ × ℕ) → List ℕ
+advice played notes unplayed =
+    if is_older played && (has_picture_note notes || has_any unplayed) then text_of word.Try else []
+
+-- all lines of a check
+unfoldable pub check_text : PlayedAs → Tape → List ℕ
+check_text played tape =
+    let notes = notes_of played tape in
+    let unplayed = (left_of played (body tape.chunks)).unplayed in
+    facts_text (header_line tape.header) ++ note_lines notes ++ flat_map unplayed_line unplayed
+    ++ advice played notes unplayed
+
 -- a note or an unplayed sequence is among them
-unfoldable pub is_noted : Profile → Tape → Bool
-is_noted profile tape = has_note (notes_of profile tape) || has_any (unplayed_in profile (body tape.chunks))
+unfoldable pub is_noted : PlayedAs → Tape → Bool
+is_noted played tape = has_note (notes_of played tape) || has_any (left_of played (body tape.chunks)).unplayed
 
 -- A check stops: a beginning of its text has gone out and the writer failed in it, or nothing yet where memory was
 -- refused.
@@ -169,10 +208,10 @@ part_if None = []
 part_if (Some part) = part ∷ []
 
 -- its size, its terminal and its further sessions, those of the notes that hold
-unfoldable pub parts : Profile → Tape → List (List ℕ)
-parts profile tape =
-    part_if (size_note (size_of (header_line tape.header)))
-    ++ part_if (term_note profile (term_of (header_line tape.header)))
+unfoldable pub parts : PlayedAs → Tape → List (List ℕ)
+parts played tape =
+    part_if (size_note played (size_of (header_line tape.header)))
+    ++ part_if (term_note played (term_of (header_line tape.header)))
     ++ part_if (sessions_note (sessions_in tape.trailer))
 
 -- there is one
@@ -186,11 +225,23 @@ parts_text [] = []
 parts_text (part ∷ rest) = part ++ flat_map (λ next. text_of word.Separator ++ next) rest
 
 -- whether a part is there
-abbrev pub has_parts : Profile → Tape → Bool
-has_parts profile tape = has_part (parts profile tape)
+abbrev pub has_parts : PlayedAs → Tape → Bool
+has_parts played tape = has_part (parts played tape)
+
+-- one on the size or the terminal is there
+abbrev pub has_header_part : PlayedAs → Tape → Bool
+has_header_part played tape =
+    is_some (size_note played (size_of (header_line tape.header)))
+    || is_some (term_note played (term_of (header_line tape.header)))
+
+-- what the line ends with: where to read more, and the advice where it may help
+abbrev pub ending_by : Bool → List ℕ
+ending_by advised = text_of (if advised then word.EndingTry else word.Ending)
 
 -- the line on standard error, where one is there
-abbrev pub note_line : Profile → Tape → List ℕ
-note_line profile tape =
-    if has_parts profile tape
-    then text_of word.Beginning ++ parts_text (parts profile tape) ++ text_of word.Ending else []
+abbrev pub note_line : PlayedAs → Tape → List ℕ
+note_line played tape =
+    if has_parts played tape
+    then text_of word.Beginning ++ parts_text (parts played tape)
+    ++ ending_by (is_older played && has_header_part played tape)
+    else []

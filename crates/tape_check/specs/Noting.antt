@@ -7,14 +7,15 @@ use Rattle.tape_check.specs.declared.check.Parts.{Parts}
 use Rattle.tape_check.specs.declared.words.Word.TheVariants as word
 use Rattle.tape_check.specs.Words.{text_of}
 use Rattle.tape_check.specs.Sizes.{size_seen}
-use Rattle.tape_check.specs.Lines.{Notes, part_if, shown, size_text, profile_name}
+use Rattle.tape_check.specs.Lines.{Notes, part_if, shown, size_text, played_size_text, profile_name, bytes_word}
 
 abbrev pub note_seen : NoteLent → List ℕ
 note_seen Header = text_of word.NoHeader
-note_seen (Size size) = text_of word.OtherSize ++ size_text (size_seen size) ++ text_of word.PlayedSize
-note_seen (Term term profile) =
-    text_of word.OtherTerm ++ shown term.now ++ (text_of word.PlayedTerm ++ profile_name profile)
-note_seen (Bytes n) = text_of word.HighBytes ++ decimal n ++ text_of word.NoUtf8
+note_seen (Size size played) =
+    text_of word.OtherSize ++ size_text (size_seen size) ++ (text_of word.PlayedSize ++ played_size_text played)
+note_seen (Term term played) =
+    text_of word.OtherTerm ++ shown term.now ++ (text_of word.PlayedTerm ++ profile_name played)
+note_seen (Bytes n played) = text_of word.HighBytes ++ decimal n ++ bytes_word played
 note_seen (Trailer n) = text_of word.Trailing ++ decimal n ++ text_of word.NeverShown
 note_seen (Sessions n) = text_of word.Sessions ++ decimal n ++ text_of word.MoreSessions
 

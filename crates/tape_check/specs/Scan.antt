@@ -1,4 +1,5 @@
--- The unplayed sequences of a recording: bytes read as a terminal reads them, of all of which the mode is kept alone.
+-- The unplayed sequences of a recording under a VT100 or a VT102: bytes read as it reads them, of all of which the mode is
+-- kept alone.
 use Rattle.std.specs.Prelude.{◌≡◌, ℕ, ◌+◌, List, [], ◌∷◌, ◌++◌, fold, Option, Some, None, unwrap_or}
 use Rattle.std.specs.Ordering.{nat_cmp, is_eq}
 use Rattle.std.specs.Cmp.Lexicographic.{slice_cmp}
@@ -12,6 +13,7 @@ use Rattle.vt_parser.specs.Formless.{formless_of}
 use Rattle.vt_term.specs.declared.profile.Profile.{Profile}
 use Rattle.vt_term.specs.Term.{Term, mode_of, play}
 use Rattle.vt_term.specs.Played.{mode_left}
+use Rattle.tape_check.specs.declared.played.PlayedAs.TheVariants.{Vt}
 use Rattle.tape_check.specs.Unplayed.{command_names, formless_names}
 
 -- the mode, and the bytes of the sequence that isn't finished
@@ -38,7 +40,7 @@ scan_step s byte = record {
 -- the unplayed sequences that a byte ends
 abbrev pub names_at : Profile → Scan → ℕ → List (List ℕ)
 names_at profile s byte =
-    formless_names (formless_of s.mode s.pending byte) ++ command_names profile (command_of s.mode s.pending byte)
+    formless_names (formless_of s.mode s.pending byte) ++ command_names (Vt profile) (command_of s.mode s.pending byte)
 
 -- those that bytes end, in the order in which they come
 unfoldable pub names_in : Profile → Scan → List ℕ → List (List ℕ)

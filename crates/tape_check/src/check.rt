@@ -1,18 +1,21 @@
 //! A check of a recording: what it says of itself, and what of it this terminal can't show.
-ghost use Rattle.std.specs.Prelude.{◌≡◌, ◌||◌, ◌++◌, ◌∷◌, [], decimal, false, IfErr, IfOk, OnOk, is_some, true};
+ghost use Rattle.std.specs.Prelude.{◌≡◌, ◌≤◌, ◌&&◌, ◌||◌, ◌++◌, ◌∷◌, [], decimal, false, IfErr, IfOk, OnOk, is_some, true};
 ghost use Rattle.std.specs.List.{flat_map};
 ghost use Rattle.tape_core.specs.Devices.{Gave, Took, TookPart, has_failed};
+ghost use Rattle.tape_core.specs.Tape.{body, body_len, longest_body};
 ghost use Rattle.tape_check.specs.Words.{text_of};
 ghost use Rattle.tape_check.specs.Header.{header_line};
-ghost use Rattle.tape_check.specs.Lines.{StopsCheck, check_text, facts_text, has_any, has_note, has_part, has_parts, is_noted, note_line, note_lines, parts_text, unplayed_line};
+ghost use Rattle.tape_check.specs.Lines.{StopsCheck, advice, check_text, ending_by, facts_text, has_any, has_note, has_part, has_parts, has_picture_note, is_noted, is_older, left_of, note_line, note_lines, parts_text, unplayed_line};
 ghost use Rattle.tape_check.specs.Counting.{entries_of};
 ghost use Rattle.tape_check.specs.Noting.{further, notes_seen, parts_in_turn, parts_seen, seen_if};
 
 use crate::header::{header_line, size_of, term_of};
 use crate::notes::{
-    Note, Notes, notes_of, put_facts, put_further, sessions_note, size_note, term_note,
+    Note, Notes, high_bytes, notes_of, put_facts, put_further, sessions_note, size_note, term_note,
 };
+use crate::played::PlayedAs;
 use crate::scan::unplayed_in;
+use crate::tally::tally;
 use crate::trailer::sessions_in;
 use crate::unplayed::Counts;
 use crate::words::Word;
@@ -20,8 +23,7 @@ use itoa::Buffer;
 use std::alloc::{AllocError, Global};
 use std::io::Write;
 use tape_core::laws::gives_join;
-use tape_core::{Fault, Recording, Watched};
-use vt_term::Profile;
+use tape_core::{Chunk, Fault, Recording, Watched};
 
 /// Why a check isn't written whole.
 #[derive(Debug, Clone, Copy, PartialEq, Eq)]
@@ -58,21 +60,67 @@ impl From<AllocError> for CheckFault {
 pub fn write_check<W: Write>(
     alloc: Global,
     recording: &Recording,
-    profile: Profile,
+    played: PlayedAs,
     writer: &mut Watched<W>,
 ) -> Result<bool, CheckFault>
     requires { has_failed writer.old ≡ false }
     ensures ok { OnOk result
-        (Took W.contents writer.old writer.new (check_text profile recording.now)) }
-    ensures noted { IfOk result (λ noted. noted ≡ is_noted profile recording.now) }
+        (Took W.contents writer.old writer.new (check_text played recording.now)) }
+    ensures noted { IfOk result (λ noted. noted ≡ is_noted played recording.now) }
     ensures fault { IfErr result
-        (StopsCheck W.contents writer.old writer.new (check_text profile recording.now)) }
+        (StopsCheck W.contents writer.old writer.new (check_text played recording.now)) }
 {
-    let counts = unplayed_in(alloc, profile, recording.chunks())?;
-    let notes = notes_of(recording, profile);
-    put_check(header_line(recording.header()), &notes, &counts, writer);
+    let left = left_of(alloc, played, recording.chunks())?;
+    let notes = notes_of(recording, played, left.bytes);
+    let line = header_line(recording.header());
+    put_check(line, played, &notes, &left.unplayed, writer);
     writer.ask()?;
-    Ok(is_noted(&notes, &counts))
+    Ok(is_noted(&notes, &left.unplayed))
+}
+
+/// What of a recording a terminal leaves out.
+#[derive(Drop)]
+struct Left {
+    unplayed: Counts,
+    bytes: u64,
+}
+
+#[tactic(auto, unfolding(crate::specs::Lines::left_of))]
+fn left_of(alloc: Global, played: PlayedAs, chunks: &[Chunk]) -> Result<Left, AllocError>
+    requires { body_len chunks.now ≤ longest_body }
+    ensures unplayed { IfOk result (λ left.
+        entries_of left.unplayed ≡ (left_of played (body chunks.now)).unplayed) }
+    ensures bytes { IfOk result (λ left. left.bytes ≡ (left_of played (body chunks.now)).bytes) }
+{
+    match played {
+        PlayedAs::Vt(profile) => Ok(Left {
+            unplayed: unplayed_in(alloc, profile, chunks)?,
+            bytes: high_bytes(chunks),
+        }),
+        PlayedAs::Today { .. } => {
+            let (unplayed, bytes) = tally(alloc, chunks)?;
+            Ok(Left { unplayed, bytes })
+        }
+    }
+}
+
+impl PlayedAs {
+    // Whether another terminal than one of today plays.
+    fn is_older(self) -> bool
+        ensures { result ≡ is_older self }
+    {
+        match self {
+            PlayedAs::Vt(_) => true,
+            PlayedAs::Today { .. } => false,
+        }
+    }
+}
+
+// Whether the picture isn't to be trusted.
+fn is_untrue(notes: &Notes<'_>, counts: &Counts) -> bool
+    ensures { result ≡ (has_picture_note (notes_seen notes.now) || has_any (entries_of counts.now)) }
+{
+    notes.any_on_picture() || !counts.entries.is_empty()
 }
 
 fn is_noted(notes: &Notes<'_>, counts: &Counts) -> bool
@@ -81,15 +129,38 @@ fn is_noted(notes: &Notes<'_>, counts: &Counts) -> bool
     notes.any() || !counts.entries.is_empty()
 }
 
-fn put_check<W: Write>(line: &[u8], notes: &Notes<'_>, counts: &Counts, writer: &mut Watched<W>)
+fn put_check<W: Write>(
+    line: &[u8],
+    played: PlayedAs,
+    notes: &Notes<'_>,
+    counts: &Counts,
+    writer: &mut Watched<W>,
+)
     ensures { Gave W.contents writer.old writer.new
         (facts_text line.now ++ note_lines (notes_seen notes.now)
-        ++ flat_map unplayed_line (entries_of counts.now)) }
+        ++ flat_map unplayed_line (entries_of counts.now)
+        ++ advice played (notes_seen notes.now) (entries_of counts.now)) }
 {
     gives_join::<W>();
     put_facts(line, writer);
     notes.put(writer);
     put_unplayed(counts, writer);
+    put_advice(played, notes, counts, writer);
+}
+
+fn put_advice<W: Write>(
+    played: PlayedAs,
+    notes: &Notes<'_>,
+    counts: &Counts,
+    writer: &mut Watched<W>,
+)
+    ensures { Gave W.contents writer.old writer.new
+        (advice played (notes_seen notes.now) (entries_of counts.now)) }
+{
+    gives_join::<W>();
+    if played.is_older() && is_untrue(notes, counts) {
+        writer.give(Word::Try.text());
+    }
 }
 
 fn put_unplayed<W: Write>(counts: &Counts, writer: &mut Watched<W>)
@@ -126,27 +197,27 @@ fn put_count<W: Write>(count: u64, writer: &mut Watched<W>)
 #[tactic(auto, unfolding(crate::specs::Lines::parts))]
 pub fn put_parts<W: Write>(
     recording: &Recording,
-    profile: Profile,
+    played: PlayedAs,
     writer: &mut Watched<W>,
 ) -> Result<bool, Fault>
     requires { has_failed writer.old ≡ false }
     ensures ok { OnOk result
-        (Took W.contents writer.old writer.new (note_line profile recording.now)) }
-    ensures told { IfOk result (λ told. told ≡ has_parts profile recording.now) }
+        (Took W.contents writer.old writer.new (note_line played recording.now)) }
+    ensures told { IfOk result (λ told. told ≡ has_parts played recording.now) }
     ensures fault { IfErr result (λ fault. (fault ≡ Fault.WriteFault)
-        × TookPart W.contents writer.old writer.new (note_line profile recording.now) true) }
+        × TookPart W.contents writer.old writer.new (note_line played recording.now) true) }
 {
     gives_join::<W>();
     let line = header_line(recording.header());
     let parts = Parts {
-        size: size_note(size_of(line)),
-        term: term_note(profile, term_of(line)),
+        size: size_note(played, size_of(line)),
+        term: term_note(played, term_of(line)),
         sessions: sessions_note(sessions_in(recording.trailer())),
     };
     if !parts.any() {
         return Ok(false);
     }
-    parts.put_line(writer);
+    parts.put_line(played.is_older(), writer);
     writer.ask()?;
     Ok(true)
 }
@@ -166,14 +237,25 @@ impl Parts<'_> {
         self.size.is_some() || self.term.is_some() || self.sessions.is_some()
     }
 
-    fn put_line<W: Write>(&self, writer: &mut Watched<W>)
+    fn put_line<W: Write>(&self, is_older: bool, writer: &mut Watched<W>)
         ensures { Gave W.contents writer.old writer.new
-            (text_of Word.Beginning ++ parts_text (parts_seen self.now) ++ text_of Word.Ending) }
+            (text_of Word.Beginning ++ parts_text (parts_seen self.now)
+            ++ ending_by (is_older && (is_some self.now.size || is_some self.now.term))) }
     {
         gives_join::<W>();
         writer.give(Word::Beginning.text());
         self.put(writer);
-        writer.give(Word::Ending.text());
+        writer.give(self.ending(is_older).text());
+    }
+
+    // What the line ends with.
+    fn ending(&self, is_older: bool) -> Word
+        ensures { text_of result ≡ ending_by (is_older && (is_some self.now.size || is_some self.now.term)) }
+    {
+        if is_older && self.has_header_note() {
+            return Word::EndingTry;
+        }
+        Word::Ending
     }
 
     fn put<W: Write>(&self, writer: &mut Watched<W>)

@@ -4,8 +4,9 @@ ghost use Rattle.std.specs.List.{list_any, starts_with};
 ghost use Rattle.std.specs.Option.{option_copied, option_map};
 ghost use Rattle.tape_check.specs.Words.{text_of};
 ghost use Rattle.tape_check.specs.Sizes.{size_seen};
-ghost use Rattle.tape_check.specs.Header.{header_line, is_scripts, is_before_name, behind_prefix, behind_label, behind_last, before_quote, value_of, before_bracket, date_of, term_of, is_count, size_of, told_size, is_played_size, is_called, passes, visible};
+ghost use Rattle.tape_check.specs.Header.{header_line, is_scripts, is_before_name, behind_prefix, behind_label, behind_last, before_quote, value_of, before_bracket, date_of, term_of, is_count, size_of, told_size, tells, is_played_size, is_called, kind_of, kinds_of_today, is_among, parts_kind, passes, visible};
 
+use crate::played::PlayedAs;
 use crate::words::Word;
 use tape_core::Recording;
 use tape_core::text::{are_digits, read_number};
@@ -20,10 +21,18 @@ pub(crate) struct Size<'a> {
 
 impl Size<'_> {
     /// Whether it is the size that is played.
-    pub(crate) fn is_played(&self) -> bool
-        ensures { result ≡ is_played_size (size_seen self.now) }
+    pub(crate) fn is_played(&self, played: PlayedAs) -> bool
+        ensures { result ≡ is_played_size played (size_seen self.now) }
     {
-        self.columns == Word::EightyColumns.text() && self.lines == Word::TwentyFourLines.text()
+        match played {
+            PlayedAs::Vt(_) => {
+                self.columns == Word::EightyColumns.text()
+                    && self.lines == Word::TwentyFourLines.text()
+            }
+            PlayedAs::Today { columns, lines } => {
+                tells(columns, self.columns) && tells(lines, self.lines)
+            }
+        }
     }
 }
 
@@ -188,9 +197,28 @@ pub(crate) fn first_of(wanted: u8, text: &[u8]) -> Option<usize>
     text.iter().position(|byte| *byte == wanted)
 }
 
-/// Whether a profile plays what was recorded under a terminal of this name.
-pub(crate) fn passes(profile: Profile, term: &[u8]) -> bool
-    ensures { result ≡ passes profile term.now }
+// Whether a text tells this number.
+fn tells(n: u16, text: &[u8]) -> bool
+    ensures { result ≡ tells n text.now }
+{
+    match read_number(text) {
+        Some(told) => told == u64::from(n),
+        None => false,
+    }
+}
+
+/// Whether what was recorded under a terminal of this name is played.
+pub(crate) fn passes(played: PlayedAs, term: &[u8]) -> bool
+    ensures { result ≡ passes played term.now }
+{
+    match played {
+        PlayedAs::Vt(profile) => passes_vt(profile, term),
+        PlayedAs::Today { .. } => is_of_today(kind_of(term)),
+    }
+}
+
+fn passes_vt(profile: Profile, term: &[u8]) -> bool
+    ensures { result ≡ passes (PlayedAs.Vt profile) term.now }
 {
     if is_called(Word::Vt52, term) || is_called(Word::Vt100, term) {
         return true;
@@ -199,6 +227,63 @@ pub(crate) fn passes(profile: Profile, term: &[u8]) -> bool
         Profile::Vt100 => false,
         Profile::Vt102 => is_called(Word::Vt102, term),
     }
+}
+
+// `-` and `.`.
+fn parts_kind(byte: u8) -> bool
+    ensures { result ≡ parts_kind byte }
+{
+    matches!(byte, b'-' | b'.')
+}
+
+fn kind_end(term: &[u8]) -> Option<usize>
+    ensures { result ≡ position parts_kind term.now }
+{
+    term.iter().position(|byte| parts_kind(*byte))
+}
+
+// The kind of a terminal: its name up to the first `-` or `.`.
+fn kind_of(term: &[u8]) -> &[u8]
+    ensures { result.now ≡ kind_of term.now }
+{
+    match kind_end(term) {
+        Some(end) => &term[..end],
+        None => term,
+    }
+}
+
+// Whether terminals of this kind are of today.
+fn is_of_today(kind: &[u8]) -> bool
+    ensures { result ≡ is_among kinds_of_today kind.now }
+{
+    is_among(
+        &[
+            Word::Xterm,
+            Word::Screen,
+            Word::Tmux,
+            Word::Linux,
+            Word::Vt100,
+            Word::Vt102,
+            Word::Vt220,
+            Word::Rxvt,
+            Word::Alacritty,
+            Word::Kitty,
+            Word::Foot,
+            Word::St,
+            Word::Gnome,
+            Word::Konsole,
+            Word::Putty,
+            Word::Ansi,
+        ],
+        kind,
+    )
+}
+
+// Whether a text is one of these words.
+fn is_among(words: &[Word], text: &[u8]) -> bool
+    ensures { result ≡ is_among words.now text.now }
+{
+    words.iter().any(|known| text == known.text())
 }
 
 // Whether a terminal's name is this one, alone or with `-` and anything behind it.

@@ -1,5 +1,5 @@
 //! What is noted of a recording.
-ghost use Rattle.std.specs.Prelude.{◌≡◌, ◌≤◌, ◌++◌, ◌∷◌, [], count_by, false, length, nat_le};
+ghost use Rattle.std.specs.Prelude.{◌≡◌, ◌≤◌, ◌++◌, ◌∷◌, [], count_by, decimal, false, length, nat_le};
 ghost use Rattle.std.specs.Option.{option_copied, option_map};
 ghost use Rattle.tape_core.specs.Devices.{Gave, has_failed};
 ghost use Rattle.tape_core.specs.Tape.{body, body_len, longest_body};
@@ -7,10 +7,11 @@ ghost use Rattle.tape_check.specs.Words.{text_of};
 ghost use Rattle.tape_check.specs.Header.{size_of, term_of};
 ghost use Rattle.tape_check.specs.Trailer.{sessions_in};
 ghost use Rattle.tape_check.specs.Sizes.{size_seen};
-ghost use Rattle.tape_check.specs.Lines.{body_note_lines, bytes_note, facts_text, has_note, header_note, header_note_lines, high_bytes, line_if, note_lines, notes_of, profile_name, sessions_note, shown, shown_if, size_note, size_text, size_text_if, term_note, trailer_note};
+ghost use Rattle.tape_check.specs.Lines.{body_note_lines, bytes_note, facts_text, bytes_word, has_note, has_picture_note, header_note, header_note_lines, high_bytes, left_of, line_if, note_lines, notes_of, played_size_text, profile_name, sessions_note, shown, shown_if, size_note, size_text, size_text_if, term_note, trailer_note};
 ghost use Rattle.tape_check.specs.Noting.{further, note_seen, notes_seen, seen_if, separator};
 
 use crate::header::{Size, date_of, header_line, is_scripts, passes, size_of, term_of, visible};
+use crate::played::PlayedAs;
 use crate::trailer::{is_usual, sessions_in};
 use crate::words::Word;
 use itoa::{Buffer, Integer};
@@ -23,9 +24,9 @@ use vt_term::Profile;
 #[derive(Clone, Copy)]
 pub(crate) enum Note<'a> {
     Header,
-    Size(Size<'a>),
-    Term(&'a [u8], Profile),
-    Bytes(u64),
+    Size(Size<'a>, PlayedAs),
+    Term(&'a [u8], PlayedAs),
+    Bytes(u64, PlayedAs),
     Trailer(usize),
     Sessions(usize),
 }
@@ -43,15 +44,17 @@ pub(crate) struct Notes<'a> {
 
 // ---- which notes there are
 
-pub(crate) fn notes_of(recording: &Recording, profile: Profile) -> Notes<'_>
-    ensures { notes_seen result ≡ notes_of profile recording.now }
+/// The notes of a recording of which so many bytes or parts aren't shown as they were meant.
+pub(crate) fn notes_of(recording: &Recording, played: PlayedAs, bytes: u64) -> Notes<'_>
+    requires { bytes ≡ (left_of played (body recording.now.chunks)).bytes }
+    ensures { notes_seen result ≡ notes_of played recording.now }
 {
     let line = header_line(recording.header());
     Notes {
         header: header_note(line),
-        size: size_note(size_of(line)),
-        term: term_note(profile, term_of(line)),
-        bytes: bytes_note(high_bytes(recording.chunks())),
+        size: size_note(played, size_of(line)),
+        term: term_note(played, term_of(line)),
+        bytes: bytes_note(played, bytes),
         trailer: trailer_note(recording.trailer()),
         sessions: sessions_note(sessions_in(recording.trailer())),
     }
@@ -66,26 +69,26 @@ fn header_note(line: &[u8]) -> Option<Note<'_>>
     Some(Note::Header)
 }
 
-pub(crate) fn size_note(size: Option<Size<'_>>) -> Option<Note<'_>>
-    ensures { seen_if result ≡ size_note (option_map size_seen size.entry) }
+pub(crate) fn size_note(played: PlayedAs, size: Option<Size<'_>>) -> Option<Note<'_>>
+    ensures { seen_if result ≡ size_note played (option_map size_seen size.entry) }
 {
     match size {
-        Some(size) if !size.is_played() => Some(Note::Size(size)),
+        Some(size) if !size.is_played(played) => Some(Note::Size(size, played)),
         _ => None,
     }
 }
 
-pub(crate) fn term_note(profile: Profile, term: Option<&[u8]>) -> Option<Note<'_>>
-    ensures { seen_if result ≡ term_note profile (option_copied term.entry) }
+pub(crate) fn term_note(played: PlayedAs, term: Option<&[u8]>) -> Option<Note<'_>>
+    ensures { seen_if result ≡ term_note played (option_copied term.entry) }
 {
     match term {
-        Some(term) if !passes(profile, term) => Some(Note::Term(term, profile)),
+        Some(term) if !passes(played, term) => Some(Note::Term(term, played)),
         _ => None,
     }
 }
 
 #[tactic(auto, unfolding(crate::specs::Lines::high_bytes))]
-fn high_bytes(chunks: &[Chunk]) -> u64
+pub(crate) fn high_bytes(chunks: &[Chunk]) -> u64
     requires { body_len chunks.now ≤ longest_body }
     ensures { result ≡ high_bytes (body chunks.now) }
 {
@@ -103,13 +106,13 @@ fn high_in(bytes: &[u8]) -> usize
     bytes.iter().filter(|byte| **byte >= 128).count()
 }
 
-fn bytes_note(n: u64) -> Option<Note<'static>>
-    ensures { seen_if result ≡ bytes_note n }
+fn bytes_note(played: PlayedAs, n: u64) -> Option<Note<'static>>
+    ensures { seen_if result ≡ bytes_note played n }
 {
     if n == 0 {
         return None;
     }
-    Some(Note::Bytes(n))
+    Some(Note::Bytes(n, played))
 }
 
 fn trailer_note(trailer: &[u8]) -> Option<Note<'_>>
@@ -183,19 +186,50 @@ fn put_size<W: Write>(size: Option<Size<'_>>, writer: &mut Watched<W>)
 {
     gives_join::<W>();
     if let Some(size) = size {
-        put_between(Word::Size, &size, b"\n", writer);
+        put_size_line(&size, writer);
     }
 }
 
-// Writes a size between two texts.
-fn put_between<W: Write>(head: Word, size: &Size<'_>, tail: &[u8], writer: &mut Watched<W>)
+fn put_size_line<W: Write>(size: &Size<'_>, writer: &mut Watched<W>)
     ensures { Gave W.contents writer.old writer.new
-        (text_of head ++ size_text (size_seen size.now) ++ tail.now) }
+        (text_of Word.Size ++ size_text (size_seen size.now) ++ 10 ∷ []) }
 {
     gives_join::<W>();
-    writer.give(head.text());
+    writer.give(Word::Size.text());
     put_size_text(size, writer);
-    writer.give(tail);
+    writer.give(b"\n");
+}
+
+fn put_other_size<W: Write>(size: &Size<'_>, played: PlayedAs, writer: &mut Watched<W>)
+    ensures { Gave W.contents writer.old writer.new
+        (text_of Word.OtherSize ++ size_text (size_seen size.now)
+        ++ (text_of Word.PlayedSize ++ played_size_text played)) }
+{
+    gives_join::<W>();
+    writer.give(Word::OtherSize.text());
+    put_size_text(size, writer);
+    put_played_size(played, writer);
+}
+
+fn put_played_size<W: Write>(played: PlayedAs, writer: &mut Watched<W>)
+    ensures { Gave W.contents writer.old writer.new
+        (text_of Word.PlayedSize ++ played_size_text played) }
+{
+    match played {
+        PlayedAs::Vt(_) => put_numbers(80, 24, writer),
+        PlayedAs::Today { columns, lines } => put_numbers(columns, lines, writer),
+    }
+}
+
+fn put_numbers<W: Write>(columns: u16, lines: u16, writer: &mut Watched<W>)
+    ensures { Gave W.contents writer.old writer.new
+        (text_of Word.PlayedSize ++ (decimal columns ++ (120 ∷ []) ++ decimal lines)) }
+{
+    let mut digits = Buffer::new();
+    let mut more = Buffer::new();
+    let columns = digits.format(columns).as_bytes();
+    let lines = more.format(lines).as_bytes();
+    writer.give_all(&[Word::PlayedSize.text(), columns, b"x", lines]);
 }
 
 fn put_size_text<W: Write>(size: &Size<'_>, writer: &mut Watched<W>)
@@ -218,6 +252,13 @@ impl Notes<'_> {
             || self.bytes.is_some()
             || self.trailer.is_some()
             || self.sessions.is_some()
+    }
+
+    /// Whether one speaks against the picture: on the size, the terminal or the bytes.
+    pub(crate) fn any_on_picture(&self) -> bool
+        ensures { result ≡ has_picture_note (notes_seen self.now) }
+    {
+        self.size.is_some() || self.term.is_some() || self.bytes.is_some()
     }
 
     /// Writes a line for each. After a fault a beginning of them has gone out.
@@ -306,41 +347,50 @@ impl Note<'_> {
     {
         match self {
             Note::Header => writer.give(Word::NoHeader.text()),
-            Note::Size(size) => {
-                put_between(Word::OtherSize, size, Word::PlayedSize.text(), writer)
-            }
-            Note::Term(term, profile) => put_other_term(term, *profile, writer),
-            Note::Bytes(n) => put_number(Word::HighBytes, *n, Word::NoUtf8, writer),
+            Note::Size(size, played) => put_other_size(size, *played, writer),
+            Note::Term(term, played) => put_other_term(term, *played, writer),
+            Note::Bytes(n, played) => put_number(Word::HighBytes, *n, bytes_word(*played), writer),
             Note::Trailer(n) => put_number(Word::Trailing, *n, Word::NeverShown, writer),
             Note::Sessions(n) => put_number(Word::Sessions, *n, Word::MoreSessions, writer),
         }
     }
 }
 
-fn put_other_term<W: Write>(term: &[u8], profile: Profile, writer: &mut Watched<W>)
+fn put_other_term<W: Write>(term: &[u8], played: PlayedAs, writer: &mut Watched<W>)
     ensures { Gave W.contents writer.old writer.new
         (text_of Word.OtherTerm ++ shown term.now
-        ++ (text_of Word.PlayedTerm ++ profile_name profile)) }
+        ++ (text_of Word.PlayedTerm ++ profile_name played)) }
 {
     gives_join::<W>();
     writer.give(Word::OtherTerm.text());
     put_shown(term, writer);
-    put_played(profile, writer);
+    put_played(played, writer);
 }
 
-fn put_played<W: Write>(profile: Profile, writer: &mut Watched<W>)
+fn put_played<W: Write>(played: PlayedAs, writer: &mut Watched<W>)
     ensures { Gave W.contents writer.old writer.new
-        (text_of Word.PlayedTerm ++ profile_name profile) }
+        (text_of Word.PlayedTerm ++ profile_name played) }
 {
-    writer.give_all(&[Word::PlayedTerm.text(), profile_word(profile).text()]);
+    writer.give_all(&[Word::PlayedTerm.text(), profile_word(played).text()]);
 }
 
-fn profile_word(profile: Profile) -> Word
-    ensures { text_of result ≡ profile_name profile }
+fn profile_word(played: PlayedAs) -> Word
+    ensures { text_of result ≡ profile_name played }
 {
-    match profile {
-        Profile::Vt100 => Word::Vt100,
-        Profile::Vt102 => Word::Vt102,
+    match played {
+        PlayedAs::Vt(Profile::Vt100) => Word::Vt100,
+        PlayedAs::Vt(Profile::Vt102) => Word::Vt102,
+        PlayedAs::Today { .. } => Word::Xterm,
+    }
+}
+
+// What is said of bytes that aren't shown as they were meant.
+fn bytes_word(played: PlayedAs) -> Word
+    ensures { text_of result ≡ bytes_word played }
+{
+    match played {
+        PlayedAs::Vt(_) => Word::NoUtf8,
+        PlayedAs::Today { .. } => Word::NotUtf8,
     }
 }
 

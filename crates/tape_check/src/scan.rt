@@ -5,6 +5,7 @@ ghost use Rattle.tape_check.specs.Scan.{Scan, names_in, unplayed_in};
 ghost use Rattle.tape_check.specs.Counting.{Follows, Scanned, entries_of};
 
 use crate::laws::laws_below;
+use crate::played::PlayedAs;
 use crate::unplayed::Counts;
 use std::alloc::{AllocError, Global};
 use tape_core::Chunk;
@@ -77,7 +78,7 @@ impl Scanner {
         let (taken, token) = self.parser.next(self.mode, bytes);
         if let Some(token) = token {
             self.mode = mode_after(&token, self.mode);
-            self.counts.count_token(self.profile, &token)?;
+            self.counts.count_token(PlayedAs::Vt(self.profile), &token)?;
         }
         Ok(taken)
     }

@@ -9,7 +9,7 @@ use tape_core::text::next_line;
 const LF: u8 = b'\n';
 
 /// Whether it is nothing, or the closing line of script(1).
-pub(crate) fn is_usual(trailer: &[u8]) -> bool
+pub fn is_usual(trailer: &[u8]) -> bool
     ensures { result ≡ is_usual trailer.now }
 {
     if trailer.is_empty() {

@@ -3,17 +3,19 @@ ghost use Rattle.std.specs.Prelude.{◌≡◌, ◌+◌, ◌≤◌, ◌++◌, [],
 ghost use Rattle.std.specs.List.{flat_map};
 ghost use Rattle.arrayvec.specs.ArrayVec.{array_vec_len};
 ghost use Rattle.vt_parser.specs.Token.{command_of_token};
-ghost use Rattle.tape_check.specs.Unplayed.{changes_no_cell, command_names, control_head, ends_string, escape_name, escape_names, formless_name, formless_names, head_text, is_switch, mode_name, mode_names, passes_mode, sequence_names, vt52_names};
+ghost use Rattle.tape_check.specs.Unplayed.{command_names, control_head, escape_has_row, escape_name, escape_names, formless_name, formless_names, head_text, is_switch, mode_has_row, mode_name, mode_names, sequence_has_row, sequence_names, vt52_names};
 ghost use Rattle.tape_check.specs.Scan.{counted};
 ghost use Rattle.tape_check.specs.Counting.{entries_of};
 
+use crate::played::PlayedAs;
+use crate::quiet::{is_quiet_escape, is_quiet_mode, is_quiet_sequence, is_quiet_vt52};
 use arrayvec::ArrayVec;
 use itoa::Buffer;
 use std::alloc::{AllocError, Global};
 use std::collections::BTreeMap;
-use vt_parser::{Formless, Token};
-use vt_term::Profile;
-use vt_term::played::{escape_has_row, mode_has_row, sequence_has_row, vt52_has_row};
+use vt_parser::{Command, Formless, Token};
+use vt_term::played as vt;
+use xterm_term::played as today;
 
 /// The most bytes that a name takes: a head, five digits, a space and the final byte.
 const LONGEST_NAME: usize = 16;
@@ -106,34 +108,39 @@ fn formless_name(form: Formless) -> Name
     }
 }
 
-// ---- what is left out
+// ---- what has a row
 
-fn ends_string(last: u8) -> bool
-    ensures { result ≡ ends_string last }
+fn escape_has_row(played: PlayedAs, inter: Option<u8>, last: u8) -> bool
+    ensures { result ≡ escape_has_row played inter last }
 {
-    last == b'\\'
+    match played {
+        PlayedAs::Vt(_) => vt::escape_has_row(inter, last),
+        PlayedAs::Today { .. } => today::escape_has_row(inter, last),
+    }
+}
+
+fn sequence_has_row(played: PlayedAs, private: bool, last: u8) -> bool
+    ensures { result ≡ sequence_has_row played private last }
+{
+    match played {
+        PlayedAs::Vt(profile) => vt::sequence_has_row(profile, private, last),
+        PlayedAs::Today { .. } => today::sequence_has_row(private, last),
+    }
+}
+
+fn mode_has_row(played: PlayedAs, private: bool, param: u16) -> bool
+    ensures { result ≡ mode_has_row played private param }
+{
+    match played {
+        PlayedAs::Vt(profile) => vt::mode_has_row(profile, private, param),
+        PlayedAs::Today { .. } => today::mode_has_row(private, param),
+    }
 }
 
 fn is_switch(last: u8) -> bool
     ensures { result ≡ is_switch last }
 {
     matches!(last, b'h' | b'l')
-}
-
-// A private mode that changes no cell.
-fn changes_no_cell(param: u16) -> bool
-    ensures { result ≡ changes_no_cell param }
-{
-    matches!(param, 12 | 25 | 1000..=1006 | 1015 | 1034 | 2004)
-}
-
-fn passes_mode(profile: Profile, private: bool, param: u16) -> bool
-    ensures { result ≡ passes_mode profile private param }
-{
-    if mode_has_row(profile, private, param) {
-        return true;
-    }
-    private && changes_no_cell(param)
 }
 
 // ---- counts
@@ -178,31 +185,55 @@ impl Counts {
     }
 
     /// Counts what is unplayed of a token.
-    pub(crate) fn count_token(&mut self, profile: Profile, token: &Token) -> Result<(), AllocError>
+    pub(crate) fn count_token(&mut self, played: PlayedAs, token: &Token) -> Result<(), AllocError>
         ensures { OnOk result
             (entries_of self.new ≡ fold counted (entries_of self.old)
-            (command_names profile (Some (command_of_token token.now)))) }
+            (command_names played (Some (command_of_token token.now)))) }
     {
         match token {
-            Token::Esc { inter, last } => self.count_escape(*inter, *last),
+            Token::Esc { inter, last } => self.count_escape(played, *inter, *last),
             Token::Csi {
                 private,
                 params,
                 last,
-            } => self.count_sequence(profile, *private, params, *last),
+            } => self.count_sequence(played, *private, params, *last),
             Token::Vt52(last) => self.count_vt52(*last),
             _ => Ok(()),
         }
     }
 
-    fn count_escape(&mut self, inter: Option<u8>, last: u8) -> Result<(), AllocError>
+    /// Counts what is unplayed of a command.
+    pub(crate) fn count_command(
+        &mut self,
+        played: PlayedAs,
+        command: &Command,
+    ) -> Result<(), AllocError>
         ensures { OnOk result
-            (entries_of self.new ≡ fold counted (entries_of self.old) (escape_names inter last)) }
+            (entries_of self.new ≡ fold counted (entries_of self.old)
+            (command_names played (Some command.now))) }
     {
-        if escape_has_row(inter, last) {
-            return Ok(());
+        match command {
+            Command::Esc { inter, last } => self.count_escape(played, *inter, *last),
+            Command::Csi {
+                private,
+                params,
+                last,
+            } => self.count_sequence(played, *private, params.as_slice(), *last),
+            Command::Vt52(last) => self.count_vt52(*last),
+            _ => Ok(()),
         }
-        if inter.is_none() && ends_string(last) {
+    }
+
+    fn count_escape(
+        &mut self,
+        played: PlayedAs,
+        inter: Option<u8>,
+        last: u8,
+    ) -> Result<(), AllocError>
+        ensures { OnOk result
+            (entries_of self.new ≡ fold counted (entries_of self.old) (escape_names played inter last)) }
+    {
+        if escape_has_row(played, inter, last) || is_quiet_escape(played, inter, last) {
             return Ok(());
         }
         self.count(escape_name(inter, last))
@@ -212,10 +243,7 @@ impl Counts {
         ensures { OnOk result
             (entries_of self.new ≡ fold counted (entries_of self.old) (vt52_names last)) }
     {
-        if vt52_has_row(last) {
-            return Ok(());
-        }
-        if ends_string(last) {
+        if vt::vt52_has_row(last) || is_quiet_vt52(last) {
             return Ok(());
         }
         self.count(escape_name(None, last))
@@ -223,19 +251,19 @@ impl Counts {
 
     fn count_sequence(
         &mut self,
-        profile: Profile,
+        played: PlayedAs,
         private: bool,
         params: &[u16],
         last: u8,
     ) -> Result<(), AllocError>
         ensures { OnOk result
             (entries_of self.new ≡ fold counted (entries_of self.old)
-            (sequence_names profile private params.now last)) }
+            (sequence_names played private params.now last)) }
     {
         if is_switch(last) {
-            return self.count_modes(profile, private, params, last);
+            return self.count_modes(played, private, params, last);
         }
-        if sequence_has_row(profile, private, last) {
+        if sequence_has_row(played, private, last) || is_quiet_sequence(played, private, last) {
             return Ok(());
         }
         self.count(name_of(control_head(private), &[last]))
@@ -243,33 +271,33 @@ impl Counts {
 
     fn count_modes(
         &mut self,
-        profile: Profile,
+        played: PlayedAs,
         private: bool,
         params: &[u16],
         last: u8,
     ) -> Result<(), AllocError>
         ensures { OnOk result
             (entries_of self.new ≡ fold counted (entries_of self.old)
-            (flat_map (mode_names profile private last) params.now)) }
+            (flat_map (mode_names played private last) params.now)) }
     {
         for param in params {
-            self.count_mode(profile, private, *param, last)?;
+            self.count_mode(played, private, *param, last)?;
         }
         Ok(())
     }
 
     fn count_mode(
         &mut self,
-        profile: Profile,
+        played: PlayedAs,
         private: bool,
         param: u16,
         last: u8,
     ) -> Result<(), AllocError>
         ensures { OnOk result
             (entries_of self.new ≡ fold counted (entries_of self.old)
-            (mode_names profile private last param)) }
+            (mode_names played private last param)) }
     {
-        if passes_mode(profile, private, param) {
+        if mode_has_row(played, private, param) || is_quiet_mode(played, private, param) {
             return Ok(());
         }
         self.count(mode_name(private, last, param))

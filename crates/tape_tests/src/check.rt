@@ -6,11 +6,12 @@ use std::alloc::Global;
 use std::process::Abort;
 use std::rt::Runtime;
 use std::test::Fail;
-use tape_check::{CheckFault, put_parts, write_check};
+use tape_check::{CheckFault, PlayedAs, put_parts, write_check};
 use tape_core::{Fault, Recording, Watched};
 use vt_term::Profile;
 
 mod refused;
+mod today;
 mod unplayed;
 
 /// A header of script(1) with nothing behind its date, and the line that tells it.
@@ -42,14 +43,41 @@ fn is_noted(lines: &str) -> bool {
     lines.split('\n').any(|line| line.starts_with("note ") || line.starts_with("unplayed "))
 }
 
-/// Compares the lines of a check, and whether it has noted something.
+/// What stands behind all other lines of a VT100 or a VT102, where one of them speaks against the picture.
+const ADVICE: &str = "try --profile xterm\n";
+
+/// Whether one of the lines speaks against the picture.
+fn is_advised(lines: &str) -> bool {
+    lines.split('\n').any(|line| {
+        line.starts_with("note size")
+            || line.starts_with("note term")
+            || line.starts_with("note bytes")
+            || line.starts_with("unplayed ")
+    })
+}
+
+/// Compares the lines of a check before the advice, which is told where it is to be, and whether it has noted something.
 fn compare<R: Abort + AllocGlobal>(rt: &R, recording: &Recording, profile: Profile, lines: &str) {
+    let advice = if is_advised(lines) { ADVICE } else { "" };
+    compare_all(rt, recording, PlayedAs::Vt(profile), lines, advice);
+}
+
+/// Compares the lines of a check, two texts of them, and whether it has noted something.
+fn compare_all<R: Abort + AllocGlobal>(
+    rt: &R,
+    recording: &Recording,
+    played: PlayedAs,
+    lines: &str,
+    advice: &str,
+) {
     let mut writer = Watched::new(Vec::new(rt.alloc()));
-    let noted = write_check(rt.alloc(), recording, profile, &mut writer);
+    let noted = write_check(rt.alloc(), recording, played, &mut writer);
+    let text = writer.into_inner();
+    let told = str::from_utf8(text.as_slice()).unwrap_or("");
     assert_eq!(rt;
-        (noted, str::from_utf8(writer.into_inner().as_slice())),
-        (Ok(is_noted(lines)), Ok(lines)),
-        "{profile:?}"
+        (noted, told.strip_suffix(advice)),
+        (Ok(is_noted(lines)), Some(lines)),
+        "{played:?}"
     );
 }
 
@@ -259,12 +287,13 @@ note bytes: 1 from 128 on: this terminal has no UTF-8
 note trailer: 20 bytes behind the last chunk are never shown
 note sessions: 1 more in the trailer
 unplayed 1 ESC [ Q
+try --profile xterm
 ";
 
 #[test]
 fn tells_all_lines_in_their_order(rt: HostRuntime) -> Result<(), Fail> {
     let recording = recorded(&rt, FOREIGN, b"\xe9\x1b[Q", APPENDED)?;
-    compare(&rt, &recording, Profile::Vt102, ALL);
+    compare_all(&rt, &recording, PlayedAs::Vt(Profile::Vt102), ALL, "");
     Ok(())
 }
 
@@ -281,7 +310,12 @@ fn stops_where_the_writer_fails(rt: HostRuntime) -> Result<(), Fail> {
     let recording = recorded(&rt, FOREIGN, b"\xe9\x1b[Q", APPENDED)?;
     for room in 0..=ALL.len() {
         let mut writer = Watched::new(small_writer(rt.alloc(), room, false));
-        let answer = match write_check(rt.alloc(), &recording, Profile::Vt102, &mut writer) {
+        let answer = match write_check(
+            rt.alloc(),
+            &recording,
+            PlayedAs::Vt(Profile::Vt102),
+            &mut writer,
+        ) {
             Ok(_) => Ok(()),
             Err(CheckFault::Write) => Err(Fault::WriteFault),
             Err(CheckFault::Memory) => Err(Fault::OutOfMemory),
@@ -309,12 +343,12 @@ const PARTS: [(&[u8], &[u8], &str); 5] = [
     (
         b"Script started on X [TERM=\"vt102\"]",
         b"",
-        "typetool: note: term: recorded under vt102, played as vt100 (see typetool check)\n",
+        "typetool: note: term: recorded under vt102, played as vt100 (see typetool check, or try --profile xterm)\n",
     ),
     (
         FOREIGN,
         APPENDED,
-        "typetool: note: size: recorded at 90x30, played at 80x24; term: recorded under xterm, played as vt100; sessions: 1 more in the trailer (see typetool check)\n",
+        "typetool: note: size: recorded at 90x30, played at 80x24; term: recorded under xterm, played as vt100; sessions: 1 more in the trailer (see typetool check, or try --profile xterm)\n",
     ),
 ];
 
@@ -323,7 +357,7 @@ fn tells_whoever_plays_it_in_one_line(rt: HostRuntime) -> Result<(), Fail> {
     for (header, trailer, line) in &PARTS {
         let recording = recorded(&rt, header, b"\xe9\x1b[Q", trailer)?;
         let mut writer = Watched::new(Vec::new(rt.alloc()));
-        let told = put_parts(&recording, Profile::Vt100, &mut writer);
+        let told = put_parts(&recording, PlayedAs::Vt(Profile::Vt100), &mut writer);
         assert_eq!(&rt;
             (told, str::from_utf8(writer.into_inner().as_slice())),
             (Ok(!line.is_empty()), Ok(*line))

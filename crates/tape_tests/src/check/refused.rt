@@ -5,7 +5,7 @@ use std::alloc::Global;
 use std::process::Abort;
 use std::rt::Runtime;
 use std::test::Fail;
-use tape_check::{CheckFault, write_check};
+use tape_check::{CheckFault, PlayedAs, write_check};
 use tape_core::{Recording, Watched};
 use vt_term::Profile;
 
@@ -27,6 +27,7 @@ unplayed 1 ESC [ T
 unplayed 1 ESC [ X
 unplayed 1 ESC [ d
 unplayed 1 ESC [ e
+try --profile xterm
 ";
 
 /// Room for all lines; where memory is refused, once more.
@@ -46,7 +47,12 @@ fn checked(
     recording: &Recording,
 ) -> Result<(Result<bool, CheckFault>, Vec<u8>), Fail> {
     let mut writer = Watched::new(room(rt)?);
-    let answer = write_check(rt.alloc(), recording, Profile::Vt100, &mut writer);
+    let answer = write_check(
+        rt.alloc(),
+        recording,
+        PlayedAs::Vt(Profile::Vt100),
+        &mut writer,
+    );
     assert!(rt; !writer.failed());
     Ok((answer, writer.into_inner()))
 }

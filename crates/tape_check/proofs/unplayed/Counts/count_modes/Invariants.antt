@@ -9,4 +9,4 @@ use Rattle.tape_check.proofs.unplayed.Counts.count_modes.Given as goal
 -- the parameters that were passed are counted
 abbrev pub invariant-loop-param : goal.invariant-loop-param
 invariant-loop-param l =
-    entries_of l.self ≡ fold counted (entries_of l.initial.self) (flat_map (mode_names l.profile l.private l.last) (take l.param-index l.params))
+    entries_of l.self ≡ fold counted (entries_of l.initial.self) (flat_map (mode_names l.played l.private l.last) (take l.param-index l.params))
