@@ -1,5 +1,5 @@
-mod PageLemmas
+pub mod PageLemmas
 mod ReadBack
-mod ReadLemmas
-mod Replays
-mod StringLemmas
+pub mod ReadLemmas
+pub mod Replays
+pub mod StringLemmas

@@ -15,9 +15,8 @@ use Rattle.screen_print.specs.Walk.{whole_text}
 use Rattle.screen_rows.specs.Runs.{runs_of}
 use Rattle.screen_page.specs.Entries.{change_of, entry_at, entry_of, first_entry, first_of, shown, shown_run}
 use Rattle.screen_page.specs.EntryText.{entry_front, entry_text, named_text, next_text, run_text}
-use Rattle.screen_page.specs.Page.{head, middle, page_text, rest, tail}
+use Rattle.screen_page.specs.Page.{front, page_text, tail}
 use Rattle.screen_page.specs.Parts.{IsLine, chunk_text, closing, first_text, line_text, opening}
-use Rattle.screen_page.specs.Title.{title_text}
 
 -- ---- the parts
 
@@ -39,7 +38,7 @@ pub page_is : (title : List ℕ) (profile : Profile) (tape : Tape)
     → page_text title profile tape ≡ opening title ++ whole_text chunk_text profile tape ++ closing
 unfolding page_text first_text
 page_is title profile tape =
-    joined_parts (head ++ title_text title ++ middle ++ title_text title ++ rest) (entry_text first_entry)
+    joined_parts (front title) (entry_text first_entry)
     (flat_map next_text (map (entry_at profile tape) (indices tape.chunks))) tail
     ∙ ap (λ m. opening title ++ m ++ closing) (chunks_told profile tape)
 

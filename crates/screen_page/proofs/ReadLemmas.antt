@@ -162,7 +162,7 @@ text_bytes place front (byte ∷ text) =
     ∙ text_bytes place (front ++ byte ∷ []) text
     ∙ ap (λ l. at place (Chars l)) (append_assoc front (byte ∷ []) text)
 
-reads_text : (place : Place) (text : List ℕ) → Reads (44 ∷ string_text text) place (with_text place text)
+pub reads_text : (place : Place) (text : List ℕ) → Reads (44 ∷ string_text text) place (with_text place text)
 reads_text place text = λ reading stands. record {
   there = with_text place text;
   digits = [];

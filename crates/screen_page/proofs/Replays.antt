@@ -27,7 +27,7 @@ use Rattle.screen_page.specs.Law.{IsFolded, PageReplays, entry_behind}
 -- ---- what a list of changes names
 
 -- a line that passes is named as what it becomes
-named_in : (f : ℕ → Change) (p : ℕ → Bool) (a n k : ℕ) → a ≤ k → k < a + n → p k ≡ true
+pub named_in : {X : Type 0} (f : ℕ → X) (p : ℕ → Bool) (a n k : ℕ) → a ≤ k → k < a + n → p k ≡ true
     → named (map (λ line. (line, f line)) (filter p (range_with_len a n))) k ≡ Some (f k)
 named_in f p a zero k low high is = absurd (omega arith)
 named_in f p a (suc n) k low high is = elim (cases_eq k a) [
@@ -41,7 +41,7 @@ named_in f p a (suc n) k low high is = elim (cases_eq k a) [
 ]
 
 -- any other line isn't named
-named_out : (f : ℕ → Change) (p : ℕ → Bool) (a n k : ℕ) → p k ≡ false
+pub named_out : {X : Type 0} (f : ℕ → X) (p : ℕ → Bool) (a n k : ℕ) → p k ≡ false
     → named (map (λ line. (line, f line)) (filter p (range_with_len a n))) k ≡ None
 named_out f p a zero k is = refl
 named_out f p a (suc n) k is =
@@ -72,14 +72,14 @@ first_is p a (suc n) = elim (cases_Bool (p a)) [
 
 -- ---- rows
 
-table_same : {X : Type 0} (f g : ℕ → X) (a n : ℕ) → ((k : ℕ) → a ≤ k → k < a + n → f k ≡ g k)
+pub table_same : {X : Type 0} (f g : ℕ → X) (a n : ℕ) → ((k : ℕ) → a ≤ k → k < a + n → f k ≡ g k)
     → map f (range_with_len a n) ≡ map g (range_with_len a n)
 table_same f g a zero same = refl
 table_same f g a (suc n) same =
     rw (same a (omega arith) (omega arith))
     (ap (λ rest. g a ∷ rest) (table_same f g (a + 1) n (λ k low high. same k (omega arith) (omega arith))))
 
-table_moved : {X : Type 0} (f : ℕ → X) (a n : ℕ)
+pub table_moved : {X : Type 0} (f : ℕ → X) (a n : ℕ)
     → map (λ k. f (k + 1)) (range_with_len a n) ≡ map f (range_with_len (a + 1) n)
 table_moved f a zero = refl
 table_moved f a (suc n) = ap (λ rest. f (a + 1) ∷ rest) (table_moved f (a + 1) n)

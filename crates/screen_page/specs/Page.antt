@@ -21,7 +21,10 @@ rest = REST.now
 unfoldable pub tail : List ℕ
 tail = TAIL.now
 
--- the page with a title of these characters: the player around the title, twice, and the recording's entries
+-- what stands before the data: the player around the title, twice
+abbrev pub front : List ℕ → List ℕ
+front title = head ++ title_text title ++ middle ++ title_text title ++ rest
+
+-- the page with a title of these characters: the player, and the recording's entries
 unfoldable pub page_text : List ℕ → Profile → Tape → List ℕ
-page_text title profile tape =
-    head ++ title_text title ++ middle ++ title_text title ++ rest ++ data_text (entries profile tape) ++ tail
+page_text title profile tape = front title ++ data_text (entries profile tape) ++ tail

@@ -5,8 +5,7 @@ use Rattle.vt_screen.specs.Limits.{line_count}
 use Rattle.screen_print.specs.Walk.{ChunkText}
 use Rattle.screen_page.specs.Entries.{change_of, entry_of, first_entry}
 use Rattle.screen_page.specs.EntryText.{entry_text, named_text, next_text}
-use Rattle.screen_page.specs.Page.{head, middle, rest, tail}
-use Rattle.screen_page.specs.Title.{title_text}
+use Rattle.screen_page.specs.Page.{front, tail}
 
 -- the data's beginning: the entry before all chunks
 unfoldable pub first_text : List ℕ
@@ -14,7 +13,7 @@ first_text = 91 ∷ entry_text first_entry
 
 -- what stands before the chunks' entries ..
 abbrev pub opening : List ℕ → List ℕ
-opening title = head ++ title_text title ++ middle ++ title_text title ++ rest ++ first_text
+opening title = front title ++ first_text
 
 -- .. the entry of each ..
 abbrev pub chunk_text : ChunkText

@@ -9,4 +9,4 @@ mod player;
 mod rows;
 mod title;
 
-pub use page_file::page;
+pub use page_file::{page, put_front, put_tail};

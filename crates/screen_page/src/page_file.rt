@@ -5,7 +5,7 @@ ghost use Rattle.tape_core.specs.Devices.{Gave, Took, has_failed, is_flushed};
 ghost use Rattle.tape_seek.specs.State.{KeepsHistory};
 ghost use Rattle.chunk_walk.specs.Stops.{OnlySeeks};
 ghost use Rattle.screen_print.specs.Stops.{StopsWalk};
-ghost use Rattle.screen_page.specs.Page.{head, middle, page_text, rest, tail};
+ghost use Rattle.screen_page.specs.Page.{front, head, middle, page_text, rest, tail};
 ghost use Rattle.screen_page.specs.Parts.{closing, first_text, opening};
 
 use crate::entry_printer::EntryPrinter;
@@ -51,11 +51,27 @@ fn put_opening<W: Write>(title: &[char], writer: &mut Watched<W>)
     ensures { Gave W.contents writer.old writer.new (opening title.now) }
 {
     gives_join::<W>();
+    put_front(title, writer);
+    writer.give(first_text());
+}
+
+/// Writes what stands before the data: the player around the title, twice.
+pub fn put_front<W: Write>(title: &[char], writer: &mut Watched<W>)
+    ensures { Gave W.contents writer.old writer.new (front title.now) }
+{
+    gives_join::<W>();
     writer.give(head());
     put_title(title, writer);
     writer.give(middle());
     put_title(title, writer);
-    writer.give_all(&[rest(), first_text()]);
+    writer.give(rest());
+}
+
+/// Writes what stands behind the data.
+pub fn put_tail<W: Write>(writer: &mut Watched<W>)
+    ensures { Gave W.contents writer.old writer.new tail }
+{
+    writer.give(tail());
 }
 
 /// Writes what stands behind them.

@@ -10,4 +10,6 @@ mod escaped;
 #[cfg(test)]
 mod files;
 #[cfg(test)]
+mod pages;
+#[cfg(test)]
 mod pictures;

@@ -1,0 +1,56 @@
+-- Characters as they stand in a string, and a cell character by character.
+use Rattle.std.proofs.Common.{◌≡◌, ◌≢◌, ℕ, ◌+◌, ◌<◌, List, [], ◌∷◌, ◌++◌, encode_utf8, length, get_or, take, ap, sym, ◌∙◌, arith, append-nil, append_assoc, inl, inr}
+use Rattle.std.specs.List.{flat_map}
+use Rattle.std.proofs.lemmas.Bool.{cases_lt}
+use Rattle.std.proofs.lemmas.Bool.Decides.{nat_tests}
+use Rattle.std.proofs.lemmas.List.{take_more}
+use Rattle.std.proofs.lemmas.List.Concat.{flat_map-append}
+use Rattle.std.proofs.lemmas.Str.{encode_ascii}
+use Rattle.screen_page.specs.EntryText.{comma_number, string_byte}
+use Rattle.screen_page.proofs.StringLemmas.{narrow_character, wide_character}
+use Rattle.xterm_page.specs.EntryText.{numbers_text}
+
+plain_byte : (byte : ℕ) → byte ≢ 34 → byte ≢ 92 → byte ≢ 60 → string_byte byte ≡ byte ∷ []
+plain_byte byte quote slash less = grind (arith, nat_tests)
+
+-- a character that isn't escaped stands for itself
+pub plain_character : (c : ℕ) → c ≢ 34 → c ≢ 92 → c ≢ 60 → encode_utf8 c ≡ flat_map string_byte (encode_utf8 c)
+plain_character c quote slash less = elim (cases_lt c 128) [
+  | inl low ↦ encode_ascii c low ∙ sym (plain_byte c quote slash less) ∙ sym (narrow_character c low)
+  | inr high ↦ sym (wide_character c high)
+]
+
+-- one element more, as a string has it
+pub text_more : {X : Type 0} (f : X → List ℕ) (xs : List X) (n : ℕ) (d : X) → n < length xs
+    → flat_map string_byte (flat_map f (take (n + 1) xs)) ≡ flat_map string_byte (flat_map f (take n xs)) ++ flat_map string_byte (f (get_or xs n d))
+text_more f xs n d below =
+    let told = flat_map f (take n xs) in
+    let more = f (get_or xs n d) in
+    ap (λ l. flat_map string_byte (flat_map f l)) (take_more xs n d below)
+    ∙ ap (flat_map string_byte) (flat_map-append f (take n xs) (get_or xs n d ∷ []) ∙ ap (λ t. told ++ t) (append-nil more))
+    ∙ flat_map-append string_byte told more
+
+-- ---- runs
+
+-- the numbers of a run, by how many go out
+pub three_numbers : (kind ink paper : ℕ) → paper ≢ 0 → numbers_text kind ink paper ≡ comma_number kind ++ comma_number ink ++ comma_number paper
+unfolding numbers_text
+three_numbers kind ink paper some = grind (arith, nat_tests)
+
+pub two_numbers : (kind ink paper : ℕ) → paper ≡ 0 → ink ≢ 0 → numbers_text kind ink paper ≡ comma_number kind ++ comma_number ink
+unfolding numbers_text
+two_numbers kind ink paper none some = grind (arith, nat_tests)
+
+pub one_number : (kind ink paper : ℕ) → paper ≡ 0 → ink ≡ 0 → kind ≢ 0 → numbers_text kind ink paper ≡ comma_number kind
+unfolding numbers_text
+one_number kind ink paper none none' some = grind (arith, nat_tests)
+
+pub no_numbers : (kind ink paper : ℕ) → paper ≡ 0 → ink ≡ 0 → kind ≡ 0 → numbers_text kind ink paper ≡ []
+unfolding numbers_text
+no_numbers kind ink paper none none' none'' = grind (arith, nat_tests)
+
+-- a run's numbers, and its string behind a comma
+pub run_parts : (numbers characters : List ℕ)
+    → ((numbers ++ (44 ∷ 34 ∷ [])) ++ characters) ++ (34 ∷ []) ≡ numbers ++ (44 ∷ (34 ∷ (characters ++ (34 ∷ []))))
+run_parts numbers characters =
+    append_assoc (numbers ++ (44 ∷ 34 ∷ [])) characters (34 ∷ []) ∙ append_assoc numbers (44 ∷ 34 ∷ []) (characters ++ (34 ∷ []))

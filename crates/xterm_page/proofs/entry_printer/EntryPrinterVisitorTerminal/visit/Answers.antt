@@ -1,0 +1,33 @@
+use Rattle.std.proofs.Common.{◌≡◌, ◌∙◌, List, length, ap, sym, subst}
+use Rattle.tape_core.specs.Devices.{Gave}
+use Rattle.sheet.specs.Cells.{Cell}
+use Rattle.xterm_term.specs.Console.{Console}
+use Rattle.xterm_print.proofs.ShownLemmas.{written_back}
+use Rattle.xterm_page.specs.Entries.{console_by, entry_of}
+use Rattle.xterm_page.specs.EntryText.{next_text}
+use Rattle.xterm_page.specs.Parts.{AreKept, AreWide}
+use Rattle.xterm_page.proofs.KeptLemmas.{kept_by, wide_by}
+use Rattle.xterm_page.proofs.entry_printer.EntryPrinterVisitorTerminal.visit.Goals as goal
+
+pub returns-then-len-lines-clause-gave : goal.returns-then-len-lines-clause-gave
+returns-then-len-lines-clause-gave g c = λ profile before after are shows.
+    let was = c.as_slice.ensures.value ∙ are.rows in
+    subst (Gave g.W.Write.contents c.args.writer.now c.put_entry.new.writer)
+    (ap (λ (rows : List (List Cell)). next_text (entry_of c.args.due rows c.args.terminal.now.console)) was
+    ∙ ap (λ (s : Console). next_text (entry_of c.args.due (console_by profile.columns profile.lines before).picture.rows s)) (sym shows.console))
+    c.put_entry.ensures
+
+pub returns-then-len-lines-clause-keeps : goal.returns-then-len-lines-clause-keeps
+returns-then-len-lines-clause-keeps g c = λ profile before after are shows.
+    let p = c.screen-screen.result.now.picture in
+    let is = c.screen-screen.ensures.value in
+    let new = c.catch_up.new.rows in
+    let law = c.size_stays.ensures in
+    let wide = wide_by law p c.args.terminal.now profile after c.as_mut_slice.result.now is shows
+    (subst (λ rows. AreWide profile.lines profile.columns rows) (sym c.as_mut_slice.ensures.value) are.columns) in
+    let kept = c.catch_up.ensures wide in
+    let follows = kept_by law p c.args.terminal.now profile after new is shows kept in
+    let long = c.as_mut_slice.ensures.len in
+    let old : length c.args.kept.now.items ≡ c.args.kept.now.len = sym (ap length c.as_mut_slice.ensures.value) ∙ long in
+    let same = follows.lines ∙ sym are.lines ∙ old in
+    subst (λ rows. AreKept profile rows after) (written_back c.args.kept.now.len new c.args.kept.now.items same old) follows

@@ -1,0 +1,18 @@
+use Rattle.std.proofs.Common.{◌≡◌, ◌-◌, ◌<◌, ◌≤◌, length, true}
+use Rattle.tape_core.specs.Devices.{Gave}
+use Rattle.xterm_rows.specs.Runs.{begins}
+use Rattle.xterm_rows.proofs.GroupLemmas.{groups_to}
+use Rattle.xterm_page.specs.Entries.{shown_at}
+use Rattle.xterm_page.specs.EntryText.{run_text}
+use Rattle.xterm_page.proofs.rows.put_runs.Given as goal
+
+-- the runs before this place have gone out, and another one begins here
+abbrev pub invariant-loop-at : goal.invariant-loop-at
+invariant-loop-at g l = record {
+  gave : Gave g.W.Write.contents l.fn.writer l.writer (groups_to (λ at. run_text (shown_at l.cells at)) (begins l.cells) 0 l.at);
+  here : l.at < length l.cells → begins l.cells l.at ≡ true;
+  high : l.at ≤ length l.cells;
+}
+
+abbrev pub decreases-loop-at : goal.decreases-loop-at
+decreases-loop-at g l = length l.cells - l.at

@@ -1,0 +1,7 @@
+pub mod Same
+pub mod Entries
+pub mod EntryText
+pub mod Folded
+pub mod Law
+pub mod Page
+pub mod Parts

@@ -1,0 +1,58 @@
+-- Private: the parts of a page in the order in which they are written.
+use Rattle.std.specs.Prelude.{◌≡◌, ℕ, ◌≤◌, List, [], ◌∷◌, ◌++◌, length, if◌then◌else◌}
+use Rattle.std.specs.List.{flat_map, range_with_len}
+use Rattle.sheet.specs.Cells.{Cell}
+use Rattle.sheet.specs.Grid.{row_at}
+use Rattle.screen_page.specs.Page.{front, tail}
+use Rattle.xterm_term.specs.declared.measure.Size.{Size}
+use Rattle.xterm_term.specs.Console.{Console}
+use Rattle.xterm_page.specs.Entries.{change_of, console_by, entry_by, entry_of, first_entry}
+use Rattle.xterm_page.specs.EntryText.{entry_front, named_text, next_text, size_text}
+use Rattle.xterm_page.specs.Same.{same_row}
+
+-- what stands before the chunks' entries ..
+unfoldable pub first_text : List ℕ
+first_text = next_text first_entry
+
+unfoldable pub opening : List ℕ → ℕ → ℕ → List ℕ
+opening title columns lines = front title ++ 91 ∷ size_text columns lines ++ first_text
+
+-- .. the entry of each ..
+abbrev pub chunk_text : Size → ℕ → ℕ → List ℕ → List ℕ → List ℕ
+chunk_text size index due before after = next_text (entry_by size.columns size.lines due before after)
+
+-- .. and what stands behind them
+unfoldable pub closing : List ℕ
+closing = 93 ∷ tail
+
+-- a line, if it has changed
+unfoldable pub changed_text : ℕ → List (List Cell) → List Cell → ℕ → List ℕ
+changed_text lines before row line = named_text (change_of lines before row line)
+
+unfoldable pub line_text : ℕ → List (List Cell) → List Cell → ℕ → List ℕ
+line_text lines before row line =
+    if same_row (row_at before line) row then [] else changed_text lines before row line
+
+-- the lines that have changed, of so many
+unfoldable pub lines_text : ℕ → List (List Cell) → List (List Cell) → List ℕ
+lines_text lines before after =
+    flat_map (λ line. line_text lines before (row_at after line) line) (range_with_len 1 lines)
+
+-- when a chunk is due, the flags and the cursor
+unfoldable pub front_text : ℕ → Console → List ℕ
+front_text due after = entry_front (entry_of due [] after)
+
+-- as many rows have so many columns
+abbrev pub AreWide : ℕ → ℕ → List (List Cell) → Type 0
+AreWide height width rows = (line : ℕ) → 1 ≤ line → line ≤ height → length (row_at rows line) ≡ width
+
+-- these are so many rows of so many columns, the others
+pub record KeptAll (height width : ℕ) (kept others : List (List Cell)) : Type 0 where
+  pub lines : length kept ≡ height
+  pub rows : kept ≡ others
+  pub columns : AreWide height width kept
+
+-- they are those of the sheet that is shown once these bytes were played
+abbrev pub AreKept : Size → List (List Cell) → List ℕ → Type 0
+AreKept size rows bytes =
+    KeptAll size.lines size.columns rows (console_by size.columns size.lines bytes).picture.rows

@@ -1,0 +1,105 @@
+//! The entry of a chunk.
+
+ghost use Rattle.std.specs.Prelude.{◌≡◌, length};
+ghost use Rattle.tape_core.specs.Devices.{Gave};
+ghost use Rattle.xterm_page.specs.Entries.{entry_of};
+ghost use Rattle.xterm_page.specs.EntryText.{next_text};
+ghost use Rattle.xterm_page.specs.Parts.{front_text, lines_text};
+
+use crate::kept::{KeptRow, catch_up, kept_rows};
+use crate::rows::{put_comma_number, put_line};
+use chunk_walk::Visitor;
+use std::alloc::Global;
+use std::io::Write;
+use tape_core::laws::gives_join;
+use tape_core::{Watched, seconds_text};
+use tape_seek::Session;
+use xterm_print::seek_count;
+use xterm_screen::Screen;
+use xterm_term::laws::size_stays;
+use xterm_term::{OutOfMemory, Terminal};
+
+/// Writes the entry of each chunk behind the one before it. What it keeps is a copy of the rows.
+#[derive(Drop)]
+pub(crate) struct EntryPrinter {
+    pub(crate) alloc: Global,
+}
+
+impl Visitor<Terminal> for EntryPrinter {
+    ghost use Rattle.xterm_page.specs.Parts.{AreKept, chunk_text};
+
+    type Kept = Vec<KeptRow>;
+
+    ghost text = { λ _. chunk_text };
+
+    ghost keeps = { λ size rows bytes. AreKept size rows.items bytes };
+
+    ghost takes_none = { ⊥ };
+
+    fn go_to(session: &mut Session<Terminal>, count: usize) -> Result<(), OutOfMemory> {
+        seek_count(session, count)?;
+        Ok(())
+    }
+
+    fn keep(&self, terminal: &Terminal) -> Result<Vec<KeptRow>, OutOfMemory> {
+        size_stays();
+        Ok(kept_rows(self.alloc, terminal.screen())?)
+    }
+
+    fn visit<W: Write>(
+        &self,
+        _index: usize,
+        due: u64,
+        kept: &mut Vec<KeptRow>,
+        terminal: &Terminal,
+        writer: &mut Watched<W>,
+    ) -> Result<(), OutOfMemory> {
+        size_stays();
+        let screen = terminal.screen();
+        if kept.len() == screen.lines() as usize {
+            put_entry(due, kept.as_slice(), terminal, writer);
+            catch_up(kept.as_mut_slice(), screen);
+        }
+        Ok(())
+    }
+}
+
+/// Writes an entry behind another one.
+fn put_entry<W: Write>(due: u64, before: &[KeptRow], after: &Terminal, writer: &mut Watched<W>)
+    requires { length before.now ≡ after.now.console.picture.lines }
+    ensures { Gave W.contents writer.old writer.new
+        (next_text (entry_of due before.now after.now.console)) }
+{
+    gives_join::<W>();
+    writer.give(b",\n[");
+    put_front(due, after, writer);
+    put_lines(before, after.screen(), writer);
+    writer.give(b"]");
+}
+
+/// Writes an entry's beginning: when the chunk is due, the flags, the cursor.
+#[tactic(auto, unfolding(crate::specs::Parts::front_text, crate::specs::EntryText::entry_front))]
+fn put_front<W: Write>(due: u64, after: &Terminal, writer: &mut Watched<W>)
+    ensures { Gave W.contents writer.old writer.new (front_text due after.now.console) }
+{
+    gives_join::<W>();
+    let modes = after.modes();
+    let (line, column) = after.screen().cursor();
+    let flags = 2 * usize::from(modes.reverse_screen) + 4 * usize::from(!modes.cursor_shown);
+    writer.give(seconds_text(due).as_bytes());
+    put_comma_number(flags, writer);
+    put_comma_number(usize::from(line), writer);
+    put_comma_number(usize::from(column), writer);
+}
+
+/// Writes what the lines are that a chunk changes.
+fn put_lines<W: Write>(before: &[KeptRow], screen: &Screen, writer: &mut Watched<W>)
+    requires { length before.now ≡ screen.now.picture.lines }
+    ensures { Gave W.contents writer.old writer.new
+        (lines_text screen.now.picture.lines before.now screen.now.picture.rows) }
+{
+    gives_join::<W>();
+    for line in 1..screen.lines() + 1 {
+        put_line(before, screen.row(line), line as usize, writer);
+    }
+}

@@ -1,0 +1,112 @@
+//! Rows that are kept of a sheet while the next chunk is played.
+
+ghost use Rattle.std.specs.Prelude.{◌≡◌, IfOk, length};
+ghost use Rattle.xterm_page.specs.Entries.{line_of};
+ghost use Rattle.xterm_page.specs.Parts.{AreWide, KeptAll};
+ghost use Rattle.xterm_page.specs.Same.{row_mixed, same_row};
+
+use crate::same::{row_mixed, same_row};
+use sheet::Cell;
+use std::alloc::{AllocError, Global};
+use std::marker::Model;
+use xterm_screen::Screen;
+use xterm_screen::laws::screens_are_sound;
+
+/// A copy of the cells of a row, with a number that most other rows don't share.
+#[derive(Drop)]
+pub(crate) struct KeptRow {
+    sum: u64,
+    cells: Vec<Cell>,
+}
+
+impl Model for KeptRow {
+    ghost use Rattle.std.specs.Prelude.{◌≡◌, List};
+    ghost use Rattle.sheet.specs.Cells.{Cell};
+    ghost use Rattle.xterm_page.specs.Same.{row_mixed};
+
+    ghost Value = { List Cell };
+
+    ghost view = { λ row. row.cells.items };
+
+    ghost invariant = { λ row. row.sum ≡ row_mixed 0 row.cells.items };
+}
+
+impl KeptRow {
+    /// A copy of these cells.
+    fn of(alloc: Global, cells: &[Cell]) -> Result<Self, AllocError>
+        ensures { IfOk result (λ row. row ≡ cells.now) }
+    {
+        let copy = cells.to_vec(alloc)?;
+        Ok(KeptRow {
+            sum: row_mixed(cells),
+            cells: copy,
+        })
+    }
+
+    /// Whether its cells are these.
+    pub(crate) fn is_same(&self, cells: &[Cell]) -> bool
+        ensures { result ≡ same_row self.now cells.now }
+    {
+        same_row(self.cells.as_slice(), cells)
+    }
+
+    /// The same of cells whose number is known: rows with another number aren't compared.
+    #[tactic(auto, using(crate::proofs::EqualLemmas::other_sums))]
+    fn is_same_by(&self, sum: u64, cells: &[Cell]) -> bool
+        requires { sum ≡ row_mixed 0 cells.now }
+        ensures { result ≡ same_row self.now cells.now }
+    {
+        self.sum == sum && same_row(self.cells.as_slice(), cells)
+    }
+
+    /// Becomes a copy of these cells, if they are as many as its own.
+    #[tactic(auto, using(crate::proofs::EqualLemmas::rows_equal))]
+    fn catch_up(&mut self, cells: &[Cell])
+        ensures { length self.old ≡ length cells.now → self.new ≡ cells.now }
+    {
+        if self.cells.len() == cells.len() && !self.is_same(cells) {
+            self.cells.as_mut_slice().copy_from_slice(cells);
+            self.sum = row_mixed(cells);
+        }
+    }
+}
+
+/// A copy of the rows of the sheet that is shown.
+pub(crate) fn kept_rows(alloc: Global, screen: &Screen) -> Result<Vec<KeptRow>, AllocError>
+    ensures { IfOk result (λ rows. KeptAll screen.now.picture.lines screen.now.picture.columns
+        rows.items screen.now.picture.rows) }
+{
+    screens_are_sound(screen);
+    let mut rows = Vec::with_capacity(alloc, screen.lines() as usize)?;
+    for line in 1..screen.lines() + 1 {
+        rows.push(KeptRow::of(alloc, screen.row(line))?)?;
+    }
+    Ok(rows)
+}
+
+/// The first line that was a row.
+pub(crate) fn line_of(rows: &[KeptRow], cells: &[Cell]) -> Option<usize>
+    ensures { result ≡ line_of (length rows.now) rows.now cells.now }
+{
+    let sum = row_mixed(cells);
+    for at in 0..rows.len() {
+        if rows[at].is_same_by(sum, cells) {
+            return Some(at + 1);
+        }
+    }
+    None
+}
+
+/// The rows become those of the sheet that is shown, of the same size.
+pub(crate) fn catch_up(rows: &mut [KeptRow], screen: &Screen)
+    requires { length rows.old ≡ screen.now.picture.lines }
+    ensures { AreWide screen.now.picture.lines screen.now.picture.columns rows.old
+        → KeptAll screen.now.picture.lines screen.now.picture.columns rows.new
+        screen.now.picture.rows }
+{
+    screens_are_sound(screen);
+    for line in 1..screen.lines() + 1 {
+        let row = &mut rows[line as usize - 1];
+        row.catch_up(screen.row(line));
+    }
+}

@@ -1,0 +1,11 @@
+//! The page of a terminal of today: a recording's screens as entries, which a browser folds.
+#![tactic(auto)]
+
+mod entry_printer;
+mod kept;
+pub mod laws;
+mod page_file;
+mod rows;
+mod same;
+
+pub use page_file::page;
