@@ -4,7 +4,7 @@ use std::io;
 use std::process::Abort;
 use std::test::Fail;
 use tape_core::{Fault, Watched};
-use tape_jobs::{Job, JobFault, Outcome, Player, Print, run_with};
+use tape_jobs::{Job, JobFault, Measure, Outcome, Player, Print, run_with};
 use vt_term::Profile;
 
 /// A check that has noted something.
@@ -24,7 +24,7 @@ const CHECKED: [(&[u8], Outcome, &str); 4] = [
     (
         b"Script started on X [TERM=\"xterm\"]\nab",
         NOTED,
-        "started X\nterm xterm\nnote term: recorded under xterm, played as vt100\n",
+        "started X\nterm xterm\nnote term: recorded under xterm, played as vt100\ntry --profile xterm\n",
     ),
     (b"Script started on X\n\x1b=", DONE, "started X\n"),
 ];
@@ -32,7 +32,7 @@ const CHECKED: [(&[u8], Outcome, &str); 4] = [
 /// Does the job, and compares what came out.
 fn compare_checked<R: Abort + AllocGlobal>(rt: &R, script: &[u8], outcome: Outcome, lines: &str) {
     let job = Job::Check {
-        profile: Profile::Vt100,
+        player: Player::Vt(Profile::Vt100),
     };
     let ended = do_job(rt.alloc(), job, script, AB.as_bytes(), b"");
     assert_eq!(rt;
@@ -49,11 +49,31 @@ fn check_tells_what_is_noted(rt: HostRuntime) {
     }
 }
 
+#[test]
+fn check_of_a_terminal_of_today(rt: HostRuntime) {
+    let facts = "started X\nterm xterm\nsize 90x24\n";
+    let note = "note size: recorded at 90x24, played at 80x24\n";
+    for (player, outcome, noted) in &[(ASKED, NOTED, note), (Player::Today(None), DONE, "")] {
+        let ended = do_job(
+            rt.alloc(),
+            Job::Check { player: *player },
+            WIDE,
+            AB.as_bytes(),
+            b"",
+        );
+        let text = str::from_utf8(ended.text.as_slice()).unwrap_or("");
+        assert_eq!(&rt;
+            (ended.outcome, text.strip_prefix(facts)),
+            (*outcome, Some(*noted))
+        );
+    }
+}
+
 /// A recording of another size and terminal, and the note that is told of it.
 const WIDE: &[u8] = b"Script started on X [TERM=\"xterm\" COLUMNS=\"90\" LINES=\"24\"]\nab";
 
 const NOTE: &str =
-    "typetool: note: size: recorded at 90x24, played at 80x24; term: recorded under xterm, played as vt100 (see typetool check)\n";
+    "typetool: note: size: recorded at 90x24, played at 80x24; term: recorded under xterm, played as vt100 (see typetool check, or try --profile xterm)\n";
 
 /// Sees that a job tells this note of that recording, and none of one that isn't read.
 fn compare_note<R: Abort + AllocGlobal>(rt: &R, job: Job, note: &str) {
@@ -85,15 +105,41 @@ fn jobs_that_play_tell_a_note(rt: HostRuntime) {
         Job::Changes { from, to, player },
         Job::Find { from, to, profile },
         Job::Reports { at, player },
-        Job::Page { profile },
+        Job::Page { player },
         Job::Cast { player },
-        Job::Session { every: 1, profile },
+        Job::Redact { profile },
+        Job::Session { every: 1, player },
     ];
     for job in &told {
         compare_note(&rt, *job, NOTE);
     }
     for job in &[Job::Due { at }, Job::Info, Job::Save] {
         compare_note(&rt, *job, "");
+    }
+}
+
+/// A size that isn't told.
+const ASKED: Player = Player::Today(Some(Measure {
+    columns: 80,
+    lines: 24,
+}));
+
+/// A terminal of today notes the size that it plays, and advises nothing.
+#[test]
+fn a_terminal_of_today_tells_a_note(rt: HostRuntime) {
+    let at = 9;
+    let told = "typetool: note: size: recorded at 90x24, played at 80x24 (see typetool check)\n";
+    for (player, note) in &[(ASKED, told), (Player::Today(None), "")] {
+        let screen = Job::Screen {
+            at,
+            print: Print::Plain(*player),
+        };
+        let escaped = Job::Screen {
+            at,
+            print: Print::Escaped(*player),
+        };
+        compare_note(&rt, screen, note);
+        compare_note(&rt, escaped, note);
     }
 }
 

@@ -22,6 +22,8 @@ mod page;
 #[cfg(test)]
 mod picture;
 #[cfg(test)]
+mod redact;
+#[cfg(test)]
 mod run;
 #[cfg(test)]
 mod session;

@@ -1,7 +1,7 @@
-use crate::in_memory::{AB, Case, compare};
+use crate::in_memory::{AB, Case, compare, compare_over, done};
 use std::process::Abort;
 use std::test::Fail;
-use tape_jobs::{Job, Outcome};
+use tape_jobs::{Job, Measure, Outcome, Player};
 use vt_term::Profile;
 
 /// Twenty-three lines' ends: a screen of which the first line alone shows something.
@@ -13,7 +13,7 @@ type Row<'a> = (&'a str, &'a str, &'a str, &'a str, u8);
 fn session(every: usize) -> Job {
     Job::Session {
         every,
-        profile: Profile::Vt100,
+        player: Player::Vt(Profile::Vt100),
     }
 }
 
@@ -70,6 +70,76 @@ fn each_line_is_answered(rt: HostRuntime) -> Result<(), Fail> {
         compare_row(&rt, session(100), row)?;
     }
     Ok(())
+}
+
+/// A session over a terminal of today of six columns and two lines.
+fn session_of_today(every: usize) -> Job {
+    Job::Session {
+        every,
+        player: Player::Today(Some(Measure {
+            columns: 6,
+            lines: 2,
+        })),
+    }
+}
+
+/// What each line is answered over it.
+const ANSWERS_OF_TODAY: [Row<'static>; 4] = [
+    (
+        "日本\x1b[6n",
+        "0 6\n0.5 4\n",
+        "screen 0\nreports 1\nchanges - 1\nreplace 0 61\nscreen 1\nreports 1\nlog\n",
+        "日本\n\n1b5b313b3552\n0 0.000000 1\nend\nok\na\n\n1b5b313b3252\nreplace 0 61\nend\n",
+        0,
+    ),
+    // An edit behind the first byte of a character.
+    (
+        "日",
+        "0 1\n0.5 2\n",
+        "screen 0\nscreen 1\ninsert 1 0 41\nscreen 0\nscreen 1\n",
+        "\n\n日\n\nok\n\u{fffd}A\n\n\u{fffd}A\u{fffd}\u{fffd}\n\n",
+        0,
+    ),
+    // One screen in place of another, and a rendition alone.
+    (
+        "ab\x1b[?1049h\x1b[41m\x1b[J",
+        "0 2\n0 8\n0.5 8\n",
+        "changes - 1\nscreen 1\ndelete 1 2\nchanges 0 1\nscreen 1\n",
+        "0 0.000000 1\n1 0.000000 1\n2 0.500000 1 2\nend\n\n\nok\n1 0.500000 1 2\nend\nab\n\n",
+        0,
+    ),
+    (
+        "é",
+        "0 2\n",
+        "delete 1 2\nscreen\n\nscreen 0",
+        "refused E6 BadRange\nrefused E8 BadLine\né\n\n",
+        1,
+    ),
+];
+
+#[test]
+fn each_line_is_answered_over_today(rt: HostRuntime) -> Result<(), Fail> {
+    for row in &ANSWERS_OF_TODAY {
+        for every in [1, 100] {
+            compare_row(&rt, session_of_today(every), row)?;
+        }
+    }
+    Ok(())
+}
+
+/// The size is that of the header, which no edit changes.
+#[test]
+fn a_header_tells_the_size_of_a_session(rt: HostRuntime) {
+    let job = Job::Session {
+        every: 100,
+        player: Player::Today(None),
+    };
+    let script = b"Script started on X [COLUMNS=\"5\" LINES=\"2\"]\nabcdef";
+    let case = Case {
+        requests: "screen 0\ninsert 0 0 30\nscreen 0\ndelete 0 2\nscreen 0\n",
+        ..done(job, "", "0 6\n", "abcde\nf\nok\n0abcd\nef\nok\n\n\n")
+    };
+    compare_over(&rt, script, &case);
 }
 
 /// Where terminals are stored changes no answer. A number out of range counts as the nearest one in it.

@@ -4,7 +4,7 @@ use std::alloc::{AllocError, Global};
 use std::process::Abort;
 use std::test::Fail;
 use tape_core::Fault;
-use tape_jobs::{Job, JobFault, Outcome, WordsFault};
+use tape_jobs::{Job, JobFault, Outcome, Player, WordsFault};
 use tape_seek::EditFault;
 use vt_term::Profile;
 
@@ -107,7 +107,7 @@ fn compare_refused<R: Abort + AllocGlobal>(rt: &R, row: Refused<'_>) -> Result<(
     let answer = ["refused ", name, "\n"].concat(rt.alloc())?;
     let session = Job::Session {
         every: 100,
-        profile: Profile::Vt100,
+        player: Player::Vt(Profile::Vt100),
     };
     let line = JobFault::Line { line: 1, fault };
     compare(rt, &refused_by(row, Job::Save, "", Some(line)))?;

@@ -9,6 +9,7 @@ mod every;
 mod find;
 mod flags;
 mod mend;
+mod redact;
 mod sizes;
 mod title;
 
@@ -104,8 +105,18 @@ fn reads_other_jobs(rt: HostRuntime) -> Result<(), Fail> {
     let rows = [
         ("typetool info s t", Job::Info),
         ("typetool info -- s t", Job::Info),
-        ("typetool check s t", Job::Check { profile: vt100 }),
-        ("typetool page -- s t", Job::Page { profile: vt100 }),
+        (
+            "typetool check s t",
+            Job::Check {
+                player: Player::Vt(vt100),
+            },
+        ),
+        (
+            "typetool page -- s t",
+            Job::Page {
+                player: Player::Vt(vt100),
+            },
+        ),
         (
             "typetool cast s t",
             Job::Cast {

@@ -19,13 +19,13 @@ use Rattle.std.specs.Option.{option_and_then}
 use Rattle.std.specs.Str.{bytes_eq}
 use Rattle.std.proofs.lemmas.List.{get_or_default, map-append, take_all, take_more}
 use Rattle.std.proofs.lemmas.List.Sums.{fold_more}
-use Rattle.tape_jobs.specs.CommandLine.{typetool_app, clap_faults, clap_takes, subcommand_in, subcommands_in_order, app_in, after, every_in, fault_of_unread, id_in, job_in, meaning_in, meaning_of, meaning_of_words, moment_given_in, moment_in, moment_or_last_in, name_in, path_count, paths_in, profile_in, rule_in, searched_in, switch_in, text_in, texts_in, top_app, value_in, with_rules, with_subcommands, flags_in, FailsFor, IsNamed, player_in, print_by}
+use Rattle.tape_jobs.specs.CommandLine.{typetool_app, clap_faults, clap_takes, subcommand_in, subcommands_in_order, app_in, after, every_in, fault_of_unread, id_in, job_in, meaning_in, meaning_of, meaning_of_words, moment_given_in, moment_in, moment_or_last_in, name_in, path_count, paths_in, profile_in, rule_in, searched_in, secret_in, vt_only, switch_in, text_in, texts_in, top_app, value_in, with_rules, with_subcommands, flags_in, FailsFor, IsNamed, player_in, print_by}
 use Rattle.tape_jobs.specs.declared.job.Job.{Job}
 use Rattle.tape_jobs.specs.declared.job.Job.TheVariants as jobs
 use Rattle.tape_jobs.specs.declared.words.table.Argument.{Argument}
 use Rattle.tape_jobs.specs.declared.words.table.Argument.TheVariants.{At, Escaped, From, To, Until}
 use Rattle.tape_jobs.specs.declared.words.table.Subcommand.{Subcommand}
-use Rattle.tape_jobs.specs.declared.words.table.Subcommand.TheVariants.{Due, Info, Check, Screen, Picture, Changes, Find, Reports, Page, Cast, Save, Mend, Session}
+use Rattle.tape_jobs.specs.declared.words.table.Subcommand.TheVariants.{Due, Info, Check, Screen, Picture, Changes, Find, Reports, Page, Cast, Save, Mend, Redact, Session}
 use Rattle.tape_jobs.specs.declared.words.values.Unreadable.{Unreadable}
 use Rattle.tape_jobs.specs.declared.words.values.Unreadable.TheVariants as unread
 use Rattle.vt_term.specs.declared.profile.Profile.{Profile}
@@ -174,6 +174,7 @@ first_named Page = refl
 first_named Cast = refl
 first_named Save = refl
 first_named Mend = refl
+first_named Redact = refl
 first_named Session = refl
 
 -- what words mean by the subcommand that clap finds in them
@@ -234,8 +235,8 @@ pub enough_paths : (s : Subcommand) (rows : List Row) (job : Job) → job_in s r
 unfolding paths_in job_in
 enough_paths Due rows job e = of_value _ (λ at. jobs.Due at) job 2 (λ at. lit≤ tt) e
 enough_paths Info rows job e = let same : jobs.Info ≡ job = cc in subst (λ j. path_count j ≤ 2) same (lit≤ tt)
-enough_paths Check rows job e = of_value _ (λ profile. jobs.Check profile) job 2 (λ profile. lit≤ tt) e
-enough_paths Page rows job e = of_value _ (λ profile. jobs.Page profile) job 2 (λ profile. lit≤ tt) e
+enough_paths Check rows job e = of_value _ (λ player. jobs.Check player) job 2 (λ player. lit≤ tt) e
+enough_paths Page rows job e = of_value _ (λ player. jobs.Page player) job 2 (λ player. lit≤ tt) e
 enough_paths Cast rows job e = of_value _ (λ profile. jobs.Cast profile) job 2 (λ profile. lit≤ tt) e
 enough_paths Screen rows job e =
     let escaped = switch_in (id_in Escaped) rows in
@@ -261,9 +262,12 @@ enough_paths Reports rows job e =
     after_read (moment_in (id_in At) rows) (λ at. after (player_in rows) (λ p. Ok (jobs.Reports at p))) job 2
     (λ at later. of_value (player_in rows) (λ p. jobs.Reports at p) job 2 (λ p. lit≤ tt) later) e
 enough_paths Session rows job e =
-    after_read (every_in rows) (λ every. after (profile_in rows) (λ p. Ok (jobs.Session every p))) job 2
-    (λ every later. of_value (profile_in rows) (λ p. jobs.Session every p) job 2 (λ p. lit≤ tt) later) e
+    after_read (every_in rows) (λ every. after (player_in rows) (λ p. Ok (jobs.Session every p))) job 2
+    (λ every later. of_value (player_in rows) (λ p. jobs.Session every p) job 2 (λ p. lit≤ tt) later) e
 enough_paths Mend rows job e = of_value _ (λ how. jobs.Mend how) job 4 (λ how. lit≤ tt) e
+enough_paths Redact rows job e =
+    after_read (after (player_in rows) vt_only) (λ profile. after (secret_in rows) (λ text. Ok (jobs.Redact profile))) job 4
+    (λ profile later. of_value (secret_in rows) (λ text. jobs.Redact profile) job 4 (λ text. lit≤ tt) later) e
 enough_paths Save rows job e = let same : jobs.Save ≡ job = cc in subst (λ j. path_count j ≤ 4) same (lit≤ tt)
 
 -- a name that is none of those in a list is named by none of their commands

@@ -9,7 +9,7 @@ use Rattle.tape_core.specs.Tape.{Tape}
 use Rattle.tape_core.specs.declared.fault.Fault.{Fault}
 use Rattle.tape_core.specs.declared.fault.Fault.TheVariants.{OutOfMemory, ReadFault, WriteFault}
 use Rattle.tape_jobs.specs.Endings.{AreRead, AreSound, AsksNothing, HasFailed, HoldFiles, IsDone, IsUndone, IsUnwritten, JobEnds, OnFiles, Readers, RunEnds, TookBoth, TookPartOfBoth, WantsMemory, Writers}
-use Rattle.tape_jobs.specs.Output.{Comes, ComesBy, Done, Files, IsDoneStatus, done_on, done_with, is_stopped, mends, outcome_by, refused_with, takes_requests, writes_timing}
+use Rattle.tape_jobs.specs.Output.{Comes, ComesBy, Done, Files, IsDoneStatus, answers_by_status, done_on, done_with, is_stopped, mends, outcome_in, refused_in, takes_requests, writes_timing}
 use Rattle.tape_jobs.specs.declared.job.Ending.{Ending}
 use Rattle.tape_jobs.specs.declared.job.Ending.TheVariants.{Clean}
 use Rattle.tape_jobs.specs.declared.job.Job.{Job}
@@ -54,11 +54,11 @@ comes_by job files done o e comes = subst (λ x. ComesBy x job files done) (sym 
 
 -- a pair with a fault
 pub comes_refused : (job : Job) (files : Files) (f : Fault) → mends job ≡ None → fault_of files.script files.timing ≡ Some f
-    → Comes job files (refused_with (File f))
+    → Comes job files (refused_in job (File f))
 comes_refused job files f reading e =
-    comes_by job files (refused_with (File f)) None reading (subst (λ o. MatchOption o
-    ((tape : Tape) × reads files.script files.timing tape × (refused_with (File f) ≡ done_on job tape files.requests files.text))
-    (λ g. refused_with (File f) ≡ refused_with (File g))) (sym e) refl)
+    comes_by job files (refused_in job (File f)) None reading (subst (λ o. MatchOption o
+    ((tape : Tape) × reads files.script files.timing tape × (refused_in job (File f) ≡ done_on job tape files.requests files.text))
+    (λ g. refused_in job (File f) ≡ refused_in job (File g))) (sym e) refl)
 
 -- a pair that is read
 comes_done : (job : Job) (files : Files) (tape : Tape) → mends job ≡ None → reads files.script files.timing tape
@@ -67,25 +67,26 @@ comes_done job files tape reading h =
     let done = done_on job tape files.requests files.text in
     comes_by job files done None reading (subst (λ o. MatchOption o
     ((other : Tape) × reads files.script files.timing other × (done ≡ done_on job other files.requests files.text))
-    (λ g. done ≡ refused_with (File g))) (sym h.faultless) (tape, h, refl))
+    (λ g. done ≡ refused_in job (File g))) (sym h.faultless) (tape, h, refl))
 
 -- where a job takes no request lines, it comes to the same whatever they are
 same_lines : (job : Job) (tape : Tape) (one other text : List ℕ) → (takes_requests job ≡ true → one ≡ other)
     → done_on job tape one text ≡ done_on job tape other text
 same_lines (jobs.Due at) tape one other text same = refl
 same_lines jobs.Info tape one other text same = refl
-same_lines (jobs.Check profile) tape one other text same = refl
+same_lines (jobs.Check player) tape one other text same = refl
 same_lines (jobs.Screen at print) tape one other text same = refl
 same_lines (jobs.Picture at player) tape one other text same = refl
 same_lines (jobs.Changes from to player) tape one other text same = refl
 same_lines (jobs.Find from to profile) tape one other text same = refl
 same_lines (jobs.Reports at player) tape one other text same = refl
-same_lines (jobs.Page profile) tape one other text same = refl
+same_lines (jobs.Page player) tape one other text same = refl
 same_lines (jobs.Cast player) tape one other text same = refl
 same_lines (jobs.Mend how) tape one other text same = refl
+same_lines (jobs.Redact profile) tape one other text same = refl
 same_lines jobs.Save tape one other text same = ap (λ r. done_on jobs.Save tape r text) (same refl)
-same_lines (jobs.Session every profile) tape one other text same =
-    ap (λ r. done_on (jobs.Session every profile) tape r text) (same refl)
+same_lines (jobs.Session every player) tape one other text same =
+    ap (λ r. done_on (jobs.Session every player) tape r text) (same refl)
 
 -- and beside the same text
 same_done : (job : Job) (tape : Tape) (one other text same_text : List ℕ) → (takes_requests job ≡ true → one ≡ other)
@@ -111,10 +112,11 @@ pub stops : (f g : JobFault) → is_stopped (Some g) ≡ true → f ≡ g → is
 stops f g stop same unstopped = true≢false (sym stop ∙ ap (λ x. is_stopped (Some x)) (sym same) ∙ unstopped)
 
 -- the status of a fault that doesn't
-refused_outcome : (f : JobFault) → is_stopped (Some f) ≡ false → outcome_by (Err f) ≡ (refused_with f).outcome
-refused_outcome (File f) e = ap (λ b. record { status = if b then 3 else 1; fault = Some (File f) }) e
-refused_outcome (Line line f) e = refl
-refused_outcome Memory e = absurd (cc)
+refused_outcome : (job : Job) (f : JobFault) → is_stopped (Some f) ≡ false → outcome_in job (Err f) ≡ (refused_in job f).outcome
+refused_outcome job (File f) e =
+    ap (λ b. record { status = if answers_by_status job then 3 else (if b then 3 else 1); fault = Some (File f) }) e
+refused_outcome job (Line line f) e = refl
+refused_outcome job Memory e = absurd (cc)
 
 -- the writers of a job, before it writes
 pub record IsBefore {O P : Type 0} (writers : Writers O P) : Type 0 where
@@ -123,24 +125,24 @@ pub record IsBefore {O P : Type 0} (writers : Writers O P) : Type 0 where
 
 module _ {O P : Type 0} {writers : Writers O P} (before : IsBefore writers) where
   -- where nothing was written
-  took_none : IsUnwritten writers → (f : JobFault) → TookBoth writers (refused_with f)
-  took_none unwritten f = record {
+  took_none : IsUnwritten writers → (job : Job) (f : JobFault) → TookBoth writers (refused_in job f)
+  took_none unwritten job f = record {
     text = subst (λ x. Took writers.out.bytes writers.out.old x []) (sym unwritten.0) before.nothing;
     timing = subst (λ x. Took writers.out_timing.bytes writers.out_timing.old x []) (sym unwritten.1) before.nothing_timing;
   }
 
   both_sound : IsUnwritten writers → AreSound writers
-  both_sound unwritten = ((took_none unwritten Memory).text.sound, (took_none unwritten Memory).timing.sound)
+  both_sound unwritten = ((took_none unwritten jobs.Info Memory).text.sound, (took_none unwritten jobs.Info Memory).timing.sound)
 
 module _ {S T R O P : Type 0} {readers : Readers S T R} {writers : Writers O P} {job : Job} (before : IsBefore writers) where
   -- a job whose files aren't read
   pub ends_unread : (f : Fault)
-      → (is_stop f ≡ false → (files : Files) → HoldFiles readers job files → Comes job files (refused_with (File f)))
+      → (is_stop f ≡ false → (files : Files) → HoldFiles readers job files → Comes job files (refused_in job (File f)))
       → (f ≢ ReadFault → AreRead readers)
       → (f ≡ ReadFault → HasFailed readers.script ⊎ (HasFailed readers.timing ⊎ HasFailed readers.requests))
       → f ≢ WriteFault
       → (takes_requests job ≡ false → AsksNothing readers.requests) → IsUnwritten writers
-      → RunEnds readers writers job (outcome_by (Err (File f)))
+      → RunEnds readers writers job (outcome_in job (Err (File f)))
   ends_unread f comes read failed other alone unwritten = record {
     done = λ e. absurd (cc);
     refused = λ e.
@@ -149,9 +151,9 @@ module _ {S T R O P : Type 0} {readers : Readers S T R} {writers : Writers O P} 
             read = read (λ r. stops (File f) (File ReadFault) refl (ap (λ x. File x) r) unstopped);
             written = both_sound before unwritten;
             comes = λ files held. (
-              refused_with (File f),
+              refused_in job (File f),
               comes unstopped files held,
-              (refused_outcome (File f) unstopped, took_none before unwritten (File f)),
+              (refused_outcome job (File f) unstopped, took_none before unwritten job (File f)),
             );
           },
           unwritten,
@@ -186,7 +188,7 @@ module _ {S T R O P : Type 0} {readers : Readers S T R} {writers : Writers O P} 
     on_files {Is} is = λ files held. (done, comes files held, is)
 
     ends_done : (ending : Ending) → IsDone writers job done ending
-        → RunEnds readers writers job (outcome_by (Ok ending))
+        → RunEnds readers writers job (outcome_in job (Ok ending))
     ends_done ending is = record {
       done = λ _. (
         record { read = read; written = (is.wrote.text.sound, is.wrote.timing.sound); comes = on_files (sym is.outcome, is.wrote) },
@@ -213,7 +215,7 @@ module _ {S T R O P : Type 0} {readers : Readers S T R} {writers : Writers O P} 
     ]
 
     ends_for_memory : WantsMemory writers job done
-        → RunEnds readers writers job (outcome_by (Err Memory))
+        → RunEnds readers writers job (outcome_in job (Err Memory))
     ends_for_memory wants = record {
       done = λ e. absurd (cc);
       refused = λ e. absurd (cc);
@@ -242,7 +244,7 @@ module _ {S T R O P : Type 0} {readers : Readers S T R} {writers : Writers O P} 
     ]
 
     ends_at_a_writer : TookPartOfBoth writers done true
-        → RunEnds readers writers job (outcome_by (Err (File WriteFault)))
+        → RunEnds readers writers job (outcome_in job (Err (File WriteFault)))
     ends_at_a_writer stopped = record {
       done = λ e. absurd (cc);
       refused = λ e. absurd (cc);
@@ -261,8 +263,8 @@ module _ {S T R O P : Type 0} {readers : Readers S T R} {writers : Writers O P} 
       out_timing = alone_timing;
     }
 
-    ends_refused : (f : JobFault) → is_stopped (Some f) ≡ false → done ≡ refused_with f
-        → IsUnwritten writers → RunEnds readers writers job (outcome_by (Err f))
+    ends_refused : (f : JobFault) → is_stopped (Some f) ≡ false → done ≡ refused_in job f
+        → IsUnwritten writers → RunEnds readers writers job (outcome_in job (Err f))
     ends_refused f unstopped same unwritten = record {
       done = λ e. absurd (cc);
       refused = λ _. (
@@ -270,8 +272,8 @@ module _ {S T R O P : Type 0} {readers : Readers S T R} {writers : Writers O P} 
           read = read;
           written = both_sound before unwritten;
           comes = on_files (
-            refused_outcome f unstopped ∙ ap (λ (d : Done). d.outcome) (sym same),
-            subst (TookBoth writers) (sym same) (took_none before unwritten f),
+            refused_outcome job f unstopped ∙ ap (λ (d : Done). d.outcome) (sym same),
+            subst (TookBoth writers) (sym same) (took_none before unwritten job f),
           );
         },
         unwritten,
@@ -290,16 +292,16 @@ module _ {S T R O P : Type 0} {readers : Readers S T R} {writers : Writers O P} 
     }
 
     ends_at : (f : JobFault) → IsUndone writers job done f
-        → RunEnds readers writers job (outcome_by (Err f))
+        → RunEnds readers writers job (outcome_in job (Err f))
     ends_at f ends = elim ends [
-      | inl (e, wants) ↦ subst (λ g. RunEnds readers writers job (outcome_by (Err g))) (sym e) (ends_for_memory wants)
+      | inl (e, wants) ↦ subst (λ g. RunEnds readers writers job (outcome_in job (Err g))) (sym e) (ends_for_memory wants)
       | inr later ↦ elim later [
-        | inl (e, stopped) ↦ subst (λ g. RunEnds readers writers job (outcome_by (Err g))) (sym e) (ends_at_a_writer stopped)
+        | inl (e, stopped) ↦ subst (λ g. RunEnds readers writers job (outcome_in job (Err g))) (sym e) (ends_at_a_writer stopped)
         | inr (unstopped, same, unwritten) ↦ ends_refused f unstopped same unwritten
       ]
     ]
 
     pub ends_performed : (r : Result Ending JobFault) → JobEnds writers job done r
-        → RunEnds readers writers job (outcome_by r)
+        → RunEnds readers writers job (outcome_in job r)
     ends_performed (Ok ending) is = ends_done ending is
     ends_performed (Err f) fault = ends_at f fault

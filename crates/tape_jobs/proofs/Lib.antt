@@ -4,6 +4,8 @@ mod JobLemmas
 mod LineLemmas
 mod MendLemmas
 mod NoteLemmas
+mod NowhereLemmas
+mod RedactLemmas
 mod RequestLemmas
 mod SessionLemmas
-mod ChangedLemmas
+mod PlayerLemmas

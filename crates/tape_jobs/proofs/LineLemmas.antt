@@ -17,7 +17,7 @@ use Rattle.clap.proofs.OnLiterals.{clap_on_literals}
 use Rattle.tape_jobs.proofs.CommandLemmas.{is_simple_app, means, means_job}
 use Rattle.tape_core.specs.Seconds.{last_moment, micros, seconds_of}
 use Rattle.tape_seek.specs.Requests.{place_of}
-use Rattle.tape_jobs.specs.CommandLine.{typetool_app, clap_takes, every_allowed, every_of, usual_every, after, readable, job_in, is_searchable, moment_if, moment_or_last, profile_named, is_today, size_cut, size_from, size_named, stem_of, today_if, searchable, value_in, subcommand_in, app_in, name_in, id_in, rule_in, flags_in, texts_in, text_in, paths_in, print_by}
+use Rattle.tape_jobs.specs.CommandLine.{typetool_app, clap_takes, every_allowed, every_of, usual_every, after, readable, job_in, is_searchable, is_secret, moment_if, moment_or_last, profile_named, is_today, size_cut, size_from, size_named, stem_of, today_if, searchable, secret, value_in, subcommand_in, app_in, name_in, id_in, rule_in, flags_in, texts_in, text_in, paths_in, print_by}
 use Rattle.tape_jobs.specs.Lines.{Asks, IsPlain, escaped_words, header_words, profile_or_first, profile_words, sized_words, today_words}
 use Rattle.tape_mend.specs.declared.opening.Header.{Header}
 use Rattle.tape_mend.specs.declared.opening.Header.TheVariants.{Kept, Last, Made}
@@ -32,7 +32,7 @@ use Rattle.tape_jobs.specs.declared.player.Print.TheVariants.{Plain, Escaped}
 use Rattle.tape_jobs.specs.declared.words.values.Unreadable.{Unreadable}
 use Rattle.tape_jobs.specs.declared.words.values.Unreadable.TheVariants as unread
 use Rattle.tape_jobs.specs.declared.words.table.Subcommand.{Subcommand}
-use Rattle.tape_jobs.specs.declared.words.table.Subcommand.TheVariants.{Due, Info, Check, Screen, Picture, Changes, Find, Reports, Page, Cast, Save, Mend, Session}
+use Rattle.tape_jobs.specs.declared.words.table.Subcommand.TheVariants.{Due, Info, Check, Screen, Picture, Changes, Find, Reports, Page, Cast, Save, Mend, Redact, Session}
 
 both_true : (a b : Bool) → a ≡ true → b ≡ true → (a && b) ≡ true
 both_true a b e f = ap₂ (λ x y. x && y) e f
@@ -252,6 +252,7 @@ enters Page words = halted_walk (built typetool_app).top.rules (names_of (built 
 enters Cast words = halted_walk (built typetool_app).top.rules (names_of (built typetool_app)) (name_in Cast) [] words
 enters Save words = halted_walk (built typetool_app).top.rules (names_of (built typetool_app)) (name_in Save) [] words
 enters Mend words = halted_walk (built typetool_app).top.rules (names_of (built typetool_app)) (name_in Mend) [] words
+enters Redact words = halted_walk (built typetool_app).top.rules (names_of (built typetool_app)) (name_in Redact) [] words
 enters Session words = halted_walk (built typetool_app).top.rules (names_of (built typetool_app)) (name_in Session) [] words
 
 enter_passes : (s : Subcommand) (words : List Text)
@@ -269,6 +270,7 @@ enter_passes Page words = halted_passes (built typetool_app).top (names_of (buil
 enter_passes Cast words = halted_passes (built typetool_app).top (names_of (built typetool_app)) (name_in Cast) [] words
 enter_passes Save words = halted_passes (built typetool_app).top (names_of (built typetool_app)) (name_in Save) [] words
 enter_passes Mend words = halted_passes (built typetool_app).top (names_of (built typetool_app)) (name_in Mend) [] words
+enter_passes Redact words = halted_passes (built typetool_app).top (names_of (built typetool_app)) (name_in Redact) [] words
 enter_passes Session words = halted_passes (built typetool_app).top (names_of (built typetool_app)) (name_in Session) [] words
 
 -- what is entered is the subcommand
@@ -287,6 +289,7 @@ entered_leaf Page words = refl
 entered_leaf Cast words = refl
 entered_leaf Save words = refl
 entered_leaf Mend words = refl
+entered_leaf Redact words = refl
 entered_leaf Session words = refl
 
 leaf_passes : (s : Subcommand) (words : List Text) → level_passes (leaf s) [] nothing_held words false ≡ true
@@ -304,6 +307,7 @@ leaf_passes Page words e = e
 leaf_passes Cast words e = e
 leaf_passes Save words e = e
 leaf_passes Mend words e = e
+leaf_passes Redact words e = e
 leaf_passes Session words e = e
 
 above_passes : settles (built typetool_app).top nothing_held true ≡ true
@@ -454,11 +458,22 @@ module _ (program script timing : Text) (p : IsPlain script) (q : IsPlain timing
   info_line = asks_by program Info files (p, (q, tt)) refl job.Info [] paths refl refl refl
 
   pub check_line : (profile : Option Profile)
-      → Asks (program ∷ codes "check" ∷ (profile_words profile ++ paths)) (job.Check (profile_or_first profile)) [] paths
+      → Asks (program ∷ codes "check" ∷ (profile_words profile ++ paths)) (job.Check (Vt (profile_or_first profile))) [] paths
   unfolding clap_on_literals typetool_app app_in name_in flags_in texts_in paths_in id_in rule_in job_in text_in profile_named is_today
-  check_line None = asks_by program Check files (p, (q, tt)) refl (job.Check Vt100) [] paths refl refl refl
-  check_line (Some Vt100) = asks_by program Check as_vt100 (p, (q, tt)) refl (job.Check Vt100) [] paths refl refl refl
-  check_line (Some Vt102) = asks_by program Check as_vt102 (p, (q, tt)) refl (job.Check Vt102) [] paths refl refl refl
+  check_line None = asks_by program Check files (p, (q, tt)) refl (job.Check (Vt Vt100)) [] paths refl refl refl
+  check_line (Some Vt100) = asks_by program Check as_vt100 (p, (q, tt)) refl (job.Check (Vt Vt100)) [] paths refl refl refl
+  check_line (Some Vt102) = asks_by program Check as_vt102 (p, (q, tt)) refl (job.Check (Vt Vt102)) [] paths refl refl refl
+
+  pub check_today_line : Asks (program ∷ codes "check" ∷ (today_words ++ paths)) (job.Check (Today None)) [] paths
+  unfolding clap_on_literals typetool_app app_in name_in flags_in texts_in paths_in id_in rule_in job_in text_in profile_named is_today
+  check_today_line = asks_by program Check as_today (p, (q, tt)) refl (job.Check (Today None)) [] paths refl refl refl
+
+  pub check_sized_line : (size : Text) (measure : Measure) → size_named size ≡ Some measure
+      → Asks (program ∷ codes "check" ∷ (sized_words size ++ paths)) (job.Check (Today (Some measure))) [] paths
+  unfolding clap_on_literals typetool_app app_in name_in flags_in texts_in paths_in id_in rule_in job_in text_in profile_named is_today
+  check_sized_line size measure d =
+      asks_by program Check (as_sized size) (size_is_plain size measure d, (p, (q, tt))) refl (job.Check (Today (Some measure))) [] paths
+      (ap (λ o. after (after (readable unread.Size o) (λ s. Ok (Today (Some s)))) (λ player. Ok (job.Check player))) d) refl refl
 
   pub cast_line : (profile : Option Profile)
       → Asks (program ∷ codes "cast" ∷ (profile_words profile ++ paths)) (job.Cast (Vt (profile_or_first profile))) [] paths
@@ -479,13 +494,24 @@ module _ (program script timing : Text) (p : IsPlain script) (q : IsPlain timing
       (ap (λ o. after (after (readable unread.Size o) (λ s. Ok (Today (Some s)))) (λ player. Ok (job.Cast player))) d) refl refl
 
   pub page_line : (profile : Option Profile)
-      → Asks (program ∷ codes "page" ∷ (profile_words profile ++ paths)) (job.Page (profile_or_first profile)) (chars (stem_of script)) paths
+      → Asks (program ∷ codes "page" ∷ (profile_words profile ++ paths)) (job.Page (Vt (profile_or_first profile))) (chars (stem_of script)) paths
   unfolding clap_on_literals typetool_app app_in name_in flags_in texts_in paths_in id_in rule_in job_in text_in profile_named is_today
-  page_line None = asks_by program Page files (p, (q, tt)) refl (job.Page Vt100) (chars (stem_of script)) paths refl refl refl
+  page_line None = asks_by program Page files (p, (q, tt)) refl (job.Page (Vt Vt100)) (chars (stem_of script)) paths refl refl refl
   page_line (Some Vt100) =
-      asks_by program Page as_vt100 (p, (q, tt)) refl (job.Page Vt100) (chars (stem_of script)) paths refl refl refl
+      asks_by program Page as_vt100 (p, (q, tt)) refl (job.Page (Vt Vt100)) (chars (stem_of script)) paths refl refl refl
   page_line (Some Vt102) =
-      asks_by program Page as_vt102 (p, (q, tt)) refl (job.Page Vt102) (chars (stem_of script)) paths refl refl refl
+      asks_by program Page as_vt102 (p, (q, tt)) refl (job.Page (Vt Vt102)) (chars (stem_of script)) paths refl refl refl
+
+  pub page_today_line : Asks (program ∷ codes "page" ∷ (today_words ++ paths)) (job.Page (Today None)) (chars (stem_of script)) paths
+  unfolding clap_on_literals typetool_app app_in name_in flags_in texts_in paths_in id_in rule_in job_in text_in profile_named is_today
+  page_today_line = asks_by program Page as_today (p, (q, tt)) refl (job.Page (Today None)) (chars (stem_of script)) paths refl refl refl
+
+  pub page_sized_line : (size : Text) (measure : Measure) → size_named size ≡ Some measure
+      → Asks (program ∷ codes "page" ∷ (sized_words size ++ paths)) (job.Page (Today (Some measure))) (chars (stem_of script)) paths
+  unfolding clap_on_literals typetool_app app_in name_in flags_in texts_in paths_in id_in rule_in job_in text_in profile_named is_today
+  page_sized_line size measure d =
+      asks_by program Page (as_sized size) (size_is_plain size measure d, (p, (q, tt))) refl (job.Page (Today (Some measure))) (chars (stem_of script)) paths
+      (ap (λ o. after (after (readable unread.Size o) (λ s. Ok (Today (Some s)))) (λ player. Ok (job.Page player))) d) refl refl
 
   -- and with a title
   module _ (title : Text) (r : IsPlain title) where
@@ -494,16 +520,16 @@ module _ (program script timing : Text) (p : IsPlain script) (q : IsPlain timing
 
     pub page_titled_line : (profile : Option Profile)
         → Asks (program ∷ codes "page" ∷ ((profile_words profile ++ codes "--title" ∷ title ∷ []) ++ paths))
-        (job.Page (profile_or_first profile)) (chars title) paths
+        (job.Page (Vt (profile_or_first profile))) (chars title) paths
     unfolding clap_on_literals typetool_app app_in name_in flags_in texts_in paths_in id_in rule_in job_in text_in profile_named is_today
     page_titled_line None =
-        asks_by program Page titled (r, (p, (q, tt))) refl (job.Page Vt100) (chars title) paths refl refl refl
+        asks_by program Page titled (r, (p, (q, tt))) refl (job.Page (Vt Vt100)) (chars title) paths refl refl refl
     page_titled_line (Some Vt100) =
         asks_by program Page (literal (codes "--profile") ∷ literal (codes "vt100") ∷ titled) (r, (p, (q, tt))) refl
-        (job.Page Vt100) (chars title) paths refl refl refl
+        (job.Page (Vt Vt100)) (chars title) paths refl refl refl
     page_titled_line (Some Vt102) =
         asks_by program Page (literal (codes "--profile") ∷ literal (codes "vt102") ∷ titled) (r, (p, (q, tt))) refl
-        (job.Page Vt102) (chars title) paths refl refl refl
+        (job.Page (Vt Vt102)) (chars title) paths refl refl refl
 
   pub save_line : (new_script new_timing : Text) → IsPlain new_script → IsPlain new_timing
       → Asks (program ∷ codes "save" ∷ script ∷ timing ∷ new_script ∷ new_timing ∷ []) job.Save [] (script ∷ timing ∷ new_script ∷ new_timing ∷ [])
@@ -529,13 +555,26 @@ module _ (program script timing : Text) (p : IsPlain script) (q : IsPlain timing
       (p, (q, (r, (t, tt)))) refl (job.Mend Made) [] (script ∷ timing ∷ new_script ∷ new_timing ∷ []) refl refl refl
 
   pub session_line : (profile : Option Profile)
-      → Asks (program ∷ codes "session" ∷ (profile_words profile ++ paths)) (job.Session usual_every (profile_or_first profile)) [] paths
+      → Asks (program ∷ codes "session" ∷ (profile_words profile ++ paths)) (job.Session usual_every (Vt (profile_or_first profile))) [] paths
   unfolding clap_on_literals typetool_app app_in name_in flags_in texts_in paths_in id_in rule_in job_in text_in profile_named is_today
-  session_line None = asks_by program Session files (p, (q, tt)) refl (job.Session usual_every Vt100) [] paths refl refl refl
+  session_line None = asks_by program Session files (p, (q, tt)) refl (job.Session usual_every (Vt Vt100)) [] paths refl refl refl
   session_line (Some Vt100) =
-      asks_by program Session (as_vt100) (p, (q, tt)) refl (job.Session usual_every Vt100) [] paths refl refl refl
+      asks_by program Session as_vt100 (p, (q, tt)) refl (job.Session usual_every (Vt Vt100)) [] paths refl refl refl
   session_line (Some Vt102) =
-      asks_by program Session (as_vt102) (p, (q, tt)) refl (job.Session usual_every Vt102) [] paths refl refl refl
+      asks_by program Session as_vt102 (p, (q, tt)) refl (job.Session usual_every (Vt Vt102)) [] paths refl refl refl
+
+  pub session_today_line : Asks (program ∷ codes "session" ∷ (today_words ++ paths)) (job.Session usual_every (Today None)) [] paths
+  unfolding clap_on_literals typetool_app app_in name_in flags_in texts_in paths_in id_in rule_in job_in text_in profile_named is_today
+  session_today_line =
+      asks_by program Session as_today (p, (q, tt)) refl (job.Session usual_every (Today None)) [] paths refl refl refl
+
+  pub session_sized_line : (size : Text) (measure : Measure) → size_named size ≡ Some measure
+      → Asks (program ∷ codes "session" ∷ (sized_words size ++ paths)) (job.Session usual_every (Today (Some measure))) [] paths
+  unfolding clap_on_literals typetool_app app_in name_in flags_in texts_in paths_in id_in rule_in job_in text_in profile_named is_today
+  session_sized_line size measure d =
+      asks_by program Session (as_sized size) (size_is_plain size measure d, (p, (q, tt))) refl
+      (job.Session usual_every (Today (Some measure))) [] paths
+      (ap (λ o. after (after (readable unread.Size o) (λ s. Ok (Today (Some s)))) (λ player. Ok (job.Session usual_every player))) d) refl refl
 
   -- the lines with a moment
   module _ (at : Text) (moment : ℕ) (e : seconds_of at ≡ Some moment) where
@@ -798,25 +837,51 @@ module _ (program script timing : Text) (p : IsPlain script) (q : IsPlain timing
           asks_by program Find (between (Some Vt102)) between_plain refl (job.Find (Some start) end Vt102) (chars text) paths
           (between_read Vt102) refl refl
 
+  -- the line with a text that is taken out
+  module _ (text : Text) (r : IsPlain text) (hidden : is_secret (chars text) ≡ true) (new_script new_timing : Text)
+      (t : IsPlain new_script) (u : IsPlain new_timing) where
+    abbrev new_files : List Word
+    new_files = value_word text ∷ value_word script ∷ value_word timing ∷ value_word new_script ∷ value_word new_timing ∷ []
+
+    abbrev all_paths : List Text
+    all_paths = script ∷ timing ∷ new_script ∷ new_timing ∷ []
+
+    secret_read : (job : Job) → after (readable unread.Text (secret (chars text))) (λ t. Ok job) ≡ Ok job
+    secret_read job = ap (λ b. after (readable unread.Text (if b then Some (chars text) else None)) (λ t. Ok job)) hidden
+
+    pub redact_line : (profile : Option Profile)
+        → Asks (program ∷ codes "redact" ∷ (profile_words profile ++ text ∷ all_paths))
+        (job.Redact (profile_or_first profile)) (chars text) all_paths
+    unfolding clap_on_literals typetool_app app_in name_in flags_in texts_in paths_in id_in rule_in job_in text_in profile_named is_today
+    redact_line None =
+        asks_by program Redact new_files (r, (p, (q, (t, (u, tt))))) refl (job.Redact Vt100) (chars text) all_paths
+        (secret_read (job.Redact Vt100)) refl refl
+    redact_line (Some Vt100) =
+        asks_by program Redact (literal (codes "--profile") ∷ literal (codes "vt100") ∷ new_files) (r, (p, (q, (t, (u, tt))))) refl
+        (job.Redact Vt100) (chars text) all_paths (secret_read (job.Redact Vt100)) refl refl
+    redact_line (Some Vt102) =
+        asks_by program Redact (literal (codes "--profile") ∷ literal (codes "vt102") ∷ new_files) (r, (p, (q, (t, (u, tt))))) refl
+        (job.Redact Vt102) (chars text) all_paths (secret_read (job.Redact Vt102)) refl refl
+
   -- the line with a number of chunks
   module _ (every : Text) (count : ℕ) (e : every_of every ≡ Some count) where
     number_plain : ArePlain (value_word every ∷ files)
     number_plain = (number_is_plain every (number_in_digits every count e), (p, (q, tt)))
 
-    number_read : (played : Profile)
+    number_read : (played : Player)
         → after (readable unread.Every (every_of every)) (λ n. Ok (job.Session n played)) ≡ Ok (job.Session count played)
     number_read played = ap (λ o. after (readable unread.Every o) (λ n. Ok (job.Session n played))) e
 
     pub session_every_line : (profile : Option Profile)
         → Asks (program ∷ codes "session" ∷ codes "--every" ∷ every ∷ (profile_words profile ++ paths))
-        (job.Session count (profile_or_first profile)) [] paths
+        (job.Session count (Vt (profile_or_first profile))) [] paths
     unfolding clap_on_literals typetool_app app_in name_in flags_in texts_in paths_in id_in rule_in job_in text_in profile_named is_today
     session_every_line None =
         asks_by program Session (literal (codes "--every") ∷ value_word every ∷ files) number_plain refl
-        (job.Session count Vt100) [] paths (number_read Vt100) refl refl
+        (job.Session count (Vt Vt100)) [] paths (number_read (Vt Vt100)) refl refl
     session_every_line (Some Vt100) =
         asks_by program Session (literal (codes "--every") ∷ value_word every ∷ as_vt100) number_plain refl
-        (job.Session count Vt100) [] paths (number_read Vt100) refl refl
+        (job.Session count (Vt Vt100)) [] paths (number_read (Vt Vt100)) refl refl
     session_every_line (Some Vt102) =
         asks_by program Session (literal (codes "--every") ∷ value_word every ∷ as_vt102) number_plain refl
-        (job.Session count Vt102) [] paths (number_read Vt102) refl refl
+        (job.Session count (Vt Vt102)) [] paths (number_read (Vt Vt102)) refl refl

@@ -8,7 +8,7 @@ use Rattle.tape_core.specs.declared.fault.Fault.TheVariants.{NoHeader, ReadFault
 use Rattle.tape_jobs.proofs.JobLemmas.{comes_by, is_not, stops}
 use Rattle.tape_jobs.specs.Endings.{Device, HasFailed, TookBoth, TookPartOfBoth, Writers}
 use Rattle.tape_jobs.specs.Mending.{AWriterFailed, IsRead, IsSilent, MendEnds, OnPair, Pair, StoppedInThree, ThreeEnd, told_by}
-use Rattle.tape_jobs.specs.Output.{Comes, Done, Files, done_mending, mended_by, mends, outcome_by, refused_with}
+use Rattle.tape_jobs.specs.Output.{Comes, Done, Files, done_mending, mended_by, mends, outcome_by, refused_in, refused_with}
 use Rattle.tape_jobs.specs.declared.job.Ending.{Ending}
 use Rattle.tape_jobs.specs.declared.job.Job.{Job}
 use Rattle.tape_jobs.specs.declared.job.Job.TheVariants as jobs
@@ -30,17 +30,18 @@ one_failed writers told done stopped = elim stopped [
 pub is_mend : (job : Job) (how : Header) → mends job ≡ Some how → job ≡ jobs.Mend how
 is_mend (jobs.Due at) how e = absurd (cc)
 is_mend jobs.Info how e = absurd (cc)
-is_mend (jobs.Check profile) how e = absurd (cc)
+is_mend (jobs.Check player) how e = absurd (cc)
 is_mend (jobs.Screen at print) how e = absurd (cc)
 is_mend (jobs.Picture at player) how e = absurd (cc)
 is_mend (jobs.Changes from to player) how e = absurd (cc)
 is_mend (jobs.Find from to profile) how e = absurd (cc)
 is_mend (jobs.Reports at player) how e = absurd (cc)
-is_mend (jobs.Page profile) how e = absurd (cc)
+is_mend (jobs.Page player) how e = absurd (cc)
 is_mend (jobs.Cast player) how e = absurd (cc)
 is_mend jobs.Save how e = absurd (cc)
 is_mend (jobs.Mend other) how e = let same : other ≡ how = cc in ap (λ h. jobs.Mend h) same
-is_mend (jobs.Session every profile) how e = absurd (cc)
+is_mend (jobs.Redact profile) how e = absurd (cc)
+is_mend (jobs.Session every player) how e = absurd (cc)
 
 module _ (how : Header) (script timing : List ℕ) where
   -- where no line can be the header
@@ -66,10 +67,10 @@ comes_remade job how files remains asked known =
     (sym (remade how files.script files.timing remains known.0 known.1))
 
 pub comes_unmended : (job : Job) (how : Header) (files : Files) (f : Fault) → mends job ≡ Some how → f ≡ NoHeader
-    → has_header (seen how files.script) ≡ false → Comes job files (refused_with (File f))
+    → has_header (seen how files.script) ≡ false → Comes job files (refused_in job (File f))
 comes_unmended job how files f asked same none =
-    comes_by job files (refused_with (File f)) (Some how) asked
-    (ap (λ g. refused_with (File g)) same ∙ sym (unmended how files.script files.timing none))
+    comes_by job files (refused_in job (File f)) (Some how) asked
+    (ap (λ j. refused_in j (File f)) (is_mend job how asked) ∙ ap (λ g. refused_with (File g)) same ∙ sym (unmended how files.script files.timing none))
 
 module _ {S T O P L : Type 0} (pair : Pair S T) (writers : Writers O P) (told : Device L) (how : Header) where
   -- a pair that isn't read

@@ -6,63 +6,66 @@ use Rattle.tape_core.specs.declared.fault.Fault.{Fault}
 use Rattle.tape_seek.specs.declared.edits.EditFault.{EditFault}
 use Rattle.tape_jobs.specs.Endings.{JobEnds, Writers}
 use Rattle.tape_jobs.specs.Notes.{was_read}
-use Rattle.tape_jobs.specs.Output.{Done, done_on, done_saving, outcome_by, refused_with}
+use Rattle.tape_jobs.specs.Output.{Done, done_on, done_saving, outcome_in, refused_in, refused_with}
 use Rattle.tape_jobs.specs.Requests.{saved, started}
 use Rattle.tape_jobs.specs.declared.job.Ending.{Ending}
 use Rattle.tape_jobs.specs.declared.job.Job.{Job}
 use Rattle.tape_jobs.specs.declared.job.Job.TheVariants as jobs
 use Rattle.tape_jobs.specs.declared.job.JobFault.{JobFault}
 use Rattle.tape_jobs.specs.declared.job.JobFault.TheVariants.{File, Line, Memory}
+use Rattle.tape_jobs.specs.declared.player.Player.TheVariants.{Vt}
 use Rattle.vt_term.specs.declared.profile.Profile.TheVariants.{Vt100}
 
 none_some : {X : Type 0} (x : X) (o : Option X) → o ≡ None → o ≡ Some x → ⊥
 none_some x o e f = absurd (cc)
 
-unfaulted_done : (done : Done) (g : Fault) → done.outcome.fault ≡ None → done ≡ refused_with (File g) → ⊥
-unfaulted_done done g none e = none_some (File g) done.outcome.fault none (ap (λ (d : Done). d.outcome.fault) e)
+unfaulted_done : (job : Job) (done : Done) (g : Fault) → done.outcome.fault ≡ None → done ≡ refused_in job (File g) → ⊥
+unfaulted_done job done g none e = none_some (File g) done.outcome.fault none (ap (λ (d : Done). d.outcome.fault) e)
 
 unfaulted_save : (saving : Result Tape (ℕ × EditFault)) (g : Fault) → done_saving saving ≡ refused_with (File g) → ⊥
-unfaulted_save (Ok tape) g e = unfaulted_done (done_saving (Ok tape)) g refl e
+unfaulted_save (Ok tape) g e = unfaulted_done jobs.Save (done_saving (Ok tape)) g refl e
 unfaulted_save (Err refused) g e =
     let same : Some (Line refused.0 refused.1) ≡ Some (File g) = ap (λ (d : Done). d.outcome.fault) e in
     absurd (cc)
 
 -- on a recording that was read no job has a fault of the files
 unfaulted : (job : Job) (tape : Tape) (lines text : List ℕ) (g : Fault)
-    → done_on job tape lines text ≡ refused_with (File g) → ⊥
-unfaulted (jobs.Due at) tape lines text g e = unfaulted_done (done_on (jobs.Due at) tape lines text) g refl e
-unfaulted jobs.Info tape lines text g e = unfaulted_done (done_on jobs.Info tape lines text) g refl e
-unfaulted (jobs.Check profile) tape lines text g e =
-    unfaulted_done (done_on (jobs.Check profile) tape lines text) g refl e
+    → done_on job tape lines text ≡ refused_in job (File g) → ⊥
+unfaulted (jobs.Due at) tape lines text g e = unfaulted_done (jobs.Due at) (done_on (jobs.Due at) tape lines text) g refl e
+unfaulted jobs.Info tape lines text g e = unfaulted_done jobs.Info (done_on jobs.Info tape lines text) g refl e
+unfaulted (jobs.Check player) tape lines text g e =
+    unfaulted_done (jobs.Check player) (done_on (jobs.Check player) tape lines text) g refl e
 unfaulted (jobs.Screen at print) tape lines text g e =
-    unfaulted_done (done_on (jobs.Screen at print) tape lines text) g refl e
+    unfaulted_done (jobs.Screen at print) (done_on (jobs.Screen at print) tape lines text) g refl e
 unfaulted (jobs.Picture at player) tape lines text g e =
-    unfaulted_done (done_on (jobs.Picture at player) tape lines text) g refl e
+    unfaulted_done (jobs.Picture at player) (done_on (jobs.Picture at player) tape lines text) g refl e
 unfaulted (jobs.Changes from to player) tape lines text g e =
-    unfaulted_done (done_on (jobs.Changes from to player) tape lines text) g refl e
+    unfaulted_done (jobs.Changes from to player) (done_on (jobs.Changes from to player) tape lines text) g refl e
 unfaulted (jobs.Find from to profile) tape lines text g e =
-    unfaulted_done (done_on (jobs.Find from to profile) tape lines text) g refl e
+    unfaulted_done (jobs.Find from to profile) (done_on (jobs.Find from to profile) tape lines text) g refl e
 unfaulted (jobs.Reports at player) tape lines text g e =
-    unfaulted_done (done_on (jobs.Reports at player) tape lines text) g refl e
-unfaulted (jobs.Page profile) tape lines text g e =
-    unfaulted_done (done_on (jobs.Page profile) tape lines text) g refl e
+    unfaulted_done (jobs.Reports at player) (done_on (jobs.Reports at player) tape lines text) g refl e
+unfaulted (jobs.Page player) tape lines text g e =
+    unfaulted_done (jobs.Page player) (done_on (jobs.Page player) tape lines text) g refl e
 unfaulted (jobs.Cast player) tape lines text g e =
-    unfaulted_done (done_on (jobs.Cast player) tape lines text) g refl e
+    unfaulted_done (jobs.Cast player) (done_on (jobs.Cast player) tape lines text) g refl e
 unfaulted (jobs.Mend how) tape lines text g e =
-    unfaulted_done (done_on (jobs.Mend how) tape lines text) g refl e
-unfaulted jobs.Save tape lines text g e = unfaulted_save (saved 1 (started Vt100 tape) (lines_of lines)) g e
-unfaulted (jobs.Session every profile) tape lines text g e =
-    unfaulted_done (done_on (jobs.Session every profile) tape lines text) g refl e
+    unfaulted_done (jobs.Mend how) (done_on (jobs.Mend how) tape lines text) g refl e
+unfaulted (jobs.Redact profile) tape lines text g e =
+    unfaulted_done (jobs.Redact profile) (done_on (jobs.Redact profile) tape lines text) g refl e
+unfaulted jobs.Save tape lines text g e = unfaulted_save (saved 1 (started (Vt Vt100) tape) (lines_of lines)) g e
+unfaulted (jobs.Session every player) tape lines text g e =
+    unfaulted_done (jobs.Session every player) (done_on (jobs.Session every player) tape lines text) g refl e
 
 module _ (job : Job) (tape : Tape) (lines text : List ℕ) where
-  refused_after : (f : JobFault) → done_on job tape lines text ≡ refused_with f → was_read (Some f) ≡ true
+  refused_after : (f : JobFault) → done_on job tape lines text ≡ refused_in job f → was_read (Some f) ≡ true
   refused_after (File g) same = absurd (unfaulted job tape lines text g same)
   refused_after (Line line g) same = refl
   refused_after Memory same = refl
 
   -- so however a job on it ends, it was read
   pub ended_after : {O P : Type 0} (writers : Writers O P) (r : Result Ending JobFault) → JobEnds writers job (done_on job tape lines text) r
-      → was_read (outcome_by r).fault ≡ true
+      → was_read (outcome_in job r).fault ≡ true
   ended_after writers (Ok ending) done = refl
   ended_after writers (Err f) ends = elim ends [
     | inl (e, wants) ↦ ap (λ x. was_read (Some x)) e

@@ -1,8 +1,9 @@
 -- The answers to request lines, one line after another.
-use Rattle.std.proofs.Common.{◌≡◌, ℕ, ◌++◌, ◌||◌, Bool, false, List, [], ◌∷◌, Option, ap, append_assoc, append-nil, sym, ◌∙◌, subst}
+use Rattle.std.proofs.Common.{◌≡◌, ℕ, ◌++◌, ◌||◌, Bool, false, List, [], ◌∷◌, Option, ap, append_assoc, append-nil, refl, sym, ◌∙◌, subst}
 use Rattle.std.proofs.Math.Bool.{or-false, or_assoc}
 use Rattle.tape_core.specs.declared.devices.Watched.{Watched}
-use Rattle.tape_core.specs.Devices.{Took}
+use Rattle.tape_core.proofs.GaveLemmas.{gave_none, gave_took}
+use Rattle.tape_core.specs.Devices.{Took, has_failed}
 use Rattle.tape_seek.specs.Requests.{request}
 use Rattle.tape_jobs.specs.Requests.{Course, course_after}
 use Rattle.tape_jobs.specs.Session.{answer, answered, any_refused, is_refused}
@@ -14,6 +15,16 @@ pub record AnsweredBefore {T : Type 0} (contents : T → Option (List ℕ)) (old
   pub took : Took contents old new text
   pub cut : answered first lines ≡ text ++ answered course rest
   pub refusals : any_refused first lines ≡ (refused || any_refused course rest)
+
+-- none was answered yet
+pub nothing_answered : {T : Type 0} (contents : T → Option (List ℕ)) (a : Watched T) (course : Course) (lines : List (List ℕ))
+    → has_failed a ≡ false → AnsweredBefore contents a a course lines course lines false
+nothing_answered contents a course lines sound = record {
+  text = [];
+  took = gave_took contents a a [] sound (gave_none contents a);
+  cut = refl;
+  refusals = refl;
+}
 
 -- the answers to a line and those behind it
 pub answered_next : (course : Course) (lines rest : List (List ℕ)) (line : List ℕ) → lines ≡ line ∷ rest

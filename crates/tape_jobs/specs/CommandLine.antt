@@ -23,9 +23,9 @@ use Rattle.tape_jobs.specs.declared.words.Words.{Words}
 use Rattle.tape_jobs.specs.declared.words.WordsFault.{WordsFault}
 use Rattle.tape_jobs.specs.declared.words.WordsFault.TheVariants.{Clap, Memory, BadSeconds, BadEvery, BadProfile, BadSize, NotPlayed, BadText, BothHeaders}
 use Rattle.tape_jobs.specs.declared.words.table.Argument.{Argument}
-use Rattle.tape_jobs.specs.declared.words.table.Argument.TheVariants.{At, From, To, Until, Every, Profile, AnyProfile, Size, Escaped, Last, Headless, Title, Sought, Script, Timing, AnyTiming, NewScript, NewTiming}
+use Rattle.tape_jobs.specs.declared.words.table.Argument.TheVariants.{At, From, To, Until, Every, Profile, AnyProfile, Size, Escaped, Last, Headless, Title, Sought, Secret, Script, Timing, AnyTiming, NewScript, NewTiming}
 use Rattle.tape_jobs.specs.declared.words.table.Subcommand.{Subcommand}
-use Rattle.tape_jobs.specs.declared.words.table.Subcommand.TheVariants.{Due, Info, Check, Screen, Picture, Changes, Find, Reports, Page, Cast, Save, Mend, Session}
+use Rattle.tape_jobs.specs.declared.words.table.Subcommand.TheVariants.{Due, Info, Check, Screen, Picture, Changes, Find, Reports, Page, Cast, Save, Mend, Redact, Session}
 use Rattle.tape_jobs.specs.declared.words.values.Unreadable.{Unreadable}
 use Rattle.tape_jobs.specs.declared.words.values.Unreadable.TheVariants as unread
 use Rattle.tape_mend.specs.declared.opening.Header.{Header}
@@ -38,7 +38,7 @@ use Rattle.vt_term.specs.declared.profile.Profile.TheVariants.{Vt100, Vt102}
 
 -- the subcommands, in the order in which help tells them (ours)
 abbrev pub subcommands_in_order : List Subcommand
-subcommands_in_order = Due ∷ Info ∷ Check ∷ Screen ∷ Picture ∷ Changes ∷ Find ∷ Reports ∷ Page ∷ Cast ∷ Save ∷ Mend ∷ Session ∷ []
+subcommands_in_order = Due ∷ Info ∷ Check ∷ Screen ∷ Picture ∷ Changes ∷ Find ∷ Reports ∷ Page ∷ Cast ∷ Save ∷ Mend ∷ Redact ∷ Session ∷ []
 
 -- the name of a subcommand (ours)
 unfoldable pub name_in : Subcommand → Text
@@ -54,27 +54,30 @@ name_in Page = codes "page"
 name_in Cast = codes "cast"
 name_in Save = codes "save"
 name_in Mend = codes "mend"
+name_in Redact = codes "redact"
 name_in Session = codes "session"
 
 -- the flags of a subcommand (ours)
 unfoldable pub flags_in : Subcommand → List Argument
 flags_in Due = At ∷ []
 flags_in Info = []
-flags_in Check = Profile ∷ []
+flags_in Check = AnyProfile ∷ Size ∷ []
 flags_in Screen = At ∷ Escaped ∷ AnyProfile ∷ Size ∷ []
 flags_in Picture = At ∷ AnyProfile ∷ Size ∷ []
 flags_in Changes = From ∷ To ∷ AnyProfile ∷ Size ∷ []
 flags_in Find = From ∷ Until ∷ Profile ∷ []
 flags_in Reports = At ∷ AnyProfile ∷ Size ∷ []
-flags_in Page = Profile ∷ Title ∷ []
+flags_in Page = AnyProfile ∷ Size ∷ Title ∷ []
 flags_in Cast = AnyProfile ∷ Size ∷ []
 flags_in Save = []
 flags_in Mend = Last ∷ Headless ∷ []
-flags_in Session = Every ∷ Profile ∷ []
+flags_in Redact = AnyProfile ∷ Size ∷ []
+flags_in Session = Every ∷ AnyProfile ∷ Size ∷ []
 
 -- the texts of a subcommand, which stand before its paths (ours)
 unfoldable pub texts_in : Subcommand → List Argument
 texts_in Find = Sought ∷ []
+texts_in Redact = Secret ∷ []
 texts_in _ = []
 
 -- the paths of a subcommand, in the line's order (ours)
@@ -91,6 +94,7 @@ paths_in Page = Script ∷ Timing ∷ []
 paths_in Cast = Script ∷ Timing ∷ []
 paths_in Save = Script ∷ Timing ∷ NewScript ∷ NewTiming ∷ []
 paths_in Mend = Script ∷ AnyTiming ∷ NewScript ∷ NewTiming ∷ []
+paths_in Redact = Script ∷ Timing ∷ NewScript ∷ NewTiming ∷ []
 paths_in Session = Script ∷ Timing ∷ []
 
 -- the name of an argument (ours)
@@ -108,6 +112,7 @@ id_in Last = codes "last"
 id_in Headless = codes "headless"
 id_in Title = codes "title"
 id_in Sought = codes "text"
+id_in Secret = codes "text"
 id_in Script = codes "script"
 id_in Timing = codes "timing"
 id_in AnyTiming = codes "timing"
@@ -146,6 +151,7 @@ rule_in Last = switch_rule (id_in Last)
 rule_in Headless = switch_rule (id_in Headless)
 rule_in Title = optional_rule (id_in Title)
 rule_in Sought = positional_rule (id_in Sought)
+rule_in Secret = positional_rule (id_in Secret)
 rule_in Script = positional_rule (id_in Script)
 rule_in Timing = positional_rule (id_in Timing)
 rule_in AnyTiming = positional_rule (id_in AnyTiming)
@@ -277,6 +283,22 @@ searchable text = if is_searchable text then Some text else None
 abbrev pub searched_in : List Row → Result (List ℕ) Unreadable
 searched_in rows = readable unread.Text (searchable (chars (value_in (id_in Sought) rows)))
 
+-- a VT: a terminal of today isn't played here yet (ours)
+abbrev pub vt_only : Player → Result Played Unreadable
+vt_only (Vt profile) = Ok profile
+vt_only (Today size) = Err unread.Today
+
+-- whether these characters can be taken out: they can be looked for, and none is `*`, which is written over them (ours)
+unfoldable pub is_secret : List ℕ → Bool
+is_secret text = is_searchable text && not (list_any (λ c. c == 42) text)
+
+-- the characters of a text that can be taken out (ours)
+abbrev pub secret : List ℕ → Option (List ℕ)
+secret text = if is_secret text then Some text else None
+
+abbrev pub secret_in : List Row → Result (List ℕ) Unreadable
+secret_in rows = readable unread.Text (secret (chars (value_in (id_in Secret) rows)))
+
 -- whether a flag without a value is given: clap tells `true` then, and else `false` (ours)
 abbrev pub switch_in : Text → List Row → Bool
 switch_in id rows = bytes_eq (value_in id rows) (codes "true")
@@ -295,7 +317,7 @@ header_in rows = header_by (switch_in (id_in Last) rows) (switch_in (id_in Headl
 unfoldable pub job_in : Subcommand → List Row → Result Job Unreadable
 job_in Due rows = after (moment_in (id_in At) rows) (λ at. Ok (job.Due at))
 job_in Info rows = Ok job.Info
-job_in Check rows = after (profile_in rows) (λ profile. Ok (job.Check profile))
+job_in Check rows = after (player_in rows) (λ player. Ok (job.Check player))
 job_in Screen rows =
     after (moment_in (id_in At) rows) (λ at. after (player_in rows) (λ player.
     Ok (job.Screen at (print_by (switch_in (id_in Escaped) rows) player))))
@@ -312,13 +334,16 @@ job_in Find rows =
 job_in Reports rows =
     after (moment_in (id_in At) rows) (λ at. after (player_in rows) (λ player.
     Ok (job.Reports at player)))
-job_in Page rows = after (profile_in rows) (λ profile. Ok (job.Page profile))
+job_in Page rows = after (player_in rows) (λ player. Ok (job.Page player))
 job_in Cast rows = after (player_in rows) (λ player. Ok (job.Cast player))
 job_in Save rows = Ok job.Save
 job_in Mend rows = after (header_in rows) (λ how. Ok (job.Mend how))
+job_in Redact rows =
+    after (after (player_in rows) vt_only) (λ profile. after (secret_in rows) (λ text.
+    Ok (job.Redact profile)))
 job_in Session rows =
-    after (every_in rows) (λ every. after (profile_in rows) (λ profile.
-    Ok (job.Session every profile)))
+    after (every_in rows) (λ every. after (player_in rows) (λ player.
+    Ok (job.Session every player)))
 
 -- ---- what clap is told
 
@@ -384,9 +409,11 @@ stem_of path = unwrap_or (path_file_stem path) []
 abbrev pub title_in : List Row → Text
 title_in rows = unwrap_or (first_of (id_in Title) rows) (stem_of (value_in (id_in Script) rows))
 
--- the characters of the text beside a job: what `find` looks for, the title of a page, and none for the others (ours)
+-- the characters of the text beside a job: what `find` looks for, what `redact` takes out, the title of a page, and none
+-- for the others (ours)
 unfoldable pub text_in : Subcommand → List Row → List ℕ
 text_in Find rows = chars (value_in (id_in Sought) rows)
+text_in Redact rows = chars (value_in (id_in Secret) rows)
 text_in Page rows = chars (title_in rows)
 text_in _ rows = []
 
@@ -416,17 +443,18 @@ meaning_read words =
 abbrev pub path_count : Job → ℕ
 path_count (job.Due at) = 2
 path_count job.Info = 2
-path_count (job.Check profile) = 2
+path_count (job.Check player) = 2
 path_count (job.Screen at print) = 2
 path_count (job.Picture at player) = 2
 path_count (job.Changes from to player) = 2
 path_count (job.Find from to profile) = 2
 path_count (job.Reports at player) = 2
-path_count (job.Page profile) = 2
+path_count (job.Page player) = 2
 path_count (job.Cast player) = 2
 path_count job.Save = 4
 path_count (job.Mend how) = 4
-path_count (job.Session every profile) = 2
+path_count (job.Redact profile) = 4
+path_count (job.Session every player) = 2
 
 -- Private: the fault of words that clap takes and that aren't readable (ours)
 abbrev pub fault_of_unread : Unreadable → WordsFault

@@ -13,19 +13,24 @@
 use Rattle.std.specs.Prelude.{◌≡◌, ℕ, ◌⊎◌, Bool, true, false, List, Option, Some, None, MatchOption, Result, MatchResult, Ok, not}
 use Rattle.chunk_walk.specs.declared.stop.WalkFault.{WalkFault}
 use Rattle.chunk_walk.specs.declared.stop.WalkFault.TheVariants as walk
+use Rattle.screen_print.specs.EachByte.{StandsNowhere, has_ink}
 use Rattle.screen_print.specs.declared.walk.ChangesFault.{ChangesFault}
 use Rattle.screen_print.specs.declared.walk.ChangesFault.TheVariants as changes
 use Rattle.tape_check.specs.declared.check.CheckFault.{CheckFault}
 use Rattle.tape_check.specs.declared.check.CheckFault.TheVariants as check
 use Rattle.tape_core.specs.Devices.{Gave, Took, TookPart, has_failed, inner_of, is_flushed}
 use Rattle.tape_core.specs.declared.devices.Watched.{Watched}
+use Rattle.tape_core.specs.Reading.{reads}
+use Rattle.tape_core.specs.Tape.{Tape}
 use Rattle.tape_core.specs.declared.fault.Fault.TheVariants as fault
-use Rattle.tape_jobs.specs.Output.{Comes, Done, Files, IsDoneStatus, TakesMemory, is_stopped, outcome_by, refused_with, status_after, status_of, takes_requests, writes_last, writes_timing}
+use Rattle.tape_jobs.specs.Output.{Comes, Done, Files, IsDoneStatus, TakesMemory, is_stopped, outcome_by, refused_in, status_after, status_in, takes_requests, writes_last, writes_timing}
 use Rattle.tape_jobs.specs.declared.job.Ending.{Ending}
 use Rattle.tape_jobs.specs.declared.job.Job.{Job}
+use Rattle.tape_jobs.specs.declared.job.Job.TheVariants.{Find}
 use Rattle.tape_jobs.specs.declared.job.JobFault.{JobFault}
 use Rattle.tape_jobs.specs.declared.job.JobFault.TheVariants.{File, Memory}
 use Rattle.tape_jobs.specs.declared.job.Outcome.{Outcome}
+use Rattle.vt_term.specs.declared.profile.Profile.{Profile}
 
 -- ---- readers and writers
 
@@ -173,7 +178,7 @@ abbrev pub IsUndone : {O P : Type 0} → Writers O P → Job → Done → JobFau
 IsUndone writers job done f =
     ((f ≡ Memory) × WantsMemory writers job done)
     ⊎ (((f ≡ File fault.WriteFault) × TookPartOfBoth writers done true)
-    ⊎ ((is_stopped (Some f) ≡ false) × (done ≡ refused_with f) × IsUnwritten writers))
+    ⊎ ((is_stopped (Some f) ≡ false) × (done ≡ refused_in job f) × IsUnwritten writers))
 
 -- Private: it is done, or it isn't (ours)
 abbrev pub JobEnds : {O P : Type 0} → Writers O P → Job → Done → Result Ending JobFault → Type 0
@@ -245,6 +250,16 @@ pub record RunEnds {S T R O P : Type 0} (readers : Readers S T R) (writers : Wri
   pub memory : IsForMemory outcome.fault → RunsOut readers writers job outcome.fault
   pub device : IsForDevice outcome.fault → IsBroken readers writers job outcome.fault
   pub status : MatchOption outcome.fault (IsDoneStatus job outcome.status)
-      (λ f. outcome.status ≡ status_of f)
+      (λ f. outcome.status ≡ status_in job f)
   pub requests : takes_requests job ≡ false → AsksNothing readers.requests
   pub out_timing : writes_timing job ≡ false → AsksNothing writers.out_timing
+
+-- ---- a search that finds nothing
+
+-- where it is done with status 1, the files are read as a recording in which the text stands nowhere: not at the moment
+-- `from`, and not after any byte of a chunk that is asked for (ours)
+abbrev pub NothingIsNowhere : {S T R : Type 0} → Readers S T R → Job → Outcome → Type 0
+NothingIsNowhere readers job outcome = (profile : Profile) (from : Option ℕ) (to : ℕ)
+    → job ≡ Find from to profile → has_ink readers.text ≡ true → outcome.fault ≡ None → outcome.status ≡ 1
+    → (files : Files) → HoldFiles readers job files
+    → (tape : Tape) × reads files.script files.timing tape × StandsNowhere profile tape from to readers.text

@@ -7,5 +7,6 @@ pub mod Moment
 pub mod Notes
 pub mod Output
 pub mod Player
+pub mod Redacting
 pub mod Requests
 pub mod Session

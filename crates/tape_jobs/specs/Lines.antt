@@ -1,7 +1,7 @@
 -- What a plain command line means: each line of the synopsis, its flags in the order of help (ours).
 use Rattle.std.specs.Prelude.{◌≡◌, ℕ, chars, ◌==◌, ◌++◌, Bool, true, false, List, [], ◌∷◌, Option, Some, None, Ok, codes}
 use Rattle.clap.specs.Words.{Text}
-use Rattle.tape_jobs.specs.CommandLine.{clap_takes, is_searchable, meaning_of_words}
+use Rattle.tape_jobs.specs.CommandLine.{clap_takes, is_searchable, is_secret, meaning_of_words}
 use Rattle.tape_jobs.specs.declared.job.Job.{Job}
 use Rattle.tape_mend.specs.declared.opening.Header.{Header}
 use Rattle.tape_mend.specs.declared.opening.Header.TheVariants.{Kept, Last, Made}
@@ -75,3 +75,12 @@ FindAsks flags job = (text : Text) → IsPlain text → is_searchable (chars tex
     → (program script timing : Text) → IsPlain script → IsPlain timing
     → Asks (program ∷ codes "find" ∷ (flags ++ text ∷ script ∷ timing ∷ [])) job (chars text)
     (script ∷ timing ∷ [])
+
+-- a line that asks to take out a text, of characters that can be taken out: the program's name, the subcommand's, these
+-- flags, the text, a script and a timing, and the new ones (ours)
+abbrev pub RedactAsks : List Text → Job → Type 0
+RedactAsks flags job = (text : Text) → IsPlain text → is_secret (chars text) ≡ true
+    → (program script timing : Text) → IsPlain script → IsPlain timing
+    → (new_script new_timing : Text) → IsPlain new_script → IsPlain new_timing
+    → Asks (program ∷ codes "redact" ∷ (flags ++ text ∷ script ∷ timing ∷ new_script ∷ new_timing ∷ [])) job
+    (chars text) (script ∷ timing ∷ new_script ∷ new_timing ∷ [])

@@ -13,14 +13,11 @@ use Rattle.tape_jobs.specs.declared.player.Player.{Player}
 use Rattle.tape_jobs.specs.declared.player.Player.TheVariants.{Vt, Today}
 use Rattle.tape_jobs.specs.declared.player.Print.{Print}
 use Rattle.tape_jobs.specs.declared.player.Print.TheVariants.{Plain, Escaped}
-use Rattle.tape_jobs.specs.declared.shared.Asked.{Asked}
-use Rattle.tape_jobs.specs.declared.shared.Asked.TheVariants as asks
-use Rattle.tape_jobs.specs.declared.jobs.moment.AskedOfToday.{AskedOfToday}
-use Rattle.tape_jobs.specs.declared.jobs.moment.AskedOfToday.TheVariants as today
+use Rattle.tape_jobs.specs.declared.answers.Asked.{Asked}
+use Rattle.tape_jobs.specs.declared.answers.Asked.TheVariants as asks
+use Rattle.tape_jobs.specs.declared.answers.Question.{Question}
 use Rattle.vt_term.specs.Console.{Console}
-use Rattle.vt_term.specs.Term.{Term}
 use Rattle.xterm_term.specs.Console.{Console as TodayConsole}
-use Rattle.xterm_term.specs.Term.{Term as TodayTerm}
 use Rattle.xterm_escaped.specs.EscapedText.{escaped_text as escaped_today}
 use Rattle.xterm_picture.specs.Picture.{picture_text as picture_today}
 use Rattle.xterm_picture.specs.Still.{still_of as still_today}
@@ -60,14 +57,13 @@ unfoldable pub drawn_at : Player → Tape → ℕ → List ℕ
 drawn_at (Vt profile) tape at = drawn_text at (term_at profile tape at).console
 drawn_at (Today asked) tape at = drawn_today at (today_at asked tape at).console
 
--- Private: what is asked of a terminal of today at a moment, as a text (ours)
-abbrev pub asked_of_today : AskedOfToday → ℕ → TodayTerm → List ℕ
-asked_of_today today.Screen at term = plain_today term.console.picture
-asked_of_today today.Escaped at term = escaped_today term.console
-asked_of_today today.Picture at term = drawn_today at term.console
-asked_of_today today.Reports at term = hex_line term.reports
+-- Private: what is asked at a moment, as a text (ours)
+abbrev pub told_by : Asked → Player → Tape → ℕ → List ℕ
+told_by asks.Screen player tape at = printed_at (Plain player) tape at
+told_by asks.Escaped player tape at = printed_at (Escaped player) tape at
+told_by asks.Picture player tape at = drawn_at player tape at
+told_by asks.Reports player tape at = sent_at player tape at
 
--- Private: what is asked of a terminal, as a text (ours)
-abbrev pub asked_text : Asked → Term → List ℕ
-asked_text (asks.Screen escaped) term = screen_text escaped term.console
-asked_text asks.Reports term = hex_line term.reports
+-- Private: the answer to a question (ours)
+abbrev pub told_at : Player → Tape → Question → List ℕ
+told_at player tape question = told_by question.asked player tape question.at

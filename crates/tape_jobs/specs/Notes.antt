@@ -9,36 +9,32 @@ use Rattle.tape_core.specs.declared.fault.Fault.{Fault}
 use Rattle.tape_core.specs.declared.fault.Fault.TheVariants as fault
 use Rattle.tape_jobs.specs.Endings.{AsksNothing, Device, HoldFiles, Readers}
 use Rattle.tape_jobs.specs.Output.{Files}
+use Rattle.tape_jobs.specs.Player.{played_of}
 use Rattle.tape_jobs.specs.declared.job.Job.{Job}
-use Rattle.tape_jobs.specs.declared.job.Job.TheVariants.{Screen, Picture, Changes, Find, Reports, Page, Cast, Session}
+use Rattle.tape_jobs.specs.declared.job.Job.TheVariants.{Screen, Picture, Changes, Find, Reports, Page, Cast, Redact, Session}
 use Rattle.tape_jobs.specs.declared.job.JobFault.{JobFault}
 use Rattle.tape_jobs.specs.declared.job.JobFault.TheVariants.{File}
 use Rattle.tape_jobs.specs.declared.player.Player.{Player}
-use Rattle.tape_jobs.specs.declared.player.Player.TheVariants.{Vt, Today}
+use Rattle.tape_jobs.specs.declared.player.Player.TheVariants.{Vt}
 use Rattle.tape_jobs.specs.declared.player.Print.{Print}
 use Rattle.tape_jobs.specs.declared.player.Print.TheVariants.{Plain, Escaped}
-use Rattle.vt_term.specs.declared.profile.Profile.{Profile}
 
--- as which VT a terminal plays, if it is one: what a terminal of today plays isn't noted (ours)
-abbrev pub vt_of : Player → Option Profile
-vt_of (Vt profile) = Some profile
-vt_of (Today asked) = None
+-- which terminal a screen is of (ours)
+abbrev pub player_of : Print → Player
+player_of (Plain player) = player
+player_of (Escaped player) = player
 
--- the same of a screen (ours)
-abbrev pub vt_of_print : Print → Option Profile
-vt_of_print (Plain player) = vt_of player
-vt_of_print (Escaped player) = vt_of player
-
--- as which terminal a job plays the recording, if it plays it (ours)
-abbrev pub played_by : Job → Option Profile
-played_by (Screen at print) = vt_of_print print
-played_by (Picture at player) = vt_of player
-played_by (Changes from to player) = vt_of player
-played_by (Find from to profile) = Some profile
-played_by (Reports at player) = vt_of player
-played_by (Page profile) = Some profile
-played_by (Cast player) = vt_of player
-played_by (Session every profile) = Some profile
+-- which terminal plays the recording for a job, if it plays it (ours)
+abbrev pub played_by : Job → Option Player
+played_by (Screen at print) = Some (player_of print)
+played_by (Picture at player) = Some player
+played_by (Changes from to player) = Some player
+played_by (Find from to profile) = Some (Vt profile)
+played_by (Reports at player) = Some player
+played_by (Page player) = Some player
+played_by (Cast player) = Some player
+played_by (Redact profile) = Some (Vt profile)
+played_by (Session every player) = Some player
 played_by _ = None
 
 -- whether a recording was read: of the faults of files, only a write fault comes behind that (ours)
@@ -59,9 +55,9 @@ IsTold contents old new note =
 -- was asked for nothing. How the run ends says nothing of it, so a note changes neither outcome nor output (ours)
 pub record NoteEnds {S T R N : Type 0} (readers : Readers S T R) (notes : Device N) (job : Job)
     (f : Option JobFault) : Type 0 where
-  pub told : was_read f ≡ true → (profile : Profile) → played_by job ≡ Some profile
+  pub told : was_read f ≡ true → (player : Player) → played_by job ≡ Some player
       → (files : Files) → HoldFiles readers job files
       → (tape : Tape) × reads files.script files.timing tape
-      × IsTold notes.bytes notes.old notes.new (note_line profile tape)
+      × IsTold notes.bytes notes.old notes.new (note_line (played_of player tape) tape)
   pub silent : played_by job ≡ None → AsksNothing notes
   pub unread : was_read f ≡ false → AsksNothing notes

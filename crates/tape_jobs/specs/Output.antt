@@ -1,11 +1,13 @@
 -- What a job comes to: a function of its files, with no device and no want of memory in it.
-use Rattle.std.specs.Prelude.{◌≡◌, ℕ, ◌⊎◌, Bool, true, false, List, [], Option, Some, None, MatchOption, Result, Ok, Err, if◌then◌else◌}
-use Rattle.screen_page.specs.Page.{page_text}
-use Rattle.screen_print.specs.FindLines.{find_lines}
+use Rattle.std.specs.Prelude.{◌≡◌, ℕ, ◌⊎◌, ◌==◌, ◌&&◌, Bool, true, false, not, List, [], length, nat_lt, encode_utf8_all, Option, Some, None, MatchOption, Result, Ok, Err, if◌then◌else◌}
+use Rattle.screen_print.specs.EachByte.{find_lines}
+use Rattle.tape_check.specs.Header.{told_size}
 use Rattle.tape_check.specs.Lines.{check_text, is_noted}
+use Rattle.tape_check.specs.Trailer.{is_usual}
 use Rattle.tape_core.specs.Due.{due}
 use Rattle.tape_core.specs.Faults.{is_stop}
 use Rattle.tape_core.specs.Reading.{fault_of, has_header, reads}
+use Rattle.tape_core.specs.Seconds.{last_moment}
 use Rattle.tape_core.specs.Tape.{Tape}
 use Rattle.tape_core.specs.Text.{lines_of}
 use Rattle.tape_core.specs.Written.{script_text, timing_text}
@@ -13,17 +15,20 @@ use Rattle.tape_core.specs.declared.fault.Fault.TheVariants.{NoHeader}
 use Rattle.tape_mend.specs.Mended.{Remains, mended, seen}
 use Rattle.tape_mend.specs.Told.{is_damaged}
 use Rattle.tape_mend.specs.declared.opening.Header.{Header}
+use Rattle.tape_redact.specs.Recording.{taken_out, without}
+use Rattle.vt_term.specs.declared.profile.Profile.{Profile}
 use Rattle.vt_term.specs.declared.profile.Profile.TheVariants.{Vt100}
 use Rattle.tape_seek.specs.declared.edits.EditFault.{EditFault}
 use Rattle.tape_jobs.specs.Info.{info_text}
 use Rattle.tape_jobs.specs.Moment.{drawn_at, printed_at, sent_at}
-use Rattle.tape_jobs.specs.Player.{cast_of, changes_of}
+use Rattle.tape_jobs.specs.Player.{cast_of, changes_of, page_of, played_of, settled}
+use Rattle.tape_jobs.specs.declared.player.Player.TheVariants.{Vt}
 use Rattle.tape_jobs.specs.Requests.{saved, started}
 use Rattle.tape_jobs.specs.Session.{answered, any_refused}
 use Rattle.tape_jobs.specs.declared.job.Job.{Job}
-use Rattle.tape_jobs.specs.declared.job.Job.TheVariants.{Due, Info, Check, Screen, Picture, Changes, Find, Reports, Page, Cast, Save, Mend, Session}
+use Rattle.tape_jobs.specs.declared.job.Job.TheVariants.{Due, Info, Check, Screen, Picture, Changes, Find, Reports, Page, Cast, Save, Mend, Redact, Session}
 use Rattle.tape_jobs.specs.declared.job.Ending.{Ending}
-use Rattle.tape_jobs.specs.declared.job.Ending.TheVariants.{Clean, WithRefusals, WithNotes, WithLosses}
+use Rattle.tape_jobs.specs.declared.job.Ending.TheVariants.{Clean, WithRefusals, WithNotes, WithLosses, WithNothing, WithTraces}
 use Rattle.tape_jobs.specs.declared.job.JobFault.{JobFault}
 use Rattle.tape_jobs.specs.declared.job.JobFault.TheVariants.{File, Line, Memory}
 use Rattle.tape_jobs.specs.declared.job.Outcome.{Outcome}
@@ -44,13 +49,14 @@ pub record Done : Type 0 where
 -- whether a job reads request lines (ours)
 abbrev pub takes_requests : Job → Bool
 takes_requests Save = true
-takes_requests (Session every profile) = true
+takes_requests (Session every player) = true
 takes_requests _ = false
 
 -- whether a job writes a new timing (ours)
 abbrev pub writes_timing : Job → Bool
 writes_timing Save = true
 writes_timing (Mend how) = true
+writes_timing (Redact profile) = true
 writes_timing _ = false
 
 -- which line a job takes as the header that mends a pair of files, if it does; the others read a recording (ours)
@@ -68,6 +74,21 @@ abbrev pub refused_with : JobFault → Done
 refused_with f =
     record { text = []; timing = []; outcome = record { status = 1; fault = Some f } }
 
+-- whether the status of a job is an answer: then 1 says that nothing was found, and each fault has status 3 (as of
+-- grep(1), which has 2)
+abbrev pub answers_by_status : Job → Bool
+answers_by_status (Find from to profile) = true
+answers_by_status (Redact profile) = true
+answers_by_status _ = false
+
+-- what this job comes to at such a fault (ours)
+abbrev pub refused_in : Job → JobFault → Done
+refused_in job f = record {
+  text = [];
+  timing = [];
+  outcome = record { status = if answers_by_status job then 3 else 1; fault = Some f };
+}
+
 -- what `save` comes to: both files anew, or the fault of the first line that is refused, with nothing written (ours)
 abbrev pub done_saving : Result Tape (ℕ × EditFault) → Done
 done_saving (Ok tape) = done_with (script_text tape) (timing_text tape)
@@ -75,7 +96,7 @@ done_saving (Err refused) = refused_with (Line refused.0 refused.1)
 
 -- what `save` comes to on a recording and request lines (ours)
 abbrev pub saved_by : Tape → List ℕ → Done
-saved_by tape requests = done_saving (saved 1 (started Vt100 tape) (lines_of requests))
+saved_by tape requests = done_saving (saved 1 (started (Vt Vt100) tape) (lines_of requests))
 
 -- how a session ends, by whether any line was refused (ours)
 abbrev pub ending_by : Bool → Ending
@@ -89,12 +110,27 @@ ending_of_check noted = if noted then WithNotes else Clean
 abbrev pub ending_of_mend : Bool → Ending
 ending_of_mend damaged = if damaged then WithLosses else Clean
 
+-- how a search ends, by whether a line was written (ours)
+abbrev pub ending_of_find : Bool → Ending
+ending_of_find found = if found then Clean else WithNothing
+
+-- whether a text has a byte (ours)
+abbrev pub is_some_text : List ℕ → Bool
+is_some_text text = nat_lt 0 (length text)
+
+-- how redacting ends, by whether all that is seen of it without playing is well, and whether the text still comes to
+-- stand on the screen (ours)
+abbrev pub ending_of_redact : Bool → Bool → Ending
+ending_of_redact fit found = if fit && not found then Clean else WithTraces
+
 -- the status of the program after a job that is done (ours)
 abbrev pub status_after : Ending → ℕ
 status_after Clean = 0
 status_after WithRefusals = 1
 status_after WithNotes = 1
 status_after WithLosses = 1
+status_after WithNothing = 1
+status_after WithTraces = 1
 
 -- what a job comes to that is done with this text and ends so (ours)
 abbrev pub done_ending : List ℕ → Ending → Done
@@ -104,28 +140,68 @@ done_ending text ending = record {
   outcome = record { status = status_after ending; fault = None };
 }
 
+-- the recording without a text, in UTF-8 (ours)
+abbrev pub without_text : List ℕ → Tape → Tape
+without_text text tape = without (encode_utf8_all text) tape
+
+-- how often the text is taken out (ours)
+abbrev pub count_of_text : List ℕ → Tape → ℕ
+count_of_text text tape = taken_out (encode_utf8_all text) tape
+
+-- where the text stands on the screen of the new recording all the same: typed with corrections, or drawn in parts (ours)
+abbrev pub lines_left : Profile → List ℕ → Tape → List ℕ
+lines_left profile text tape = find_lines profile (without_text text tape) None last_moment text
+
+-- whether two headers tell the same size, or neither does (ours)
+abbrev pub is_same_size : Option (ℕ × ℕ) → Option (ℕ × ℕ) → Bool
+is_same_size None None = true
+is_same_size None (Some new) = false
+is_same_size (Some old) None = false
+is_same_size (Some old) (Some new) = (old.0 == new.0) && (old.1 == new.1)
+
+-- what is seen of a redaction without playing it: the text stood somewhere, the header tells the size of before, and
+-- behind the last chunk stands nothing but script's closing line, since all else there isn't played (ours)
+abbrev pub is_fit : List ℕ → Tape → Bool
+is_fit text tape =
+    let made = without_text text tape in
+    nat_lt 0 (count_of_text text tape) && (is_same_size (told_size tape) (told_size made) && is_usual made.trailer)
+
+-- what `redact` comes to: both files anew without the text, and whether that is all there was of it (ours)
+abbrev pub done_redacting : Profile → List ℕ → Tape → Done
+done_redacting profile text tape = record {
+  text = script_text (without_text text tape);
+  timing = timing_text (without_text text tape);
+  outcome = record {
+    status = status_after (ending_of_redact (is_fit text tape) (is_some_text (lines_left profile text tape)));
+    fault = None;
+  };
+}
+
 -- what a job comes to on a recording, request lines and a text: the bytes that are due, what the recording holds, what
 -- it says of itself and isn't played of it, what the terminal shows, as text or as a picture, which lines of it each chunk
 -- changes, where the text came to stand and where it went, what the terminal has sent by then, the
--- page of which the text is the title, the asciicast, both files anew, or the answers to the lines (ours)
+-- page of which the text is the title, the asciicast, both files anew, with the edits or without the text, or the answers
+-- to the lines (ours)
 abbrev pub done_on : Job → Tape → List ℕ → List ℕ → Done
 done_on (Due at) tape requests text = done_with (due tape.chunks at) []
 done_on Info tape requests text = done_with (info_text tape) []
-done_on (Check profile) tape requests text =
-    done_ending (check_text profile tape) (ending_of_check (is_noted profile tape))
+done_on (Check player) tape requests text =
+    done_ending (check_text (played_of player tape) tape) (ending_of_check (is_noted (played_of player tape) tape))
 done_on (Screen at print) tape requests text = done_with (printed_at print tape at) []
 done_on (Picture at player) tape requests text = done_with (drawn_at player tape at) []
 done_on (Changes from to player) tape requests text = done_with (changes_of player tape from to) []
 done_on (Find from to profile) tape requests text =
-    done_with (find_lines profile tape from to text) []
+    let lines = find_lines profile tape from to text in
+    done_ending lines (ending_of_find (is_some_text lines))
 done_on (Reports at player) tape requests text = done_with (sent_at player tape at) []
-done_on (Page profile) tape requests text = done_with (page_text text profile tape) []
+done_on (Page player) tape requests text = done_with (page_of text player tape) []
 done_on (Cast player) tape requests text = done_with (cast_of player tape) []
 done_on Save tape requests text = saved_by tape requests
 done_on (Mend how) tape requests text = done_with (script_text tape) (timing_text tape)
-done_on (Session every profile) tape requests text =
-    done_ending (answered (started profile tape) (lines_of requests))
-    (ending_by (any_refused (started profile tape) (lines_of requests)))
+done_on (Redact profile) tape requests text = done_redacting profile text tape
+done_on (Session every player) tape requests text =
+    let start = started (settled player tape) tape in
+    done_ending (answered start (lines_of requests)) (ending_by (any_refused start (lines_of requests)))
 
 -- what `mend` comes to on a pair of files: both anew of all that can be read of them; and where no line of the
 -- typescript can be its header, the fault of that, with nothing written (ours)
@@ -152,9 +228,9 @@ TakesMemory _ = Unit {0}
 abbrev pub writes_last : Job → Bool
 writes_last (Changes from to player) = false
 writes_last (Find from to profile) = false
-writes_last (Page profile) = false
+writes_last (Page player) = false
 writes_last (Cast player) = false
-writes_last (Session every profile) = false
+writes_last (Session every player) = false
 writes_last _ = true
 
 -- a job comes to this on these files: what mending them comes to, where it mends; else the fault of the pair where it
@@ -163,7 +239,7 @@ abbrev pub ComesBy : Option Header → Job → Files → Done → Type 0
 ComesBy (Some how) job files done = done ≡ mended_by how files.script files.timing
 ComesBy None job files done = MatchOption (fault_of files.script files.timing)
     ((tape : Tape) × reads files.script files.timing tape × (done ≡ done_on job tape files.requests files.text))
-    (λ f. done ≡ refused_with (File f))
+    (λ f. done ≡ refused_in job (File f))
 
 abbrev pub Comes : Job → Files → Done → Type 0
 Comes job files done = ComesBy (mends job) job files done
@@ -177,9 +253,11 @@ is_stopped (Some (Line line f)) = false
 
 -- the status of the program where a job is done (ours)
 abbrev pub IsDoneStatus : Job → ℕ → Type 0
-IsDoneStatus (Session every profile) status = (status ≡ 0) ⊎ (status ≡ 1)
-IsDoneStatus (Check profile) status = (status ≡ 0) ⊎ (status ≡ 1)
+IsDoneStatus (Session every player) status = (status ≡ 0) ⊎ (status ≡ 1)
+IsDoneStatus (Check player) status = (status ≡ 0) ⊎ (status ≡ 1)
 IsDoneStatus (Mend how) status = (status ≡ 0) ⊎ (status ≡ 1)
+IsDoneStatus (Find from to profile) status = (status ≡ 0) ⊎ (status ≡ 1)
+IsDoneStatus (Redact profile) status = (status ≡ 0) ⊎ (status ≡ 1)
 IsDoneStatus _ status = status ≡ 0
 
 -- the status of the program where a job isn't done: 3 where a device or want of memory stopped it, and else 1 (ours)
@@ -188,7 +266,16 @@ status_of (File f) = if is_stop f then 3 else 1
 status_of Memory = 3
 status_of (Line line f) = 1
 
+-- the same of this job (ours)
+abbrev pub status_in : Job → JobFault → ℕ
+status_in job f = if answers_by_status job then 3 else status_of f
+
 -- how a job ends that is done, or is stopped by a fault (ours)
 abbrev pub outcome_by : Result Ending JobFault → Outcome
 outcome_by (Ok ending) = record { status = status_after ending; fault = None }
 outcome_by (Err f) = record { status = status_of f; fault = Some f }
+
+-- the same of this job (ours)
+abbrev pub outcome_in : Job → Result Ending JobFault → Outcome
+outcome_in job (Ok ending) = record { status = status_after ending; fault = None }
+outcome_in job (Err f) = record { status = status_in job f; fault = Some f }

@@ -3,13 +3,16 @@ use Rattle.std.specs.Prelude.{ℕ, List, Bool, ◌&&◌, nat_le, if◌then◌els
 use Rattle.std.specs.Option.{option_map, option_or}
 use Rattle.output_cast.specs.Cast.{cast_text as output_text}
 use Rattle.screen_cast.specs.Cast.{cast_text}
+use Rattle.screen_page.specs.Page.{page_text}
 use Rattle.screen_print.specs.ChangeLines.{change_lines}
 use Rattle.tape_check.specs.Header.{told_size}
+use Rattle.tape_check.specs.declared.played.PlayedAs.{PlayedAs}
+use Rattle.tape_check.specs.declared.played.PlayedAs.TheVariants as played
 use Rattle.tape_core.specs.Due.{due}
 use Rattle.tape_core.specs.Tape.{Tape}
-use Rattle.vt_term.specs.declared.profile.Profile.{Profile}
 use Rattle.xterm_term.specs.declared.measure.Size.{Size}
 use Rattle.xterm_term.specs.Term.{Term, reset_term, play}
+use Rattle.xterm_page.specs.Page.{page_text as today_page}
 use Rattle.xterm_print.specs.ChangeLines.{changed_lines}
 use Rattle.sheet.specs.Cells.{Cell}
 use Rattle.chunk_walk.specs.ChangeLine.{change_line}
@@ -44,8 +47,19 @@ usual_measure = record { columns = 80; lines = 24 }
 abbrev pub played_size : Option Measure → Tape → Measure
 played_size asked tape = unwrap_or (option_or (within asked) (within (told_measure tape))) usual_measure
 
+-- the same player, whose size is settled by a recording: edits of it change it no more (ours)
+abbrev pub settled : Player → Tape → Player
+settled (Vt profile) tape = Vt profile
+settled (Today asked) tape = Today (Some (played_size asked tape))
+
 abbrev pub measure_of : Size → Measure
 measure_of size = record { columns = size.columns; lines = size.lines }
+
+-- as what a recording is played, with the size
+abbrev pub played_of : Player → Tape → PlayedAs
+played_of (Vt profile) tape = played.Vt profile
+played_of (Today asked) tape =
+    let size = played_size asked tape in played.Today size.columns size.lines
 
 -- the terminal of today that plays a recording, at a moment
 abbrev pub today_at : Option Measure → Tape → ℕ → Term
@@ -81,3 +95,10 @@ today_lines size tape from to = asked_texts today_change size tape from to
 unfoldable pub changes_of : Player → Tape → Option ℕ → ℕ → List ℕ
 changes_of (Vt profile) tape from to = change_lines profile tape from to
 changes_of (Today asked) tape from to = today_lines (played_size asked tape) tape from to
+
+-- a recording as a page with a title: what a VT or a terminal of today shows (ours)
+unfoldable pub page_of : List ℕ → Player → Tape → List ℕ
+page_of title (Vt profile) tape = page_text title profile tape
+page_of title (Today asked) tape =
+    let size = played_size asked tape in
+    today_page title size.columns size.lines tape

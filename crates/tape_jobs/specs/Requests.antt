@@ -3,31 +3,31 @@ use Rattle.std.specs.Prelude.{◌≡◌, ℕ, ◌+◌, ◌++◌, List, [], ◌�
 use Rattle.tape_core.specs.Tape.{Tape}
 use Rattle.tape_seek.specs.Edits.{edit_fault, edited}
 use Rattle.tape_seek.specs.Requests.{request}
-use Rattle.tape_seek.specs.State.{State}
+use Rattle.tape_seek.specs.State.{StateOf}
 use Rattle.tape_seek.specs.declared.edits.Edit.{Edit}
 use Rattle.tape_seek.specs.declared.edits.EditFault.{EditFault}
 use Rattle.tape_seek.specs.declared.edits.EditFault.TheVariants as fault
 use Rattle.tape_seek.specs.declared.requests.Request.{Request}
 use Rattle.tape_seek.specs.declared.requests.Request.TheVariants as asks
-use Rattle.vt_term.specs.declared.profile.Profile.{Profile}
 use Rattle.tape_jobs.specs.declared.job.JobFault.{JobFault}
 use Rattle.tape_jobs.specs.declared.job.JobFault.TheVariants.{File, Line, Memory}
+use Rattle.tape_jobs.specs.declared.player.Player.{Player}
 
 -- where request lines have led: which terminal plays, the recording as edited, and the accepted edits in order. It is a
 -- session's state without what no answer depends on: the marks, and where terminals are stored (ours)
 pub record Course : Type 0 where
-  pub profile : Profile
+  pub player : Player
   pub tape : Tape
   pub log : List Edit
 
 -- before the first line (ours)
-abbrev pub started : Profile → Tape → Course
-started profile tape = record { profile = profile; tape = tape; log = [] }
+abbrev pub started : Player → Tape → Course
+started player tape = record { player = player; tape = tape; log = [] }
 
--- Private: where a session stands (ours)
-abbrev pub course_of : State → Course
-course_of session =
-    record { profile = session.profile; tape = session.recording; log = session.log }
+-- Private: where a session stands, whose terminal plays so by its profile (ours)
+abbrev pub course_of : {P : Type 0} → (P → Player) → StateOf P → Course
+course_of player session =
+    record { player = player session.profile; tape = session.recording; log = session.log }
 
 -- an edit without a fault changes the recording and stands in the log; any other leaves both (ours)
 abbrev pub after_judging : Course → Edit → Option EditFault → Course

@@ -6,7 +6,7 @@ ghost use Rattle.tape_core.specs.Faults.{is_stop};
 ghost use Rattle.tape_core.specs.Reading.{fault_of, reads};
 ghost use Rattle.tape_jobs.specs.Endings.{JobEnds, RunEnds, readers_of, used, writers_of};
 ghost use Rattle.tape_jobs.specs.Notes.{NoteEnds};
-ghost use Rattle.tape_jobs.specs.Output.{done_on, mends, outcome_by, status_after, status_of, takes_requests, writes_timing};
+ghost use Rattle.tape_jobs.specs.Output.{answers_by_status, done_on, mends, outcome_by, outcome_in, status_after, status_of, takes_requests, writes_timing};
 
 use crate::jobs::cast::write_cast;
 use crate::jobs::changes::write_changes;
@@ -15,10 +15,10 @@ use crate::jobs::due::write_due;
 use crate::jobs::find::write_found;
 use crate::jobs::info::write_info;
 use crate::jobs::mend::{read_remains, write_remains};
-use crate::jobs::moment::{write_reports, write_screen};
+use crate::jobs::moment::{write_picture, write_reports, write_screen};
 use crate::jobs::note::tell_note;
 use crate::jobs::page::write_page;
-use crate::jobs::picture::write_picture;
+use crate::jobs::redact::write_redacted;
 use crate::jobs::save::write_edited;
 use crate::jobs::session::write_answers;
 use crate::player::{Player, Print};
@@ -47,7 +47,7 @@ pub enum Job {
     Info,
     /// Write what the recording says of itself, and what a terminal can't show of it.
     Check {
-        profile: Profile,
+        player: Player,
     },
     /// Write the screen of a moment as plain text, or as a text that draws it again.
     Screen {
@@ -66,8 +66,8 @@ pub enum Job {
         to: u64,
         player: Player,
     },
-    /// Write where on the screen a text came to stand and from where it went, in chunks that are due after `from` (None:
-    /// from chunk 0 on) and by `to`. The text stands beside the job.
+    /// Write where on the screen a text stands at `from`, and where it came to stand, went, or did both in chunks that are
+    /// due after `from` (None: from chunk 0 on) and by `to`. The text stands beside the job.
     Find {
         from: Option<u64>,
         to: u64,
@@ -80,7 +80,7 @@ pub enum Job {
     },
     /// Write the whole recording as one file for a browser, which plays it. Its title is the text beside the job.
     Page {
-        profile: Profile,
+        player: Player,
     },
     /// Write the recording as an asciicast.
     Cast {
@@ -92,10 +92,15 @@ pub enum Job {
     Mend {
         header: Header,
     },
+    /// Write both files anew without a text, with `*` over each byte of it. The text stands beside the job. What is told
+    /// of it besides is told by `redact`.
+    Redact {
+        profile: Profile,
+    },
     /// Answer request lines. A terminal is stored at every so many chunks, of 1 to 1,000,000.
     Session {
         every: usize,
-        profile: Profile,
+        player: Player,
     },
 }
 
@@ -110,16 +115,24 @@ pub enum Ending {
     WithNotes,
     /// Of a pair of files that was mended a line or a chunk was left out or cut.
     WithLosses,
+    /// A search has found nothing.
+    WithNothing,
+    /// A text that was taken out stood nowhere, or something of it may be left.
+    WithTraces,
 }
 
 impl Ending {
-    /// The status of the program: 1 where a line was refused, something noted or something lost, and else 0.
+    /// The status of the program: 1 where a line was refused, something noted, lost or left, or nothing found, and else 0.
     fn status(self) -> u8
         ensures { result ≡ status_after self }
     {
         match self {
             Ending::Clean => 0,
-            Ending::WithRefusals | Ending::WithNotes | Ending::WithLosses => 1,
+            Ending::WithRefusals
+            | Ending::WithNotes
+            | Ending::WithLosses
+            | Ending::WithNothing
+            | Ending::WithTraces => 1,
         }
     }
 }
@@ -260,8 +273,8 @@ pub fn run<S: Read, T: Read, R: Read, O: Write, P: Write>(
     )
 }
 
-/// Does a job as `run` does, with a text beside it, which is what `find` looks for and the title of a page, and tells the
-/// note of the recording.
+/// Does a job as `run` does, with a text beside it, which is what `find` looks for, what `redact` takes out and the title of
+/// a page, and tells the note of the recording.
 ///
 /// Where a job plays a recording, the note says what of it this terminal plays otherwise than it was recorded. A note that
 /// can't be written, or not whole, changes neither the outcome nor the output.
@@ -295,16 +308,21 @@ pub fn run_with<S: Read, T: Read, R: Read, O: Write, P: Write, N: Write>(
 {
     if let Job::Mend { header } = job {
         return match read_remains(alloc, header, script, timing) {
-            Ok(mended) => { outcome_of(write_remains(&ManuallyDrop::new(mended), out, out_timing)) }
-            Err(fault) => outcome_of(Err(JobFault::File(fault))),
+            Ok(mended) => {
+                outcome_in(
+                    job,
+                    write_remains(&ManuallyDrop::new(mended), out, out_timing),
+                )
+            }
+            Err(fault) => outcome_in(job, Err(JobFault::File(fault))),
         };
     }
     match read_files(alloc, job, script, timing, requests) {
         Ok(given) => {
             tell_note(job, &given.recording, notes);
-            outcome_of(perform(alloc, job, text, given, out, out_timing))
+            outcome_in(job, perform(alloc, job, text, given, out, out_timing))
         }
-        Err(fault) => outcome_of(Err(JobFault::File(fault))),
+        Err(fault) => outcome_in(job, Err(JobFault::File(fault))),
     }
 }
 
@@ -333,8 +351,8 @@ fn perform<O: Write, P: Write>(
     match job {
         Job::Due { at } => write_due(&ManuallyDrop::new(recording), at, out)?,
         Job::Info => write_info(&ManuallyDrop::new(recording), out)?,
-        Job::Check { profile } => {
-            return write_checked(alloc, &ManuallyDrop::new(recording), profile, out);
+        Job::Check { player } => {
+            return write_checked(alloc, &ManuallyDrop::new(recording), player, out);
         }
         Job::Screen { at, print } => write_screen(alloc, recording, print, at, out)?,
         Job::Picture { at, player } => write_picture(alloc, recording, player, at, out)?,
@@ -342,21 +360,44 @@ fn perform<O: Write, P: Write>(
             write_changes(alloc, recording, player, from, to, out)?
         }
         Job::Find { from, to, profile } => {
-            write_found(alloc, recording, profile, from, to, text, out)?
+            return write_found(alloc, recording, profile, from, to, text, out);
         }
         Job::Reports { at, player } => write_reports(alloc, recording, player, at, out)?,
-        Job::Page { profile } => write_page(alloc, recording, profile, text, out)?,
+        Job::Page { player } => write_page(alloc, recording, player, text, out)?,
         Job::Cast { player } => write_cast(alloc, recording, player, out)?,
         Job::Save => return write_edited(alloc, recording, &requests, out, out_timing),
         Job::Mend { .. } => unreachable!(),
-        Job::Session { every, profile } => {
-            return write_answers(alloc, recording, profile, every, &requests, out);
+        Job::Redact { profile } => {
+            return write_redacted(alloc, recording, profile, text, out, out_timing);
+        }
+        Job::Session { every, player } => {
+            return write_answers(alloc, recording, player, every, &requests, out);
         }
     }
     Ok(Ending::Clean)
 }
 
-/// How a job ends that is done, or isn't for this fault.
+/// Whether the status of a job is an answer: then each fault has status 3.
+fn answers_by_status(job: Job) -> bool
+    ensures { result ≡ answers_by_status job }
+{
+    matches!(job, Job::Find { .. } | Job::Redact { .. })
+}
+
+/// How this job ends that is done, or isn't for this fault.
+pub fn outcome_in(job: Job, done: Result<Ending, JobFault>) -> Outcome
+    ensures { result ≡ outcome_in job done }
+{
+    match done {
+        Err(fault) if answers_by_status(job) => Outcome {
+            status: 3,
+            fault: Some(fault),
+        },
+        done => outcome_of(done),
+    }
+}
+
+/// How a job ends that is done, or isn't for this fault, where 1 is the status of a damaged recording.
 pub fn outcome_of(done: Result<Ending, JobFault>) -> Outcome
     ensures { result ≡ outcome_by done }
 {

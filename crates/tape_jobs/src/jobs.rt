@@ -1,4 +1,4 @@
-//! The jobs, one function each; `screen` and `reports` share theirs.
+//! The jobs, one function each.
 
 pub mod cast;
 pub mod changes;
@@ -10,6 +10,6 @@ pub mod mend;
 pub mod moment;
 pub mod note;
 pub mod page;
-pub mod picture;
+pub mod redact;
 pub mod save;
 pub mod session;

@@ -4,7 +4,7 @@ ghost use Rattle.std.specs.Prelude.{◌≡◌, ◌++◌, ◌∷◌, [], ℕ, Boo
 ghost use Rattle.clap.specs.Words.{Text};
 ghost use Rattle.tape_core.specs.Seconds.{last_moment, seconds_of};
 ghost use Rattle.tape_jobs.specs.CommandLine.{every_of, print_by, size_named, stem_of, usual_every};
-ghost use Rattle.tape_jobs.specs.Lines.{Asks, FindAsks, IsPlain, LineAsks, PageAsks, escaped_words, header_words, profile_or_first, profile_words, sized_words, today_words};
+ghost use Rattle.tape_jobs.specs.Lines.{Asks, FindAsks, IsPlain, LineAsks, PageAsks, RedactAsks, escaped_words, header_words, profile_or_first, profile_words, sized_words, today_words};
 ghost use Rattle.tape_mend.specs.declared.opening.Header.{Header};
 ghost use Rattle.vt_term.specs.declared.profile.Profile.{Profile};
 ghost use Rattle.tape_jobs.specs.declared.job.Job.TheVariants as job;
@@ -12,11 +12,14 @@ ghost use Rattle.tape_jobs.specs.declared.player.Measure.{Measure};
 ghost use Rattle.tape_jobs.specs.declared.player.Player.TheVariants.{Vt, Today};
 ghost use Rattle.tape_core.specs.Devices.{Took, has_failed};
 ghost use Rattle.tape_core.specs.declared.devices.Watched.{Watched};
-ghost use Rattle.tape_jobs.specs.Endings.{StopsIn};
+ghost use Rattle.tape_jobs.specs.Endings.{NothingIsNowhere, Readers, RunEnds, StopsIn, Writers};
+ghost use Rattle.tape_jobs.specs.declared.job.Job.{Job};
+ghost use Rattle.tape_jobs.specs.declared.job.Outcome.{Outcome};
 ghost use Rattle.tape_jobs.specs.declared.job.JobFault.{JobFault};
 ghost use Rattle.tape_jobs.specs.declared.job.JobFault.TheVariants.{Memory};
 
-use std::io::Write;
+use screen_print::laws::nowhere_means_nowhere;
+use std::io::{Read, Write};
 
 /// What has gone out of texts one after another, where a job stops before them, in the first or in the second.
 pub fn stops_join<W: Write>()
@@ -28,6 +31,15 @@ pub fn stops_join<W: Write>()
         → StopsIn W.contents b c y f → Took W.contents a b x → StopsIn W.contents a c (x ++ y) f }
 {}
 
+/// Nowhere means nowhere: where a search is done with status 1, its text stands nowhere on the screen, neither at the moment
+/// `from` nor after any byte of a chunk that is asked for.
+pub fn nothing_found_is_nowhere<S: Read, T: Read, R: Read, O: Write, P: Write>()
+    ensures { (readers : Readers S T R) (writers : Writers O P) (job : Job) (outcome : Outcome)
+        → RunEnds readers writers job outcome → NothingIsNowhere readers job outcome }
+{
+    nowhere_means_nowhere();
+}
+
 /// What a plain command line means, of which the paths don't begin with a hyphen. So `read_words` gives that job and those
 /// paths, or memory is refused.
 pub fn plain_lines_are_read()
@@ -35,7 +47,10 @@ pub fn plain_lines_are_read()
         → LineAsks (codes "due") (codes "--at" ∷ at ∷ []) (job.Due moment) }
     ensures info { LineAsks (codes "info") [] job.Info }
     ensures check { (profile : Option Profile) → LineAsks (codes "check")
-        (profile_words profile) (job.Check (profile_or_first profile)) }
+        (profile_words profile) (job.Check (Vt (profile_or_first profile))) }
+    ensures check_today { LineAsks (codes "check") today_words (job.Check (Today None)) }
+    ensures check_sized { (size : Text) (measure : Measure) → size_named size ≡ Some measure
+        → LineAsks (codes "check") (sized_words size) (job.Check (Today (Some measure))) }
     ensures screen { (at : Text) (moment : ℕ) → seconds_of at ≡ Some moment
         → (escaped : Bool) (profile : Option Profile) → LineAsks (codes "screen")
         (codes "--at" ∷ at ∷ (escaped_words escaped ++ profile_words profile))
@@ -94,10 +109,13 @@ pub fn plain_lines_are_read()
         → LineAsks (codes "reports") (codes "--at" ∷ at ∷ sized_words size)
         (job.Reports moment (Today (Some measure))) }
     ensures page { (profile : Option Profile) → PageAsks (profile_words profile) stem_of
-        (job.Page (profile_or_first profile)) }
+        (job.Page (Vt (profile_or_first profile))) }
+    ensures page_today { PageAsks today_words stem_of (job.Page (Today None)) }
+    ensures page_sized { (size : Text) (measure : Measure) → size_named size ≡ Some measure
+        → PageAsks (sized_words size) stem_of (job.Page (Today (Some measure))) }
     ensures page_titled { (title : Text) → IsPlain title → (profile : Option Profile)
         → PageAsks (profile_words profile ++ codes "--title" ∷ title ∷ []) (λ _. title)
-        (job.Page (profile_or_first profile)) }
+        (job.Page (Vt (profile_or_first profile))) }
     ensures cast { (profile : Option Profile) → LineAsks (codes "cast")
         (profile_words profile) (job.Cast (Vt (profile_or_first profile))) }
     ensures cast_today { LineAsks (codes "cast") today_words (job.Cast (Today None)) }
@@ -112,10 +130,17 @@ pub fn plain_lines_are_read()
         → Asks (program ∷ codes "mend"
         ∷ (header_words how ++ script ∷ timing ∷ new_script ∷ new_timing ∷ []))
         (job.Mend how) [] (script ∷ timing ∷ new_script ∷ new_timing ∷ []) }
+    ensures redact { (profile : Option Profile) → RedactAsks (profile_words profile)
+        (job.Redact (profile_or_first profile)) }
     ensures session { (profile : Option Profile) → LineAsks (codes "session")
-        (profile_words profile) (job.Session usual_every (profile_or_first profile)) }
+        (profile_words profile) (job.Session usual_every (Vt (profile_or_first profile))) }
+    ensures session_today { LineAsks (codes "session") today_words
+        (job.Session usual_every (Today None)) }
+    ensures session_sized { (size : Text) (measure : Measure) → size_named size ≡ Some measure
+        → LineAsks (codes "session") (sized_words size)
+        (job.Session usual_every (Today (Some measure))) }
     ensures session_every { (every : Text) (count : ℕ) → every_of every ≡ Some count
         → (profile : Option Profile) → LineAsks (codes "session")
         (codes "--every" ∷ every ∷ profile_words profile)
-        (job.Session count (profile_or_first profile)) }
+        (job.Session count (Vt (profile_or_first profile))) }
 {}

@@ -2,9 +2,9 @@
 
 ghost use Rattle.std.specs.Prelude.{◌≡◌, Some};
 ghost use Rattle.std.specs.Option.{option_map};
-ghost use Rattle.tape_jobs.specs.Player.{is_size, measure_of, played_size, told_measure, usual_measure, within};
+ghost use Rattle.tape_jobs.specs.Player.{is_size, measure_of, played_of, played_size, told_measure, usual_measure, within};
 
-use tape_check::told_size;
+use tape_check::{PlayedAs, told_size};
 use tape_core::Recording;
 use vt_term::Profile;
 use xterm_term::Size;
@@ -45,6 +45,22 @@ pub fn played_size(asked: Option<Measure>, recording: &Recording) -> Size
         return size;
     }
     usual_size()
+}
+
+/// As what a recording is played, with the size.
+pub fn played_as(player: Player, recording: &Recording) -> PlayedAs
+    ensures { result ≡ played_of player recording.now }
+{
+    match player {
+        Player::Vt(profile) => PlayedAs::Vt(profile),
+        Player::Today(asked) => {
+            let size = played_size(asked, recording);
+            PlayedAs::Today {
+                columns: size.columns,
+                lines: size.lines,
+            }
+        }
+    }
 }
 
 /// The size of this measure, if there is one that is within the limits.

@@ -1,52 +1,57 @@
 //! What several jobs share: a session, its edits and their faults, and the texts that a job writes and a session answers.
 
-ghost use Rattle.std.specs.Prelude.{◌≡◌, ◌≤◌, Err, IfErr, IfOk, OnOk, false, true};
+ghost use Rattle.std.specs.Prelude.{◌≡◌, ◌≤◌, IfErr, IfOk, OnOk, false, true};
 ghost use Rattle.std.specs.Fmt.{decimal};
 ghost use Rattle.tape_core.specs.Devices.{Gave, Puts, has_failed, is_flushed};
 ghost use Rattle.tape_seek.specs.Edits.{edit_fault};
-ghost use Rattle.tape_seek.specs.Moments.{term_at};
 ghost use Rattle.tape_seek.specs.State.{least_every, most_every, opened};
-ghost use Rattle.tape_jobs.specs.Endings.{JobPuts};
 ghost use Rattle.tape_jobs.specs.Info.{info_line, info_text};
-ghost use Rattle.tape_jobs.specs.Moment.{asked_text, hex_line};
+ghost use Rattle.tape_jobs.specs.Moment.{hex_line};
 ghost use Rattle.tape_jobs.specs.Requests.{after_judging, course_of, fault_name};
 
+use crate::answers::Answers;
 use crate::job::JobFault;
-use crate::laws::stops_join;
 use itoa::Buffer;
-use screen_print::{escaped, plain};
+use plays::Plays;
 use std::alloc::Global;
 use std::io::Write;
 use tape_core::laws::gives_join;
 use tape_core::{Fault, Recording, Watched, seconds_text};
-use tape_seek::{Edit, EditFault, Session, put_hex};
-use vt_term::{OutOfMemory, Profile};
+use tape_seek::{Edit, EditFault, MOST_EVERY, Session, put_hex};
+use vt_term::OutOfMemory;
 
 // ---- a session
 
 /// How many chunks lie between the terminals that a session stores, where the command line doesn't say.
-pub const EVERY: usize = 100;
+pub const USUAL_EVERY: usize = 100;
+
+/// The same for jobs that never go back: no recording has more chunks.
+pub const EVERY: usize = MOST_EVERY;
 
 /// Opens a session. Want of memory stops the job.
-pub fn open_session(
+pub fn open_session<T: Plays>(
     alloc: Global,
     recording: Recording,
     every: usize,
-    profile: Profile,
-) -> Result<Session, JobFault>
+    profile: T::Profile,
+) -> Result<Session<T>, JobFault>
     requires low { least_every ≤ every }
     requires high { every ≤ most_every }
     ensures ok { IfOk result (λ session. session ≡ opened profile recording every) }
     ensures fault { IfErr result (λ fault. fault ≡ JobFault.Memory) }
 {
-    Session::open_as(alloc, recording, every, profile).map_err(|_| JobFault::Memory)
+    Session::open_with(alloc, recording, every, profile).map_err(|_| JobFault::Memory)
 }
 
 /// Makes an edit, or tells why it is refused, with nothing changed.
-pub fn make_edit(session: &mut Session, edit: Edit) -> Result<Option<EditFault>, OutOfMemory>
+pub fn make_edit<T: Answers>(
+    session: &mut Session<T>,
+    edit: Edit,
+) -> Result<Option<EditFault>, OutOfMemory>
     ensures fault { IfOk result (λ fault. fault ≡ edit_fault session.old.recording edit) }
-    ensures course { OnOk result (course_of session.new
-        ≡ after_judging (course_of session.old) edit (edit_fault session.old.recording edit)) }
+    ensures course { OnOk result (course_of T.player session.new
+        ≡ after_judging (course_of T.player session.old) edit
+        (edit_fault session.old.recording edit)) }
 {
     match session.apply(edit) {
         Ok(()) => Ok(None),
@@ -75,40 +80,6 @@ pub fn name_of(fault: EditFault) -> &'static str
 }
 
 // ---- texts
-
-/// What is asked of a terminal at a moment.
-#[derive(Clone, Copy, Debug, PartialEq, Eq)]
-pub enum Asked {
-    /// Its screen, as plain text or as a text that draws it again.
-    Screen { escaped: bool },
-    /// All that it has sent.
-    Reports,
-}
-
-/// Writes what is asked of the terminal at the moment, and flushes. Nothing is written where memory is refused.
-#[tactic(auto, unfolding(crate::specs::Moment::screen_text))]
-pub fn put_moment<O: Write>(
-    session: &mut Session,
-    at: u64,
-    asked: Asked,
-    out: &mut Watched<O>,
-) -> Result<(), JobFault>
-    requires { has_failed out.old ≡ false }
-    ensures puts { JobPuts O.contents out.old out.new
-        (asked_text asked (term_at session.old.profile session.old.recording at)) result }
-    ensures flushed { OnOk result (is_flushed out.new ≡ true) }
-    ensures unwritten { result ≡ Err JobFault.Memory → out.new ≡ out.old }
-    ensures stays { course_of session.new ≡ course_of session.old }
-{
-    stops_join::<O>();
-    let view = session.seek(at)?;
-    match asked {
-        Asked::Screen { escaped: true } => escaped(view.terminal(), out)?,
-        Asked::Screen { escaped: false } => plain(view.terminal(), out)?,
-        Asked::Reports => put_hex_line(view.reports(), out)?,
-    }
-    Ok(())
-}
 
 /// Writes bytes in lower-case hexadecimal and then LF, and flushes.
 pub fn put_hex_line<O: Write>(bytes: &[u8], out: &mut Watched<O>) -> Result<(), Fault>

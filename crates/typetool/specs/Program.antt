@@ -1,9 +1,9 @@
 -- The statuses of the program.
-use Rattle.std.specs.Prelude.{◌≡◌, ◌⊎◌, ◌++◌, ℕ, List, MatchOption, codes, string_bytes}
+use Rattle.std.specs.Prelude.{◌≡◌, ◌⊎◌, ◌++◌, ℕ, Bool, true, false, List, MatchOption, codes, string_bytes, if◌then◌else◌}
 use Rattle.clap.specs.Words.{kind_of}
 use Rattle.clap.specs.declared.error.ErrorKind.{ErrorKind}
 use Rattle.clap.specs.declared.error.ErrorKind.TheVariants.{DisplayHelp, DisplayVersion}
-use Rattle.tape_jobs.specs.Output.{Comes, Done, Files, IsDoneStatus, status_of}
+use Rattle.tape_jobs.specs.Output.{Comes, Done, Files, IsDoneStatus, status_in, status_of}
 use Rattle.tape_jobs.specs.declared.job.Job.{Job}
 use Rattle.tape_jobs.specs.declared.job.Outcome.{Outcome}
 use Rattle.typetool.specs.Cleaning.{cleaned}
@@ -34,10 +34,11 @@ stop_status (CannotOpen path error) = 3
 stop_status (CannotCreate path error) = 3
 stop_status (of_job fault) = status_of fault
 
--- how the job ends: with the status of its fault where it has one, and else with one of a job that is done (ours)
+-- how the job ends: with the status of its fault in this job where it has one, and else with one of a job that is done
+-- (ours)
 abbrev pub IsOutcome : Job → Outcome → Type 0
 IsOutcome job outcome = MatchOption outcome.fault (IsDoneStatus job outcome.status)
-    (λ fault. outcome.status ≡ status_of fault)
+    (λ fault. outcome.status ≡ status_in job fault)
 
 -- it ends as the job does on these files (ours)
 abbrev pub IsAnswer : Job → Files → Outcome → Type 0

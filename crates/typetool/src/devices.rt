@@ -1,7 +1,7 @@
 //! Buffered writers, and whether whoever reads standard output is gone.
 
 ghost use Rattle.std.specs.Prelude.{◌≡◌, IfErr, IfOk, false};
-ghost use Rattle.tape_core.specs.Devices.{has_failed};
+ghost use Rattle.tape_core.specs.Devices.{has_failed, has_written};
 
 use crate::program::Stop;
 use std::io;
@@ -17,6 +17,7 @@ pub fn buffered<R: AllocGlobal, W: Write + Drop>(
     writer: W,
 ) -> Result<Watched<BufWriter<W>>, Stop>
     ensures sound { IfOk result (λ out. has_failed out ≡ false) }
+    ensures unwritten { IfOk result (λ out. has_written out ≡ false) }
     ensures stop { IfErr result (λ stop. stop ≡ Stop.Memory) }
 {
     match BufWriter::with_capacity(rt.alloc(), HELD_BACK, writer) {

@@ -9,6 +9,8 @@ const BEFORE: &str = "typetool: note: ";
 
 const BEHIND: &str = " (see typetool check)\n";
 
+const ADVICE: &str = " (see typetool check, or try --profile xterm)\n";
+
 /// How many characters of a note's parts are told.
 const MOST: usize = 200;
 
@@ -21,15 +23,20 @@ pub fn tell_note<R: Eprint>(rt: &R, note: Watched<Vec<u8>>) {
     let Ok(text) = str::from_utf8(note.as_slice()) else {
         return;
     };
-    let _ = match cut(text) {
-        Some(parts) => rt.eprint(format_args!("{BEFORE}{parts}..{BEHIND}")),
+    let behind = if text.ends_with(ADVICE) {
+        ADVICE
+    } else {
+        BEHIND
+    };
+    let _ = match cut(text, behind) {
+        Some(parts) => rt.eprint(format_args!("{BEFORE}{parts}..{behind}")),
         None => rt.eprint(text),
     };
 }
 
 /// The front of a note's parts that is told where they are too long. They are ASCII.
-fn cut(note: &str) -> Option<&str> {
-    let parts = note.strip_prefix(BEFORE)?.strip_suffix(BEHIND)?;
+fn cut<'a>(note: &'a str, behind: &str) -> Option<&'a str> {
+    let parts = note.strip_prefix(BEFORE)?.strip_suffix(behind)?;
     if parts.len() > MOST {
         parts.get(..MOST)
     } else {

@@ -17,8 +17,9 @@ use crate::program::Stop;
 use std::io;
 use std::rt::Files;
 use tape_core::{Fault, Watched};
-use tape_jobs::{Job, JobFault, Outcome, Words, mend, run, run_with};
+use tape_jobs::{Job, JobFault, Outcome, Words, mend, redact, run, run_with};
 use tape_mend::Header;
+use vt_term::Profile;
 
 /// The paths of a command line, in its order.
 const SCRIPT: Device = Device::File(0);
@@ -75,6 +76,13 @@ pub fn open_and_run<R: Files + Input + Print + AllocGlobal>(
             let pair = create_pair(rt, paths, (&script, &timing))?;
             let mut sources = Sources::new(script, timing);
             let ran = mend_into(rt, header, &mut sources, pair)?;
+            Ok(ended_by(job, ran, sources))
+        }
+        Job::Redact { profile } => {
+            let paths = (words.paths[2].as_str(), words.paths[3].as_str());
+            let pair = create_pair(rt, paths, (&script, &timing))?;
+            let mut sources = Sources::new(script, timing);
+            let ran = redact_into(rt, profile, text, &mut sources, pair)?;
             Ok(ended_by(job, ran, sources))
         }
         Job::Session { .. } => {
@@ -255,6 +263,69 @@ fn mend_into<R: Files + Print + AllocGlobal>(
         note: Watched::new(Vec::new(rt.alloc())),
         failed,
         silent: released(told).is_closed(),
+    })
+}
+
+/// Takes a text out of a pair of files into two new ones, and tells over standard output how often it was there and where
+/// it still stands.
+fn redact_into<R: Files + Print + AllocGlobal>(
+    rt: &R,
+    profile: Profile,
+    text: &[char],
+    sources: &mut Sources<R::File>,
+    pair: NewPair<'_, R::File>,
+) -> Result<Ran, Stop>
+    requires script { has_failed sources.old.script ≡ false }
+    requires timing { has_failed sources.old.timing ≡ false }
+    requires out { has_failed pair.script.out ≡ false }
+    requires out_timing { has_failed pair.timing.out ≡ false }
+    ensures outcome { IfOk result (λ ran. IsOutcome (Job.Redact profile) ran.outcome) }
+    ensures stop { IfErr result (λ stop. stop ≡ Stop.Memory) }
+{
+    let mut found = match buffered(rt, Outlet::new(io::writer(rt))) {
+        Ok(found) => found,
+        Err(stop) => {
+            pair.give_up(rt);
+            return Err(stop);
+        }
+    };
+    let mut told = Watched::new(Outlet::new(io::writer(rt)));
+    let mut note = Watched::new(Vec::new(rt.alloc()));
+    let NewPair {
+        script: mut new_script,
+        timing: mut new_timing,
+    } = pair;
+    let outcome = redact(
+        rt.alloc(),
+        profile,
+        text,
+        &mut sources.script,
+        &mut sources.timing,
+        &mut new_script.out,
+        &mut new_timing.out,
+        &mut told,
+        &mut found,
+        &mut note,
+    );
+    let failed = first_failed(&[
+        (sources.script.failed(), SCRIPT),
+        (sources.timing.failed(), TIMING),
+        (new_script.out.failed(), NEW_SCRIPT),
+        (new_timing.out.failed(), NEW_TIMING),
+        (told.failed(), Device::Output),
+        (found.failed(), Device::Output),
+    ]);
+    let pair = NewPair {
+        script: new_script,
+        timing: new_timing,
+    };
+    let (outcome, failed) = place(rt, pair, outcome, failed);
+    let silent = told.into_inner().is_closed() || released(found).is_closed();
+    Ok(Ran {
+        outcome,
+        note,
+        failed,
+        silent,
     })
 }
 

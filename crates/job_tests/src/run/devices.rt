@@ -9,6 +9,7 @@ use tape_jobs::{Job, JobFault, Outcome, Player, Print, run_with};
 use vt_term::Profile;
 
 mod mending;
+mod redacting;
 
 /// A call that never comes: the device is sound.
 const NEVER: usize = usize::MAX;
@@ -125,8 +126,9 @@ fn plain_case<'a>(job: Job, text: &'a [u8]) -> Case<'a> {
 const END: u64 = 500_000;
 
 /// Each job at the end of the recording.
-fn cases() -> [Case<'static>; 11] {
+fn cases() -> [Case<'static>; 13] {
     let profile = Profile::Vt100;
+    let player = Player::Vt(profile);
     let screen = Job::Screen {
         at: END,
         print: Print::Plain(Player::Vt(profile)),
@@ -146,7 +148,7 @@ fn cases() -> [Case<'static>; 11] {
             Job::Info,
             b"chunks 2\nbytes 2\nlength 0.500000\nheader 20\ntrailer 0\n",
         ),
-        plain_case(Job::Check { profile }, b"started X\n"),
+        plain_case(Job::Check { player }, b"started X\n"),
         plain_case(
             screen,
             b"ab\n\n\n\n\n\n\n\n\n\n\n\n\n\n\n\n\n\n\n\n\n\n\n\n",
@@ -163,7 +165,9 @@ fn cases() -> [Case<'static>; 11] {
         ),
         cast_case(profile),
         save_case(),
-        session_case(profile),
+        redact_case(profile),
+        session_case(Player::Vt(profile)),
+        session_case(Player::Today(None)),
     ]
 }
 
@@ -204,10 +208,19 @@ fn save_case() -> Case<'static> {
     }
 }
 
-/// A chunk goes out, and what is left is told.
-fn session_case(profile: Profile) -> Case<'static> {
+/// The second chunk's character is taken out.
+fn redact_case(profile: Profile) -> Case<'static> {
     Case {
-        job: Job::Session { every: 1, profile },
+        sought: &['b'],
+        new_timing: TIMING,
+        ..plain_case(Job::Redact { profile }, b"Script started on X\na*")
+    }
+}
+
+/// A chunk goes out, and what is left is told.
+fn session_case(player: Player) -> Case<'static> {
+    Case {
+        job: Job::Session { every: 1, player },
         sought: &[],
         requests: b"delete 0 1\n\ninfo",
         reads_requests: true,
@@ -318,6 +331,31 @@ fn compare_sound<R: Abort + AllocGlobal>(rt: &R, case: &Case<'_>) {
         "{:?}",
         case.job
     );
+}
+
+/// Sees that a writer has taken so many bytes of its text, those before it all of theirs, and those behind it nothing.
+fn compare_begun<R: Abort>(
+    rt: &R,
+    writers: &[SlowWriter],
+    texts: &[&[u8]],
+    writer: usize,
+    taken: usize,
+) {
+    for (place, (text, device)) in texts.iter().zip(writers).enumerate() {
+        let begun = if place < writer {
+            text.len()
+        } else if place == writer {
+            taken
+        } else {
+            0
+        };
+        assert_eq!(rt;
+            Some(device.taken.as_slice()),
+            text.get(..begun),
+            "writer {place}, where {writer} fails at {taken}"
+        );
+        assert!(rt; device.flushes <= 1, "no flush is tried again");
+    }
 }
 
 #[test]
@@ -444,13 +482,21 @@ fn run_damaged<R: Abort + AllocGlobal>(rt: &R, case: &Case<'_>, call: usize) -> 
     (outcome, requests.into_inner().calls)
 }
 
+/// How a job ends over a pair with a fault. The status of `find` and `redact` is an answer otherwise.
+fn damaged(job: Job) -> Outcome {
+    let status = match job {
+        Job::Find { .. } | Job::Redact { .. } => 3,
+        _ => 1,
+    };
+    Outcome {
+        status,
+        fault: Some(JobFault::File(Fault::BadCount(1))),
+    }
+}
+
 /// The recording is judged once all is read: request lines that fail are a read fault, and sound ones are read to their end.
 #[test]
 fn requests_are_read_before_the_recording_is_judged(rt: HostRuntime) {
-    let damaged = Outcome {
-        status: 1,
-        fault: Some(JobFault::File(Fault::BadCount(1))),
-    };
     for case in &cases() {
         if case.reads_requests {
             let unread = run_damaged(&rt, case, 0);
@@ -462,7 +508,7 @@ fn requests_are_read_before_the_recording_is_judged(rt: HostRuntime) {
             0
         };
         let read = run_damaged(&rt, case, NEVER);
-        assert_eq!(rt; read, (damaged, calls), "{:?}", case.job);
+        assert_eq!(rt; read, (damaged(case.job), calls), "{:?}", case.job);
     }
 }
 
@@ -507,7 +553,7 @@ fn compare_calls<R: Abort + AllocGlobal>(rt: &R, case: &Case<'_>) {
 #[test]
 fn a_page_over_devices_that_fail(rt: HostRuntime) {
     let job = Job::Page {
-        profile: Profile::Vt100,
+        player: Player::Vt(Profile::Vt100),
     };
     let whole = do_job(rt.alloc(), job, SCRIPT, TIMING, b"");
     let case = plain_case(job, whole.text.as_slice());

@@ -5,11 +5,12 @@ use crate::in_memory::{DONE, Ended};
 use crate::page::data_of;
 use crate::picture::AB_PICTURE;
 use std::alloc::Global;
+use std::io;
 use std::process::Abort;
 use std::rt::Runtime;
 use std::test::Fail;
 use tape_core::{Fault, Watched};
-use tape_jobs::{Job, JobFault, Outcome, Player, Print, mend, run_with};
+use tape_jobs::{Job, JobFault, Measure, Outcome, Player, Print, mend, redact, run_with};
 use tape_mend::Header;
 use vt_term::Profile;
 
@@ -144,7 +145,7 @@ fn run_due(rt: HostRuntime) -> Result<(), Fail> {
 #[test]
 fn run_check(rt: HostRuntime) -> Result<(), Fail> {
     let job = Job::Check {
-        profile: Profile::Vt100,
+        player: Player::Vt(Profile::Vt100),
     };
     compare(&rt, plain_case(job, b"started X\n"))
 }
@@ -193,7 +194,7 @@ fn run_picture(rt: HostRuntime) -> Result<(), Fail> {
 #[test]
 fn run_page(rt: HostRuntime) -> Result<(), Fail> {
     let job = Job::Page {
-        profile: Profile::Vt102,
+        player: Player::Vt(Profile::Vt102),
     };
     let page = text_of(&rt, job)?;
     assert_eq!(rt;
@@ -298,8 +299,8 @@ fn mend_cut(rt: &impl Runtime<A = Global>) -> Result<Ended, Fail> {
     })
 }
 
-/// Compares how mending ended, both files, and what was told.
-fn compare_mended(rt: &impl Abort, ended: &Ended, outcome: Outcome, texts: [&[u8]; 3]) {
+/// Compares how mending or redacting ended, both files, and what was told.
+fn compare_told(rt: &impl Abort, ended: &Ended, outcome: Outcome, texts: [&[u8]; 3]) {
     let written = [
         ended.text.as_slice(),
         ended.new_timing.as_slice(),
@@ -318,7 +319,7 @@ fn mend_and_tell(rt: HostRuntime) -> Result<(), Fail> {
             status: 3,
             fault: Some(JobFault::File(Fault::OutOfMemory)),
         };
-        compare_mended(&rt, &ended, refused, [b"", b"", b""]);
+        compare_told(&rt, &ended, refused, [b"", b"", b""]);
         ended = mend_cut(&rt)?;
     }
     let damaged = Outcome {
@@ -327,24 +328,95 @@ fn mend_and_tell(rt: HostRuntime) -> Result<(), Fail> {
     };
     let timing = b"0.500000 6\n0.500000 11\n0.500000 7\n";
     let told = b"chunk 2 cut to 7 of 9 bytes\n";
-    compare_mended(&rt, &ended, damaged, [SCRIPT, timing, told]);
+    compare_told(&rt, &ended, damaged, [SCRIPT, timing, told]);
+    Ok(())
+}
+
+/// What the second chunk draws is taken out.
+#[test]
+fn run_redact(rt: HostRuntime) -> Result<(), Fail> {
+    let job = Job::Redact {
+        profile: Profile::Vt100,
+    };
+    let case = Case {
+        sought: &['c', 'd'],
+        new_timing: b"0.500000 6\n0.500000 11\n0.500000 7\n",
+        ..plain_case(job, REDACTED)
+    };
+    compare(&rt, case)
+}
+
+const REDACTED: &[u8] = b"Script started on X\nab\x1b[6n\x1b[3;1H**\x1b[c\x1b[1;1He";
+
+/// The same by the call that tells of it: what is told stands as the note.
+fn redact_cd(rt: &impl Runtime<A = Global>) -> Result<Ended, Fail> {
+    let mut out = Watched::new(room(rt)?);
+    let mut out_timing = Watched::new(room(rt)?);
+    let mut told = Watched::new(room(rt)?);
+    let outcome = redact(
+        rt.alloc(),
+        Profile::Vt100,
+        &['c', 'd'],
+        &mut Watched::new(SCRIPT),
+        &mut Watched::new(TIMING),
+        &mut out,
+        &mut out_timing,
+        &mut told,
+        &mut Watched::new(io::sink()),
+        &mut Watched::new(io::sink()),
+    );
+    Ok(Ended {
+        outcome,
+        text: out.into_inner(),
+        new_timing: out_timing.into_inner(),
+        note: told.into_inner(),
+    })
+}
+
+/// Where memory is refused to it, nothing goes out.
+#[test]
+fn redact_and_tell(rt: HostRuntime) -> Result<(), Fail> {
+    let mut ended = redact_cd(&rt)?;
+    if let Some(fault) = ended.outcome.fault {
+        println!(rt; "refused: redact")?;
+        let memory = [JobFault::File(Fault::OutOfMemory), JobFault::Memory];
+        assert!(rt; memory.contains(&fault), "{fault:?}");
+        let refused = Outcome {
+            status: 3,
+            fault: Some(fault),
+        };
+        compare_told(&rt, &ended, refused, [b"", b"", b""]);
+        ended = redact_cd(&rt)?;
+    }
+    let timing = b"0.500000 6\n0.500000 11\n0.500000 7\n";
+    compare_told(&rt, &ended, DONE, [REDACTED, timing, b"redacted 1\n"]);
     Ok(())
 }
 
 /// Seeks, an edit before what was sought, and seeks again.
-#[test]
-fn run_session(rt: HostRuntime) -> Result<(), Fail> {
-    let case = Case {
-        job: Job::Session {
-            every: 1,
-            profile: Profile::Vt100,
-        },
+fn session_case(player: Player) -> Case<'static> {
+    Case {
+        job: Job::Session { every: 1, player },
         sought: &[],
         requests: b"reports 0.5\nchanges - 9\ninsert 0 0.125 78\nreports 9\ninfo\nlog\n",
         text: b"1b5b313b3352\n0 0.500000 1\n1 1.000000 3\n2 1.500000 1\nend\nok\n\
             1b5b313b34521b5b3f313b3263\nchunks 4\nbytes 25\nlength 1.625000\nheader 20\ntrailer 0\n\
             insert 0 0.125000 78\nend\n",
         new_timing: b"",
+    }
+}
+
+#[test]
+fn run_session(rt: HostRuntime) -> Result<(), Fail> {
+    compare(&rt, session_case(Player::Vt(Profile::Vt100)))
+}
+
+/// All of it fits on nine columns and three lines.
+#[test]
+fn run_session_of_today(rt: HostRuntime) -> Result<(), Fail> {
+    let size = Measure {
+        columns: 9,
+        lines: 3,
     };
-    compare(&rt, case)
+    compare(&rt, session_case(Player::Today(Some(size))))
 }

@@ -1,7 +1,7 @@
 //! The flag `--every` of sessions.
 use super::{compare_job, compare_left, told, words_of};
 use std::test::Fail;
-use tape_jobs::Job;
+use tape_jobs::{Job, Player};
 use vt_term::Profile;
 
 #[test]
@@ -12,9 +12,9 @@ fn every_is_read(rt: HostRuntime) -> Result<(), Fail> {
         ("typetool session s t --every 1000000", 1_000_000),
         ("typetool session --every=000000000000000000000007 s t", 7),
     ];
-    let profile = Profile::Vt100;
+    let player = Player::Vt(Profile::Vt100);
     for (line, every) in rows {
-        compare_job(&rt, line, Job::Session { every, profile })?;
+        compare_job(&rt, line, Job::Session { every, player })?;
     }
     Ok(())
 }

@@ -39,11 +39,16 @@ fn reads_profiles_and_the_escaped_print(rt: HostRuntime) -> Result<(), Fail> {
 #[test]
 fn reads_profiles_of_whole_recordings(rt: HostRuntime) -> Result<(), Fail> {
     let (vt100, vt102) = (Profile::Vt100, Profile::Vt102);
-    let session = |every, profile| Job::Session { every, profile };
+    let session = |every, profile| Job::Session {
+        every,
+        player: Player::Vt(profile),
+    };
     let rows = [
         (
             "typetool page --profile=vt102 s t",
-            Job::Page { profile: vt102 },
+            Job::Page {
+                player: Player::Vt(vt102),
+            },
         ),
         (
             "typetool cast s --profile vt102 t",

@@ -63,8 +63,24 @@ fn reads_sizes(rt: HostRuntime) -> Result<(), Fail> {
     compare_job(&rt, "typetool changes --to=1 --profile=xterm s t", changes)
 }
 
+#[test]
+fn reads_sessions_of_today(rt: HostRuntime) -> Result<(), Fail> {
+    let session = |every, size| Job::Session {
+        every,
+        player: Player::Today(size),
+    };
+    let size = Measure {
+        columns: 9,
+        lines: 3,
+    };
+    let line = "typetool session --profile=xterm s t";
+    compare_job(&rt, line, session(100, None))?;
+    let line = "typetool session --every=7 --profile=xterm --size=9x3 s t";
+    compare_job(&rt, line, session(7, Some(size)))
+}
+
 /// What a line is refused for.
-const REFUSED: [(&str, &str); 15] = [
+const REFUSED: [(&str, &str); 16] = [
     ("screen --at=1 --profile=xterm --size=1x24", BAD_SIZE),
     ("screen --at=1 --profile=xterm --size=1001x24", BAD_SIZE),
     ("screen --at=1 --profile=xterm --size=80x0", BAD_SIZE),
@@ -82,15 +98,17 @@ const REFUSED: [(&str, &str); 15] = [
         "screen --at=1 --profile=XTERM --size=0x0",
         "bad profile: vt100, vt102 or xterm",
     ),
-    ("session --profile=xterm", NOT_YET),
+    (
+        "session --every=0 --profile=x",
+        "bad number of chunks: 1 to 1000000",
+    ),
+    ("session --profile=vt102 --size=80x24", BAD_SIZE),
 ];
 
 const BAD_SIZE: &str = "bad size: 2x1 to 1000x500, with --profile xterm";
 
-const NOT_YET: &str = "not yet with --profile xterm";
-
 #[test]
-fn refuses_sizes_and_what_has_no_terminal_of_today(rt: HostRuntime) -> Result<(), Fail> {
+fn refuses_sizes(rt: HostRuntime) -> Result<(), Fail> {
     for (part, wanted) in REFUSED {
         let line = format!(in rt.alloc(); "typetool {part} s t")?;
         let words = words_of(rt.alloc(), line.as_str())?;

@@ -5,32 +5,33 @@ ghost use Rattle.tape_check.specs.Lines.{check_text, is_noted};
 ghost use Rattle.tape_core.specs.Devices.{has_failed, is_flushed};
 ghost use Rattle.tape_jobs.specs.Endings.{JobPuts};
 ghost use Rattle.tape_jobs.specs.Output.{ending_of_check};
+ghost use Rattle.tape_jobs.specs.Player.{played_of};
 
 use crate::job::{Ending, JobFault};
 use crate::laws::stops_join;
+use crate::player::{Player, played_as};
 use std::alloc::Global;
 use std::io::Write;
 use tape_check::write_check;
 use tape_core::{Recording, Watched};
-use vt_term::Profile;
 
 /// Writes the lines of a check, and flushes. Nothing is written where memory is refused.
 pub fn write_checked<O: Write>(
     alloc: Global,
     recording: &Recording,
-    profile: Profile,
+    player: Player,
     out: &mut Watched<O>,
 ) -> Result<Ending, JobFault>
     requires { has_failed out.old ≡ false }
     ensures puts { JobPuts O.contents out.old out.new
-        (check_text profile recording.now) result }
+        (check_text (played_of player recording.now) recording.now) result }
     ensures ending { IfOk result (λ ending. ending
-        ≡ ending_of_check (is_noted profile recording.now)) }
+        ≡ ending_of_check (is_noted (played_of player recording.now) recording.now)) }
     ensures flushed { OnOk result (is_flushed out.new ≡ true) }
     ensures unwritten { result ≡ Err JobFault.Memory → out.new ≡ out.old }
 {
     stops_join::<O>();
-    let noted = write_check(alloc, recording, profile, out)?;
+    let noted = write_check(alloc, recording, played_as(player, recording), out)?;
     out.settle()?;
     Ok(ending_of(noted))
 }

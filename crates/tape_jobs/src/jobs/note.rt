@@ -3,75 +3,65 @@
 ghost use Rattle.std.specs.Prelude.{◌≡◌, false, true, None, OnOk, Some};
 ghost use Rattle.tape_check.specs.Lines.{note_line};
 ghost use Rattle.tape_core.specs.Devices.{Puts, has_failed, is_flushed};
-ghost use Rattle.tape_jobs.specs.Notes.{IsTold, played_by, vt_of, vt_of_print};
-ghost use Rattle.vt_term.specs.declared.profile.Profile.{Profile as Played};
+ghost use Rattle.tape_jobs.specs.Notes.{IsTold, played_by, player_of};
+ghost use Rattle.tape_jobs.specs.Player.{played_of};
+ghost use Rattle.tape_jobs.specs.declared.player.Player.{Player as Played};
 
 use crate::job::Job;
-use crate::player::{Player, Print};
+use crate::player::{Player, Print, played_as};
 use std::io::Write;
-use tape_check::put_parts;
+use tape_check::{PlayedAs, put_parts};
 use tape_core::{Fault, Recording, Watched};
-use vt_term::Profile;
 
 /// Tells the note of a recording that a job plays, and flushes. A fault is passed over.
 pub fn tell_note<N: Write>(job: Job, recording: &Recording, notes: &mut Watched<N>)
     requires { has_failed notes.old ≡ false }
-    ensures told { (profile : Played) → played_by job ≡ Some profile
-        → IsTold N.contents notes.old notes.new (note_line profile recording.now) }
+    ensures told { (player : Played) → played_by job ≡ Some player
+        → IsTold N.contents notes.old notes.new
+        (note_line (played_of player recording.now) recording.now) }
     ensures silent { played_by job ≡ None → notes.new ≡ notes.old }
 {
-    if let Some(profile) = played_by(job) {
-        let _ = put_note(recording, profile, notes);
+    if let Some(player) = played_by(job) {
+        let _ = put_note(recording, played_as(player, recording), notes);
     }
 }
 
 /// Writes the note of a recording, and flushes.
 fn put_note<N: Write>(
     recording: &Recording,
-    profile: Profile,
+    played: PlayedAs,
     notes: &mut Watched<N>,
 ) -> Result<(), Fault>
     requires { has_failed notes.old ≡ false }
-    ensures puts { Puts N.contents notes.old notes.new (note_line profile recording.now) result }
+    ensures puts { Puts N.contents notes.old notes.new (note_line played recording.now) result }
     ensures flushed { OnOk result (is_flushed notes.new ≡ true) }
 {
-    put_parts(recording, profile, notes)?;
+    put_parts(recording, played, notes)?;
     notes.settle()
 }
 
-/// As which terminal a job plays a recording, if it plays it.
-fn played_by(job: Job) -> Option<Profile>
+/// Which terminal plays a recording for a job, if it plays it.
+fn played_by(job: Job) -> Option<Player>
     ensures { result ≡ played_by job }
 {
     match job {
-        Job::Screen { print, .. } => vt_of_print(print),
+        Job::Screen { print, .. } => Some(player_of(print)),
         Job::Picture { player, .. }
         | Job::Changes { player, .. }
         | Job::Reports { player, .. }
-        | Job::Cast { player } => vt_of(player),
-        Job::Find { profile, .. } | Job::Page { profile } | Job::Session { profile, .. } => Some(
-            profile,
-        ),
+        | Job::Page { player }
+        | Job::Cast { player }
+        | Job::Session { player, .. } => Some(player),
+        Job::Find { profile, .. } | Job::Redact { profile } => Some(Player::Vt(profile)),
         Job::Due { .. } | Job::Info | Job::Check { .. } | Job::Save | Job::Mend { .. } => None,
     }
 }
 
-/// As which VT a job plays a recording that this terminal plays, if it is one: a note on what a terminal of today plays
-/// isn't told yet.
-fn vt_of(player: Player) -> Option<Profile>
-    ensures { result ≡ vt_of player }
-{
-    match player {
-        Player::Vt(profile) => Some(profile),
-        Player::Today(_) => None,
-    }
-}
-
-/// The same of a screen.
-fn vt_of_print(print: Print) -> Option<Profile>
-    ensures { result ≡ vt_of_print print }
+/// Which terminal a screen is of.
+fn player_of(print: Print) -> Player
+    ensures { result ≡ player_of print }
 {
     match print {
-        Print::Plain(player) | Print::Escaped(player) => vt_of(player),
+        Print::Plain(player) | Print::Escaped(player) => player,
     }
 }

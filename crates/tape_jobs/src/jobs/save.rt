@@ -7,6 +7,7 @@ ghost use Rattle.tape_seek.specs.Requests.{request};
 ghost use Rattle.tape_jobs.specs.Endings.{JobEnds, used, writers_of};
 ghost use Rattle.tape_jobs.specs.Output.{saved_by};
 ghost use Rattle.tape_jobs.specs.Requests.{StopsEditing, course_after, course_of, edit_asked, refusal_of, saved};
+ghost use Rattle.tape_jobs.specs.declared.player.Player.TheVariants.{Vt};
 
 use crate::job::{Ending, Job, JobFault};
 use crate::shared::{EVERY, make_edit, open_session};
@@ -45,9 +46,9 @@ pub fn write_edited<O: Write, P: Write>(
 /// Makes the edits of request lines in order, up to the first line that is refused. Want of memory has no line.
 fn edit_all(alloc: Global, session: &mut Session, requests: &[u8]) -> Result<(), JobFault>
     ensures ok { OnOk result
-        (saved 1 (course_of session.old) (lines_of requests.now) ≡ Ok session.new.recording) }
+        (saved 1 (course_of Vt session.old) (lines_of requests.now) ≡ Ok session.new.recording) }
     ensures fault { IfErr result
-        (StopsEditing (saved 1 (course_of session.old) (lines_of requests.now))) }
+        (StopsEditing (saved 1 (course_of Vt session.old) (lines_of requests.now))) }
 {
     let mut rest = requests;
     let mut line: u64 = 0;
@@ -71,7 +72,8 @@ fn edit_by(
     ensures fault { IfOk result (λ fault. fault
         ≡ refusal_of session.old.recording (edit_asked (request text.now))) }
     ensures course { OnOk result
-        (course_of session.new ≡ course_after (course_of session.old) (request text.now)) }
+        (course_of Vt session.new
+        ≡ course_after (course_of Vt session.old) (request text.now)) }
 {
     match read_line(alloc, text) {
         Ok(Request::Nothing) => Ok(None),

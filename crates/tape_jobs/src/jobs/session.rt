@@ -1,7 +1,6 @@
 //! The job `session`: an answer to each request line.
 
 ghost use Rattle.std.specs.Prelude.{◌≡◌, ◌≤◌, IfOk, OnErr, OnOk, false, is_some, max, min, true};
-ghost use Rattle.screen_print.specs.ChangeLines.{change_lines};
 ghost use Rattle.tape_core.specs.Devices.{Gave, has_failed, is_flushed};
 ghost use Rattle.tape_core.specs.Text.{lines_of};
 ghost use Rattle.tape_seek.specs.Edits.{edit_fault};
@@ -10,13 +9,15 @@ ghost use Rattle.tape_seek.specs.State.{least_every, most_every};
 ghost use Rattle.tape_seek.specs.WrittenLog.{log_text};
 ghost use Rattle.tape_jobs.specs.Endings.{JobGives, JobPuts};
 ghost use Rattle.tape_jobs.specs.Output.{ending_by};
+ghost use Rattle.tape_jobs.specs.Player.{changes_of, settled};
 ghost use Rattle.tape_jobs.specs.Requests.{after_judging, course_after, course_of, started};
 ghost use Rattle.tape_jobs.specs.Session.{answer, answered, any_refused, edit_answer, ended, is_refused, refusal};
 
+use crate::answers::{Answers, Asked, Question};
 use crate::job::{Ending, JobFault};
 use crate::laws::stops_join;
-use crate::shared::{Asked, make_edit, name_of, open_session, put_info, put_line, put_moment};
-use screen_print::changes;
+use crate::player::{Player, played_size};
+use crate::shared::{make_edit, name_of, open_session, put_info, put_line};
 use std::alloc::Global;
 use std::io::Write;
 use std::mem::ManuallyDrop;
@@ -25,27 +26,54 @@ use tape_core::{Recording, Watched};
 use tape_seek::{
     Edit, EditFault, LEAST_EVERY, LineFault, MOST_EVERY, Request, Session, read_line, write_log,
 };
-use vt_term::{OutOfMemory, Profile};
+use vt_term::OutOfMemory;
 
 /// Answers each request line in turn, and flushes. Where memory is refused, a beginning of the answers has gone out. How
 /// many chunks lie between stored terminals changes no answer: a number out of its range counts as the nearest one in it.
 pub fn write_answers<O: Write>(
     alloc: Global,
     recording: Recording,
-    profile: Profile,
+    player: Player,
     every: usize,
     requests: &[u8],
     out: &mut Watched<O>,
 ) -> Result<Ending, JobFault>
     requires { has_failed out.old ≡ false }
     ensures puts { JobPuts O.contents out.old out.new
-        (answered (started profile recording) (lines_of requests.now)) result }
-    ensures ending { IfOk result (λ ending. ending
-        ≡ ending_by (any_refused (started profile recording) (lines_of requests.now))) }
+        (answered (started (settled player recording) recording) (lines_of requests.now)) result }
+    ensures ending { IfOk result (λ ending. ending ≡ ending_by
+        (any_refused (started (settled player recording) recording) (lines_of requests.now))) }
+    ensures flushed { OnOk result (is_flushed out.new ≡ true) }
+{
+    match player {
+        Player::Vt(profile) => {
+            put_answers::<vt_term::Terminal, O>(alloc, recording, profile, every, requests, out)
+        }
+        Player::Today(asked) => {
+            let size = played_size(asked, &recording);
+            put_answers::<xterm_term::Terminal, O>(alloc, recording, size, every, requests, out)
+        }
+    }
+}
+
+/// Answers them over a terminal that is set up so.
+fn put_answers<T: Answers, O: Write>(
+    alloc: Global,
+    recording: Recording,
+    profile: T::Profile,
+    every: usize,
+    requests: &[u8],
+    out: &mut Watched<O>,
+) -> Result<Ending, JobFault>
+    requires { has_failed out.old ≡ false }
+    ensures puts { JobPuts O.contents out.old out.new
+        (answered (started (T.player profile) recording) (lines_of requests.now)) result }
+    ensures ending { IfOk result (λ ending. ending ≡ ending_by
+        (any_refused (started (T.player profile) recording) (lines_of requests.now))) }
     ensures flushed { OnOk result (is_flushed out.new ≡ true) }
 {
     stops_join::<O>();
-    let session = open_session(alloc, recording, in_range(every), profile)?;
+    let session = open_session::<T>(alloc, recording, in_range(every), profile)?;
     let mut session = ManuallyDrop::new(session);
     let refused = answer_all(alloc, &mut session, requests, out)?;
     out.settle()?;
@@ -73,17 +101,17 @@ fn ending_by(refused: bool) -> Ending
 }
 
 /// Answers each line in turn, and tells whether any was refused.
-fn answer_all<O: Write>(
+fn answer_all<T: Answers, O: Write>(
     alloc: Global,
-    session: &mut Session,
+    session: &mut Session<T>,
     requests: &[u8],
     out: &mut Watched<O>,
 ) -> Result<bool, JobFault>
     requires { has_failed out.old ≡ false }
     ensures puts { JobPuts O.contents out.old out.new
-        (answered (course_of session.old) (lines_of requests.now)) result }
+        (answered (course_of T.player session.old) (lines_of requests.now)) result }
     ensures refused { IfOk result (λ refused. refused
-        ≡ any_refused (course_of session.old) (lines_of requests.now)) }
+        ≡ any_refused (course_of T.player session.old) (lines_of requests.now)) }
 {
     stops_join::<O>();
     let mut rest = requests;
@@ -100,27 +128,33 @@ fn answer_all<O: Write>(
 
 /// Answers a line, and tells whether it was refused. A failure of the writer may be told only when it is asked.
 #[tactic(auto, using(tape_core::proofs::GaveLemmas::took_gave, tape_core::proofs::GaveLemmas::gave_none))]
-fn answer_line<O: Write>(
+fn answer_line<T: Answers, O: Write>(
     alloc: Global,
-    session: &mut Session,
+    session: &mut Session<T>,
     line: &[u8],
     out: &mut Watched<O>,
 ) -> Result<bool, JobFault>
     requires { has_failed out.old ≡ false }
     ensures gives { JobGives O.contents out.old out.new
-        (answer (course_of session.old) (request line.now)) result }
+        (answer (course_of T.player session.old) (request line.now)) result }
     ensures refused { IfOk result (λ refused. refused
-        ≡ is_refused (course_of session.old) (request line.now)) }
-    ensures course { OnOk result (course_of session.new
-        ≡ course_after (course_of session.old) (request line.now)) }
+        ≡ is_refused (course_of T.player session.old) (request line.now)) }
+    ensures course { OnOk result (course_of T.player session.new
+        ≡ course_after (course_of T.player session.old) (request line.now)) }
 {
     stops_join::<O>();
     match read_line(alloc, line) {
         Ok(Request::Nothing) => {}
         Ok(Request::Edit(edit)) => return Ok(answer_edit(session, edit, out)?),
-        Ok(Request::Screen(at)) => put_moment(session, at, Asked::Screen { escaped: false }, out)?,
-        Ok(Request::Reports(at)) => put_moment(session, at, Asked::Reports, out)?,
-        Ok(Request::Changes { from, to }) => put_changes(session, from, to, out)?,
+        Ok(Request::Screen(at)) => {
+            let asked = Asked::Screen;
+            T::put_answer(session, Question { asked, at }, out)?;
+        }
+        Ok(Request::Reports(at)) => {
+            let asked = Asked::Reports;
+            T::put_answer(session, Question { asked, at }, out)?;
+        }
+        Ok(Request::Changes { from, to }) => put_changes(alloc, session, from, to, out)?,
         Ok(Request::Info) => put_info(session.recording(), out),
         Ok(Request::Log) => put_log(session, out)?,
         Err(LineFault::BadLine) => {
@@ -133,8 +167,8 @@ fn answer_line<O: Write>(
 }
 
 /// Makes an edit, and answers `ok`, or refuses it with nothing changed. Tells whether it was refused.
-fn answer_edit<O: Write>(
-    session: &mut Session,
+fn answer_edit<T: Answers, O: Write>(
+    session: &mut Session<T>,
     edit: Edit,
     out: &mut Watched<O>,
 ) -> Result<bool, OutOfMemory>
@@ -143,8 +177,8 @@ fn answer_edit<O: Write>(
     ensures unwritten { OnErr result (out.new ≡ out.old) }
     ensures refused { IfOk result (λ refused. refused
         ≡ is_some (edit_fault session.old.recording edit)) }
-    ensures course { OnOk result (course_of session.new
-        ≡ after_judging (course_of session.old) edit (edit_fault session.old.recording edit)) }
+    ensures course { OnOk result (course_of T.player session.new
+        ≡ after_judging (course_of T.player session.old) edit (edit_fault session.old.recording edit)) }
 {
     let fault = make_edit(session, edit)?;
     match fault {
@@ -162,25 +196,26 @@ fn put_refusal<O: Write>(fault: EditFault, out: &mut Watched<O>)
 }
 
 /// Writes change lines, and that they end.
-fn put_changes<O: Write>(
-    session: &mut Session,
+fn put_changes<T: Answers, O: Write>(
+    alloc: Global,
+    session: &mut Session<T>,
     from: Option<u64>,
     to: u64,
     out: &mut Watched<O>,
 ) -> Result<(), JobFault>
     requires { has_failed out.old ≡ false }
     ensures gives { JobGives O.contents out.old out.new
-        (ended (change_lines session.old.profile session.old.recording from to)) result }
-    ensures stays { course_of session.new ≡ course_of session.old }
+        (ended (changes_of (T.player session.old.profile) session.old.recording from to)) result }
+    ensures stays { course_of T.player session.new ≡ course_of T.player session.old }
 {
     stops_join::<O>();
-    changes(session, from, to, out)?;
+    T::put_changes(alloc, session, from, to, out)?;
     out.give(b"end\n");
     Ok(())
 }
 
 /// Writes the log, and that it ends.
-fn put_log<O: Write>(session: &Session, out: &mut Watched<O>) -> Result<(), JobFault>
+fn put_log<T: Answers, O: Write>(session: &Session<T>, out: &mut Watched<O>) -> Result<(), JobFault>
     requires { has_failed out.old ≡ false }
     ensures { JobGives O.contents out.old out.new (ended (log_text session.now.log)) result }
 {

@@ -106,6 +106,7 @@ fn arg_of<'a>(alloc: Global, argument: Argument) -> Arg<'a>
             switch(alloc, id_of(argument), help_of(argument))
         }
         Argument::Sought
+        | Argument::Secret
         | Argument::Script
         | Argument::Timing
         | Argument::AnyTiming

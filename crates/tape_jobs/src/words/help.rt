@@ -30,6 +30,8 @@ pub fn about_of<'a>(subcommand: Subcommand) -> &'a str {
             "Make the edits that standard input asks for, and write both files anew",
         Subcommand::Mend =>
             "Write both files anew of all that can be read of them, and tell what was lost",
+        Subcommand::Redact =>
+            "Write both files anew without a text, and tell whether it may still be seen",
         Subcommand::Session => "Answer the requests of standard input, each in turn",
     }
 }
@@ -48,7 +50,7 @@ const SAVE_DETAILS: &str =
 /// The requests of `session`, and its status.
 const SESSION_DETAILS: &str =
     "One request a line: the edits of save, answered by ok or by refused and why, and\n\
-    screen SECONDS (24 lines), reports SECONDS (one line), info (five lines),\n\
+    screen SECONDS (all its lines), reports SECONDS (one line), info (five lines),\n\
     changes SECONDS SECONDS (- as the first: from chunk 0) and log (lines, and then end).\n\
     Questions are answered for the recording as edited so far; no file is changed.\n\n\
     Status 1 where any line was refused. The first of these faults is told:\n\
@@ -67,9 +69,10 @@ const SESSION_DETAILS: &str =
 const CHECK_DETAILS: &str =
     "Lines, each only where it applies: when the recording was started, under which terminal and at which\n\
     size; a note for each thing that makes the screen doubtful (another terminal or size, bytes from 128\n\
-    on, a trailer that isn't script's, further sessions in it); and unplayed N SEQUENCE for each control\n\
-    sequence that this terminal doesn't have, with how often it comes. The status is 0 where nothing is\n\
-    noted or unplayed, and else 1. No screen is played.\n\n\
+    on, or with --profile xterm parts that are no UTF-8, a trailer that isn't script's, further sessions\n\
+    in it); unplayed N SEQUENCE for each control sequence that this terminal doesn't have, with how often\n\
+    it comes; and the advice to try --profile xterm. The status is 0 where nothing is noted or unplayed,\n\
+    and else 1. No screen is played.\n\n\
     The commands that play a recording tell the notes on size, terminal and sessions on standard error.\n\n\
     Example: typetool check demo.script demo.timing\n\n\
     The long form: man typetool";
@@ -90,11 +93,31 @@ const MEND_DETAILS: &str =
     Example: typetool mend demo.script demo.timing new.script new.timing\n\n\
     The long form: man typetool";
 
-/// The lines that `find` writes, and what it doesn't find.
+/// What `redact` tells, its status, and what it can't do.
+const REDACT_DETAILS: &str =
+    "In the typescript as a whole (first line, chunks over their borders, what stands behind them) each byte of\n\
+    the text becomes *. Delays and counts stay. Both new files are created before anything is read, and must\n\
+    not exist. Then it is told: redacted N (how often the text stood there), and as by find where it stands on\n\
+    the screen of the new recording all the same, typed with corrections or drawn in parts. The status is 0\n\
+    where N isn't 0, no such line follows, the first line tells the size of before, and behind the last chunk\n\
+    stands nothing but script's closing line; else 1, and 3 for each fault.\n\n\
+    It can't take out the same secret in another spelling, or one that is shown under another profile or size,\n\
+    or one in a timing file, or a phrase whose space falls on the right margin. A TEXT that is part of an\n\
+    escape sequence breaks it, so that hidden text may come to show; and under xterm one * for each byte\n\
+    moves what stands right of a TEXT that isn't ASCII. At last look yourself:\n\
+    LC_ALL=C grep -acF -- TEXT NEWSCRIPT NEWTIMING\n\n\
+    Example: typetool redact secret demo.script demo.timing new.script new.timing\n\n\
+    The long form: man typetool";
+
+/// The lines that `find` writes, its status, and what it doesn't find.
 const FIND_DETAILS: &str =
-    "A line for each place at which the text came to stand (+) or from which it went (-): the sign, the\n\
-    chunk (counted from 0), when it is due (seconds), line and column of the first character, and the\n\
-    rows in which it stands, one space between. Text that only scrolls isn't told again.\n\n\
+    "A line for each place at which the text came to stand (+), from which it went (-), or at which it\n\
+    came and went between two bytes of a chunk (~): the sign, the chunk (counted from 0), when it is due\n\
+    (seconds), line and column of the first character, and the rows in which it stands, one space\n\
+    between. Text that only scrolls isn't told again. With --from the first lines (=) tell where the\n\
+    text stands at that moment, with the number of chunks due by then.\n\n\
+    Status 0 where a line was written, 1 where none was, and 3 for each fault. So with status 1 the text\n\
+    stood nowhere: not at the moment of --from, and not after any byte of these chunks.\n\n\
     A text is found where it runs on over the right margin, too; but a phrase whose space falls on the\n\
     right margin isn't found, since a row that ends with a space doesn't run on.\n\n\
     A TEXT that begins with - stands behind --, as in the second example.\n\n\
@@ -165,6 +188,7 @@ pub fn details_of<'a>(subcommand: Subcommand) -> &'a str {
         Subcommand::Cast => CAST_DETAILS,
         Subcommand::Save => SAVE_DETAILS,
         Subcommand::Mend => MEND_DETAILS,
+        Subcommand::Redact => REDACT_DETAILS,
         Subcommand::Session => SESSION_DETAILS,
     }
 }
@@ -177,7 +201,7 @@ pub fn value_name_of<'a>(argument: Argument) -> &'a str {
         Argument::Profile | Argument::AnyProfile => "PROFILE",
         Argument::Size => "CxL",
         Argument::Escaped | Argument::Last | Argument::Headless => "",
-        Argument::Title | Argument::Sought => "TEXT",
+        Argument::Title | Argument::Sought | Argument::Secret => "TEXT",
         Argument::Script => "SCRIPT",
         Argument::Timing | Argument::AnyTiming => "TIMING",
         Argument::NewScript => "NEWSCRIPT",
@@ -224,6 +248,8 @@ pub fn help_of<'a>(argument: Argument) -> &'a str {
             "The title of the page; the name of SCRIPT without its ending, if not given",
         Argument::Sought =>
             "What to look for: characters as they stand on the screen, not only spaces",
+        Argument::Secret =>
+            "What to take out: characters as they stand on the screen, not only spaces, and no *",
         Argument::Script => "The typescript that script(1) wrote: the bytes themselves",
         Argument::Timing => {
             "Its timing file, in the classic format: a line of a delay and a count for each chunk. \

@@ -18,6 +18,7 @@ pub enum Subcommand {
     Cast,
     Save,
     Mend,
+    Redact,
     Session,
 }
 
@@ -50,6 +51,8 @@ pub enum Argument {
     Title,
     /// The text that is looked for.
     Sought,
+    /// The text that is taken out.
+    Secret,
     /// The typescript.
     Script,
     /// Its timing file, in the classic format.
@@ -63,7 +66,7 @@ pub enum Argument {
 }
 
 /// The subcommands, in the order in which help tells them.
-pub fn subcommands() -> [Subcommand; 13]
+pub fn subcommands() -> [Subcommand; 14]
     ensures { result ≡ subcommands_in_order }
 {
     [
@@ -79,6 +82,7 @@ pub fn subcommands() -> [Subcommand; 13]
         Subcommand::Cast,
         Subcommand::Save,
         Subcommand::Mend,
+        Subcommand::Redact,
         Subcommand::Session,
     ]
 }
@@ -101,6 +105,7 @@ pub fn name_of<'a>(subcommand: Subcommand) -> &'a str
         Subcommand::Cast => "cast",
         Subcommand::Save => "save",
         Subcommand::Mend => "mend",
+        Subcommand::Redact => "redact",
         Subcommand::Session => "session",
     }
 }
@@ -112,9 +117,10 @@ pub fn flags_of(subcommand: Subcommand) -> &'static [Argument]
 {
     match subcommand {
         Subcommand::Due => &[Argument::At],
-        Subcommand::Check => &[Argument::Profile],
-        Subcommand::Page => &[Argument::Profile, Argument::Title],
-        Subcommand::Cast => &[Argument::AnyProfile, Argument::Size],
+        Subcommand::Page => &[Argument::AnyProfile, Argument::Size, Argument::Title],
+        Subcommand::Check | Subcommand::Cast | Subcommand::Redact => {
+            &[Argument::AnyProfile, Argument::Size]
+        }
         Subcommand::Screen => &[
             Argument::At,
             Argument::Escaped,
@@ -132,7 +138,7 @@ pub fn flags_of(subcommand: Subcommand) -> &'static [Argument]
             &[Argument::At, Argument::AnyProfile, Argument::Size]
         }
         Subcommand::Mend => &[Argument::Last, Argument::Headless],
-        Subcommand::Session => &[Argument::Every, Argument::Profile],
+        Subcommand::Session => &[Argument::Every, Argument::AnyProfile, Argument::Size],
         Subcommand::Info | Subcommand::Save => &[],
     }
 }
@@ -144,6 +150,7 @@ pub fn texts_of(subcommand: Subcommand) -> &'static [Argument]
 {
     match subcommand {
         Subcommand::Find => &[Argument::Sought],
+        Subcommand::Redact => &[Argument::Secret],
         Subcommand::Due
         | Subcommand::Info
         | Subcommand::Check
@@ -176,7 +183,7 @@ pub fn paths_of(subcommand: Subcommand) -> &'static [Argument]
         | Subcommand::Page
         | Subcommand::Cast
         | Subcommand::Session => &[Argument::Script, Argument::Timing],
-        Subcommand::Save => &[
+        Subcommand::Save | Subcommand::Redact => &[
             Argument::Script,
             Argument::Timing,
             Argument::NewScript,
@@ -207,7 +214,7 @@ pub fn id_of<'a>(argument: Argument) -> &'a str
         Argument::Last => "last",
         Argument::Headless => "headless",
         Argument::Title => "title",
-        Argument::Sought => "text",
+        Argument::Sought | Argument::Secret => "text",
         Argument::Script => "script",
         Argument::Timing | Argument::AnyTiming => "timing",
         Argument::NewScript => "new-script",

@@ -5,13 +5,13 @@ ghost use Rattle.std.specs.Option.{option_map};
 ghost use Rattle.std.specs.Char.{is_control};
 ghost use Rattle.std.specs.List.{list_all, list_any};
 ghost use Rattle.clap.specs.Words.{first_of, found_of, rows_of};
-ghost use Rattle.tape_jobs.specs.CommandLine.{every_allowed, every_in, every_of, header_in, id_in, is_searchable, is_today, job_in, player_in, print_by, size_cut, size_named, today_if, vt_if, moment_in, moment_given_in, moment_or_last_in, paths_in, profile_in, profile_named, stem_of, switch_in, text_in, title_in, value_in};
-ghost use Rattle.tape_jobs.specs.declared.words.table.Subcommand.TheVariants.{Find as find, Screen as screen};
+ghost use Rattle.tape_jobs.specs.CommandLine.{every_allowed, every_in, every_of, header_in, id_in, is_searchable, is_secret, is_today, job_in, player_in, print_by, size_cut, size_named, today_if, vt_if, moment_in, moment_given_in, moment_or_last_in, paths_in, profile_in, profile_named, stem_of, switch_in, text_in, title_in, value_in, vt_only};
+ghost use Rattle.tape_jobs.specs.declared.words.table.Subcommand.TheVariants.{Find as find, Redact as redact, Screen as screen};
 
 use super::table::{Argument, Subcommand, id_of, paths_of};
 use crate::job::Job;
 use crate::player::{Measure, Player, Print, is_size};
-use crate::shared::EVERY;
+use crate::shared::USUAL_EVERY;
 use clap::ArgMatches;
 use std::alloc::{AllocError, Global};
 use std::path::Path;
@@ -52,7 +52,7 @@ pub fn read_job(subcommand: Subcommand, values: &ArgMatches<'_>) -> Result<Job, 
         }),
         Subcommand::Info => Ok(Job::Info),
         Subcommand::Check => Ok(Job::Check {
-            profile: read_profile(values)?,
+            player: read_player(values)?,
         }),
         Subcommand::Screen => read_screen(values),
         Subcommand::Picture => Ok(Job::Picture {
@@ -70,7 +70,7 @@ pub fn read_job(subcommand: Subcommand, values: &ArgMatches<'_>) -> Result<Job, 
             player: read_player(values)?,
         }),
         Subcommand::Page => Ok(Job::Page {
-            profile: read_profile(values)?,
+            player: read_player(values)?,
         }),
         Subcommand::Cast => Ok(Job::Cast {
             player: read_player(values)?,
@@ -79,9 +79,10 @@ pub fn read_job(subcommand: Subcommand, values: &ArgMatches<'_>) -> Result<Job, 
         Subcommand::Mend => Ok(Job::Mend {
             header: read_header(values)?,
         }),
+        Subcommand::Redact => read_redact(values),
         Subcommand::Session => Ok(Job::Session {
             every: read_every(values)?,
-            profile: read_profile(values)?,
+            player: read_player(values)?,
         }),
     }
 }
@@ -138,12 +139,49 @@ fn read_find(values: &ArgMatches<'_>) -> Result<Job, Unreadable>
     Ok(Job::Find { from, to, profile })
 }
 
+/// The job `redact` that the values mean.
+#[tactic(auto, unfolding(crate::specs::CommandLine::job_in))]
+fn read_redact(values: &ArgMatches<'_>) -> Result<Job, Unreadable>
+    ensures { result ≡ job_in redact (rows_of (found_of values.now)) }
+{
+    let profile = vt_of(read_player(values)?)?;
+    if !is_secret(value_text(values, Argument::Secret)) {
+        return Err(Unreadable::Text);
+    }
+    Ok(Job::Redact { profile })
+}
+
+/// A VT: a terminal of today isn't played here yet.
+fn vt_of(player: Player) -> Result<Profile, Unreadable>
+    ensures { result ≡ vt_only player }
+{
+    match player {
+        Player::Vt(profile) => Ok(profile),
+        Player::Today(_) => Err(Unreadable::Today),
+    }
+}
+
 /// Whether a text can be looked for: it has a character other than a space, and no control character.
 #[tactic(auto, unfolding(crate::specs::CommandLine::is_searchable))]
 fn is_searchable(text: &str) -> bool
     ensures { result ≡ is_searchable (chars text.now) }
 {
     has_ink(text) && has_no_control(text)
+}
+
+/// Whether a text can be taken out: it can be looked for, and has no `*`.
+#[tactic(auto, unfolding(crate::specs::CommandLine::is_secret))]
+fn is_secret(text: &str) -> bool
+    ensures { result ≡ is_secret (chars text.now) }
+{
+    is_searchable(text) && !has_star(text)
+}
+
+/// Whether one of the characters is `*`.
+fn has_star(text: &str) -> bool
+    ensures { result ≡ list_any (λ c. c == 42) (chars text.now) }
+{
+    text.chars().any(|c| c == '*')
 }
 
 /// Whether one of the characters isn't a space.
@@ -165,7 +203,7 @@ fn read_every(values: &ArgMatches<'_>) -> Result<usize, Unreadable>
     ensures { result ≡ every_in (rows_of (found_of values.now)) }
 {
     let Some(text) = value_given(values, Argument::Every) else {
-        return Ok(EVERY);
+        return Ok(USUAL_EVERY);
     };
     every_of(text.as_bytes()).ok_or(Unreadable::Every)
 }
@@ -328,7 +366,8 @@ fn is_given(values: &ArgMatches<'_>, flag: Argument) -> bool
     value_text(values, flag) == "true"
 }
 
-/// The characters of the text beside a job: what `find` looks for, the title of a page, and none for the others.
+/// The characters of the text beside a job: what `find` looks for, what `redact` takes out, the title of a page, and none
+/// for the others.
 #[tactic(auto, unfolding(crate::specs::CommandLine::text_in))]
 pub fn read_text(
     alloc: Global,
@@ -340,6 +379,7 @@ pub fn read_text(
 {
     match subcommand {
         Subcommand::Find => value_text(values, Argument::Sought).chars().collect(alloc),
+        Subcommand::Redact => value_text(values, Argument::Secret).chars().collect(alloc),
         Subcommand::Page => title_of(values).chars().collect(alloc),
         _ => Ok(Vec::new(alloc)),
     }

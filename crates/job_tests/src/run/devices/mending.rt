@@ -1,8 +1,8 @@
 //! The call `mend` over such devices, and the job of its name.
 use super::{
-    Case, Failing, Failure, NEVER, NONE_FAILS, SlowWriter, compare_calls, compare_second_calls,
-    compare_sound, compare_unflushed, compare_unread, plain_case, slow_reader, slow_writer,
-    stopped,
+    Case, Failing, Failure, NEVER, NONE_FAILS, SlowWriter, compare_begun, compare_calls,
+    compare_second_calls, compare_sound, compare_unflushed, compare_unread, plain_case,
+    slow_reader, slow_writer, stopped,
 };
 use std::process::Abort;
 use tape_core::{Fault, Watched};
@@ -109,21 +109,7 @@ fn compare_failed<R: Abort + AllocGlobal>(rt: &R, writer: usize, failure: Failur
         stopped(Fault::WriteFault),
         "{writer} {failure:?}"
     );
-    for (place, (text, device)) in texts.iter().zip(&ran.writers).enumerate() {
-        let begun = if place < writer {
-            text.len()
-        } else if place == writer {
-            taken
-        } else {
-            0
-        };
-        assert_eq!(rt;
-            Some(device.taken.as_slice()),
-            text.get(..begun),
-            "{writer} {failure:?}"
-        );
-        assert!(rt; device.flushes <= 1, "no flush is tried again");
-    }
+    compare_begun(rt, &ran.writers, &texts, writer, taken);
 }
 
 /// The first texts are whole, a beginning of the one that failed went out, and nothing behind it.

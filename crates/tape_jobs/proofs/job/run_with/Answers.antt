@@ -1,9 +1,10 @@
-use Rattle.std.proofs.Common.{◌≡◌, false, true, ap, sym, inl, inr, ◌∙◌, refl, rules, subst, true≢false, Some, None}
+use Rattle.std.proofs.Common.{◌≡◌, false, true, ap, sym, inl, inr, ◌∙◌, refl, rules, subst, true≢false, Some, None, Err}
 use Rattle.tape_core.proofs.DeviceLemmas.{took_none}
-use Rattle.tape_jobs.specs.Endings.{JobEnds, used, writers_of}
+use Rattle.tape_jobs.specs.Endings.{JobEnds, RunEnds, readers_of, used, writers_of}
 use Rattle.tape_jobs.specs.Mending.{remains_of}
-use Rattle.tape_jobs.specs.Output.{done_mending, done_on, mends, writes_timing}
+use Rattle.tape_jobs.specs.Output.{done_mending, done_on, mends, outcome_in, writes_timing}
 use Rattle.tape_jobs.specs.declared.job.Job.TheVariants.{Mend}
+use Rattle.tape_jobs.specs.declared.job.JobFault.TheVariants.{File}
 use Rattle.tape_jobs.proofs.JobLemmas.{IsBefore, comes_read, comes_refused, ends_performed, ends_unread}
 use Rattle.tape_jobs.proofs.MendLemmas.{comes_remade, comes_unmended, is_mend}
 use Rattle.tape_jobs.proofs.NoteLemmas.{ended_after}
@@ -11,6 +12,9 @@ use Rattle.tape_jobs.proofs.job.run_with.Goals as goal
 
 pub returns-in-Ok-clause-ends : goal.returns-in-Ok-clause-ends
 returns-in-Ok-clause-ends g c =
+    let readers = readers_of (used g.S.Read.remaining c.args.script.now c.read_remains.new.script)
+    (used g.T.Read.remaining c.args.timing.now c.read_remains.new.timing)
+    (used g.R.Read.remaining c.args.requests.now c.args.requests.now) c.args.text.now in
     let writers = writers_of (used g.O.Write.contents c.args.out.now c.write_remains.new.out)
     (used g.P.Write.contents c.args.out_timing.now c.write_remains.new.out_timing) in
     let before : IsBefore writers = record {
@@ -23,23 +27,31 @@ returns-in-Ok-clause-ends g c =
     let ends = subst (λ job. JobEnds writers job done c.write_remains.result) (sym (is_mend c.args.job c.in-Mend.header asked))
     (subst (λ m. JobEnds writers (Mend c.in-Mend.header) (done_mending (remains_of m)) c.write_remains.result) same
     (c.write_remains.ensures.ends c.in-Mend.header)) in
-    rw c.outcome_of.ensures
+    rw c.outcome_in.ensures
+    (subst (λ j. RunEnds readers writers c.args.job (outcome_in j c.write_remains.result))
+    (is_mend c.args.job c.in-Mend.header asked)
     (ends_performed before done
     (λ files held. comes_remade c.args.job c.in-Mend.header files (remains_of c.in-Ok.mended) asked
     (c.in-Ok.ensures.ok files.script files.timing held.script held.timing))
     (let read = c.in-Ok.ensures.sound (λ e. absurd (cc)) in (read.0, read.1, c.requires.requests))
     (λ _. refl) (λ alone. absurd (true≢false (sym (ap writes_timing (is_mend c.args.job c.in-Mend.header asked)) ∙ alone)))
-    c.write_remains.result ends)
+    c.write_remains.result ends))
 
 pub returns-in-Err-clause-ends : goal.returns-in-Err-clause-ends
 returns-in-Err-clause-ends g c =
-    let before : IsBefore (writers_of (used g.O.Write.contents c.args.out.now c.args.out.now)
-    (used g.P.Write.contents c.args.out_timing.now c.args.out_timing.now)) = record {
+    let readers = readers_of (used g.S.Read.remaining c.args.script.now c.read_remains.new.script)
+    (used g.T.Read.remaining c.args.timing.now c.read_remains.new.timing)
+    (used g.R.Read.remaining c.args.requests.now c.args.requests.now) c.args.text.now in
+    let writers = writers_of (used g.O.Write.contents c.args.out.now c.args.out.now)
+    (used g.P.Write.contents c.args.out_timing.now c.args.out_timing.now) in
+    let before : IsBefore writers = record {
       nothing = took_none _ _ c.requires.out;
       nothing_timing = took_none _ _ c.requires.out_timing;
     } in
     let asked : mends c.args.job ≡ Some c.in-Mend.header = search rules in
-    rw c.outcome_of-in-Err.ensures
+    rw c.outcome_in-in-Err.ensures
+    (subst (λ j. RunEnds readers writers c.args.job (outcome_in j (Err (File c.in-Err.fault))))
+    (is_mend c.args.job c.in-Mend.header asked)
     (ends_unread before c.in-Err.fault
     (λ unstopped files held. comes_unmended c.args.job c.in-Mend.header files c.in-Err.fault asked
     (c.in-Err.ensures.fault unstopped).0 ((c.in-Err.ensures.fault unstopped).1 files.script held.script))
@@ -47,7 +59,7 @@ returns-in-Err-clause-ends g c =
     (λ e. elim (c.in-Err.ensures.read_fault e) [
       | inl script ↦ inl script
       | inr timing ↦ inr (inl timing)
-    ]) c.in-Err.ensures.no_write_fault (λ _. refl) (refl, refl))
+    ]) c.in-Err.ensures.no_write_fault (λ _. refl) (refl, refl)))
 
 pub returns-in-Ok-read_files-clause-ends : goal.returns-in-Ok-read_files-clause-ends
 returns-in-Ok-read_files-clause-ends g c =
@@ -58,7 +70,7 @@ returns-in-Ok-read_files-clause-ends g c =
     } in
     let given = c.in-Ok-read_files.given in
     let reading : mends c.args.job ≡ None = search rules in
-    rw c.outcome_of-in-Ok-read_files.ensures
+    rw c.outcome_in-in-Ok-read_files.ensures
     (ends_performed before (done_on c.args.job given.recording given.requests.items c.args.text.now)
     (λ files held. comes_read given.recording given.requests.items reading files held (
       c.in-Ok-read_files.ensures.ok files.script files.timing held.script held.timing,
@@ -76,7 +88,7 @@ returns-in-Err-read_files-clause-ends g c =
     } in
     let unread = c.in-Err-read_files.ensures in
     let reading : mends c.args.job ≡ None = search rules in
-    rw c.outcome_of-in-Err-read_files.ensures
+    rw c.outcome_in-in-Err-read_files.ensures
     (ends_unread before c.in-Err-read_files.fault
     (λ unstopped files held. comes_refused c.args.job files c.in-Err-read_files.fault reading
     (unread.fault unstopped files.script files.timing held.script held.timing))
@@ -85,11 +97,11 @@ returns-in-Err-read_files-clause-ends g c =
 pub returns-in-Ok-read_files-clause-noted : goal.returns-in-Ok-read_files-clause-noted
 returns-in-Ok-read_files-clause-noted g c =
     let given = c.in-Ok-read_files.given in
-    rw c.outcome_of-in-Ok-read_files.ensures (record {
-      told = λ was profile plays files held. (
+    rw c.outcome_in-in-Ok-read_files.ensures (record {
+      told = λ was player plays files held. (
         given.recording,
         c.in-Ok-read_files.ensures.ok files.script files.timing held.script held.timing,
-        c.tell_note.ensures.told profile plays,
+        c.tell_note.ensures.told player plays,
       );
       silent = c.tell_note.ensures.silent;
       unread = λ e. absurd (true≢false

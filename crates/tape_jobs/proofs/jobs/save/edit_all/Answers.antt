@@ -4,18 +4,19 @@ use Rattle.std.proofs.lemmas.List.{nil_from_length}
 use Rattle.tape_core.specs.Text.{lines_of}
 use Rattle.tape_jobs.specs.Requests.{course_of, saved}
 use Rattle.tape_jobs.proofs.RequestLemmas.{saved_all, saved_next, saved_refused}
+use Rattle.tape_jobs.specs.declared.player.Player.TheVariants.{Vt}
 use Rattle.tape_jobs.proofs.jobs.save.edit_all.Goals as goal
 
 pub returns-clause-ok : goal.returns-clause-ok
 returns-clause-ok c =
     let none : length c.loop-rest.rest.now ≡ 0 = grind (arith, nat_tests) in
     c.loop-rest.invariant.0
-    ∙ saved_all (c.loop-rest.line + 1) (course_of c.loop-rest.session) (lines_of c.loop-rest.rest.now)
+    ∙ saved_all (c.loop-rest.line + 1) (course_of Vt c.loop-rest.session) (lines_of c.loop-rest.rest.now)
     (ap lines_of (nil_from_length c.loop-rest.rest.now none))
 
 pub loop-rest-preserved : goal.loop-rest-preserved
 loop-rest-preserved c =
-    let course = course_of c.loop-rest.session in
+    let course = course_of Vt c.loop-rest.session in
     let lines = lines_of c.loop-rest.rest.now in
     let rest = lines_of c.next_line.result.1.now in
     let line = c.loop-rest.line + 1 in (
@@ -28,7 +29,7 @@ loop-rest-preserved c =
 
 pub returns-in-Some-clause-fault : goal.returns-in-Some-clause-fault
 returns-in-Some-clause-fault c =
-    let course = course_of c.loop-rest.session in
+    let course = course_of Vt c.loop-rest.session in
     let lines = lines_of c.loop-rest.rest.now in
     let rest = lines_of c.next_line.result.1.now in
     c.loop-rest.invariant.0

@@ -10,3 +10,7 @@ returns-in-Find c = search (rules, chars_from_encodes)
 pub returns-in-Page : goal.returns-in-Page
 unfolding text_in
 returns-in-Page c = search (rules, chars_from_encodes)
+
+pub returns-in-Redact : goal.returns-in-Redact
+unfolding text_in
+returns-in-Redact c = search (rules, chars_from_encodes)

@@ -1,0 +1,172 @@
+//! The call `redact` over texts in memory: rows by hand, of the new pair and of what is told.
+use crate::in_memory::{DONE, do_job_beside};
+use std::process::Abort;
+use tape_core::{Fault, Watched};
+use tape_jobs::{Job, JobFault, Outcome, redact};
+use vt_term::Profile;
+
+/// A text that is taken out, a typescript, and its timing file.
+type Given<'a> = (&'a [char], &'a [u8], &'a [u8]);
+
+/// The new pair, what is told, and the outcome.
+type Wanted<'a> = (&'a [u8], &'a [u8], &'a [u8], Outcome);
+
+/// The text stood nowhere, or something of it may be left.
+const LEFT: Outcome = Outcome {
+    status: 1,
+    fault: None,
+};
+
+/// The pair has a fault.
+const REFUSED: Outcome = Outcome {
+    status: 3,
+    fault: Some(JobFault::File(Fault::BadCount(1))),
+};
+
+const SECRET: &[char] = &['s', 'e', 'c', 'r', 'e', 't'];
+
+const ROWS: [(Given<'static>, Wanted<'static>); 8] = [
+    // Over the border of two chunks.
+    (
+        (SECRET, b"Script started on X\nsecret x", b"0 2\n0.5 6\n"),
+        (
+            b"Script started on X\n****** x",
+            b"0.000000 2\n0.500000 6\n",
+            b"redacted 1\n",
+            DONE,
+        ),
+    ),
+    // Typed with a correction.
+    (
+        (SECRET, b"Script started on X\nsex\x08cret", b"0 8\n"),
+        (
+            b"Script started on X\nsex\x08cret",
+            b"0.000000 8\n",
+            b"redacted 0\n+ 0 0.000000 1 1 secret\n",
+            LEFT,
+        ),
+    ),
+    (
+        (&['a', 'a'], b"Script started on X\naaa", b"0 3\n"),
+        (
+            b"Script started on X\n***",
+            b"0.000000 3\n",
+            b"redacted 2\n",
+            DONE,
+        ),
+    ),
+    // Into the trailer.
+    (
+        (&['a', 'b'], b"Script started on X\nab", b"0 1\n"),
+        (
+            b"Script started on X\n**",
+            b"0.000000 1\n",
+            b"redacted 1\n",
+            LEFT,
+        ),
+    ),
+    // In the header, which tells no size then.
+    (
+        (
+            &['1', '0', '0'],
+            b"Script started on X [TERM=\"ansi\" COLUMNS=\"100\" LINES=\"30\"]\nab",
+            b"0 2\n",
+        ),
+        (
+            b"Script started on X [TERM=\"ansi\" COLUMNS=\"***\" LINES=\"30\"]\nab",
+            b"0.000000 2\n",
+            b"redacted 1\n",
+            LEFT,
+        ),
+    ),
+    // The closing line stays.
+    (
+        (
+            &['é'],
+            b"Script started on X\ncaf\xc3\xa9\nScript done on X\n",
+            b"0 5\n",
+        ),
+        (
+            b"Script started on X\ncaf**\nScript done on X\n",
+            b"0.000000 5\n",
+            b"redacted 1\n",
+            DONE,
+        ),
+    ),
+    // Nowhere.
+    (
+        (&['y'], b"Script started on X\nx", b"0 1\n"),
+        (
+            b"Script started on X\nx",
+            b"0.000000 1\n",
+            b"redacted 0\n",
+            LEFT,
+        ),
+    ),
+    (
+        (&['y'], b"Script started on X\nx", b"0.1\n"),
+        (b"", b"", b"", REFUSED),
+    ),
+];
+
+/// Redacts in memory, and compares what comes out.
+fn compare_redaction<R: Abort + AllocGlobal>(rt: &R, given: Given<'_>, wanted: Wanted<'_>) {
+    let (text, script, timing) = given;
+    let mut out = Watched::new(Vec::new(rt.alloc()));
+    let mut out_timing = Watched::new(Vec::new(rt.alloc()));
+    let mut told = Watched::new(Vec::new(rt.alloc()));
+    let mut found = Watched::new(Vec::new(rt.alloc()));
+    let mut note = Watched::new(Vec::new(rt.alloc()));
+    let outcome = redact(
+        rt.alloc(),
+        Profile::Vt100,
+        text,
+        &mut Watched::new(script),
+        &mut Watched::new(timing),
+        &mut out,
+        &mut out_timing,
+        &mut told,
+        &mut found,
+        &mut note,
+    );
+    let pair = (out.into_inner(), out_timing.into_inner());
+    let texts = (told.into_inner(), found.into_inner());
+    let count = texts.0.len();
+    assert_eq!(rt;
+        (pair.0.as_slice(), pair.1.as_slice(), outcome),
+        (wanted.0, wanted.1, wanted.3),
+        "{text:?}"
+    );
+    assert_eq!(rt;
+        (texts.0.as_slice(), Some(texts.1.as_slice())),
+        (
+            &wanted.2[..count.min(wanted.2.len())],
+            wanted.2.get(count..)
+        ),
+        "{text:?}"
+    );
+}
+
+#[test]
+fn redact_takes_a_text_out(rt: HostRuntime) {
+    for (given, wanted) in ROWS {
+        compare_redaction(&rt, given, wanted);
+    }
+}
+
+/// The job of that name writes the same pair, and has the same status.
+#[test]
+fn run_takes_a_text_out(rt: HostRuntime) {
+    let job = Job::Redact {
+        profile: Profile::Vt100,
+    };
+    for ((text, script, timing), wanted) in ROWS {
+        let ended = do_job_beside(rt.alloc(), job, text, script, timing, b"");
+        let pair = (ended.text.as_slice(), ended.new_timing.as_slice());
+        assert_eq!(rt;
+            (pair, ended.outcome),
+            ((wanted.0, wanted.1), wanted.3),
+            "{text:?}"
+        );
+    }
+}

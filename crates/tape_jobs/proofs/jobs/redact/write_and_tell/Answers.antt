@@ -1,0 +1,14 @@
+use Rattle.std.proofs.Common.{inl, refl}
+use Rattle.std.proofs.lemmas.Result.{err_from_is_err_and}
+use Rattle.tape_jobs.proofs.JobLemmas.{part_none}
+use Rattle.tape_jobs.proofs.jobs.redact.write_and_tell.Goals as goal
+
+pub returns-in_err-cleared : goal.returns-in_err-cleared
+returns-in_err-cleared g c =
+    let p = err_from_is_err_and c.from_residual.result c.from_residual.ensures.1 in
+    rw (p.1, p.2) (inl (c.in_err-cleared.ensures.fault, inl (inl (part_none _ _ _ c.requires.out, refl), refl, refl)))
+
+pub returns-in_err-scratch : goal.returns-in_err-scratch
+returns-in_err-scratch g c =
+    let p = err_from_is_err_and c.from_residual-in_err-scratch.result c.from_residual-in_err-scratch.ensures.1 in
+    rw (p.1, p.2) (inl (refl, inl (inl (part_none _ _ _ c.requires.out, refl), refl, refl)))

@@ -1,0 +1,53 @@
+//! The answers of a terminal of today.
+
+use super::{Answers, Asked, Question};
+use crate::job::JobFault;
+use crate::laws::stops_join;
+use crate::shared::put_hex_line;
+use std::alloc::Global;
+use std::io::Write;
+use tape_core::Watched;
+use tape_core::limits::LAST_MOMENT;
+use tape_seek::Session;
+use xterm_escaped::escaped;
+use xterm_picture::picture;
+use xterm_print::{changes, plain, seek};
+use xterm_term::Terminal;
+
+impl Answers for Terminal {
+    ghost use Rattle.std.specs.Prelude.{Some};
+    ghost use Rattle.tape_jobs.specs.Player.{measure_of};
+    ghost use Rattle.tape_jobs.specs.declared.player.Player.TheVariants.{Today};
+
+    ghost player = { λ size. Today (Some (measure_of size)) };
+
+    #[tactic(auto, using(crate::proofs::PlayerLemmas::today_of_size), unfolding(crate::specs::Moment::drawn_at, crate::specs::Moment::printed_at, crate::specs::Moment::sent_at))]
+    fn put_answer<O: Write>(
+        session: &mut Session<Terminal>,
+        question: Question,
+        out: &mut Watched<O>,
+    ) -> Result<(), JobFault> {
+        stops_join::<O>();
+        let view = seek(session, question.at)?;
+        match question.asked {
+            Asked::Screen => plain(view.terminal(), out)?,
+            Asked::Escaped => escaped(view.terminal(), out)?,
+            Asked::Picture => picture(view.terminal(), question.at.min(LAST_MOMENT), out)?,
+            Asked::Reports => put_hex_line(view.reports(), out)?,
+        }
+        Ok(())
+    }
+
+    #[tactic(auto, using(crate::proofs::PlayerLemmas::changes_of_size))]
+    fn put_changes<O: Write>(
+        alloc: Global,
+        session: &mut Session<Terminal>,
+        from: Option<u64>,
+        to: u64,
+        out: &mut Watched<O>,
+    ) -> Result<(), JobFault> {
+        stops_join::<O>();
+        changes(alloc, session, from, to, out)?;
+        Ok(())
+    }
+}

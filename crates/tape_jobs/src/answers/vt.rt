@@ -1,0 +1,50 @@
+//! The answers of a VT.
+
+use super::{Answers, Asked, Question};
+use crate::job::JobFault;
+use crate::laws::stops_join;
+use crate::shared::put_hex_line;
+use screen_picture::picture;
+use screen_print::{changes, escaped, plain};
+use std::alloc::Global;
+use std::io::Write;
+use tape_core::Watched;
+use tape_core::limits::LAST_MOMENT;
+use tape_seek::Session;
+use vt_term::Terminal;
+
+impl Answers for Terminal {
+    ghost use Rattle.tape_jobs.specs.declared.player.Player.TheVariants.{Vt};
+
+    ghost player = { λ profile. Vt profile };
+
+    #[tactic(auto, unfolding(crate::specs::Moment::drawn_at, crate::specs::Moment::printed_at, crate::specs::Moment::screen_text, crate::specs::Moment::sent_at))]
+    fn put_answer<O: Write>(
+        session: &mut Session,
+        question: Question,
+        out: &mut Watched<O>,
+    ) -> Result<(), JobFault> {
+        stops_join::<O>();
+        let view = session.seek(question.at)?;
+        match question.asked {
+            Asked::Screen => plain(view.terminal(), out)?,
+            Asked::Escaped => escaped(view.terminal(), out)?,
+            Asked::Picture => picture(view.terminal(), question.at.min(LAST_MOMENT), out)?,
+            Asked::Reports => put_hex_line(view.reports(), out)?,
+        }
+        Ok(())
+    }
+
+    #[tactic(auto, unfolding(crate::specs::Player::changes_of))]
+    fn put_changes<O: Write>(
+        _alloc: Global,
+        session: &mut Session,
+        from: Option<u64>,
+        to: u64,
+        out: &mut Watched<O>,
+    ) -> Result<(), JobFault> {
+        stops_join::<O>();
+        changes(session, from, to, out)?;
+        Ok(())
+    }
+}
