@@ -28,10 +28,12 @@ bin/typetool: $(SOURCES)
 	mkdir -p bin
 	cp crates/typetool/out/typetool bin/typetool
 
-# The shipped recording as a page, which any browser opens.
+# The shipped recordings as pages, which any browser opens.
 demo: bin/typetool
 	bin/typetool page examples/tour.script examples/tour.timing >bin/tour.html
+	bin/typetool page --profile xterm examples/today/greet.script examples/today/greet.timing >bin/greet.html
 	@echo "file://$(CURDIR)/bin/tour.html"
+	@echo "file://$(CURDIR)/bin/greet.html"
 
 # A look over shell, Python, layout, the pages and the edits, in seconds and without the program.
 LINTS := tests/edits_apply.py tests/reading.py tests/pages.py 'assets/make_page.py --check' \

@@ -3,10 +3,10 @@
 _typetool() {
     local word=${COMP_WORDS[COMP_CWORD]} last=${COMP_WORDS[COMP_CWORD - 1]} flags
     local -A taken=(
-        [due]='--at --help' [info]='--help' [check]='--profile --help' [screen]='--at --escaped --profile --size --help' [save]='--help'
-        [picture]='--at --profile --size --help' [page]='--profile --title --help' [cast]='--profile --size --help'
-        [mend]='--last --headless --help'
-        [changes]='--from --to --profile --size --help' [find]='--from --to --profile --help' [reports]='--at --profile --size --help' [session]='--every --profile --help'
+        [due]='--at --help' [info]='--help' [check]='--profile --size --help' [screen]='--at --escaped --profile --size --help' [save]='--help'
+        [picture]='--at --profile --size --help' [page]='--profile --size --title --help' [cast]='--profile --size --help'
+        [mend]='--last --headless --help' [redact]='--profile --size --help'
+        [changes]='--from --to --profile --size --help' [find]='--from --to --profile --help' [reports]='--at --profile --size --help' [session]='--every --profile --size --help'
     )
     if [ "$COMP_CWORD" = 1 ]; then
         mapfile -t COMPREPLY < <(compgen -W "${!taken[*]} help --help --version" -- "$word")
@@ -25,7 +25,7 @@ _typetool() {
     case $last in
     --profile)
         flags='vt100 vt102'
-        case ${COMP_WORDS[1]} in screen | picture | changes | reports | cast) flags+=' xterm' ;; esac
+        case ${COMP_WORDS[1]} in check | screen | picture | changes | reports | page | cast | redact | session) flags+=' xterm' ;; esac
         mapfile -t COMPREPLY < <(compgen -W "$flags" -- "$word")
         ;;
     --at | --from | --to | --every | --size | --title) COMPREPLY=() ;;

@@ -1,5 +1,5 @@
 # Completion of typetool's command line for fish.
-set -l commands due info check screen picture changes find reports page cast save mend session
+set -l commands due info check screen picture changes find reports page cast save mend redact session
 set -l alone "not __fish_seen_subcommand_from $commands help"
 complete -c typetool -n 'not __fish_seen_subcommand_from help' -s h -l help -d 'Print help'
 complete -c typetool -n $alone -s V -l version -d 'Print version'
@@ -17,6 +17,7 @@ complete -c typetool -n $alone -f -a page -d 'The recording as an HTML file'
 complete -c typetool -n $alone -f -a cast -d 'The recording as an asciicast'
 complete -c typetool -n $alone -f -a save -d 'Edits, written back'
 complete -c typetool -n $alone -f -a mend -d 'All that can be read, written anew'
+complete -c typetool -n $alone -f -a redact -d 'Both files without a text'
 complete -c typetool -n $alone -f -a session -d 'Answers to requests'
 complete -c typetool -n '__fish_seen_subcommand_from due screen picture reports' -x -l at -d 'The moment, in seconds'
 complete -c typetool -n '__fish_seen_subcommand_from screen' -l escaped -d 'A text that draws the screen again'
@@ -24,8 +25,8 @@ complete -c typetool -n '__fish_seen_subcommand_from mend' -l last -d 'Begin at 
 complete -c typetool -n '__fish_seen_subcommand_from mend' -l headless -d 'Put a header line before the typescript'
 complete -c typetool -n '__fish_seen_subcommand_from changes find' -x -l from -d 'Chunks that are due after this, in seconds'
 complete -c typetool -n '__fish_seen_subcommand_from changes find' -x -l to -d 'Chunks that are due by this, in seconds'
-complete -c typetool -n '__fish_seen_subcommand_from check screen picture changes find reports page cast session' -x -l profile -a 'vt100 vt102' -d 'Which terminal plays'
-complete -c typetool -n '__fish_seen_subcommand_from screen picture changes reports cast' -x -l profile -a xterm -d 'A terminal of today'
-complete -c typetool -n '__fish_seen_subcommand_from screen picture changes reports cast' -x -l size -d 'Columns, x and lines of the terminal of today'
+complete -c typetool -n '__fish_seen_subcommand_from check screen picture changes find reports page cast redact session' -x -l profile -a 'vt100 vt102' -d 'Which terminal plays'
+complete -c typetool -n '__fish_seen_subcommand_from check screen picture changes reports page cast redact session' -x -l profile -a xterm -d 'A terminal of today'
+complete -c typetool -n '__fish_seen_subcommand_from check screen picture changes reports page cast redact session' -x -l size -d 'Columns, x and lines of the terminal of today'
 complete -c typetool -n '__fish_seen_subcommand_from page' -x -l title -d 'The title of the page'
 complete -c typetool -n '__fish_seen_subcommand_from session' -x -l every -d 'Chunks between terminals that are kept'

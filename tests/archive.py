@@ -179,6 +179,11 @@ class Archive:
             return dict(zip(names, pool.map(lambda name: self.ask(name, *words), names)))
 
 
+def statuses(asked, *wanted):
+    """The recordings that end with one of these statuses."""
+    return {name for name, (status, _, _) in asked.items() if status in wanted}
+
+
 def tagged(texts):
     """The lines of each recording behind its name and a tab."""
     return sorted(f"{name}\t{line}" for name, text in texts for line in text.split("\n")[:-1])
@@ -308,8 +313,8 @@ def try_xargs(archive, asked):
 
 def try_parallel(archive, asked):
     compare(archive, "parallel", archive.run(2), asked)
-    statuses = [int(line.split("\t")[6]) for line in archive.file("log").splitlines()[1:]]
-    check("parallel: log", sorted(statuses), sorted(status for status, _, _ in asked.values()))
+    logged = [int(line.split("\t")[6]) for line in archive.file("log").splitlines()[1:]]
+    check("parallel: log", sorted(logged), sorted(int(status == 3) for status, _, _ in asked.values()))
 
 
 def try_resumed(archive, asked):
@@ -378,8 +383,10 @@ def main():
         archive = Archive(place, program, count)
         asked = archive.asked("find", "err")
         plain = {name: fault for name, fault in archive.told.items() if fault}
-        told = {name: errors.splitlines()[0] for name, (status, _, errors) in asked.items() if status}
+        told = {name: errors.splitlines()[0] for name, (status, _, errors) in asked.items() if status == 3}
         check("what can't be read", told, plain)
+        check("where it stands", {name for name, (_, out, _) in asked.items() if out}, statuses(asked, 0))
+        check("where it doesn't", {name for name, (_, out, _) in asked.items() if not out}, statuses(asked, 1, 3))
         try_list(archive)
         try_xargs(archive, asked)
         if not skip.lacks("parallel", "asking by GNU parallel, on machines and on a cluster"):

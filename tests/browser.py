@@ -253,7 +253,7 @@ def try_find(browser, recording, address, text):
     browser.until("at.found.textContent !== ''")
     screens = [plain_find.rows_of(recording.escaped(count)) for count in range(len(recording.chunks) + 1)]
     dues = [recording.seconds(count + 1) for count in range(len(recording.chunks))]
-    lines = plain_find.find_lines(screens, dues, range(len(dues)), text).splitlines()
+    lines = plain_find.find_lines(list(zip(screens, screens[1:])), dues, range(len(dues)), None, text).splitlines()
     wanted = [words for words in (line.split(" ", 5) for line in lines) if words[0] == "+"]
     listed = "[...at.moments.querySelectorAll('button')].map(button => [button.title, button.children[1].textContent])"
     told = browser.value(listed)

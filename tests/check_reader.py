@@ -90,6 +90,102 @@ def names_of_escape(inters, last):
     return [] if final in rows else [b"ESC " + inters + b" " + last]
 
 
+QUIET_FINALS = {False: set("qt"), True: set("cnqrsum")}
+TODAY_ESCAPES = set("DEMHZc78=>k\\")
+TODAY_LINES = set("8")
+TODAY_SEQUENCES = set("ABCDEFGHIJKLMPSTXZ@`abcdefgmnrsux")
+TODAY_MODES = {2, 3, 45, 69, 95}
+TODAY_TERMS = set(
+    "xterm screen tmux linux vt100 vt102 vt220 rxvt alacritty kitty foot st gnome konsole putty ansi".split()
+)
+
+
+def today_of_control(text, last):
+    """What a terminal of today leaves unplayed of a control sequence."""
+    private = text.startswith(b"?")
+    rest, final = (text[1:] if private else text), last.decode()
+    if re.search(rb"[^0-9;]", rest):
+        quiet = final in "cnqtu" or (final == "p" and text != b"!") or (final == "m" and b":" not in text)
+        return [] if quiet else [b"ESC [ .. " + last]
+    if final in "hl":
+        params = [number(piece) for piece in rest.split(b";")[:16]]
+        return [b"ESC [ ? %d " % param + last for param in params if private and param in TODAY_MODES]
+    if final in QUIET_FINALS[private] or (not private and final in TODAY_SEQUENCES):
+        return []
+    return [b"ESC [ " + (b"? " if private else b"") + last]
+
+
+def today_of_escape(inters, last):
+    """What a terminal of today leaves unplayed of an escape sequence."""
+    final = last.decode()
+    if len(inters) > 1:
+        return [b"ESC .. " + last]
+    if not inters:
+        return [] if final in TODAY_ESCAPES else [b"ESC " + last]
+    if inters in b" %*+-./":
+        return []
+    rows = {b"#": TODAY_LINES, b"(": SETS, b")": SETS}.get(inters, set())
+    return [] if final in rows else [b"ESC " + inters + b" " + last]
+
+
+def today_passes(term):
+    return re.split(rb"[-.]", term)[0].decode("latin-1") in TODAY_TERMS
+
+
+class Today:
+    """Reads the bytes of a body as a terminal of today does: unplayed sequences, and parts that are no UTF-8."""
+
+    def __init__(self, body):
+        self.counts, self.parts = {}, 0
+        ground, at = bytearray(), 0
+        # Pieces: a string or a title up to its end, a sequence, or bytes on ground up to the next ESC.
+        while at < len(body):
+            if body[at] != 27:
+                ground.append(body[at])
+                at += 1
+                continue
+            self.decode(ground)
+            ground = bytearray()
+            at = self.sequence(body, at + 1)
+        self.decode(ground)
+
+    def decode(self, ground):
+        self.parts += bytes(ground).decode("utf-8", "replace").count("\ufffd") - bytes(ground).count(b"\xef\xbf\xbd")
+
+    def skip(self, body, at, ends):
+        """Behind the byte that ends a string or a title, or at the ESC that does."""
+        while at < len(body) and body[at] != 27:
+            at += 1
+            if body[at - 1] in ends:
+                break
+        return at
+
+    def sequence(self, body, at):
+        """Behind the sequence whose ESC was before."""
+        text = b""
+        while at < len(body):
+            byte = body[at : at + 1]
+            at += 1
+            if byte == b"\x1b":
+                return at - 1
+            if byte in b"\x18\x1a":
+                return at
+            if not b" " <= byte <= b"~":
+                continue
+            if not text and byte in b"PX]^_":
+                return self.skip(body, at, (7, 24, 26))
+            if (text[:1] == b"[" and byte >= b"@") or (text[:1] != b"[" and byte >= b"0" and text + byte != b"["):
+                self.finish(text, byte)
+                return self.skip(body, at, (7, 24, 26)) if text + byte == b"k" else at
+            text += byte
+        return at
+
+    def finish(self, text, last):
+        names = today_of_control(text[1:], last) if text[:1] == b"[" else today_of_escape(text, last)
+        for name in names:
+            self.counts[name] = self.counts.get(name, 0) + 1
+
+
 class Reader:
     """Reads the bytes of a body: what is pending, whether it is a string, and the mode."""
 
@@ -160,13 +256,20 @@ def facts(line):
         yield b"size " + b"x".join(size)
 
 
-def parts(profile, line, trailer):
+def parts(profile, line, trailer, asked=None):
     """The notes that are told to whoever plays the recording, by their names."""
     size, term = size_of(line), value(b"TERM", line)
     told = {}
-    if size and size != [b"80", b"24"]:
-        told["size"] = b"size: recorded at " + b"x".join(size) + b", played at 80x24"
-    if term is not None and not passes(profile, term):
+    if profile == "xterm":
+        given = [int(text) for text in size] if size else [0, 0]
+        usual = given if 2 <= given[0] <= 1000 and 1 <= given[1] <= 500 else [80, 24]
+        played = list(asked or usual)
+        other = size and given != played
+    else:
+        played, other = [80, 24], size and size != [b"80", b"24"]
+    if other:
+        told["size"] = b"size: recorded at " + b"x".join(size) + b", played at %dx%d" % tuple(played)
+    if term is not None and not (today_passes(term) if profile == "xterm" else passes(profile, term)):
         told["term"] = b"term: recorded under " + shown(term) + b", played as " + profile.encode()
     sessions = sum(text.startswith(OPENING) for text in trailer.split(b"\n"))
     if sessions:
@@ -174,24 +277,29 @@ def parts(profile, line, trailer):
     return told
 
 
-def note_line(profile, header, trailer):
+def note_line(profile, header, trailer, asked=None):
     """The line that is told to whoever plays the recording, or nothing."""
-    told = parts(profile, header.removesuffix(b"\n"), trailer)
+    told = parts(profile, header.removesuffix(b"\n"), trailer, asked)
     text = b"; ".join(told.values())
     if len(text) > 200:
         text = text[:200] + b".."
-    return b"typetool: note: " + text + b" (see typetool check)\n" if told else b""
+    advice = b", or try --profile xterm" if profile != "xterm" and told.keys() & {"size", "term"} else b""
+    return b"typetool: note: " + text + b" (see typetool check" + advice + b")\n" if told else b""
 
 
-def notes(profile, line, body, trailer):
-    told = parts(profile, line, trailer)
+def notes(profile, line, body, trailer, asked=None):
+    told = parts(profile, line, trailer, asked)
     if not line.startswith(OPENING):
         yield b"note header: not script's"
     for name in ("size", "term"):
         if name in told:
             yield b"note " + told[name]
     high = sum(byte >= 128 for byte in body)
-    if high:
+    if profile == "xterm":
+        broken = Today(body).parts
+        if broken:
+            yield b"note bytes: %d parts that are no UTF-8" % broken
+    elif high:
         yield b"note bytes: %d from 128 on: this terminal has no UTF-8" % high
     if trailer and not re.fullmatch(rb"\nScript done on [^\n]*\n?", trailer):
         yield b"note trailer: %d bytes behind the last chunk are never shown" % len(trailer)
@@ -200,18 +308,21 @@ def notes(profile, line, body, trailer):
 
 
 def unplayed(profile, body):
-    reader = Reader(profile)
-    for byte in body:
+    reader = Today(body) if profile == "xterm" else Reader(profile)
+    for byte in body if profile != "xterm" else b"":
         reader.take(byte)
     for name in sorted(reader.counts):
         yield b"unplayed %d " % reader.counts[name] + name
 
 
-def check(profile, header, body, trailer):
-    """The lines, and the status."""
+def check(profile, header, body, trailer, asked=None):
+    """The lines, and the status. For xterm `asked` is the size that is asked for, if one is."""
     line = header.removesuffix(b"\n")
-    told = [*notes(profile, line, body, trailer), *unplayed(profile, body)]
-    return b"".join(text + b"\n" for text in [*facts(line), *told]), 1 if told else 0
+    told = [*notes(profile, line, body, trailer, asked), *unplayed(profile, body)]
+    doubts = (b"note size", b"note term", b"note bytes", b"unplayed ")
+    advised = profile != "xterm" and any(text.startswith(doubts) for text in told)
+    advice = [b"try --profile xterm"] if advised else []
+    return b"".join(text + b"\n" for text in [*facts(line), *told, *advice]), 1 if told else 0
 
 
 def cut(script, timing):

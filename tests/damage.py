@@ -4,15 +4,17 @@
     tests/damage.py TYPETOOL [PAIRS [SEED]]
 
 Each pair is a real recording, or pieces of several, whose bytes were flipped, cut, doubled and joined. Every command
-has to return in time, with a status of the table: where the plain reader (plain_reader.py) finds a fault, 1 and just
-that fault, nothing written; else 0, or 1 where `save` refuses a request line or `check` notes something, and the text
-that the plain readers come to, where they know it (check_reader.py: of checks, and the note on standard error). What
-`save` writes is the pair that the plain reader's edits come to.
+has to return in time, with a status of the table: where the plain reader (plain_reader.py) finds a fault, 1 (of `find`
+and `redact` 3) and just that fault, nothing written; else 0, or 1 where `save` refuses a request line, `check` notes
+something or a text is left, and the text that the plain readers come to, where they know it (check_reader.py: of
+checks, and the note on standard error). What `save` writes is the pair that the plain reader's edits come to; what
+`redact` writes has * for each byte of a text that stood there.
 The last line is 'N passed, M failed'.
 """
 import concurrent.futures
 import os
 import random
+import re
 import subprocess
 import sys
 import tempfile
@@ -116,9 +118,9 @@ class Damage:
         self.expect("check", self.run(["check", "s", "t"]), (status, text, b""))
         self.played(recording)
         self.edited(recording)
+        self.redacted(recording, script)
 
     def refused(self, errors):
-        told = (1, b"", errors)
         for words in (
             ["due", "--at", "1"],
             ["info"],
@@ -132,9 +134,12 @@ class Damage:
             ["reports", "--at", "1"],
             ["session"],
         ):
-            self.expect(words[0], self.run([*words, "s", "t"], b"info\n"), told)
-        self.expect("save", self.run(["save", "s", "t", "s2", "t2"], b"cap 1\n"), told)
+            status = 3 if words[0] == "find" else 1
+            self.expect(words[0], self.run([*words, "s", "t"], b"info\n"), (status, b"", errors))
+        self.expect("save", self.run(["save", "s", "t", "s2", "t2"], b"cap 1\n"), (1, b"", errors))
         self.expect("what save left", (self.text("s2"), self.text("t2")), (b"", b""))
+        self.expect("redact", self.run(["redact", "a", "s", "t", "s3", "t3"]), (3, b"", errors))
+        self.expect("what redact left", (self.text("s3"), self.text("t3")), (b"", b""))
 
     def played(self, recording):
         at = moment(self.rng)
@@ -146,8 +151,8 @@ class Damage:
         status, reports, errors = self.run(["reports", "--at", at, "s", "t"])
         self.expect("reports", (status, len(reports) % 2, errors), (0, 1, self.note))
         for words in (["picture", "--at", at], ["find", "a"], ["page"], ["cast"]):
-            status, _, errors = self.run([*words, "s", "t"])
-            self.expect(words[0], (status, errors), (0, self.note))
+            status, text, errors = self.run([*words, "s", "t"])
+            self.expect(words[0], (status, errors), (0 if text else 1, self.note))
         self.changed(recording, at, us)
 
     def changed(self, recording, at, us):
@@ -211,6 +216,34 @@ class Damage:
         else:
             self.expect("save", got, (0, b"", b""))
         self.expect("what save wrote", (self.text("s2"), self.text("t2")), wanted)
+
+    def redacted(self, recording, script):
+        """A piece of the typescript as TEXT: each byte of it is *, and it stands where find says it does."""
+        text = piece_of(self.rng, script)
+        wanted, count = without(script, text)
+        status, told, errors = self.run(["redact", "--", text, "s", "t", "s3", "t3"])
+        self.expect("what redact wrote", (self.text("s3"), self.text("t3")), (wanted, plain.save(recording, b"")[1]))
+        lines = self.run(["find", "--", text, "s3", "t3"])[1]
+        self.expect(f"redact {text}", (told, errors), (b"redacted %d\n%s" % (count, lines), self.note))
+        new = plain.read(wanted, self.text("t"))
+        sizes = [check_reader.size_of(header.removesuffix(b"\n")) for header in (recording[0], new[0])]
+        usual = not new[2] or re.fullmatch(rb"\nScript done on [^\n]*\n?", new[2])
+        good = count > 0 and not lines and sizes[0] == sizes[1] and usual
+        self.expect(f"redact {text}, the status", status, 0 if good else 1)
+
+
+def piece_of(rng, script):
+    """Some characters that stand in a typescript one behind the other, or none of it."""
+    at = rng.randrange(len(script))
+    text = re.match(rb"[ -)+-~]*", script[at : at + rng.choice([1, 1, 2, 3, 8])])[0]
+    return text if text.strip(b" ") else b"e"
+
+
+def without(script, text):
+    """A typescript with * for each byte of the text, wherever it stands, and how often it does."""
+    places = [at for at in range(len(script)) if script.startswith(text, at)]
+    covered = {at + n for at in places for n in range(len(text))}
+    return bytes(42 if at in covered else byte for at, byte in enumerate(script)), len(places)
 
 
 def one(folder, number, whole):

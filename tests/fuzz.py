@@ -3,15 +3,18 @@
 
     tests/fuzz.py TYPETOOL [RECORDINGS [SEED]]
 
-The screens that find lines speak of are drawn by `screen --escaped` after each chunk of the same bytes a second apart,
-and read by plain_screen.py; plain_find.py says what stands there, plain_picture.py how a screen is drawn, and
-check_reader.py what is told of the recording itself, and the note on standard error.
+The screens that find lines speak of are those of a page of the same bytes, a chunk each: one run of the program draws
+them all (`screen` for each byte takes an hour), and page_data.py says that pages hold what `session` tells.
+plain_find.py says what stands there, plain_picture.py how a screen is drawn, and check_reader.py what is told of the
+recording itself, and the note on standard error.
 
 The last line is 'N passed, M failed'.
 """
 import concurrent.futures
+import json
 import os
 import random
+import re
 import subprocess
 import sys
 import tempfile
@@ -27,6 +30,7 @@ program = os.path.abspath(sys.argv[1])
 count = int(sys.argv[2]) if len(sys.argv) > 2 else 200
 seed = int(sys.argv[3]) if len(sys.argv) > 3 else 1
 PATIENCE = 20
+DATA = re.compile('<script type="application/json" id="entries">(.*?)</script>', re.S)
 TEXTS = [
     "err",
     "er",
@@ -64,12 +68,22 @@ def written(folder, name, recording):
 
 
 def screens_of(folder, profile, recording):
-    """What stands on the screen before the first chunk and after each, row by row."""
+    """The rows after each byte of the body, from none on."""
     header, chunks, trailer = recording
-    pair = written(folder, "apart", (header, [(10**6, text) for _, text in chunks], trailer))
-    for after in range(len(chunks) + 1):
-        _, text, _ = run(folder, "screen", "--at", str(after), "--escaped", "--profile", profile, *pair)
-        yield plain_find.rows_of(text)
+    body = b"".join(text for _, text in chunks)
+    pair = written(folder, "apart", (header, [(0, body[at : at + 1]) for at in range(len(body))], trailer))
+    entries = json.loads(DATA.search(run(folder, "page", "--profile", profile, *pair)[1].decode())[1])
+    for (_, flags, *_), rows in zip(entries, plain_picture.folded(entries)):
+        columns = 132 if flags & 1 else 80
+        yield ["".join(row[2::2]).ljust(columns if row[0] == plain_screen.SINGLE else columns // 2) for row in rows]
+
+
+def by_chunk(chunks, screens):
+    """The screens before each chunk and after each of its bytes."""
+    at = 0
+    for _, text in chunks:
+        yield screens[at : at + len(text) + 1]
+        at += len(text)
 
 
 def bounds_of(rng, moments):
@@ -96,12 +110,19 @@ def found(rng, folder, profile, recording, pair):
         index for index, due in enumerate(moments) if (first is None or due > first) and (last is None or due <= last)
     ]
     dues = [plain_reader.written(due).decode() for due in moments]
-    wanted = plain_find.find_lines(list(screens_of(folder, profile, recording)), dues, asked, text).encode()
+    screens = list(screens_of(folder, profile, recording))
+    start = None
+    if first is not None:
+        count = sum(due <= first for due in moments)
+        fed = sum(len(text) for _, text in recording[1][:count])
+        start = (plain_reader.written(first).decode(), count, screens[fed])
+    wanted = plain_find.find_lines(list(by_chunk(recording[1], screens)), dues, asked, start, text).encode()
     words = ["--profile", profile]
     words += [] if first is None else ["--from", plain_reader.written(first).decode()]
     words += [] if last is None else ["--to", plain_reader.written(last).decode()]
     told = run(folder, "find", *words, "--", text, *pair)
-    return f"find {words} {text!r}", told, (0, wanted, check_reader.note_line(profile, recording[0], recording[2]))
+    note = check_reader.note_line(profile, recording[0], recording[2])
+    return f"find {words} {text!r}", told, (0 if wanted else 1, wanted, note)
 
 
 def pictured(rng, folder, profile, recording, pair):

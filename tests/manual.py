@@ -131,7 +131,7 @@ def in_shells():
     # bash cuts words at =, fish doesn't.
     for words in (["--profile", "="], ["--profile", "=", "vt"]):
         check(f"bash: {''.join(words)}", offered("bash", "typetool", "find", *words), {"vt100", "vt102"})
-    for command in "screen", "picture", "changes", "reports", "cast":
+    for command in "screen", "picture", "changes", "reports", "page", "cast", "redact", "session":
         of_today = offered("bash", "typetool", command, "--profile", "")
         check(f"bash: profiles of {command}", of_today, {"vt100", "vt102", "xterm"})
     wanted = {"--profile=vt100", "--profile=vt102"}

@@ -64,6 +64,7 @@ def recording(folder):
 
 
 REQUESTS = b"insert 0 0.5 %s\ndelete 1 3\nreplace 2 1b5b366e\nretime 1 0.25\ncap 0.5\n" % (b"41" * 100_000)
+QUESTIONS = b"screen 99\nreports 99\nchanges - 99\nscreen 0\nlog\ninfo\n"
 COMMANDS = [
     (["due", "--at", "99", "s", "t"], b""),
     (["info", "s", "t"], b""),
@@ -77,7 +78,9 @@ COMMANDS = [
     (["cast", "s", "t"], b""),
     (["save", "s", "t", "s2", "t2"], REQUESTS),
     (["mend", "s", "t", "s2", "t2"], b""),
-    (["session", "s", "t"], REQUESTS + b"screen 99\nreports 99\nchanges - 99\nscreen 0\nlog\ninfo\n"),
+    (["redact", "line 5", "s", "t", "s2", "t2"], b""),
+    (["session", "s", "t"], REQUESTS + QUESTIONS),
+    (["session", "--profile", "xterm", "s", "t"], REQUESTS + QUESTIONS),
 ]
 
 
@@ -109,7 +112,7 @@ def refusals(words, stdin, folder, start):
         remove_new(folder)
         got = run(words, folder, limit, stdin)
         if not is_right(got, (read(folder, "s2"), read(folder, "t2")), whole, whole_files):
-            print(f"FAILED {words[0]} under {limit} bytes: status {got[0]}, {got[2][:200]}")
+            print(f"FAILED {' '.join(words)} under {limit} bytes: status {got[0]}, {got[2][:200]}")
             return None
         if got[0] == 0:
             return refused
@@ -124,7 +127,7 @@ def main():
         start = least()
         for words, stdin in COMMANDS:
             refused = refusals(words, stdin, folder, start)
-            print(f"{words[0]}: {refused} limits refused it memory")
+            print(f"{' '.join(words)}: {refused} limits refused it memory")
             failed += not refused
     print(f"memory: {len(COMMANDS) - failed} passed, {failed} failed")
     return failed > 0

@@ -6,13 +6,17 @@
 Of each recording of tests/ and examples/ and of so many random ones (500 if not given), in both profiles: the rows that
 the entries fold to are those of the same bytes a second apart, as `session` answers; the whole data is what
 plain_picture.py makes of what `screen --escaped` prints there; and before and behind it stands the player of assets/,
-with a title that would be markup.
+with a title that would be markup. As many random streams (random_today.py) and the recordings of examples/today are
+played by the terminal of today: the data is what plain_today_drawing.py makes of their chunks.
 The last line is 'N passed, M failed'.
 """
 import concurrent.futures
+import glob
+import itertools
 import json
 import os
 import random
+import re
 import subprocess
 import sys
 import tempfile
@@ -22,7 +26,10 @@ import pictures
 import plain_picture
 import plain_reader
 import plain_screen
+import plain_today_drawing
 import random_recordings
+import random_today
+import today_fuzz
 
 program = os.path.abspath(sys.argv[1])
 count = int(sys.argv[2]) if len(sys.argv) > 2 else 500
@@ -83,6 +90,38 @@ def compare(folder, profile, recording):
     return "" if data == plain_picture.data(screens, list(dues_of(recording))) else f"other data: {data}"
 
 
+def compare_today(folder, size, recording):
+    """What is wrong with the page of a recording that the terminal of today plays at a size."""
+    pair = written(folder, "made", recording)
+    words = ["--profile", "xterm", "--size", f"{size[0]}x{size[1]}", "--title", TITLE]
+    status, page, told = run(folder, "page", *words, *pair)
+    if status:
+        return f"status {status}, {told}"
+    head, tail = PLAYER
+    chunks = [text for _, text in recording[1]]
+    wanted = head + plain_today_drawing.data(size, chunks, list(dues_of(recording))).encode() + tail
+    return "" if page == wanted else f"other data of {size} {chunks}: {page[len(head):]}"
+
+
+def today(number):
+    """What is wrong with the page of a random stream."""
+    rng = random.Random(seed * 1_000_003 + number)
+    size, text = random_today.size(rng), random_today.stream(rng)
+    chunks = [(rng.choice([0, 1, 500_000]), chunk) for chunk in today_fuzz.cut(rng, text) if chunk]
+    with tempfile.TemporaryDirectory(prefix="page-") as folder:
+        problem = compare_today(folder, size, (today_fuzz.HEADER, chunks, b""))
+    return [f"stream {number}: {problem[:2000]}"] if problem else []
+
+
+def shipped(script):
+    """What is wrong with the page of a shipped recording of today."""
+    with tempfile.TemporaryDirectory(prefix="page-") as folder:
+        recording = plain_reader.read(pictures.read(script), pictures.read(script.removesuffix("script") + "timing"))
+        size = re.search(rb'COLUMNS="(\d+)" LINES="(\d+)"', recording[0])
+        problem = compare_today(folder, (int(size[1]), int(size[2])), recording)
+    return [f"{script}: {problem[:2000]}"] if problem else []
+
+
 def real():
     """Name and recording of each pair of files."""
     for script, timing in pictures.pairs():
@@ -114,12 +153,16 @@ def player():
 
 
 PLAYER = player()
+TODAY = sorted(
+    glob.glob(os.path.join(os.path.dirname(os.path.abspath(__file__)), "..", "examples", "today", "*.script"))
+)
 
 
 def main():
     passed = failed = 0
     with concurrent.futures.ThreadPoolExecutor(os.cpu_count()) as pool:
-        for problems in pool.map(one, [*real(), *made()]):
+        answers = pool.map(one, [*real(), *made()]), pool.map(today, range(count)), pool.map(shipped, TODAY)
+        for problems in itertools.chain(*answers):
             passed, failed = passed + (not problems), failed + bool(problems)
             for problem in problems:
                 print(f"FAILED {problem}")

@@ -209,8 +209,9 @@ def log_line(word, values):
     return b" ".join([word, *(write[kind](value) for kind, value in zip(KINDS[word], values))]) + b"\n"
 
 
-def session(recording, requests):
-    """(status, text) of the answers to edits, `info`, `log` and lines of no known form: there is no terminal here."""
+def session(recording, requests, ask=lambda chunks, words: None):
+    """(status, text) of the answers to edits, `info`, `log` and lines of no known form. What is asked of a terminal is
+    answered by `ask`, which has None for everything else: there is no terminal here."""
     header, chunks, trailer = recording
     chunks, log, out, status = [list(chunk) for chunk in chunks], b"", b"", 0
     for line in lines_of(requests):
@@ -222,6 +223,8 @@ def session(recording, requests):
             out += info((header, chunks, trailer))
         elif fields(line) == [b"log"]:
             out += log + b"end\n"
+        elif (answer := ask(chunks, fields(line))) is not None:
+            out += answer
         elif fault:
             out, status = out + f"refused {fault}\n".encode(), 1
         else:

@@ -105,12 +105,15 @@ missing='no such file or directory'
 seconds=$(hint 'SECONDS is digits, and a point and digits where wanted: 12.5')
 unwritten="typetool: write fault\n$(hint 'writing standard output')"
 
-# refused NAME STATUS FAULT HINT SCRIPT TIMING: a damaged pair, which is only told, whatever the command.
+# refused NAME STATUS FAULT HINT SCRIPT TIMING: a damaged pair, which is only told, whatever the command. That of find is
+# no answer.
 refused() {
-    local command words
+    local command words wanted
     for command in 'due --at 1' info 'screen --at 1' 'picture --at 1' check 'changes --to 1' 'find a' 'reports --at 1' page cast session; do
         read -ra words <<<"$command"
-        check "$1: ${words[0]}" "$2" '' "typetool: $3\n$(hint "$4")" "${words[@]}" "$5" "$6" </dev/null
+        wanted=$2
+        [ "${words[0]}" != find ] || wanted=3
+        check "$1: ${words[0]}" "$wanted" '' "typetool: $3\n$(hint "$4")" "${words[@]}" "$5" "$6" </dev/null
     done
 }
 
@@ -356,6 +359,32 @@ holds 'a header that is made' new.script 'Script started\nno line'
 printf '%bold\nScript done on X\n%bab' "$head" 'Script started on Y\n' >appended.script
 mended 'a typescript that was appended to' 0 '' '' appended.script ab.timing --last
 holds 'a typescript that was appended to' new.script 'Script started on Y\nab'
+# redacted NAME STATUS OUT TEXT SCRIPT TIMING: takes a text out of a pair into new.script and new.timing.
+redacted() {
+    rm -f new.script new.timing
+    "$program" redact "$4" "$5" "$6" new.script new.timing </dev/null >out.txt 2>err.txt
+    verdict "redacted: $1" "$2" $? "$3" ''
+}
+printf '%bsecret x' "$head" >secret.script
+printf '0 2\n0.5 6\n' >secret.timing
+redacted 'over the border of two chunks' 0 'redacted 1\n' secret secret.script secret.timing
+check 'what is left of a secret' 0 '****** x' '' due --at 1 new.script new.timing
+check 'its delays and counts' 0 'chunks 2\nbytes 8\nlength 0.500000\nheader 20\ntrailer 0\n' '' info new.script new.timing
+printf '%bsex\bcret' "$head" >typed.script
+printf '0 8\n' >typed.timing
+redacted 'what was typed with a correction' 1 'redacted 0\n+ 0 0.000000 1 1 secret\n' secret typed.script typed.timing
+printf '%baaa' "$head" >aaa.script
+printf '0 3\n' >aaa.timing
+redacted 'overlapping' 0 'redacted 2\n' aa aaa.script aaa.timing
+printf '%bab' "$head" >trailed.script
+printf '0 1\n' >trailed.timing
+redacted 'into the trailer' 1 'redacted 1\n' ab trailed.script trailed.timing
+rm -f new.script new.timing
+check 'a secret in a damaged pair' 3 '' "typetool: typescript ends inside chunk 1\n$(hint "$keeps")" \
+    redact a aaa.script secret.timing new.script new.timing
+rm -f new.script new.timing
+check 'a secret with a star' 2 '' 'typetool: bad text\n' redact 'a*' nowhere nowhere none none
+check 'a secret under xterm' 2 '' 'typetool: not yet with --profile xterm\n' redact --profile xterm '*' nowhere nowhere none none
 check 'both headers' 2 '' 'typetool: --last and --headless exclude each other\n' mend --last --headless nowhere nowhere none none
 status 'mend with a profile' 2 mend --profile vt100 ab.script ab.timing none none
 rm -f new.script new.timing
@@ -393,7 +422,17 @@ check 'changes by a moment' 0 '0 0.000000 1\n2 1.500000 3\n' '' changes --to 2 t
 
 check 'a text that came' 0 '+ 0 0.000000 1 1 a\n' '' find a three.script three.timing
 check 'a text that came later' 0 '+ 2 1.500000 3 1 b\n' '' find --from 1 --to 1.5 b three.script three.timing
-check 'a text that never came' 0 '' '' find c three.script three.timing
+check 'a text that never came' 1 '' '' find c three.script three.timing
+check 'a text that came too late' 1 '' '' find --to 1.499999 b three.script three.timing
+check 'a text that stands already' 0 '= 2 1.000000 1 1 a\n' '' find --from 1 a three.script three.timing
+seen() { # what it is, the body (one chunk), the text, the lines
+    printf '%b%b' "$head" "$2" >seen.script
+    printf '0 %d\n' "$(printf '%b' "$2" | wc -c)" >seen.timing
+    check "$1" 0 "$4" '' find "$3" seen.script seen.timing
+}
+seen 'a text that scrolled off' "a$(printf '\\n%.0s' $(seq 30))" a '~ 0 0.000000 1 1 a\n'
+seen 'a text that was written over' 'err\rok ' err '~ 0 0.000000 1 1 err\n'
+seen 'a text that was written again' "err\r${E}[Kerr" err '+ 0 0.000000 1 1 err\n'
 printf '%b--help' "$head" >flag.script
 printf '0 6\n' >flag.timing
 check 'a text that looks like a flag' 0 '+ 0 0.000000 1 1 --help\n' '' find -- --help flag.script flag.timing
@@ -407,16 +446,21 @@ printf 'Script started on X [TERM="xterm" COLUMNS="120" LINES="40"]\n%b' "${E}[5
 printf '0.5 12\n' >wide.timing
 printf '%b' "$head${E}[P" >delete.script
 printf '0 3\n' >delete.timing
-note='typetool: note: size: recorded at 120x40, played at 80x24; term: recorded under xterm, played as vt100 (see typetool check)\n'
+note='typetool: note: size: recorded at 120x40, played at 80x24; term: recorded under xterm, played as vt100 (see typetool check, or try --profile xterm)\n'
 facts='started X\nterm xterm\nsize 120x40\nnote size: recorded at 120x40, played at 80x24\n'
-check 'a check' 1 "${facts}note term: recorded under xterm, played as vt100\nunplayed 1 ESC [ ? 1049 h\nunplayed 1 ESC [ Q\n" '' \
+check 'a check' 1 "${facts}note term: recorded under xterm, played as vt100\nunplayed 1 ESC [ ? 1049 h\nunplayed 1 ESC [ Q\ntry --profile xterm\n" '' \
     check wide.script wide.timing
 check 'a check without a note' 0 'started X\n' '' check ab.script ab.timing
-check 'a check of a sequence of a VT102' 1 'started X\nunplayed 1 ESC [ P\n' '' check delete.script delete.timing
+check 'a check of a sequence of a VT102' 1 'started X\nunplayed 1 ESC [ P\ntry --profile xterm\n' '' check delete.script delete.timing
+check 'a check by a terminal of today' 1 'started X\nterm xterm\nsize 120x40\nunplayed 1 ESC [ Q\n' '' \
+    check --profile xterm wide.script wide.timing
+check 'a check by a terminal of today, of a size' 1 \
+    'started X\nterm xterm\nsize 120x40\nnote size: recorded at 120x40, played at 90x30\nunplayed 1 ESC [ Q\n' '' \
+    check --profile xterm --size 90x30 wide.script wide.timing
 check 'a check as a VT102' 0 'started X\n' '' check --profile vt102 delete.script delete.timing
 check 'a note beside a screen' 0 "$(screen_of '')" "$note" screen --at 1 wide.script wide.timing
 check 'a note beside reports' 0 '\n' "$note" reports --at 1 wide.script wide.timing
-check 'a note beside find lines' 0 '' "$note" find a wide.script wide.timing
+check 'a note beside no find line' 1 '' "$note" find a wide.script wide.timing
 check 'no note beside what is due' 0 '' '' due --at 0 wide.script wide.timing
 timing '0.5 99\n'
 check 'no note of a pair that is not read' 1 '' "typetool: typescript ends inside chunk 0\n$(hint "$keeps")" screen --at 1 wide.script bad.timing
@@ -456,8 +500,6 @@ check 'a size out of its range' 2 '' 'typetool: bad size: 2x1 to 1000x500, with 
 check 'a size without the terminal of today' 2 '' 'typetool: bad size: 2x1 to 1000x500, with --profile xterm\n' \
     reports --at 1 --size 80x24 nowhere nowhere
 check 'bad seconds before a bad size' 2 '' "typetool: bad seconds\n$seconds" screen --at x --size 0x0 nowhere nowhere
-check 'no terminal of today yet' 2 '' 'typetool: not yet with --profile xterm\n' \
-    session --profile xterm nowhere nowhere
 
 # The terminal of today, at the size that the first line tells or that is asked for.
 printf 'Script started on X [TERM="xterm" COLUMNS="12" LINES="2"]\n%b' "Tokyo 東京\r\nna\303\257ve${E}[6n" >today.script
@@ -465,10 +507,23 @@ printf '0.5 24\n' >today.timing
 check 'a screen of today' 0 'Tokyo 東京\nnaïve\n' '' screen --at 1 --profile xterm today.script today.timing
 check 'a text that draws a screen of today again' 0 \
     "${E}[1;1HTokyo 東京${E}[2;1Hnaïve${E}[0m${E}[2;6H" '' screen --at 1 --escaped --profile xterm today.script today.timing
-check 'a screen of today, of a size' 0 'Tokyo 東\n京\nnaïve\n' '' \
+check 'a screen of today, of a size' 0 'Tokyo 東\n京\nnaïve\n' \
+    'typetool: note: size: recorded at 12x2, played at 8x3 (see typetool check)\n' \
     screen --at 1 --profile xterm --size 8x3 today.script today.timing
+"$program" page --profile xterm today.script today.timing >today.html 2>err.txt
+status=$?
+grep -a '^\[[0-9[]' today.html >out.txt
+verdict 'a page of today' 0 $status \
+    '[[12,2],\n[0.000000,0,1,1],\n[0.500000,0,2,6,1,[0,"Tokyo ",512,"東京"],2,[0,"naïve"]]]\n' ''
 check 'changes of today' 0 '0 0.500000 1 2\n' '' changes --to 1 --profile xterm today.script today.timing
 check 'what a terminal of today has answered' 0 '1b5b323b3652\n' '' reports --at 1 --profile xterm today.script today.timing
+asked 'a session of today' 0 'screen 1\nreports 1\nchanges - 1\ninsert 0 0 e697a50d0a\nscreen 0\nscreen 1\nlog\n' \
+    'Tokyo 東京\nnaïve\n1b5b323b3652\n0 0.500000 1 2\nend\nok\n日\n\nTokyo 東京\nnaïve\ninsert 0 0.000000 e697a50d0a\nend\n' \
+    today.script today.timing --profile xterm
+printf 'screen 1\ndelete 1 2\n' |
+    "$program" session --profile xterm --size 8x3 today.script today.timing >out.txt 2>err.txt
+verdict 'a session of today, of a size' 1 $? 'Tokyo 東\n京\nnaïve\nrefused E6 BadRange\n' \
+    'typetool: note: size: recorded at 12x2, played at 8x3 (see typetool check)\n'
 "$program" picture --at 1 --profile xterm today.script today.timing >today.svg 2>err.txt
 status=$?
 grep '^<g transform="translate' today.svg | grep '<text' >out.txt
@@ -476,10 +531,13 @@ narrow='<tspan x="0 10 20 30 40 50">Tokyo </tspan>'
 verdict 'a picture of today' 0 $status \
     "<g transform=\"translate(0 0)\"><text y=\"15\">$narrow<tspan x=\"60\">東</tspan><tspan x=\"80\">京</tspan></text></g>\n\
 <g transform=\"translate(0 20)\"><text y=\"15\"><tspan x=\"0 10 20 30 40\">naïve</tspan></text></g>\n" ''
-for told in 'COLUMNS="1" LINES="24"' 'COLUMNS="12"' 'COLUMNS="12" LINES="501"' 'COLUMNS="0x10" LINES="2"' ''; do
+# A first line, and the size that it tells, if it does.
+for row in 'COLUMNS="1" LINES="24";1x24' 'COLUMNS="12" LINES="501";12x501' 'COLUMNS="12";' 'COLUMNS="0x10" LINES="2";' ';'; do
+    told=${row%;*} size=${row#*;}
     printf 'Script started on X [TERM="xterm" %s]\nab' "$told" >told.script
     printf '0.5 2\n' >told.timing
-    check "80x24 where the first line tells $told" 0 "$(screen_of ab)" '' \
+    check "80x24 where the first line tells $told" 0 "$(screen_of ab)" \
+        "${size:+typetool: note: size: recorded at $size, played at 80x24 (see typetool check)\n}" \
         screen --at 1 --profile xterm told.script told.timing
 done
 check 'the escaped print' 0 '\033[?7l\033)0\033[1;1Hadef\033[0m\017\033[?7h\033[1;2H' '' \
@@ -501,6 +559,8 @@ verdict 'a page into a full device' 3 $? '' "$unwritten"
 verdict 'a cast into a full device' 3 $? '' "$unwritten"
 "$program" find a ab.script ab.timing >/dev/full 2>err.txt
 verdict 'find into a full device' 3 $? '' "$unwritten"
+"$program" find a ab.script ab.timing >&- 2>err.txt
+verdict 'find into a closed output' 3 $? '' "$unwritten"
 printf 'info\n' | "$program" session ab.script ab.timing >&- 2>err.txt
 verdict 'a session into a closed output' 3 $? '' "$unwritten"
 "$program" changes --to 1 ab.script ab.timing >&- 2>err.txt
@@ -598,17 +658,17 @@ quoted 'a word too many with U+202E' '?word' info ab.script ab.timing $'\xe2\x80
 # A note's parts are cut. What the header tells is ASCII there.
 letters=$(printf 'x%.0s' $(seq 200))
 printf 'Script started on X [TERM="%s"]\n' "$letters" >noted.script
-check 'a long note is cut' 0 "$(screen_of '')" "typetool: note: term: recorded under ${letters:0:179}.. (see typetool check)\n" \
+check 'a long note is cut' 0 "$(screen_of '')" "typetool: note: term: recorded under ${letters:0:179}.. (see typetool check, or try --profile xterm)\n" \
     screen --at 0 noted.script empty.timing
 printf 'Script started on X [TERM="%s"]\n' "${letters:0:162}" >noted.script
 check 'a note of 200 characters' 0 "$(screen_of '')" \
-    "typetool: note: term: recorded under ${letters:0:162}, played as vt100 (see typetool check)\n" screen --at 0 noted.script empty.timing
+    "typetool: note: term: recorded under ${letters:0:162}, played as vt100 (see typetool check, or try --profile xterm)\n" screen --at 0 noted.script empty.timing
 printf 'Script started on X [TERM="%s"]\n' "${letters:0:163}" >noted.script
 check 'a note of 201 characters' 0 "$(screen_of '')" \
-    "typetool: note: term: recorded under ${letters:0:163}, played as vt10.. (see typetool check)\n" screen --at 0 noted.script empty.timing
+    "typetool: note: term: recorded under ${letters:0:163}, played as vt10.. (see typetool check, or try --profile xterm)\n" screen --at 0 noted.script empty.timing
 printf 'Script started on X [TERM="a%b[2Jb"]\n' "$E" >noted.script
 check 'a header with ESC' 0 "$(screen_of '')" \
-    'typetool: note: term: recorded under a?[2Jb, played as vt100 (see typetool check)\n' screen --at 0 noted.script empty.timing
+    'typetool: note: term: recorded under a?[2Jb, played as vt100 (see typetool check, or try --profile xterm)\n' screen --at 0 noted.script empty.timing
 
 # 40 MiB in chunks of the greatest length, each of its own digits.
 printf '%b' "$head" >long.script

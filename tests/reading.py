@@ -1,28 +1,30 @@
 #!/usr/bin/env python3
-"""Sees that docs/READING.md and docs/READING_TODAY.md list just the definitions that the headline rests on.
+"""Sees that docs/READING.md and docs/READING_TODAY.md list just the definitions that the headline rests on, and
+docs/READING_FIND.md those that *nowhere means nowhere* does.
 
     tests/reading.py [--write]
 
 The lists are computed: every name that a clause of `Session::seek` cites, every name that those definitions cite, and
 so on, by the `use` lines of the specs/ folders; for the terminal of today, what the ghost members cite by which it
-plays, without what the first list has. A record, a data type and its constructors count as one; so does a type of
-the code that the definitions speak of. With --write the page gets the list's rows anew, under the names of their files:
-its headings and their order stay, names that went are dropped, new ones stand behind the definition that stands before
-them in their file, and one that moved to another file keeps its row. A row's text is the comment of the definition (UG
-for the chapter that most of them cite), so a wrong text is mended there.
+plays, and for find its clause `nowhere`, both without what the first list has. A record, a data type and its
+constructors count as one; so does a type of the code that the definitions speak of. With --write the page gets its
+lists anew, a row for each file with the names that it has: the headings and their order stay, names that went are
+dropped, new ones stand behind the definition that stands before them in their file, and one that moved to another file
+keeps its place.
 """
 import glob
 import itertools
 import os
 import re
 import sys
+import textwrap
 
 TOP = os.path.join(os.path.dirname(os.path.abspath(__file__)), "..")
 PAGE = "docs/READING.md"
 TODAY = "docs/READING_TODAY.md"
+FIND = "docs/READING_FIND.md"
 NAME = r"[^\W\d]\w*(?:\.\w+)*"
 USE = re.compile(r"^\s*(?:ghost )?use (Rattle\.[\w.]+?)(?:\.\{([^}]*)\}| as (\w+))?;?$", re.M)
-CHAPTER = "EK-VT100-UG chapter 3"
 HEAD = re.compile(r"^(?:abbrev |unfoldable )?pub (?:record |data )?(\w+)", re.M)
 
 
@@ -38,16 +40,8 @@ def files(pattern):
 class Definition:
     """A definition of specs/, or a type of the code that definitions speak of."""
 
-    def __init__(self, name, place, text, comment):
-        self.name, self.place, self.text, self.comment = name, place, text, comment
-
-    def group(self):
-        """The line above the rows of its file."""
-        crate, _, rest = self.place.removeprefix("crates/").partition("/")
-        return f"`{crate}` `{rest.removesuffix('.antt')}`:"
-
-    def row(self):
-        return f"- `{self.name}`: {self.comment.replace(CHAPTER, 'UG')}"
+    def __init__(self, name, place, text):
+        self.name, self.place, self.text = name, place, text
 
 
 def imports(text):
@@ -62,48 +56,31 @@ def imports(text):
     return names, modules
 
 
-def sentence(lines):
-    """A comment as one sentence of a table."""
-    text = " ".join(line.strip() for line in lines)
-    return text[:1].upper() + text[1:].removesuffix(".")
-
-
 def blocks(path):
-    """The definitions of a file of specs/, in order. One without a comment has that before it."""
-    text = read(path).split("\n")
-    comment = sentence(line[2:] for line in itertools.takewhile(lambda line: line.startswith("--"), text))
-    pending, lines, found = [], [], []
-    for line in text + ["pub end"]:
+    """The definitions of a file of specs/, in order."""
+    lines, found = [], []
+    for line in read(path).split("\n") + ["pub end"]:
         head = HEAD.match(line)
         starts = head and not line.startswith("pub mod ")
         if lines and (starts or re.match(r"(--|use |infixl |$)", line)):
-            found.append((HEAD.match(lines[0])[1], "\n".join(lines), comment))
+            found.append(Definition(HEAD.match(lines[0])[1], path, "\n".join(lines)))
             lines = []
-        if line.startswith("-- ----") or not line:
-            pending = []
-        elif line.startswith("--"):
-            pending.append(line[2:])
-        elif starts:
-            comment, pending, lines = sentence(pending) if pending else comment, [], [line]
-        elif lines:
+        if starts:
+            lines = [line]
+        elif lines and not line.startswith("--"):
             lines.append(line)
-    return [Definition(name, path, text, said) for name, text, said in found]
+    return found
 
 
 def code_type(crate, name):
-    """A type or trait of the code: its fields, variants or ghost members, and what its comment says."""
+    """A type or trait of the code: its fields, variants or ghost members."""
     for path in files(f"crates/{crate}/src/**/*.rt"):
         text = read(path)
-        found = re.search(
-            rf"((?:^///[^\n]*\n)*)(?:^#\[[^\n]*\n)*^pub (struct|enum|trait) {name}\b[^{{;]*[{{;](.*?)^\}}",
-            text,
-            re.M | re.S,
-        )
+        found = re.search(rf"^pub (struct|enum|trait) {name}\b[^{{;]*[{{;](.*?)^\}}", text, re.M | re.S)
         if found:
-            said = sentence(line[3:] for line in found[1].strip().split("\n"))
-            body = re.sub(r"//.*", "", found[3])
+            body = re.sub(r"//.*", "", found[2])
             members = "\n".join(re.findall(r"^    ghost \w+: .*;$", body, re.M))
-            return Definition(name, path, members if found[2] == "trait" else body, said)
+            return Definition(name, path, members if found[1] == "trait" else body)
     sys.exit(f"no type {name} in crates/{crate}/src")
 
 
@@ -222,6 +199,13 @@ def members_of_today():
     return path, text, " ".join(re.findall(r"^    ghost \w+ = \{.*?\};", text, re.M | re.S))
 
 
+def clause_of_find():
+    """The file of `find`, and its clause that nowhere means nowhere."""
+    path = "crates/screen_print/src/each_byte.rt"
+    text = read(path)
+    return path, text, re.search(r"^pub fn find<.*?^    ensures nowhere (\{.*?\})\n", text, re.M | re.S)[1]
+
+
 def rests_on(contract):
     """The definitions that a contract cites, and those that they cite, each once."""
     book = Book()
@@ -236,22 +220,15 @@ def rests_on(contract):
     return found, book
 
 
-GROUP = re.compile(r"^`(\w+)` `([\w/.]+)`:$")
-ROW = re.compile(r"^- `(\w+)`: ")
+LIST = re.compile(r"^- \[`[\w/.]+`\]\(\.\./(crates/[\w/.]+)\): (.*)$")
 
 
 def entries_of(page):
-    """The page as a list: a line as it stands, or the key of a row, whose place is that of the file above it."""
-    place, found = "", []
-    for line in page.split("\n"):
-        group, row = GROUP.match(line), ROW.match(line)
-        if group:
-            rest = group[2] if group[2].endswith(".rt") else f"{group[2]}.antt"
-            place = f"crates/{group[1]}/{rest}"
-            if found and not found[-1]:
-                found.pop()
-        else:
-            found.append((row[1], place) if row else line)
+    """The page as a list: a line as it stands, or the key of a name, whose place is that of its file."""
+    found = []
+    for line in page.replace("\n  `", " `").split("\n"):
+        row = LIST.match(line)
+        found += [(name, row[1]) for name in re.findall(r"\w+", row[2])] if row else [line]
     return found
 
 
@@ -272,27 +249,26 @@ def place_of_new(key, entries, order):
     return min(same) if same else (max(rows.values(), default=len(entries) - 1) + 1)
 
 
-def laid_out(entries, found):
-    """The text of a page: above the first row of a file its name, behind a blank line."""
-    lines, place = [], None
-    for entry in entries:
-        if isinstance(entry, str):
-            lines.append(entry)
-            place = None
-            continue
-        if entry[1] != place:
-            place = entry[1]
-            lines += [""] if lines and lines[-1] else []
-            lines.append(found[entry].group())
-        lines.append(found[entry].row())
+def listed(place, names):
+    """A file, by its crate and folder, with the names of its definitions."""
+    crate, _, rest = place.removeprefix("crates/").partition("/")
+    text = f"- [`{crate}/{rest.removesuffix('.antt')}`](../{place}): " + ", ".join(f"`{name}`" for name in names)
+    return textwrap.wrap(text, 120, subsequent_indent="  ", break_long_words=False, break_on_hyphens=False)
+
+
+def laid_out(entries):
+    """The text of a page: neighbours of one file make one row."""
+    lines = []
+    for place, group in itertools.groupby(entries, lambda entry: entry[1] if isinstance(entry, tuple) else None):
+        lines += listed(place, [name for name, _ in group]) if place else group
     return "\n".join(lines)
 
 
 def written(page, found, book):
-    """The page with the rows of these definitions."""
+    """The page with the names of these definitions."""
     there = entries_of(page)
-    listed = {entry for entry in there if isinstance(entry, tuple)}
-    moved = {(name, crate_of(place)): (name, place) for name, place in found.keys() - listed}
+    known = {entry for entry in there if isinstance(entry, tuple)}
+    moved = {(name, crate_of(place)): (name, place) for name, place in found.keys() - known}
     entries = []
     for entry in there:
         if isinstance(entry, tuple) and entry not in found:
@@ -303,7 +279,7 @@ def written(page, found, book):
     for key in sorted(missing, key=lambda key: (key[1], rank.get(key, -1))):
         entries.insert(place_of_new(key, entries, book.order), key)
     count = f"**{len(found)} definitions**"
-    return re.sub(r"\*\*\d+ definitions\*\*", count, laid_out(entries, found))
+    return re.sub(r"\*\*\d+ definitions\*\*", count, laid_out(entries))
 
 
 def pages():
@@ -312,6 +288,8 @@ def pages():
     yield PAGE, found, book
     more, book = rests_on(members_of_today())
     yield TODAY, {key: one for key, one in more.items() if key not in found}, book
+    more, book = rests_on(clause_of_find())
+    yield FIND, {key: one for key, one in more.items() if key not in found}, book
 
 
 def main():

@@ -5,9 +5,10 @@
 
 The rows of xterm_rows.json are played by the plain reading (plain_today.py), and by `typetool screen`, `picture` and
 `reports` with `--profile xterm` where the program is named. Each random stream (random_today.py) is cut into chunks
-anywhere, and played at a size of its own; the screens after it, as text and as a picture (plain_today_drawing.py), and
-the reports, have to be the plain reading's. The cursor and whether a wrap is pending are told by reports, asked for in
-one more chunk.
+anywhere, and played at a size of its own; the screens after it, as text and as a picture (plain_today_drawing.py), the
+reports, and what `check` tells (check_reader.py), have to be the plain reading's, and so what `session` answers to
+questions with edits between them. The cursor and whether a wrap is pending are told by reports, asked for in one more
+chunk.
 
 The last line is 'N passed, M failed'.
 """
@@ -19,6 +20,7 @@ import subprocess
 import sys
 import tempfile
 
+import check_reader
 import plain_reader
 import plain_today
 import plain_today_drawing
@@ -33,13 +35,21 @@ HEADER = b"Script started on 2026-11-25 10:00:00+00:00\n"
 ASKED = b"\x18\x1b[6nZ\x1b[6n"
 
 
-def by_program(folder, size, chunks):
-    """What the program shows at each second of chunks that are a second apart, and all reports at the end."""
-    recording = (HEADER, [(10**6, chunk) for chunk in chunks], b"")
-    for kind, text in zip(("script", "timing"), plain_reader.files_of(recording)):
+def recorded(chunks):
+    """The recording of chunks that are a second apart."""
+    return HEADER, [(10**6, chunk) for chunk in chunks], b""
+
+
+def write(folder, chunks):
+    for kind, text in zip(("script", "timing"), plain_reader.files_of(recorded(chunks))):
         with open(os.path.join(folder, f"made.{kind}"), "wb") as file:
             file.write(text)
-    words = ["--profile", "xterm", "--size", f"{size[0]}x{size[1]}", "made.script", "made.timing"]
+
+
+def by_program(folder, size, chunks):
+    """What the program shows at each second of chunks that are a second apart, and all reports at the end."""
+    write(folder, chunks)
+    words = words_of(size)
     end = len(chunks)
     asked = [("screen", end - 1), ("picture", end - 1), ("screen", end), ("reports", end)]
     for job, at in asked:
@@ -49,6 +59,8 @@ def by_program(folder, size, chunks):
             yield f"{job} answers {done.returncode}, {done.stderr!r}"
         else:
             yield done.stdout.decode()
+    done = subprocess.run([program, "check", *words], capture_output=True, cwd=folder, timeout=PATIENCE)
+    yield done.stdout, done.returncode
 
 
 def by_reading(size, chunks):
@@ -61,6 +73,60 @@ def by_reading(size, chunks):
     terminal.feed(chunks[-1])
     yield plain_today.plain_text(terminal)
     yield terminal.reports.hex() + "\n"
+    yield check_reader.check("xterm", HEADER, b"".join(chunks), b"", size)
+
+
+def words_of(size):
+    return ["--profile", "xterm", "--size", f"{size[0]}x{size[1]}", "made.script", "made.timing"]
+
+
+def requests(rng, end):
+    """Questions, edits in between, and the questions again: of chunks so many seconds long, and of some more."""
+    screens = [f"screen {rng.randrange(end + 1)}.5", f"screen {end}"]
+    asked = [*screens, f"reports {end}", f"changes - {end}", f"changes 1 {end}"]
+    text, at = random_today.stream(rng)[:40].hex() or "-", rng.randrange(end + 1)
+    edits = [f"insert {at} 0.5 {text}", f"replace {at} {text}", f"delete {at} {end}", f"retime {at} 3", "cap 0.5"]
+    lines = []
+    for edit in rng.sample(edits, 3):
+        lines += [*rng.sample(asked, 2), edit]
+    return "\n".join([*lines, *asked, "info", "log", ""]).encode()
+
+
+def session_by_program(folder, size, chunks, lines):
+    """What a session answers, and its status."""
+    write(folder, chunks)
+    every = ["--every", str(1 + len(lines) % 3)]
+    run = [program, "session", *every, *words_of(size)]
+    done = subprocess.run(run, input=lines, capture_output=True, cwd=folder, timeout=PATIENCE)
+    return done.returncode, done.stdout + done.stderr
+
+
+def changes(size, chunks, first, last):
+    """The change lines of the chunks that are due after one moment, where there is one, and by another."""
+    terminal, time = plain_today.Terminal(*size), 0
+    for index, (delay, text) in enumerate(chunks):
+        before = list(map(list, terminal.rows()))
+        terminal.feed(text)
+        time += delay
+        rows = [b"%d" % line for line, (old, new) in enumerate(zip(before, terminal.rows()), 1) if old != new]
+        if rows and (first is None or time > first) and time <= last:
+            yield b" ".join([b"%d" % index, plain_reader.written(time), *rows]) + b"\n"
+
+
+def session_by_reading(size, chunks, lines):
+    """The same by the plain reading."""
+
+    def ask(edited, words):
+        if words[0] == b"changes":
+            first = None if words[1] == b"-" else plain_reader.seconds(words[1])
+            return b"".join(changes(size, edited, first, plain_reader.seconds(words[2]))) + b"end\n"
+        if words[0] not in (b"screen", b"reports"):
+            return None
+        terminal = plain_today.Terminal(*size)
+        terminal.feed(plain_reader.due(edited, plain_reader.seconds(words[1])))
+        return (plain_today.plain_text(terminal) if words[0] == b"screen" else terminal.reports.hex() + "\n").encode()
+
+    return plain_reader.session(recorded(chunks), lines, ask)
 
 
 def cut(rng, text):
@@ -74,19 +140,20 @@ def one(number):
     rng = random.Random(seed * 1_000_003 + number)
     size, text = random_today.size(rng), random_today.stream(rng)
     chunks = [*cut(rng, text), ASKED]
-    wanted = list(by_reading(size, chunks))
+    lines = requests(rng, len(chunks))
+    wanted = list(by_reading(size, chunks)), session_by_reading(size, chunks, lines)
     if not program:
         return number, None
     with tempfile.TemporaryDirectory(prefix="today-fuzz-") as folder:
-        got = list(by_program(folder, size, chunks))
-    return number, None if got == wanted else f"{size} {chunks}: got {got}, wanted {wanted}"
+        got = list(by_program(folder, size, chunks)), session_by_program(folder, size, chunks, lines)
+    return number, None if got == wanted else f"{size} {chunks} {lines}: got {got}, wanted {wanted}"
 
 
 def rows_that_differ(rows, size, play):
     """The rows that come out otherwise: the first screen, and both cursors."""
     for row in rows:
         chunks = [bytes.fromhex(row["bytes"]), b"\x1b[6nZ\x1b[6n"]
-        screen, _, _, reports = play(size, chunks)
+        screen, _, _, reports, _ = play(size, chunks)
         places = [list(map(int, told[:-1].split(b";"))) for told in bytes.fromhex(reports).split(b"\x1b[")[-2:]]
         got = screen.rstrip("\n").split("\n"), *places
         if got != (row["lines"] or [""], row["cursor"], row["then"]):

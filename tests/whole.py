@@ -51,11 +51,18 @@ def mended(script, timing):
     return mend_reader.mend("", script, timing)[:2]
 
 
+def redacted(script, timing):
+    return script.replace(b"started on", b"*" * 10), plain.save(plain.read(script, timing), b"")[1]
+
+
 # A job: its name and flags, what it reads from standard input, and the pair that it makes of one.
 JOBS = [
     (["save"], EDITS, saved),
     (["mend"], b"", mended),
+    (["redact", "started on"], b"", redacted),
 ]
+# How many chunks a job is killed over; redact looks at the screen after each byte.
+CHUNKS = {"save": 40_000, "mend": 40_000, "redact": 4_000}
 
 
 def check(name, good, what=""):
@@ -195,8 +202,8 @@ def killed(job, old, count, name):
 
 def at_random(pool):
     """Each job killed at random instants, over four folders at once."""
-    old = recording(random.Random(seed), 40_000)
     for job in JOBS:
+        old = recording(random.Random(seed), CHUNKS[job[0][0]])
         shares = [instants // 4 + (n < instants % 4) for n in range(4)]
         runs = [pool.submit(killed, job, old, share, f"{job[0][0]} {n}") for n, share in enumerate(shares)]
         counts = sum((run.result() for run in runs), collections.Counter())
