@@ -1,8 +1,8 @@
 //! The job `cast`: the events of each chunk.
 use crate::in_memory::{DONE, HEADER, do_job};
 use crate::page::{SCRIPT, TIMING};
+use command_line::{Job, Measure, Player};
 use std::process::Abort;
-use tape_jobs::{Job, Measure, Player};
 use vt_term::Profile;
 
 /// Does the job, and compares the lines.

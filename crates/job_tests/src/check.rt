@@ -1,10 +1,11 @@
 //! The job `check`, and the note that other jobs tell of a recording.
 use crate::in_memory::{AB, DONE, do_job};
+use command_line::{Job, Measure, Player, Print};
 use std::io;
 use std::process::Abort;
 use std::test::Fail;
 use tape_core::{Fault, Watched};
-use tape_jobs::{Job, JobFault, Measure, Outcome, Player, Print, run_with};
+use tape_jobs::{JobFault, Outcome, run_with};
 use vt_term::Profile;
 
 /// A check that has noted something.

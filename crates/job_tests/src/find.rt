@@ -1,10 +1,11 @@
 //! Find lines through the job, where a text stands beside it, and the status that goes with them.
 use crate::in_memory::{AB, DONE, HEADER, do_job_beside};
+use command_line::Job;
 use std::io;
 use std::process::Abort;
 use std::test::Fail;
 use tape_core::{Fault, Watched};
-use tape_jobs::{Job, JobFault, Outcome, run_with};
+use tape_jobs::{JobFault, Outcome, run_with};
 use vt_term::Profile;
 
 /// How a search ends that finds nothing.

@@ -1,10 +1,12 @@
-use crate::in_memory::{AB, Case, DONE, compare, done};
+use crate::comparison::{Case, compare, done};
+use crate::in_memory::{AB, DONE};
+use command_line::{Job, Player};
 use std::alloc::Global;
 use std::fmt::Write;
 use std::process::Abort;
 use std::test::Fail;
 use tape_core::Fault;
-use tape_jobs::{Job, JobFault, Outcome, Player};
+use tape_jobs::{JobFault, Outcome};
 use tape_seek::EditFault;
 use vt_term::Profile;
 

@@ -1,6 +1,7 @@
-//! Tests of jobs over readers and writers in memory, and of the words of command lines, which call what `tape_jobs` makes public.
+//! Tests of jobs over readers and writers in memory, which call what `tape_jobs` makes public.
 //!
 //! They stand in a crate of their own, so that the gate proves the program once, and tests see no more than other crates do.
+//! What the tests of devices need of them too is public.
 #![tactic(auto)]
 
 #[cfg(test)]
@@ -8,9 +9,10 @@ mod cast;
 #[cfg(test)]
 mod check;
 #[cfg(test)]
-mod find;
+mod comparison;
 #[cfg(test)]
-mod in_memory;
+mod find;
+pub mod in_memory;
 #[cfg(test)]
 mod jobs;
 #[cfg(test)]
@@ -29,5 +31,3 @@ mod run;
 mod session;
 #[cfg(test)]
 mod texts;
-#[cfg(test)]
-mod words;

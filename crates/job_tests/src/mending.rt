@@ -1,8 +1,9 @@
 //! The call `mend` over texts in memory: rows by hand, of the new pair and of what is told.
 use crate::in_memory::{DONE, do_job};
+use command_line::Job;
 use std::process::Abort;
 use tape_core::{Fault, Watched};
-use tape_jobs::{Job, JobFault, Outcome, mend};
+use tape_jobs::{JobFault, Outcome, mend};
 use tape_mend::Header;
 
 /// A typescript, a timing file, and which line is taken as the header.

@@ -1,8 +1,9 @@
-use crate::in_memory::{AB, compare, done};
+use crate::comparison::{compare, done};
+use crate::in_memory::AB;
+use command_line::{Job, Player, Print};
 use std::alloc::{AllocError, Global};
 use std::process::Abort;
 use std::test::Fail;
-use tape_jobs::{Job, Player, Print};
 use vt_term::Profile;
 
 mod profiles;

@@ -1,22 +1,14 @@
 //! The job `page`: the title and the entries that stand in the player.
-use crate::in_memory::{AB, DONE, do_job, do_job_beside};
+use crate::in_memory::{AB, DONE, data_of, do_job, do_job_beside};
+use command_line::{Job, Measure, Player};
 use std::process::Abort;
 use std::test::Fail;
-use tape_jobs::{Job, Measure, Player};
 use vt_term::Profile;
 
 /// Letters and a line above them, and a cell that a VT102 deletes half a second later.
 pub(crate) const SCRIPT: &[u8] = b"Script started on X\n\x1b[2;1Hab<\x1b[H\x1b(0q\x1b[2;1H\x1b[P";
 
 pub(crate) const TIMING: &[u8] = b"0.5 16\n0.5 9\n";
-
-/// What stands in a page between its player's parts.
-pub(crate) fn data_of(page: &[u8]) -> &str {
-    let text = str::from_utf8(page).unwrap_or("");
-    let (_, rest) = text.split_once(" id=\"entries\">\n").unwrap_or(("", ""));
-    let (data, _) = rest.split_once("\n</script>\n").unwrap_or(("", ""));
-    data
-}
 
 /// Does the job, and compares the entries.
 fn compare_entries<R: Abort + AllocGlobal>(

@@ -1,44 +1,12 @@
 //! The job `picture`: the whole file, and the moment in its title.
-use crate::in_memory::{compare, done};
+use crate::comparison::{compare, done};
+use crate::in_memory::AB_PICTURE;
+use command_line::{Job, Player};
 use std::alloc::{AllocError, Global};
 use std::process::Abort;
 use std::test::Fail;
 use tape_core::limits::LAST_MOMENT;
-use tape_jobs::{Job, Player};
 use vt_term::Profile;
-
-/// The picture of a screen at half a second with `ab` on its first line, and the cursor behind that.
-pub(crate) const AB_PICTURE: &str =
-    "<svg xmlns=\"http://www.w3.org/2000/svg\" class=\"i\" viewBox=\"-10 -10 820 500\" width=\"820\" height=\"500\" role=\"group\" aria-label=\"Screen\" xml:space=\"preserve\"><title>Screen at 0.500000 s</title><desc>ab\n\n\n\n\n\n\n\n\n\n\n\n\n\n\n\n\n\n\n\n\n\n\n\n</desc>\
-<style>text{font:16.67px 'DejaVu Sans Mono',Menlo,Consolas,'Liberation Mono',monospace;white-space:pre}path{shape-rendering:crispEdges}.i{fill:#ddd}.p{fill:#111}.b{font-weight:bold}.n{fill:none}.k{animation:k 1s step-end infinite}@keyframes k{50%{opacity:.2}}@media print{.i{fill:#111}.p{fill:#fff}}@media print,(prefers-reduced-motion:reduce){.k{animation:none}}</style>\n\
-<path class=\"p\" d=\"M-10 -10h820v500h-820z\"/>\n\
-<path d=\"\"/>\n\
-<g transform=\"translate(0 0)\"><text y=\"15\"><tspan x=\"0 10\">ab</tspan></text></g>\n\
-<g transform=\"translate(0 20)\"></g>\n\
-<g transform=\"translate(0 40)\"></g>\n\
-<g transform=\"translate(0 60)\"></g>\n\
-<g transform=\"translate(0 80)\"></g>\n\
-<g transform=\"translate(0 100)\"></g>\n\
-<g transform=\"translate(0 120)\"></g>\n\
-<g transform=\"translate(0 140)\"></g>\n\
-<g transform=\"translate(0 160)\"></g>\n\
-<g transform=\"translate(0 180)\"></g>\n\
-<g transform=\"translate(0 200)\"></g>\n\
-<g transform=\"translate(0 220)\"></g>\n\
-<g transform=\"translate(0 240)\"></g>\n\
-<g transform=\"translate(0 260)\"></g>\n\
-<g transform=\"translate(0 280)\"></g>\n\
-<g transform=\"translate(0 300)\"></g>\n\
-<g transform=\"translate(0 320)\"></g>\n\
-<g transform=\"translate(0 340)\"></g>\n\
-<g transform=\"translate(0 360)\"></g>\n\
-<g transform=\"translate(0 380)\"></g>\n\
-<g transform=\"translate(0 400)\"></g>\n\
-<g transform=\"translate(0 420)\"></g>\n\
-<g transform=\"translate(0 440)\"></g>\n\
-<g transform=\"translate(0 460)\"></g>\n\
-<g transform=\"translate(0 0)\"><path class=\"p\" d=\"M20 0h10v20h-10zm1 1v18h8v-18z\"/><path d=\"M21 1h8v18h-8zm1 1v16h6v-16z\"/></g>\n\
-</svg>\n";
 
 const AB_LETTERS: &str = "<text y=\"15\"><tspan x=\"0 10\">ab</tspan></text>";
 

@@ -1,8 +1,9 @@
 //! The call `redact` over texts in memory: rows by hand, of the new pair and of what is told.
 use crate::in_memory::{DONE, do_job_beside};
+use command_line::Job;
 use std::process::Abort;
 use tape_core::{Fault, Watched};
-use tape_jobs::{Job, JobFault, Outcome, redact};
+use tape_jobs::{JobFault, Outcome, redact};
 use vt_term::Profile;
 
 /// A text that is taken out, a typescript, and its timing file.

@@ -1,14 +1,12 @@
-use crate::in_memory::{AB, Case, compare, compare_over};
+use crate::comparison::{Case, compare, compare_over};
+use crate::in_memory::AB;
+use command_line::Job;
 use screen_print::ChangesFault;
 use std::process::Abort;
 use std::test::Fail;
 use tape_core::Fault;
-use tape_jobs::{Job, JobFault, Outcome};
+use tape_jobs::{JobFault, Outcome};
 use tape_seek::OutOfMemory;
-
-mod devices;
-mod large;
-mod refused;
 
 /// A script without its header, a timing and a moment, and the text of `due` and the fault.
 type Row<'a> = (&'a str, &'a str, u64, &'a str, Option<Fault>);

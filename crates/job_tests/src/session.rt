@@ -1,7 +1,9 @@
-use crate::in_memory::{AB, Case, compare, compare_over, done};
+use crate::comparison::{Case, compare, compare_over, done};
+use crate::in_memory::AB;
+use command_line::{Job, Measure, Player};
 use std::process::Abort;
 use std::test::Fail;
-use tape_jobs::{Job, Measure, Outcome, Player};
+use tape_jobs::Outcome;
 use vt_term::Profile;
 
 /// Twenty-three lines' ends: a screen of which the first line alone shows something.

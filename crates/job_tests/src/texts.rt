@@ -1,10 +1,11 @@
 //! The texts of faults, which a user is told.
-use crate::in_memory::{Case, compare};
+use crate::comparison::{Case, compare};
+use command_line::{Job, Player, WordsFault};
 use std::alloc::{AllocError, Global};
 use std::process::Abort;
 use std::test::Fail;
 use tape_core::Fault;
-use tape_jobs::{Job, JobFault, Outcome, Player, WordsFault};
+use tape_jobs::{JobFault, Outcome};
 use tape_seek::EditFault;
 use vt_term::Profile;
 

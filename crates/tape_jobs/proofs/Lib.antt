@@ -1,7 +1,4 @@
-mod CommandLemmas
-mod HelpLemmas
 mod JobLemmas
-mod LineLemmas
 mod MendLemmas
 mod NoteLemmas
 mod NowhereLemmas

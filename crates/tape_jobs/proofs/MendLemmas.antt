@@ -10,8 +10,8 @@ use Rattle.tape_jobs.specs.Endings.{Device, HasFailed, TookBoth, TookPartOfBoth,
 use Rattle.tape_jobs.specs.Mending.{AWriterFailed, IsRead, IsSilent, MendEnds, OnPair, Pair, StoppedInThree, ThreeEnd, told_by}
 use Rattle.tape_jobs.specs.Output.{Comes, Done, Files, done_mending, mended_by, mends, outcome_by, refused_in, refused_with}
 use Rattle.tape_jobs.specs.declared.job.Ending.{Ending}
-use Rattle.tape_jobs.specs.declared.job.Job.{Job}
-use Rattle.tape_jobs.specs.declared.job.Job.TheVariants as jobs
+use Rattle.command_line.specs.declared.job.Job.{Job}
+use Rattle.command_line.specs.declared.job.Job.TheVariants as jobs
 use Rattle.tape_jobs.specs.declared.job.JobFault.{JobFault}
 use Rattle.tape_jobs.specs.declared.job.JobFault.TheVariants.{File}
 use Rattle.tape_mend.specs.Mended.{Remains, mended, seen}

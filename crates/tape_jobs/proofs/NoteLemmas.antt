@@ -9,11 +9,11 @@ use Rattle.tape_jobs.specs.Notes.{was_read}
 use Rattle.tape_jobs.specs.Output.{Done, done_on, done_saving, outcome_in, refused_in, refused_with}
 use Rattle.tape_jobs.specs.Requests.{saved, started}
 use Rattle.tape_jobs.specs.declared.job.Ending.{Ending}
-use Rattle.tape_jobs.specs.declared.job.Job.{Job}
-use Rattle.tape_jobs.specs.declared.job.Job.TheVariants as jobs
+use Rattle.command_line.specs.declared.job.Job.{Job}
+use Rattle.command_line.specs.declared.job.Job.TheVariants as jobs
 use Rattle.tape_jobs.specs.declared.job.JobFault.{JobFault}
 use Rattle.tape_jobs.specs.declared.job.JobFault.TheVariants.{File, Line, Memory}
-use Rattle.tape_jobs.specs.declared.player.Player.TheVariants.{Vt}
+use Rattle.command_line.specs.declared.player.Player.TheVariants.{Vt}
 use Rattle.vt_term.specs.declared.profile.Profile.TheVariants.{Vt100}
 
 none_some : {X : Type 0} (x : X) (o : Option X) → o ≡ None → o ≡ Some x → ⊥

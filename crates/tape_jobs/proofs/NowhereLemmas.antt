@@ -8,8 +8,8 @@ use Rattle.tape_core.specs.Tape.{Tape}
 use Rattle.tape_core.specs.declared.fault.Fault.{Fault}
 use Rattle.tape_jobs.specs.Endings.{NothingIsNowhere, Readers, RunEnds, Writers}
 use Rattle.tape_jobs.specs.Output.{Comes, Done, Files, done_on, ending_of_find, is_some_text, refused_in, status_after}
-use Rattle.tape_jobs.specs.declared.job.Job.{Job}
-use Rattle.tape_jobs.specs.declared.job.Job.TheVariants.{Find}
+use Rattle.command_line.specs.declared.job.Job.{Job}
+use Rattle.command_line.specs.declared.job.Job.TheVariants.{Find}
 use Rattle.tape_jobs.specs.declared.job.JobFault.TheVariants.{File}
 use Rattle.tape_jobs.specs.declared.job.Outcome.{Outcome}
 use Rattle.vt_term.specs.declared.profile.Profile.{Profile}

@@ -10,8 +10,8 @@ use Rattle.tape_jobs.specs.Player.{changes_of, is_size, measure_of, played_size,
 use Rattle.tape_jobs.specs.declared.answers.Asked.{Asked}
 use Rattle.tape_jobs.specs.declared.answers.Asked.TheVariants as asks
 use Rattle.tape_jobs.specs.declared.answers.Question.{Question}
-use Rattle.tape_jobs.specs.declared.player.Measure.{Measure}
-use Rattle.tape_jobs.specs.declared.player.Player.TheVariants.{Today}
+use Rattle.command_line.specs.declared.player.Measure.{Measure}
+use Rattle.command_line.specs.declared.player.Player.TheVariants.{Today}
 use Rattle.xterm_escaped.specs.EscapedText.{escaped_text}
 use Rattle.xterm_print.specs.ChangeLines.{change_lines}
 use Rattle.xterm_print.specs.Moments.{term_at}

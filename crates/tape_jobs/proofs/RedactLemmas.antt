@@ -21,10 +21,10 @@ use Rattle.tape_jobs.specs.Player.{played_of}
 use Rattle.tape_jobs.specs.Redacting.{FourEnd, IsUntold, OnRecording, RedactEnds, StoppedInFour, TookFour}
 use Rattle.tape_jobs.specs.declared.job.Ending.{Ending}
 use Rattle.tape_jobs.specs.declared.job.Ending.TheVariants.{Clean, WithRefusals, WithNotes, WithLosses, WithNothing, WithTraces}
-use Rattle.tape_jobs.specs.declared.job.Job.TheVariants.{Redact}
+use Rattle.command_line.specs.declared.job.Job.TheVariants.{Redact}
 use Rattle.tape_jobs.specs.declared.job.JobFault.{JobFault}
 use Rattle.tape_jobs.specs.declared.job.JobFault.TheVariants.{File, Memory}
-use Rattle.tape_jobs.specs.declared.player.Player.TheVariants.{Vt}
+use Rattle.command_line.specs.declared.player.Player.TheVariants.{Vt}
 use Rattle.vt_term.specs.declared.profile.Profile.{Profile}
 
 -- where a redaction has status 0, no find line was written

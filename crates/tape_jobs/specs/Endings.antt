@@ -25,8 +25,8 @@ use Rattle.tape_core.specs.Tape.{Tape}
 use Rattle.tape_core.specs.declared.fault.Fault.TheVariants as fault
 use Rattle.tape_jobs.specs.Output.{Comes, Done, Files, IsDoneStatus, TakesMemory, is_stopped, outcome_by, refused_in, status_after, status_in, takes_requests, writes_last, writes_timing}
 use Rattle.tape_jobs.specs.declared.job.Ending.{Ending}
-use Rattle.tape_jobs.specs.declared.job.Job.{Job}
-use Rattle.tape_jobs.specs.declared.job.Job.TheVariants.{Find}
+use Rattle.command_line.specs.declared.job.Job.{Job}
+use Rattle.command_line.specs.declared.job.Job.TheVariants.{Find}
 use Rattle.tape_jobs.specs.declared.job.JobFault.{JobFault}
 use Rattle.tape_jobs.specs.declared.job.JobFault.TheVariants.{File, Memory}
 use Rattle.tape_jobs.specs.declared.job.Outcome.{Outcome}

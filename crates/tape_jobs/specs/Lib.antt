@@ -1,7 +1,5 @@
-pub mod CommandLine
 pub mod Endings
 pub mod Info
-pub mod Lines
 pub mod Mending
 pub mod Moment
 pub mod Notes

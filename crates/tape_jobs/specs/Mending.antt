@@ -7,7 +7,7 @@ use Rattle.tape_core.specs.declared.fault.Fault.TheVariants as fault
 use Rattle.tape_jobs.specs.Endings.{AreFlushed, AsksNothing, Device, HasFailed, IsDone, IsForMemory, IsSound, IsUnwritten, TookBoth, TookPartOfBoth, Writers, is_of_input}
 use Rattle.tape_jobs.specs.Output.{Done, IsDoneStatus, done_mending, mended_by, status_of}
 use Rattle.tape_jobs.specs.declared.job.Ending.{Ending}
-use Rattle.tape_jobs.specs.declared.job.Job.TheVariants.{Mend}
+use Rattle.command_line.specs.declared.job.Job.TheVariants.{Mend}
 use Rattle.tape_jobs.specs.declared.job.JobFault.{JobFault}
 use Rattle.tape_jobs.specs.declared.job.JobFault.TheVariants.{File}
 use Rattle.tape_jobs.specs.declared.job.Outcome.{Outcome}

@@ -9,10 +9,10 @@ use Rattle.tape_core.specs.Seconds.{last_moment}
 use Rattle.tape_core.specs.Tape.{Tape}
 use Rattle.tape_seek.specs.Moments.{term_at}
 use Rattle.tape_jobs.specs.Player.{today_at}
-use Rattle.tape_jobs.specs.declared.player.Player.{Player}
-use Rattle.tape_jobs.specs.declared.player.Player.TheVariants.{Vt, Today}
-use Rattle.tape_jobs.specs.declared.player.Print.{Print}
-use Rattle.tape_jobs.specs.declared.player.Print.TheVariants.{Plain, Escaped}
+use Rattle.command_line.specs.declared.player.Player.{Player}
+use Rattle.command_line.specs.declared.player.Player.TheVariants.{Vt, Today}
+use Rattle.command_line.specs.declared.player.Print.{Print}
+use Rattle.command_line.specs.declared.player.Print.TheVariants.{Plain, Escaped}
 use Rattle.tape_jobs.specs.declared.answers.Asked.{Asked}
 use Rattle.tape_jobs.specs.declared.answers.Asked.TheVariants as asks
 use Rattle.tape_jobs.specs.declared.answers.Question.{Question}

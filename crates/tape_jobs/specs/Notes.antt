@@ -10,14 +10,14 @@ use Rattle.tape_core.specs.declared.fault.Fault.TheVariants as fault
 use Rattle.tape_jobs.specs.Endings.{AsksNothing, Device, HoldFiles, Readers}
 use Rattle.tape_jobs.specs.Output.{Files}
 use Rattle.tape_jobs.specs.Player.{played_of}
-use Rattle.tape_jobs.specs.declared.job.Job.{Job}
-use Rattle.tape_jobs.specs.declared.job.Job.TheVariants.{Screen, Picture, Changes, Find, Reports, Page, Cast, Redact, Session}
+use Rattle.command_line.specs.declared.job.Job.{Job}
+use Rattle.command_line.specs.declared.job.Job.TheVariants.{Screen, Picture, Changes, Find, Reports, Page, Cast, Redact, Session}
 use Rattle.tape_jobs.specs.declared.job.JobFault.{JobFault}
 use Rattle.tape_jobs.specs.declared.job.JobFault.TheVariants.{File}
-use Rattle.tape_jobs.specs.declared.player.Player.{Player}
-use Rattle.tape_jobs.specs.declared.player.Player.TheVariants.{Vt}
-use Rattle.tape_jobs.specs.declared.player.Print.{Print}
-use Rattle.tape_jobs.specs.declared.player.Print.TheVariants.{Plain, Escaped}
+use Rattle.command_line.specs.declared.player.Player.{Player}
+use Rattle.command_line.specs.declared.player.Player.TheVariants.{Vt}
+use Rattle.command_line.specs.declared.player.Print.{Print}
+use Rattle.command_line.specs.declared.player.Print.TheVariants.{Plain, Escaped}
 
 -- which terminal a screen is of (ours)
 abbrev pub player_of : Print → Player

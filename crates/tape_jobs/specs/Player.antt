@@ -1,5 +1,5 @@
 -- Which terminal plays a recording, and of which size.
-use Rattle.std.specs.Prelude.{ℕ, List, Bool, ◌&&◌, nat_le, if◌then◌else◌, unwrap_or, Option, Some, None}
+use Rattle.std.specs.Prelude.{ℕ, List, unwrap_or, Option, Some, None}
 use Rattle.std.specs.Option.{option_map, option_or}
 use Rattle.output_cast.specs.Cast.{cast_text as output_text}
 use Rattle.screen_cast.specs.Cast.{cast_text}
@@ -18,16 +18,10 @@ use Rattle.sheet.specs.Cells.{Cell}
 use Rattle.chunk_walk.specs.ChangeLine.{change_line}
 use Rattle.chunk_walk.specs.Walk.{asked_texts}
 use Rattle.std.specs.Fmt.{decimal}
-use Rattle.tape_jobs.specs.declared.player.Measure.{Measure}
-use Rattle.tape_jobs.specs.declared.player.Player.{Player}
-use Rattle.tape_jobs.specs.declared.player.Player.TheVariants.{Vt, Today}
-
--- within the limits of a screen: 2 to 1,000 columns and 1 to 500 lines (ours)
-abbrev pub is_size : Measure → Bool
-is_size m = (nat_le 2 m.columns && nat_le m.columns 1000) && (nat_le 1 m.lines && nat_le m.lines 500)
-
-abbrev pub within_of : Measure → Option Measure
-within_of m = if is_size m then Some m else None
+use Rattle.command_line.specs.Measures.{within_of}
+use Rattle.command_line.specs.declared.player.Measure.{Measure}
+use Rattle.command_line.specs.declared.player.Player.{Player}
+use Rattle.command_line.specs.declared.player.Player.TheVariants.{Vt, Today}
 
 -- a measure, if there is one that is within the limits (ours)
 abbrev pub within : Option Measure → Option Measure

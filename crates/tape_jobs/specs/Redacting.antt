@@ -15,11 +15,11 @@ use Rattle.tape_jobs.specs.Notes.{IsTold, was_read}
 use Rattle.tape_jobs.specs.Output.{Done, IsDoneStatus, count_of_text, done_redacting, done_with, lines_left, outcome_in, status_in, without_text}
 use Rattle.tape_jobs.specs.Player.{played_of}
 use Rattle.tape_jobs.specs.declared.job.Ending.{Ending}
-use Rattle.tape_jobs.specs.declared.job.Job.TheVariants.{Redact}
+use Rattle.command_line.specs.declared.job.Job.TheVariants.{Redact}
 use Rattle.tape_jobs.specs.declared.job.JobFault.{JobFault}
 use Rattle.tape_jobs.specs.declared.job.JobFault.TheVariants.{File, Memory}
 use Rattle.tape_jobs.specs.declared.job.Outcome.{Outcome}
-use Rattle.tape_jobs.specs.declared.player.Player.TheVariants.{Vt}
+use Rattle.command_line.specs.declared.player.Player.TheVariants.{Vt}
 use Rattle.vt_term.specs.declared.profile.Profile.{Profile}
 
 -- how often the text was taken out, as a line (ours)

@@ -11,7 +11,7 @@ use Rattle.tape_seek.specs.declared.requests.Request.{Request}
 use Rattle.tape_seek.specs.declared.requests.Request.TheVariants as asks
 use Rattle.tape_jobs.specs.declared.job.JobFault.{JobFault}
 use Rattle.tape_jobs.specs.declared.job.JobFault.TheVariants.{File, Line, Memory}
-use Rattle.tape_jobs.specs.declared.player.Player.{Player}
+use Rattle.command_line.specs.declared.player.Player.{Player}
 
 -- where request lines have led: which terminal plays, the recording as edited, and the accepted edits in order. It is a
 -- session's state without what no answer depends on: the marks, and where terminals are stored (ours)

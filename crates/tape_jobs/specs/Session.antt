@@ -11,7 +11,7 @@ use Rattle.tape_jobs.specs.Info.{info_line, info_text}
 use Rattle.tape_jobs.specs.Moment.{printed_at, sent_at}
 use Rattle.tape_jobs.specs.Player.{changes_of}
 use Rattle.tape_jobs.specs.Requests.{Course, course_after, fault_name}
-use Rattle.tape_jobs.specs.declared.player.Print.TheVariants.{Plain}
+use Rattle.command_line.specs.declared.player.Print.TheVariants.{Plain}
 
 -- lines, and the one behind them that says that there are no more (ours)
 abbrev pub ended : List ℕ → List ℕ

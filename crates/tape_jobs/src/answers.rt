@@ -39,7 +39,7 @@ pub trait Answers: Plays {
     ghost use Rattle.tape_jobs.specs.Moment.{told_at};
     ghost use Rattle.tape_jobs.specs.Player.{changes_of};
     ghost use Rattle.tape_jobs.specs.Requests.{course_of};
-    ghost use Rattle.tape_jobs.specs.declared.player.Player.{Player as Played};
+    ghost use Rattle.command_line.specs.declared.player.Player.{Player as Played};
 
     /// The player that it is, where it is set up so.
     ghost player: { Self.Profile → Played };

@@ -1,4 +1,4 @@
-//! The jobs over a recording, as calls over readers and writers, and the words of a command line that ask for them.
+//! The jobs over a recording, as calls over readers and writers.
 #![tactic(auto)]
 
 mod answers;
@@ -7,10 +7,7 @@ mod jobs;
 pub mod laws;
 mod player;
 mod shared;
-mod words;
 
-pub use job::{Ending, Job, JobFault, Outcome, run, run_with};
+pub use job::{Ending, JobFault, Outcome, run, run_with};
 pub use jobs::mend::mend;
 pub use jobs::redact::redact;
-pub use player::{Measure, Player, Print};
-pub use words::{VERSION, Words, WordsFault, read_words};

@@ -22,10 +22,7 @@ use vt_term::OutOfMemory;
 
 // ---- a session
 
-/// How many chunks lie between the terminals that a session stores, where the command line doesn't say.
-pub const USUAL_EVERY: usize = 100;
-
-/// The same for jobs that never go back: no recording has more chunks.
+/// How many chunks lie between the terminals that a job stores which never goes back: no recording has more.
 pub const EVERY: usize = MOST_EVERY;
 
 /// Opens a session. Want of memory stops the job.

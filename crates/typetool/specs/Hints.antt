@@ -3,8 +3,8 @@ use Rattle.std.specs.Prelude.{◌==◌, ℕ, Bool, true, false, Option, Some, No
 use Rattle.std.specs.Option.{option_map}
 use Rattle.tape_core.specs.declared.fault.Fault.{Fault}
 use Rattle.tape_core.specs.declared.fault.Fault.TheVariants as fault
-use Rattle.tape_jobs.specs.declared.job.Job.{Job}
-use Rattle.tape_jobs.specs.declared.job.Job.TheVariants as jobs
+use Rattle.command_line.specs.declared.job.Job.{Job}
+use Rattle.command_line.specs.declared.job.Job.TheVariants as jobs
 use Rattle.tape_jobs.specs.declared.job.JobFault.{JobFault}
 use Rattle.tape_jobs.specs.declared.job.JobFault.TheVariants as of_job
 use Rattle.typetool.specs.Beginning.{is_empty, is_streams, is_typescript}
@@ -13,7 +13,7 @@ use Rattle.typetool.specs.declared.hints.Device.{Device}
 use Rattle.typetool.specs.declared.hints.Hint.{Hint}
 use Rattle.typetool.specs.declared.program.Stop.{Stop}
 use Rattle.typetool.specs.declared.program.Stop.TheVariants as stop
-use Rattle.tape_jobs.specs.declared.words.WordsFault.TheVariants as words
+use Rattle.command_line.specs.declared.words.WordsFault.TheVariants as words
 use Rattle.typetool.specs.declared.hints.Hint.TheVariants as hint
 
 -- the fault is one of the timing's first line (ours)

@@ -5,11 +5,12 @@ ghost use Rattle.typetool.specs.Hints.{device_of, hint_after, hint_at_end, hint_
 
 use crate::beginning::Beginnings;
 use crate::cleaning::cleaned;
+use command_line::Job;
 use std::alloc::{AllocError, Global};
 use std::io::ErrorKind;
 use std::{fmt, io};
 use tape_core::Fault;
-use tape_jobs::{Job, JobFault};
+use tape_jobs::JobFault;
 
 /// What a job reads or writes.
 #[derive(Clone, Copy, Debug, PartialEq, Eq)]

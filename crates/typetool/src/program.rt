@@ -10,11 +10,12 @@ use crate::hints::{Device, Hint, tell_hint};
 use crate::note::tell_note;
 use crate::running::{Ended, open_and_run};
 use clap::error::ErrorKind;
+use command_line::{Job, WordsFault, read_words};
 use std::alloc::AllocError;
 use std::rt::{Env, Files};
 use std::{env, io};
 use tape_core::Fault;
-use tape_jobs::{Job, JobFault, WordsFault, read_words};
+use tape_jobs::JobFault;
 use thiserror::Error;
 
 /// Why there is no job to do, or a job wasn't done. The text follows the program's name on standard error.

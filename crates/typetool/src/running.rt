@@ -2,7 +2,7 @@
 
 ghost use Rattle.std.specs.Prelude.{◌≡◌, ◌≢◌, ◌≤◌, false, IfErr, IfOk, None, vec_len};
 ghost use Rattle.tape_core.specs.Devices.{has_failed};
-ghost use Rattle.tape_jobs.specs.CommandLine.{path_count};
+ghost use Rattle.command_line.specs.CommandLine.{path_count};
 ghost use Rattle.tape_jobs.specs.Endings.{HoldFiles, readers_of, used};
 ghost use Rattle.tape_jobs.specs.Output.{Files as Given, is_stopped};
 ghost use Rattle.typetool.specs.Beginning.{remaining_of};
@@ -14,10 +14,11 @@ use crate::files::open;
 use crate::hints::{Device, Hint, first_failed, hint_at_end};
 use crate::pair::{New, NewPair, create_pair};
 use crate::program::Stop;
+use command_line::{Job, Words};
 use std::io;
 use std::rt::Files;
 use tape_core::{Fault, Watched};
-use tape_jobs::{Job, JobFault, Outcome, Words, mend, redact, run, run_with};
+use tape_jobs::{JobFault, Outcome, mend, redact, run, run_with};
 use tape_mend::Header;
 use vt_term::Profile;
 

@@ -1,9 +1,9 @@
 //! The jobs `screen`, `reports` and `changes` of a VT102, and the escaped print.
 use super::{one_chunk, screen_text};
-use crate::in_memory::{compare, done};
+use crate::comparison::{compare, done};
+use command_line::{Job, Player, Print};
 use std::process::Abort;
 use std::test::Fail;
-use tape_jobs::{Job, Player, Print};
 use vt_term::Profile;
 
 /// Four lines, and a region of the two in the middle.

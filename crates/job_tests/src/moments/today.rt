@@ -1,7 +1,7 @@
 //! The jobs `screen`, `changes` and `reports` of a terminal of today.
-use crate::in_memory::{compare, done};
+use crate::comparison::{compare, done};
+use command_line::{Job, Measure, Player, Print};
 use std::test::Fail;
-use tape_jobs::{Job, Measure, Player, Print};
 
 /// A terminal of today of a size.
 const fn sized(columns: u64, lines: u64) -> Player {

@@ -17,7 +17,7 @@ use xterm_term::Terminal;
 impl Answers for Terminal {
     ghost use Rattle.std.specs.Prelude.{Some};
     ghost use Rattle.tape_jobs.specs.Player.{measure_of};
-    ghost use Rattle.tape_jobs.specs.declared.player.Player.TheVariants.{Today};
+    ghost use Rattle.command_line.specs.declared.player.Player.TheVariants.{Today};
 
     ghost player = { λ size. Today (Some (measure_of size)) };
 

@@ -14,7 +14,7 @@ use tape_seek::Session;
 use vt_term::Terminal;
 
 impl Answers for Terminal {
-    ghost use Rattle.tape_jobs.specs.declared.player.Player.TheVariants.{Vt};
+    ghost use Rattle.command_line.specs.declared.player.Player.TheVariants.{Vt};
 
     ghost player = { λ profile. Vt profile };
 

@@ -8,8 +8,9 @@ ghost use Rattle.tape_jobs.specs.Player.{cast_of, today_cast};
 
 use crate::job::JobFault;
 use crate::laws::stops_join;
-use crate::player::{Measure, Player, played_size};
+use crate::player::played_size;
 use crate::shared::{EVERY, open_session};
+use command_line::{Measure, Player};
 use std::alloc::Global;
 use std::io::Write;
 use std::mem::ManuallyDrop;

@@ -7,8 +7,9 @@ ghost use Rattle.tape_jobs.specs.Player.{changes_of};
 
 use crate::answers::Answers;
 use crate::job::JobFault;
-use crate::player::{Player, played_size};
+use crate::player::played_size;
 use crate::shared::{EVERY, open_session};
+use command_line::Player;
 use std::alloc::Global;
 use std::io::Write;
 use std::mem::ManuallyDrop;

@@ -9,7 +9,8 @@ ghost use Rattle.tape_jobs.specs.Player.{played_of};
 
 use crate::job::{Ending, JobFault};
 use crate::laws::stops_join;
-use crate::player::{Player, played_as};
+use crate::player::played_as;
+use command_line::Player;
 use std::alloc::Global;
 use std::io::Write;
 use tape_check::write_check;

@@ -12,7 +12,8 @@ ghost use Rattle.tape_mend.specs.Mended.{mended, seen};
 ghost use Rattle.tape_mend.specs.Told.{losses_text};
 ghost use Rattle.tape_mend.specs.declared.opening.Header.{Header as How};
 
-use crate::job::{Ending, Job, JobFault, Outcome, outcome_of};
+use crate::job::{Ending, JobFault, Outcome, outcome_of};
+use command_line::Job;
 use std::alloc::Global;
 use std::io::{Read, Write};
 use std::mem::ManuallyDrop;

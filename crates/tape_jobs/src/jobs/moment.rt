@@ -7,8 +7,9 @@ ghost use Rattle.tape_jobs.specs.Moment.{drawn_at, printed_at, sent_at, told_at}
 
 use crate::answers::{Answers, Asked, Question};
 use crate::job::JobFault;
-use crate::player::{Player, Print, played_size};
+use crate::player::played_size;
 use crate::shared::{EVERY, open_session};
+use command_line::{Player, Print};
 use std::alloc::Global;
 use std::io::Write;
 use std::mem::ManuallyDrop;

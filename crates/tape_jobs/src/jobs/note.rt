@@ -5,10 +5,10 @@ ghost use Rattle.tape_check.specs.Lines.{note_line};
 ghost use Rattle.tape_core.specs.Devices.{Puts, has_failed, is_flushed};
 ghost use Rattle.tape_jobs.specs.Notes.{IsTold, played_by, player_of};
 ghost use Rattle.tape_jobs.specs.Player.{played_of};
-ghost use Rattle.tape_jobs.specs.declared.player.Player.{Player as Played};
+ghost use Rattle.command_line.specs.declared.player.Player.{Player as Played};
 
-use crate::job::Job;
-use crate::player::{Player, Print, played_as};
+use crate::player::played_as;
+use command_line::{Job, Player, Print};
 use std::io::Write;
 use tape_check::{PlayedAs, put_parts};
 use tape_core::{Fault, Recording, Watched};

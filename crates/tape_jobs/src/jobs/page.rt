@@ -9,8 +9,9 @@ ghost use Rattle.xterm_page.specs.Page.{page_text as today_page};
 
 use crate::job::JobFault;
 use crate::laws::stops_join;
-use crate::player::{Player, played_size};
+use crate::player::played_size;
 use crate::shared::{EVERY, open_session};
+use command_line::Player;
 use screen_page::page;
 use std::alloc::Global;
 use std::io::Write;

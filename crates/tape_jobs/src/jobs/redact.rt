@@ -16,11 +16,12 @@ ghost use Rattle.tape_jobs.specs.Mending.{pair_of};
 ghost use Rattle.tape_jobs.specs.Output.{count_of_text, done_redacting, ending_of_redact, is_fit, is_same_size, without_text};
 ghost use Rattle.tape_jobs.specs.Redacting.{FourEnd, PairPuts, RedactEnds, count_line};
 
-use crate::job::{Ending, Job, JobFault, Outcome, outcome_in};
+use crate::job::{Ending, JobFault, Outcome, outcome_in};
 use crate::jobs::find::finds;
 use crate::jobs::note::tell_note;
 use crate::laws::stops_join;
 use crate::shared::{EVERY, open_session};
+use command_line::Job;
 use itoa::Buffer;
 use screen_print::laws::nowhere_means_nowhere;
 use screen_print::{find, scratch};

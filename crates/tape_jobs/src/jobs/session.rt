@@ -16,8 +16,9 @@ ghost use Rattle.tape_jobs.specs.Session.{answer, answered, any_refused, edit_an
 use crate::answers::{Answers, Asked, Question};
 use crate::job::{Ending, JobFault};
 use crate::laws::stops_join;
-use crate::player::{Player, played_size};
+use crate::player::played_size;
 use crate::shared::{make_edit, name_of, open_session, put_info, put_line};
+use command_line::Player;
 use std::alloc::Global;
 use std::io::Write;
 use std::mem::ManuallyDrop;

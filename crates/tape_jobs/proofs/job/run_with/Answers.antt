@@ -3,7 +3,7 @@ use Rattle.tape_core.proofs.DeviceLemmas.{took_none}
 use Rattle.tape_jobs.specs.Endings.{JobEnds, RunEnds, readers_of, used, writers_of}
 use Rattle.tape_jobs.specs.Mending.{remains_of}
 use Rattle.tape_jobs.specs.Output.{done_mending, done_on, mends, outcome_in, writes_timing}
-use Rattle.tape_jobs.specs.declared.job.Job.TheVariants.{Mend}
+use Rattle.command_line.specs.declared.job.Job.TheVariants.{Mend}
 use Rattle.tape_jobs.specs.declared.job.JobFault.TheVariants.{File}
 use Rattle.tape_jobs.proofs.JobLemmas.{IsBefore, comes_read, comes_refused, ends_performed, ends_unread}
 use Rattle.tape_jobs.proofs.MendLemmas.{comes_remade, comes_unmended, is_mend}

@@ -1,7 +1,7 @@
 use Rattle.std.proofs.Common.{◌≡◌, false, refl, not, Option, None, Some, sym, ◌∙◌, ap}
 use Rattle.tape_jobs.specs.Endings.{HoldFiles, Readers, RunEnds, Writers, is_of_input}
 use Rattle.tape_jobs.specs.Output.{Files, is_stopped}
-use Rattle.tape_jobs.specs.declared.job.Job.{Job}
+use Rattle.command_line.specs.declared.job.Job.{Job}
 use Rattle.tape_jobs.specs.declared.job.JobFault.{JobFault}
 use Rattle.tape_jobs.specs.declared.job.Outcome.{Outcome}
 use Rattle.typetool.specs.Program.{IsAnswer}

@@ -3,7 +3,7 @@ use Rattle.tape_check.specs.Lines.{note_line}
 use Rattle.tape_jobs.proofs.RedactLemmas.{redact_unread, redact_written}
 use Rattle.tape_jobs.specs.Endings.{used, writers_of}
 use Rattle.tape_jobs.specs.Mending.{pair_of}
-use Rattle.tape_jobs.specs.declared.player.Player.TheVariants.{Vt}
+use Rattle.command_line.specs.declared.player.Player.TheVariants.{Vt}
 use Rattle.tape_jobs.proofs.jobs.redact.redact.Goals as goal
 
 pub returns-in-Ok : goal.returns-in-Ok

@@ -1,0 +1,887 @@
+-- What clap makes of a plain command line.
+use Rattle.std.proofs.Common.{◌≡◌, ℕ, ◌&&◌, ◌||◌, Bool, true, false, not, List, [], ◌∷◌, ◌++◌, map, Option, Some, None, Result, Ok, chars, zero, drop, position, codes, ◌==◌, length, min, nat_lt, ◌+◌, arith, suc, take, refl, sym, ◌∙◌, ap, ap₂, subst, is_some, append_assoc, append-nil, if◌then◌else◌}
+use Rattle.std.proofs.lemmas.Bool.{eqb-true}
+use Rattle.std.proofs.lemmas.Bool.Decides.{nat_tests}
+use Rattle.std.specs.Char.{is_ascii_digit}
+use Rattle.std.specs.Int.{IsInRange}
+use Rattle.std.specs.Str.Parse.{digits_value}
+use Rattle.std.specs.List.{after_first, before_first, fold, list_all, position_or_len}
+use Rattle.std.specs.Option.{option_and_then, option_map, option_map_or}
+use Rattle.std.specs.Str.{bytes_eq}
+use Rattle.clap.specs.Lexer.{strip_byte, long_of, long_of_rest, short_of_rest}
+use Rattle.clap.specs.Words.{App, Shape, Text}
+use Rattle.clap.specs.Simple.{built, built_leaf, entered, inherited, names_of, marked_built, with_leaf_noted}
+use Rattle.clap.specs.Takes.{bundle_passes, built_takes, default_passes, entered_passes, flag_word_passes, is_valid, level_passes, other_passes, settle_passes, step_passes, turn_passes, walk_passes, word_passes}
+use Rattle.clap.specs.Walk.{Held, Names, Rule, Step, Walk, Waiting, after_step, finished, idle, option, positional, long_or_other, nothing_held, plain_word, rows_after, short_or_plain, subcommand_met, subcommand_or_other, trailing, walk, walk_from, walked, walked_from, word_met}
+use Rattle.clap.proofs.OnLiterals.{clap_on_literals}
+use Rattle.command_line.proofs.CommandLemmas.{is_simple_app, means, means_job}
+use Rattle.tape_core.specs.Seconds.{last_moment, micros, seconds_of}
+use Rattle.tape_seek.specs.Requests.{place_of}
+use Rattle.command_line.specs.CommandLine.{typetool_app, clap_takes, every_allowed, every_of, usual_every, after, readable, job_in, is_searchable, is_secret, moment_if, moment_or_last, profile_named, is_today, size_cut, size_from, size_named, stem_of, today_if, searchable, secret, value_in, subcommand_in, app_in, name_in, id_in, rule_in, flags_in, texts_in, text_in, paths_in, print_by}
+use Rattle.command_line.specs.Lines.{Asks, IsPlain, escaped_words, header_words, profile_or_first, profile_words, sized_words, today_words}
+use Rattle.tape_mend.specs.declared.opening.Header.{Header}
+use Rattle.tape_mend.specs.declared.opening.Header.TheVariants.{Kept, Last, Made}
+use Rattle.vt_term.specs.declared.profile.Profile.{Profile}
+use Rattle.vt_term.specs.declared.profile.Profile.TheVariants.{Vt100, Vt102}
+use Rattle.command_line.specs.declared.job.Job.{Job}
+use Rattle.command_line.specs.declared.job.Job.TheVariants as job
+use Rattle.command_line.specs.declared.player.Measure.{Measure}
+use Rattle.command_line.specs.declared.player.Player.{Player}
+use Rattle.command_line.specs.declared.player.Player.TheVariants.{Vt, Today}
+use Rattle.command_line.specs.declared.player.Print.TheVariants.{Plain, Escaped}
+use Rattle.command_line.specs.declared.words.values.Unreadable.{Unreadable}
+use Rattle.command_line.specs.declared.words.values.Unreadable.TheVariants as unread
+use Rattle.command_line.specs.declared.words.table.Subcommand.{Subcommand}
+use Rattle.command_line.specs.declared.words.table.Subcommand.TheVariants.{Due, Info, Check, Screen, Picture, Changes, Find, Reports, Page, Cast, Save, Mend, Redact, Session}
+
+both_true : (a b : Bool) → a ≡ true → b ≡ true → (a && b) ≡ true
+both_true a b e f = ap₂ (λ x y. x && y) e f
+
+first_true : (a b : Bool) → (a && b) ≡ true → a ≡ true
+first_true true b e = refl
+first_true false b e = e
+
+second_true : (a b : Bool) → (a && b) ≡ true → b ≡ true
+second_true true b e = e
+second_true false b e = absurd (cc)
+
+is_not : (a : Bool) → not a ≡ true → a ≡ false
+is_not true e = absurd (cc)
+is_not false e = refl
+
+-- ---- a plain word is no flag
+
+no_hyphen : (word : Text) → IsPlain word → strip_byte 45 word ≡ None
+no_hyphen [] plain = refl
+no_hyphen (c ∷ rest) plain = ap (λ b. if b then Some rest else None) plain
+
+no_hyphens : (word : Text) → IsPlain word → bytes_eq word (45 ∷ 45 ∷ []) ≡ false
+no_hyphens [] plain = refl
+no_hyphens (c ∷ rest) plain = ap (λ b. b && bytes_eq rest (45 ∷ [])) plain
+
+no_name : (waiting : Waiting) (word : Text) → subcommand_met [] waiting word ≡ None
+no_name idle word = refl
+no_name (option id) word = refl
+no_name positional word = refl
+
+module _ (word : Text) (plain : IsPlain word) where
+  -- so it is a value
+  is_value : (c : List Rule) (waiting : Waiting) (position : ℕ) (h : Held)
+      → word_met c [] false waiting position word h ≡ plain_word c waiting word h
+  is_value c waiting position h =
+      ap (λ o. subcommand_or_other c o waiting position word h) (no_name waiting word)
+      ∙ ap (λ b. if b then (h, trailing position) else long_or_other c waiting word (long_of word) h) (no_hyphens word plain)
+      ∙ ap (λ o. long_or_other c waiting word (option_and_then long_of_rest (option_and_then (strip_byte 45) o)) h) (no_hyphen word plain)
+      ∙ ap (λ o. short_or_plain c waiting word (option_and_then short_of_rest o) h) (no_hyphen word plain)
+
+  -- and no call for help
+  value_passes_by : (s : Shape) (waiting : Waiting) (h : Held) → word_passes s [] false waiting word h ≡ true
+  value_passes_by s waiting h =
+      ap (λ o. other_passes s o word h) (no_name waiting word)
+      ∙ ap (λ b. b || (flag_word_passes s.rules s.args_override_self (long_of word) word h)) (no_hyphens word plain)
+      ∙ ap (λ o. flag_word_passes s.rules s.args_override_self (option_and_then long_of_rest (option_and_then (strip_byte 45) o)) word h)
+      (no_hyphen word plain)
+      ∙ ap (λ o. option_map_or (λ flags. bundle_passes s.rules s.args_override_self flags h) (option_and_then short_of_rest o) true)
+      (no_hyphen word plain)
+
+-- ---- a walk over words of which some are plain
+
+-- a word that is written out, or a plain one
+data Word : Type 0 where
+  literal : Text → Word
+  value_word : Text → Word
+
+abbrev text_of : Word → Text
+text_of (literal text) = text
+text_of (value_word text) = text
+
+abbrev ArePlain : List Word → Type 0
+ArePlain [] = Unit {0}
+ArePlain (literal text ∷ rest) = ArePlain rest
+ArePlain (value_word text ∷ rest) = IsPlain text × ArePlain rest
+
+-- the walk, which computes whatever the plain words are
+abbrev stepped : List Rule → Walk → Word → Walk
+stepped c w (literal text) = walked c [] w text
+stepped c w (value_word text) = after_step c text w (plain_word c w.waiting text w.held).0 (plain_word c w.waiting text w.held).1
+
+abbrev step_is_taken : Shape → Walk → Word → Bool
+step_is_taken s w (literal text) = turn_passes s [] w text
+step_is_taken s w (value_word text) =
+    not w.is_trailing && (not (is_some w.stopped)
+    && step_passes s w.position (plain_word s.rules w.waiting text w.held).0 (plain_word s.rules w.waiting text w.held).1)
+
+abbrev are_taken : Shape → Walk → List Word → Bool
+are_taken s w [] = true
+are_taken s w (word ∷ rest) = step_is_taken s w word && are_taken s (stepped s.rules w word) rest
+
+is_none : {X : Type 0} (o : Option X) → not (is_some o) ≡ true → o ≡ None
+is_none None e = refl
+is_none (Some x) e = absurd (cc)
+
+-- the walk over a plain word that nothing stops
+module _ (s : Shape) (w : Walk) (text : Text) (plain : IsPlain text) (untrailing : w.is_trailing ≡ false)
+    (unstopped : w.stopped ≡ None) where
+  -- what the word does, by whether a `--` stands before it
+  abbrev met_where : Bool → Held × Step
+  met_where is_trailing = word_met s.rules [] is_trailing w.waiting w.position text w.held
+
+  plain_step : walked s.rules [] w text ≡ stepped s.rules w (value_word text)
+  unfolding walked
+  plain_step =
+      ap (λ o. walked_from s.rules [] o w text) unstopped
+      ∙ ap (λ b. after_step s.rules text w (met_where b).0 (met_where b).1) untrailing
+      ∙ ap (λ met. after_step s.rules text w met.0 met.1) (is_value text plain s.rules w.waiting w.position w.held)
+
+  abbrev turn_where : Option (Text × List Text) → Bool → Bool
+  turn_where stopped is_trailing =
+      is_some stopped || (word_passes s [] is_trailing w.waiting text w.held
+      && step_passes s w.position (met_where is_trailing).0 (met_where is_trailing).1)
+
+  plain_turn : step_passes s w.position (plain_word s.rules w.waiting text w.held).0 (plain_word s.rules w.waiting text w.held).1 ≡ true
+      → turn_passes s [] w text ≡ true
+  plain_turn passes =
+      ap (λ o. turn_where o w.is_trailing) unstopped
+      ∙ ap (turn_where None) untrailing
+      ∙ both_true _ _ (value_passes_by text plain s w.waiting w.held)
+      (ap (λ met. step_passes s w.position met.0 met.1) (is_value text plain s.rules w.waiting w.position w.held) ∙ passes)
+
+-- what is walked, where it passes
+record Goes (s : Shape) (w : Walk) (words : List Word) : Type 0 where
+  pub to : fold (walked s.rules []) w (map text_of words) ≡ fold (stepped s.rules) w words
+  pub passes : walk_passes s [] w (map text_of words) ≡ true
+
+goes_on : (s : Shape) (w : Walk) (word : Word) (rest : List Word)
+    → walked s.rules [] w (text_of word) ≡ stepped s.rules w word → turn_passes s [] w (text_of word) ≡ true
+    → Goes s (stepped s.rules w word) rest → Goes s w (word ∷ rest)
+unfolding walk_passes
+goes_on s w word rest step turn g = record {
+  to = ap (λ x. fold (walked s.rules []) x (map text_of rest)) step ∙ g.to;
+  passes = both_true _ _ turn (ap (λ x. walk_passes s [] x (map text_of rest)) step ∙ g.passes);
+}
+
+goes : (s : Shape) (words : List Word) (w : Walk) → ArePlain words → are_taken s w words ≡ true → Goes s w words
+unfolding walk_passes
+goes s [] w plain taken = record { to = refl; passes = refl }
+goes s (literal text ∷ rest) w plain taken =
+    goes_on s w (literal text) rest refl (first_true _ _ taken) (goes s rest (stepped s.rules w (literal text)) plain (second_true _ _ taken))
+goes s (value_word text ∷ rest) w plain taken =
+    let here = first_true _ _ taken in
+    let untrailing = is_not _ (first_true _ _ here) in
+    let unstopped = is_none _ (first_true _ _ (second_true _ _ here)) in
+    goes_on s w (value_word text) rest (plain_step s w text plain.0 untrailing unstopped)
+    (plain_turn s w text plain.0 untrailing unstopped (second_true _ _ (second_true _ _ here)))
+    (goes s rest (stepped s.rules w (value_word text)) plain.1 (second_true _ _ taken))
+
+-- ---- a subcommand, with the words behind its name
+
+-- what is left to judge of a command when its words are over
+abbrev settles : Shape → Held → Bool → Bool
+settles s h is_entered =
+    settle_passes s.rules s.args_override_self h
+    && (list_all default_passes s.rules && is_valid s (finished s.rules h) is_entered)
+
+-- where the walk stands when the words are over
+abbrev end_of : Shape → List Word → Walk
+end_of s words = fold (stepped s.rules) (walk_from nothing_held) words
+
+-- whether a level takes the words, whatever the plain ones are
+abbrev level_takes : Shape → List Word → Bool
+level_takes s words =
+    are_taken s (walk_from nothing_held) words && settles s (end_of s words).held false
+
+level_by : (s : Shape) (words : List Word) → ArePlain words → level_takes s words ≡ true
+    → level_passes s [] nothing_held (map text_of words) false ≡ true
+level_by s words plain taken =
+    let g = goes s words (walk_from nothing_held) plain (first_true _ _ taken) in
+    both_true _ _ g.passes
+    (ap (λ (x : Walk). settles s x.held false) g.to
+    ∙ second_true _ _ taken)
+
+rows_by : (s : Shape) (words : List Word) → ArePlain words → level_takes s words ≡ true
+    → rows_after s.rules [] (map text_of words) ≡ finished s.rules (end_of s words).held
+rows_by s words plain taken =
+    ap (λ (x : Walk). finished s.rules x.held) (goes s words (walk_from nothing_held) plain (first_true _ _ taken)).to
+
+-- where the walk of the command above stands once the subcommand was met
+abbrev halted : Text → List Text → Walk
+halted name words = record (walk_from nothing_held) { stopped = Some (name, words) }
+
+halted_walk : (c : List Rule) (names : Names) (name : Text) (before words : List Text)
+    → fold (walked c names) (halted name before) words ≡ halted name (before ++ words)
+unfolding walked
+halted_walk c names name before [] = ap (halted name) (sym (append-nil before))
+halted_walk c names name before (word ∷ rest) =
+    halted_walk c names name (before ++ word ∷ []) rest ∙ ap (halted name) (append_assoc before (word ∷ []) rest)
+
+halted_passes : (s : Shape) (names : Names) (name : Text) (before words : List Text)
+    → walk_passes s names (halted name before) words ≡ true
+unfolding walk_passes walked
+halted_passes s names name before [] = refl
+halted_passes s names name before (word ∷ rest) = halted_passes s names name (before ++ word ∷ []) rest
+
+-- a command takes words whose walk passes and ends here
+takes_by : (a : App) (words : List Text) (end : Walk) → walk a.top.rules (names_of a) nothing_held words ≡ end
+    → walk_passes a.top (names_of a) (walk_from nothing_held) words ≡ true → entered_passes a end.stopped ≡ true
+    → settles a.top end.held (is_some (entered a end.stopped)) ≡ true
+    → built_takes a nothing_held words ≡ true
+takes_by a words end ends passes below here =
+    let left = walk a.top.rules (names_of a) nothing_held words in
+    both_true _ _ (ap (λ (x : Walk). entered_passes a x.stopped) ends ∙ below)
+    (both_true _ _ passes
+    (ap (λ (x : Walk). settles a.top x.held (is_some (entered a x.stopped))) ends
+    ∙ here))
+
+-- the subcommand as clap builds it
+abbrev leaf : Subcommand → Shape
+leaf s = built_leaf (inherited (with_leaf_noted (marked_built typetool_app.top)) (app_in s).top)
+
+-- the walk of the whole command over the subcommand's name and the words behind it
+enters : (s : Subcommand) (words : List Text)
+    → walk (built typetool_app).top.rules (names_of (built typetool_app)) nothing_held (name_in s ∷ words) ≡ halted (name_in s) words
+unfolding clap_on_literals typetool_app app_in name_in flags_in texts_in paths_in id_in rule_in
+enters Due words = halted_walk (built typetool_app).top.rules (names_of (built typetool_app)) (name_in Due) [] words
+enters Info words = halted_walk (built typetool_app).top.rules (names_of (built typetool_app)) (name_in Info) [] words
+enters Check words = halted_walk (built typetool_app).top.rules (names_of (built typetool_app)) (name_in Check) [] words
+enters Screen words = halted_walk (built typetool_app).top.rules (names_of (built typetool_app)) (name_in Screen) [] words
+enters Picture words = halted_walk (built typetool_app).top.rules (names_of (built typetool_app)) (name_in Picture) [] words
+enters Changes words = halted_walk (built typetool_app).top.rules (names_of (built typetool_app)) (name_in Changes) [] words
+enters Find words = halted_walk (built typetool_app).top.rules (names_of (built typetool_app)) (name_in Find) [] words
+enters Reports words = halted_walk (built typetool_app).top.rules (names_of (built typetool_app)) (name_in Reports) [] words
+enters Page words = halted_walk (built typetool_app).top.rules (names_of (built typetool_app)) (name_in Page) [] words
+enters Cast words = halted_walk (built typetool_app).top.rules (names_of (built typetool_app)) (name_in Cast) [] words
+enters Save words = halted_walk (built typetool_app).top.rules (names_of (built typetool_app)) (name_in Save) [] words
+enters Mend words = halted_walk (built typetool_app).top.rules (names_of (built typetool_app)) (name_in Mend) [] words
+enters Redact words = halted_walk (built typetool_app).top.rules (names_of (built typetool_app)) (name_in Redact) [] words
+enters Session words = halted_walk (built typetool_app).top.rules (names_of (built typetool_app)) (name_in Session) [] words
+
+enter_passes : (s : Subcommand) (words : List Text)
+    → walk_passes (built typetool_app).top (names_of (built typetool_app)) (walk_from nothing_held) (name_in s ∷ words) ≡ true
+unfolding clap_on_literals typetool_app app_in name_in flags_in texts_in paths_in id_in rule_in
+enter_passes Due words = halted_passes (built typetool_app).top (names_of (built typetool_app)) (name_in Due) [] words
+enter_passes Info words = halted_passes (built typetool_app).top (names_of (built typetool_app)) (name_in Info) [] words
+enter_passes Check words = halted_passes (built typetool_app).top (names_of (built typetool_app)) (name_in Check) [] words
+enter_passes Screen words = halted_passes (built typetool_app).top (names_of (built typetool_app)) (name_in Screen) [] words
+enter_passes Picture words = halted_passes (built typetool_app).top (names_of (built typetool_app)) (name_in Picture) [] words
+enter_passes Changes words = halted_passes (built typetool_app).top (names_of (built typetool_app)) (name_in Changes) [] words
+enter_passes Find words = halted_passes (built typetool_app).top (names_of (built typetool_app)) (name_in Find) [] words
+enter_passes Reports words = halted_passes (built typetool_app).top (names_of (built typetool_app)) (name_in Reports) [] words
+enter_passes Page words = halted_passes (built typetool_app).top (names_of (built typetool_app)) (name_in Page) [] words
+enter_passes Cast words = halted_passes (built typetool_app).top (names_of (built typetool_app)) (name_in Cast) [] words
+enter_passes Save words = halted_passes (built typetool_app).top (names_of (built typetool_app)) (name_in Save) [] words
+enter_passes Mend words = halted_passes (built typetool_app).top (names_of (built typetool_app)) (name_in Mend) [] words
+enter_passes Redact words = halted_passes (built typetool_app).top (names_of (built typetool_app)) (name_in Redact) [] words
+enter_passes Session words = halted_passes (built typetool_app).top (names_of (built typetool_app)) (name_in Session) [] words
+
+-- what is entered is the subcommand
+entered_leaf : (s : Subcommand) (words : List Text)
+    → entered (built typetool_app) (Some (name_in s, words)) ≡ Some (name_in s, rows_after (leaf s).rules [] words)
+unfolding typetool_app app_in name_in flags_in texts_in paths_in id_in rule_in
+entered_leaf Due words = refl
+entered_leaf Info words = refl
+entered_leaf Check words = refl
+entered_leaf Screen words = refl
+entered_leaf Picture words = refl
+entered_leaf Changes words = refl
+entered_leaf Find words = refl
+entered_leaf Reports words = refl
+entered_leaf Page words = refl
+entered_leaf Cast words = refl
+entered_leaf Save words = refl
+entered_leaf Mend words = refl
+entered_leaf Redact words = refl
+entered_leaf Session words = refl
+
+leaf_passes : (s : Subcommand) (words : List Text) → level_passes (leaf s) [] nothing_held words false ≡ true
+    → entered_passes (built typetool_app) (Some (name_in s, words)) ≡ true
+unfolding typetool_app app_in name_in flags_in texts_in paths_in id_in rule_in
+leaf_passes Due words e = e
+leaf_passes Info words e = e
+leaf_passes Check words e = e
+leaf_passes Screen words e = e
+leaf_passes Picture words e = e
+leaf_passes Changes words e = e
+leaf_passes Find words e = e
+leaf_passes Reports words e = e
+leaf_passes Page words e = e
+leaf_passes Cast words e = e
+leaf_passes Save words e = e
+leaf_passes Mend words e = e
+leaf_passes Redact words e = e
+leaf_passes Session words e = e
+
+above_passes : settles (built typetool_app).top nothing_held true ≡ true
+unfolding typetool_app app_in name_in flags_in texts_in paths_in id_in rule_in
+above_passes = refl
+
+module _ (program : Text) (s : Subcommand) (words : List Word) (plain : ArePlain words) (taken : level_takes (leaf s) words ≡ true) where
+  takes_line : clap_takes (program ∷ name_in s ∷ map text_of words) ≡ true
+  unfolding clap_takes typetool_app
+  takes_line =
+      let a = built typetool_app in
+      let behind = map text_of words in
+      both_true _ _ is_simple_app
+      (takes_by a (name_in s ∷ behind) (halted (name_in s) behind) (enters s behind) (enter_passes s behind)
+      (leaf_passes s behind (level_by (leaf s) words plain taken))
+      (ap (λ o. settles a.top nothing_held (is_some o)) (entered_leaf s behind)
+      ∙ above_passes))
+
+  line_met : subcommand_in (program ∷ name_in s ∷ map text_of words) ≡ Some (name_in s, finished (leaf s).rules (end_of (leaf s) words).held)
+  unfolding subcommand_in typetool_app
+  line_met =
+      let behind = map text_of words in
+      ap (λ (x : Walk). entered (built typetool_app) x.stopped) (enters s behind)
+      ∙ entered_leaf s behind
+      ∙ ap (λ r. Some (name_in s, r)) (rows_by (leaf s) words plain taken)
+
+  -- such a line asks for the job that its values mean
+  asks_by : (job : Job) (text : List ℕ) (paths : List Text)
+      → job_in s (finished (leaf s).rules (end_of (leaf s) words).held) ≡ Ok job
+      → text ≡ text_in s (finished (leaf s).rules (end_of (leaf s) words).held)
+      → paths ≡ map (λ a. value_in (id_in a) (finished (leaf s).rules (end_of (leaf s) words).held)) (paths_in s)
+      → Asks (program ∷ name_in s ∷ map text_of words) job text paths
+  asks_by job text paths is beside are = record {
+    taken = takes_line;
+    meaning = means _ s _ line_met ∙ ap (λ m. Some m) (means_job s _ job text paths is beside are);
+  }
+
+-- ---- the values of flags
+
+is_false : (b : Bool) → (b ≡ true → ⊥) → b ≡ false
+is_false true h = absurd (h refl)
+is_false false h = refl
+
+no_value : {X Y : Type 0} (f : X → Y) (x : X) (b : Bool) → option_map f (if b && false then Some x else None) ≡ None
+no_value f x true = refl
+no_value f x false = refl
+
+no_digit : (n : ℕ) (rest : Text) → list_all is_ascii_digit (take (1 + n) (45 ∷ rest)) ≡ false
+no_digit n rest =
+    let more : 1 + n ≡ suc n = omega arith in
+    ap (λ k. list_all is_ascii_digit (take k (45 ∷ rest))) more
+
+no_seconds : (rest : Text) → seconds_of (45 ∷ rest) ≡ None
+unfolding seconds_of
+no_seconds rest =
+    let whole = before_first (λ b. b == 46) (45 ∷ rest) in
+    let decimals = after_first (λ b. b == 46) (45 ∷ rest) in
+    ap (λ c. option_map (λ us. min us last_moment)
+    (if nat_lt 0 (length whole) && (c && list_all is_ascii_digit decimals) then Some (micros whole decimals) else None))
+    (no_digit (position_or_len (λ b. b == 46) rest) rest)
+    ∙ no_value (λ us. min us last_moment) (micros whole decimals) (nat_lt 0 (length whole))
+
+some_seconds : (rest : Text) (moment : ℕ) → seconds_of (45 ∷ rest) ≡ Some moment → ⊥
+some_seconds rest moment e =
+    let bad : None ≡ Some moment = sym (no_seconds rest) ∙ e in
+    absurd (cc)
+
+-- a text that is read as seconds begins with a digit
+seconds_are_plain : (text : Text) (moment : ℕ) → seconds_of text ≡ Some moment → IsPlain text
+unfolding seconds_of
+seconds_are_plain [] moment e = refl
+seconds_are_plain (c ∷ rest) moment e =
+    is_false (c == 45) (λ same. some_seconds rest moment (subst (λ x. seconds_of (x ∷ rest) ≡ Some moment) (eqb-true c 45 same) e))
+
+-- ---- the number of chunks that a flag gives
+
+digits_if : (text : Text) (count : ℕ) (is : Bool) → is ≡ (nat_lt 0 (length text) && list_all is_ascii_digit text)
+    → option_and_then every_allowed (option_map (λ n. min n last_moment) (if is then Some (digits_value 10 text) else None)) ≡ Some count
+    → list_all is_ascii_digit text ≡ true
+digits_if text count false is e = absurd (cc)
+digits_if text count true is e = second_true _ _ (sym is)
+
+-- a number of chunks is written in digits
+number_in_digits : (text : Text) (count : ℕ) → every_of text ≡ Some count → list_all is_ascii_digit text ≡ true
+unfolding every_of
+number_in_digits text count e = digits_if text count (nat_lt 0 (length text) && list_all is_ascii_digit text) refl e
+
+digit_range : (c : ℕ) → is_ascii_digit c ≡ true → IsInRange 48 57 c
+digit_range c e = (grind (arith, nat_tests), grind (arith, nat_tests))
+
+number_is_plain : (text : Text) → list_all is_ascii_digit text ≡ true → IsPlain text
+number_is_plain [] e = refl
+number_is_plain (c ∷ rest) e =
+    is_false (c == 45) (λ same. absurd (omega (arith, eqb-true c 45 same, (digit_range c (first_true _ _ e)).0)))
+
+-- ---- the size that a flag gives
+
+no_place : (n : ℕ) (rest : Text) → place_of (take n (45 ∷ rest)) ≡ None
+no_place zero rest = refl
+no_place (suc n) rest =
+    no_value (λ n. min n last_moment) (digits_value 10 (take (suc n) (45 ∷ rest))) (nat_lt 0 (length (take (suc n) (45 ∷ rest))))
+
+no_columns : (lines : Option ℕ) → size_from None lines ≡ None
+no_columns None = refl
+no_columns (Some lines) = refl
+
+no_cut : (rest : Text) (cross : Option ℕ) → option_and_then (size_cut (45 ∷ rest)) cross ≡ None
+no_cut rest None = refl
+no_cut rest (Some n) =
+    ap (λ columns. size_from columns (place_of (drop (n + 1) (45 ∷ rest)))) (no_place n rest) ∙ no_columns (place_of (drop (n + 1) (45 ∷ rest)))
+
+no_size : (rest : Text) → size_named (45 ∷ rest) ≡ None
+unfolding size_named
+no_size rest = no_cut rest (position (λ byte. byte == 120) (45 ∷ rest))
+
+-- a text that is read as a size begins with a digit
+size_is_plain : (text : Text) (measure : Measure) → size_named text ≡ Some measure → IsPlain text
+unfolding size_named
+size_is_plain [] measure e = refl
+size_is_plain (c ∷ rest) measure e =
+    is_false (c == 45) (λ same.
+    let bad : None ≡ Some measure = sym (no_size rest) ∙ subst (λ x. size_named (x ∷ rest) ≡ Some measure) (eqb-true c 45 same) e in
+    absurd (cc))
+
+-- ---- each line
+
+module _ (program script timing : Text) (p : IsPlain script) (q : IsPlain timing) where
+  abbrev files : List Word
+  files = value_word script ∷ value_word timing ∷ []
+
+  abbrev paths : List Text
+  paths = script ∷ timing ∷ []
+
+  abbrev as_vt100 : List Word
+  as_vt100 = literal (codes "--profile") ∷ literal (codes "vt100") ∷ files
+
+  abbrev as_vt102 : List Word
+  as_vt102 = literal (codes "--profile") ∷ literal (codes "vt102") ∷ files
+
+  abbrev as_today : List Word
+  as_today = literal (codes "--profile") ∷ literal (codes "xterm") ∷ files
+
+  abbrev as_sized : Text → List Word
+  as_sized size = literal (codes "--profile") ∷ literal (codes "xterm") ∷ literal (codes "--size") ∷ value_word size ∷ files
+
+  pub info_line : Asks (program ∷ codes "info" ∷ script ∷ timing ∷ []) job.Info [] paths
+  unfolding clap_on_literals typetool_app app_in name_in flags_in texts_in paths_in id_in rule_in job_in text_in
+  info_line = asks_by program Info files (p, (q, tt)) refl job.Info [] paths refl refl refl
+
+  pub check_line : (profile : Option Profile)
+      → Asks (program ∷ codes "check" ∷ (profile_words profile ++ paths)) (job.Check (Vt (profile_or_first profile))) [] paths
+  unfolding clap_on_literals typetool_app app_in name_in flags_in texts_in paths_in id_in rule_in job_in text_in profile_named is_today
+  check_line None = asks_by program Check files (p, (q, tt)) refl (job.Check (Vt Vt100)) [] paths refl refl refl
+  check_line (Some Vt100) = asks_by program Check as_vt100 (p, (q, tt)) refl (job.Check (Vt Vt100)) [] paths refl refl refl
+  check_line (Some Vt102) = asks_by program Check as_vt102 (p, (q, tt)) refl (job.Check (Vt Vt102)) [] paths refl refl refl
+
+  pub check_today_line : Asks (program ∷ codes "check" ∷ (today_words ++ paths)) (job.Check (Today None)) [] paths
+  unfolding clap_on_literals typetool_app app_in name_in flags_in texts_in paths_in id_in rule_in job_in text_in profile_named is_today
+  check_today_line = asks_by program Check as_today (p, (q, tt)) refl (job.Check (Today None)) [] paths refl refl refl
+
+  pub check_sized_line : (size : Text) (measure : Measure) → size_named size ≡ Some measure
+      → Asks (program ∷ codes "check" ∷ (sized_words size ++ paths)) (job.Check (Today (Some measure))) [] paths
+  unfolding clap_on_literals typetool_app app_in name_in flags_in texts_in paths_in id_in rule_in job_in text_in profile_named is_today
+  check_sized_line size measure d =
+      asks_by program Check (as_sized size) (size_is_plain size measure d, (p, (q, tt))) refl (job.Check (Today (Some measure))) [] paths
+      (ap (λ o. after (after (readable unread.Size o) (λ s. Ok (Today (Some s)))) (λ player. Ok (job.Check player))) d) refl refl
+
+  pub cast_line : (profile : Option Profile)
+      → Asks (program ∷ codes "cast" ∷ (profile_words profile ++ paths)) (job.Cast (Vt (profile_or_first profile))) [] paths
+  unfolding clap_on_literals typetool_app app_in name_in flags_in texts_in paths_in id_in rule_in job_in text_in profile_named is_today
+  cast_line None = asks_by program Cast files (p, (q, tt)) refl (job.Cast (Vt Vt100)) [] paths refl refl refl
+  cast_line (Some Vt100) = asks_by program Cast as_vt100 (p, (q, tt)) refl (job.Cast (Vt Vt100)) [] paths refl refl refl
+  cast_line (Some Vt102) = asks_by program Cast as_vt102 (p, (q, tt)) refl (job.Cast (Vt Vt102)) [] paths refl refl refl
+
+  pub cast_today_line : Asks (program ∷ codes "cast" ∷ (today_words ++ paths)) (job.Cast (Today None)) [] paths
+  unfolding clap_on_literals typetool_app app_in name_in flags_in texts_in paths_in id_in rule_in job_in text_in profile_named is_today
+  cast_today_line = asks_by program Cast as_today (p, (q, tt)) refl (job.Cast (Today None)) [] paths refl refl refl
+
+  pub cast_sized_line : (size : Text) (measure : Measure) → size_named size ≡ Some measure
+      → Asks (program ∷ codes "cast" ∷ (sized_words size ++ paths)) (job.Cast (Today (Some measure))) [] paths
+  unfolding clap_on_literals typetool_app app_in name_in flags_in texts_in paths_in id_in rule_in job_in text_in profile_named is_today
+  cast_sized_line size measure d =
+      asks_by program Cast (as_sized size) (size_is_plain size measure d, (p, (q, tt))) refl (job.Cast (Today (Some measure))) [] paths
+      (ap (λ o. after (after (readable unread.Size o) (λ s. Ok (Today (Some s)))) (λ player. Ok (job.Cast player))) d) refl refl
+
+  pub page_line : (profile : Option Profile)
+      → Asks (program ∷ codes "page" ∷ (profile_words profile ++ paths)) (job.Page (Vt (profile_or_first profile))) (chars (stem_of script)) paths
+  unfolding clap_on_literals typetool_app app_in name_in flags_in texts_in paths_in id_in rule_in job_in text_in profile_named is_today
+  page_line None = asks_by program Page files (p, (q, tt)) refl (job.Page (Vt Vt100)) (chars (stem_of script)) paths refl refl refl
+  page_line (Some Vt100) =
+      asks_by program Page as_vt100 (p, (q, tt)) refl (job.Page (Vt Vt100)) (chars (stem_of script)) paths refl refl refl
+  page_line (Some Vt102) =
+      asks_by program Page as_vt102 (p, (q, tt)) refl (job.Page (Vt Vt102)) (chars (stem_of script)) paths refl refl refl
+
+  pub page_today_line : Asks (program ∷ codes "page" ∷ (today_words ++ paths)) (job.Page (Today None)) (chars (stem_of script)) paths
+  unfolding clap_on_literals typetool_app app_in name_in flags_in texts_in paths_in id_in rule_in job_in text_in profile_named is_today
+  page_today_line = asks_by program Page as_today (p, (q, tt)) refl (job.Page (Today None)) (chars (stem_of script)) paths refl refl refl
+
+  pub page_sized_line : (size : Text) (measure : Measure) → size_named size ≡ Some measure
+      → Asks (program ∷ codes "page" ∷ (sized_words size ++ paths)) (job.Page (Today (Some measure))) (chars (stem_of script)) paths
+  unfolding clap_on_literals typetool_app app_in name_in flags_in texts_in paths_in id_in rule_in job_in text_in profile_named is_today
+  page_sized_line size measure d =
+      asks_by program Page (as_sized size) (size_is_plain size measure d, (p, (q, tt))) refl (job.Page (Today (Some measure))) (chars (stem_of script)) paths
+      (ap (λ o. after (after (readable unread.Size o) (λ s. Ok (Today (Some s)))) (λ player. Ok (job.Page player))) d) refl refl
+
+  -- and with a title
+  module _ (title : Text) (r : IsPlain title) where
+    abbrev titled : List Word
+    titled = literal (codes "--title") ∷ value_word title ∷ files
+
+    pub page_titled_line : (profile : Option Profile)
+        → Asks (program ∷ codes "page" ∷ ((profile_words profile ++ codes "--title" ∷ title ∷ []) ++ paths))
+        (job.Page (Vt (profile_or_first profile))) (chars title) paths
+    unfolding clap_on_literals typetool_app app_in name_in flags_in texts_in paths_in id_in rule_in job_in text_in profile_named is_today
+    page_titled_line None =
+        asks_by program Page titled (r, (p, (q, tt))) refl (job.Page (Vt Vt100)) (chars title) paths refl refl refl
+    page_titled_line (Some Vt100) =
+        asks_by program Page (literal (codes "--profile") ∷ literal (codes "vt100") ∷ titled) (r, (p, (q, tt))) refl
+        (job.Page (Vt Vt100)) (chars title) paths refl refl refl
+    page_titled_line (Some Vt102) =
+        asks_by program Page (literal (codes "--profile") ∷ literal (codes "vt102") ∷ titled) (r, (p, (q, tt))) refl
+        (job.Page (Vt Vt102)) (chars title) paths refl refl refl
+
+  pub save_line : (new_script new_timing : Text) → IsPlain new_script → IsPlain new_timing
+      → Asks (program ∷ codes "save" ∷ script ∷ timing ∷ new_script ∷ new_timing ∷ []) job.Save [] (script ∷ timing ∷ new_script ∷ new_timing ∷ [])
+  unfolding clap_on_literals typetool_app app_in name_in flags_in texts_in paths_in id_in rule_in job_in text_in
+  save_line new_script new_timing r t =
+      asks_by program Save (value_word script ∷ value_word timing ∷ value_word new_script ∷ value_word new_timing ∷ [])
+      (p, (q, (r, (t, tt)))) refl job.Save [] (script ∷ timing ∷ new_script ∷ new_timing ∷ []) refl refl refl
+
+  pub mend_line : (how : Header) (new_script new_timing : Text) → IsPlain new_script → IsPlain new_timing
+      → Asks (program ∷ codes "mend" ∷ (header_words how ++ script ∷ timing ∷ new_script ∷ new_timing ∷ [])) (job.Mend how) []
+      (script ∷ timing ∷ new_script ∷ new_timing ∷ [])
+  unfolding clap_on_literals typetool_app app_in name_in flags_in texts_in paths_in id_in rule_in job_in text_in
+  mend_line Kept new_script new_timing r t =
+      asks_by program Mend (value_word script ∷ value_word timing ∷ value_word new_script ∷ value_word new_timing ∷ [])
+      (p, (q, (r, (t, tt)))) refl (job.Mend Kept) [] (script ∷ timing ∷ new_script ∷ new_timing ∷ []) refl refl refl
+  mend_line Last new_script new_timing r t =
+      asks_by program Mend
+      (literal (codes "--last") ∷ value_word script ∷ value_word timing ∷ value_word new_script ∷ value_word new_timing ∷ [])
+      (p, (q, (r, (t, tt)))) refl (job.Mend Last) [] (script ∷ timing ∷ new_script ∷ new_timing ∷ []) refl refl refl
+  mend_line Made new_script new_timing r t =
+      asks_by program Mend
+      (literal (codes "--headless") ∷ value_word script ∷ value_word timing ∷ value_word new_script ∷ value_word new_timing ∷ [])
+      (p, (q, (r, (t, tt)))) refl (job.Mend Made) [] (script ∷ timing ∷ new_script ∷ new_timing ∷ []) refl refl refl
+
+  pub session_line : (profile : Option Profile)
+      → Asks (program ∷ codes "session" ∷ (profile_words profile ++ paths)) (job.Session usual_every (Vt (profile_or_first profile))) [] paths
+  unfolding clap_on_literals typetool_app app_in name_in flags_in texts_in paths_in id_in rule_in job_in text_in profile_named is_today
+  session_line None = asks_by program Session files (p, (q, tt)) refl (job.Session usual_every (Vt Vt100)) [] paths refl refl refl
+  session_line (Some Vt100) =
+      asks_by program Session as_vt100 (p, (q, tt)) refl (job.Session usual_every (Vt Vt100)) [] paths refl refl refl
+  session_line (Some Vt102) =
+      asks_by program Session as_vt102 (p, (q, tt)) refl (job.Session usual_every (Vt Vt102)) [] paths refl refl refl
+
+  pub session_today_line : Asks (program ∷ codes "session" ∷ (today_words ++ paths)) (job.Session usual_every (Today None)) [] paths
+  unfolding clap_on_literals typetool_app app_in name_in flags_in texts_in paths_in id_in rule_in job_in text_in profile_named is_today
+  session_today_line =
+      asks_by program Session as_today (p, (q, tt)) refl (job.Session usual_every (Today None)) [] paths refl refl refl
+
+  pub session_sized_line : (size : Text) (measure : Measure) → size_named size ≡ Some measure
+      → Asks (program ∷ codes "session" ∷ (sized_words size ++ paths)) (job.Session usual_every (Today (Some measure))) [] paths
+  unfolding clap_on_literals typetool_app app_in name_in flags_in texts_in paths_in id_in rule_in job_in text_in profile_named is_today
+  session_sized_line size measure d =
+      asks_by program Session (as_sized size) (size_is_plain size measure d, (p, (q, tt))) refl
+      (job.Session usual_every (Today (Some measure))) [] paths
+      (ap (λ o. after (after (readable unread.Size o) (λ s. Ok (Today (Some s)))) (λ player. Ok (job.Session usual_every player))) d) refl refl
+
+  -- the lines with a moment
+  module _ (at : Text) (moment : ℕ) (e : seconds_of at ≡ Some moment) where
+    are_plain : ArePlain (value_word at ∷ files)
+    are_plain = (seconds_are_plain at moment e, (p, (q, tt)))
+
+    -- the moment, and what is read of the other flags
+    moment_read : (of : ℕ → Job) → after (readable unread.Seconds (seconds_of at)) (λ m. Ok (of m)) ≡ Ok (of moment)
+    moment_read of = ap (λ o. after (readable unread.Seconds o) (λ m. Ok (of m))) e
+
+    pub due_line : Asks (program ∷ codes "due" ∷ codes "--at" ∷ at ∷ script ∷ timing ∷ []) (job.Due moment) [] paths
+    unfolding clap_on_literals typetool_app app_in name_in flags_in texts_in paths_in id_in rule_in job_in text_in
+    due_line =
+        asks_by program Due (literal (codes "--at") ∷ value_word at ∷ files) are_plain refl (job.Due moment) [] paths
+        (moment_read (λ m. job.Due m)) refl refl
+
+    pub picture_line : (profile : Option Profile)
+        → Asks (program ∷ codes "picture" ∷ codes "--at" ∷ at ∷ (profile_words profile ++ paths))
+        (job.Picture moment (Vt (profile_or_first profile))) [] paths
+    unfolding clap_on_literals typetool_app app_in name_in flags_in texts_in paths_in id_in rule_in job_in text_in profile_named is_today
+    picture_line None =
+        asks_by program Picture (literal (codes "--at") ∷ value_word at ∷ files) are_plain refl (job.Picture moment (Vt Vt100)) [] paths
+        (moment_read (λ m. job.Picture m (Vt Vt100))) refl refl
+    picture_line (Some Vt100) =
+        asks_by program Picture (literal (codes "--at") ∷ value_word at ∷ as_vt100) are_plain refl
+        (job.Picture moment (Vt Vt100)) [] paths (moment_read (λ m. job.Picture m (Vt Vt100))) refl refl
+    picture_line (Some Vt102) =
+        asks_by program Picture (literal (codes "--at") ∷ value_word at ∷ as_vt102) are_plain refl
+        (job.Picture moment (Vt Vt102)) [] paths (moment_read (λ m. job.Picture m (Vt Vt102))) refl refl
+
+    pub reports_line : (profile : Option Profile)
+        → Asks (program ∷ codes "reports" ∷ codes "--at" ∷ at ∷ (profile_words profile ++ paths))
+        (job.Reports moment (Vt (profile_or_first profile))) [] paths
+    unfolding clap_on_literals typetool_app app_in name_in flags_in texts_in paths_in id_in rule_in job_in text_in profile_named is_today
+    reports_line None =
+        asks_by program Reports (literal (codes "--at") ∷ value_word at ∷ files) are_plain refl (job.Reports moment (Vt Vt100)) [] paths
+        (moment_read (λ m. job.Reports m (Vt Vt100))) refl refl
+    reports_line (Some Vt100) =
+        asks_by program Reports (literal (codes "--at") ∷ value_word at ∷ as_vt100) are_plain refl
+        (job.Reports moment (Vt Vt100)) [] paths (moment_read (λ m. job.Reports m (Vt Vt100))) refl refl
+    reports_line (Some Vt102) =
+        asks_by program Reports (literal (codes "--at") ∷ value_word at ∷ as_vt102) are_plain refl
+        (job.Reports moment (Vt Vt102)) [] paths (moment_read (λ m. job.Reports m (Vt Vt102))) refl refl
+
+    pub screen_line : (escaped : Bool) (profile : Option Profile)
+        → Asks (program ∷ codes "screen" ∷ codes "--at" ∷ at ∷ ((escaped_words escaped ++ profile_words profile) ++ paths))
+        (job.Screen moment (print_by escaped (Vt (profile_or_first profile)))) [] paths
+    unfolding clap_on_literals typetool_app app_in name_in flags_in texts_in paths_in id_in rule_in job_in text_in profile_named is_today
+    screen_line false None =
+        asks_by program Screen (literal (codes "--at") ∷ value_word at ∷ files) are_plain refl (job.Screen moment (Plain (Vt Vt100))) [] paths
+        (moment_read (λ m. job.Screen m (Plain (Vt Vt100)))) refl refl
+    screen_line false (Some Vt100) =
+        asks_by program Screen (literal (codes "--at") ∷ value_word at ∷ as_vt100) are_plain refl
+        (job.Screen moment (Plain (Vt Vt100))) [] paths (moment_read (λ m. job.Screen m (Plain (Vt Vt100)))) refl refl
+    screen_line false (Some Vt102) =
+        asks_by program Screen (literal (codes "--at") ∷ value_word at ∷ as_vt102) are_plain refl
+        (job.Screen moment (Plain (Vt Vt102))) [] paths (moment_read (λ m. job.Screen m (Plain (Vt Vt102)))) refl refl
+    screen_line true None =
+        asks_by program Screen (literal (codes "--at") ∷ value_word at ∷ literal (codes "--escaped") ∷ files) are_plain refl
+        (job.Screen moment (Escaped (Vt Vt100))) [] paths
+        (moment_read (λ m. job.Screen m (Escaped (Vt Vt100)))) refl refl
+    screen_line true (Some Vt100) =
+        asks_by program Screen (literal (codes "--at") ∷ value_word at ∷ literal (codes "--escaped") ∷ as_vt100) are_plain refl
+        (job.Screen moment (Escaped (Vt Vt100))) [] paths (moment_read (λ m. job.Screen m (Escaped (Vt Vt100)))) refl refl
+    screen_line true (Some Vt102) =
+        asks_by program Screen (literal (codes "--at") ∷ value_word at ∷ literal (codes "--escaped") ∷ as_vt102) are_plain refl
+        (job.Screen moment (Escaped (Vt Vt102))) [] paths (moment_read (λ m. job.Screen m (Escaped (Vt Vt102)))) refl refl
+
+    -- of a terminal of today
+    pub screen_today_line : (escaped : Bool)
+        → Asks (program ∷ codes "screen" ∷ codes "--at" ∷ at ∷ ((escaped_words escaped ++ today_words) ++ paths))
+        (job.Screen moment (print_by escaped (Today None))) [] paths
+    unfolding clap_on_literals typetool_app app_in name_in flags_in texts_in paths_in id_in rule_in job_in text_in profile_named is_today
+    screen_today_line false =
+        asks_by program Screen (literal (codes "--at") ∷ value_word at ∷ as_today) are_plain refl
+        (job.Screen moment (Plain (Today None))) [] paths (moment_read (λ m. job.Screen m (Plain (Today None)))) refl refl
+    screen_today_line true =
+        asks_by program Screen (literal (codes "--at") ∷ value_word at ∷ literal (codes "--escaped") ∷ as_today) are_plain refl
+        (job.Screen moment (Escaped (Today None))) [] paths (moment_read (λ m. job.Screen m (Escaped (Today None)))) refl refl
+
+    pub reports_today_line : Asks (program ∷ codes "reports" ∷ codes "--at" ∷ at ∷ (today_words ++ paths))
+        (job.Reports moment (Today None)) [] paths
+    unfolding clap_on_literals typetool_app app_in name_in flags_in texts_in paths_in id_in rule_in job_in text_in profile_named is_today
+    reports_today_line =
+        asks_by program Reports (literal (codes "--at") ∷ value_word at ∷ as_today) are_plain refl
+        (job.Reports moment (Today None)) [] paths (moment_read (λ m. job.Reports m (Today None))) refl refl
+
+    pub picture_today_line : Asks (program ∷ codes "picture" ∷ codes "--at" ∷ at ∷ (today_words ++ paths))
+        (job.Picture moment (Today None)) [] paths
+    unfolding clap_on_literals typetool_app app_in name_in flags_in texts_in paths_in id_in rule_in job_in text_in profile_named is_today
+    picture_today_line =
+        asks_by program Picture (literal (codes "--at") ∷ value_word at ∷ as_today) are_plain refl
+        (job.Picture moment (Today None)) [] paths (moment_read (λ m. job.Picture m (Today None))) refl refl
+
+    pub changes_today_line : Asks (program ∷ codes "changes" ∷ codes "--to" ∷ at ∷ (today_words ++ paths))
+        (job.Changes None moment (Today None)) [] paths
+    unfolding clap_on_literals typetool_app app_in name_in flags_in texts_in paths_in id_in rule_in job_in text_in profile_named is_today
+    changes_today_line =
+        asks_by program Changes (literal (codes "--to") ∷ value_word at ∷ as_today) are_plain refl
+        (job.Changes None moment (Today None)) [] paths (moment_read (λ m. job.Changes None m (Today None))) refl refl
+
+    -- and of a size
+    module _ (size : Text) (measure : Measure) (d : size_named size ≡ Some measure) where
+      sized_plain : ArePlain (value_word at ∷ value_word size ∷ files)
+      sized_plain = (seconds_are_plain at moment e, (size_is_plain size measure d, (p, (q, tt))))
+
+      -- the moment, the size and what is made of them
+      size_read : (of : ℕ → Player → Result Job Unreadable)
+          → after (readable unread.Seconds (seconds_of at)) (λ m. after (today_if (Some size)) (of m))
+          ≡ of moment (Today (Some measure))
+      size_read of =
+          ap (λ o. after (readable unread.Seconds o) (λ m. after (today_if (Some size)) (of m))) e
+          ∙ ap (λ o. after (after (readable unread.Size o) (λ s. Ok (Today (Some s)))) (of moment)) d
+
+      pub screen_sized_line : (escaped : Bool)
+          → Asks (program ∷ codes "screen" ∷ codes "--at" ∷ at ∷ ((escaped_words escaped ++ sized_words size) ++ paths))
+          (job.Screen moment (print_by escaped (Today (Some measure)))) [] paths
+      unfolding clap_on_literals typetool_app app_in name_in flags_in texts_in paths_in id_in rule_in job_in text_in profile_named is_today
+      screen_sized_line false =
+          asks_by program Screen (literal (codes "--at") ∷ value_word at ∷ as_sized size) sized_plain refl
+          (job.Screen moment (Plain (Today (Some measure)))) [] paths
+          (size_read (λ m player. Ok (job.Screen m (Plain player)))) refl refl
+      screen_sized_line true =
+          asks_by program Screen (literal (codes "--at") ∷ value_word at ∷ literal (codes "--escaped") ∷ as_sized size) sized_plain refl
+          (job.Screen moment (Escaped (Today (Some measure)))) [] paths
+          (size_read (λ m player. Ok (job.Screen m (Escaped player)))) refl refl
+
+      pub reports_sized_line : Asks (program ∷ codes "reports" ∷ codes "--at" ∷ at ∷ (sized_words size ++ paths))
+          (job.Reports moment (Today (Some measure))) [] paths
+      unfolding clap_on_literals typetool_app app_in name_in flags_in texts_in paths_in id_in rule_in job_in text_in profile_named is_today
+      reports_sized_line =
+          asks_by program Reports (literal (codes "--at") ∷ value_word at ∷ as_sized size) sized_plain refl
+          (job.Reports moment (Today (Some measure))) [] paths
+          (size_read (λ m player. Ok (job.Reports m player))) refl refl
+
+      pub picture_sized_line : Asks (program ∷ codes "picture" ∷ codes "--at" ∷ at ∷ (sized_words size ++ paths))
+          (job.Picture moment (Today (Some measure))) [] paths
+      unfolding clap_on_literals typetool_app app_in name_in flags_in texts_in paths_in id_in rule_in job_in text_in profile_named is_today
+      picture_sized_line =
+          asks_by program Picture (literal (codes "--at") ∷ value_word at ∷ as_sized size) sized_plain refl
+          (job.Picture moment (Today (Some measure))) [] paths
+          (size_read (λ m player. Ok (job.Picture m player))) refl refl
+
+      pub changes_sized_line : Asks (program ∷ codes "changes" ∷ codes "--to" ∷ at ∷ (sized_words size ++ paths))
+          (job.Changes None moment (Today (Some measure))) [] paths
+      unfolding clap_on_literals typetool_app app_in name_in flags_in texts_in paths_in id_in rule_in job_in text_in profile_named is_today
+      changes_sized_line =
+          asks_by program Changes (literal (codes "--to") ∷ value_word at ∷ as_sized size) sized_plain refl
+          (job.Changes None moment (Today (Some measure))) [] paths
+          (size_read (λ m player. Ok (job.Changes None m player))) refl refl
+
+    pub changes_line : (profile : Option Profile)
+        → Asks (program ∷ codes "changes" ∷ codes "--to" ∷ at ∷ (profile_words profile ++ paths))
+        (job.Changes None moment (Vt (profile_or_first profile))) [] paths
+    unfolding clap_on_literals typetool_app app_in name_in flags_in texts_in paths_in id_in rule_in job_in text_in profile_named is_today
+    changes_line None =
+        asks_by program Changes (literal (codes "--to") ∷ value_word at ∷ files) are_plain refl (job.Changes None moment (Vt Vt100)) [] paths
+        (moment_read (λ m. job.Changes None m (Vt Vt100))) refl refl
+    changes_line (Some Vt100) =
+        asks_by program Changes (literal (codes "--to") ∷ value_word at ∷ as_vt100) are_plain refl
+        (job.Changes None moment (Vt Vt100)) [] paths (moment_read (λ m. job.Changes None m (Vt Vt100))) refl refl
+    changes_line (Some Vt102) =
+        asks_by program Changes (literal (codes "--to") ∷ value_word at ∷ as_vt102) are_plain refl
+        (job.Changes None moment (Vt Vt102)) [] paths (moment_read (λ m. job.Changes None m (Vt Vt102))) refl refl
+
+    -- and with two
+    module _ (from : Text) (start : ℕ) (d : seconds_of from ≡ Some start) where
+      both_plain : ArePlain (value_word from ∷ value_word at ∷ files)
+      both_plain = (seconds_are_plain from start d, are_plain)
+
+      both_read : (played : Player)
+          → after (after (readable unread.Seconds (seconds_of from)) (λ m. Ok (Some m)))
+          (λ first. after (readable unread.Seconds (seconds_of at)) (λ m. Ok (job.Changes first m played)))
+          ≡ Ok (job.Changes (Some start) moment played)
+      both_read played =
+          ap (λ o. after (after (readable unread.Seconds o) (λ m. Ok (Some m)))
+          (λ first. after (readable unread.Seconds (seconds_of at)) (λ m. Ok (job.Changes first m played)))) d
+          ∙ moment_read (λ m. job.Changes (Some start) m played)
+
+      pub changes_from_line : (profile : Option Profile)
+          → Asks (program ∷ codes "changes" ∷ codes "--from" ∷ from ∷ codes "--to" ∷ at ∷ (profile_words profile ++ paths))
+          (job.Changes (Some start) moment (Vt (profile_or_first profile))) [] paths
+      unfolding clap_on_literals typetool_app app_in name_in flags_in texts_in paths_in id_in rule_in job_in text_in profile_named is_today
+      changes_from_line None =
+          asks_by program Changes (literal (codes "--from") ∷ value_word from ∷ literal (codes "--to") ∷ value_word at ∷ files) both_plain refl
+          (job.Changes (Some start) moment (Vt Vt100)) [] paths
+          (both_read (Vt Vt100)) refl refl
+      changes_from_line (Some Vt100) =
+          asks_by program Changes (literal (codes "--from") ∷ value_word from ∷ literal (codes "--to") ∷ value_word at ∷ as_vt100) both_plain refl
+          (job.Changes (Some start) moment (Vt Vt100)) [] paths (both_read (Vt Vt100)) refl refl
+      changes_from_line (Some Vt102) =
+          asks_by program Changes (literal (codes "--from") ∷ value_word from ∷ literal (codes "--to") ∷ value_word at ∷ as_vt102) both_plain refl
+          (job.Changes (Some start) moment (Vt Vt102)) [] paths (both_read (Vt Vt102)) refl refl
+
+  -- the lines with a text
+  module _ (text : Text) (r : IsPlain text) (found : is_searchable (chars text) ≡ true) where
+    abbrev searched : List Word
+    searched = value_word text ∷ files
+
+    abbrev profiled : Option Profile → List Word
+    profiled None = searched
+    profiled (Some Vt100) = literal (codes "--profile") ∷ literal (codes "vt100") ∷ searched
+    profiled (Some Vt102) = literal (codes "--profile") ∷ literal (codes "vt102") ∷ searched
+
+    text_plain : ArePlain searched
+    text_plain = (r, (p, (q, tt)))
+
+    -- the text is judged last
+    text_read : (job : Job) → after (readable unread.Text (searchable (chars text))) (λ t. Ok job) ≡ Ok job
+    text_read job = ap (λ b. after (readable unread.Text (if b then Some (chars text) else None)) (λ t. Ok job)) found
+
+    pub find_line : (profile : Option Profile)
+        → Asks (program ∷ codes "find" ∷ (profile_words profile ++ text ∷ paths))
+        (job.Find None last_moment (profile_or_first profile)) (chars text) paths
+    unfolding clap_on_literals typetool_app app_in name_in flags_in texts_in paths_in id_in rule_in job_in text_in profile_named is_today
+    find_line None =
+        asks_by program Find (profiled None) text_plain refl (job.Find None last_moment Vt100) (chars text) paths
+        (text_read (job.Find None last_moment Vt100)) refl refl
+    find_line (Some Vt100) =
+        asks_by program Find (profiled (Some Vt100)) text_plain refl (job.Find None last_moment Vt100) (chars text) paths
+        (text_read (job.Find None last_moment Vt100)) refl refl
+    find_line (Some Vt102) =
+        asks_by program Find (profiled (Some Vt102)) text_plain refl (job.Find None last_moment Vt102) (chars text) paths
+        (text_read (job.Find None last_moment Vt102)) refl refl
+
+    -- between two moments
+    module _ (from : Text) (start : ℕ) (d : seconds_of from ≡ Some start)
+        (to : Text) (end : ℕ) (e : seconds_of to ≡ Some end) where
+      abbrev between : Option Profile → List Word
+      between profile =
+          literal (codes "--from") ∷ value_word from ∷ literal (codes "--to") ∷ value_word to ∷ profiled profile
+
+      between_read : (played : Profile)
+          → after (moment_if (Some from))
+          (λ first. after (after (moment_if (Some to)) (λ given. Ok (moment_or_last given)))
+          (λ last. after (readable unread.Text (searchable (chars text))) (λ t. Ok (job.Find first last played))))
+          ≡ Ok (job.Find (Some start) end played)
+      between_read played =
+          ap (λ o. after (after (readable unread.Seconds o) (λ m. Ok (Some m)))
+          (λ first. after (after (moment_if (Some to)) (λ given. Ok (moment_or_last given)))
+          (λ last. after (readable unread.Text (searchable (chars text))) (λ t. Ok (job.Find first last played))))) d
+          ∙ ap (λ o. after (after (after (readable unread.Seconds o) (λ m. Ok (Some m))) (λ given. Ok (moment_or_last given)))
+          (λ last. after (readable unread.Text (searchable (chars text))) (λ t. Ok (job.Find (Some start) last played)))) e
+          ∙ text_read (job.Find (Some start) end played)
+
+      between_plain : ArePlain (value_word from ∷ value_word to ∷ searched)
+      between_plain = (seconds_are_plain from start d, (seconds_are_plain to end e, text_plain))
+
+      pub find_between_line : (profile : Option Profile)
+          → Asks (program ∷ codes "find" ∷ codes "--from" ∷ from ∷ codes "--to" ∷ to ∷ (profile_words profile ++ text ∷ paths))
+          (job.Find (Some start) end (profile_or_first profile)) (chars text) paths
+      unfolding clap_on_literals typetool_app app_in name_in flags_in texts_in paths_in id_in rule_in job_in text_in profile_named is_today
+      find_between_line None =
+          asks_by program Find (between None) between_plain refl (job.Find (Some start) end Vt100) (chars text) paths
+          (between_read Vt100) refl refl
+      find_between_line (Some Vt100) =
+          asks_by program Find (between (Some Vt100)) between_plain refl (job.Find (Some start) end Vt100) (chars text) paths
+          (between_read Vt100) refl refl
+      find_between_line (Some Vt102) =
+          asks_by program Find (between (Some Vt102)) between_plain refl (job.Find (Some start) end Vt102) (chars text) paths
+          (between_read Vt102) refl refl
+
+  -- the line with a text that is taken out
+  module _ (text : Text) (r : IsPlain text) (hidden : is_secret (chars text) ≡ true) (new_script new_timing : Text)
+      (t : IsPlain new_script) (u : IsPlain new_timing) where
+    abbrev new_files : List Word
+    new_files = value_word text ∷ value_word script ∷ value_word timing ∷ value_word new_script ∷ value_word new_timing ∷ []
+
+    abbrev all_paths : List Text
+    all_paths = script ∷ timing ∷ new_script ∷ new_timing ∷ []
+
+    secret_read : (job : Job) → after (readable unread.Text (secret (chars text))) (λ t. Ok job) ≡ Ok job
+    secret_read job = ap (λ b. after (readable unread.Text (if b then Some (chars text) else None)) (λ t. Ok job)) hidden
+
+    pub redact_line : (profile : Option Profile)
+        → Asks (program ∷ codes "redact" ∷ (profile_words profile ++ text ∷ all_paths))
+        (job.Redact (profile_or_first profile)) (chars text) all_paths
+    unfolding clap_on_literals typetool_app app_in name_in flags_in texts_in paths_in id_in rule_in job_in text_in profile_named is_today
+    redact_line None =
+        asks_by program Redact new_files (r, (p, (q, (t, (u, tt))))) refl (job.Redact Vt100) (chars text) all_paths
+        (secret_read (job.Redact Vt100)) refl refl
+    redact_line (Some Vt100) =
+        asks_by program Redact (literal (codes "--profile") ∷ literal (codes "vt100") ∷ new_files) (r, (p, (q, (t, (u, tt))))) refl
+        (job.Redact Vt100) (chars text) all_paths (secret_read (job.Redact Vt100)) refl refl
+    redact_line (Some Vt102) =
+        asks_by program Redact (literal (codes "--profile") ∷ literal (codes "vt102") ∷ new_files) (r, (p, (q, (t, (u, tt))))) refl
+        (job.Redact Vt102) (chars text) all_paths (secret_read (job.Redact Vt102)) refl refl
+
+  -- the line with a number of chunks
+  module _ (every : Text) (count : ℕ) (e : every_of every ≡ Some count) where
+    number_plain : ArePlain (value_word every ∷ files)
+    number_plain = (number_is_plain every (number_in_digits every count e), (p, (q, tt)))
+
+    number_read : (played : Player)
+        → after (readable unread.Every (every_of every)) (λ n. Ok (job.Session n played)) ≡ Ok (job.Session count played)
+    number_read played = ap (λ o. after (readable unread.Every o) (λ n. Ok (job.Session n played))) e
+
+    pub session_every_line : (profile : Option Profile)
+        → Asks (program ∷ codes "session" ∷ codes "--every" ∷ every ∷ (profile_words profile ++ paths))
+        (job.Session count (Vt (profile_or_first profile))) [] paths
+    unfolding clap_on_literals typetool_app app_in name_in flags_in texts_in paths_in id_in rule_in job_in text_in profile_named is_today
+    session_every_line None =
+        asks_by program Session (literal (codes "--every") ∷ value_word every ∷ files) number_plain refl
+        (job.Session count (Vt Vt100)) [] paths (number_read (Vt Vt100)) refl refl
+    session_every_line (Some Vt100) =
+        asks_by program Session (literal (codes "--every") ∷ value_word every ∷ as_vt100) number_plain refl
+        (job.Session count (Vt Vt100)) [] paths (number_read (Vt Vt100)) refl refl
+    session_every_line (Some Vt102) =
+        asks_by program Session (literal (codes "--every") ∷ value_word every ∷ as_vt102) number_plain refl
+        (job.Session count (Vt Vt102)) [] paths (number_read (Vt Vt102)) refl refl

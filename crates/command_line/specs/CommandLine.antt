@@ -1,0 +1,487 @@
+-- The command line: the table of subcommands, what clap is told of it, and the job and the paths that its answer means.
+use Rattle.std.specs.Prelude.{◌≡◌, ℕ, ◌⊎◌, ◌++◌, Bool, true, false, List, [], ◌∷◌, map, Option, Some, None, Result, Ok, Err, codes, unwrap_or, string_bytes, chars, find, fold, nat_lt, not, ◌+◌, take, drop, position, ◌==◌, ◌&&◌, ◌||◌, if◌then◌else◌}
+use Rattle.std.specs.Char.{is_control}
+use Rattle.std.specs.List.{list_all, list_any}
+use Rattle.std.specs.Option.{option_and_then, option_map}
+use Rattle.std.specs.Path.{path_file_stem}
+use Rattle.std.specs.Str.{bytes_eq}
+use Rattle.clap.specs.Words.{App, IsAmong, Kinds, Row, Rule, Shape, Text, fault_of, first_of, kind_of, new_app, new_rule, subcommand_of, takes, with_subcommand}
+use Rattle.clap.specs.declared.builder.ArgAction.TheVariants.{Set, SetTrue}
+use Rattle.tape_core.specs.Seconds.{last_moment, seconds_of}
+use Rattle.tape_seek.specs.Requests.{place_of}
+use Rattle.tape_seek.specs.State.{least_every, most_every}
+use Rattle.command_line.specs.declared.job.Job.{Job}
+use Rattle.command_line.specs.declared.job.Job.TheVariants as job
+use Rattle.command_line.specs.Measures.{within_of}
+use Rattle.command_line.specs.declared.player.Measure.{Measure}
+use Rattle.command_line.specs.declared.player.Player.{Player}
+use Rattle.command_line.specs.declared.player.Player.TheVariants.{Vt, Today}
+use Rattle.command_line.specs.declared.player.Print.{Print}
+use Rattle.command_line.specs.declared.player.Print.TheVariants as print
+use Rattle.command_line.specs.declared.player.Print.TheVariants.{Plain}
+use Rattle.command_line.specs.declared.words.Words.{Words}
+use Rattle.command_line.specs.declared.words.WordsFault.{WordsFault}
+use Rattle.command_line.specs.declared.words.WordsFault.TheVariants.{Clap, Memory, BadSeconds, BadEvery, BadProfile, BadSize, NotPlayed, BadText, BothHeaders}
+use Rattle.command_line.specs.declared.words.table.Argument.{Argument}
+use Rattle.command_line.specs.declared.words.table.Argument.TheVariants.{At, From, To, Until, Every, Profile, AnyProfile, Size, Escaped, Last, Headless, Title, Sought, Secret, Script, Timing, AnyTiming, NewScript, NewTiming}
+use Rattle.command_line.specs.declared.words.table.Subcommand.{Subcommand}
+use Rattle.command_line.specs.declared.words.table.Subcommand.TheVariants.{Due, Info, Check, Screen, Picture, Changes, Find, Reports, Page, Cast, Save, Mend, Redact, Session}
+use Rattle.command_line.specs.declared.words.values.Unreadable.{Unreadable}
+use Rattle.command_line.specs.declared.words.values.Unreadable.TheVariants as unread
+use Rattle.tape_mend.specs.declared.opening.Header.{Header}
+use Rattle.tape_mend.specs.declared.opening.Header.TheVariants.{Kept, Made}
+use Rattle.tape_mend.specs.declared.opening.Header.TheVariants as header
+use Rattle.vt_term.specs.declared.profile.Profile.{Profile as Played}
+use Rattle.vt_term.specs.declared.profile.Profile.TheVariants.{Vt100, Vt102}
+
+-- ---- the table
+
+-- the subcommands, in the order in which help tells them (ours)
+abbrev pub subcommands_in_order : List Subcommand
+subcommands_in_order = Due ∷ Info ∷ Check ∷ Screen ∷ Picture ∷ Changes ∷ Find ∷ Reports ∷ Page ∷ Cast ∷ Save ∷ Mend ∷ Redact ∷ Session ∷ []
+
+-- the name of a subcommand (ours)
+unfoldable pub name_in : Subcommand → Text
+name_in Due = codes "due"
+name_in Info = codes "info"
+name_in Check = codes "check"
+name_in Screen = codes "screen"
+name_in Picture = codes "picture"
+name_in Changes = codes "changes"
+name_in Find = codes "find"
+name_in Reports = codes "reports"
+name_in Page = codes "page"
+name_in Cast = codes "cast"
+name_in Save = codes "save"
+name_in Mend = codes "mend"
+name_in Redact = codes "redact"
+name_in Session = codes "session"
+
+-- the flags of a subcommand (ours)
+unfoldable pub flags_in : Subcommand → List Argument
+flags_in Due = At ∷ []
+flags_in Info = []
+flags_in Check = AnyProfile ∷ Size ∷ []
+flags_in Screen = At ∷ Escaped ∷ AnyProfile ∷ Size ∷ []
+flags_in Picture = At ∷ AnyProfile ∷ Size ∷ []
+flags_in Changes = From ∷ To ∷ AnyProfile ∷ Size ∷ []
+flags_in Find = From ∷ Until ∷ Profile ∷ []
+flags_in Reports = At ∷ AnyProfile ∷ Size ∷ []
+flags_in Page = AnyProfile ∷ Size ∷ Title ∷ []
+flags_in Cast = AnyProfile ∷ Size ∷ []
+flags_in Save = []
+flags_in Mend = Last ∷ Headless ∷ []
+flags_in Redact = AnyProfile ∷ Size ∷ []
+flags_in Session = Every ∷ AnyProfile ∷ Size ∷ []
+
+-- the texts of a subcommand, which stand before its paths (ours)
+unfoldable pub texts_in : Subcommand → List Argument
+texts_in Find = Sought ∷ []
+texts_in Redact = Secret ∷ []
+texts_in _ = []
+
+-- the paths of a subcommand, in the line's order (ours)
+unfoldable pub paths_in : Subcommand → List Argument
+paths_in Due = Script ∷ Timing ∷ []
+paths_in Info = Script ∷ Timing ∷ []
+paths_in Check = Script ∷ Timing ∷ []
+paths_in Screen = Script ∷ Timing ∷ []
+paths_in Picture = Script ∷ Timing ∷ []
+paths_in Changes = Script ∷ Timing ∷ []
+paths_in Find = Script ∷ Timing ∷ []
+paths_in Reports = Script ∷ Timing ∷ []
+paths_in Page = Script ∷ Timing ∷ []
+paths_in Cast = Script ∷ Timing ∷ []
+paths_in Save = Script ∷ Timing ∷ NewScript ∷ NewTiming ∷ []
+paths_in Mend = Script ∷ AnyTiming ∷ NewScript ∷ NewTiming ∷ []
+paths_in Redact = Script ∷ Timing ∷ NewScript ∷ NewTiming ∷ []
+paths_in Session = Script ∷ Timing ∷ []
+
+-- the name of an argument (ours)
+unfoldable pub id_in : Argument → Text
+id_in At = codes "at"
+id_in From = codes "from"
+id_in To = codes "to"
+id_in Until = codes "to"
+id_in Every = codes "every"
+id_in Profile = codes "profile"
+id_in AnyProfile = codes "profile"
+id_in Size = codes "size"
+id_in Escaped = codes "escaped"
+id_in Last = codes "last"
+id_in Headless = codes "headless"
+id_in Title = codes "title"
+id_in Sought = codes "text"
+id_in Secret = codes "text"
+id_in Script = codes "script"
+id_in Timing = codes "timing"
+id_in AnyTiming = codes "timing"
+id_in NewScript = codes "new-script"
+id_in NewTiming = codes "new-timing"
+
+-- a flag that takes seconds, such as `--at 12.5`, and must be given (ours)
+abbrev pub seconds_rule : Text → Rule
+seconds_rule id =
+    record (new_rule id) { long = Some id; action = Some Set; required = true; value_names = 1 }
+
+-- a flag with a value that may be left out (ours)
+abbrev pub optional_rule : Text → Rule
+optional_rule id = record (new_rule id) { long = Some id; action = Some Set; value_names = 1 }
+
+-- a flag without a value (ours)
+abbrev pub switch_rule : Text → Rule
+switch_rule id = record (new_rule id) { long = Some id; action = Some SetTrue }
+
+-- a text or a path that must be given (ours)
+abbrev pub positional_rule : Text → Rule
+positional_rule id = record (new_rule id) { action = Some Set; required = true; value_names = 1 }
+
+-- what clap is told of an argument (ours)
+unfoldable pub rule_in : Argument → Rule
+rule_in At = seconds_rule (id_in At)
+rule_in From = optional_rule (id_in From)
+rule_in To = seconds_rule (id_in To)
+rule_in Until = optional_rule (id_in Until)
+rule_in Every = optional_rule (id_in Every)
+rule_in Profile = optional_rule (id_in Profile)
+rule_in AnyProfile = optional_rule (id_in AnyProfile)
+rule_in Size = optional_rule (id_in Size)
+rule_in Escaped = switch_rule (id_in Escaped)
+rule_in Last = switch_rule (id_in Last)
+rule_in Headless = switch_rule (id_in Headless)
+rule_in Title = optional_rule (id_in Title)
+rule_in Sought = positional_rule (id_in Sought)
+rule_in Secret = positional_rule (id_in Secret)
+rule_in Script = positional_rule (id_in Script)
+rule_in Timing = positional_rule (id_in Timing)
+rule_in AnyTiming = positional_rule (id_in AnyTiming)
+rule_in NewScript = positional_rule (id_in NewScript)
+rule_in NewTiming = positional_rule (id_in NewTiming)
+
+-- ---- values
+
+-- the value of an argument that must be given (ours)
+abbrev pub value_in : Text → List Row → Text
+value_in id rows = unwrap_or (first_of id rows) []
+
+-- what was read, or what isn't readable (ours)
+abbrev pub readable : {A : Type 0} → Unreadable → Option A → Result A Unreadable
+readable fault None = Err fault
+readable fault (Some x) = Ok x
+
+-- what comes after a value that was read (ours)
+abbrev pub after : {A B : Type 0} → Result A Unreadable → (A → Result B Unreadable) → Result B Unreadable
+after (Ok x) next = next x
+after (Err fault) next = Err fault
+
+-- the moment that a flag gives, in microseconds (ours)
+abbrev pub moment_in : Text → List Row → Result ℕ Unreadable
+moment_in id rows = readable unread.Seconds (seconds_of (value_in id rows))
+
+-- the moment in a text, if there is a text (ours)
+abbrev pub moment_if : Option Text → Result (Option ℕ) Unreadable
+moment_if None = Ok None
+moment_if (Some text) = after (readable unread.Seconds (seconds_of text)) (λ moment. Ok (Some moment))
+
+-- the moment that a flag gives, in microseconds, if it is given (ours)
+abbrev pub moment_given_in : Text → List Row → Result (Option ℕ) Unreadable
+moment_given_in id rows = moment_if (first_of id rows)
+
+-- the moment that a flag gives, in microseconds, and the last moment there is, if it isn't given: each chunk is due by
+-- then (ours)
+abbrev pub moment_or_last : Option ℕ → ℕ
+moment_or_last given = unwrap_or given last_moment
+
+abbrev pub moment_or_last_in : Text → List Row → Result ℕ Unreadable
+moment_or_last_in id rows = after (moment_given_in id rows) (λ given. Ok (moment_or_last given))
+
+-- the number, if so many chunks may lie between stored terminals: from 1 to 1,000,000 (ours)
+abbrev pub every_allowed : ℕ → Option ℕ
+every_allowed n = if nat_lt n least_every || nat_lt most_every n then None else Some n
+
+-- such a number in digits alone (ours)
+unfoldable pub every_of : Text → Option ℕ
+every_of text = option_and_then every_allowed (place_of text)
+
+-- where `--every` isn't given (ours)
+abbrev pub usual_every : ℕ
+usual_every = 100
+
+-- the number in a text, and the usual one if there is no text (ours)
+abbrev pub every_if : Option Text → Result ℕ Unreadable
+every_if None = Ok usual_every
+every_if (Some text) = readable unread.Every (every_of text)
+
+-- how many chunks are to lie between stored terminals (ours)
+abbrev pub every_in : List Row → Result ℕ Unreadable
+every_in rows = every_if (first_of (id_in Every) rows)
+
+-- the profile of this name (ours)
+unfoldable pub profile_named : Text → Option Played
+profile_named name =
+    if bytes_eq name (codes "vt100") then Some Vt100
+    else (if bytes_eq name (codes "vt102") then Some Vt102 else None)
+
+-- `xterm`, the name of the terminal of today (ours)
+unfoldable pub is_today : Text → Bool
+is_today name = bytes_eq name (codes "xterm")
+
+-- the profile that a text names, and a VT100 if there is no text; the terminal of today isn't played here (ours)
+abbrev pub profile_if : Option Text → Result Played Unreadable
+profile_if None = Ok Vt100
+profile_if (Some text) =
+    if is_today text then Err unread.Today else readable unread.Profile (profile_named text)
+
+-- which terminal is to play (ours)
+abbrev pub profile_in : List Row → Result Played Unreadable
+profile_in rows = profile_if (first_of (id_in Profile) rows)
+
+-- columns, `x`, lines: digits each, within the limits of a screen (ours)
+abbrev pub size_from : Option ℕ → Option ℕ → Option Measure
+size_from (Some columns) (Some lines) = within_of (record { columns = columns; lines = lines })
+size_from _ _ = None
+
+abbrev pub size_cut : Text → ℕ → Option Measure
+size_cut text n = size_from (place_of (take n text)) (place_of (drop (n + 1) text))
+
+unfoldable pub size_named : Text → Option Measure
+size_named text = option_and_then (size_cut text) (position (λ byte. byte == 120) text)
+
+-- a terminal of today, of this size if there is a text (ours)
+abbrev pub today_if : Option Text → Result Player Unreadable
+today_if None = Ok (Today None)
+today_if (Some text) = after (readable unread.Size (size_named text)) (λ size. Ok (Today (Some size)))
+
+-- a VT, which takes no size (ours)
+abbrev pub vt_if : Option Text → Played → Result Player Unreadable
+vt_if None profile = Ok (Vt profile)
+vt_if (Some text) profile = Err unread.Size
+
+-- which terminal is to play, by `--profile` and `--size` (ours)
+abbrev pub player_by : Option Text → Option Text → Result Player Unreadable
+player_by None size = vt_if size Vt100
+player_by (Some name) size =
+    if is_today name then today_if size else after (readable unread.Profile (profile_named name)) (vt_if size)
+
+abbrev pub player_in : List Row → Result Player Unreadable
+player_in rows = player_by (first_of (id_in AnyProfile) rows) (first_of (id_in Size) rows)
+
+-- how a screen is printed, by whether `--escaped` is given (ours)
+abbrev pub print_by : Bool → Player → Print
+print_by false player = Plain player
+print_by true player = print.Escaped player
+
+-- whether these characters can be looked for: one of them isn't a space, and none is a control character, below U+0020
+-- or from U+007F to U+009F (ours)
+unfoldable pub is_searchable : List ℕ → Bool
+is_searchable text = list_any (λ c. not (c == 32)) text && list_all (λ c. not (is_control c)) text
+
+-- the characters of a text that can be looked for (ours)
+abbrev pub searchable : List ℕ → Option (List ℕ)
+searchable text = if is_searchable text then Some text else None
+
+abbrev pub searched_in : List Row → Result (List ℕ) Unreadable
+searched_in rows = readable unread.Text (searchable (chars (value_in (id_in Sought) rows)))
+
+-- a VT: a terminal of today isn't played here yet (ours)
+abbrev pub vt_only : Player → Result Played Unreadable
+vt_only (Vt profile) = Ok profile
+vt_only (Today size) = Err unread.Today
+
+-- whether these characters can be taken out: they can be looked for, and none is `*`, which is written over them (ours)
+unfoldable pub is_secret : List ℕ → Bool
+is_secret text = is_searchable text && not (list_any (λ c. c == 42) text)
+
+-- the characters of a text that can be taken out (ours)
+abbrev pub secret : List ℕ → Option (List ℕ)
+secret text = if is_secret text then Some text else None
+
+abbrev pub secret_in : List Row → Result (List ℕ) Unreadable
+secret_in rows = readable unread.Text (secret (chars (value_in (id_in Secret) rows)))
+
+-- whether a flag without a value is given: clap tells `true` then, and else `false` (ours)
+abbrev pub switch_in : Text → List Row → Bool
+switch_in id rows = bytes_eq (value_in id rows) (codes "true")
+
+-- which line mending takes as the header, by whether `--last` and `--headless` are given: they exclude each other (ours)
+abbrev pub header_by : Bool → Bool → Result Header Unreadable
+header_by false false = Ok Kept
+header_by true false = Ok header.Last
+header_by false true = Ok Made
+header_by true true = Err unread.Headers
+
+abbrev pub header_in : List Row → Result Header Unreadable
+header_in rows = header_by (switch_in (id_in Last) rows) (switch_in (id_in Headless) rows)
+
+-- the job that a subcommand's values mean, or what of them isn't readable (ours)
+unfoldable pub job_in : Subcommand → List Row → Result Job Unreadable
+job_in Due rows = after (moment_in (id_in At) rows) (λ at. Ok (job.Due at))
+job_in Info rows = Ok job.Info
+job_in Check rows = after (player_in rows) (λ player. Ok (job.Check player))
+job_in Screen rows =
+    after (moment_in (id_in At) rows) (λ at. after (player_in rows) (λ player.
+    Ok (job.Screen at (print_by (switch_in (id_in Escaped) rows) player))))
+job_in Picture rows =
+    after (moment_in (id_in At) rows) (λ at. after (player_in rows) (λ player.
+    Ok (job.Picture at player)))
+job_in Changes rows =
+    after (moment_given_in (id_in From) rows) (λ from. after (moment_in (id_in To) rows) (λ to.
+    after (player_in rows) (λ player. Ok (job.Changes from to player))))
+job_in Find rows =
+    after (moment_given_in (id_in From) rows) (λ from. after (moment_or_last_in (id_in Until) rows) (λ to.
+    after (profile_in rows) (λ profile. after (searched_in rows) (λ text.
+    Ok (job.Find from to profile)))))
+job_in Reports rows =
+    after (moment_in (id_in At) rows) (λ at. after (player_in rows) (λ player.
+    Ok (job.Reports at player)))
+job_in Page rows = after (player_in rows) (λ player. Ok (job.Page player))
+job_in Cast rows = after (player_in rows) (λ player. Ok (job.Cast player))
+job_in Save rows = Ok job.Save
+job_in Mend rows = after (header_in rows) (λ how. Ok (job.Mend how))
+job_in Redact rows =
+    after (after (player_in rows) vt_only) (λ profile. after (secret_in rows) (λ text.
+    Ok (job.Redact profile)))
+job_in Session rows =
+    after (every_in rows) (λ every. after (player_in rows) (λ player.
+    Ok (job.Session every player)))
+
+-- ---- what clap is told
+
+-- a command with more arguments (ours)
+abbrev pub with_rules : App → List Rule → App
+with_rules a rules = record a { top = record a.top { rules = a.top.rules ++ rules } }
+
+-- a subcommand: its flags, its texts, and then its paths (ours)
+unfoldable pub app_in : Subcommand → App
+app_in s =
+    with_rules (with_rules (with_rules (new_app (name_in s)) (map rule_in (flags_in s)))
+    (map rule_in (texts_in s))) (map rule_in (paths_in s))
+
+-- the program's name and version, and that a subcommand must follow (ours)
+abbrev pub top_app : App
+top_app = record {
+  top = record (new_app (codes "typetool")).top {
+    has_version = true;
+    arg_required_else_help = true;
+    subcommand_required = true;
+  };
+  subs = [];
+}
+
+-- a command with these subcommands (ours)
+abbrev pub with_subcommands : App → List Subcommand → App
+with_subcommands a list = fold (λ app s. with_subcommand app (app_in s).top) a list
+
+-- the whole command line (ours)
+unfoldable pub typetool_app : App
+typetool_app = with_subcommands top_app subcommands_in_order
+
+-- the kinds of fault that clap finds in these words: none where it reads them (ours)
+unfoldable pub clap_faults : List Text → Kinds
+clap_faults words = fault_of typetool_app words
+
+-- whether clap promises to take these words (ours)
+unfoldable pub clap_takes : List Text → Bool
+clap_takes words = takes typetool_app words
+
+-- the name and the values of the subcommand that clap finds in these words (ours)
+unfoldable pub subcommand_in : List Text → Option (Text × List Row)
+subcommand_in words = subcommand_of typetool_app words
+
+-- Private: the name is that of one of these subcommands (ours)
+abbrev pub IsNamed : Option Text → List Shape → Type 0
+IsNamed name [] = ⊥
+IsNamed name (s ∷ rest) = (name ≡ Some s.name) ⊎ IsNamed name rest
+
+-- ---- what the words mean
+
+-- a job, the characters of the text beside it, and the paths in the line's order (ours)
+pub record Meaning : Type 0 where
+  pub job : Job
+  pub text : List ℕ
+  pub paths : List Text
+
+-- the name of a path without its ending: its last part up to the last point, where something stands before that (ours)
+unfoldable pub stem_of : Text → Text
+stem_of path = unwrap_or (path_file_stem path) []
+
+-- the title of a page: the one that is given, and else the name of the script without its ending (ours)
+abbrev pub title_in : List Row → Text
+title_in rows = unwrap_or (first_of (id_in Title) rows) (stem_of (value_in (id_in Script) rows))
+
+-- the characters of the text beside a job: what `find` looks for, what `redact` takes out, the title of a page, and none
+-- for the others (ours)
+unfoldable pub text_in : Subcommand → List Row → List ℕ
+text_in Find rows = chars (value_in (id_in Sought) rows)
+text_in Redact rows = chars (value_in (id_in Secret) rows)
+text_in Page rows = chars (title_in rows)
+text_in _ rows = []
+
+-- what a subcommand means with these values, or what of them isn't readable (ours)
+abbrev pub meaning_in : Subcommand → List Row → Result Meaning Unreadable
+meaning_in s rows = after (job_in s rows) (λ job. Ok (record {
+  job = job;
+  text = text_in s rows;
+  paths = map (λ a. value_in (id_in a) rows) (paths_in s);
+}))
+
+-- what a subcommand means by its name and its values (ours)
+abbrev pub meaning_of : Text × List Row → Option (Result Meaning Unreadable)
+meaning_of met = option_map (λ s. meaning_in s met.1)
+    (find (λ s. bytes_eq (name_in s) met.0) subcommands_in_order)
+
+-- what a command line means (ours)
+unfoldable pub meaning_of_words : List Text → Option (Result Meaning Unreadable)
+meaning_of_words words = option_and_then meaning_of (subcommand_in words)
+
+-- the job, the text and the paths that were read (ours)
+abbrev pub meaning_read : Words → Meaning
+meaning_read words =
+    record { job = words.job; text = words.text.items; paths = map string_bytes words.paths.items }
+
+-- how many paths a job has (ours)
+abbrev pub path_count : Job → ℕ
+path_count (job.Due at) = 2
+path_count job.Info = 2
+path_count (job.Check player) = 2
+path_count (job.Screen at print) = 2
+path_count (job.Picture at player) = 2
+path_count (job.Changes from to player) = 2
+path_count (job.Find from to profile) = 2
+path_count (job.Reports at player) = 2
+path_count (job.Page player) = 2
+path_count (job.Cast player) = 2
+path_count job.Save = 4
+path_count (job.Mend how) = 4
+path_count (job.Redact profile) = 4
+path_count (job.Session every player) = 2
+
+-- Private: the fault of words that clap takes and that aren't readable (ours)
+abbrev pub fault_of_unread : Unreadable → WordsFault
+fault_of_unread unread.Seconds = BadSeconds
+fault_of_unread unread.Every = BadEvery
+fault_of_unread unread.Profile = BadProfile
+fault_of_unread unread.Size = BadSize
+fault_of_unread unread.Today = NotPlayed
+fault_of_unread unread.Text = BadText
+fault_of_unread unread.Headers = BothHeaders
+
+-- clap reads these words, and this of them isn't readable (ours)
+abbrev pub IsUnreadable : List Text → Unreadable → Type 0
+IsUnreadable words fault =
+    (clap_faults words ≡ []) × (meaning_of_words words ≡ Some (Err fault))
+
+-- why words aren't a job: clap finds a fault of that kind in them and doesn't promise to take them, or it reads them
+-- and some seconds aren't readable, or the number of chunks, the profile, the size, or the text, or the terminal of
+-- today isn't played, or two headers are asked for;
+-- memory may always be refused (ours)
+abbrev pub FailsFor : List Text → WordsFault → Type 0
+FailsFor words (Clap e) = IsAmong (kind_of e) (clap_faults words) × (clap_takes words ≡ false)
+FailsFor words Memory = Unit {0}
+FailsFor words BadSeconds = IsUnreadable words unread.Seconds
+FailsFor words BadEvery = IsUnreadable words unread.Every
+FailsFor words BadProfile = IsUnreadable words unread.Profile
+FailsFor words BadSize = IsUnreadable words unread.Size
+FailsFor words NotPlayed = IsUnreadable words unread.Today
+FailsFor words BadText = IsUnreadable words unread.Text
+FailsFor words BothHeaders = IsUnreadable words unread.Headers

@@ -1,0 +1,73 @@
+//! What is asked for: a job over a recording.
+
+use crate::player::{Player, Print};
+use tape_mend::Header;
+use vt_term::Profile;
+
+/// What is to be done with a recording. Moments are in microseconds.
+#[derive(Clone, Copy, Debug, PartialEq, Eq)]
+pub enum Job {
+    /// Write the bytes of the chunks that are due by a moment.
+    Due {
+        at: u64,
+    },
+    /// Write what the recording holds, in five lines.
+    Info,
+    /// Write what the recording says of itself, and what a terminal can't show of it.
+    Check {
+        player: Player,
+    },
+    /// Write the screen of a moment as plain text, or as a text that draws it again.
+    Screen {
+        at: u64,
+        print: Print,
+    },
+    /// Write the screen of a moment as a picture.
+    Picture {
+        at: u64,
+        player: Player,
+    },
+    /// Write which lines of the screen each chunk changes, of those that are due after `from` (None: from chunk 0 on) and
+    /// by `to`.
+    Changes {
+        from: Option<u64>,
+        to: u64,
+        player: Player,
+    },
+    /// Write where on the screen a text stands at `from`, and where it came to stand, went, or did both in chunks that are
+    /// due after `from` (None: from chunk 0 on) and by `to`. The text stands beside the job.
+    Find {
+        from: Option<u64>,
+        to: u64,
+        profile: Profile,
+    },
+    /// Write in hexadecimal what the terminal has sent by a moment.
+    Reports {
+        at: u64,
+        player: Player,
+    },
+    /// Write the whole recording as one file for a browser, which plays it. Its title is the text beside the job.
+    Page {
+        player: Player,
+    },
+    /// Write the recording as an asciicast.
+    Cast {
+        player: Player,
+    },
+    /// Make the edits of request lines, and write both files anew.
+    Save,
+    /// Write both files anew of all that can be read of them, in whatever state they are.
+    Mend {
+        header: Header,
+    },
+    /// Write both files anew without a text, with `*` over each byte of it. The text stands beside the job. What is told
+    /// of it besides is told by `redact`.
+    Redact {
+        profile: Profile,
+    },
+    /// Answer request lines. A terminal is stored at every so many chunks, of 1 to 1,000,000.
+    Session {
+        every: usize,
+        player: Player,
+    },
+}

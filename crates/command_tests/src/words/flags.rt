@@ -1,0 +1,107 @@
+//! The flags `--profile` and `--escaped`, and with which subcommands they go.
+use super::{changes, compare_job, compare_left, picture, reports, screen, told, words_of};
+use command_line::{Job, Player, Print};
+use std::test::Fail;
+use vt_term::Profile;
+
+#[test]
+fn reads_profiles_and_the_escaped_print(rt: HostRuntime) -> Result<(), Fail> {
+    let (vt100, vt102) = (Profile::Vt100, Profile::Vt102);
+    let escaped = Job::Screen {
+        at: 1_000_000,
+        print: Print::Escaped(Player::Vt(vt100)),
+    };
+    let rows = [
+        ("typetool screen --at=1 --escaped s t", escaped),
+        (
+            "typetool screen s t --profile vt102 --at=1",
+            screen(1_000_000, vt102),
+        ),
+        (
+            "typetool picture --profile=vt102 --at=1 s t",
+            picture(1_000_000, vt102),
+        ),
+        (
+            "typetool changes --profile=vt102 --to=1 s t",
+            changes(None, 1_000_000, vt102),
+        ),
+        (
+            "typetool reports --profile=vt100 --at=1 s t",
+            reports(1_000_000, vt100),
+        ),
+    ];
+    for (line, job) in &rows {
+        compare_job(&rt, line, *job)?;
+    }
+    Ok(())
+}
+
+#[test]
+fn reads_profiles_of_whole_recordings(rt: HostRuntime) -> Result<(), Fail> {
+    let (vt100, vt102) = (Profile::Vt100, Profile::Vt102);
+    let session = |every, profile| Job::Session {
+        every,
+        player: Player::Vt(profile),
+    };
+    let rows = [
+        (
+            "typetool page --profile=vt102 s t",
+            Job::Page {
+                player: Player::Vt(vt102),
+            },
+        ),
+        (
+            "typetool cast s --profile vt102 t",
+            Job::Cast {
+                player: Player::Vt(vt102),
+            },
+        ),
+        ("typetool session s t", session(100, vt100)),
+        (
+            "typetool session --every 007 --profile=vt102 s t",
+            session(7, vt102),
+        ),
+    ];
+    for (line, job) in &rows {
+        compare_job(&rt, line, *job)?;
+    }
+    Ok(())
+}
+
+#[test]
+fn refuses_other_profiles(rt: HostRuntime) -> Result<(), Fail> {
+    for line in [
+        "typetool screen --at=1 --profile= s t",
+        "typetool screen --at=1 --profile=vt220 s t",
+        "typetool screen --at=1 --profile=VT102 s t",
+        "typetool screen --at=1 --profile=vt1024 s t",
+    ] {
+        let words = words_of(rt.alloc(), line)?;
+        let told = told(rt.alloc(), words.as_slice())?;
+        assert_eq!(rt;
+            told.as_str(),
+            "bad profile: vt100, vt102 or xterm",
+            "{line:?}"
+        );
+    }
+    Ok(())
+}
+
+#[test]
+fn leaves_misplaced_flags_to_clap(rt: HostRuntime) -> Result<(), Fail> {
+    for line in [
+        "typetool due --at=1 --profile=vt100 s t",
+        "typetool info --profile=vt100 s t",
+        "typetool save --profile=vt100 s t u v",
+        "typetool changes --to=1 --escaped s t",
+        "typetool picture --at=1 --escaped s t",
+        "typetool reports --at=1 --escaped s t",
+        "typetool page --escaped s t",
+        "typetool session --escaped s t",
+        "typetool screen --at=1 --escaped=true s t",
+        "typetool screen --at=1 --profile=vt100 --profile=vt100 s t",
+    ] {
+        compare_left(&rt, line)?;
+    }
+    Ok(())
+}

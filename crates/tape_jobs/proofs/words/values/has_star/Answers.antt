@@ -1,9 +1,0 @@
-use Rattle.std.proofs.Common.{◌==◌, rules, tests}
-use Rattle.std.proofs.lemmas.Iterator.{YieldsList-from_chars}
-use Rattle.std.proofs.lemmas.Iterator.Search.{any_from_yields_List}
-use Rattle.tape_jobs.proofs.words.values.has_star.Goals as goal
-
-pub returns : goal.returns
-returns c =
-    any_from_yields_List (λ c. c == 42) _ _ _ c.any.ensures.ran
-    (YieldsList-from_chars c.args.text.now c.utf8.text c.chars.ensures.rest) (λ x b q k. search (rules, tests))

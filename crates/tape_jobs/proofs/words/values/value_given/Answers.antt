@@ -1,9 +1,0 @@
-use Rattle.std.proofs.Common.{ap, ◌∙◌}
-use Rattle.clap.specs.Words.{first_of, found_of, rows_of}
-use Rattle.clap.proofs.WalkLemmas.{first_value-rows}
-use Rattle.tape_jobs.proofs.words.values.value_given.Goals as goal
-
-pub returns : goal.returns
-returns c =
-    c.get_str.ensures ∙ first_value-rows (found_of c.args.values.now) c.id_of.result.now
-    ∙ ap (λ id. first_of id (rows_of (found_of c.args.values.now))) c.id_of.ensures
