@@ -1,6 +1,6 @@
 #!/usr/bin/env bash
 # Runs the program on real files: exit status, standard output, standard error, and files left as they were. What the jobs
-# write, and which command lines there are, is tested in crates/job_tests.
+# write, and which command lines there are, is tested in crates/job_tests and crates/command_tests.
 # Usage: tests/program.sh PROGRAM, a file named typetool, as its help says. The last line is 'N passed, M failed'.
 set -u
 program=$(realpath "$1")
