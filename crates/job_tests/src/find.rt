@@ -229,6 +229,7 @@ fn find_goes_by_its_own_lines(rt: HostRuntime) -> Result<(), Fail> {
     };
     let mut out = Watched::new(Vec::new(rt.alloc()));
     for (text, status) in [('b', 0), ('c', 1), ('a', 0)] {
+        assert!(rt; !out.failed(), "a vector takes every byte");
         let outcome = run_with(
             rt.alloc(),
             job,
