@@ -1,0 +1,9 @@
+use Rattle.std.proofs.Common.{◌≡◌, ◌++◌, drop}
+use Rattle.standings.specs.Standing.{line_text, places_in}
+use Rattle.standings.proofs.place.push_places.Given as goal
+
+-- the characters so far were tried
+abbrev pub invariant-loop-before : goal.invariant-loop-before
+invariant-loop-before l = record {
+  placed : l.places.items ≡ l.fn.places.items ++ places_in l.text l.above (line_text (drop l.above l.rows)) l.before;
+}

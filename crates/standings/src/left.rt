@@ -1,0 +1,116 @@
+//! What of a text went between two screens, told by what stands left of it.
+
+ghost use Rattle.std.specs.Prelude.{◌≡◌, ◌+◌, ◌<◌, ◌≤◌, true, List, ℕ, length, nat_eq, take, IfOk};
+ghost use Rattle.std.specs.Cmp.Lexicographic.{pointwise};
+ghost use Rattle.standings.specs.Standing.{count_left, is_less, is_lone, left_of, place_at, standing};
+
+use crate::place::{Place, standing};
+use crate::row::{Row, characters_below};
+use std::alloc::{AllocError, Global};
+
+/// The rows of a screen, and where a text stands on it.
+#[derive(Drop)]
+pub struct Standing {
+    pub rows: Vec<Row>,
+    pub places: Vec<Place>,
+}
+
+impl Standing {
+    /// That of these rows.
+    pub fn of(alloc: Global, rows: Vec<Row>, text: &[char]) -> Result<Self, AllocError>
+        ensures rows { IfOk result (λ s. s.rows.items ≡ rows.items) }
+        ensures places { IfOk result (λ s. s.places.items ≡ standing text.now rows.items) }
+    {
+        let places = standing(alloc, rows.as_slice(), text)?;
+        Ok(Standing { rows, places })
+    }
+}
+
+/// Whether a place is less on the other screen: at least as many places before it have the same to the left as there are
+/// in all on the other.
+pub fn is_less(one: &Standing, at: usize, other: &Standing) -> bool
+    requires { at < length one.now.places.items }
+    ensures { result ≡ is_less one.now.rows.items one.now.places.items other.now.rows.items
+        other.now.places.items at }
+{
+    let left = left_of(one.rows.as_slice(), one.places[at]);
+    let before = count_left(one.rows.as_slice(), &one.places.as_slice()[..at], left);
+    let there = count_left(other.rows.as_slice(), other.places.as_slice(), left);
+    there <= before
+}
+
+/// Whether no place on a screen has the same to the left as one on another.
+pub fn is_lone(here: &Standing, one: &Standing, at: usize) -> bool
+    requires { at < length one.now.places.items }
+    ensures { result ≡ is_lone here.now.rows.items here.now.places.items
+        (left_of one.now.rows.items (place_at one.now.places.items at)) }
+{
+    let left = left_of(one.rows.as_slice(), one.places[at]);
+    count_left(here.rows.as_slice(), here.places.as_slice(), left) == 0
+}
+
+/// Whether each place of a screen surely has one on the other with the same to the left, so that none is less there. It
+/// goes over both in reading order, once.
+pub fn keeps_all(one: &Standing, other: &Standing) -> bool
+    ensures { result ≡ true → (left : List ℕ)
+        → count_left one.now.rows.items one.now.places.items left
+        ≤ count_left other.now.rows.items other.now.places.items left }
+{
+    let mut kept = 0;
+    for at in 0..other.places.len() {
+        kept = kept_behind(one, kept, other, at);
+    }
+    kept == one.places.len()
+}
+
+/// How many places of a screen were kept behind one more of the other.
+fn kept_behind(one: &Standing, kept: usize, other: &Standing, at: usize) -> usize
+    requires kept { kept ≤ length one.now.places.items }
+    requires within { at < length other.now.places.items }
+    ensures within { result ≤ length one.now.places.items }
+    ensures counts { (left : List ℕ)
+        → count_left one.now.rows.items (take kept one.now.places.items) left
+        ≤ count_left other.now.rows.items (take at other.now.places.items) left
+        → count_left one.now.rows.items (take result one.now.places.items) left
+        ≤ count_left other.now.rows.items (take (at + 1) other.now.places.items) left }
+{
+    if kept == one.places.len() {
+        return kept;
+    }
+    if has_same_left(one, kept, other, at) {
+        return kept + 1;
+    }
+    kept
+}
+
+/// Whether a place has the same to the left as one on another screen.
+fn has_same_left(one: &Standing, at: usize, other: &Standing, there: usize) -> bool
+    requires within { at < length one.now.places.items }
+    requires there { there < length other.now.places.items }
+    ensures { result ≡ pointwise nat_eq (left_of one.now.rows.items (place_at one.now.places.items at))
+        (left_of other.now.rows.items (place_at other.now.places.items there)) }
+{
+    left_of(one.rows.as_slice(), one.places[at])
+        == left_of(other.rows.as_slice(), other.places[there])
+}
+
+/// How many of the places have this to the left.
+fn count_left(rows: &[Row], places: &[Place], left: &[char]) -> usize
+    ensures { result ≡ count_left rows.now places.now left.now }
+{
+    let mut count = 0;
+    for place in places {
+        if left_of(rows, *place) == left {
+            count += 1;
+        }
+    }
+    count
+}
+
+/// What stands left of a place in its row.
+fn left_of(rows: &[Row], place: Place) -> &[char]
+    ensures { result.now ≡ left_of rows.now place }
+{
+    let characters = characters_below(rows, place.above);
+    &characters[..place.before.min(characters.len())]
+}

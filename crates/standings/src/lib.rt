@@ -1,0 +1,12 @@
+//! Where a text stands on rows of characters, what of it came and went between two screens, and how that is written.
+#![tactic(auto)]
+
+mod left;
+mod line;
+mod place;
+mod row;
+
+pub use left::{Standing, is_less, is_lone, keeps_all};
+pub use line::{Moment, put_found};
+pub use place::{Place, standing};
+pub use row::Row;

@@ -1,0 +1,98 @@
+//! Where a text stands on a screen.
+
+ghost use Rattle.std.specs.Prelude.{◌≡◌, ◌≤◌, ◌<◌, ◌++◌, false, List, ℕ, drop, length, nat_eq, IfOk, OnOk};
+ghost use Rattle.std.specs.List.{starts_with};
+ghost use Rattle.standings.specs.Rows.{row_below};
+ghost use Rattle.standings.specs.Standing.{begins, line_text, places_in, standing};
+
+use crate::row::{Row, characters_below, runs_on_below};
+use std::alloc::{AllocError, Global};
+
+/// A place on a screen: how many rows are above it, and how many characters before it in its row.
+#[derive(Clone, Copy, Debug, PartialEq, Eq)]
+pub struct Place {
+    pub above: usize,
+    pub before: usize,
+}
+
+/// Where a text stands, in reading order.
+pub fn standing(alloc: Global, rows: &[Row], text: &[char]) -> Result<Vec<Place>, AllocError>
+    ensures { IfOk result (λ places. places.items ≡ standing text.now rows.now) }
+{
+    let mut places = Vec::new(alloc);
+    for above in 0..rows.len() {
+        push_places(rows, above, text, &mut places)?;
+    }
+    Ok(places)
+}
+
+/// Puts the places of one row behind others.
+fn push_places(
+    rows: &[Row],
+    above: usize,
+    text: &[char],
+    places: &mut Vec<Place>,
+) -> Result<(), AllocError>
+    requires { above < length rows.now }
+    ensures { OnOk result (places.new.items ≡ places.old.items
+        ++ places_in text.now above (line_text (drop above rows.now)) (length (row_below rows.now above).characters)) }
+{
+    for before in 0..characters_below(rows, above).len() {
+        if begins(&rows[above..], before, text) {
+            places.push(Place { above, before })?;
+        }
+    }
+    Ok(())
+}
+
+/// Whether a text begins behind so many characters in the line whose rows these are from its first one on.
+fn begins(rows: &[Row], before: usize, text: &[char]) -> bool
+    requires { before < length (row_below rows.now 0).characters }
+    ensures { result ≡ begins text.now (line_text rows.now) before }
+{
+    if !may_begin(characters_below(rows, 0), before, text) {
+        return false;
+    }
+    begins_along(rows, before, text)
+}
+
+/// Whether a character isn't another one than the first of a text.
+fn may_begin(characters: &[char], before: usize, text: &[char]) -> bool
+    requires { before < length characters.now }
+    ensures { result ≡ false → (rest : List ℕ)
+        → starts_with nat_eq (drop before characters.now ++ rest) text.now ≡ false }
+{
+    text.is_empty() || characters[before] == text[0]
+}
+
+/// The same as `begins`, row by row.
+fn begins_along(rows: &[Row], before: usize, text: &[char]) -> bool
+    requires { before ≤ length (row_below rows.now 0).characters }
+    ensures { result ≡ begins text.now (line_text rows.now) before }
+{
+    let mut rest = text;
+    let mut from = before;
+    for at in 0..rows.len() {
+        let part = behind(characters_below(rows, at), from);
+        if rest.len() <= part.len() {
+            return part.starts_with(rest);
+        }
+        if !rest.starts_with(part) {
+            return false;
+        }
+        if !runs_on_below(rows, at) {
+            return false;
+        }
+        rest = behind(rest, part.len());
+        from = 0;
+    }
+    rest.is_empty()
+}
+
+/// What is left behind so many characters.
+fn behind(characters: &[char], count: usize) -> &[char]
+    requires { count ≤ length characters.now }
+    ensures { result.now ≡ drop count characters.now }
+{
+    &characters[count..]
+}

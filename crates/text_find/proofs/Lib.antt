@@ -1,0 +1,5 @@
+mod AskedLemmas
+mod BeganLemmas
+mod LineLemmas
+mod NowhereLemmas
+mod StoodLemmas

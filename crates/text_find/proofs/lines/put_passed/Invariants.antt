@@ -1,0 +1,11 @@
+use Rattle.tape_core.specs.Devices.{Gave}
+use Rattle.chunk_walk.proofs.TextLemmas.{texts_from}
+use Rattle.text_find.specs.Lines.{passed_line}
+use Rattle.text_find.proofs.lines.put_passed.Given as goal
+
+-- the lines of the places so far have gone out
+abbrev pub invariant-loop-at : goal.invariant-loop-at
+invariant-loop-at g l =
+    Gave g.W.Write.contents l.fn.writer l.writer
+    (texts_from (passed_line l.moment.index l.moment.due l.moment.len l.ends.first.now.rows.items l.ends.first.now.places.items l.ends.last.now.rows.items l.ends.last.now.places.items
+    l.one.rows.items l.one.places.items l.other.rows.items l.other.places.items) 0 l.at)

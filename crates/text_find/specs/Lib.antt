@@ -1,0 +1,2 @@
+pub mod FindLines
+pub mod Lines

@@ -1,0 +1,77 @@
+-- Private: the find lines, as they are written.
+use Rattle.std.specs.Prelude.{◌≡◌, ℕ, ◌+◌, ◌&&◌, List, [], ◌++◌, Option, Some, None, if◌then◌else◌, length}
+use Rattle.std.specs.List.{flat_map, range_with_len}
+use Rattle.tape_core.specs.Devices.{Gave}
+use Rattle.tape_core.specs.Due.{bytes_at, due_time, first}
+use Rattle.tape_core.specs.Tape.{Tape}
+use Rattle.tape_core.specs.declared.devices.Watched.{Watched}
+use Rattle.standings.specs.Found.{found_line}
+use Rattle.standings.specs.Rows.{Row}
+use Rattle.standings.specs.Standing.{is_less, is_lone, left_of, place_at, standing}
+use Rattle.standings.specs.declared.left.Standing.{Standing}
+use Rattle.standings.specs.declared.place.Place.{Place}
+use Rattle.text_find.specs.FindLines.{Screens, rows_within}
+
+-- a beginning of a text was given
+pub record Began {T : Type 0} (contents : T → Option (List ℕ)) (old new : Watched T) (text : List ℕ) : Type 0 where
+  pub front : List ℕ
+  pub rest : List ℕ
+  pub cut : text ≡ front ++ rest
+  pub gave : Gave contents old new front
+
+-- these are the rows of a screen, and where a text stands on it
+pub record IsStill (text : List ℕ) (screen : List Row) (still : Standing) : Type 0 where
+  pub rows : still.rows.items ≡ screen
+  pub places : still.places.items ≡ standing text screen
+
+-- the line of place n, where it is less on the other screen
+abbrev pub less_line : ℕ → ℕ → ℕ → ℕ → List Row → List Place → List Row → List Place → ℕ → List ℕ
+less_line sign index due len one places other others n =
+    if is_less one places other others n then found_line sign index due len one (place_at places n) else []
+
+abbrev pub less_lines : ℕ → ℕ → ℕ → ℕ → List Row → List Place → List Row → List Place → List ℕ
+less_lines sign index due len one places other others =
+    flat_map (less_line sign index due len one places other others) (range_with_len 0 (length places))
+
+-- the line of place n, where it went at a byte and has a left part that none has at the chunk's ends
+abbrev pub passed_line : ℕ → ℕ → ℕ → List Row → List Place → List Row → List Place → List Row → List Place → List Row → List Place → ℕ → List ℕ
+passed_line index due len first firsts last lasts one places other others n =
+    let place = place_at places n in
+    if is_less one places other others n
+    then (if is_lone first firsts (left_of one place) && is_lone last lasts (left_of one place) then found_line 126 index due len one place else [])
+    else []
+
+abbrev pub passed_lines : ℕ → ℕ → ℕ → List Row → List Place → List Row → List Place → List Row → List Place → List Row → List Place → List ℕ
+passed_lines index due len first firsts last lasts one places other others =
+    flat_map (passed_line index due len first firsts last lasts one places other others) (range_with_len 0 (length places))
+
+-- those of the byte behind so many
+abbrev pub byte_lines : List ℕ → ℕ → ℕ → List Row → List Place → List Row → List Place → (List ℕ → List Row) → List ℕ → List ℕ → ℕ → List ℕ
+byte_lines text index due first firsts last lasts screen before bytes count =
+    let one = rows_within screen before bytes count in
+    let other = rows_within screen before bytes (count + 1) in
+    passed_lines index due (length text) first firsts last lasts one (standing text one) other (standing text other)
+
+-- those of a chunk
+abbrev pub chunk_lines : List ℕ → ℕ → ℕ → (List ℕ → List Row) → List ℕ → List ℕ → List ℕ
+chunk_lines text index due screen before bytes =
+    let first = rows_within screen before bytes 0 in
+    let last = rows_within screen before bytes (length bytes) in
+    let firsts = standing text first in
+    let lasts = standing text last in
+    less_lines 45 index due (length text) first firsts last lasts
+    ++ flat_map (byte_lines text index due first firsts last lasts screen before bytes) (range_with_len 0 (length bytes))
+    ++ less_lines 43 index due (length text) last lasts first firsts
+
+-- that of a chunk of a recording
+abbrev pub chunk_lines_at : {P : Type 0} → List ℕ → Screens P → P → Tape → ℕ → List ℕ
+chunk_lines_at text screens profile tape index =
+    chunk_lines text index (due_time tape.chunks index) (screens profile) (first tape.chunks index) (bytes_at tape.chunks index)
+
+-- those of what stands at a moment
+abbrev pub standing_lines : ℕ → ℕ → ℕ → List Row → List Place → List ℕ
+standing_lines len index moment rows places = flat_map (found_line 61 index moment len rows) places
+
+abbrev pub from_lines : ℕ → List Row → List Place → ℕ → Option ℕ → List ℕ
+from_lines len rows places index None = []
+from_lines len rows places index (Some moment) = standing_lines len index moment rows places

@@ -1,0 +1,41 @@
+//! What a text is looked for in: a terminal that shows rows of characters.
+ghost use Rattle.std.specs.Prelude.{◌≡◌, ◌≤◌, List, ℕ, length, true, IfOk, IsOk};
+
+use plays::{OutOfMemory, Plays};
+use standings::Row;
+use std::alloc::Global;
+use tape_seek::Session;
+
+/// How a text is looked for on a terminal.
+pub trait Finder<T: Plays> {
+    ghost use Rattle.tape_seek.specs.State.{Leaves};
+    ghost use Rattle.text_find.specs.FindLines.{BeginsBlank, Screens};
+
+    /// The rows that the terminal shows.
+    ghost screens: { Screens T.Profile };
+
+    /// Goes to a count of chunks, by the function that the terminal's crate has for it: so what feeds is compiled once.
+    fn go_to(session: &mut Session<T>, count: usize) -> Result<(), OutOfMemory>
+        requires { count ≤ length session.old.recording.chunks }
+        ensures state { Leaves result count session.old session.new }
+        ensures room { count ≤ session.old.marks.frontier → IsOk result };
+
+    /// A copy of the terminal.
+    fn copy(alloc: Global, terminal: &T) -> Result<T, OutOfMemory>
+        ensures { (profile : T.Profile) (bytes : List ℕ) → T.shows profile terminal.now bytes
+            → IfOk result (λ copied. T.shows profile copied bytes) };
+
+    /// The rows that it shows.
+    fn rows(alloc: Global, terminal: &T) -> Result<Vec<Row>, OutOfMemory>
+        ensures { (profile : T.Profile) (bytes : List ℕ) → T.shows profile terminal.now bytes
+            → IfOk result (λ rows. rows.items ≡ screens profile bytes) };
+
+    /// Whether it surely shows these rows still, so that nothing of a text went. It may answer no.
+    fn stays(rows: &[Row], terminal: &T) -> bool
+        ensures { (profile : T.Profile) (bytes : List ℕ) → T.shows profile terminal.now bytes
+            → result ≡ true → rows.now ≡ screens profile bytes };
+
+    /// Where nothing was played a text with ink stands nowhere. Nothing is done.
+    fn begins_blank()
+        ensures { BeginsBlank screens };
+}

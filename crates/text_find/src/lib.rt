@@ -1,0 +1,12 @@
+//! Tells where a text came to stand in a recording and where it went, byte by byte, on any terminal that plays and shows
+//! rows of characters.
+#![tactic(auto)]
+
+mod each_byte;
+mod finder;
+mod finding;
+pub mod laws;
+mod lines;
+
+pub use finder::Finder;
+pub use finding::find;

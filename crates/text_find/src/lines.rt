@@ -1,0 +1,204 @@
+//! The lines of what stands on a screen, of what is less on another, and of what passed inside a chunk.
+
+ghost use Rattle.std.specs.Prelude.{◌≡◌, ◌<◌, ◌&&◌, length, OnErr, OnOk};
+ghost use Rattle.standings.specs.Found.{found_line};
+ghost use Rattle.standings.specs.Standing.{is_lone, left_of, place_at};
+ghost use Rattle.tape_core.specs.Devices.{Gave};
+ghost use Rattle.text_find.specs.Lines.{Began, from_lines, less_line, less_lines, passed_line, passed_lines, standing_lines};
+
+use plays::OutOfMemory;
+use standings::{Moment, Standing, is_less, is_lone, keeps_all, put_found};
+use std::alloc::Global;
+use std::io::Write;
+use tape_core::Watched;
+use tape_core::laws::gives_join;
+
+/// What stands on the screen at both ends of a chunk.
+#[derive(Drop)]
+pub(crate) struct Ends<'a> {
+    pub(crate) first: &'a Standing,
+    pub(crate) last: &'a Standing,
+}
+
+/// Writes where the text stands at the moment from which chunks are asked for, if there is one.
+pub(crate) fn put_from<W: Write>(
+    alloc: Global,
+    from: Option<u64>,
+    index: usize,
+    len: usize,
+    still: &Standing,
+    writer: &mut Watched<W>,
+) -> Result<(), OutOfMemory>
+    ensures gave { OnOk result (Gave W.contents writer.old writer.new
+        (from_lines len still.now.rows.items still.now.places.items index from)) }
+    ensures front { OnErr result (Began W.contents writer.old writer.new
+        (from_lines len still.now.rows.items still.now.places.items index from)) }
+{
+    gives_join::<W>();
+    if let Some(moment) = from {
+        let moment = Moment {
+            index,
+            due: moment,
+            len,
+        };
+        put_standing(alloc, moment, still, writer)?;
+    }
+    Ok(())
+}
+
+/// Writes a line for each place at which the text stands.
+fn put_standing<W: Write>(
+    alloc: Global,
+    moment: Moment,
+    still: &Standing,
+    writer: &mut Watched<W>,
+) -> Result<(), OutOfMemory>
+    ensures gave { OnOk result (Gave W.contents writer.old writer.new
+        (standing_lines moment.len moment.index moment.due still.now.rows.items still.now.places.items)) }
+    ensures front { OnErr result (Began W.contents writer.old writer.new
+        (standing_lines moment.len moment.index moment.due still.now.rows.items still.now.places.items)) }
+{
+    gives_join::<W>();
+    for at in 0..still.places.len() {
+        put_at(alloc, b'=', moment, still, at, writer)?;
+    }
+    Ok(())
+}
+
+/// Writes the line of one place. Where memory is refused, nothing was written.
+fn put_at<W: Write>(
+    alloc: Global,
+    sign: u8,
+    moment: Moment,
+    still: &Standing,
+    at: usize,
+    writer: &mut Watched<W>,
+) -> Result<(), OutOfMemory>
+    requires { at < length still.now.places.items }
+    ensures gave { OnOk result (Gave W.contents writer.old writer.new
+        (found_line sign moment.index moment.due moment.len
+        still.now.rows.items (place_at still.now.places.items at))) }
+    ensures refused { OnErr result (writer.new ≡ writer.old) }
+{
+    put_found(
+        alloc,
+        sign,
+        moment,
+        still.rows.as_slice(),
+        still.places[at],
+        writer,
+    )?;
+    Ok(())
+}
+
+/// Writes the lines of what stands on one screen and is less on the other.
+pub(crate) fn put_less<W: Write>(
+    alloc: Global,
+    sign: u8,
+    moment: Moment,
+    one: &Standing,
+    other: &Standing,
+    writer: &mut Watched<W>,
+) -> Result<(), OutOfMemory>
+    ensures gave { OnOk result (Gave W.contents writer.old writer.new
+        (less_lines sign moment.index moment.due moment.len
+        one.now.rows.items one.now.places.items other.now.rows.items other.now.places.items)) }
+    ensures front { OnErr result (Began W.contents writer.old writer.new
+        (less_lines sign moment.index moment.due moment.len
+        one.now.rows.items one.now.places.items other.now.rows.items other.now.places.items)) }
+{
+    gives_join::<W>();
+    for at in 0..one.places.len() {
+        put_if_less(alloc, sign, moment, one, at, other, writer)?;
+    }
+    Ok(())
+}
+
+/// Writes the line of one place, if it is less on the other screen. Where memory is refused, nothing was written.
+fn put_if_less<W: Write>(
+    alloc: Global,
+    sign: u8,
+    moment: Moment,
+    one: &Standing,
+    at: usize,
+    other: &Standing,
+    writer: &mut Watched<W>,
+) -> Result<(), OutOfMemory>
+    requires within { at < length one.now.places.items }
+    ensures gave { OnOk result (Gave W.contents writer.old writer.new
+        (less_line sign moment.index moment.due moment.len
+        one.now.rows.items one.now.places.items other.now.rows.items other.now.places.items at)) }
+    ensures refused { OnErr result (writer.new ≡ writer.old) }
+{
+    gives_join::<W>();
+    if is_less(one, at, other) {
+        put_at(alloc, sign, moment, one, at, writer)?;
+    }
+    Ok(())
+}
+
+/// Writes the lines of what went at a byte and stood so at neither end. Mostly nothing went, which is seen at once.
+pub(crate) fn put_passed<W: Write>(
+    alloc: Global,
+    moment: Moment,
+    ends: &Ends<'_>,
+    one: &Standing,
+    other: &Standing,
+    writer: &mut Watched<W>,
+) -> Result<(), OutOfMemory>
+    ensures gave { OnOk result (Gave W.contents writer.old writer.new
+        (passed_lines moment.index moment.due moment.len
+        ends.now.first.now.rows.items ends.now.first.now.places.items
+        ends.now.last.now.rows.items ends.now.last.now.places.items
+        one.now.rows.items one.now.places.items other.now.rows.items other.now.places.items)) }
+    ensures front { OnErr result (Began W.contents writer.old writer.new
+        (passed_lines moment.index moment.due moment.len
+        ends.now.first.now.rows.items ends.now.first.now.places.items
+        ends.now.last.now.rows.items ends.now.last.now.places.items
+        one.now.rows.items one.now.places.items other.now.rows.items other.now.places.items)) }
+{
+    gives_join::<W>();
+    if keeps_all(one, other) {
+        return Ok(());
+    }
+    for at in 0..one.places.len() {
+        put_if_passed(alloc, moment, ends, one, at, other, writer)?;
+    }
+    Ok(())
+}
+
+/// Writes the line of one place, where it went at a byte and stood so at neither end. Where memory is refused, nothing
+/// was written.
+fn put_if_passed<W: Write>(
+    alloc: Global,
+    moment: Moment,
+    ends: &Ends<'_>,
+    one: &Standing,
+    at: usize,
+    other: &Standing,
+    writer: &mut Watched<W>,
+) -> Result<(), OutOfMemory>
+    requires within { at < length one.now.places.items }
+    ensures gave { OnOk result (Gave W.contents writer.old writer.new
+        (passed_line moment.index moment.due moment.len
+        ends.now.first.now.rows.items ends.now.first.now.places.items
+        ends.now.last.now.rows.items ends.now.last.now.places.items
+        one.now.rows.items one.now.places.items other.now.rows.items other.now.places.items at)) }
+    ensures refused { OnErr result (writer.new ≡ writer.old) }
+{
+    gives_join::<W>();
+    if is_less(one, at, other) && stood_at_neither(ends, one, at) {
+        put_at(alloc, b'~', moment, one, at, writer)?;
+    }
+    Ok(())
+}
+
+/// Whether neither end has anything with the same to the left.
+fn stood_at_neither(ends: &Ends<'_>, one: &Standing, at: usize) -> bool
+    requires within { at < length one.now.places.items }
+    ensures { let left = left_of one.now.rows.items (place_at one.now.places.items at) in
+        result ≡ (is_lone ends.now.first.now.rows.items ends.now.first.now.places.items left
+        && is_lone ends.now.last.now.rows.items ends.now.last.now.places.items left) }
+{
+    is_lone(ends.first, one, at) && is_lone(ends.last, one, at)
+}
