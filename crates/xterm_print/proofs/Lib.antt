@@ -1,3 +1,6 @@
 pub mod PlainLemmas
 pub mod KeptLemmas
+pub mod SameLemmas
 pub mod ShownLemmas
+mod FindRowLemmas
+mod BlankLemmas

@@ -1,5 +1,5 @@
 -- Rows that are kept of a terminal, as it plays on.
-use Rattle.std.proofs.Common.{◌≡◌, ℕ, ◌≤◌, List, [], ◌++◌, length, take, drop, ap, sym, ◌∙◌, subst, arith, append-nil}
+use Rattle.std.proofs.Common.{◌≡◌, ℕ, ◌≤◌, List, ◌++◌, length, take, drop, ap, sym, ◌∙◌, subst, arith, append-nil}
 use Rattle.std.proofs.lemmas.List.{drop_all, take_all}
 use Rattle.sheet.specs.Cells.{Cell}
 use Rattle.xterm_screen.specs.Picture.{Picture}
@@ -9,6 +9,7 @@ use Rattle.xterm_term.specs.Seen.{Seen, Shows}
 use Rattle.xterm_term.specs.Term.{play}
 use Rattle.xterm_print.specs.ChangeLines.{changed_lines, rows_by}
 use Rattle.xterm_print.specs.Kept.{AreKept, FollowAll}
+use Rattle.xterm_print.specs.FindRows.{rows_read, rows_shown}
 use Rattle.xterm_print.specs.Moments.{reset_as}
 use Rattle.xterm_print.proofs.KeptLemmas.{changed_alike}
 
@@ -57,3 +58,10 @@ written_back n new old long before =
     let past : length old ≤ length new = omega (arith, long, before) in
     let all : length new ≤ n = omega (arith, long) in
     sym (ap (λ l. take n (new ++ l)) (drop_all (length new) old past) ∙ ap (take n) (append-nil new) ∙ take_all n new all)
+
+-- the rows in which a text is looked for
+pub rows_told : SizeStays → (p : Picture) (terminal : Seen) (size : Size) (bytes : List ℕ) → p ≡ terminal.console.picture
+    → Shows terminal (play (reset_as size) bytes) → rows_read p.lines p.rows ≡ rows_shown size bytes
+rows_told law p terminal size bytes is shows =
+    let here = shown law p terminal size bytes is shows in
+    ap (λ n. rows_read n p.rows) here.lines ∙ ap (rows_read size.lines) here.rows

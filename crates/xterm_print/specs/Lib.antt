@@ -4,3 +4,6 @@ pub mod Headline
 pub mod Lending
 pub mod ChangeLines
 pub mod Kept
+pub mod FindRows
+pub mod FindLines
+pub mod Same

@@ -5,6 +5,7 @@ ghost use Rattle.sheet.specs.Cells.{Cell};
 ghost use Rattle.xterm_print.specs.ChangeLines.{changed_lines, same_row};
 ghost use Rattle.xterm_print.specs.Kept.{FollowAll, Follows};
 
+use crate::same::same_row;
 use arrayvec::ArrayVec;
 use sheet::Cell;
 use sheet::limits::MOST_LINES;
@@ -43,7 +44,7 @@ impl KeptRow {
     fn is_same(&self, cells: &[Cell]) -> bool
         ensures { result ≡ same_row self.now cells.now }
     {
-        self.cells.as_slice() == cells
+        same_row(self.cells.as_slice(), cells)
     }
 
     /// Becomes a copy of these cells, if they are as many as its own.

@@ -2,13 +2,19 @@
 #![tactic(auto)]
 
 mod change_lines;
+mod find_lines;
+mod find_rows;
 mod kept;
+pub mod laws;
 mod plain_print;
 mod rows;
+mod same;
 mod seeking;
 
 pub use change_lines::changes;
 pub use chunk_walk::WalkFault;
+pub use find_lines::find;
 pub use plain_print::plain;
 pub use rows::put_cell;
+pub use same::same_row;
 pub use seeking::{open, seek, seek_count};

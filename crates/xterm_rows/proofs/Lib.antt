@@ -1,3 +1,4 @@
 pub mod RangeLemmas
 pub mod GroupLemmas
 pub mod RunLemmas
+pub mod LetterLemmas

@@ -4,3 +4,4 @@ pub mod OutlineTable
 pub mod Outlines
 pub mod Groups
 pub mod Runs
+pub mod Letters

@@ -41,11 +41,12 @@ pub fn inked(cells: &[Cell]) -> &[Cell]
     &cells[..len]
 }
 
-/// Whether a cell is a space alone without rendition.
+/// Whether a cell is a space alone without rendition. Most tell it by their numbers.
+#[tactic(auto, using(crate::proofs::LetterLemmas::blank_is))]
 fn is_blank(cell: Cell) -> bool
     ensures { result ≡ is_blank cell }
 {
-    is_space(cell) && is_plain(cell.rendition())
+    cell.is_blank() || (is_space(cell) && is_plain(cell.rendition()))
 }
 
 /// The cell behind so many others; a blank one behind the last.

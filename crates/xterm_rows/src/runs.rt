@@ -1,13 +1,14 @@
 //! The runs of a row.
 
-ghost use Rattle.std.specs.Prelude.{◌≡◌, ◌≤◌, ◌<◌, length};
+ghost use Rattle.std.specs.Prelude.{◌≡◌, ◌≤◌, ◌<◌, IsTrue, length};
 ghost use Rattle.xterm_rows.specs.Groups.{group_end};
+ghost use Rattle.xterm_rows.specs.Letters.{IsLetter};
 ghost use Rattle.xterm_rows.specs.Runs.{begins, goes_on, kind_number, kind_of, run_at};
 
 use crate::cells::{cell_behind, owner};
 use crate::outlines::is_outlined;
 use crate::renditions::{attribute_number, bit_of, colour_number};
-use sheet::{Cell, Rendition};
+use sheet::{Cell, Colour, Rendition};
 
 /// What the characters of a run have in common: their rendition, whether they are drawn, whether they are of width 2,
 /// and whether it is one with marks, which is a run by itself (ours).
@@ -94,9 +95,28 @@ fn run_end(cells: &[Cell], at: usize) -> usize
     end
 }
 
-/// Whether a run begins at a place.
-#[tactic(auto, unfolding(crate::specs::Runs::begins))]
+/// Whether a run begins at a place. Between two letters none does, and most cells are letters.
 fn begins(cells: &[Cell], at: usize) -> bool
+    ensures { result ≡ begins cells.now at }
+{
+    if at > 0 && is_letter(cell_behind(cells, at)) && is_letter(cell_behind(cells, at - 1)) {
+        return false;
+    }
+    begins_by_kind(cells, at)
+}
+
+/// Whether a cell is a letter: a character of width 1 without marks and rendition that isn't drawn.
+fn is_letter(cell: Cell) -> bool
+    ensures { IsTrue result → IsLetter cell }
+{
+    let character = cell.character();
+    let letter = Cell::lettered(character, false, Rendition::plain_on(Colour::Default));
+    cell == letter && !is_outlined(character)
+}
+
+/// Whether a run begins at a place, by the kinds of both cells.
+#[tactic(auto, unfolding(crate::specs::Runs::begins))]
+fn begins_by_kind(cells: &[Cell], at: usize) -> bool
     ensures { result ≡ begins cells.now at }
 {
     if at == 0 {

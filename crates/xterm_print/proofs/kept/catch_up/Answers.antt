@@ -1,4 +1,4 @@
-use Rattle.std.proofs.Common.{◌≡◌, ℕ, ◌+◌, ◌-◌, ◌<◌, ◌≤◌, List, length, get_or, not, ap, sym, ◌∙◌, subst, arith, append-nil, refl, filter}
+use Rattle.std.proofs.Common.{◌≡◌, ◌-◌, ◌≤◌, length, get_or, not, ap, sym, ◌∙◌, subst, arith, append-nil, refl, filter}
 use Rattle.std.proofs.lemmas.List.{length-set}
 use Rattle.std.specs.List.{range_with_len}
 use Rattle.sheet.specs.Grid.{row_at}

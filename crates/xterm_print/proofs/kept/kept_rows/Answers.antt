@@ -1,4 +1,4 @@
-use Rattle.std.proofs.Common.{◌≡◌, ◌+◌, ◌-◌, [], ◌∷◌, ◌++◌, ap, sym, ◌∙◌, subst, arith}
+use Rattle.std.proofs.Common.{◌≡◌, ◌+◌, ◌-◌, sym, subst, arith}
 use Rattle.sheet.specs.Grid.{row_at}
 use Rattle.xterm_print.specs.Kept.{FollowAll, Follows}
 use Rattle.xterm_print.proofs.KeptLemmas.{follow_more, follow_none, follows_itself}

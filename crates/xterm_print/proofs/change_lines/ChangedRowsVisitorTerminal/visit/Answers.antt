@@ -2,7 +2,6 @@ use Rattle.std.proofs.Common.{◌≡◌, ◌∙◌, length, ap, sym, subst}
 use Rattle.std.specs.Fmt.{decimal}
 use Rattle.chunk_walk.specs.ChangeLine.{change_line}
 use Rattle.tape_core.specs.Devices.{Gave}
-use Rattle.xterm_term.specs.Seen.{Shows}
 use Rattle.xterm_print.specs.ChangeLines.{changed_lines}
 use Rattle.xterm_print.specs.Kept.{AreKept}
 use Rattle.xterm_print.proofs.ShownLemmas.{kept_on, lines_told, written_back}

@@ -1,4 +1,3 @@
-use Rattle.std.proofs.Common.{sym, ◌∙◌}
 use Rattle.xterm_print.proofs.KeptLemmas.{follows_itself}
 use Rattle.xterm_print.proofs.kept.KeptRow.catch_up.Goals as goal
 

@@ -1,0 +1,67 @@
+-- Rows that are read, a row, a cell and a character more.
+use Rattle.std.proofs.Common.{◌≡◌, ℕ, suc, ◌+◌, ◌<◌, ◌≤◌, true, false, List, [], ◌∷◌, ◌++◌, append_assoc, append-nil, get_or, length, map, take, ap, sym, ◌∙◌, add-one, arith, refl}
+use Rattle.std.specs.List.{flat_map, range_with_len}
+use Rattle.std.proofs.lemmas.List.{get_or_past, length-take, map-append, take_all, take_more}
+use Rattle.std.proofs.lemmas.List.Concat.{flat_map-append}
+use Rattle.sheet.specs.Cells.{Cell, is_covered}
+use Rattle.sheet.specs.Grid.{row_at}
+use Rattle.sheet.specs.Table.{nth, table}
+use Rattle.xterm_rows.specs.RowText.{characters}
+use Rattle.xterm_rows.proofs.RangeLemmas.{range_split}
+use Rattle.xterm_print.specs.FindRows.{columns_from}
+
+-- a row more
+pub table_more : {X : Type 0} (f : ℕ → X) (n line : ℕ) → line ≡ n + 1 → table line f ≡ table n f ++ f line ∷ []
+unfolding table
+table_more f n line is =
+    let next : 1 + n ≡ line = omega arith in
+    ap (λ k. map f (range_with_len 1 k)) is ∙ ap (map f) (range_split 1 n 1)
+    ∙ map-append f (range_with_len 1 n) ((1 + n) ∷ []) ∙ ap (λ k. map f (range_with_len 1 n) ++ f k ∷ []) next
+
+pub table_none : {X : Type 0} (f : ℕ → X) (n : ℕ) → n ≡ 0 → table n f ≡ []
+unfolding table
+table_none f n none = ap (λ k. map f (range_with_len 1 k)) none
+
+-- behind the last row stands none
+pub no_row : (rows : List (List Cell)) (line : ℕ) → length rows ≤ line → row_at rows (line + 1) ≡ []
+unfolding nth
+no_row rows line past = ap (nth [] rows) (add-one line) ∙ get_or_past rows line [] past
+
+-- the columns of cells in two parts
+columns_append : (column : ℕ) (cells more : List Cell) → columns_from column (cells ++ more) ≡ columns_from column cells ++ columns_from (column + length cells) more
+columns_append column [] more = let same : column ≡ column + 0 = omega arith in ap (λ n. columns_from n more) same
+columns_append column (cell ∷ cells) more =
+    let here = map (λ _. column) (characters cell) in
+    let there : column + 1 + length cells ≡ column + suc (length cells) = omega arith in
+    ap (λ l. here ++ l) (columns_append (column + 1) cells more)
+    ∙ sym (append_assoc here (columns_from (column + 1) cells) (columns_from (column + 1 + length cells) more))
+    ∙ ap (λ n. (here ++ columns_from (column + 1) cells) ++ columns_from n more) there
+
+-- a cell more
+pub columns_more : (cells : List Cell) (at : ℕ) (d : Cell) → at < length cells
+    → columns_from 1 (take (at + 1) cells) ≡ columns_from 1 (take at cells) ++ map (λ _. at + 1) (characters (get_or cells at d))
+columns_more cells at d lt =
+    let here : 1 + length (take at cells) ≡ at + 1 = omega (arith, length-take at cells) in
+    ap (columns_from 1) (take_more cells at d lt) ∙ columns_append 1 (take at cells) (get_or cells at d ∷ [])
+    ∙ ap (λ n. columns_from 1 (take at cells) ++ (map (λ _. n) (characters (get_or cells at d)) ++ [])) here
+    ∙ ap (λ l. columns_from 1 (take at cells) ++ l) (append-nil (map (λ _. at + 1) (characters (get_or cells at d))))
+
+pub characters_more : (cells : List Cell) (at : ℕ) (d : Cell) → at < length cells
+    → flat_map characters (take (at + 1) cells) ≡ flat_map characters (take at cells) ++ characters (get_or cells at d)
+characters_more cells at d lt =
+    ap (flat_map characters) (take_more cells at d lt) ∙ flat_map-append characters (take at cells) (get_or cells at d ∷ [])
+    ∙ ap (λ l. flat_map characters (take at cells) ++ l) (append-nil (characters (get_or cells at d)))
+
+-- a text and two more
+pub joined_more : {X : Type 0} (old so_far new part before after : List X) → so_far ≡ old ++ before → new ≡ so_far ++ part → after ≡ before ++ part → new ≡ old ++ after
+joined_more old so_far new part before after known more is =
+    more ∙ ap (λ l. l ++ part) known ∙ append_assoc old before part ∙ ap (λ l. old ++ l) (sym is)
+
+-- the characters of a right half, and of another cell, once so many marks were taken
+pub half_bare : (cell : Cell) → is_covered cell ≡ true → [] ≡ characters cell
+unfolding characters
+half_bare cell covered = rw covered refl
+
+pub cell_whole : (cell : Cell) (n : ℕ) → is_covered cell ≡ false → length cell.marks ≤ n → cell.character ∷ take n cell.marks ≡ characters cell
+unfolding characters
+cell_whole cell n bare all = rw (bare, take_all n cell.marks all) refl

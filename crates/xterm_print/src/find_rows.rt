@@ -1,0 +1,128 @@
+//! The rows of the sheet that is shown, as a text is looked for in them.
+
+ghost use Rattle.std.specs.Prelude.{◌≡◌, ◌+◌, ◌≤◌, ◌++◌, length, map, take, IfOk, OnOk};
+ghost use Rattle.std.specs.List.{flat_map};
+ghost use Rattle.sheet.specs.Grid.{row_at};
+ghost use Rattle.xterm_rows.specs.RowText.{characters, is_space};
+ghost use Rattle.xterm_print.specs.FindRows.{columns_from, ends_in_space, kept_cells, leaves_last, row_read, rows_read};
+
+use sheet::Cell;
+use sheet::limits::MOST_COLUMNS;
+use standings::Row;
+use std::alloc::{AllocError, Global};
+use xterm_rows::cell_behind;
+use xterm_screen::Screen;
+
+/// The rows of the sheet that is shown.
+#[tactic(auto, unfolding(crate::specs::FindRows::rows_read))]
+pub fn rows_read(alloc: Global, screen: &Screen) -> Result<Vec<Row>, AllocError>
+    ensures { IfOk result (λ rows. rows.items
+        ≡ rows_read screen.now.picture.lines screen.now.picture.rows) }
+{
+    let _cursor = screen.cursor();
+    let mut rows = Vec::new(alloc);
+    for line in 1..screen.lines() + 1 {
+        rows.push(row_read(alloc, screen.row(line), next_row(screen, line))?)?;
+    }
+    Ok(rows)
+}
+
+/// The cells of the row below a line; none below the last.
+fn next_row(screen: &Screen, line: u16) -> &[Cell]
+    ensures { result.now ≡ row_at screen.now.picture.rows (line + 1) }
+{
+    let _cursor = screen.cursor();
+    if line < screen.lines() {
+        screen.row(line + 1)
+    } else {
+        &[]
+    }
+}
+
+/// A row, by its cells and by those of the row below it.
+#[tactic(auto, unfolding(crate::specs::FindRows::row_read))]
+fn row_read(alloc: Global, cells: &[Cell], next: &[Cell]) -> Result<Row, AllocError>
+    requires some { 1 ≤ length cells.now }
+    requires few { length cells.now ≤ MOST_COLUMNS }
+    ensures { IfOk result (λ row. row ≡ row_read cells.now next.now) }
+{
+    let runs_on = !ends_in_space(cells) || leaves_last(cells, next);
+    let kept = kept_cells(cells, next);
+    let mut row = Row::with_room(alloc, kept.len(), runs_on)?;
+    push_cells(&mut row, kept)?;
+    Ok(row)
+}
+
+/// The cells without the last one, where that is left out.
+#[tactic(auto, unfolding(crate::specs::FindRows::kept_cells))]
+fn kept_cells<'a>(cells: &'a [Cell], next: &[Cell]) -> &'a [Cell]
+    requires some { 1 ≤ length cells.now }
+    ensures kept { result.now ≡ kept_cells cells.now next.now }
+    ensures few { length result.now ≤ length cells.now }
+{
+    if leaves_last(cells, next) {
+        &cells[..cells.len() - 1]
+    } else {
+        cells
+    }
+}
+
+/// Whether the last cell is a space alone.
+fn ends_in_space(cells: &[Cell]) -> bool
+    ensures { result ≡ ends_in_space cells.now }
+{
+    is_space(cell_behind(cells, cells.len().saturating_sub(1)))
+}
+
+/// Whether the last cell is left out, since the next row's first character may not have fit.
+#[tactic(auto, unfolding(crate::specs::FindRows::leaves_last))]
+fn leaves_last(cells: &[Cell], next: &[Cell]) -> bool
+    ensures { result ≡ leaves_last cells.now next.now }
+{
+    ends_in_space(cells)
+        && !is_space(cell_behind(cells, cells.len().saturating_sub(2)))
+        && cell_behind(next, 0).is_wide()
+}
+
+/// Whether a cell is a space alone, whatever its rendition.
+#[tactic(auto, unfolding(xterm_rows::specs::RowText::is_space))]
+fn is_space(cell: Cell) -> bool
+    ensures { result ≡ is_space cell }
+{
+    !cell.is_covered() && cell.character() == ' ' && cell.mark_count() == 0
+}
+
+/// Puts the characters of cells behind those of a row, from its first column on.
+fn push_cells(row: &mut Row, cells: &[Cell]) -> Result<(), AllocError>
+    requires few { length cells.now ≤ MOST_COLUMNS }
+    ensures characters { OnOk result
+        (row.new.characters ≡ row.old.characters ++ flat_map characters cells.now) }
+    ensures columns { OnOk result
+        (row.new.columns ≡ row.old.columns ++ columns_from 1 cells.now) }
+    ensures runs_on { OnOk result (row.new.runs_on ≡ row.old.runs_on) }
+{
+    for at in 0..cells.len() {
+        push_cell(row, cells[at], at as u16 + 1)?;
+    }
+    Ok(())
+}
+
+/// Puts the characters of a cell in this column behind those of a row: its character and its marks, or nothing of a right
+/// half.
+#[tactic(auto, unfolding(xterm_rows::specs::RowText::characters))]
+fn push_cell(row: &mut Row, cell: Cell, column: u16) -> Result<(), AllocError>
+    ensures characters { OnOk result
+        (row.new.characters ≡ row.old.characters ++ characters cell) }
+    ensures columns { OnOk result
+        (row.new.columns ≡ row.old.columns ++ map (λ _. column) (characters cell)) }
+    ensures runs_on { OnOk result (row.new.runs_on ≡ row.old.runs_on) }
+{
+    if cell.is_covered() {
+        return Ok(());
+    }
+    row.push(cell.character(), column)?;
+    for n in 0..cell.mark_count() {
+        row.push(cell.mark(n), column)?;
+    }
+    Ok(())
+}
