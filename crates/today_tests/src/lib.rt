@@ -10,6 +10,8 @@ mod escaped;
 #[cfg(test)]
 mod files;
 #[cfg(test)]
+mod finds;
+#[cfg(test)]
 mod pages;
 #[cfg(test)]
 mod pictures;

@@ -1,5 +1,9 @@
 //! Pages of a terminal of today.
 
+ghost use Rattle.std.specs.Prelude.{◌≡◌, [], ◌∷◌, ◌++◌, Some, None, codes, encode_utf8, false, true};
+ghost use Rattle.xterm_page.specs.Entries.{Is, Was, first_entry};
+ghost use Rattle.xterm_page.specs.Reading.{data_read};
+
 use std::alloc::Global;
 use std::process::Abort;
 use std::rt::{HostRuntime, Runtime};
@@ -64,5 +68,65 @@ fn entries_tell_what_changes(rt: HostRuntime) -> Result<(), Fail> {
         let (entries, _) = behind.split_once("]\n</script>").unwrap_or(("", ""));
         assert_eq!(&rt; entries, wanted);
     }
+    Ok(())
+}
+
+/// What the data of pages tells, and what is no data.
+#[tactic(auto, unfolding(xterm_page::specs::Reading::data_read, screen_page::specs::Reading::fields_read, tape_core::specs::Seconds::seconds_of))]
+fn data_is_read()
+    ensures first { data_read (codes "[[80,24],\n[0.000000,0,1,1]]")
+        ≡ Some (record { columns = 80; lines = 24; entries = first_entry ∷ [] }) }
+    // Numbers that are left out are 0.
+    ensures noughts { data_read (codes "[[12,3],\n[0.500000,2,1,5,1,[0,\"ab\",1,\"c\",0,7,\"\",0,0,5,\"d\"],3,[0]]]")
+        ≡ Some (record {
+          columns = 12;
+          lines = 3;
+          entries = record {
+            due = 500000;
+            reversed = true;
+            hidden = false;
+            line = 1;
+            column = 5;
+            changes = (
+              1,
+              Is (
+                  record { kind = 0; ink = 0; paper = 0; characters = codes "ab" }
+                  ∷ record { kind = 1; ink = 0; paper = 0; characters = codes "c" }
+                  ∷ record { kind = 0; ink = 7; paper = 0; characters = [] }
+                  ∷ record { kind = 0; ink = 0; paper = 5; characters = codes "d" } ∷ []),
+            )
+                ∷ (3, Is []) ∷ [];
+          } ∷ [];
+        }) }
+    // A row that another line was, a character of width 2, what a string escapes, and a colour by its parts.
+    ensures strings { data_read (codes "[[2,500],\n[1.250000,6,500,2,9,8,10,[0,512,66308,16777472,\"" ++ 230 ∷ 151 ∷ 165 ∷ codes "\\\"\\\\\\u003c\"]]]")
+        ≡ Some (record {
+          columns = 2;
+          lines = 500;
+          entries = record {
+            due = 1250000;
+            reversed = true;
+            hidden = true;
+            line = 500;
+            column = 2;
+            changes = (9, Was 8) ∷ (
+              10,
+              Is (
+                  record { kind = 512; ink = 66308; paper = 16777472; characters = 230 ∷ 151 ∷ 165 ∷ 34 ∷ 92 ∷ encode_utf8 60 } ∷ []),
+            ) ∷ [];
+          } ∷ [];
+        }) }
+    // No size, a row that begins otherwise, a sign, four numbers before a string, a line by itself, an end too early.
+    ensures size { data_read (codes "[[0.000000,0,1,1]]") ≡ None }
+    ensures row { data_read (codes "[[12,3],\n[0.5,0,1,1,1,[1,\"a\"]]]") ≡ None }
+    ensures sign { data_read (codes "[[12,3],\n[0.5,0,1,1,1,[0,-5,\"a\"]]]") ≡ None }
+    ensures numbers { data_read (codes "[[12,3],\n[0.5,0,1,1,1,[0,1,2,3,4,\"a\"]]]") ≡ None }
+    ensures line { data_read (codes "[[12,3],\n[0.5,0,1,1,1]]") ≡ None }
+    ensures whole { data_read (codes "[[12,3],\n[0.5,0,1,1]") ≡ None }
+{}
+
+#[test]
+fn pages_are_read(_rt: HostRuntime) -> Result<(), Fail> {
+    data_is_read();
     Ok(())
 }

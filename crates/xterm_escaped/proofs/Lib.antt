@@ -19,3 +19,4 @@ mod FittingTerms
 mod Blanks
 mod LinesDrawn
 mod DrawsAgain
+mod ColoursPlayed

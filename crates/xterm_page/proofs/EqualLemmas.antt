@@ -11,8 +11,10 @@ use Rattle.sheet.specs.declared.cell.Kind.{Kind}
 use Rattle.sheet.specs.declared.cell.Kind.TheVariants.{Narrow, Wide, Covered}
 use Rattle.sheet.specs.Cells.{Cell, blank}
 use Rattle.xterm_rows.specs.Ink.{attribute_number, bit}
+use Rattle.xterm_print.specs.ChangeLines.{same_row as same_numbers}
+use Rattle.xterm_print.proofs.SameLemmas.{equal_same}
 use Rattle.xterm_page.specs.Same.{row_mixed, same_at, same_cell, same_colour, same_kind, same_mark, same_marks, same_rendition, same_row}
-use Rattle.xterm_page.proofs.SameLemmas.{one_fails}
+use Rattle.xterm_page.proofs.SameLemmas.{one_fails, row_itself}
 
 -- ---- truth values and lists
 
@@ -212,4 +214,12 @@ pub other_sums : (one other : List Cell) → row_mixed 0 one ≢ row_mixed 0 oth
 other_sums one other apart = elim (cases_Bool (same_row one other)) [
   | inl t ↦ absurd (apart (ap (row_mixed 0) (rows_equal one other t)))
   | inr f ↦ f
+]
+
+-- rows whose cells have the same numbers, and which are equal then, are the same
+pub alike : (one other : List Cell) (is : Bool) → is ≡ same_numbers one other → (is ≡ true → one ≡ other) → is ≡ same_row one other
+alike one other true told equal = sym (ap (same_row one) (sym (equal refl)) ∙ row_itself one)
+alike one other false told equal = elim (cases_Bool (same_row one other)) [
+  | inl t ↦ absurd (false≢true (told ∙ equal_same one other (rows_equal one other t)))
+  | inr f ↦ sym f
 ]

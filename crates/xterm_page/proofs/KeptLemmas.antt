@@ -1,7 +1,9 @@
 -- Rows that are kept of a terminal, as it plays on.
-use Rattle.std.proofs.Common.{◌≡◌, ℕ, suc, ◌-◌, ◌<◌, ◌≤◌, List, [], length, set, ap, sym, ◌∙◌, subst, arith, get_or-set_same}
+use Rattle.std.proofs.Common.{◌≡◌, ℕ, suc, ◌+◌, ◌-◌, ◌<◌, ◌≤◌, Bool, true, false, if◌then◌else◌, List, [], length, get_or, set, ap, sym, ◌∙◌, subst, arith, get_or-set_same}
 use Rattle.sheet.specs.Cells.{Cell}
+use Rattle.std.proofs.lemmas.Bool.{not-false, not-true}
 use Rattle.std.proofs.lemmas.List.{length-set}
+use Rattle.std.proofs.lemmas.List.FromFn.{get_or-map-range_with_len, length-map-range_with_len}
 use Rattle.sheet.specs.Grid.{row_at}
 use Rattle.sheet.specs.Table.{nth}
 use Rattle.xterm_screen.specs.Picture.{Picture}
@@ -11,7 +13,9 @@ use Rattle.xterm_term.specs.Seen.{Seen, Shows}
 use Rattle.xterm_term.specs.Term.{play}
 use Rattle.xterm_print.specs.Moments.{reset_as}
 use Rattle.xterm_print.proofs.KeptLemmas.{row_read}
-use Rattle.xterm_page.specs.Parts.{AreKept, AreWide, KeptAll}
+use Rattle.xterm_page.specs.Entries.{is_changed}
+use Rattle.xterm_page.specs.Parts.{AreKept, AreWide, KeptAll, changed_text, differing, line_text}
+use Rattle.xterm_page.specs.Same.{same_row}
 use Rattle.xterm_page.proofs.EqualLemmas.{lists_equal}
 
 -- a row that is written
@@ -55,3 +59,31 @@ columns_by law terminal size bytes shows = ap (λ s. s.picture.columns) (sym sho
 pub lines_by : SizeStays → (terminal : Seen) (size : Size) (bytes : List ℕ) → Shows terminal (play (reset_as size) bytes)
     → terminal.console.picture.lines ≡ size.lines
 lines_by law terminal size bytes shows = ap (λ s. s.picture.lines) (sym shows.console) ∙ (law (reset_as size) bytes).lines
+
+-- ---- lines that differ
+
+-- what is told of a line
+pub flag_told : (lines line : ℕ) (before after : List (List Cell)) (changed : List Bool) → changed ≡ differing lines before after
+    → 1 ≤ line → line ≤ lines → get_or changed (line - 1) false ≡ is_changed before after line
+flag_told lines line before after changed is low high =
+    let below : line - 1 < lines = omega arith in
+    let there : 1 + (line - 1) ≡ line = omega arith in
+    ap (λ l. get_or l (line - 1) false) is
+    ∙ get_or-map-range_with_len (is_changed before after) 1 lines (line - 1) line false below there
+
+pub flags_long : (lines : ℕ) (before after : List (List Cell)) (changed : List Bool) → changed ≡ differing lines before after
+    → length changed ≡ lines
+flags_long lines before after changed is = ap length is ∙ length-map-range_with_len (is_changed before after) 1 lines
+
+-- what is written of a line that differs, and of another one
+pub line_changed : (lines line : ℕ) (before after : List (List Cell)) → is_changed before after line ≡ true
+    → changed_text lines before (row_at after line) line ≡ line_text lines before (row_at after line) line
+unfolding line_text
+line_changed lines line before after differs =
+    sym (ap (λ b. if b then [] else changed_text lines before (row_at after line) line) (not-true (same_row (row_at before line) (row_at after line)) differs))
+
+pub line_stays : (lines line : ℕ) (before after : List (List Cell)) → is_changed before after line ≡ false
+    → [] ≡ line_text lines before (row_at after line) line
+unfolding line_text
+line_stays lines line before after same =
+    sym (ap (λ b. if b then [] else changed_text lines before (row_at after line) line) (not-false (same_row (row_at before line) (row_at after line)) same))

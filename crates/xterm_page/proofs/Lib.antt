@@ -4,3 +4,6 @@ pub mod KeptLemmas
 pub mod StringLemmas
 pub mod PageLemmas
 pub mod Replays
+mod ReadLemmas
+mod ReadBack
+mod ReadRecordings

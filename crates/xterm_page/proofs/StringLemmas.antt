@@ -1,14 +1,19 @@
 -- Characters as they stand in a string, and a cell character by character.
-use Rattle.std.proofs.Common.{◌≡◌, ◌≢◌, ℕ, ◌+◌, ◌<◌, List, [], ◌∷◌, ◌++◌, encode_utf8, length, get_or, take, ap, sym, ◌∙◌, arith, append-nil, append_assoc, inl, inr}
+use Rattle.std.proofs.Common.{◌≡◌, ◌≢◌, ℕ, ◌+◌, ◌<◌, ◌≤◌, false, List, [], ◌∷◌, ◌++◌, encode_utf8, length, get_or, take, drop, ap, sym, ◌∙◌, arith, append-nil, append_assoc, inl, inr}
 use Rattle.std.specs.List.{flat_map}
 use Rattle.std.proofs.lemmas.Bool.{cases_lt}
 use Rattle.std.proofs.lemmas.Bool.Decides.{nat_tests}
 use Rattle.std.proofs.lemmas.List.{take_more}
 use Rattle.std.proofs.lemmas.List.Concat.{flat_map-append}
 use Rattle.std.proofs.lemmas.Str.{encode_ascii}
+use Rattle.std.proofs.Math.Seq.{take-add}
+use Rattle.sheet.specs.Cells.{Cell, is_covered}
+use Rattle.xterm_rows.specs.RowText.{printed}
+use Rattle.xterm_print.proofs.PlainLemmas.{printed_open}
 use Rattle.screen_page.specs.EntryText.{comma_number, string_byte}
 use Rattle.screen_page.proofs.StringLemmas.{narrow_character, wide_character}
 use Rattle.xterm_page.specs.EntryText.{numbers_text}
+use Rattle.xterm_page.specs.Plain.{IsPlain, string_of}
 
 plain_byte : (byte : ℕ) → byte ≢ 34 → byte ≢ 92 → byte ≢ 60 → string_byte byte ≡ byte ∷ []
 plain_byte byte quote slash less = grind (arith, nat_tests)
@@ -19,6 +24,24 @@ plain_character c quote slash less = elim (cases_lt c 128) [
   | inl low ↦ encode_ascii c low ∙ sym (plain_byte c quote slash less) ∙ sym (narrow_character c low)
   | inr high ↦ sym (wide_character c high)
 ]
+
+-- a cell that holds such a character alone
+pub plain_cell : (cell : Cell) → is_covered cell ≡ false → length cell.marks ≤ 0 → cell.character < 128 → cell.character ≢ 34
+    → cell.character ≢ 92 → cell.character ≢ 60 → IsPlain cell
+plain_cell cell covered alone low quote slash less =
+    let c = cell.character in
+    let one : printed cell ≡ encode_utf8 c = sym (printed_open cell 0 covered alone) ∙ append-nil (encode_utf8 c) in
+    record {
+      low = low;
+      text = ap (flat_map string_byte) one ∙ sym (plain_character c quote slash less) ∙ encode_ascii c low;
+    }
+
+-- cells in two parts
+pub string_split : (cells : List Cell) (n m : ℕ) → string_of (take (n + m) cells) ≡ string_of (take n cells) ++ string_of (take m (drop n cells))
+string_split cells n m =
+    ap string_of (take-add n m cells)
+    ∙ ap (flat_map string_byte) (flat_map-append printed (take n cells) (take m (drop n cells)))
+    ∙ flat_map-append string_byte (flat_map printed (take n cells)) (flat_map printed (take m (drop n cells)))
 
 -- one element more, as a string has it
 pub text_more : {X : Type 0} (f : X → List ℕ) (xs : List X) (n : ℕ) (d : X) → n < length xs

@@ -5,3 +5,5 @@ pub mod Folded
 pub mod Law
 pub mod Page
 pub mod Parts
+pub mod Reading
+pub mod Plain

@@ -1,12 +1,12 @@
 -- Private: the parts of a page in the order in which they are written.
-use Rattle.std.specs.Prelude.{◌≡◌, ℕ, ◌≤◌, List, [], ◌∷◌, ◌++◌, length, if◌then◌else◌}
+use Rattle.std.specs.Prelude.{◌≡◌, ℕ, ◌≤◌, Bool, List, [], ◌∷◌, ◌++◌, length, map, if◌then◌else◌}
 use Rattle.std.specs.List.{flat_map, range_with_len}
 use Rattle.sheet.specs.Cells.{Cell}
 use Rattle.sheet.specs.Grid.{row_at}
 use Rattle.screen_page.specs.Page.{front, tail}
 use Rattle.xterm_term.specs.declared.measure.Size.{Size}
 use Rattle.xterm_term.specs.Console.{Console}
-use Rattle.xterm_page.specs.Entries.{change_of, console_by, entry_by, entry_of, first_entry}
+use Rattle.xterm_page.specs.Entries.{change_of, console_by, entry_by, entry_of, first_entry, is_changed}
 use Rattle.xterm_page.specs.EntryText.{entry_front, named_text, next_text, size_text}
 use Rattle.xterm_page.specs.Same.{same_row}
 
@@ -32,6 +32,10 @@ changed_text lines before row line = named_text (change_of lines before row line
 unfoldable pub line_text : ℕ → List (List Cell) → List Cell → ℕ → List ℕ
 line_text lines before row line =
     if same_row (row_at before line) row then [] else changed_text lines before row line
+
+-- whether each line has changed, of so many
+abbrev pub differing : ℕ → List (List Cell) → List (List Cell) → List Bool
+differing lines before after = map (is_changed before after) (range_with_len 1 lines)
 
 -- the lines that have changed, of so many
 unfoldable pub lines_text : ℕ → List (List Cell) → List (List Cell) → List ℕ

@@ -1,5 +1,5 @@
 -- When cells are the same, and when rows are.
-use Rattle.std.specs.Prelude.{ℕ, ◌+◌, ◌*◌, ◌%◌, Bool, true, false, List, [], ◌∷◌, length, nat_lt, ◌==◌, ◌&&◌, if◌then◌else◌, slice_index_or}
+use Rattle.std.specs.Prelude.{ℕ, ◌+◌, ◌*◌, ◌%◌, Bool, true, false, List, [], ◌∷◌, length, ◌==◌, ◌&&◌, slice_index_or}
 use Rattle.std.specs.List.{list_all, range_with_len}
 use Rattle.sheet.specs.declared.rendition.Colour.{Colour}
 use Rattle.sheet.specs.declared.rendition.Colour.TheVariants.{Default, Palette, Direct}
@@ -7,7 +7,7 @@ use Rattle.sheet.specs.declared.rendition.Rendition.{Rendition}
 use Rattle.sheet.specs.declared.cell.Kind.{Kind}
 use Rattle.sheet.specs.declared.cell.Kind.TheVariants.{Narrow, Wide, Covered}
 use Rattle.sheet.specs.Cells.{Cell}
-use Rattle.xterm_rows.specs.Ink.{attribute_number, colour_number}
+use Rattle.xterm_rows.specs.Ink.{attribute_number}
 use Rattle.xterm_rows.specs.Runs.{cell_behind}
 
 abbrev pub same_colour : Colour → Colour → Bool
@@ -53,20 +53,11 @@ same_row one other =
 
 -- ---- private: a number that most rows don't share
 
--- a number more is mixed into it; the numbers are a prime below 2^32 and one below 2^17
+-- a number more is mixed into it
 unfoldable pub mixed : ℕ → ℕ → ℕ
-mixed sum n = sum % 4294967291 * 65599 + n
+mixed sum n = (sum * 6364136223846793005 % 18446744073709551616 + n) % 18446744073709551616
 
--- a mark's number, one more than its code; 0 where there is none
-abbrev pub mark_number : List ℕ → ℕ → ℕ
-mark_number marks n = if nat_lt n (length marks) then slice_index_or marks n 0 + 1 else 0
-
-unfoldable pub cell_mixed : ℕ → Cell → ℕ
-cell_mixed sum cell =
-    mixed (mixed (mixed (mixed (mixed (mixed sum cell.character)
-    (mark_number cell.marks 0)) (mark_number cell.marks 1))
-    (attribute_number cell.rendition)) (colour_number cell.rendition.ink)) (colour_number cell.rendition.paper)
-
+-- the characters of a row
 abbrev pub row_mixed : ℕ → List Cell → ℕ
 row_mixed sum [] = sum
-row_mixed sum (cell ∷ cells) = row_mixed (cell_mixed sum cell) cells
+row_mixed sum (cell ∷ cells) = row_mixed (mixed sum cell.character) cells

@@ -4,10 +4,10 @@ ghost use Rattle.std.specs.Prelude.{◌≡◌, length};
 ghost use Rattle.tape_core.specs.Devices.{Gave};
 ghost use Rattle.xterm_page.specs.Entries.{entry_of};
 ghost use Rattle.xterm_page.specs.EntryText.{next_text};
-ghost use Rattle.xterm_page.specs.Parts.{front_text, lines_text};
+ghost use Rattle.xterm_page.specs.Parts.{differing, front_text, lines_text};
 
-use crate::kept::{KeptRow, catch_up, kept_rows};
-use crate::rows::{put_comma_number, put_line};
+use crate::kept::{KeptRow, catch_up, changed_rows, kept_rows};
+use crate::rows::{put_changed, put_comma_number};
 use chunk_walk::Visitor;
 use std::alloc::Global;
 use std::io::Write;
@@ -57,23 +57,32 @@ impl Visitor<Terminal> for EntryPrinter {
         size_stays();
         let screen = terminal.screen();
         if kept.len() == screen.lines() as usize {
-            put_entry(due, kept.as_slice(), terminal, writer);
-            catch_up(kept.as_mut_slice(), screen);
+            let changed = changed_rows(kept.as_slice(), screen);
+            put_entry(due, kept.as_slice(), changed.as_slice(), terminal, writer);
+            catch_up(kept.as_mut_slice(), changed.as_slice(), screen);
         }
         Ok(())
     }
 }
 
 /// Writes an entry behind another one.
-fn put_entry<W: Write>(due: u64, before: &[KeptRow], after: &Terminal, writer: &mut Watched<W>)
-    requires { length before.now ≡ after.now.console.picture.lines }
+fn put_entry<W: Write>(
+    due: u64,
+    before: &[KeptRow],
+    changed: &[bool],
+    after: &Terminal,
+    writer: &mut Watched<W>,
+)
+    requires lines { length before.now ≡ after.now.console.picture.lines }
+    requires changed { changed.now ≡ differing after.now.console.picture.lines before.now
+        after.now.console.picture.rows }
     ensures { Gave W.contents writer.old writer.new
         (next_text (entry_of due before.now after.now.console)) }
 {
     gives_join::<W>();
     writer.give(b",\n[");
     put_front(due, after, writer);
-    put_lines(before, after.screen(), writer);
+    put_lines(before, changed, after.screen(), writer);
     writer.give(b"]");
 }
 
@@ -93,13 +102,22 @@ fn put_front<W: Write>(due: u64, after: &Terminal, writer: &mut Watched<W>)
 }
 
 /// Writes what the lines are that a chunk changes.
-fn put_lines<W: Write>(before: &[KeptRow], screen: &Screen, writer: &mut Watched<W>)
-    requires { length before.now ≡ screen.now.picture.lines }
+fn put_lines<W: Write>(
+    before: &[KeptRow],
+    changed: &[bool],
+    screen: &Screen,
+    writer: &mut Watched<W>,
+)
+    requires lines { length before.now ≡ screen.now.picture.lines }
+    requires changed { changed.now
+        ≡ differing screen.now.picture.lines before.now screen.now.picture.rows }
     ensures { Gave W.contents writer.old writer.new
         (lines_text screen.now.picture.lines before.now screen.now.picture.rows) }
 {
     gives_join::<W>();
     for line in 1..screen.lines() + 1 {
-        put_line(before, screen.row(line), line as usize, writer);
+        if changed[line as usize - 1] {
+            put_changed(before, screen.row(line), line as usize, writer);
+        }
     }
 }

@@ -2,15 +2,21 @@
 
 ghost use Rattle.std.specs.Prelude.{◌≡◌, IfOk, length};
 ghost use Rattle.xterm_page.specs.Entries.{line_of};
-ghost use Rattle.xterm_page.specs.Parts.{AreWide, KeptAll};
+ghost use Rattle.xterm_page.specs.Parts.{AreWide, KeptAll, differing};
 ghost use Rattle.xterm_page.specs.Same.{row_mixed, same_row};
 
-use crate::same::{row_mixed, same_row};
+use crate::same::row_mixed;
+use arrayvec::ArrayVec;
 use sheet::Cell;
+use sheet::limits::MOST_LINES;
 use std::alloc::{AllocError, Global};
 use std::marker::Model;
+use xterm_print::same_row;
 use xterm_screen::Screen;
 use xterm_screen::laws::screens_are_sound;
+
+/// How many rows a sheet has at most.
+const ROWS: usize = MOST_LINES as usize;
 
 /// A copy of the cells of a row, with a number that most other rows don't share.
 #[derive(Drop)]
@@ -44,7 +50,7 @@ impl KeptRow {
     }
 
     /// Whether its cells are these.
-    pub(crate) fn is_same(&self, cells: &[Cell]) -> bool
+    fn is_same(&self, cells: &[Cell]) -> bool
         ensures { result ≡ same_row self.now cells.now }
     {
         same_row(self.cells.as_slice(), cells)
@@ -56,15 +62,14 @@ impl KeptRow {
         requires { sum ≡ row_mixed 0 cells.now }
         ensures { result ≡ same_row self.now cells.now }
     {
-        self.sum == sum && same_row(self.cells.as_slice(), cells)
+        self.sum == sum && self.is_same(cells)
     }
 
     /// Becomes a copy of these cells, if they are as many as its own.
-    #[tactic(auto, using(crate::proofs::EqualLemmas::rows_equal))]
-    fn catch_up(&mut self, cells: &[Cell])
+    fn copy_from(&mut self, cells: &[Cell])
         ensures { length self.old ≡ length cells.now → self.new ≡ cells.now }
     {
-        if self.cells.len() == cells.len() && !self.is_same(cells) {
+        if self.cells.len() == cells.len() {
             self.cells.as_mut_slice().copy_from_slice(cells);
             self.sum = row_mixed(cells);
         }
@@ -97,16 +102,33 @@ pub(crate) fn line_of(rows: &[KeptRow], cells: &[Cell]) -> Option<usize>
     None
 }
 
-/// The rows become those of the sheet that is shown, of the same size.
-pub(crate) fn catch_up(rows: &mut [KeptRow], screen: &Screen)
-    requires { length rows.old ≡ screen.now.picture.lines }
+/// Whether each line of the sheet that is shown differs from the row that was kept of it.
+pub(crate) fn changed_rows(rows: &[KeptRow], screen: &Screen) -> ArrayVec<bool, ROWS>
+    requires { length rows.now ≡ screen.now.picture.lines }
+    ensures { result.items
+        ≡ differing screen.now.picture.lines rows.now screen.now.picture.rows }
+{
+    let mut changed = ArrayVec::new();
+    for line in 1..screen.lines() + 1 {
+        changed.push(!rows[line as usize - 1].is_same(screen.row(line)));
+    }
+    changed
+}
+
+/// The rows become those of the sheet that is shown, of the same size, where that is known which lines differ.
+pub(crate) fn catch_up(rows: &mut [KeptRow], changed: &[bool], screen: &Screen)
+    requires lines { length rows.old ≡ screen.now.picture.lines }
+    requires changed { changed.now
+        ≡ differing screen.now.picture.lines rows.old screen.now.picture.rows }
     ensures { AreWide screen.now.picture.lines screen.now.picture.columns rows.old
         → KeptAll screen.now.picture.lines screen.now.picture.columns rows.new
         screen.now.picture.rows }
 {
     screens_are_sound(screen);
     for line in 1..screen.lines() + 1 {
-        let row = &mut rows[line as usize - 1];
-        row.catch_up(screen.row(line));
+        if changed[line as usize - 1] {
+            let row = &mut rows[line as usize - 1];
+            row.copy_from(screen.row(line));
+        }
     }
 }

@@ -1,15 +1,17 @@
 //! What a line is after a chunk: what another line was before it, or a row.
 
-ghost use Rattle.std.specs.Prelude.{◌≤◌, ◌∷◌, decimal, encode_utf8, length};
+ghost use Rattle.std.specs.Prelude.{◌≡◌, ◌≤◌, ◌∷◌, IsTrue, decimal, encode_utf8, length, take};
 ghost use Rattle.std.specs.List.{flat_map};
 ghost use Rattle.tape_core.specs.Devices.{Gave};
 ghost use Rattle.screen_page.specs.EntryText.{comma_number, string_byte};
 ghost use Rattle.xterm_rows.specs.RowText.{printed};
 ghost use Rattle.xterm_page.specs.Entries.{cells_shown, shown, shown_run};
 ghost use Rattle.xterm_page.specs.EntryText.{change_text, numbers_text, row_text, run_text};
-ghost use Rattle.xterm_page.specs.Parts.{changed_text, line_text};
+ghost use Rattle.xterm_page.specs.Parts.{changed_text};
+ghost use Rattle.xterm_page.specs.Plain.{IsPlain, string_of};
 
 use crate::kept::{KeptRow, line_of};
+use arrayvec::ArrayVec;
 use itoa::Buffer;
 use sheet::Cell;
 use std::io::Write;
@@ -17,27 +19,16 @@ use tape_core::Watched;
 use tape_core::laws::gives_join;
 use xterm_rows::{Run, colour_number, inked, run_at};
 
-/// Writes what a line is, if the chunk changes it.
-pub(crate) fn put_line<W: Write>(
+/// How many characters go out at once at most.
+const HELD: usize = 64;
+
+/// Writes what a line is that the chunk changes.
+pub(crate) fn put_changed<W: Write>(
     before: &[KeptRow],
     cells: &[Cell],
     line: usize,
     writer: &mut Watched<W>,
 )
-    requires low { 1 ≤ line }
-    requires high { line ≤ length before.now }
-    ensures { Gave W.contents writer.old writer.new
-        (line_text (length before.now) before.now cells.now line) }
-{
-    gives_join::<W>();
-    if before[line - 1].is_same(cells) {
-        return;
-    }
-    put_changed(before, cells, line, writer);
-}
-
-/// Writes what a line is that the chunk changes.
-fn put_changed<W: Write>(before: &[KeptRow], cells: &[Cell], line: usize, writer: &mut Watched<W>)
     ensures { Gave W.contents writer.old writer.new
         (changed_text (length before.now) before.now cells.now line) }
 {
@@ -130,13 +121,56 @@ fn put_numbers<W: Write>(kind: usize, ink: usize, paper: usize, writer: &mut Wat
 
 /// Writes the characters of cells as they stand in a string.
 fn put_characters<W: Write>(cells: &[Cell], writer: &mut Watched<W>)
-    ensures { Gave W.contents writer.old writer.new
-        (flat_map string_byte (flat_map printed cells.now)) }
+    ensures { Gave W.contents writer.old writer.new (string_of cells.now) }
 {
     gives_join::<W>();
-    for cell in cells {
-        put_cell(*cell, writer);
+    let mut at = 0;
+    while at < cells.len() {
+        at += put_some(&cells[at..], writer);
     }
+}
+
+/// Writes the characters of the first cells, and tells how many.
+fn put_some<W: Write>(cells: &[Cell], writer: &mut Watched<W>) -> usize
+    requires { 1 ≤ length cells.now }
+    ensures some { 1 ≤ result }
+    ensures few { result ≤ length cells.now }
+    ensures gave { Gave W.contents writer.old writer.new (string_of (take result cells.now)) }
+{
+    let held = plain_characters(cells);
+    if held.len() == 0 {
+        put_cell(cells[0], writer);
+        return 1;
+    }
+    writer.give(held.as_slice());
+    held.len()
+}
+
+/// The characters of the first cells, as long as each is a plain one.
+fn plain_characters(cells: &[Cell]) -> ArrayVec<u8, HELD>
+    ensures text { result.items ≡ string_of (take (length result.items) cells.now) }
+    ensures few { length result.items ≤ length cells.now }
+{
+    let mut held = ArrayVec::new();
+    for at in 0..cells.len().min(HELD) {
+        if !is_plain(cells[at]) {
+            return held;
+        }
+        held.push(cells[at].character() as u32 as u8);
+    }
+    held
+}
+
+/// Whether a cell is a character of ASCII alone that isn't escaped.
+#[tactic(auto, using(crate::proofs::StringLemmas::plain_cell))]
+fn is_plain(cell: Cell) -> bool
+    ensures { IsTrue result → IsPlain cell }
+{
+    let character = cell.character();
+    if cell.is_covered() || cell.mark_count() > 0 || character as u32 >= 128 {
+        return false;
+    }
+    character != '"' && character != '\\' && character != '<'
 }
 
 /// Writes the character of a cell and its marks as they stand in a string; of a right half nothing.

@@ -1,9 +1,15 @@
-use Rattle.std.proofs.Common.{◌∷◌, List, [], ℕ, subst, sym}
+use Rattle.std.proofs.Common.{◌∷◌, List, [], ℕ, ap, subst, sym, ◌∙◌}
 use Rattle.tape_core.specs.Devices.{Gave}
 use Rattle.xterm_screen.specs.Picture.{Picture}
-use Rattle.xterm_page.specs.Parts.{lines_text}
+use Rattle.xterm_page.specs.Parts.{differing, lines_text}
 use Rattle.xterm_page.proofs.PageLemmas.{entry_is}
 use Rattle.xterm_page.proofs.entry_printer.put_entry.Goals as goal
+
+pub put_lines-requires : goal.put_lines-requires
+put_lines-requires g c = record {
+  lines = c.requires.lines ∙ ap (λ (p : Picture). p.lines) (sym c.screen.ensures.value);
+  changed = c.requires.changed ∙ ap (λ (p : Picture). differing p.lines c.args.before.now p.rows) (sym c.screen.ensures.value);
+}
 
 pub returns : goal.returns
 returns g c =

@@ -4,8 +4,15 @@ use Rattle.tape_core.specs.Devices.{Gave}
 use Rattle.sheet.specs.Cells.{Cell}
 use Rattle.sheet.specs.Grid.{row_at}
 use Rattle.xterm_rows.proofs.RangeLemmas.{texts_from, texts_more}
-use Rattle.xterm_page.specs.Parts.{line_text, lines_text}
+use Rattle.xterm_page.specs.Parts.{changed_text, line_text, lines_text}
+use Rattle.xterm_page.proofs.KeptLemmas.{flag_told, flags_long, line_changed, line_stays}
 use Rattle.xterm_page.proofs.entry_printer.put_lines.Goals as goal
+use Rattle.xterm_page.proofs.entry_printer.put_lines.Goals.{then-changed-line, else-changed-line}
+
+pub bounds-changed-line : goal.bounds-changed-line
+bounds-changed-line g c =
+    let long = flags_long c.args.screen.now.picture.lines c.args.before.now c.args.screen.now.picture.rows c.args.changed.now c.requires.changed in
+    omega (arith, long, c.lines-line-end.ensures.value, c.loop-line.auto.line, c.loop-line-test.true)
 
 pub loop-line-preserved : goal.loop-line-preserved
 loop-line-preserved g c =
@@ -14,9 +21,20 @@ loop-line-preserved g c =
     let lines = c.args.screen.now.picture.lines in
     let line = c.loop-line.line in
     let text : ℕ → List ℕ = λ n. line_text lines before (row_at after n) n in
-    let told = subst (Gave g.W.Write.contents c.loop-line.writer c.put_line.new.writer)
-    (ap (λ m. line_text m before c.row.result.now line) c.requires ∙ ap (λ (r : List Cell). line_text lines before r line) c.row.ensures.value) c.put_line.ensures in
-    subst (Gave g.W.Write.contents c.args.writer.now c.put_line.new.writer)
+    let flag = flag_told lines line before after c.args.changed.now c.requires.changed c.loop-line.auto.line
+    (omega (arith, c.lines-line-end.ensures.value, c.loop-line-test.true)) in
+    let told : Gave g.W.Write.contents c.loop-line.writer c.if-changed-line.writer (text line) =
+    elim c.if-changed-line.branch [
+      | then-changed-line w ↦ rw w.writer-is
+          (subst (Gave g.W.Write.contents c.loop-line.writer w.put_changed.new.writer)
+          (ap (λ m. changed_text m before w.row.result.now line) c.requires.lines
+          ∙ ap (λ (r : List Cell). changed_text lines before r line) w.row.ensures.value
+          ∙ line_changed lines line before after (sym flag ∙ w.if-changed-line.true)) w.put_changed.ensures)
+      | else-changed-line w ↦ rw w.writer-is
+          (subst (Gave g.W.Write.contents c.loop-line.writer c.loop-line.writer)
+          (line_stays lines line before after (sym flag ∙ w.if-changed-line.false)) (c.gives_join.ensures.nothing c.loop-line.writer))
+    ] in
+    subst (Gave g.W.Write.contents c.args.writer.now c.if-changed-line.writer)
     (sym (texts_more text 1 line c.loop-line.auto.line))
     (c.gives_join.ensures.both _ _ _ (texts_from text 1 line) (text line) told c.loop-line.invariant)
 

@@ -8,6 +8,5 @@ invariant-loop-line l = record {
   whole : length l.rows ≡ l.fn.screen.picture.lines;
   later : (k : ℕ) → l.line ≤ k → row_at l.rows k ≡ row_at l.fn.rows k;
   caught : (k : ℕ) → 1 ≤ k → k < l.line → length (row_at l.fn.rows k) ≡ l.fn.screen.picture.columns
-      → row_at l.rows k ≡ row_at l.fn.screen.picture.rows k;
-  wide : (k : ℕ) → 1 ≤ k → k < l.line → length (row_at l.fn.screen.picture.rows k) ≡ l.fn.screen.picture.columns;
+      → (row_at l.rows k ≡ row_at l.fn.screen.picture.rows k) × (length (row_at l.rows k) ≡ l.fn.screen.picture.columns);
 }

@@ -1,11 +1,14 @@
-use Rattle.std.proofs.Common.{take}
-use Rattle.std.specs.List.{flat_map}
+use Rattle.std.proofs.Common.{◌-◌, ◌≤◌, length, take}
 use Rattle.tape_core.specs.Devices.{Gave}
-use Rattle.screen_page.specs.EntryText.{string_byte}
-use Rattle.xterm_rows.specs.RowText.{printed}
+use Rattle.xterm_page.specs.Plain.{string_of}
 use Rattle.xterm_page.proofs.rows.put_characters.Given as goal
 
 -- the cells so far have gone out
-abbrev pub invariant-loop-cell : goal.invariant-loop-cell
-invariant-loop-cell g l =
-    Gave g.W.Write.contents l.fn.writer l.writer (flat_map string_byte (flat_map printed (take l.cell-index l.cells)))
+abbrev pub invariant-loop-at : goal.invariant-loop-at
+invariant-loop-at g l = record {
+  high : l.at ≤ length l.cells;
+  gave : Gave g.W.Write.contents l.fn.writer l.writer (string_of (take l.at l.cells));
+}
+
+abbrev pub decreases-loop-at : goal.decreases-loop-at
+decreases-loop-at g l = length l.cells - l.at

@@ -1,17 +1,41 @@
-use Rattle.std.proofs.Common.{◌≡◌, ◌∙◌, List, length, ap, sym, subst}
+use Rattle.std.proofs.Common.{◌≡◌, ◌∙◌, List, length, ap, sym, subst, arith}
 use Rattle.tape_core.specs.Devices.{Gave}
 use Rattle.sheet.specs.Cells.{Cell}
+use Rattle.xterm_screen.specs.Picture.{Picture}
 use Rattle.xterm_term.specs.Console.{Console}
 use Rattle.xterm_print.proofs.ShownLemmas.{written_back}
 use Rattle.xterm_page.specs.Entries.{console_by, entry_of}
 use Rattle.xterm_page.specs.EntryText.{next_text}
-use Rattle.xterm_page.specs.Parts.{AreKept, AreWide}
+use Rattle.xterm_page.specs.Parts.{AreKept, AreWide, differing}
 use Rattle.xterm_page.proofs.KeptLemmas.{kept_by, wide_by}
 use Rattle.xterm_page.proofs.entry_printer.EntryPrinterVisitorTerminal.visit.Goals as goal
 
+pub put_entry-requires : goal.put_entry-requires
+put_entry-requires g c =
+    let p = c.screen-screen.result.now.picture in
+    let is : p ≡ c.args.terminal.now.console.picture = c.screen-screen.ensures.value in
+    let before = c.as_slice-then-len-lines.result.now in
+    let same : c.as_slice.result.now ≡ before = c.as_slice.ensures.value ∙ sym c.as_slice-then-len-lines.ensures.value in
+    let long : length before ≡ p.lines =
+    omega (arith, c.as_slice-then-len-lines.ensures.len, c.len.ensures, c.if-len-lines.true, c.lines.ensures.value) in
+    record {
+      lines = long ∙ ap (λ (q : Picture). q.lines) is;
+      changed = c.as_slice-then-len-lines-2.ensures.value ∙ c.changed_rows-changed.ensures
+          ∙ ap (λ (rows : List (List Cell)). differing p.lines rows p.rows) same ∙ ap (λ (q : Picture). differing q.lines before q.rows) is;
+    }
+
+pub catch_up-requires : goal.catch_up-requires
+catch_up-requires g c =
+    let p = c.screen-screen.result.now.picture in
+    record {
+      lines = omega (arith, c.as_mut_slice.ensures.len, c.len.ensures, c.if-len-lines.true, c.lines.ensures.value);
+      changed = c.as_slice-then-len-lines-3.ensures.value ∙ c.changed_rows-changed.ensures
+          ∙ ap (λ (rows : List (List Cell)). differing p.lines rows p.rows) (c.as_slice.ensures.value ∙ sym c.as_mut_slice.ensures.value);
+    }
+
 pub returns-then-len-lines-clause-gave : goal.returns-then-len-lines-clause-gave
 returns-then-len-lines-clause-gave g c = λ profile before after are shows.
-    let was = c.as_slice.ensures.value ∙ are.rows in
+    let was = c.as_slice-then-len-lines.ensures.value ∙ are.rows in
     subst (Gave g.W.Write.contents c.args.writer.now c.put_entry.new.writer)
     (ap (λ (rows : List (List Cell)). next_text (entry_of c.args.due rows c.args.terminal.now.console)) was
     ∙ ap (λ (s : Console). next_text (entry_of c.args.due (console_by profile.columns profile.lines before).picture.rows s)) (sym shows.console))
