@@ -10,7 +10,7 @@ use tape_seek::Session;
 use tape_tests::once_more::read;
 
 /// Chunks without delays, divided by bars, a text, and its find lines.
-const ROWS: [(&[u8], &str, &str); 20] = [
+const ROWS: [(&[u8], &str, &str); 29] = [
     // The screen is erased.
     (
         b"ab\r\nab|\x1b[2J",
@@ -83,6 +83,51 @@ const ROWS: [(&[u8], &str, &str); 20] = [
         "~ 0 0.000000 1 1 ab\n~ 0 0.000000 1 1 ab\n",
     ),
     (b"\x1b[6n\x1b[c\x1bZa", "a", "+ 0 0.000000 1 1 a\n"),
+    // A screen full of E.
+    (
+        b"\x1b#8\x1b[1;3Hx",
+        "EEx",
+        "+ 0 0.000000 1 1 EExEEEEEEEEEEEEEEEEEEEEEEEEEEEEEEEEEEEEEEEEEEEEEEEEEEEEEEEEEEEEEEEEEEEEEEEEEEEEE\n",
+    ),
+    // Other character sets.
+    (
+        b"\x1b(0kl",
+        "\u{2510}\u{250c}",
+        "+ 0 0.000000 1 1 \u{2510}\u{250c}\n",
+    ),
+    (
+        b"\x1b(A##",
+        "\u{a3}\u{a3}",
+        "+ 0 0.000000 1 1 \u{a3}\u{a3}\n",
+    ),
+    // The error character.
+    (
+        b"a\x80\x80",
+        "\u{2592}\u{2592}",
+        "+ 0 0.000000 1 2 a\u{2592}\u{2592}\n",
+    ),
+    // It comes and goes in a later chunk.
+    (b"abc|\rwh\rxx", "wh", "~ 1 0.000000 1 1 whc\n"),
+    // Written from right to left.
+    (b"x|\x1b[1;2Hh\rw", "wh", "+ 1 0.000000 1 1 wh\n"),
+    // Over the margin, in two chunks.
+    (
+        b"\x1b[1;80Hw|h",
+        "wh",
+        "+ 1 0.000000 1 80                                                                                wh\n",
+    ),
+    // Rows that come to stand side by side.
+    (
+        b"\x1b[1;80Hw\x1b[3;1Hh|\x1b[2;24r\x1b[24;1H\n",
+        "wh",
+        "+ 1 0.000000 1 80                                                                                wh\n",
+    ),
+    // A line of another size ends at column 40.
+    (
+        b"\x1b[1;40Hwi\x1b[2;1Hh|\x1b[1;1H\x1b#6",
+        "wh",
+        "+ 1 0.000000 1 40                                        wh\n",
+    ),
 ];
 
 /// The find lines of chunks without delays.

@@ -15,3 +15,7 @@ mod NowhereLemmas
 mod StoodLemmas
 mod EachByteLemmas
 mod ReplyLemmas
+mod SkimRows
+mod SkimEffects
+mod SkimLemmas
+mod MuteLemmas

@@ -42,7 +42,7 @@ front_in p f m low h =
     ∙ append-nil (filter p (range_with_len 1 f))
 
 -- what lists that begin alike have at a place
-window : (one other : List ℕ) (at len d : ℕ) → at + len ≤ d → take d one ≡ take d other → take len (drop at one) ≡ take len (drop at other)
+pub window : (one other : List ℕ) (at len d : ℕ) → at + len ≤ d → take d one ≡ take d other → take len (drop at one) ≡ take len (drop at other)
 window one other at len d within same =
     sym (drop-take at len one) ∙ ap (drop at) (sym (take-take (at + len) d one within) ∙ ap (take (at + len)) same ∙ take-take (at + len) d other within)
     ∙ drop-take at len other
@@ -199,7 +199,7 @@ agrees_more text cells k d e lt lt' same before =
     ∙ ap (λ x. take k text ++ x ∷ []) (get_or-map read cells k d 0 lt' ∙ same ∙ sym (get_or_default text k 0 e lt))
     ∙ sym (take_more text k 0 lt)
 
-itself : (l : List ℕ) → pointwise nat_eq l l ≡ true
+pub itself : (l : List ℕ) → pointwise nat_eq l l ≡ true
 itself [] = refl
 itself (x ∷ xs) = rw (eq-eqb x x refl) (itself xs)
 

@@ -1,6 +1,7 @@
 -- The reply to one byte is short.
 use Rattle.std.proofs.Common.{ℕ, ◌<◌, ◌≤◌, Bool, true, false, List, [], ◌∷◌, length, arith}
-use Rattle.std.specs.Prelude.{Option, Some, None, decimal}
+use Rattle.std.specs.Prelude.{Option, Some, None, Result, Ok, Err, decimal}
+use Rattle.std.specs.Result.{IsOk, OnOk}
 use Rattle.std.proofs.lemmas.Bool.Decides.{nat_tests}
 use Rattle.std.proofs.lemmas.List.{length-append}
 use Rattle.std.proofs.lemmas.Fmt.{length-decimal-le}
@@ -19,6 +20,11 @@ use Rattle.vt_term.specs.Vt52.{Vt52Sequence, Identify, vt52_sequences}
 use Rattle.vt_term.specs.Replies.{escape_reply, sequence_reply, vt52_reply, reply_of, cursor_position, reported_line, device_attributes}
 use Rattle.vt_term.specs.Effect.{reply, control_sequence_reply}
 use Rattle.vt_term.specs.Term.{Term, mode_of, reply_to, sent}
+
+-- what holds on Ok, where it is Ok
+pub on_ok_is : {T E P : Type 0} (r : Result T E) → IsOk r → OnOk r P → P
+on_ok_is (Ok x) is h = h
+on_ok_is (Err e) is h = cc
 
 length-cursor_position : (line column : ℕ) → line < 100 → column < 1000 → length (cursor_position line column) ≤ 9
 length-cursor_position line column low high =

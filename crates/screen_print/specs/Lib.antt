@@ -11,3 +11,4 @@ pub mod Quiet
 pub mod Start
 pub mod Stops
 pub mod EachByte
+pub mod Skim

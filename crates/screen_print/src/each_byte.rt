@@ -20,6 +20,7 @@ ghost use Rattle.std.specs.Prelude.{
   IfOk,
   IsOk,
   IfErr,
+  IfSome,
   OnOk,
 };
 ghost use Rattle.std.specs.List.{flat_map, range_with_len};
@@ -46,14 +47,17 @@ ghost use Rattle.screen_print.specs.EachByte.{
 };
 ghost use Rattle.screen_print.specs.FindLines.{found_line, left_of, place_in, standing};
 ghost use Rattle.screen_print.specs.Places.{IsPlace};
+ghost use Rattle.screen_print.specs.Skim.{AreKeysOf, IsKeyed, IsPart, MayLack, NowhereIn, ScreenLacks};
 ghost use Rattle.screen_print.specs.Start.{IsStart};
 ghost use Rattle.screen_print.specs.Stills.{still_of};
 ghost use Rattle.screen_rows.specs.SameRows.{changed_lines};
 ghost use Rattle.screen_print.specs.Stops.{StopsWalk};
 
 use crate::find_lines::{Chunk, Standing, count_left, is_less, put_found, put_less};
+use crate::key::{Key, Keys};
 use crate::laws::nowhere_means_nowhere;
 use crate::quiet::stays;
+use crate::skim::skims;
 use crate::standing::{Place, standing};
 use crate::start::Start;
 use crate::still::Still;
@@ -70,6 +74,9 @@ use vt_term::{Reports, Terminal};
 
 /// How many bytes the list has over which replies go: no reply to a byte is longer.
 const SCRATCH: usize = 20;
+
+/// How many bytes of a chunk are passed over by one key, before others are tried.
+const PART: usize = 128;
 
 /// A list over which replies go.
 pub fn scratch(alloc: Global) -> Result<Reports, OutOfMemory>
@@ -253,25 +260,36 @@ fn put_between<W: Write>(
     gives_join::<W>();
     gives_end::<W>();
     let begins = Start::of(text);
+    let keys = Keys::of(text);
+    let mut kept = Terminal::reset();
+    let mut known = false;
     for index in start..end {
-        put_chunk_at(recording, index, text, &begins, terminal, scratch, writer);
+        known = put_chunk_at(
+            recording, index, text, &begins, &keys, known, terminal, &mut kept, scratch, writer,
+        );
         if writer.failed() {
             return;
         }
     }
 }
 
-/// Plays a chunk of a recording, and writes its lines.
+/// Plays a chunk of a recording, and writes its lines. Given and answered is whether the screen is known to lack the
+/// first key.
 fn put_chunk_at<W: Write>(
     recording: &Recording,
     index: usize,
     text: &[char],
     start: &Start,
+    keys: &Keys<'_>,
+    known: bool,
     terminal: &mut Terminal,
+    kept: &mut Terminal,
     scratch: &mut Reports,
     writer: &mut Watched<W>,
-)
+) -> bool
     requires start { IsStart text.now start.now }
+    requires keys { AreKeysOf text.now keys.now }
+    requires known { known ≡ true → MayLack keys.now.pair terminal.old.console.picture }
     requires within { index < length recording.now.chunks }
     requires scratch { SCRATCH ≤ length scratch.old.bytes }
     ensures gave { (profile : Profile) → Shows terminal.old (up_to profile recording.now.chunks index)
@@ -279,6 +297,7 @@ fn put_chunk_at<W: Write>(
         (chunk_lines_at text.now profile recording.now index) }
     ensures shows { (profile : Profile) → Shows terminal.old (up_to profile recording.now.chunks index)
         → Shows terminal.new (up_to profile recording.now.chunks (index + 1)) }
+    ensures known { result ≡ true → MayLack keys.now.pair terminal.new.console.picture }
     ensures scratch { SCRATCH ≤ length scratch.new.bytes }
 {
     first_grows_by_a_chunk();
@@ -289,7 +308,147 @@ fn put_chunk_at<W: Write>(
         len: text.len(),
     };
     let bytes = recording.chunks()[index].bytes.as_slice();
-    put_chunk(text, start, &chunk, bytes, terminal, scratch, writer);
+    put_or_pass(
+        text, start, &chunk, bytes, keys, known, terminal, kept, scratch, writer,
+    )
+}
+
+/// The same of a chunk's bytes: where a key tells that the text stands nowhere, there are no lines. Else the terminal
+/// takes them once more, from where it stood.
+fn put_or_pass<W: Write>(
+    text: &[char],
+    start: &Start,
+    chunk: &Chunk,
+    bytes: &[u8],
+    keys: &Keys<'_>,
+    known: bool,
+    terminal: &mut Terminal,
+    kept: &mut Terminal,
+    scratch: &mut Reports,
+    writer: &mut Watched<W>,
+) -> bool
+    requires len { chunk.now.len ≡ length text.now }
+    requires start { IsStart text.now start.now }
+    requires keys { AreKeysOf text.now keys.now }
+    requires known { known ≡ true → MayLack keys.now.pair terminal.old.console.picture }
+    requires scratch { SCRATCH ≤ length scratch.old.bytes }
+    ensures gave { (x : Term) → Shows terminal.old x → Gave W.contents writer.old writer.new
+        (chunk_lines text.now chunk.now.index chunk.now.due x bytes.now) }
+    ensures shows { (x : Term) → Shows terminal.old x
+        → Shows terminal.new (play x bytes.now) }
+    ensures known { result ≡ true → MayLack keys.now.pair terminal.new.console.picture }
+    ensures scratch { SCRATCH ≤ length scratch.new.bytes }
+{
+    gives_join::<W>();
+    kept.copy_from(terminal);
+    if passes(text, &keys.pair, known, bytes, terminal, scratch) {
+        return true;
+    }
+    terminal.copy_from(kept);
+    if passes_in_parts(text, keys, bytes, terminal, scratch) {
+        return false;
+    }
+    terminal.copy_from(kept);
+    put_chunk(text, start, chunk, bytes, terminal, scratch, writer);
+    false
+}
+
+/// Plays a chunk part by part, and tells whether the keys show that the text stands nowhere: for each part it tries one
+/// after another.
+fn passes_in_parts(
+    text: &[char],
+    keys: &Keys<'_>,
+    bytes: &[u8],
+    terminal: &mut Terminal,
+    scratch: &mut Reports,
+) -> bool
+    requires keys { AreKeysOf text.now keys.now }
+    requires scratch { SCRATCH ≤ length scratch.old.bytes }
+    ensures nowhere { result ≡ true → (x : Term) → Shows terminal.old x
+        → NowhereIn text.now x bytes.now }
+    ensures shows { result ≡ true → (x : Term) → Shows terminal.old x
+        → Shows terminal.new (play x bytes.now) }
+    ensures scratch { SCRATCH ≤ length scratch.new.bytes }
+{
+    plays_in_parts();
+    let mut kept = Terminal::reset();
+    let mut done = 0;
+    while done < bytes.len() {
+        let rest = &bytes[done..];
+        let len = PART.min(bytes.len() - done);
+        if !passes_by_any(text, keys, &rest[..len], terminal, &mut kept, scratch) {
+            return false;
+        }
+        done += len;
+    }
+    done > 0
+}
+
+/// Plays a part of a chunk, and tells whether one of the keys shows that the text stands nowhere.
+fn passes_by_any(
+    text: &[char],
+    keys: &Keys<'_>,
+    bytes: &[u8],
+    terminal: &mut Terminal,
+    kept: &mut Terminal,
+    scratch: &mut Reports,
+) -> bool
+    requires keys { AreKeysOf text.now keys.now }
+    requires scratch { SCRATCH ≤ length scratch.old.bytes }
+    ensures nowhere { result ≡ true → (x : Term) → Shows terminal.old x
+        → NowhereIn text.now x bytes.now }
+    ensures shows { result ≡ true → (x : Term) → Shows terminal.old x
+        → Shows terminal.new (play x bytes.now) }
+    ensures scratch { SCRATCH ≤ length scratch.new.bytes }
+{
+    kept.copy_from(terminal);
+    if passes(text, &keys.word, false, bytes, terminal, scratch) {
+        return true;
+    }
+    terminal.copy_from(kept);
+    if passes(text, &keys.tail, false, bytes, terminal, scratch) {
+        return true;
+    }
+    terminal.copy_from(kept);
+    passes(text, &keys.pair, false, bytes, terminal, scratch)
+}
+
+/// Plays a chunk, and tells whether a key, if there is one, shows that the text stands nowhere before it and after each
+/// of its bytes. Where it doesn't, the terminal is some terminal.
+fn passes(
+    text: &[char],
+    key: &Option<Key<'_>>,
+    known: bool,
+    bytes: &[u8],
+    terminal: &mut Terminal,
+    scratch: &mut Reports,
+) -> bool
+    requires keyed { IfSome key.now (λ key. IsKeyed key) }
+    requires part { IfSome key.now (λ key. IsPart key.chars.now text.now) }
+    requires known { known ≡ true → MayLack key.now terminal.old.console.picture }
+    requires scratch { SCRATCH ≤ length scratch.old.bytes }
+    ensures nowhere { result ≡ true → (x : Term) → Shows terminal.old x
+        → NowhereIn text.now x bytes.now }
+    ensures shows { result ≡ true → (x : Term) → Shows terminal.old x
+        → Shows terminal.new (play x bytes.now) }
+    ensures after { result ≡ true → MayLack key.now terminal.new.console.picture }
+    ensures scratch { SCRATCH ≤ length scratch.new.bytes }
+{
+    let _text = text;
+    match key {
+        None => false,
+        Some(key) => { is_lacked(key, known, terminal) && skims(key, bytes, terminal, scratch) }
+    }
+}
+
+/// Whether the screen of a terminal lacks a key, if that isn't known already.
+fn is_lacked(key: &Key<'_>, known: bool, terminal: &Terminal) -> bool
+    requires keyed { IsKeyed key.now }
+    requires known { known ≡ true
+        → ScreenLacks key.now.chars.now terminal.now.console.picture }
+    ensures { result ≡ true → ScreenLacks key.now.chars.now terminal.now.console.picture }
+{
+    known || key.lacked_by(terminal)
 }
 
 /// What stands on the screen at both ends of a chunk, and where the text stands there.
@@ -365,7 +524,7 @@ fn play_all(terminal: &mut Terminal, bytes: &[u8], scratch: &mut Reports)
 }
 
 /// Plays one byte, and never wants memory: the reply to it goes over what the scratch list holds.
-fn step(terminal: &mut Terminal, byte: u8, scratch: &mut Reports)
+pub(crate) fn step(terminal: &mut Terminal, byte: u8, scratch: &mut Reports)
     requires { SCRATCH ≤ length scratch.old.bytes }
     ensures shows { (x : Term) → Shows terminal.old x → Shows terminal.new (play x (byte ∷ [])) }
     ensures scratch { SCRATCH ≤ length scratch.new.bytes }

@@ -257,7 +257,7 @@ fn may_start_in(start: &Start, wide: bool, row: &Row) -> bool
 }
 
 /// Whether a text may begin in a row behind so many cells: as far as both go they are alike.
-fn may_begin_behind(text: &[char], cells: &[Cell], behind: usize) -> bool
+pub(crate) fn may_begin_behind(text: &[char], cells: &[Cell], behind: usize) -> bool
     ensures { result ≡ false → BeginsUpTo text.now behind (characters cells.now) }
 {
     for at in behind..cells.len() {

@@ -13,7 +13,7 @@ returns-clause-gave g c = λ profile h.
     let x = up_to profile chunks index in
     let bytes : c.as_slice-bytes.result.now ≡ bytes_at chunks index =
     c.as_slice-bytes.ensures ∙ ap (λ cs. (get_or cs index c.index-chunks-index.result).bytes) c.chunks.ensures.chunks ∙ bytes_here chunks index c.index-chunks-index.result c.requires.within in
-    subst (λ t. Gave g.W.Write.contents c.args.writer.now c.put_chunk.new.writer t)
+    subst (λ t. Gave g.W.Write.contents c.args.writer.now c.put_or_pass.new.writer t)
     (ap (λ d. chunk_lines c.args.text.now index d x c.as_slice-bytes.result.now) c.due_time.ensures
     ∙ ap (chunk_lines c.args.text.now index (due_time chunks index) x) bytes)
-    (c.put_chunk.ensures.gave x h)
+    (c.put_or_pass.ensures.gave x h)

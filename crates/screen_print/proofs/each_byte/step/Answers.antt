@@ -1,14 +1,8 @@
 use Rattle.std.proofs.Common.{length, ap, subst, sym, arith}
-use Rattle.std.specs.Prelude.{Result, Ok, Err}
-use Rattle.std.specs.Result.{IsOk, OnOk}
 use Rattle.vt_term.specs.Console.{IsSafe}
 use Rattle.plays.specs.Sink.{Sink}
-use Rattle.screen_print.proofs.ReplyLemmas.{replies_are_short}
+use Rattle.screen_print.proofs.ReplyLemmas.{on_ok_is, replies_are_short}
 use Rattle.screen_print.proofs.each_byte.step.Goals as goal
-
-on_ok_is : {T E P : Type 0} (r : Result T E) → IsOk r → OnOk r P → P
-on_ok_is (Ok x) is h = h
-on_ok_is (Err e) is h = cc
 
 pub returns-clause-shows : goal.returns-clause-shows
 returns-clause-shows c = λ x shows.
