@@ -19,7 +19,7 @@ use Rattle.std.specs.Option.{option_and_then}
 use Rattle.std.specs.Str.{bytes_eq}
 use Rattle.std.proofs.lemmas.List.{get_or_default, map-append, take_all, take_more}
 use Rattle.std.proofs.lemmas.List.Sums.{fold_more}
-use Rattle.command_line.specs.CommandLine.{typetool_app, clap_faults, clap_takes, subcommand_in, subcommands_in_order, app_in, after, every_in, fault_of_unread, id_in, job_in, meaning_in, meaning_of, meaning_of_words, moment_given_in, moment_in, moment_or_last_in, name_in, path_count, paths_in, profile_in, rule_in, searched_in, secret_in, vt_only, switch_in, text_in, texts_in, top_app, value_in, with_rules, with_subcommands, flags_in, FailsFor, IsNamed, player_in, print_by}
+use Rattle.command_line.specs.CommandLine.{typetool_app, clap_faults, clap_takes, subcommand_in, subcommands_in_order, app_in, after, every_in, fault_of_unread, id_in, job_in, meaning_in, meaning_of, meaning_of_words, moment_given_in, moment_in, moment_or_last_in, name_in, path_count, paths_in, rule_in, searched_in, secret_in, switch_in, text_in, texts_in, top_app, value_in, with_rules, with_subcommands, flags_in, FailsFor, IsNamed, player_in, print_by}
 use Rattle.command_line.specs.declared.job.Job.{Job}
 use Rattle.command_line.specs.declared.job.Job.TheVariants as jobs
 use Rattle.command_line.specs.declared.words.table.Argument.{Argument}
@@ -28,7 +28,7 @@ use Rattle.command_line.specs.declared.words.table.Subcommand.{Subcommand}
 use Rattle.command_line.specs.declared.words.table.Subcommand.TheVariants.{Due, Info, Check, Screen, Picture, Changes, Find, Reports, Page, Cast, Save, Mend, Redact, Session}
 use Rattle.command_line.specs.declared.words.values.Unreadable.{Unreadable}
 use Rattle.command_line.specs.declared.words.values.Unreadable.TheVariants as unread
-use Rattle.vt_term.specs.declared.profile.Profile.{Profile}
+use Rattle.command_line.specs.declared.player.Player.{Player}
 
 -- clap says what such a command's matches are
 pub is_simple_app : is_simple typetool_app ≡ true
@@ -211,7 +211,6 @@ fails_unread words unread.Seconds taken meant = (taken, meant)
 fails_unread words unread.Every taken meant = (taken, meant)
 fails_unread words unread.Profile taken meant = (taken, meant)
 fails_unread words unread.Size taken meant = (taken, meant)
-fails_unread words unread.Today taken meant = (taken, meant)
 fails_unread words unread.Text taken meant = (taken, meant)
 fails_unread words unread.Headers taken meant = (taken, meant)
 
@@ -252,12 +251,12 @@ enough_paths Changes rows job e =
     (λ from later. after_read (moment_in (id_in To) rows) (λ to. after (player_in rows) (λ p. Ok (jobs.Changes from to p))) job 2
     (λ to last. of_value (player_in rows) (λ p. jobs.Changes from to p) job 2 (λ p. lit≤ tt) last) later) e
 enough_paths Find rows job e =
-    let searched = λ (from : Option ℕ) (to : ℕ) (profile : Profile). after (searched_in rows) (λ text. Ok (jobs.Find from to profile)) in
+    let searched = λ (from : Option ℕ) (to : ℕ) (player : Player). after (searched_in rows) (λ text. Ok (jobs.Find from to player)) in
     after_read (moment_given_in (id_in From) rows)
-    (λ from. after (moment_or_last_in (id_in Until) rows) (λ to. after (profile_in rows) (searched from to))) job 2
-    (λ from later. after_read (moment_or_last_in (id_in Until) rows) (λ to. after (profile_in rows) (searched from to)) job 2
-    (λ to last. after_read (profile_in rows) (searched from to) job 2
-    (λ profile end. of_value (searched_in rows) (λ text. jobs.Find from to profile) job 2 (λ text. lit≤ tt) end) last) later) e
+    (λ from. after (moment_or_last_in (id_in Until) rows) (λ to. after (player_in rows) (searched from to))) job 2
+    (λ from later. after_read (moment_or_last_in (id_in Until) rows) (λ to. after (player_in rows) (searched from to)) job 2
+    (λ to last. after_read (player_in rows) (searched from to) job 2
+    (λ player end. of_value (searched_in rows) (λ text. jobs.Find from to player) job 2 (λ text. lit≤ tt) end) last) later) e
 enough_paths Reports rows job e =
     after_read (moment_in (id_in At) rows) (λ at. after (player_in rows) (λ p. Ok (jobs.Reports at p))) job 2
     (λ at later. of_value (player_in rows) (λ p. jobs.Reports at p) job 2 (λ p. lit≤ tt) later) e
@@ -266,8 +265,8 @@ enough_paths Session rows job e =
     (λ every later. of_value (player_in rows) (λ p. jobs.Session every p) job 2 (λ p. lit≤ tt) later) e
 enough_paths Mend rows job e = of_value _ (λ how. jobs.Mend how) job 4 (λ how. lit≤ tt) e
 enough_paths Redact rows job e =
-    after_read (after (player_in rows) vt_only) (λ profile. after (secret_in rows) (λ text. Ok (jobs.Redact profile))) job 4
-    (λ profile later. of_value (secret_in rows) (λ text. jobs.Redact profile) job 4 (λ text. lit≤ tt) later) e
+    after_read (player_in rows) (λ player. after (secret_in rows) (λ text. Ok (jobs.Redact player))) job 4
+    (λ player later. of_value (secret_in rows) (λ text. jobs.Redact player) job 4 (λ text. lit≤ tt) later) e
 enough_paths Save rows job e = let same : jobs.Save ≡ job = cc in subst (λ j. path_count j ≤ 4) same (lit≤ tt)
 
 -- a name that is none of those in a list is named by none of their commands

@@ -788,17 +788,33 @@ module _ (program script timing : Text) (p : IsPlain script) (q : IsPlain timing
 
     pub find_line : (profile : Option Profile)
         → Asks (program ∷ codes "find" ∷ (profile_words profile ++ text ∷ paths))
-        (job.Find None last_moment (profile_or_first profile)) (chars text) paths
+        (job.Find None last_moment (Vt (profile_or_first profile))) (chars text) paths
     unfolding clap_on_literals typetool_app app_in name_in flags_in texts_in paths_in id_in rule_in job_in text_in profile_named is_today
     find_line None =
-        asks_by program Find (profiled None) text_plain refl (job.Find None last_moment Vt100) (chars text) paths
-        (text_read (job.Find None last_moment Vt100)) refl refl
+        asks_by program Find (profiled None) text_plain refl (job.Find None last_moment (Vt Vt100)) (chars text) paths
+        (text_read (job.Find None last_moment (Vt Vt100))) refl refl
     find_line (Some Vt100) =
-        asks_by program Find (profiled (Some Vt100)) text_plain refl (job.Find None last_moment Vt100) (chars text) paths
-        (text_read (job.Find None last_moment Vt100)) refl refl
+        asks_by program Find (profiled (Some Vt100)) text_plain refl (job.Find None last_moment (Vt Vt100)) (chars text) paths
+        (text_read (job.Find None last_moment (Vt Vt100))) refl refl
     find_line (Some Vt102) =
-        asks_by program Find (profiled (Some Vt102)) text_plain refl (job.Find None last_moment Vt102) (chars text) paths
-        (text_read (job.Find None last_moment Vt102)) refl refl
+        asks_by program Find (profiled (Some Vt102)) text_plain refl (job.Find None last_moment (Vt Vt102)) (chars text) paths
+        (text_read (job.Find None last_moment (Vt Vt102))) refl refl
+
+    pub find_today_line : Asks (program ∷ codes "find" ∷ (today_words ++ text ∷ paths)) (job.Find None last_moment (Today None)) (chars text) paths
+    unfolding clap_on_literals typetool_app app_in name_in flags_in texts_in paths_in id_in rule_in job_in text_in profile_named is_today
+    find_today_line =
+        asks_by program Find (literal (codes "--profile") ∷ literal (codes "xterm") ∷ searched) text_plain refl
+        (job.Find None last_moment (Today None)) (chars text) paths (text_read (job.Find None last_moment (Today None))) refl refl
+
+    pub find_sized_line : (size : Text) (measure : Measure) → size_named size ≡ Some measure
+        → Asks (program ∷ codes "find" ∷ (sized_words size ++ text ∷ paths)) (job.Find None last_moment (Today (Some measure))) (chars text) paths
+    unfolding clap_on_literals typetool_app app_in name_in flags_in texts_in paths_in id_in rule_in job_in text_in profile_named is_today
+    find_sized_line size measure d =
+        asks_by program Find (literal (codes "--profile") ∷ literal (codes "xterm") ∷ literal (codes "--size") ∷ value_word size ∷ searched)
+        (size_is_plain size measure d, text_plain) refl (job.Find None last_moment (Today (Some measure))) (chars text) paths
+        (ap (λ o. after (after (readable unread.Size o) (λ s. Ok (Today (Some s))))
+        (λ player. after (readable unread.Text (searchable (chars text))) (λ t. Ok (job.Find None last_moment player)))) d
+        ∙ text_read (job.Find None last_moment (Today (Some measure)))) refl refl
 
     -- between two moments
     module _ (from : Text) (start : ℕ) (d : seconds_of from ≡ Some start)
@@ -807,7 +823,7 @@ module _ (program script timing : Text) (p : IsPlain script) (q : IsPlain timing
       between profile =
           literal (codes "--from") ∷ value_word from ∷ literal (codes "--to") ∷ value_word to ∷ profiled profile
 
-      between_read : (played : Profile)
+      between_read : (played : Player)
           → after (moment_if (Some from))
           (λ first. after (after (moment_if (Some to)) (λ given. Ok (moment_or_last given)))
           (λ last. after (readable unread.Text (searchable (chars text))) (λ t. Ok (job.Find first last played))))
@@ -825,17 +841,17 @@ module _ (program script timing : Text) (p : IsPlain script) (q : IsPlain timing
 
       pub find_between_line : (profile : Option Profile)
           → Asks (program ∷ codes "find" ∷ codes "--from" ∷ from ∷ codes "--to" ∷ to ∷ (profile_words profile ++ text ∷ paths))
-          (job.Find (Some start) end (profile_or_first profile)) (chars text) paths
+          (job.Find (Some start) end (Vt (profile_or_first profile))) (chars text) paths
       unfolding clap_on_literals typetool_app app_in name_in flags_in texts_in paths_in id_in rule_in job_in text_in profile_named is_today
       find_between_line None =
-          asks_by program Find (between None) between_plain refl (job.Find (Some start) end Vt100) (chars text) paths
-          (between_read Vt100) refl refl
+          asks_by program Find (between None) between_plain refl (job.Find (Some start) end (Vt Vt100)) (chars text) paths
+          (between_read (Vt Vt100)) refl refl
       find_between_line (Some Vt100) =
-          asks_by program Find (between (Some Vt100)) between_plain refl (job.Find (Some start) end Vt100) (chars text) paths
-          (between_read Vt100) refl refl
+          asks_by program Find (between (Some Vt100)) between_plain refl (job.Find (Some start) end (Vt Vt100)) (chars text) paths
+          (between_read (Vt Vt100)) refl refl
       find_between_line (Some Vt102) =
-          asks_by program Find (between (Some Vt102)) between_plain refl (job.Find (Some start) end Vt102) (chars text) paths
-          (between_read Vt102) refl refl
+          asks_by program Find (between (Some Vt102)) between_plain refl (job.Find (Some start) end (Vt Vt102)) (chars text) paths
+          (between_read (Vt Vt102)) refl refl
 
   -- the line with a text that is taken out
   module _ (text : Text) (r : IsPlain text) (hidden : is_secret (chars text) ≡ true) (new_script new_timing : Text)
@@ -851,17 +867,33 @@ module _ (program script timing : Text) (p : IsPlain script) (q : IsPlain timing
 
     pub redact_line : (profile : Option Profile)
         → Asks (program ∷ codes "redact" ∷ (profile_words profile ++ text ∷ all_paths))
-        (job.Redact (profile_or_first profile)) (chars text) all_paths
+        (job.Redact (Vt (profile_or_first profile))) (chars text) all_paths
     unfolding clap_on_literals typetool_app app_in name_in flags_in texts_in paths_in id_in rule_in job_in text_in profile_named is_today
     redact_line None =
-        asks_by program Redact new_files (r, (p, (q, (t, (u, tt))))) refl (job.Redact Vt100) (chars text) all_paths
-        (secret_read (job.Redact Vt100)) refl refl
+        asks_by program Redact new_files (r, (p, (q, (t, (u, tt))))) refl (job.Redact (Vt Vt100)) (chars text) all_paths
+        (secret_read (job.Redact (Vt Vt100))) refl refl
     redact_line (Some Vt100) =
         asks_by program Redact (literal (codes "--profile") ∷ literal (codes "vt100") ∷ new_files) (r, (p, (q, (t, (u, tt))))) refl
-        (job.Redact Vt100) (chars text) all_paths (secret_read (job.Redact Vt100)) refl refl
+        (job.Redact (Vt Vt100)) (chars text) all_paths (secret_read (job.Redact (Vt Vt100))) refl refl
     redact_line (Some Vt102) =
         asks_by program Redact (literal (codes "--profile") ∷ literal (codes "vt102") ∷ new_files) (r, (p, (q, (t, (u, tt))))) refl
-        (job.Redact Vt102) (chars text) all_paths (secret_read (job.Redact Vt102)) refl refl
+        (job.Redact (Vt Vt102)) (chars text) all_paths (secret_read (job.Redact (Vt Vt102))) refl refl
+
+    pub redact_today_line : Asks (program ∷ codes "redact" ∷ (today_words ++ text ∷ all_paths)) (job.Redact (Today None)) (chars text) all_paths
+    unfolding clap_on_literals typetool_app app_in name_in flags_in texts_in paths_in id_in rule_in job_in text_in profile_named is_today
+    redact_today_line =
+        asks_by program Redact (literal (codes "--profile") ∷ literal (codes "xterm") ∷ new_files) (r, (p, (q, (t, (u, tt))))) refl
+        (job.Redact (Today None)) (chars text) all_paths (secret_read (job.Redact (Today None))) refl refl
+
+    pub redact_sized_line : (size : Text) (measure : Measure) → size_named size ≡ Some measure
+        → Asks (program ∷ codes "redact" ∷ (sized_words size ++ text ∷ all_paths)) (job.Redact (Today (Some measure))) (chars text) all_paths
+    unfolding clap_on_literals typetool_app app_in name_in flags_in texts_in paths_in id_in rule_in job_in text_in profile_named is_today
+    redact_sized_line size measure d =
+        asks_by program Redact (literal (codes "--profile") ∷ literal (codes "xterm") ∷ literal (codes "--size") ∷ value_word size ∷ new_files)
+        (size_is_plain size measure d, (r, (p, (q, (t, (u, tt)))))) refl (job.Redact (Today (Some measure))) (chars text) all_paths
+        (ap (λ o. after (after (readable unread.Size o) (λ s. Ok (Today (Some s))))
+        (λ player. after (readable unread.Text (secret (chars text))) (λ t. Ok (job.Redact player)))) d
+        ∙ secret_read (job.Redact (Today (Some measure)))) refl refl
 
   -- the line with a number of chunks
   module _ (every : Text) (count : ℕ) (e : every_of every ≡ Some count) where

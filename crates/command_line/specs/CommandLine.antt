@@ -21,9 +21,9 @@ use Rattle.command_line.specs.declared.player.Print.TheVariants as print
 use Rattle.command_line.specs.declared.player.Print.TheVariants.{Plain}
 use Rattle.command_line.specs.declared.words.Words.{Words}
 use Rattle.command_line.specs.declared.words.WordsFault.{WordsFault}
-use Rattle.command_line.specs.declared.words.WordsFault.TheVariants.{Clap, Memory, BadSeconds, BadEvery, BadProfile, BadSize, NotPlayed, BadText, BothHeaders}
+use Rattle.command_line.specs.declared.words.WordsFault.TheVariants.{Clap, Memory, BadSeconds, BadEvery, BadProfile, BadSize, BadText, BothHeaders}
 use Rattle.command_line.specs.declared.words.table.Argument.{Argument}
-use Rattle.command_line.specs.declared.words.table.Argument.TheVariants.{At, From, To, Until, Every, Profile, AnyProfile, Size, Escaped, Last, Headless, Title, Sought, Secret, Script, Timing, AnyTiming, NewScript, NewTiming}
+use Rattle.command_line.specs.declared.words.table.Argument.TheVariants.{At, From, To, Until, Every, Profile, Size, Escaped, Last, Headless, Title, Sought, Secret, Script, Timing, AnyTiming, NewScript, NewTiming}
 use Rattle.command_line.specs.declared.words.table.Subcommand.{Subcommand}
 use Rattle.command_line.specs.declared.words.table.Subcommand.TheVariants.{Due, Info, Check, Screen, Picture, Changes, Find, Reports, Page, Cast, Save, Mend, Redact, Session}
 use Rattle.command_line.specs.declared.words.values.Unreadable.{Unreadable}
@@ -61,18 +61,18 @@ name_in Session = codes "session"
 unfoldable pub flags_in : Subcommand → List Argument
 flags_in Due = At ∷ []
 flags_in Info = []
-flags_in Check = AnyProfile ∷ Size ∷ []
-flags_in Screen = At ∷ Escaped ∷ AnyProfile ∷ Size ∷ []
-flags_in Picture = At ∷ AnyProfile ∷ Size ∷ []
-flags_in Changes = From ∷ To ∷ AnyProfile ∷ Size ∷ []
-flags_in Find = From ∷ Until ∷ Profile ∷ []
-flags_in Reports = At ∷ AnyProfile ∷ Size ∷ []
-flags_in Page = AnyProfile ∷ Size ∷ Title ∷ []
-flags_in Cast = AnyProfile ∷ Size ∷ []
+flags_in Check = Profile ∷ Size ∷ []
+flags_in Screen = At ∷ Escaped ∷ Profile ∷ Size ∷ []
+flags_in Picture = At ∷ Profile ∷ Size ∷ []
+flags_in Changes = From ∷ To ∷ Profile ∷ Size ∷ []
+flags_in Find = From ∷ Until ∷ Profile ∷ Size ∷ []
+flags_in Reports = At ∷ Profile ∷ Size ∷ []
+flags_in Page = Profile ∷ Size ∷ Title ∷ []
+flags_in Cast = Profile ∷ Size ∷ []
 flags_in Save = []
 flags_in Mend = Last ∷ Headless ∷ []
-flags_in Redact = AnyProfile ∷ Size ∷ []
-flags_in Session = Every ∷ AnyProfile ∷ Size ∷ []
+flags_in Redact = Profile ∷ Size ∷ []
+flags_in Session = Every ∷ Profile ∷ Size ∷ []
 
 -- the texts of a subcommand, which stand before its paths (ours)
 unfoldable pub texts_in : Subcommand → List Argument
@@ -105,7 +105,6 @@ id_in To = codes "to"
 id_in Until = codes "to"
 id_in Every = codes "every"
 id_in Profile = codes "profile"
-id_in AnyProfile = codes "profile"
 id_in Size = codes "size"
 id_in Escaped = codes "escaped"
 id_in Last = codes "last"
@@ -144,7 +143,6 @@ rule_in To = seconds_rule (id_in To)
 rule_in Until = optional_rule (id_in Until)
 rule_in Every = optional_rule (id_in Every)
 rule_in Profile = optional_rule (id_in Profile)
-rule_in AnyProfile = optional_rule (id_in AnyProfile)
 rule_in Size = optional_rule (id_in Size)
 rule_in Escaped = switch_rule (id_in Escaped)
 rule_in Last = switch_rule (id_in Last)
@@ -226,16 +224,6 @@ profile_named name =
 unfoldable pub is_today : Text → Bool
 is_today name = bytes_eq name (codes "xterm")
 
--- the profile that a text names, and a VT100 if there is no text; the terminal of today isn't played here (ours)
-abbrev pub profile_if : Option Text → Result Played Unreadable
-profile_if None = Ok Vt100
-profile_if (Some text) =
-    if is_today text then Err unread.Today else readable unread.Profile (profile_named text)
-
--- which terminal is to play (ours)
-abbrev pub profile_in : List Row → Result Played Unreadable
-profile_in rows = profile_if (first_of (id_in Profile) rows)
-
 -- columns, `x`, lines: digits each, within the limits of a screen (ours)
 abbrev pub size_from : Option ℕ → Option ℕ → Option Measure
 size_from (Some columns) (Some lines) = within_of (record { columns = columns; lines = lines })
@@ -264,7 +252,7 @@ player_by (Some name) size =
     if is_today name then today_if size else after (readable unread.Profile (profile_named name)) (vt_if size)
 
 abbrev pub player_in : List Row → Result Player Unreadable
-player_in rows = player_by (first_of (id_in AnyProfile) rows) (first_of (id_in Size) rows)
+player_in rows = player_by (first_of (id_in Profile) rows) (first_of (id_in Size) rows)
 
 -- how a screen is printed, by whether `--escaped` is given (ours)
 abbrev pub print_by : Bool → Player → Print
@@ -282,11 +270,6 @@ searchable text = if is_searchable text then Some text else None
 
 abbrev pub searched_in : List Row → Result (List ℕ) Unreadable
 searched_in rows = readable unread.Text (searchable (chars (value_in (id_in Sought) rows)))
-
--- a VT: a terminal of today isn't played here yet (ours)
-abbrev pub vt_only : Player → Result Played Unreadable
-vt_only (Vt profile) = Ok profile
-vt_only (Today size) = Err unread.Today
 
 -- whether these characters can be taken out: they can be looked for, and none is `*`, which is written over them (ours)
 unfoldable pub is_secret : List ℕ → Bool
@@ -329,8 +312,8 @@ job_in Changes rows =
     after (player_in rows) (λ player. Ok (job.Changes from to player))))
 job_in Find rows =
     after (moment_given_in (id_in From) rows) (λ from. after (moment_or_last_in (id_in Until) rows) (λ to.
-    after (profile_in rows) (λ profile. after (searched_in rows) (λ text.
-    Ok (job.Find from to profile)))))
+    after (player_in rows) (λ player. after (searched_in rows) (λ text.
+    Ok (job.Find from to player)))))
 job_in Reports rows =
     after (moment_in (id_in At) rows) (λ at. after (player_in rows) (λ player.
     Ok (job.Reports at player)))
@@ -339,8 +322,8 @@ job_in Cast rows = after (player_in rows) (λ player. Ok (job.Cast player))
 job_in Save rows = Ok job.Save
 job_in Mend rows = after (header_in rows) (λ how. Ok (job.Mend how))
 job_in Redact rows =
-    after (after (player_in rows) vt_only) (λ profile. after (secret_in rows) (λ text.
-    Ok (job.Redact profile)))
+    after (player_in rows) (λ player. after (secret_in rows) (λ text.
+    Ok (job.Redact player)))
 job_in Session rows =
     after (every_in rows) (λ every. after (player_in rows) (λ player.
     Ok (job.Session every player)))
@@ -447,13 +430,13 @@ path_count (job.Check player) = 2
 path_count (job.Screen at print) = 2
 path_count (job.Picture at player) = 2
 path_count (job.Changes from to player) = 2
-path_count (job.Find from to profile) = 2
+path_count (job.Find from to player) = 2
 path_count (job.Reports at player) = 2
 path_count (job.Page player) = 2
 path_count (job.Cast player) = 2
 path_count job.Save = 4
 path_count (job.Mend how) = 4
-path_count (job.Redact profile) = 4
+path_count (job.Redact player) = 4
 path_count (job.Session every player) = 2
 
 -- Private: the fault of words that clap takes and that aren't readable (ours)
@@ -462,7 +445,6 @@ fault_of_unread unread.Seconds = BadSeconds
 fault_of_unread unread.Every = BadEvery
 fault_of_unread unread.Profile = BadProfile
 fault_of_unread unread.Size = BadSize
-fault_of_unread unread.Today = NotPlayed
 fault_of_unread unread.Text = BadText
 fault_of_unread unread.Headers = BothHeaders
 
@@ -472,9 +454,8 @@ IsUnreadable words fault =
     (clap_faults words ≡ []) × (meaning_of_words words ≡ Some (Err fault))
 
 -- why words aren't a job: clap finds a fault of that kind in them and doesn't promise to take them, or it reads them
--- and some seconds aren't readable, or the number of chunks, the profile, the size, or the text, or the terminal of
--- today isn't played, or two headers are asked for;
--- memory may always be refused (ours)
+-- and some seconds aren't readable, or the number of chunks, the profile, the size, or the text, or two headers are
+-- asked for; memory may always be refused (ours)
 abbrev pub FailsFor : List Text → WordsFault → Type 0
 FailsFor words (Clap e) = IsAmong (kind_of e) (clap_faults words) × (clap_takes words ≡ false)
 FailsFor words Memory = Unit {0}
@@ -482,6 +463,5 @@ FailsFor words BadSeconds = IsUnreadable words unread.Seconds
 FailsFor words BadEvery = IsUnreadable words unread.Every
 FailsFor words BadProfile = IsUnreadable words unread.Profile
 FailsFor words BadSize = IsUnreadable words unread.Size
-FailsFor words NotPlayed = IsUnreadable words unread.Today
 FailsFor words BadText = IsUnreadable words unread.Text
 FailsFor words BothHeaders = IsUnreadable words unread.Headers

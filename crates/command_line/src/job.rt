@@ -2,7 +2,6 @@
 
 use crate::player::{Player, Print};
 use tape_mend::Header;
-use vt_term::Profile;
 
 /// What is to be done with a recording. Moments are in microseconds.
 #[derive(Clone, Copy, Debug, PartialEq, Eq)]
@@ -39,7 +38,7 @@ pub enum Job {
     Find {
         from: Option<u64>,
         to: u64,
-        profile: Profile,
+        player: Player,
     },
     /// Write in hexadecimal what the terminal has sent by a moment.
     Reports {
@@ -63,7 +62,7 @@ pub enum Job {
     /// Write both files anew without a text, with `*` over each byte of it. The text stands beside the job. What is told
     /// of it besides is told by `redact`.
     Redact {
-        profile: Profile,
+        player: Player,
     },
     /// Answer request lines. A terminal is stored at every so many chunks, of 1 to 1,000,000.
     Session {

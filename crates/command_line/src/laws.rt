@@ -63,11 +63,14 @@ pub fn plain_lines_are_read()
         (codes "--from" ∷ from ∷ codes "--to" ∷ to ∷ profile_words profile)
         (job.Changes (Some start) moment (Vt (profile_or_first profile))) }
     ensures find { (profile : Option Profile) → FindAsks (profile_words profile)
-        (job.Find None last_moment (profile_or_first profile)) }
+        (job.Find None last_moment (Vt (profile_or_first profile))) }
+    ensures find_today { FindAsks today_words (job.Find None last_moment (Today None)) }
+    ensures find_sized { (size : Text) (measure : Measure) → size_named size ≡ Some measure
+        → FindAsks (sized_words size) (job.Find None last_moment (Today (Some measure))) }
     ensures find_between { (from : Text) (start : ℕ) → seconds_of from ≡ Some start
         → (to : Text) (end : ℕ) → seconds_of to ≡ Some end → (profile : Option Profile)
         → FindAsks (codes "--from" ∷ from ∷ codes "--to" ∷ to ∷ profile_words profile)
-        (job.Find (Some start) end (profile_or_first profile)) }
+        (job.Find (Some start) end (Vt (profile_or_first profile))) }
     ensures reports { (at : Text) (moment : ℕ) → seconds_of at ≡ Some moment
         → (profile : Option Profile) → LineAsks (codes "reports")
         (codes "--at" ∷ at ∷ profile_words profile)
@@ -102,7 +105,10 @@ pub fn plain_lines_are_read()
         ∷ (header_words how ++ script ∷ timing ∷ new_script ∷ new_timing ∷ []))
         (job.Mend how) [] (script ∷ timing ∷ new_script ∷ new_timing ∷ []) }
     ensures redact { (profile : Option Profile) → RedactAsks (profile_words profile)
-        (job.Redact (profile_or_first profile)) }
+        (job.Redact (Vt (profile_or_first profile))) }
+    ensures redact_today { RedactAsks today_words (job.Redact (Today None)) }
+    ensures redact_sized { (size : Text) (measure : Measure) → size_named size ≡ Some measure
+        → RedactAsks (sized_words size) (job.Redact (Today (Some measure))) }
     ensures session { (profile : Option Profile) → LineAsks (codes "session")
         (profile_words profile) (job.Session usual_every (Vt (profile_or_first profile))) }
     ensures session_today { LineAsks (codes "session") today_words

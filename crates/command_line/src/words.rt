@@ -50,9 +50,6 @@ pub enum WordsFault {
     /// The size isn't one, or it is past the limits, or given to a VT.
     #[error("bad size: 2x1 to 1000x500, with --profile xterm")]
     BadSize,
-    /// What is asked for has no terminal of today yet.
-    #[error("not yet with --profile xterm")]
-    NotPlayed,
     /// The text that is looked for has spaces alone, or a control character.
     #[error("bad text")]
     BadText,
@@ -101,7 +98,6 @@ fn fault_of_unread(unread: Unreadable) -> WordsFault
         Unreadable::Every => WordsFault::BadEvery,
         Unreadable::Profile => WordsFault::BadProfile,
         Unreadable::Size => WordsFault::BadSize,
-        Unreadable::Today => WordsFault::NotPlayed,
         Unreadable::Text => WordsFault::BadText,
         Unreadable::Headers => WordsFault::BothHeaders,
     }

@@ -126,7 +126,7 @@ fn plain_case<'a>(job: Job, text: &'a [u8]) -> Case<'a> {
 const END: u64 = 500_000;
 
 /// Each job at the end of the recording.
-fn cases() -> [Case<'static>; 13] {
+fn cases() -> [Case<'static>; 15] {
     let profile = Profile::Vt100;
     let player = Player::Vt(profile);
     let screen = Job::Screen {
@@ -155,7 +155,8 @@ fn cases() -> [Case<'static>; 13] {
         ),
         plain_case(picture, AB_PICTURE.as_bytes()),
         plain_case(changes, b"0 0.000000 1\n1 0.500000 1\n"),
-        find_case(profile),
+        find_case(player),
+        find_case(Player::Today(None)),
         plain_case(
             Job::Reports {
                 at: END,
@@ -165,18 +166,19 @@ fn cases() -> [Case<'static>; 13] {
         ),
         cast_case(profile),
         save_case(),
-        redact_case(profile),
+        redact_case(player),
+        redact_case(Player::Today(None)),
         session_case(Player::Vt(profile)),
         session_case(Player::Today(None)),
     ]
 }
 
 /// The second chunk's character.
-fn find_case(profile: Profile) -> Case<'static> {
+fn find_case(player: Player) -> Case<'static> {
     let job = Job::Find {
         from: None,
         to: END,
-        profile,
+        player,
     };
     Case {
         sought: &['b'],
@@ -209,11 +211,11 @@ fn save_case() -> Case<'static> {
 }
 
 /// The second chunk's character is taken out.
-fn redact_case(profile: Profile) -> Case<'static> {
+fn redact_case(player: Player) -> Case<'static> {
     Case {
         sought: &['b'],
         new_timing: TIMING,
-        ..plain_case(Job::Redact { profile }, b"Script started on X\na*")
+        ..plain_case(Job::Redact { player }, b"Script started on X\na*")
     }
 }
 

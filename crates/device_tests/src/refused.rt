@@ -231,7 +231,7 @@ fn run_find(rt: HostRuntime) -> Result<(), Fail> {
     let job = Job::Find {
         from: None,
         to: 9_000_000,
-        profile: Profile::Vt102,
+        player: Player::Vt(Profile::Vt102),
     };
     let text = b"+ 0 0.500000 1 2 ab\n- 2 1.500000 1 2 ab\n+ 2 1.500000 1 2 eb\n";
     let case = Case {
@@ -335,7 +335,7 @@ fn mend_and_tell(rt: HostRuntime) -> Result<(), Fail> {
 #[test]
 fn run_redact(rt: HostRuntime) -> Result<(), Fail> {
     let job = Job::Redact {
-        profile: Profile::Vt100,
+        player: Player::Vt(Profile::Vt100),
     };
     let case = Case {
         sought: &['c', 'd'],
@@ -354,7 +354,7 @@ fn redact_cd(rt: &impl Runtime<A = Global>) -> Result<Ended, Fail> {
     let mut told = Watched::new(room(rt)?);
     let outcome = redact(
         rt.alloc(),
-        Profile::Vt100,
+        Player::Vt(Profile::Vt100),
         &['c', 'd'],
         &mut Watched::new(SCRIPT),
         &mut Watched::new(TIMING),

@@ -94,8 +94,7 @@ fn compare_note<R: Abort + AllocGlobal>(rt: &R, job: Job, note: &str) {
 
 #[test]
 fn jobs_that_play_tell_a_note(rt: HostRuntime) {
-    let profile = Profile::Vt100;
-    let player = Player::Vt(profile);
+    let player = Player::Vt(Profile::Vt100);
     let (from, to, at) = (None, 9, 9);
     let told = [
         Job::Screen {
@@ -104,11 +103,11 @@ fn jobs_that_play_tell_a_note(rt: HostRuntime) {
         },
         Job::Picture { at, player },
         Job::Changes { from, to, player },
-        Job::Find { from, to, profile },
+        Job::Find { from, to, player },
         Job::Reports { at, player },
         Job::Page { player },
         Job::Cast { player },
-        Job::Redact { profile },
+        Job::Redact { player },
         Job::Session { every: 1, player },
     ];
     for job in &told {

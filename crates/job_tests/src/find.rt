@@ -1,6 +1,6 @@
 //! Find lines through the job, where a text stands beside it, and the status that goes with them.
 use crate::in_memory::{AB, DONE, HEADER, do_job_beside};
-use command_line::Job;
+use command_line::{Job, Measure, Player};
 use std::io;
 use std::process::Abort;
 use std::test::Fail;
@@ -26,7 +26,7 @@ struct Search {
     text: &'static [char],
     from: Option<u64>,
     to: u64,
-    profile: Profile,
+    player: Player,
     lines: &'static str,
     outcome: Outcome,
 }
@@ -45,7 +45,7 @@ const fn whole(
         text,
         from: None,
         to: END,
-        profile: Profile::Vt100,
+        player: Player::Vt(Profile::Vt100),
         lines,
         outcome,
     }
@@ -66,7 +66,7 @@ const fn between(
         text: &['a', 'b'],
         from,
         to,
-        profile,
+        player: Player::Vt(profile),
         lines,
         outcome,
     }
@@ -78,7 +78,7 @@ fn compare_found<R: Abort + AllocGlobal>(rt: &R, search: &Search) -> Result<(), 
     let job = Job::Find {
         from: search.from,
         to: search.to,
-        profile: search.profile,
+        player: search.player,
     };
     let (script, timing) = (script.as_slice(), search.timing);
     let ended = do_job_beside(rt.alloc(), job, search.text, script, timing, b"");
@@ -184,6 +184,66 @@ fn find_tells_what_stands_already(rt: HostRuntime) -> Result<(), Fail> {
     compare_found(&rt, &search)
 }
 
+/// A terminal of today of 12 columns and 3 lines.
+const SMALL: Player = Player::Today(Some(Measure {
+    columns: 12,
+    lines: 3,
+}));
+
+/// Characters of width 2, marks, a colour inside the text, REP, and the alternate screen.
+#[test]
+fn find_looks_at_a_terminal_of_today(rt: HostRuntime) -> Result<(), Fail> {
+    for search in &[
+        Search {
+            player: SMALL,
+            ..whole(
+                "日本".as_bytes(),
+                b"0 6\n",
+                &['本'],
+                "+ 0 0.000000 1 3 日本\n",
+                DONE,
+            )
+        },
+        Search {
+            player: SMALL,
+            ..whole(
+                b"\n a\x1b[31mb\x1b[4mc",
+                b"0 14\n",
+                &['a', 'b', 'c'],
+                "+ 0 0.000000 2 2  abc\n",
+                DONE,
+            )
+        },
+        Search {
+            player: SMALL,
+            ..whole(
+                b"ab\x1b[?1049hcd\x1b[?1049l",
+                b"0 20\n",
+                &['c', 'd'],
+                "~ 0 0.000000 1 3   cd\n",
+                DONE,
+            )
+        },
+        Search {
+            player: SMALL,
+            ..whole(
+                b"x\x1b[3b\r\x1b[K",
+                b"0 9\n",
+                &['x', 'x', 'x', 'x'],
+                "~ 0 0.000000 1 1 xxxx\n",
+                DONE,
+            )
+        },
+        Search {
+            player: Player::Today(None),
+            ..whole(b"x", b"0 1\n", &['y'], "", NOTHING)
+        },
+    ] {
+        compare_found(&rt, search)?;
+    }
+    Ok(())
+}
+
 /// Of a line that scrolls through a chunk only what stands at its end is told.
 #[test]
 fn find_tells_once_what_scrolls(rt: HostRuntime) -> Result<(), Fail> {
@@ -198,7 +258,7 @@ fn find_tells_once_what_scrolls(rt: HostRuntime) -> Result<(), Fail> {
     let job = Job::Find {
         from: None,
         to: END,
-        profile: Profile::Vt100,
+        player: Player::Vt(Profile::Vt100),
     };
     let ended = do_job_beside(rt.alloc(), job, &['l'], script.as_slice(), b"0 180\n", b"");
     assert_eq!(rt;
@@ -225,7 +285,7 @@ fn find_goes_by_its_own_lines(rt: HostRuntime) -> Result<(), Fail> {
     let job = Job::Find {
         from: None,
         to: END,
-        profile: Profile::Vt100,
+        player: Player::Vt(Profile::Vt100),
     };
     let mut out = Watched::new(Vec::new(rt.alloc()));
     for (text, status) in [('b', 0), ('c', 1), ('a', 0)] {

@@ -1,7 +1,8 @@
 //! The call `redact` over texts in memory: rows by hand, of the new pair and of what is told.
 use crate::in_memory::{DONE, do_job_beside};
-use command_line::Job;
+use command_line::{Job, Player};
 use std::process::Abort;
+use std::test::Fail;
 use tape_core::{Fault, Watched};
 use tape_jobs::{JobFault, Outcome, redact};
 use vt_term::Profile;
@@ -111,7 +112,12 @@ const ROWS: [(Given<'static>, Wanted<'static>); 8] = [
 ];
 
 /// Redacts in memory, and compares what comes out.
-fn compare_redaction<R: Abort + AllocGlobal>(rt: &R, given: Given<'_>, wanted: Wanted<'_>) {
+fn compare_redaction<R: Abort + AllocGlobal>(
+    rt: &R,
+    player: Player,
+    given: Given<'_>,
+    wanted: Wanted<'_>,
+) {
     let (text, script, timing) = given;
     let mut out = Watched::new(Vec::new(rt.alloc()));
     let mut out_timing = Watched::new(Vec::new(rt.alloc()));
@@ -120,7 +126,7 @@ fn compare_redaction<R: Abort + AllocGlobal>(rt: &R, given: Given<'_>, wanted: W
     let mut note = Watched::new(Vec::new(rt.alloc()));
     let outcome = redact(
         rt.alloc(),
-        Profile::Vt100,
+        player,
         text,
         &mut Watched::new(script),
         &mut Watched::new(timing),
@@ -151,15 +157,37 @@ fn compare_redaction<R: Abort + AllocGlobal>(rt: &R, given: Given<'_>, wanted: W
 #[test]
 fn redact_takes_a_text_out(rt: HostRuntime) {
     for (given, wanted) in ROWS {
-        compare_redaction(&rt, given, wanted);
+        compare_redaction(&rt, Player::Vt(Profile::Vt100), given, wanted);
     }
+}
+
+/// A size in the header that is taken out plays the new recording all the same, where the text then comes to stand.
+#[test]
+fn redact_keeps_the_size_of_a_terminal_of_today(rt: HostRuntime) -> Result<(), Fail> {
+    let script =
+        b"Script started on X [TERM=\"xterm\" TTY=\"/dev/pts/0\" COLUMNS=\"100\" LINES=\"30\"]\n\x1b[1;95H1\x1b[1;96H00";
+    let new_script =
+        b"Script started on X [TERM=\"xterm\" TTY=\"/dev/pts/0\" COLUMNS=\"***\" LINES=\"30\"]\n\x1b[1;95H1\x1b[1;96H00";
+    let told = format!(in rt.alloc(); "redacted 1\n+ 0 0.000000 1 95 {:>97}\n", 100)?;
+    compare_redaction(
+        &rt,
+        Player::Today(None),
+        (&['1', '0', '0'], script.as_slice(), b"0 17\n"),
+        (
+            new_script.as_slice(),
+            b"0.000000 17\n",
+            told.as_bytes(),
+            LEFT,
+        ),
+    );
+    Ok(())
 }
 
 /// The job of that name writes the same pair, and has the same status.
 #[test]
 fn run_takes_a_text_out(rt: HostRuntime) {
     let job = Job::Redact {
-        profile: Profile::Vt100,
+        player: Player::Vt(Profile::Vt100),
     };
     for ((text, script, timing), wanted) in ROWS {
         let ended = do_job_beside(rt.alloc(), job, text, script, timing, b"");

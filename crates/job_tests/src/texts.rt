@@ -74,7 +74,6 @@ fn a_line_that_is_no_job_is_told_why(rt: HostRuntime) -> Result<(), Fail> {
             WordsFault::BadSize,
             "bad size: 2x1 to 1000x500, with --profile xterm",
         ),
-        (WordsFault::NotPlayed, "not yet with --profile xterm"),
         (WordsFault::BadText, "bad text"),
         (WordsFault::Memory, "out of memory"),
     ];

@@ -1,22 +1,28 @@
 -- A terminal of today of a settled size: it is played at that size, and tells what one does whose size a recording settles.
-use Rattle.std.proofs.Common.{◌≡◌, ℕ, true, Option, Some, refl, ap, sym, ◌∙◌, unwrap_or, if◌then◌else◌, None, arith}
+use Rattle.std.proofs.Common.{◌≡◌, ℕ, Bool, true, false, List, [], Option, Some, refl, ap, sym, ◌∙◌, subst, unwrap_or, if◌then◌else◌, None, arith}
 use Rattle.std.proofs.lemmas.Bool.Decides.{nat_tests}
 use Rattle.std.specs.Option.{option_or}
 use Rattle.chunk_walk.specs.Walk.{asked_texts}
 use Rattle.tape_core.specs.Due.{due}
 use Rattle.tape_core.specs.Tape.{Tape}
 use Rattle.tape_jobs.specs.Moment.{drawn_at, drawn_today, hex_line, printed_at, sent_at, told_at, told_by}
-use Rattle.tape_jobs.specs.Player.{changes_of, measure_of, played_size, today_at, today_lines, told_measure, usual_measure, within}
-use Rattle.command_line.specs.Measures.{is_size}
+use Rattle.tape_jobs.specs.Player.{NowhereFor, NowhereMeansNowhere, changes_of, found_of, measure_of, played_size, today_at, today_lines, told_measure, today_shown, settled, usual_measure, within}
+use Rattle.command_line.specs.Measures.{is_size, within_of}
 use Rattle.tape_jobs.specs.declared.answers.Asked.{Asked}
 use Rattle.tape_jobs.specs.declared.answers.Asked.TheVariants as asks
 use Rattle.tape_jobs.specs.declared.answers.Question.{Question}
 use Rattle.command_line.specs.declared.player.Measure.{Measure}
-use Rattle.command_line.specs.declared.player.Player.TheVariants.{Today}
+use Rattle.command_line.specs.declared.player.Player.TheVariants.{Vt, Today}
+use Rattle.command_line.specs.declared.player.Player.{Player}
 use Rattle.xterm_escaped.specs.EscapedText.{escaped_text}
+use Rattle.screen_print.specs.EachByte.{NowhereMeansNowhere as NowhereOnVt, has_ink}
+use Rattle.text_find.specs.FindLines.{NowhereOn, all_found, found_from, found_in, lines_found}
 use Rattle.xterm_print.specs.ChangeLines.{change_lines}
+use Rattle.xterm_print.specs.FindLines.{NowhereMeansNowhere as NowhereOnToday, StandsNowhere, find_lines}
+use Rattle.xterm_print.specs.FindRows.{rows_shown}
 use Rattle.xterm_print.specs.Moments.{term_at}
 use Rattle.xterm_print.specs.PlainText.{plain_text}
+use Rattle.xterm_term.specs.Size.{IsSize}
 use Rattle.xterm_term.specs.Term.{Term, play, reset_term}
 use Rattle.xterm_term.specs.declared.measure.Size.{Size}
 
@@ -38,6 +44,11 @@ pub changes_of_size : (size : Size) (tape : Tape) (from : Option ℕ) (to : ℕ)
     → changes_of (Today (Some (measure_of size))) tape from to ≡ change_lines size tape from to
 unfolding changes_of change_lines today_lines asked_texts
 changes_of_size size tape from to = ap (λ m. today_lines m tape from to) (size_stays size tape)
+
+pub found_of_size : (size : Size) (tape : Tape) (from : Option ℕ) (to : ℕ) (text : List ℕ)
+    → found_of (Today (Some (measure_of size))) tape from to text ≡ find_lines size tape from to text
+unfolding found_of find_lines lines_found all_found found_from found_in
+found_of_size size tape from to text = ap (λ m. lines_found today_shown m tape from to text) (size_stays size tape)
 
 -- a size that a recording settles
 module _ (size : Size) (asked : Option Measure) (tape : Tape) (e : measure_of size ≡ played_size asked tape) where
@@ -62,3 +73,62 @@ module _ (size : Size) (asked : Option Measure) (tape : Tape) (e : measure_of si
       → changes_of (Today (Some (measure_of size))) tape from to ≡ changes_of (Today asked) tape from to
   unfolding changes_of
   changes_settled from to = ap (λ m. today_lines m tape from to) same_size
+
+  pub found_settled : (from : Option ℕ) (to : ℕ) (text : List ℕ)
+      → found_of (Today (Some (measure_of size))) tape from to text ≡ found_of (Today asked) tape from to text
+  unfolding found_of
+  found_settled from to text = ap (λ m. lines_found today_shown m tape from to text) same_size
+
+  pub settled_size : settled (Today asked) tape ≡ Today (Some (measure_of size))
+  settled_size = ap (λ m. Today (Some m)) (sym e)
+
+-- ---- any size that is settled is one of a terminal
+
+is_some : (b : Bool) (m got : Measure) → (if b then Some m else None) ≡ Some got → b ≡ is_size m → is_size got ≡ true
+is_some true m got e is = subst (λ g. is_size g ≡ true) (ap (λ (o : Option Measure). unwrap_or o m) e) (sym is)
+is_some false m got e is = absurd (cc)
+
+within_fits : (asked : Option Measure) (got : Measure) → within asked ≡ Some got → is_size got ≡ true
+within_fits None got e = absurd (cc)
+within_fits (Some m) got e = is_some (is_size m) m got e refl
+
+either_fits : (one other : Option Measure) → ((m : Measure) → one ≡ Some m → is_size m ≡ true)
+    → ((m : Measure) → other ≡ Some m → is_size m ≡ true) → is_size (unwrap_or (option_or one other) usual_measure) ≡ true
+either_fits (Some m) other f g = f m refl
+either_fits None (Some m) f g = g m refl
+either_fits None None f g = refl
+
+sound_size : (m : Measure) → is_size m ≡ true → IsSize m.columns m.lines
+sound_size m e = record {
+  columns_low = grind (arith, nat_tests);
+  columns_high = grind (arith, nat_tests);
+  lines_low = grind (arith, nat_tests);
+  lines_high = grind (arith, nat_tests);
+}
+
+size_played : (asked : Option Measure) (tape : Tape) → (size : Size) × (measure_of size ≡ played_size asked tape)
+size_played asked tape =
+    let m = played_size asked tape in (
+      record {
+        columns = m.columns;
+        lines = m.lines;
+        sound = sound_size m (either_fits (within asked) (within (told_measure tape)) (within_fits asked) (within_fits (told_measure tape)));
+      },
+      refl,
+    )
+
+-- where no line is written, of whichever terminal, the text stands nowhere
+module _ (on_vt : NowhereOnVt) (on_today : NowhereOnToday) where
+  nowhere_today : (size : Size) (m : Measure) (tape : Tape) (from : Option ℕ) (to : ℕ) (text : List ℕ) → measure_of size ≡ m
+      → has_ink text ≡ true → lines_found today_shown m tape from to text ≡ [] → NowhereOn today_shown m tape from to text
+  unfolding find_lines lines_found all_found found_from found_in
+  nowhere_today size m tape from to text is ink none =
+      let law = on_today size tape from to text ink (ap (λ s. lines_found today_shown s tape from to text) is ∙ none) in
+      subst (λ s. NowhereOn today_shown s tape from to text) is (record { start = law.start; within = law.within })
+
+  pub nowhere_for : NowhereMeansNowhere
+  unfolding found_of
+  nowhere_for (Vt profile) tape from to text ink none = on_vt profile tape from to text ink none
+  nowhere_for (Today asked) tape from to text ink none =
+      let played = size_played asked tape in
+      nowhere_today played.0 (played_size asked tape) tape from to text played.1 ink none

@@ -1,6 +1,5 @@
 -- What taking a text out of a pair of files comes to, and how it ends.
 use Rattle.std.proofs.Common.{◌≡◌, ◌≢◌, ◌⊎◌, ℕ, Bool, true, false, List, refl, sym, ap, ◌∙◌, subst, inl, inr, length, nat_lt, ◌||◌, Option, None, Some, Result, Ok, Err}
-use Rattle.screen_print.specs.EachByte.{NowhereMeansNowhere, StandsNowhere}
 use Rattle.tape_check.specs.Lines.{note_line}
 use Rattle.tape_core.specs.Devices.{Took, has_written, inner_of}
 use Rattle.tape_core.specs.Faults.{is_stop}
@@ -17,15 +16,14 @@ use Rattle.tape_jobs.specs.Endings.{AsksNothing, Device, HasFailed, TookBoth, To
 use Rattle.tape_jobs.specs.Mending.{IsRead, Pair}
 use Rattle.tape_jobs.specs.Notes.{IsTold, is_write_fault}
 use Rattle.tape_jobs.specs.Output.{IsDoneStatus, done_redacting, done_with, ending_of_redact, is_fit, lines_left, outcome_in, status_after, without_text}
-use Rattle.tape_jobs.specs.Player.{played_of}
+use Rattle.tape_jobs.specs.Player.{NowhereFor, NowhereMeansNowhere, played_of, settled}
 use Rattle.tape_jobs.specs.Redacting.{FourEnd, IsUntold, OnRecording, RedactEnds, StoppedInFour, TookFour}
 use Rattle.tape_jobs.specs.declared.job.Ending.{Ending}
 use Rattle.tape_jobs.specs.declared.job.Ending.TheVariants.{Clean, WithRefusals, WithNotes, WithLosses, WithNothing, WithTraces}
 use Rattle.command_line.specs.declared.job.Job.TheVariants.{Redact}
 use Rattle.tape_jobs.specs.declared.job.JobFault.{JobFault}
 use Rattle.tape_jobs.specs.declared.job.JobFault.TheVariants.{File, Memory}
-use Rattle.command_line.specs.declared.player.Player.TheVariants.{Vt}
-use Rattle.vt_term.specs.declared.profile.Profile.{Profile}
+use Rattle.command_line.specs.declared.player.Player.{Player}
 
 -- where a redaction has status 0, no find line was written
 unfound : (fit found : Bool) → status_after (ending_of_redact fit found) ≡ 0 → found ≡ false
@@ -39,51 +37,51 @@ write_fault fault.WriteFault e = refl
 write_fault _ e = absurd (cc)
 
 -- how a job ends has status 0 or 1
-pub done_status : (profile : Profile) (ending : Ending) → IsDoneStatus (Redact profile) (status_after ending)
-done_status profile Clean = inl refl
-done_status profile WithRefusals = inr refl
-done_status profile WithNotes = inr refl
-done_status profile WithLosses = inr refl
-done_status profile WithNothing = inr refl
-done_status profile WithTraces = inr refl
+pub done_status : (player : Player) (ending : Ending) → IsDoneStatus (Redact player) (status_after ending)
+done_status player Clean = inl refl
+done_status player WithRefusals = inr refl
+done_status player WithNotes = inr refl
+done_status player WithLosses = inr refl
+done_status player WithNothing = inr refl
+done_status player WithTraces = inr refl
 
 -- whether a writer that had taken nothing has taken a byte of a text
 wrote_some : {W : Type 0} (contents : W → Option (List ℕ)) (old new : Watched W) (text : List ℕ) → has_written old ≡ false
     → Took contents old new text → has_written new ≡ nat_lt 0 (length text)
 wrote_some contents old new text unwritten took = took.written ∙ ap (λ b. b || nat_lt 0 (length text)) unwritten
 
-module _ (profile : Profile) (text : List ℕ) (tape : Tape) where
+module _ (player : Player) (text : List ℕ) (tape : Tape) where
   -- how it ends, by what was written of the find lines
   pub ends_so : {W : Type 0} (contents : W → Option (List ℕ)) (old new : Watched W) (ending : Ending) (fit : Bool)
       → ending ≡ ending_of_redact fit (has_written new) → fit ≡ is_fit text tape → has_written old ≡ false
-      → Took contents old new (lines_left profile text tape)
-      → outcome_in (Redact profile) (Ok ending) ≡ (done_redacting profile text tape).outcome
+      → Took contents old new (lines_left player text tape)
+      → outcome_in (Redact player) (Ok ending) ≡ (done_redacting player text tape).outcome
   ends_so contents old new ending fit is well unwritten took =
-      ap (λ e. outcome_in (Redact profile) (Ok e)) (is ∙ ap (λ b. ending_of_redact b (has_written new)) well
-      ∙ ap (ending_of_redact (is_fit text tape)) (wrote_some contents old new (lines_left profile text tape) unwritten took))
+      ap (λ e. outcome_in (Redact player) (Ok e)) (is ∙ ap (λ b. ending_of_redact b (has_written new)) well
+      ∙ ap (ending_of_redact (is_fit text tape)) (wrote_some contents old new (lines_left player text tape) unwritten took))
 
   -- both files, of a recording that is the one without the text
   module _ {O P : Type 0} (writers : Writers O P) (made : Tape) (same : made ≡ without_text text tape) where
-    pub took_pair : TookBoth writers (done_with (script_text made) (timing_text made)) → TookBoth writers (done_redacting profile text tape)
+    pub took_pair : TookBoth writers (done_with (script_text made) (timing_text made)) → TookBoth writers (done_redacting player text tape)
     took_pair took = record {
       text = subst (λ t. Took writers.out.bytes writers.out.old writers.out.new (script_text t)) same took.text;
       timing = subst (λ t. Took writers.out_timing.bytes writers.out_timing.old writers.out_timing.new (timing_text t)) same took.timing;
     }
 
     pub stopped_pair : TookPartOfBoth writers (done_with (script_text made) (timing_text made)) true
-        → TookPartOfBoth writers (done_redacting profile text tape) true
+        → TookPartOfBoth writers (done_redacting player text tape) true
     stopped_pair stopped =
         subst (λ t. TookPartOfBoth writers (done_with (script_text t) (timing_text t)) true) same stopped
 
 module _ {S T O P L F N : Type 0} (pair : Pair S T) (writers : Writers O P) (told : Device L) (found : Device F) (notes : Device N)
-    (profile : Profile) (text : List ℕ) where
+    (player : Player) (text : List ℕ) where
   -- a pair that isn't read
   pub redact_unread : (f : Fault)
       → (is_stop f ≡ false → (s t : List ℕ) → pair.script.bytes (inner_of pair.script.old) ≡ Some s
       → pair.timing.bytes (inner_of pair.timing.old) ≡ Some t → fault_of s t ≡ Some f)
       → (f ≢ fault.ReadFault → IsRead pair) → (f ≡ fault.ReadFault → HasFailed pair.script ⊎ HasFailed pair.timing)
       → f ≢ fault.WriteFault → IsUntold writers told found → AsksNothing notes
-      → RedactEnds pair writers told found notes profile text (outcome_in (Redact profile) (Err (File f)))
+      → RedactEnds pair writers told found notes player text (outcome_in (Redact player) (Err (File f)))
   redact_unread f faulty read failed other silent unasked = record {
     done = λ e. absurd (cc);
     refused = λ e.
@@ -106,19 +104,19 @@ module _ {S T O P L F N : Type 0} (pair : Pair S T) (writers : Writers O P) (tol
   module _ (tape : Tape)
       (on : (s t : List ℕ) → pair.script.bytes (inner_of pair.script.old) ≡ Some s
       → pair.timing.bytes (inner_of pair.timing.old) ≡ Some t → reads s t tape)
-      (read : IsRead pair) (note : IsTold notes.bytes notes.old notes.new (note_line (played_of (Vt profile) tape) tape)) where
+      (read : IsRead pair) (note : IsTold notes.bytes notes.old notes.new (note_line (played_of player tape) tape)) where
     on_recording : (Is : Tape → Type 0) → Is tape → OnRecording pair Is
     on_recording Is is = λ s t held held_timing. (tape, on s t held held_timing, is)
 
-    on_note : OnRecording pair (λ x. IsTold notes.bytes notes.old notes.new (note_line (played_of (Vt profile) x) x))
-    on_note = on_recording (λ x. IsTold notes.bytes notes.old notes.new (note_line (played_of (Vt profile) x) x)) note
+    on_note : OnRecording pair (λ x. IsTold notes.bytes notes.old notes.new (note_line (played_of player x) x))
+    on_note = on_recording (λ x. IsTold notes.bytes notes.old notes.new (note_line (played_of player x) x)) note
 
-    for_memory : StoppedInFour writers told found profile text tape false
-        → RedactEnds pair writers told found notes profile text (outcome_in (Redact profile) (Err Memory))
+    for_memory : StoppedInFour writers told found player text tape false
+        → RedactEnds pair writers told found notes player text (outcome_in (Redact player) (Err Memory))
     for_memory stopped = record {
       done = λ e. absurd (cc);
       refused = λ e. absurd (cc);
-      memory = λ _. (read, on_recording (λ x. StoppedInFour writers told found profile text x false) stopped);
+      memory = λ _. (read, on_recording (λ x. StoppedInFour writers told found player text x false) stopped);
       reading = λ e. absurd (cc);
       reader = λ e. absurd (cc);
       writer = λ e. absurd (cc);
@@ -128,29 +126,29 @@ module _ {S T O P L F N : Type 0} (pair : Pair S T) (writers : Writers O P) (tol
       silent = λ e. absurd (cc);
     }
 
-    at_writer : StoppedInFour writers told found profile text tape true
-        → RedactEnds pair writers told found notes profile text (outcome_in (Redact profile) (Err (File fault.WriteFault)))
+    at_writer : StoppedInFour writers told found player text tape true
+        → RedactEnds pair writers told found notes player text (outcome_in (Redact player) (Err (File fault.WriteFault)))
     at_writer stopped = record {
       done = λ e. absurd (cc);
       refused = λ e. absurd (cc);
       memory = λ e. absurd (cc);
       reading = λ e. absurd (cc);
       reader = λ e. absurd (cc);
-      writer = λ _. (read, on_recording (λ x. StoppedInFour writers told found profile text x true) stopped);
+      writer = λ _. (read, on_recording (λ x. StoppedInFour writers told found player text x true) stopped);
       status = refl;
       nowhere = λ e. absurd (cc);
       noted = λ _. on_note;
       silent = λ e. absurd (cc);
     }
 
-    pub redact_written : (r : Result Ending JobFault) → FourEnd writers told found profile text tape r → NowhereMeansNowhere
-        → RedactEnds pair writers told found notes profile text (outcome_in (Redact profile) r)
+    pub redact_written : (r : Result Ending JobFault) → FourEnd writers told found player text tape r → NowhereMeansNowhere
+        → RedactEnds pair writers told found notes player text (outcome_in (Redact player) r)
     redact_written (Ok ending) (took, flushed, same) law = record {
       done = λ _. (
         read,
         flushed,
         on_recording
-            (λ x. (outcome_in (Redact profile) (Ok ending) ≡ (done_redacting profile text x).outcome) × TookFour writers told found profile text x)
+            (λ x. (outcome_in (Redact player) (Ok ending) ≡ (done_redacting player text x).outcome) × TookFour writers told found player text x)
             (same, took),
       );
       refused = λ e. absurd (cc);
@@ -158,18 +156,18 @@ module _ {S T O P L F N : Type 0} (pair : Pair S T) (writers : Writers O P) (tol
       reading = λ e. absurd (cc);
       reader = λ e. absurd (cc);
       writer = λ e. absurd (cc);
-      status = done_status profile ending;
+      status = done_status player ending;
       nowhere = λ e ink.
           let clean = sym (ap (λ o. o.status) same) ∙ e in
-          let none = no_text (lines_left profile text tape) (unfound _ _ clean) in
-          on_recording (λ x. StandsNowhere profile (without_text text x) None last_moment text)
-          (law profile (without_text text tape) None last_moment text ink none);
+          let none = no_text (lines_left player text tape) (unfound _ _ clean) in
+          on_recording (λ x. NowhereFor (settled player x) (without_text text x) None last_moment text)
+          (law (settled player tape) (without_text text tape) None last_moment text ink none);
       noted = λ _. on_note;
       silent = λ e. absurd (cc);
     }
     redact_written (Err f) ends law = elim ends [
       | inl (e, stopped) ↦
-          subst (λ g. RedactEnds pair writers told found notes profile text (outcome_in (Redact profile) (Err g))) (sym e) (for_memory stopped)
+          subst (λ g. RedactEnds pair writers told found notes player text (outcome_in (Redact player) (Err g))) (sym e) (for_memory stopped)
       | inr (e, stopped) ↦
-          subst (λ g. RedactEnds pair writers told found notes profile text (outcome_in (Redact profile) (Err g))) (sym e) (at_writer stopped)
+          subst (λ g. RedactEnds pair writers told found notes player text (outcome_in (Redact player) (Err g))) (sym e) (at_writer stopped)
     ]

@@ -13,7 +13,7 @@
 use Rattle.std.specs.Prelude.{◌≡◌, ℕ, ◌⊎◌, Bool, true, false, List, Option, Some, None, MatchOption, Result, MatchResult, Ok, not}
 use Rattle.chunk_walk.specs.declared.stop.WalkFault.{WalkFault}
 use Rattle.chunk_walk.specs.declared.stop.WalkFault.TheVariants as walk
-use Rattle.screen_print.specs.EachByte.{StandsNowhere, has_ink}
+use Rattle.screen_print.specs.EachByte.{has_ink}
 use Rattle.screen_print.specs.declared.walk.ChangesFault.{ChangesFault}
 use Rattle.screen_print.specs.declared.walk.ChangesFault.TheVariants as changes
 use Rattle.tape_check.specs.declared.check.CheckFault.{CheckFault}
@@ -25,12 +25,13 @@ use Rattle.tape_core.specs.Tape.{Tape}
 use Rattle.tape_core.specs.declared.fault.Fault.TheVariants as fault
 use Rattle.tape_jobs.specs.Output.{Comes, Done, Files, IsDoneStatus, TakesMemory, is_stopped, outcome_by, refused_in, status_after, status_in, takes_requests, writes_last, writes_timing}
 use Rattle.tape_jobs.specs.declared.job.Ending.{Ending}
+use Rattle.tape_jobs.specs.Player.{NowhereFor}
 use Rattle.command_line.specs.declared.job.Job.{Job}
 use Rattle.command_line.specs.declared.job.Job.TheVariants.{Find}
+use Rattle.command_line.specs.declared.player.Player.{Player}
 use Rattle.tape_jobs.specs.declared.job.JobFault.{JobFault}
 use Rattle.tape_jobs.specs.declared.job.JobFault.TheVariants.{File, Memory}
 use Rattle.tape_jobs.specs.declared.job.Outcome.{Outcome}
-use Rattle.vt_term.specs.declared.profile.Profile.{Profile}
 
 -- ---- readers and writers
 
@@ -259,7 +260,7 @@ pub record RunEnds {S T R O P : Type 0} (readers : Readers S T R) (writers : Wri
 -- where it is done with status 1, the files are read as a recording in which the text stands nowhere: not at the moment
 -- `from`, and not after any byte of a chunk that is asked for (ours)
 abbrev pub NothingIsNowhere : {S T R : Type 0} → Readers S T R → Job → Outcome → Type 0
-NothingIsNowhere readers job outcome = (profile : Profile) (from : Option ℕ) (to : ℕ)
-    → job ≡ Find from to profile → has_ink readers.text ≡ true → outcome.fault ≡ None → outcome.status ≡ 1
+NothingIsNowhere readers job outcome = (player : Player) (from : Option ℕ) (to : ℕ)
+    → job ≡ Find from to player → has_ink readers.text ≡ true → outcome.fault ≡ None → outcome.status ≡ 1
     → (files : Files) → HoldFiles readers job files
-    → (tape : Tape) × reads files.script files.timing tape × StandsNowhere profile tape from to readers.text
+    → (tape : Tape) × reads files.script files.timing tape × NowhereFor player tape from to readers.text

@@ -15,7 +15,6 @@ use Rattle.command_line.specs.declared.job.Job.TheVariants.{Screen, Picture, Cha
 use Rattle.tape_jobs.specs.declared.job.JobFault.{JobFault}
 use Rattle.tape_jobs.specs.declared.job.JobFault.TheVariants.{File}
 use Rattle.command_line.specs.declared.player.Player.{Player}
-use Rattle.command_line.specs.declared.player.Player.TheVariants.{Vt}
 use Rattle.command_line.specs.declared.player.Print.{Print}
 use Rattle.command_line.specs.declared.player.Print.TheVariants.{Plain, Escaped}
 
@@ -29,11 +28,11 @@ abbrev pub played_by : Job → Option Player
 played_by (Screen at print) = Some (player_of print)
 played_by (Picture at player) = Some player
 played_by (Changes from to player) = Some player
-played_by (Find from to profile) = Some (Vt profile)
+played_by (Find from to player) = Some player
 played_by (Reports at player) = Some player
 played_by (Page player) = Some player
 played_by (Cast player) = Some player
-played_by (Redact profile) = Some (Vt profile)
+played_by (Redact player) = Some player
 played_by (Session every player) = Some player
 played_by _ = None
 

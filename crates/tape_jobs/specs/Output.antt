@@ -1,6 +1,5 @@
 -- What a job comes to: a function of its files, with no device and no want of memory in it.
 use Rattle.std.specs.Prelude.{◌≡◌, ℕ, ◌⊎◌, ◌==◌, ◌&&◌, Bool, true, false, not, List, [], length, nat_lt, encode_utf8_all, Option, Some, None, MatchOption, Result, Ok, Err, if◌then◌else◌}
-use Rattle.screen_print.specs.EachByte.{find_lines}
 use Rattle.tape_check.specs.Header.{told_size}
 use Rattle.tape_check.specs.Lines.{check_text, is_noted}
 use Rattle.tape_check.specs.Trailer.{is_usual}
@@ -16,12 +15,12 @@ use Rattle.tape_mend.specs.Mended.{Remains, mended, seen}
 use Rattle.tape_mend.specs.Told.{is_damaged}
 use Rattle.tape_mend.specs.declared.opening.Header.{Header}
 use Rattle.tape_redact.specs.Recording.{taken_out, without}
-use Rattle.vt_term.specs.declared.profile.Profile.{Profile}
 use Rattle.vt_term.specs.declared.profile.Profile.TheVariants.{Vt100}
 use Rattle.tape_seek.specs.declared.edits.EditFault.{EditFault}
 use Rattle.tape_jobs.specs.Info.{info_text}
 use Rattle.tape_jobs.specs.Moment.{drawn_at, printed_at, sent_at}
-use Rattle.tape_jobs.specs.Player.{cast_of, changes_of, page_of, played_of, settled}
+use Rattle.tape_jobs.specs.Player.{cast_of, changes_of, found_of, page_of, played_of, settled}
+use Rattle.command_line.specs.declared.player.Player.{Player}
 use Rattle.command_line.specs.declared.player.Player.TheVariants.{Vt}
 use Rattle.tape_jobs.specs.Requests.{saved, started}
 use Rattle.tape_jobs.specs.Session.{answered, any_refused}
@@ -56,7 +55,7 @@ takes_requests _ = false
 abbrev pub writes_timing : Job → Bool
 writes_timing Save = true
 writes_timing (Mend how) = true
-writes_timing (Redact profile) = true
+writes_timing (Redact player) = true
 writes_timing _ = false
 
 -- which line a job takes as the header that mends a pair of files, if it does; the others read a recording (ours)
@@ -77,8 +76,8 @@ refused_with f =
 -- whether the status of a job is an answer: then 1 says that nothing was found, and each fault has status 3 (as of
 -- grep(1), which has 2)
 abbrev pub answers_by_status : Job → Bool
-answers_by_status (Find from to profile) = true
-answers_by_status (Redact profile) = true
+answers_by_status (Find from to player) = true
+answers_by_status (Redact player) = true
 answers_by_status _ = false
 
 -- what this job comes to at such a fault (ours)
@@ -148,9 +147,10 @@ without_text text tape = without (encode_utf8_all text) tape
 abbrev pub count_of_text : List ℕ → Tape → ℕ
 count_of_text text tape = taken_out (encode_utf8_all text) tape
 
--- where the text stands on the screen of the new recording all the same: typed with corrections, or drawn in parts (ours)
-abbrev pub lines_left : Profile → List ℕ → Tape → List ℕ
-lines_left profile text tape = find_lines profile (without_text text tape) None last_moment text
+-- where the text stands on the screen of the new recording all the same, typed with corrections, or drawn in parts: at
+-- the size that the old one settles (ours)
+abbrev pub lines_left : Player → List ℕ → Tape → List ℕ
+lines_left player text tape = found_of (settled player tape) (without_text text tape) None last_moment text
 
 -- whether two headers tell the same size, or neither does (ours)
 abbrev pub is_same_size : Option (ℕ × ℕ) → Option (ℕ × ℕ) → Bool
@@ -167,12 +167,12 @@ is_fit text tape =
     nat_lt 0 (count_of_text text tape) && (is_same_size (told_size tape) (told_size made) && is_usual made.trailer)
 
 -- what `redact` comes to: both files anew without the text, and whether that is all there was of it (ours)
-abbrev pub done_redacting : Profile → List ℕ → Tape → Done
-done_redacting profile text tape = record {
+abbrev pub done_redacting : Player → List ℕ → Tape → Done
+done_redacting player text tape = record {
   text = script_text (without_text text tape);
   timing = timing_text (without_text text tape);
   outcome = record {
-    status = status_after (ending_of_redact (is_fit text tape) (is_some_text (lines_left profile text tape)));
+    status = status_after (ending_of_redact (is_fit text tape) (is_some_text (lines_left player text tape)));
     fault = None;
   };
 }
@@ -190,15 +190,15 @@ done_on (Check player) tape requests text =
 done_on (Screen at print) tape requests text = done_with (printed_at print tape at) []
 done_on (Picture at player) tape requests text = done_with (drawn_at player tape at) []
 done_on (Changes from to player) tape requests text = done_with (changes_of player tape from to) []
-done_on (Find from to profile) tape requests text =
-    let lines = find_lines profile tape from to text in
+done_on (Find from to player) tape requests text =
+    let lines = found_of player tape from to text in
     done_ending lines (ending_of_find (is_some_text lines))
 done_on (Reports at player) tape requests text = done_with (sent_at player tape at) []
 done_on (Page player) tape requests text = done_with (page_of text player tape) []
 done_on (Cast player) tape requests text = done_with (cast_of player tape) []
 done_on Save tape requests text = saved_by tape requests
 done_on (Mend how) tape requests text = done_with (script_text tape) (timing_text tape)
-done_on (Redact profile) tape requests text = done_redacting profile text tape
+done_on (Redact player) tape requests text = done_redacting player text tape
 done_on (Session every player) tape requests text =
     let start = started (settled player tape) tape in
     done_ending (answered start (lines_of requests)) (ending_by (any_refused start (lines_of requests)))
@@ -227,7 +227,7 @@ TakesMemory _ = Unit {0}
 -- the jobs that take all their memory before they write anything: the others write as they go (ours)
 abbrev pub writes_last : Job → Bool
 writes_last (Changes from to player) = false
-writes_last (Find from to profile) = false
+writes_last (Find from to player) = false
 writes_last (Page player) = false
 writes_last (Cast player) = false
 writes_last (Session every player) = false
@@ -256,8 +256,8 @@ abbrev pub IsDoneStatus : Job → ℕ → Type 0
 IsDoneStatus (Session every player) status = (status ≡ 0) ⊎ (status ≡ 1)
 IsDoneStatus (Check player) status = (status ≡ 0) ⊎ (status ≡ 1)
 IsDoneStatus (Mend how) status = (status ≡ 0) ⊎ (status ≡ 1)
-IsDoneStatus (Find from to profile) status = (status ≡ 0) ⊎ (status ≡ 1)
-IsDoneStatus (Redact profile) status = (status ≡ 0) ⊎ (status ≡ 1)
+IsDoneStatus (Find from to player) status = (status ≡ 0) ⊎ (status ≡ 1)
+IsDoneStatus (Redact player) status = (status ≡ 0) ⊎ (status ≡ 1)
 IsDoneStatus _ status = status ≡ 0
 
 -- the status of the program where a job isn't done: 3 where a device or want of memory stopped it, and else 1 (ours)

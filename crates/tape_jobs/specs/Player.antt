@@ -1,10 +1,12 @@
 -- Which terminal plays a recording, and of which size.
-use Rattle.std.specs.Prelude.{ℕ, List, unwrap_or, Option, Some, None}
+use Rattle.std.specs.Prelude.{◌≡◌, ℕ, List, [], true, unwrap_or, Option, Some, None}
 use Rattle.std.specs.Option.{option_map, option_or}
 use Rattle.output_cast.specs.Cast.{cast_text as output_text}
 use Rattle.screen_cast.specs.Cast.{cast_text}
 use Rattle.screen_page.specs.Page.{page_text}
 use Rattle.screen_print.specs.ChangeLines.{change_lines}
+use Rattle.screen_print.specs.EachByte.{StandsNowhere, find_lines, has_ink}
+use Rattle.standings.specs.Rows.{Row}
 use Rattle.tape_check.specs.Header.{told_size}
 use Rattle.tape_check.specs.declared.played.PlayedAs.{PlayedAs}
 use Rattle.tape_check.specs.declared.played.PlayedAs.TheVariants as played
@@ -13,7 +15,9 @@ use Rattle.tape_core.specs.Tape.{Tape}
 use Rattle.xterm_term.specs.declared.measure.Size.{Size}
 use Rattle.xterm_term.specs.Term.{Term, reset_term, play}
 use Rattle.xterm_page.specs.Page.{page_text as today_page}
+use Rattle.text_find.specs.FindLines.{NowhereOn, lines_found}
 use Rattle.xterm_print.specs.ChangeLines.{changed_lines}
+use Rattle.xterm_print.specs.FindRows.{rows_read}
 use Rattle.sheet.specs.Cells.{Cell}
 use Rattle.chunk_walk.specs.ChangeLine.{change_line}
 use Rattle.chunk_walk.specs.Walk.{asked_texts}
@@ -89,6 +93,26 @@ today_lines size tape from to = asked_texts today_change size tape from to
 unfoldable pub changes_of : Player → Tape → Option ℕ → ℕ → List ℕ
 changes_of (Vt profile) tape from to = change_lines profile tape from to
 changes_of (Today asked) tape from to = today_lines (played_size asked tape) tape from to
+
+-- the rows of such a terminal, as a text is looked for in them
+abbrev pub today_shown : Measure → List ℕ → List Row
+today_shown size bytes = rows_read size.lines (today_rows size bytes)
+
+-- where a text stands on the screen, and at which chunks it comes, goes, or does both (ours)
+unfoldable pub found_of : Player → Tape → Option ℕ → ℕ → List ℕ → List ℕ
+found_of (Vt profile) tape from to text = find_lines profile tape from to text
+found_of (Today asked) tape from to text = lines_found today_shown (played_size asked tape) tape from to text
+
+-- a text stands nowhere: not at the moment `from`, and not after any byte of a chunk that is asked for (ours)
+abbrev pub NowhereFor : Player → Tape → Option ℕ → ℕ → List ℕ → Type 0
+NowhereFor (Vt profile) tape from to text = StandsNowhere profile tape from to text
+NowhereFor (Today asked) tape from to text = NowhereOn today_shown (played_size asked tape) tape from to text
+
+-- Private: where no line is written, it stands nowhere (ours)
+abbrev pub NowhereMeansNowhere : Type 0
+NowhereMeansNowhere =
+    (player : Player) (tape : Tape) (from : Option ℕ) (to : ℕ) (text : List ℕ) → has_ink text ≡ true
+    → found_of player tape from to text ≡ [] → NowhereFor player tape from to text
 
 -- a recording as a page with a title: what a VT or a terminal of today shows (ours)
 unfoldable pub page_of : List ℕ → Player → Tape → List ℕ

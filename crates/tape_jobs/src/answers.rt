@@ -37,7 +37,7 @@ pub trait Answers: Plays {
     ghost use Rattle.tape_core.specs.Devices.{has_failed, is_flushed};
     ghost use Rattle.tape_jobs.specs.Endings.{JobPuts};
     ghost use Rattle.tape_jobs.specs.Moment.{told_at};
-    ghost use Rattle.tape_jobs.specs.Player.{changes_of};
+    ghost use Rattle.tape_jobs.specs.Player.{changes_of, found_of};
     ghost use Rattle.tape_jobs.specs.Requests.{course_of};
     ghost use Rattle.command_line.specs.declared.player.Player.{Player as Played};
 
@@ -69,6 +69,22 @@ pub trait Answers: Plays {
         requires { has_failed out.old ≡ false }
         ensures puts { JobPuts O.contents out.old out.new
             (changes_of (player session.old.profile) session.old.recording from to) result }
+        ensures flushed { OnOk result (is_flushed out.new ≡ true) }
+        ensures stays { course_of player session.new ≡ course_of player session.old };
+
+    /// Writes the find lines of a text at the moment `from`, and of the chunks that are due after it (None: from chunk 0 on)
+    /// and by `to`, and flushes. Where memory is refused, a beginning of them has gone out.
+    fn put_found<O: Write>(
+        alloc: Global,
+        session: &mut Session<Self>,
+        from: Option<u64>,
+        to: u64,
+        text: &[char],
+        out: &mut Watched<O>,
+    ) -> Result<(), JobFault>
+        requires { has_failed out.old ≡ false }
+        ensures puts { JobPuts O.contents out.old out.new
+            (found_of (player session.old.profile) session.old.recording from to text.now) result }
         ensures flushed { OnOk result (is_flushed out.new ≡ true) }
         ensures stays { course_of player session.new ≡ course_of player session.old };
 }

@@ -291,16 +291,16 @@ fn perform<O: Write, P: Write>(
         Job::Changes { from, to, player } => {
             write_changes(alloc, recording, player, from, to, out)?
         }
-        Job::Find { from, to, profile } => {
-            return write_found(alloc, recording, profile, from, to, text, out);
+        Job::Find { from, to, player } => {
+            return write_found(alloc, recording, player, from, to, text, out);
         }
         Job::Reports { at, player } => write_reports(alloc, recording, player, at, out)?,
         Job::Page { player } => write_page(alloc, recording, player, text, out)?,
         Job::Cast { player } => write_cast(alloc, recording, player, out)?,
         Job::Save => return write_edited(alloc, recording, &requests, out, out_timing),
         Job::Mend { .. } => unreachable!(),
-        Job::Redact { profile } => {
-            return write_redacted(alloc, recording, profile, text, out, out_timing);
+        Job::Redact { player } => {
+            return write_redacted(alloc, recording, player, text, out, out_timing);
         }
         Job::Session { every, player } => {
             return write_answers(alloc, recording, player, every, &requests, out);

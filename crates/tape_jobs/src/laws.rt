@@ -3,13 +3,13 @@
 ghost use Rattle.std.specs.Prelude.{◌≡◌, ◌++◌, ◌∷◌, [], ℕ, Bool, List, None, Option, Some, codes, false};
 ghost use Rattle.tape_core.specs.Devices.{Took, has_failed};
 ghost use Rattle.tape_core.specs.declared.devices.Watched.{Watched};
+ghost use Rattle.tape_jobs.specs.Player.{NowhereMeansNowhere};
 ghost use Rattle.tape_jobs.specs.Endings.{NothingIsNowhere, Readers, RunEnds, StopsIn, Writers};
 ghost use Rattle.command_line.specs.declared.job.Job.{Job};
 ghost use Rattle.tape_jobs.specs.declared.job.Outcome.{Outcome};
 ghost use Rattle.tape_jobs.specs.declared.job.JobFault.{JobFault};
 ghost use Rattle.tape_jobs.specs.declared.job.JobFault.TheVariants.{Memory};
 
-use screen_print::laws::nowhere_means_nowhere;
 use std::io::{Read, Write};
 
 /// What has gone out of texts one after another, where a job stops before them, in the first or in the second.
@@ -21,6 +21,15 @@ pub fn stops_join<W: Write>()
     ensures in_second { (a b c : Watched W) (x y : List ℕ) (f : JobFault)
         → StopsIn W.contents b c y f → Took W.contents a b x → StopsIn W.contents a c (x ++ y) f }
 {}
+
+/// Where no line of a text is written, of whichever terminal, it stands nowhere: not at the moment `from`, and not after
+/// any byte of a chunk that is asked for.
+pub fn nowhere_means_nowhere()
+    ensures { NowhereMeansNowhere }
+{
+    screen_print::laws::nowhere_means_nowhere();
+    xterm_print::laws::nowhere_means_nowhere();
+}
 
 /// Nowhere means nowhere: where a search is done with status 1, its text stands nowhere on the screen, neither at the moment
 /// `from` nor after any byte of a chunk that is asked for.

@@ -24,7 +24,6 @@ stop_status (Words words.BadSeconds) = 2
 stop_status (Words words.BadEvery) = 2
 stop_status (Words words.BadProfile) = 2
 stop_status (Words words.BadSize) = 2
-stop_status (Words words.NotPlayed) = 2
 stop_status (Words words.BadText) = 2
 stop_status (Words words.BothHeaders) = 2
 stop_status (Words words.Memory) = 3

@@ -60,7 +60,6 @@ fn status_of(stop: &Stop) -> u8
             | WordsFault::BadEvery
             | WordsFault::BadProfile
             | WordsFault::BadSize
-            | WordsFault::NotPlayed
             | WordsFault::BadText
             | WordsFault::BothHeaders,
         )

@@ -14,13 +14,12 @@ use crate::files::open;
 use crate::hints::{Device, Hint, first_failed, hint_at_end};
 use crate::pair::{New, NewPair, create_pair};
 use crate::program::Stop;
-use command_line::{Job, Words};
+use command_line::{Job, Player, Words};
 use std::io;
 use std::rt::Files;
 use tape_core::{Fault, Watched};
 use tape_jobs::{JobFault, Outcome, mend, redact, run, run_with};
 use tape_mend::Header;
-use vt_term::Profile;
 
 /// The paths of a command line, in its order.
 const SCRIPT: Device = Device::File(0);
@@ -79,11 +78,11 @@ pub fn open_and_run<R: Files + Input + Print + AllocGlobal>(
             let ran = mend_into(rt, header, &mut sources, pair)?;
             Ok(ended_by(job, ran, sources))
         }
-        Job::Redact { profile } => {
+        Job::Redact { player } => {
             let paths = (words.paths[2].as_str(), words.paths[3].as_str());
             let pair = create_pair(rt, paths, (&script, &timing))?;
             let mut sources = Sources::new(script, timing);
-            let ran = redact_into(rt, profile, text, &mut sources, pair)?;
+            let ran = redact_into(rt, player, text, &mut sources, pair)?;
             Ok(ended_by(job, ran, sources))
         }
         Job::Session { .. } => {
@@ -271,7 +270,7 @@ fn mend_into<R: Files + Print + AllocGlobal>(
 /// it still stands.
 fn redact_into<R: Files + Print + AllocGlobal>(
     rt: &R,
-    profile: Profile,
+    player: Player,
     text: &[char],
     sources: &mut Sources<R::File>,
     pair: NewPair<'_, R::File>,
@@ -280,7 +279,7 @@ fn redact_into<R: Files + Print + AllocGlobal>(
     requires timing { has_failed sources.old.timing ≡ false }
     requires out { has_failed pair.script.out ≡ false }
     requires out_timing { has_failed pair.timing.out ≡ false }
-    ensures outcome { IfOk result (λ ran. IsOutcome (Job.Redact profile) ran.outcome) }
+    ensures outcome { IfOk result (λ ran. IsOutcome (Job.Redact player) ran.outcome) }
     ensures stop { IfErr result (λ stop. stop ≡ Stop.Memory) }
 {
     let mut found = match buffered(rt, Outlet::new(io::writer(rt))) {
@@ -298,7 +297,7 @@ fn redact_into<R: Files + Print + AllocGlobal>(
     } = pair;
     let outcome = redact(
         rt.alloc(),
-        profile,
+        player,
         text,
         &mut sources.script,
         &mut sources.timing,

@@ -94,7 +94,6 @@ fn arg_of<'a>(alloc: Global, argument: Argument) -> Arg<'a>
         | Argument::Until
         | Argument::Every
         | Argument::Profile
-        | Argument::AnyProfile
         | Argument::Size
         | Argument::Title => optional_flag(
             alloc,

@@ -120,6 +120,9 @@ const FIND_DETAILS: &str =
     stood nowhere: not at the moment of --from, and not after any byte of these chunks.\n\n\
     A text is found where it runs on over the right margin, too; but a phrase whose space falls on the\n\
     right margin isn't found, since a row that ends with a space doesn't run on.\n\n\
+    With --profile xterm what REP (ESC [ n b) repeats counts as one byte's work, a last column that a\n\
+    wide character left free doesn't end a row, and characters are compared as they were written: a letter\n\
+    that has its accent in it isn't one with a mark behind it.\n\n\
     A TEXT that begins with - stands behind --, as in the second example.\n\n\
     Example: typetool find 'No such file' demo.script demo.timing\n\
     Example: typetool find --from 12.5 -- --help demo.script demo.timing\n\n\
@@ -198,7 +201,7 @@ pub fn value_name_of<'a>(argument: Argument) -> &'a str {
     match argument {
         Argument::At | Argument::From | Argument::To | Argument::Until => "SECONDS",
         Argument::Every => "CHUNKS",
-        Argument::Profile | Argument::AnyProfile => "PROFILE",
+        Argument::Profile => "PROFILE",
         Argument::Size => "CxL",
         Argument::Escaped | Argument::Last | Argument::Headless => "",
         Argument::Title | Argument::Sought | Argument::Secret => "TEXT",
@@ -224,9 +227,7 @@ pub fn help_of<'a>(argument: Argument) -> &'a str {
             "A terminal is kept at every so many chunks, from 1 to 1000000 (100 if not given): fewer chunks \
              between terminals take more memory, and more take longer to go back"
         }
-        Argument::Profile =>
-            "Which terminal plays: vt100 (if not given), or vt102, which can insert and delete",
-        Argument::AnyProfile => {
+        Argument::Profile => {
             "Which terminal plays: vt100 (if not given), vt102, which can insert and delete, or xterm, a \
              terminal of today"
         }

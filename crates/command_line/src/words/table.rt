@@ -35,10 +35,8 @@ pub enum Argument {
     Until,
     /// How many chunks lie between stored terminals.
     Every,
-    /// Which terminal plays, where that of today can't yet.
+    /// Which terminal plays.
     Profile,
-    /// Which terminal plays, where any can.
-    AnyProfile,
     /// The size of the terminal of today.
     Size,
     /// A text that draws the screen again is asked for.
@@ -117,28 +115,33 @@ pub fn flags_of(subcommand: Subcommand) -> &'static [Argument]
 {
     match subcommand {
         Subcommand::Due => &[Argument::At],
-        Subcommand::Page => &[Argument::AnyProfile, Argument::Size, Argument::Title],
+        Subcommand::Page => &[Argument::Profile, Argument::Size, Argument::Title],
         Subcommand::Check | Subcommand::Cast | Subcommand::Redact => {
-            &[Argument::AnyProfile, Argument::Size]
+            &[Argument::Profile, Argument::Size]
         }
         Subcommand::Screen => &[
             Argument::At,
             Argument::Escaped,
-            Argument::AnyProfile,
+            Argument::Profile,
             Argument::Size,
         ],
         Subcommand::Changes => &[
             Argument::From,
             Argument::To,
-            Argument::AnyProfile,
+            Argument::Profile,
             Argument::Size,
         ],
-        Subcommand::Find => &[Argument::From, Argument::Until, Argument::Profile],
+        Subcommand::Find => &[
+            Argument::From,
+            Argument::Until,
+            Argument::Profile,
+            Argument::Size,
+        ],
         Subcommand::Picture | Subcommand::Reports => {
-            &[Argument::At, Argument::AnyProfile, Argument::Size]
+            &[Argument::At, Argument::Profile, Argument::Size]
         }
         Subcommand::Mend => &[Argument::Last, Argument::Headless],
-        Subcommand::Session => &[Argument::Every, Argument::AnyProfile, Argument::Size],
+        Subcommand::Session => &[Argument::Every, Argument::Profile, Argument::Size],
         Subcommand::Info | Subcommand::Save => &[],
     }
 }
@@ -208,7 +211,7 @@ pub fn id_of<'a>(argument: Argument) -> &'a str
         Argument::From => "from",
         Argument::To | Argument::Until => "to",
         Argument::Every => "every",
-        Argument::Profile | Argument::AnyProfile => "profile",
+        Argument::Profile => "profile",
         Argument::Size => "size",
         Argument::Escaped => "escaped",
         Argument::Last => "last",

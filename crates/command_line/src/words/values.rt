@@ -5,7 +5,7 @@ ghost use Rattle.std.specs.Option.{option_map};
 ghost use Rattle.std.specs.Char.{is_control};
 ghost use Rattle.std.specs.List.{list_all, list_any};
 ghost use Rattle.clap.specs.Words.{first_of, found_of, rows_of};
-ghost use Rattle.command_line.specs.CommandLine.{every_allowed, every_in, every_of, header_in, id_in, is_searchable, is_secret, is_today, job_in, player_in, print_by, size_cut, size_named, today_if, vt_if, moment_in, moment_given_in, moment_or_last_in, paths_in, profile_in, profile_named, stem_of, switch_in, text_in, title_in, value_in, vt_only};
+ghost use Rattle.command_line.specs.CommandLine.{every_allowed, every_in, every_of, header_in, id_in, is_searchable, is_secret, is_today, job_in, player_in, print_by, size_cut, size_named, today_if, vt_if, moment_in, moment_given_in, moment_or_last_in, paths_in, profile_named, stem_of, switch_in, text_in, title_in, value_in};
 ghost use Rattle.command_line.specs.declared.words.table.Subcommand.TheVariants.{Find as find, Redact as redact, Screen as screen};
 
 use super::table::{Argument, Subcommand, id_of, paths_of};
@@ -35,8 +35,6 @@ pub enum Unreadable {
     Profile,
     /// The size of the terminal of today.
     Size,
-    /// The terminal of today, where it isn't played yet.
-    Today,
     /// The text that is looked for.
     Text,
     /// Which header mending takes: both flags that say it are given.
@@ -134,11 +132,11 @@ fn read_find(values: &ArgMatches<'_>) -> Result<Job, Unreadable>
 {
     let from = read_moment_given(values, Argument::From)?;
     let to = read_moment_or_last(values, Argument::Until)?;
-    let profile = read_profile(values)?;
+    let player = read_player(values)?;
     if !is_searchable(value_text(values, Argument::Sought)) {
         return Err(Unreadable::Text);
     }
-    Ok(Job::Find { from, to, profile })
+    Ok(Job::Find { from, to, player })
 }
 
 /// The job `redact` that the values mean.
@@ -146,21 +144,11 @@ fn read_find(values: &ArgMatches<'_>) -> Result<Job, Unreadable>
 fn read_redact(values: &ArgMatches<'_>) -> Result<Job, Unreadable>
     ensures { result ≡ job_in redact (rows_of (found_of values.now)) }
 {
-    let profile = vt_of(read_player(values)?)?;
+    let player = read_player(values)?;
     if !is_secret(value_text(values, Argument::Secret)) {
         return Err(Unreadable::Text);
     }
-    Ok(Job::Redact { profile })
-}
-
-/// A VT: a terminal of today isn't played here yet.
-fn vt_of(player: Player) -> Result<Profile, Unreadable>
-    ensures { result ≡ vt_only player }
-{
-    match player {
-        Player::Vt(profile) => Ok(profile),
-        Player::Today(_) => Err(Unreadable::Today),
-    }
+    Ok(Job::Redact { player })
 }
 
 /// Whether a text can be looked for: it has a character other than a space, and no control character.
@@ -232,19 +220,6 @@ fn every_allowed(number: u64) -> Option<usize>
     }
 }
 
-/// Which terminal is to play.
-fn read_profile(values: &ArgMatches<'_>) -> Result<Profile, Unreadable>
-    ensures { result ≡ profile_in (rows_of (found_of values.now)) }
-{
-    let Some(name) = value_given(values, Argument::Profile) else {
-        return Ok(Profile::Vt100);
-    };
-    if is_today(name) {
-        return Err(Unreadable::Today);
-    }
-    profile_named(name).ok_or(Unreadable::Profile)
-}
-
 /// Whether a name is that of the terminal of today.
 #[tactic(auto, unfolding(crate::specs::CommandLine::is_today))]
 fn is_today(name: &str) -> bool
@@ -258,7 +233,7 @@ fn read_player(values: &ArgMatches<'_>) -> Result<Player, Unreadable>
     ensures { result ≡ player_in (rows_of (found_of values.now)) }
 {
     let size = value_given(values, Argument::Size);
-    let Some(name) = value_given(values, Argument::AnyProfile) else {
+    let Some(name) = value_given(values, Argument::Profile) else {
         return vt_if(size, Profile::Vt100);
     };
     if is_today(name) {

@@ -1,17 +1,17 @@
 //! The text of `find`, and its flags.
 use super::{compare_left, told, words_from};
-use command_line::{Job, read_words};
+use command_line::{Job, Measure, Player, read_words};
 use std::test::Fail;
 use tape_core::limits::LAST_MOMENT;
 use vt_term::Profile;
 
-/// A line's words, what stands for `--from`, for `--to` and for `--profile`, and the text.
-const LINES: [(&[&str], Option<u64>, u64, Profile, &[char]); 4] = [
+/// A line's words, what stands for `--from`, for `--to`, for `--profile` and `--size`, and the text.
+const LINES: [(&[&str], Option<u64>, u64, Player, &[char]); 6] = [
     (
         &["typetool", "find", "ab", "s", "t"],
         None,
         LAST_MOMENT,
-        Profile::Vt100,
+        Player::Vt(Profile::Vt100),
         &['a', 'b'],
     ),
     (
@@ -29,30 +29,57 @@ const LINES: [(&[&str], Option<u64>, u64, Profile, &[char]); 4] = [
         ],
         Some(1_500_000),
         2_000_000,
-        Profile::Vt102,
+        Player::Vt(Profile::Vt102),
         &[' ', 'a', ' '],
     ),
     (
         &["typetool", "find", "--to=3", "--", "--é", "s", "t"],
         None,
         3_000_000,
-        Profile::Vt100,
+        Player::Vt(Profile::Vt100),
         &['-', '-', 'é'],
     ),
     (
         &["typetool", "find", "s", "─\u{a0}", "t", "--from", "0"],
         Some(0),
         LAST_MOMENT,
-        Profile::Vt100,
+        Player::Vt(Profile::Vt100),
         &['s'],
+    ),
+    (
+        &["typetool", "find", "--profile=xterm", "ab", "s", "t"],
+        None,
+        LAST_MOMENT,
+        Player::Today(None),
+        &['a', 'b'],
+    ),
+    (
+        &[
+            "typetool",
+            "find",
+            "--profile",
+            "xterm",
+            "--size",
+            "100x30",
+            "ab",
+            "s",
+            "t",
+        ],
+        None,
+        LAST_MOMENT,
+        Player::Today(Some(Measure {
+            columns: 100,
+            lines: 30,
+        })),
+        &['a', 'b'],
     ),
 ];
 
 #[test]
 fn reads_find(rt: HostRuntime) -> Result<(), Fail> {
-    for (line, from, to, profile, text) in LINES {
+    for (line, from, to, player, text) in LINES {
         let words = words_from(rt.alloc(), line)?;
-        let job = Job::Find { from, to, profile };
+        let job = Job::Find { from, to, player };
         match read_words(rt.alloc(), words.as_slice()) {
             Ok(read) => assert_eq!(rt;
                 (read.job, read.text.as_slice(), read.paths.len()),

@@ -1,15 +1,15 @@
 //! The text of `redact`, and its terminal.
 use super::{told, words_from};
-use command_line::{Job, read_words};
+use command_line::{Job, Measure, Player, read_words};
 use std::test::Fail;
 use vt_term::Profile;
 
 #[test]
 fn reads_redact(rt: HostRuntime) -> Result<(), Fail> {
-    for (line, profile) in [
+    for (line, player) in [
         (
             ["typetool", "redact", "é x", "s", "t", "u", "v"].as_slice(),
-            Profile::Vt100,
+            Player::Vt(Profile::Vt100),
         ),
         (
             &[
@@ -22,14 +22,44 @@ fn reads_redact(rt: HostRuntime) -> Result<(), Fail> {
                 "u",
                 "v",
             ],
-            Profile::Vt102,
+            Player::Vt(Profile::Vt102),
+        ),
+        (
+            &[
+                "typetool",
+                "redact",
+                "--profile=xterm",
+                "é x",
+                "s",
+                "t",
+                "u",
+                "v",
+            ],
+            Player::Today(None),
+        ),
+        (
+            &[
+                "typetool",
+                "redact",
+                "--profile=xterm",
+                "--size=2x1",
+                "é x",
+                "s",
+                "t",
+                "u",
+                "v",
+            ],
+            Player::Today(Some(Measure {
+                columns: 2,
+                lines: 1,
+            })),
         ),
     ] {
         let words = words_from(rt.alloc(), line)?;
         match read_words(rt.alloc(), words.as_slice()) {
             Ok(read) => assert_eq!(rt;
                 (read.job, read.text.as_slice(), read.paths.len()),
-                (Job::Redact { profile }, ['é', ' ', 'x'].as_slice(), 4),
+                (Job::Redact { player }, ['é', ' ', 'x'].as_slice(), 4),
                 "{line:?}"
             ),
             Err(fault) => panic!(rt; "{line:?} is a command line, and not refused for {fault}"),
@@ -50,7 +80,7 @@ const REFUSED: [(&str, &str, &str); 7] = [
         "*",
         "bad size: 2x1 to 1000x500, with --profile xterm",
     ),
-    ("--profile=xterm", "*", "not yet with --profile xterm"),
+    ("--profile=xterm", "*", "bad text"),
 ];
 
 #[test]

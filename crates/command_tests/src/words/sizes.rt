@@ -80,7 +80,7 @@ fn reads_sessions_of_today(rt: HostRuntime) -> Result<(), Fail> {
 }
 
 /// What a line is refused for.
-const REFUSED: [(&str, &str); 16] = [
+const REFUSED: [(&str, &str); 17] = [
     ("screen --at=1 --profile=xterm --size=1x24", BAD_SIZE),
     ("screen --at=1 --profile=xterm --size=1001x24", BAD_SIZE),
     ("screen --at=1 --profile=xterm --size=80x0", BAD_SIZE),
@@ -103,6 +103,7 @@ const REFUSED: [(&str, &str); 16] = [
         "bad number of chunks: 1 to 1000000",
     ),
     ("session --profile=vt102 --size=80x24", BAD_SIZE),
+    ("find --size=80x24 a", BAD_SIZE),
 ];
 
 const BAD_SIZE: &str = "bad size: 2x1 to 1000x500, with --profile xterm";
@@ -115,5 +116,5 @@ fn refuses_sizes(rt: HostRuntime) -> Result<(), Fail> {
         let told = told(rt.alloc(), words.as_slice())?;
         assert_eq!(rt; told.as_str(), wanted, "{part:?}");
     }
-    compare_left(&rt, "typetool find --size=80x24 a s t")
+    compare_left(&rt, "typetool mend --size=80x24 s t u v")
 }

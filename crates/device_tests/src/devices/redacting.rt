@@ -1,5 +1,6 @@
 //! The call `redact` over such devices.
 use super::{Failure, NEVER, SlowWriter, compare_begun, slow_reader, slow_writer, stopped};
+use command_line::Player;
 use std::process::Abort;
 use tape_core::{Fault, Watched};
 use tape_jobs::{Outcome, redact};
@@ -39,7 +40,7 @@ fn redact_slowly<R: Abort + AllocGlobal>(rt: &R, calls: [usize; 2], failures: [F
     let mut found = Watched::new(slow_writer(rt, failures[3]));
     let outcome = redact(
         rt.alloc(),
-        Profile::Vt100,
+        Player::Vt(Profile::Vt100),
         SECRET,
         &mut script,
         &mut timing,

@@ -11,7 +11,7 @@ use tape_core::limits::LAST_MOMENT;
 use tape_seek::Session;
 use xterm_escaped::escaped;
 use xterm_picture::picture;
-use xterm_print::{changes, plain, seek};
+use xterm_print::{changes, find, plain, seek};
 use xterm_term::Terminal;
 
 impl Answers for Terminal {
@@ -48,6 +48,20 @@ impl Answers for Terminal {
     ) -> Result<(), JobFault> {
         stops_join::<O>();
         changes(alloc, session, from, to, out)?;
+        Ok(())
+    }
+
+    #[tactic(auto, using(crate::proofs::PlayerLemmas::found_of_size))]
+    fn put_found<O: Write>(
+        alloc: Global,
+        session: &mut Session<Terminal>,
+        from: Option<u64>,
+        to: u64,
+        text: &[char],
+        out: &mut Watched<O>,
+    ) -> Result<(), JobFault> {
+        stops_join::<O>();
+        find(alloc, session, from, to, text, out)?;
         Ok(())
     }
 }

@@ -5,7 +5,7 @@ use crate::job::JobFault;
 use crate::laws::stops_join;
 use crate::shared::put_hex_line;
 use screen_picture::picture;
-use screen_print::{changes, escaped, plain};
+use screen_print::{changes, escaped, find, plain, scratch};
 use std::alloc::Global;
 use std::io::Write;
 use tape_core::Watched;
@@ -45,6 +45,21 @@ impl Answers for Terminal {
     ) -> Result<(), JobFault> {
         stops_join::<O>();
         changes(session, from, to, out)?;
+        Ok(())
+    }
+
+    #[tactic(auto, unfolding(crate::specs::Player::found_of))]
+    fn put_found<O: Write>(
+        alloc: Global,
+        session: &mut Session,
+        from: Option<u64>,
+        to: u64,
+        text: &[char],
+        out: &mut Watched<O>,
+    ) -> Result<(), JobFault> {
+        stops_join::<O>();
+        let mut scratch = scratch(alloc)?;
+        find(session, from, to, text, &mut scratch, out)?;
         Ok(())
     }
 }

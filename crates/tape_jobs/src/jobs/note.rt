@@ -48,11 +48,12 @@ fn played_by(job: Job) -> Option<Player>
         Job::Screen { print, .. } => Some(player_of(print)),
         Job::Picture { player, .. }
         | Job::Changes { player, .. }
+        | Job::Find { player, .. }
         | Job::Reports { player, .. }
         | Job::Page { player }
         | Job::Cast { player }
+        | Job::Redact { player }
         | Job::Session { player, .. } => Some(player),
-        Job::Find { profile, .. } | Job::Redact { profile } => Some(Player::Vt(profile)),
         Job::Due { .. } | Job::Info | Job::Check { .. } | Job::Save | Job::Mend { .. } => None,
     }
 }

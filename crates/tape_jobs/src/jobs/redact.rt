@@ -1,30 +1,30 @@
 //! The job `redact`: both files anew without a text, and then where it still comes to stand on the screen.
 
-ghost use Rattle.std.specs.Prelude.{◌≡◌, ◌⊎◌, ◌≢◌, ◌≤◌, ◌&&◌, ℕ, List, None, OnOk, Some, encode_utf8_all, false, length, nat_lt, string_bytes, true, IfErr, IfOk};
-ghost use Rattle.screen_print.specs.EachByte.{find_lines};
+ghost use Rattle.std.specs.Prelude.{◌≡◌, ◌⊎◌, ◌≢◌, ◌&&◌, ℕ, List, None, OnOk, Some, encode_utf8_all, false, nat_lt, string_bytes, true, IfErr, IfOk};
+ghost use Rattle.command_line.specs.declared.player.Player.{Player as Played};
 ghost use Rattle.tape_core.specs.Devices.{Puts, has_failed, has_written, inner_of, is_flushed};
 ghost use Rattle.tape_core.specs.Faults.{is_stop};
 ghost use Rattle.tape_core.specs.Reading.{fault_of, reads};
 ghost use Rattle.tape_check.specs.Header.{told_size};
 ghost use Rattle.tape_check.specs.Trailer.{is_usual};
-ghost use Rattle.tape_core.specs.Seconds.{last_moment};
 ghost use Rattle.tape_core.specs.Written.{script_text, timing_text};
 ghost use Rattle.tape_core.specs.declared.fault.Fault.TheVariants as fault;
 ghost use Rattle.tape_seek.specs.State.{most_every, opened};
-ghost use Rattle.tape_jobs.specs.Endings.{JobEnds, JobPuts, used, writers_of};
+ghost use Rattle.tape_jobs.specs.Endings.{JobEnds, used, writers_of};
 ghost use Rattle.tape_jobs.specs.Mending.{pair_of};
 ghost use Rattle.tape_jobs.specs.Output.{count_of_text, done_redacting, ending_of_redact, is_fit, is_same_size, without_text};
+ghost use Rattle.tape_jobs.specs.Player.{settled};
 ghost use Rattle.tape_jobs.specs.Redacting.{FourEnd, PairPuts, RedactEnds, count_line};
 
+use crate::answers::Answers;
 use crate::job::{Ending, JobFault, Outcome, outcome_in};
 use crate::jobs::find::finds;
 use crate::jobs::note::tell_note;
-use crate::laws::stops_join;
+use crate::laws::nowhere_means_nowhere;
+use crate::player::played_size;
 use crate::shared::{EVERY, open_session};
-use command_line::Job;
+use command_line::{Job, Player};
 use itoa::Buffer;
-use screen_print::laws::nowhere_means_nowhere;
-use screen_print::{find, scratch};
 use std::alloc::{AllocError, Global};
 use std::io::{Read, Write};
 use std::mem::ManuallyDrop;
@@ -33,7 +33,6 @@ use tape_core::limits::LAST_MOMENT;
 use tape_core::{Fault, Recording, Watched, read_recording_of, slurp, write_script, write_timing};
 use tape_redact::{Redaction, redact_recording};
 use tape_seek::Session;
-use vt_term::{Profile, Reports};
 
 /// Takes a text out of a pair of files: reads both whole, tells the note of the recording, writes the typescript without
 /// the text and then its timing, and tells how often it was taken out, and then each place at which it comes to stand on
@@ -45,7 +44,7 @@ use vt_term::{Profile, Reports};
 /// where it ended while the files were read. Each fault has status 3. No fault is retried.
 pub fn redact<S: Read, T: Read, O: Write, P: Write, L: Write, F: Write, N: Write>(
     alloc: Global,
-    profile: Profile,
+    player: Player,
     text: &[char],
     script: &mut Watched<S>,
     timing: &mut Watched<T>,
@@ -69,15 +68,15 @@ pub fn redact<S: Read, T: Read, O: Write, P: Write, L: Write, F: Write, N: Write
         (used P.contents out_timing.old out_timing.new) in
         RedactEnds pair writers (used L.contents told.old told.new)
         (used F.contents found.old found.new) (used N.contents notes.old notes.new)
-        profile text.now result }
+        player text.now result }
 {
-    let job = Job::Redact { profile };
+    let job = Job::Redact { player };
     match read_pair(alloc, script, timing) {
         Ok(recording) => {
             nowhere_means_nowhere();
             tell_note(job, &recording, notes);
             let ended = write_and_tell(
-                alloc, recording, profile, text, out, out_timing, told, found,
+                alloc, recording, player, text, out, out_timing, told, found,
             );
             outcome_in(job, ended)
         }
@@ -111,10 +110,11 @@ fn read_pair<S: Read, T: Read>(
 }
 
 /// Writes both files, and when they are whole tells how often the text was taken out, and where it still stands.
+#[tactic(auto, using(crate::proofs::PlayerLemmas::settled_size))]
 fn write_and_tell<O: Write, P: Write, L: Write, F: Write>(
     alloc: Global,
     recording: Recording,
-    profile: Profile,
+    player: Player,
     text: &[char],
     out: &mut Watched<O>,
     out_timing: &mut Watched<P>,
@@ -129,22 +129,58 @@ fn write_and_tell<O: Write, P: Write, L: Write, F: Write>(
     ensures { let writers = writers_of (used O.contents out.old out.new)
         (used P.contents out_timing.old out_timing.new) in
         FourEnd writers (used L.contents told.old told.new) (used F.contents found.old found.new)
-        profile text.now recording result }
+        player text.now recording result }
 {
-    let cleared = clear(alloc, recording, profile, text)?;
+    match player {
+        Player::Vt(profile) => write_four::<vt_term::Terminal, O, P, L, F>(
+            alloc, recording, profile, text, out, out_timing, told, found,
+        ),
+        Player::Today(asked) => {
+            let size = played_size(asked, &recording);
+            write_four::<xterm_term::Terminal, O, P, L, F>(
+                alloc, recording, size, text, out, out_timing, told, found,
+            )
+        }
+    }
+}
+
+/// The same for a terminal that is set up so.
+fn write_four<T: Answers, O: Write, P: Write, L: Write, F: Write>(
+    alloc: Global,
+    recording: Recording,
+    profile: T::Profile,
+    text: &[char],
+    out: &mut Watched<O>,
+    out_timing: &mut Watched<P>,
+    told: &mut Watched<L>,
+    found: &mut Watched<F>,
+) -> Result<Ending, JobFault>
+    requires out { has_failed out.old ≡ false }
+    requires out_timing { has_failed out_timing.old ≡ false }
+    requires told { has_failed told.old ≡ false }
+    requires found { has_failed found.old ≡ false }
+    requires unwritten { has_written found.old ≡ false }
+    ensures { (player : Played) → settled player recording ≡ T.player profile
+        → (let writers = writers_of (used O.contents out.old out.new)
+        (used P.contents out_timing.old out_timing.new) in
+        FourEnd writers (used L.contents told.old told.new) (used F.contents found.old found.new)
+        player text.now recording result) }
+{
+    let cleared = clear::<T>(alloc, recording, profile, text)?;
     let mut cleared = ManuallyDrop::new(cleared);
-    let mut scratch = scratch(alloc)?;
+    let count = cleared.count;
     write_pair(cleared.session.recording(), out, out_timing)?;
-    tell_count(cleared.count, told)?;
-    tell_places(&mut cleared.session, text, &mut scratch, found)?;
+    tell_count(count, told)?;
+    T::put_found(alloc, &mut cleared.session, None, LAST_MOMENT, text, found)?;
     Ok(ending_of(cleared.fit, found.written()))
 }
 
 /// Writes both files, and tells nothing of them. It takes all its memory before.
+#[tactic(auto, using(crate::proofs::PlayerLemmas::settled_size))]
 pub fn write_redacted<O: Write, P: Write>(
     alloc: Global,
     recording: Recording,
-    profile: Profile,
+    player: Player,
     text: &[char],
     out: &mut Watched<O>,
     out_timing: &mut Watched<P>,
@@ -153,9 +189,38 @@ pub fn write_redacted<O: Write, P: Write>(
     requires out_timing { has_failed out_timing.old ≡ false }
     ensures { let writers = writers_of (used O.contents out.old out.new)
         (used P.contents out_timing.old out_timing.new) in
-        JobEnds writers (Job.Redact profile) (done_redacting profile text.now recording) result }
+        JobEnds writers (Job.Redact player) (done_redacting player text.now recording) result }
 {
-    let cleared = clear(alloc, recording, profile, text)?;
+    match player {
+        Player::Vt(profile) => write_cleared::<vt_term::Terminal, O, P>(
+            alloc, recording, profile, text, out, out_timing,
+        ),
+        Player::Today(asked) => {
+            let size = played_size(asked, &recording);
+            write_cleared::<xterm_term::Terminal, O, P>(
+                alloc, recording, size, text, out, out_timing,
+            )
+        }
+    }
+}
+
+/// The same for a terminal that is set up so.
+fn write_cleared<T: Answers, O: Write, P: Write>(
+    alloc: Global,
+    recording: Recording,
+    profile: T::Profile,
+    text: &[char],
+    out: &mut Watched<O>,
+    out_timing: &mut Watched<P>,
+) -> Result<Ending, JobFault>
+    requires out { has_failed out.old ≡ false }
+    requires out_timing { has_failed out_timing.old ≡ false }
+    ensures { (player : Played) → settled player recording ≡ T.player profile
+        → (let writers = writers_of (used O.contents out.old out.new)
+        (used P.contents out_timing.old out_timing.new) in
+        JobEnds writers (Job.Redact player) (done_redacting player text.now recording) result) }
+{
+    let cleared = clear::<T>(alloc, recording, profile, text)?;
     let mut cleared = ManuallyDrop::new(cleared);
     let found = finds(alloc, &mut cleared.session, None, LAST_MOMENT, text)?;
     write_pair(cleared.session.recording(), out, out_timing)?;
@@ -165,19 +230,19 @@ pub fn write_redacted<O: Write, P: Write>(
 /// A session of a recording without the text, how often that was taken out, and whether what is seen of it without playing
 /// is well.
 #[derive(Drop)]
-struct Cleared {
-    session: Session,
+struct Cleared<T: Answers> {
+    session: Session<T>,
     count: usize,
     fit: bool,
 }
 
 /// Takes the text out of a recording, of which a session is opened.
-fn clear(
+fn clear<T: Answers>(
     alloc: Global,
     recording: Recording,
-    profile: Profile,
+    profile: T::Profile,
     text: &[char],
-) -> Result<Cleared, JobFault>
+) -> Result<Cleared<T>, JobFault>
     ensures session { IfOk result (λ cleared. cleared.session
         ≡ opened profile (without_text text.now recording) most_every) }
     ensures count { IfOk result (λ cleared. cleared.count ≡ count_of_text text.now recording) }
@@ -193,7 +258,7 @@ fn clear(
     };
     let fit = is_fit(&recording, &redaction);
     let count = redaction.count;
-    let session = open_session(alloc, redaction.recording, EVERY, profile)?;
+    let session = open_session::<T>(alloc, redaction.recording, EVERY, profile)?;
     Ok(Cleared {
         session,
         count,
@@ -255,24 +320,6 @@ fn tell_count<L: Write>(count: usize, told: &mut Watched<L>) -> Result<(), Fault
 {
     told.give_all(&[b"redacted ", Buffer::new().format(count).as_bytes(), b"\n"]);
     told.settle()
-}
-
-/// Tells where the text stands on the screen of a session's recording, and flushes. Replies go over the scratch list.
-fn tell_places<F: Write>(
-    session: &mut Session,
-    text: &[char],
-    scratch: &mut Reports,
-    found: &mut Watched<F>,
-) -> Result<(), JobFault>
-    requires scratch { 20 ≤ length scratch.old.bytes }
-    requires sound { has_failed found.old ≡ false }
-    ensures puts { JobPuts F.contents found.old found.new
-        (find_lines session.old.profile session.old.recording None last_moment text.now) result }
-    ensures flushed { OnOk result (is_flushed found.new ≡ true) }
-{
-    stops_join::<F>();
-    find(session, None, LAST_MOMENT, text, scratch, found)?;
-    Ok(())
 }
 
 /// How redacting ends, by whether what is seen of it without playing is well, and whether the text still came to stand on

@@ -1,4 +1,4 @@
-use Rattle.command_line.proofs.LineLemmas.{cast_line, cast_sized_line, cast_today_line, changes_from_line, changes_line, changes_sized_line, changes_today_line, check_line, check_sized_line, check_today_line, due_line, find_between_line, find_line, info_line, mend_line, page_line, page_sized_line, page_titled_line, page_today_line, picture_line, picture_sized_line, picture_today_line, redact_line, reports_line, reports_sized_line, reports_today_line, save_line, screen_line, screen_sized_line, screen_today_line, session_every_line, session_line, session_sized_line, session_today_line}
+use Rattle.command_line.proofs.LineLemmas.{cast_line, cast_sized_line, cast_today_line, changes_from_line, changes_line, changes_sized_line, changes_today_line, check_line, check_sized_line, check_today_line, due_line, find_between_line, find_line, find_sized_line, find_today_line, info_line, mend_line, page_line, page_sized_line, page_titled_line, page_today_line, picture_line, picture_sized_line, picture_today_line, redact_line, redact_sized_line, redact_today_line, reports_line, reports_sized_line, reports_today_line, save_line, screen_line, screen_sized_line, screen_today_line, session_every_line, session_line, session_sized_line, session_today_line}
 use Rattle.command_line.proofs.laws.plain_lines_are_read.Goals as goal
 
 pub returns-clause-due : goal.returns-clause-due
@@ -61,6 +61,13 @@ returns-clause-changes_from c = λ to moment e from start d profile program scri
 pub returns-clause-find : goal.returns-clause-find
 returns-clause-find c = λ profile text r found program script timing p q. find_line program script timing p q text r found profile
 
+pub returns-clause-find_today : goal.returns-clause-find_today
+returns-clause-find_today c = λ text r found program script timing p q. find_today_line program script timing p q text r found
+
+pub returns-clause-find_sized : goal.returns-clause-find_sized
+returns-clause-find_sized c = λ size measure d text r found program script timing p q.
+    find_sized_line program script timing p q text r found size measure d
+
 pub returns-clause-find_between : goal.returns-clause-find_between
 returns-clause-find_between c = λ from start d to end e profile text r found program script timing p q.
     find_between_line program script timing p q text r found from start d to end e profile
@@ -98,6 +105,14 @@ returns-clause-mend c = λ how program script timing p q. mend_line program scri
 pub returns-clause-redact : goal.returns-clause-redact
 returns-clause-redact c = λ profile text r hidden program script timing p q new_script new_timing t u.
     redact_line program script timing p q text r hidden new_script new_timing t u profile
+
+pub returns-clause-redact_today : goal.returns-clause-redact_today
+returns-clause-redact_today c = λ text r hidden program script timing p q new_script new_timing t u.
+    redact_today_line program script timing p q text r hidden new_script new_timing t u
+
+pub returns-clause-redact_sized : goal.returns-clause-redact_sized
+returns-clause-redact_sized c = λ size measure d text r hidden program script timing p q new_script new_timing t u.
+    redact_sized_line program script timing p q text r hidden new_script new_timing t u size measure d
 
 pub returns-clause-session : goal.returns-clause-session
 returns-clause-session c = λ profile program script timing p q. session_line program script timing p q profile

@@ -3,7 +3,6 @@ use Rattle.tape_check.specs.Lines.{note_line}
 use Rattle.tape_jobs.proofs.RedactLemmas.{redact_unread, redact_written}
 use Rattle.tape_jobs.specs.Endings.{used, writers_of}
 use Rattle.tape_jobs.specs.Mending.{pair_of}
-use Rattle.command_line.specs.declared.player.Player.TheVariants.{Vt}
 use Rattle.tape_jobs.proofs.jobs.redact.redact.Goals as goal
 
 pub returns-in-Ok : goal.returns-in-Ok
@@ -16,8 +15,8 @@ returns-in-Ok g c =
     let found = used g.F.Write.contents c.args.found.now c.write_and_tell-ended.new.found in
     let notes = used g.N.Write.contents c.args.notes.now c.tell_note.new.notes in
     rw c.outcome_in.ensures
-    (redact_written pair writers told found notes c.args.profile c.args.text.now c.in-Ok.recording c.in-Ok.ensures.ok
-    (c.in-Ok.ensures.sound (λ e. absurd (cc))) (c.tell_note.ensures.told (Vt c.args.profile) refl) c.write_and_tell-ended.result
+    (redact_written pair writers told found notes c.args.player c.args.text.now c.in-Ok.recording c.in-Ok.ensures.ok
+    (c.in-Ok.ensures.sound (λ e. absurd (cc))) (c.tell_note.ensures.told c.args.player refl) c.write_and_tell-ended.result
     c.write_and_tell-ended.ensures c.nowhere_means_nowhere.ensures)
 
 pub returns-in-Err : goal.returns-in-Err
@@ -30,6 +29,6 @@ returns-in-Err g c =
     let found = used g.F.Write.contents c.args.found.now c.args.found.now in
     let notes = used g.N.Write.contents c.args.notes.now c.args.notes.now in
     rw c.outcome_in-in-Err.ensures
-    (redact_unread pair writers told found notes c.args.profile c.args.text.now c.in-Err.fault c.in-Err.ensures.fault
+    (redact_unread pair writers told found notes c.args.player c.args.text.now c.in-Err.fault c.in-Err.ensures.fault
     (λ other. c.in-Err.ensures.sound (λ e. other (cc))) c.in-Err.ensures.read_fault c.in-Err.ensures.no_write_fault
     ((refl, refl), refl, refl) refl)
