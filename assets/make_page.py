@@ -1,6 +1,6 @@
 #!/usr/bin/env python3
-"""Puts the player of a page together of its parts: HTML, three styles (a picture's of a VT100, one's of a terminal of
-today, and the page's own), the outlines of characters and the script.
+"""Puts the player of a page together of its parts: HTML, four styles (a picture's of a VT100, one's of a terminal of
+today, the page's own, and what it looks like without a script), the outlines of characters and the script.
 
     assets/make_page.py DATA [TITLE]  writes the page of this title with the entries that the file DATA has
     assets/make_page.py --write       writes the player as the constants of the program that writes pages
@@ -34,6 +34,7 @@ def parts():
         "DRAWING": part("drawing.css"),
         "TODAY": part("drawing_today.css"),
         "STYLE": "\n" + part("page.css"),
+        "PLAIN": "\n" + part("noscript.css"),
         "SCRIPT": "\n" + part("outlines.js") + part("page.js"),
     }
     for name, text in texts.items():

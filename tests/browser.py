@@ -1,120 +1,45 @@
 #!/usr/bin/env python3
-"""Opens the page of each shipped recording in Chromium, and tries everything that it offers.
+"""Opens the page of each shipped recording of a VT100 in Chromium, and tries what plays and seeks in it.
 
-    tests/browser.py TYPETOOL [FOLDER]
+    tests/browser.py TYPETOOL
 
 The pages are those that `page` writes; tests/page_data.py compares their entries. Each count of a recording, in random
-order, shows the text of `screen` and the elements of the picture; each key and control does what it says; nothing is
-fetched; the address shows the moment and is read; the poster, the strip, the found moments; what a screen reader is
-told, how often, and whether each control has a name; contrast, a narrow window, print, no script; a page of 100,000
-chunks opens and seeks in time. Of a terminal of today the data is made by plain_today_drawing.py, as `page` doesn't
-write it yet: of a recording by hand and of random ones each count shows the elements of the plain picture, and of the
-former those that `picture --profile xterm` draws; only what changed is drawn, and what runs on over a margin is found.
-With a FOLDER screenshots are left there. The last line is 'N passed, M failed'.
+order, shows the text of `screen` and the elements of the picture; each key and control does what it says, a click that
+ends where its row is drawn anew too; the address shows the moment and is read; the poster, the strip, the found
+moments. 100,000 chunks are opened and sought in. What a page looks like is tried by browser_look.py, one of today by
+browser_today.py. The last line is 'N passed, M failed'.
 """
-import functools
 import glob
 import json
 import os
 import random
-import re
-import statistics
-import subprocess
 import sys
-import tempfile
-import time
 
-import chromium
+import page_browser
 import plain_find
 import plain_picture
-import plain_reader as plain
 import plain_screen
-import plain_today
-import plain_today_drawing
-import random_today
-import skip
-
-HERE = os.path.dirname(os.path.abspath(__file__))
-ASSETS = os.path.join(HERE, "..", "assets")
-HEADER = b"Script started on X\n"
-# Where the picture of the page and one that was written are the same elements.
-SAME = """
-(() => {
-  const wanted = new DOMParser().parseFromString(%s, 'image/svg+xml').documentElement;
-  wanted.removeAttribute('xmlns');
-  for (const node of [...wanted.childNodes]) if (node.nodeType === 3) node.remove();
-  const shown = document.querySelector('#screen').children;
-  return shown.length === 1 && shown[0].isEqualNode(wanted);
-})()
-"""
-# What a control is called.
-NAMED = "at.%s.getAttribute('aria-label')"
-# What only the file has.
-LEFT_OUT = re.compile("<title>.*</title><desc>.*</desc><style>.*</style>", re.DOTALL)
-passed, failed = 0, []
-
-
-def check(name, got, wanted):
-    global passed
-    if got == wanted:
-        passed += 1
-    else:
-        failed.append(name)
-        print(f"FAILED {name}: {str(got)[:300]}, wanted {str(wanted)[:300]}")
-
-
-class Recording:
-    """A recording's chunks, and its screens before the first one and after each."""
-
-    def __init__(self, program, chunks):
-        self.program, self.chunks = program, chunks
-        self.dues = [sum(delay for delay, _ in chunks[: place + 1]) for place in range(len(chunks))]
-        self.escaped = functools.lru_cache(None)(functools.partial(self.printed, program))
-
-    def printed(self, program, count):
-        """What `screen --escaped` prints after so many chunks, played alone, so that each count has a moment."""
-        with tempfile.TemporaryDirectory() as folder:
-            paths = [os.path.join(folder, name) for name in ("script", "timing")]
-            text = b"".join(chunk for _, chunk in self.chunks[:count])
-            pieces = [[0, text[start : start + 1000]] for start in range(0, len(text), 1000)]
-            for path, content in zip(paths, plain.files_of((HEADER, pieces, b""))):
-                with open(path, "wb") as file:
-                    file.write(content)
-            words = [program, "screen", "--at", "0", "--escaped", *paths]
-            return subprocess.run(words, check=True, capture_output=True).stdout
-
-    def screen(self, count):
-        return plain_screen.drawn(self.escaped(count))
-
-    def seconds(self, count):
-        return plain.written(self.dues[count - 1] if count else 0).decode()
-
-    def page(self, folder, name, *words):
-        """The address of the page that the program writes, with these flags."""
-        paths = [os.path.join(folder, f"{name}.{kind}") for kind in ("script", "timing", "html")]
-        for path, content in zip(paths, plain.files_of((HEADER, self.chunks, b""))):
-            with open(path, "wb") as file:
-                file.write(content)
-        with open(paths[2], "wb") as file:
-            subprocess.run([self.program, "page", *words, *paths[:2]], check=True, stdout=file)
-        return f"file://{paths[2]}"
-
-
-def page_of(folder, name, data):
-    """The address of a page with this data."""
-    paths = [os.path.join(folder, f"{name}.{kind}") for kind in ("json", "html")]
-    with open(paths[0], "w", encoding="utf-8") as file:
-        file.write(data)
-    with open(paths[1], "wb") as file:
-        subprocess.run([os.path.join(ASSETS, "make_page.py"), paths[0]], check=True, stdout=file)
-    return f"file://{paths[1]}"
+from page_browser import (
+    FULLEST,
+    LEFT_OUT,
+    NAMED,
+    SAME,
+    SAVED,
+    Recording,
+    check,
+    check_sketch,
+    click,
+    go,
+    page_of,
+    standing,
+)
 
 
 def shipped():
     """Name and chunks of each shipped recording."""
-    for script in sorted(glob.glob(f"{HERE}/../examples/*.script") + glob.glob(f"{HERE}/recordings/*.script")):
-        with open(script, "rb") as one, open(script[:-7] + ".timing", "rb") as two:
-            yield os.path.basename(script)[:-7], plain.read(one.read(), two.read())[1]
+    for folder in (page_browser.EXAMPLES, os.path.join(page_browser.HERE, "recordings")):
+        for script in sorted(glob.glob(f"{folder}/*.script")):
+            yield os.path.basename(script)[:-7], page_browser.read(script)
 
 
 def try_counts(browser, name, recording, address):
@@ -125,7 +50,7 @@ def try_counts(browser, name, recording, address):
     wrong = []
     for count in counts:
         screen = recording.screen(count)
-        browser.value(f"location.hash = '#n={count}'; new Promise(done => setTimeout(done))")
+        go(browser, count)
         picture = LEFT_OUT.sub("", plain_picture.picture(screen, recording.seconds(count)))
         same = browser.value(SAME % json.dumps(picture))
         text = browser.value("plainText(rowsAt(place.count))") == plain_screen.plain_text(screen)
@@ -133,11 +58,6 @@ def try_counts(browser, name, recording, address):
         if not (same and text and told):
             wrong.append((count, same, text, told))
     check(f"{name}: counts", wrong, [])
-
-
-def standing(browser):
-    """Moment and count that the page shows."""
-    return browser.value("[Number(place.moment.toFixed(6)), place.count]")
 
 
 def try_keys(browser, recording, address):
@@ -174,35 +94,37 @@ def try_keys(browser, recording, address):
     browser.value("at.text.value = ''; at.text.blur()")
 
 
+# Frames that come when the test says so, and where the player stands then.
+HELD = "window.requestAnimationFrame = act => { window.frame = act; return 0; }"
+TICK = "(() => { frame(playing.time + %d); return [Number(place.moment.toFixed(6)), place.count]; })()"
+
+
 def try_playing(browser, recording, address):
-    """Playing, pausing, speed, the greatest idle time, the end."""
+    """Playing by a clock that is held: pausing, speed, the greatest idle time, the end, and from there anew."""
     browser.open(address)
+    browser.value(HELD)
     browser.value("at.speed.value = '1'; at.idle.value = 'Infinity'")
+    due, end = [us / 1e6 for us in recording.dues], recording.dues[-1] / 1e6
+
+    def stands(moment):
+        return [moment, sum(one <= moment for one in due)]
+
     browser.press(" ")
     check("play is told", browser.value(NAMED % "play"), "Pause")
-    passed_by = browser.value("new Promise(done => setTimeout(() => done(place.moment), 1000))")
-    check("a second of playing", 0.5 < passed_by < 1.5, True)
+    check("a second of playing", browser.value(TICK % 1000), stands(1))
+    browser.value("at.speed.value = '4'")
+    check("at another speed", browser.value(TICK % 250), stands(2))
     browser.press(" ")
     check("pause is told", browser.value(NAMED % "play"), "Play")
-    stood = standing(browser)
-    check(
-        "pause", browser.value("new Promise(done => setTimeout(() => done(place.moment), 200))") - stood[0] < 1e-5, True
-    )
-    check("the address after a pause", browser.value("location.hash"), f"#t={stood[0]:.6f}".rstrip("0").rstrip("."))
-    gap = max(range(1, len(recording.dues)), key=lambda n: recording.dues[n] - recording.dues[n - 1])
-    start = recording.dues[gap - 1] / 1e6
-    browser.value(f"seek({start}); at.idle.value = '0.5'; at.speed.value = '1'")
-    browser.value("at.play.click()")
-    moment = browser.value("new Promise(done => setTimeout(() => { pause(); done(place.moment); }, 100))")
-    check("a long wait is cut", moment >= recording.dues[gap] / 1e6 - 0.51, True)
-    browser.value("at.speed.value = '16'; at.idle.value = '0.5'; seek(0); at.play.click()")
-    check(
-        "playing to the end",
-        browser.value(
-            "new Promise(done => { const n = setInterval(() => playing || (clearInterval(n), done(place.count))); })"
-        ),
-        len(recording.chunks),
-    )
+    check("pause", browser.value("playing"), None)
+    check("the address after a pause", browser.value("location.hash"), "#t=2")
+    gap = max(range(1, len(due)), key=lambda n: due[n] - due[n - 1])
+    browser.value(f"seek({due[gap - 1]}); at.idle.value = '0.5'; at.play.click()")
+    check("a long wait is cut", browser.value(TICK % 0), stands(round(due[gap] - 0.5, 6)))
+    browser.value(f"at.idle.value = 'Infinity'; frame(playing.time + {round(end * 1000)})")
+    check("playing to the end", [standing(browser), browser.value("playing")], [[end, len(due)], None])
+    browser.press("k")
+    check("and from the beginning", [standing(browser)[0], browser.value("playing !== null")], [0, True])
 
 
 def try_controls(browser, recording, address):
@@ -276,13 +198,6 @@ def try_find(browser, recording, address, text):
     check("stepping through none", standing(browser)[1], counts[-1])
 
 
-def click(browser, x, y, times=1):
-    """The mouse is pressed and let go at a place, so many times."""
-    for count in range(1, times + 1):
-        for kind in ("mousePressed", "mouseReleased"):
-            browser.ask("Input.dispatchMouseEvent", type=kind, x=x, y=y, button="left", clickCount=count)
-
-
 def try_poster(browser, recording, address):
     """Before anything is asked for the middle stands under a large Play, and a click plays."""
     drawn = "[at.figure.classList.contains('begun'), shown.count, place.moment]"
@@ -304,9 +219,11 @@ def try_poster(browser, recording, address):
     check("the screen fills the window", browser.value(box), [0, 0, 0])
     browser.press("Escape")
     check("and leaves it", browser.value("at.player.classList.contains('filled')"), False)
-    browser.press("k")
-    check("k plays", browser.value("playing !== null"), True)
-    browser.press("k")
+    for key in "kK":
+        browser.press(key)
+        check(f"{key} plays", browser.value("playing !== null"), True)
+        browser.press(key)
+        check(f"{key} pauses", browser.value("playing"), None)
     browser.open(address + "#t=7")
     check("the poster of an address", browser.value(drawn)[::2], [False, 7])
 
@@ -325,161 +242,60 @@ def try_address(browser, recording, address):
     check("the link", browser.value("put"), f"{address}#t=3")
     check("its word", browser.value("at.answer.textContent"), "link copied")
     wanted = plain_picture.picture(recording.screen(standing(browser)[1]), "3.000000")
-    same = """
-    (() => {
-      const read = text => new DOMParser().parseFromString(text, 'image/svg+xml').documentElement;
-      const wanted = read(%s);
-      for (const node of [...wanted.childNodes]) if (node.nodeType === 3) node.remove();
-      return read(pictureFile()).isEqualNode(wanted);
-    })()
-    """
-    check("the saved picture", browser.value(same % json.dumps(wanted)), True)
+    check("the saved picture", browser.value(SAVED % json.dumps(wanted)), True)
     browser.value("window.saved = []; HTMLAnchorElement.prototype.click = function () { saved.push(this.download); }")
     browser.value("savePicture()")
     wanted = [f"screen-{standing(browser)[1]}.svg", "picture saved"]
     check("its file", browser.value("[saved.join(), at.answer.textContent]"), wanted)
 
 
-def try_speech(browser, address):
-    """A screen reader is told where the player rests, at most once a second, and nothing while it plays."""
-    browser.open(address)
-    watch = """
-    new Promise(done => {
-      let told = 0;
-      new MutationObserver(() => told++).observe(at.told, { childList: true });
-      (%s)();
-      setTimeout(() => done(told), 2600);
-    })
-    """
-    check("nothing is told while it plays", browser.value(watch % "() => { at.idle.value = 'Infinity'; play(); }"), 0)
-    browser.value("pause()")
-    seeks = "() => { let n = 0; const i = setInterval(() => n < 100 ? seek(n++ / 10) : clearInterval(i), 10); }"
-    check("seeks are told now and then", browser.value(watch % seeks) <= 3, True)
-    check("what is told", browser.value("at.told.textContent"), f"0:09, chunk {standing(browser)[1]} of 119")
+def try_clicks(browser, address):
+    """A click also counts where the rows are drawn anew between its ends; one that selects text doesn't."""
 
+    def mouse(kind, x, y, **more):
+        browser.ask("Input.dispatchMouseEvent", type=kind, x=x, y=y, button="left", clickCount=1, **more)
 
-def try_look(browser, address):
-    """Contrast in light and dark, the button that turns them around, sizes of what is pressed, print, no script."""
-    contrast = """
-    (() => {
-      const pen = document.createElement('canvas').getContext('2d', { willReadFrequently: true });
-      const light = colours => {
-        for (const colour of colours) {
-          pen.fillStyle = colour;
-          pen.fillRect(0, 0, 1, 1);
-        }
-        const parts = [...pen.getImageData(0, 0, 1, 1).data].slice(0, 3).map(n => n / 255);
-        const [r, g, b] = parts.map(n => n <= 0.04045 ? n / 12.92 : ((n + 0.055) / 1.055) ** 2.4);
-        return 0.2126 * r + 0.7152 * g + 0.0722 * b;
-      };
-      const under = element => getComputedStyle(element).backgroundColor;
-      const grounds = element => element ? [...grounds(element.parentElement), under(element)] : [];
-      const ratio = element => {
-        const [one, two] = [light([getComputedStyle(element).color]), light(grounds(element))];
-        return (Math.max(one, two) + 0.05) / (Math.min(one, two) + 0.05);
-      };
-      const texts = 'h1, #facts, #clock, #count, #found, select, #text, summary, dd, code, .moment, .row, mark, #under';
-      const low = [...document.querySelectorAll(texts)].filter(element => ratio(element) < 4.5);
-      return low.map(element => element.outerHTML);
-    })()
-    """
-    for scheme in ("light", "dark"):
-        browser.ask("Emulation.setEmulatedMedia", features=[{"name": "prefers-color-scheme", "value": scheme}])
-        browser.open(address)
-        browser.value(
-            "at.text.value = 'Seek'; listMoments(); showFind(0); document.querySelector('details').open = true"
-        )
-        check(f"contrast, {scheme}", browser.value(contrast), [])
-        ground = browser.value("getComputedStyle(document.body).backgroundColor")
-        browser.value("at.theme.click()")
-        check(
-            f"turned around, {scheme}", browser.value("getComputedStyle(document.body).backgroundColor") != ground, True
-        )
-        check(f"contrast, turned around, {scheme}", browser.value(contrast), [])
-    browser.ask("Emulation.setEmulatedMedia", features=[])
-    small = """
-    [...document.querySelectorAll('button, select, #text')].filter(element => {
-      const { width, height } = element.getBoundingClientRect();
-      return element.offsetParent && (width < %d || height < %d);
-    }).map(element => element.id)
-    """
-    check("sizes", browser.value(small % (32, 32)), [])
-    browser.ask("Emulation.setTouchEmulationEnabled", enabled=True)
-    browser.ask("Emulation.setEmulatedMedia", features=[{"name": "pointer", "value": "coarse"}])
-    browser.open(address)
-    if browser.value("matchMedia('(pointer: coarse)').matches"):
-        check("sizes under a finger", browser.value(small % (44, 44)), [])
-    browser.ask("Emulation.setTouchEmulationEnabled", enabled=False)
-    browser.ask("Emulation.setEmulatedMedia", media="print", features=[])
-    seen = "['screen', 'card', 'poster', 'theme'].map(name => at[name].getClientRects().length > 0)"
-    check("what is printed", browser.value(seen), [True, False, False, False])
-    browser.ask("Emulation.setEmulatedMedia", media="")
-    browser.ask("Emulation.setScriptExecutionDisabled", value=True)
-    browser.ask("Page.navigate", url=address + "?plain")
-    time.sleep(1)
-    nodes = browser.ask("Accessibility.getFullAXTree")["nodes"]
-    roles = {node["role"]["value"] for node in nodes if not node.get("ignored")}
-    check("no dead controls without a script", roles & {"button", "slider", "searchbox"}, set())
-    names = " ".join(node.get("name", {}).get("value", "") for node in nodes)
-    check("what is said without a script", "terminal recording" in names, True)
-    browser.ask("Emulation.setScriptExecutionDisabled", value=False)
-
-
-# Titles that would be markup, end an attribute, or have what HTML or a terminal takes for something else.
-TITLES = (
-    "</title><script>broken = 1</script>",
-    "</h1><img src=x onerror='broken = 1'>",
-    '" onload="broken = 1',
-    "&lt;b&gt; &amp; &#60; &copy",
-    "<!-- ]]>",
-    "\x1b[31m \x7f \x9b \r\n",
-    "é─\U0001f600",
-)
-
-
-def try_titles(browser, recording, folder):
-    """The title and the heading are the characters of a title, control characters aside, and nothing of it is run."""
-    seen = "[document.title, document.querySelector('h1').textContent, document.scripts.length, typeof broken]"
-    for number, title in enumerate(TITLES):
-        browser.open(recording.page(folder, f"title{number}", "--title", title))
-        wanted = "".join("?" if ord(c) < 32 or 127 <= ord(c) < 160 else c for c in title)
-        check(f"title {title!r}", browser.value(seen), [wanted, wanted, 2, "undefined"])
-
-
-def try_names(browser, address):
-    """What a screen reader is told, what was fetched, and whether anything went wrong."""
-    browser.open(address)
-    browser.value("at.text.value = 'Seek'; listMoments()")
-    nodes = browser.ask("Accessibility.getFullAXTree")["nodes"]
-    told = {(node["role"]["value"], node.get("name", {}).get("value")) for node in nodes if not node.get("ignored")}
-    wanted = {("slider", "Moment"), ("button", "Play"), ("button", "Chunk back"), ("button", "Chunk on")}
-    wanted |= {
-        ("button", "Copy text"),
-        ("button", "Copy link"),
-        ("button", "Save picture"),
-        ("button", "Fill the window"),
-    }
-    wanted |= {("button", "Play the recording"), ("button", "Dark or light"), ("group", "Screen")}
-    wanted |= {("button", "Next found moment"), ("button", "Found moment before"), ("searchbox", "Text on the screen")}
-    check("names", wanted - told, set())
-    check(
-        "no control without a name", {role for role, name in told if role in ("button", "slider") and not name}, set()
+    browser.open(address + "#t=7")
+    browser.value(f"{HELD}; begin(); rest()")
+    x, y = browser.value(
+        "(({ left, top }) => [left + 8, top + 8])(document.querySelector('tspan').getBoundingClientRect())"
     )
-    check("menus", {name for role, name in told if role in ("combobox", "popUpButton")}, {"Speed", "Idle at most"})
-    asked = [event["params"] for event in browser.events if event["method"] == "Network.requestWillBeSent"]
-    check("what is fetched", [one["request"]["url"] for one in asked if one["type"] != "Document"], [])
-    wrong = [event for event in browser.events if event["method"] in ("Runtime.exceptionThrown", "Log.entryAdded")]
-    check("complaints", wrong, [])
-    widths = browser.value("[document.documentElement.scrollWidth <= innerWidth]")
-    check("width", widths, [True])
-    for width in (360, 390, 800, 1280):
-        browser.ask("Emulation.setDeviceMetricsOverride", width=width, height=700, deviceScaleFactor=1, mobile=False)
-        check(f"a window of {width}", browser.value("document.documentElement.scrollWidth <= innerWidth"), True)
-    browser.ask("Emulation.clearDeviceMetricsOverride")
+    for told, wanted in (("plays", True), ("pauses", False)):
+        mouse("mousePressed", x, y)
+        browser.value("for (const n of [1, last - 1]) stand(entries[n][0], n)")
+        mouse("mouseReleased", x, y)
+        check(f"a click over rows that are drawn anew {told}", browser.value("playing !== null"), wanted)
+    browser.value("seek(7); rest()")
+    mouse("mousePressed", x, y)
+    mouse("mouseMoved", x + 90, y, buttons=1)
+    mouse("mouseReleased", x + 90, y)
+    selected = browser.value("[getSelection().toString().length > 3, playing]")
+    check("text that is selected", selected, [True, None])
+    browser.value("getSelection().removeAllRanges()")
+    mouse("mousePressed", 5, 5)
+    mouse("mouseMoved", x, y, buttons=1)
+    mouse("mouseReleased", x, y)
+    check("a click that began elsewhere", browser.value("playing"), None)
+
+
+# What a seek from a count to another one does with the elements of rows: how many stay, are they in order, and how many
+# stay on their line. %s: two counts.
+KEPT = """
+((from, to) => {
+  seekCount(from);
+  const before = [...shown.elements];
+  seekCount(to);
+  const places = shown.elements.map(element => before.indexOf(element));
+  const stay = places.filter(place => place >= 0);
+  const children = [...shown.svg.children].slice(2, -1);
+  const same = shown.elements.every((element, i) => element === children[i]);
+  return [stay.length, stay.every((place, i) => i === 0 || stay[i - 1] < place), same];
+})(%s, %s)
+"""
 
 
 def try_large(browser, folder):
-    """100,000 chunks, each a changed line and now and then a scroll."""
+    """100,000 chunks, each a changed line, and from the 25th on a scroll."""
     entries = ["[0.000000,0,1,1]"]
     for n in range(1, 100_001):
         line, changes = min(n, 24), []
@@ -487,168 +303,72 @@ def try_large(browser, folder):
             changes = [f"{row},{row + 1}" for row in range(1, 24)]
         changes.append(f'{line},[0,0,"line {n} of a long session"]')
         entries.append(f"[{n / 10:.6f},0,{line},30,{','.join(changes)}]")
-    address = page_of(folder, "large", "[" + ",\n".join(entries) + "]")
-    start = time.monotonic()
-    browser.open(address)
-    browser.value("place.count")
-    opened = time.monotonic() - start
-    took = browser.value(
-        """
-        (() => {
-          const took = [];
-          for (let n = 0; n < 200; n++) {
-            const start = performance.now();
-            seekCount(n * 7919 % 100001);
-            took.push(performance.now() - start);
-          }
-          return took;
-        })()
-        """
-    )
-    print(f"100,000 chunks: opened in {opened:.2f} s, a seek takes {statistics.median(took):.2f} ms")
-    check("a large page opens in time", opened < 5, True)
-    check("a large page seeks in time", statistics.median(took) < 50, True)
-
-
-# A recording of today on 12 columns and 3 lines: colours, marks, both widths, what is drawn, a hidden cursor,
-# a reversed screen, what a list of places doesn't serve, a cursor on a right half, rows that move, a text over
-# the margin.
-TODAY = (
-    "\x1b[1;31mab\x1b[0;2;44m日\x1b[7m─e\u0301\x1b[m\r\n\x1b[38;2;1;2;3;9m<😀\x1b[m",
-    "\x1b[2;3Hx\x1b[?25l",
-    "\x1b[?5h\x1b[?25h",
-    "\x1b[H\x1b[7;3mA⣿⠁⠀\x1b[8;4mhid─\x1b[m  \x1b[41m \x1b[m",
-    "\x1b[3;1H\x1b[4;5mZ─x\ufffe\u2028y\u00adz\ue0b0日",
-    "\x1b[3;11H",
-    "\n\n",
-    "\x1b[48;5;200;38;5;250mQ\x1b[1;33;7mR\x1b[?5l",
-    "\x1b[m\x1b[H\x1b[2J0123456789a日b\x1b[3;1Hthe  end\u3000",
-)
-FOUND = {"a日": 1, "9a": 1, "the  end": 1, "\u3000": 1, "本": 0}
-
-
-# What this recording's first chunk changes, written by hand.
-FIRST_ENTRY = (
-    '[0.500000,0,2,4,1,[0,1,2,"ab",544,0,5,"日",56,0,5,"─",1064,0,5,"e\u0301"],'
-    '2,[0,256,66308,"\\u003c",768,66308,"\U0001f600"]]'
-)
-
-
-def drawn_today(program, folder, size, chunks):
-    """What `picture --profile xterm` draws after each count of chunks, half a second apart, as elements of a page."""
-    paths = [os.path.join(folder, f"today.{kind}") for kind in ("script", "timing")]
-    for path, content in zip(paths, plain.files_of((HEADER, [(500_000, chunk) for chunk in chunks], b""))):
-        with open(path, "wb") as file:
-            file.write(content)
-    words = [program, "picture", "--profile", "xterm", "--size", "%dx%d" % size, *paths, "--at"]
-    for count in range(len(chunks) + 1):
-        told = subprocess.run([*words, str(count / 2)], check=True, capture_output=True).stdout
-        yield LEFT_OUT.sub("", told.decode())
-
-
-def try_today(browser, folder, name, size, chunks):
-    """Every count of a recording of today, in random order: its text and its picture."""
-    dues = [f"{number / 2:.6f}" for number in range(1, len(chunks) + 1)]
-    browser.open(page_of(folder, name, plain_today_drawing.data(size, chunks, dues)))
-    terminal, screens = plain_today.Terminal(*size), []
-    for chunk in (b"", *chunks):
-        terminal.feed(chunk)
-        picture = plain_today_drawing.picture(terminal, "0.000000")
-        screens.append((LEFT_OUT.sub("", picture), plain_today.plain_text(terminal)))
-    counts = list(range(len(screens)))
-    random.Random(name).shuffle(counts)
-    wrong = []
-    for count in counts:
-        picture, text = screens[count]
-        browser.value(f"location.hash = '#n={count}'; new Promise(done => setTimeout(done))")
-        same = browser.value(SAME % json.dumps(picture))
-        printed = browser.value("plainText(rowsAt(place.count))") == text
-        if not (same and printed):
-            wrong.append((count, same, printed))
-    check(f"{name}: counts", wrong, [])
-    size_told = browser.value("at.facts.textContent")
-    check(f"{name}: size", size_told, f"{size[0]} x {size[1]}, {len(chunks)} chunks")
-    wrong = [event for event in browser.events if event["method"] in ("Runtime.exceptionThrown", "Log.entryAdded")]
-    check(f"{name}: complaints", wrong, [])
-
-
-def try_todays(browser, program, folder):
-    """Pages of a terminal of today."""
-    for number in range(6):
-        rng = random.Random(number)
-        chunks = [random_today.stream(rng)[:200] for _ in range(40)]
-        try_today(browser, folder, f"today-{number}", (rng.choice([2, 20, 80]), rng.choice([1, 5, 24])), chunks)
-    chunks = [text.encode() for text in TODAY]
-    try_today(browser, folder, "today", (12, 3), chunks)
-    data = plain_today_drawing.data((12, 3), chunks[:1], ["0.500000"])
-    check("an entry of today", data, f"[[12,3],\n[0.000000,0,1,1],\n{FIRST_ENTRY}]")
-    wrong = []
-    for count, picture in enumerate(drawn_today(program, folder, (12, 3), chunks)):
+    browser.open(page_of(folder, "large", "[" + ",\n".join(entries) + "]"))
+    check("a scroll keeps 23 rows", browser.value(KEPT % (5000, 5001)), [23, True, True])
+    check("three back keep 21", browser.value(KEPT % (5001, 4998)), [21, True, True])
+    check("far away none is kept", browser.value(KEPT % (4998, 90_000)), [0, True, True])
+    rng, wrong = random.Random(1), []
+    for count in [0, 1, 63, 64, 65, 100_000, *(rng.randrange(100_001) for _ in range(100))]:
         browser.value(f"seekCount({count})")
-        if not browser.value(SAME % json.dumps(picture)):
+        first = max(1, count - 23)
+        text = "".join(f"line {n} of a long session\n" for n in range(first, count + 1))
+        if (
+            browser.value("[...shown.svg.querySelectorAll('text')].map(text => text.textContent + '\\n').join('')")
+            != text
+        ):
             wrong.append(count)
-    check("what picture draws today", wrong, [])
-    kept = """
-    (() => {
-      seekCount(4);
-      const before = [...shown.elements], grounds = [...shown.ground.children], rows = rowsAt(4);
-      seekCount(5);
-      const same = rowsAt(5).map((row, i) => (row === rows[i]) === (shown.elements[i] === before[i])).every(Boolean);
-      return same && grounds.length > 0 && grounds.every((path, i) => path === shown.ground.children[i]);
-    })()
-    """
-    check("only changed rows are drawn today", browser.value(kept), True)
-    hidden = "(() => { seekCount(1); const svg = shown.svg; seekCount(2); return svg === shown.svg; })()"
-    check("a hidden cursor draws nothing else", browser.value(hidden), True)
-    for text, many in FOUND.items():
-        browser.value(f"at.text.value = {json.dumps(text)}; listMoments()")
-        check(f"find today {text!r}", browser.value("finds.list.length"), many)
-    saved = """
-    (() => {
-      seekCount(9);
-      const read = text => new DOMParser().parseFromString(text, 'image/svg+xml').documentElement;
-      const wanted = read(%s);
-      for (const node of [...wanted.childNodes]) if (node.nodeType === 3) node.remove();
-      return read(pictureFile()).isEqualNode(wanted);
-    })()
-    """
-    terminal = plain_today.Terminal(12, 3)
-    terminal.feed("".join(TODAY).encode())
-    picture = plain_today_drawing.picture(terminal, "4.500000")
-    check("the saved picture of today", browser.value(saved % json.dumps(picture)), True)
+    check("rows of a large page", wrong, [])
 
 
-def main():
-    if not chromium.path():
-        skip.skip("the player of a page", "chromium")
-        return skip.end(0, 0)
-    program = os.path.abspath(sys.argv[1])
-    with tempfile.TemporaryDirectory() as folder:
-        browser = chromium.Chromium(folder)
-        try:
-            for name, chunks in shipped():
-                recording = Recording(program, chunks)
-                address = recording.page(folder, name)
-                try_counts(browser, name, recording, address)
-                check(f"{name}: title", browser.value("document.title"), name)
-                if name == "tour":
-                    for trial in (try_keys, try_playing, try_controls):
-                        trial(browser, recording, address)
-                    try_find(browser, recording, address, "seconds")
-                    try_poster(browser, recording, address)
-                    try_address(browser, recording, address)
-                    try_titles(browser, recording, folder)
-                    try_speech(browser, address)
-                    try_names(browser, address)
-                    try_look(browser, address)
-                if len(sys.argv) > 2:
-                    browser.picture(os.path.join(sys.argv[2], f"{name}.png"))
-            try_large(browser, folder)
-            try_todays(browser, program, folder)
-        finally:
-            browser.close()
-    return skip.end(passed, len(failed))
+def try_sketch(browser, address):
+    """Many new letters are drawn on a canvas until the screen rests; the elements are there all the while."""
+    seen = """
+    [isSketched(), ...['#sketch', '#screen text'].map(name => getComputedStyle(document.querySelector(name)).display)]
+    """
+    browser.open(address)
+    check("the poster is no sketch", browser.value(seen), [False, "none", "block"])
+    browser.value("stand(0, 0); begin()")
+    drawn = """
+    (() => {
+      stand(0, %s);
+      return [...%s, sketch.pen.getImageData(0, 0, at.sketch.width, at.sketch.height).data.some(n => n > 0)];
+    })()
+    """
+    check("a sketch", browser.value(drawn % (FULLEST, seen)), [True, "block", "none", True])
+    browser.until("!isSketched()")
+    check("a screen at rest", browser.value(seen), [False, "none", "block"])
+    check_sketch(browser, "the sketch")
+    double = """
+    [...entries.keys()].find(n => rowsAt(n).some(([size]) => size > DOUBLE) && textOf(rowsAt(n).flat()).length > 500)
+    """
+    check_sketch(browser, "the sketch of double height", double)
+    browser.press("f")
+    check_sketch(browser, "the sketch of a filled window")
+    browser.ask("Emulation.setDeviceMetricsOverride", width=1400, height=700, deviceScaleFactor=1.5, mobile=False)
+    check_sketch(browser, "the sketch at another scale")
+    browser.press("Escape")
+    browser.ask("Emulation.clearDeviceMetricsOverride")
+    browser.value(f"stand(0, 0); stand(0, {FULLEST})")
+    browser.ask("Emulation.setEmulatedMedia", media="print")
+    check("a sketch isn't printed", browser.value(seen)[1:], ["none", "block"])
+    browser.ask("Emulation.setEmulatedMedia", media="")
+
+
+def trial(browser, program, folder):
+    for name, chunks in shipped():
+        recording = Recording(program, chunks)
+        address = recording.page(folder, name)
+        try_counts(browser, name, recording, address)
+        check(f"{name}: title", browser.value("document.title"), name)
+        if name == "tour":
+            for tried in (try_keys, try_playing, try_controls, try_poster, try_address):
+                tried(browser, recording, address)
+            try_find(browser, recording, address, "seconds")
+            try_clicks(browser, address)
+        if name == "vttest":
+            try_sketch(browser, address)
+    try_large(browser, folder)
 
 
 if __name__ == "__main__":
-    sys.exit(main())
+    sys.exit(page_browser.run("the player of a page", trial))

@@ -5,7 +5,7 @@ pub(crate) const HEAD: &str = r#"<!DOCTYPE html>
 <html lang="en">
 <head>
 <meta charset="utf-8">
-<meta http-equiv="Content-Security-Policy" content="default-src 'none'; style-src 'sha256-ug8s/zp6byAsKfQh0lSwGytOSG4zEe1908TjyzNpOb4=' 'sha256-41ZjWXbLzhTafYEyERDbGKbMVNxsK3OwEvW/XNHXbgg=' 'sha256-TyIR+bqr2yFmwvNy/CexORdVWbfdkMu0BcA5BIMPLns='; script-src 'sha256-rgtCuSjqxe17wdV57gQSTAfS4IIJIab9hO7QYwhECKc='; form-action 'none'; base-uri 'none'">
+<meta http-equiv="Content-Security-Policy" content="default-src 'none'; style-src 'sha256-/gduD0c4fp628CuUCF79P08mE9Bz7IVzaASm/PA91uM=' 'sha256-41ZjWXbLzhTafYEyERDbGKbMVNxsK3OwEvW/XNHXbgg=' 'sha256-TyIR+bqr2yFmwvNy/CexORdVWbfdkMu0BcA5BIMPLns=' 'sha256-01PLkxmEMkI+3llU6tB//ucNTih+KsYuSReYs88QKVE='; script-src 'sha256-l7VmH81hsBCtZO8Hlos8Vp01ozwnSyJ8NMgfvkae11w='; form-action 'none'; base-uri 'none'">
 <meta name="viewport" content="width=device-width, initial-scale=1">
 <title>"#;
 
@@ -35,6 +35,13 @@ h1 { font-size: 1.1rem; margin: 0; }
 figure { position: relative; margin: 0; border-radius: 10px; overflow: hidden; background: #111; }
 figure, #under { box-shadow: 0 4px 16px #0004; }
 #screen svg { display: block; width: 100%; height: auto; }
+/* Where no text runs from right to left nothing is isolated: it looks the same, and is laid out in less time. */
+#screen:not(.turned) tspan { unicode-bidi: normal; }
+#sketch { display: none; position: absolute; inset: 0; width: 100%; height: 100%; pointer-events: none; }
+@media screen {
+  .sketched #sketch { display: block; }
+  .sketched #screen text { display: none; }
+}
 #poster { position: absolute; inset: 0; width: 100%; height: 100%; border-radius: 0; background: #0004; }
 #poster svg { width: 96px; height: 96px; fill: #fff; }
 #poster circle { fill: #111; stroke: #fff; stroke-width: 2; }
@@ -100,6 +107,26 @@ main.filled { display: flex; flex-direction: column; box-sizing: border-box; max
   figure { box-shadow: none; background: none; }
 }
 </style>
+<noscript><style>
+/* Without a script the page is its heading, a sentence, and the data as text. */
+#player[hidden] { display: block !important; }
+#player > :not(header), #theme { display: none; }
+noscript p, #entries { width: calc(100% - 2rem); max-width: 1008px; margin: 0 auto 1rem; }
+#entries {
+  box-sizing: border-box;
+  display: block;
+  max-height: 70vh;
+  padding: .75rem 1rem;
+  overflow: auto;
+  border: 1px solid var(--line);
+  border-radius: 10px;
+  background: var(--card);
+  font: .85rem/1.5 monospace;
+  white-space: pre-wrap;
+  overflow-wrap: anywhere;
+}
+@media print { #entries { max-height: none; overflow: visible; } }
+</style></noscript>
 </head>
 <body>
 <main id="player" hidden>
@@ -113,6 +140,7 @@ pub(crate) const REST: &str = r#"</h1>
 </header>
 <figure id="figure">
 <div id="screen"></div>
+<canvas id="sketch" aria-hidden="true"></canvas>
 <button id="poster" type="button" aria-label="Play the recording"><svg viewBox="0 0 96 96" aria-hidden="true"><circle cx="48" cy="48" r="47"/><path d="M39 33v30l25-15z"/></svg><span id="length"></span></button>
 </figure>
 <section id="card" aria-label="Player">
@@ -169,8 +197,11 @@ screen between two chunks; <code>typetool find</code> looks at every byte.</p>
 <p id="told" role="status"></p>
 </main>
 <noscript><p>This page holds a terminal recording that was written by <code>typetool page</code>, and plays it by a
-script; scripts are switched off here. <code>typetool screen --at SECONDS</code> shows the text of any moment of the
-recording it was made of.</p></noscript>
+script; scripts are switched off here. What it plays stands below as text, a line for each piece of output; the first
+line with text in quotes is the first screen. Each begins with the seconds, two flags as a number, and line and column
+of the cursor. Then comes, for each row of the screen that changed, its number and its text between quotes, or the
+number of the row that it was before. <code>typetool screen --at SECONDS</code> writes any of these screens plainly,
+from the recording that the page was made of.</p></noscript>
 <script type="application/json" id="entries">
 "#;
 
@@ -250,7 +281,8 @@ const OUTLINES = {
 // A recording's entries: [seconds, flags, line, column, row, change, row, change, ..], entry 0 before the first chunk
 // and then one for each. The terminal's work is done: this folds rows and draws them. Before the entries of a terminal
 // of today stands its size; a VT100 has 24 lines of 80 columns, or 132.
-const entries = JSON.parse(document.getElementById('entries').textContent);
+const data = document.getElementById('entries').textContent;
+const entries = JSON.parse(data);
 const TODAY = entries[0].length === 2;
 const [COLUMNS, LINES] = TODAY ? entries.shift() : [80, 24];
 const last = entries.length - 1;
@@ -267,6 +299,9 @@ const FIRST_COLOURS = [
   0x000000, 0xd64d4d, 0x3fa33f, 0xe0bc48, 0x3564c8, 0xb565b5, 0x3fb0b0, 0xcccccc,
   0x767676, 0xff8078, 0x7fd97f, 0xffe066, 0x8fb8ff, 0xe8a0e8, 0x7fe0e0, 0xffffff,
 ];
+// Characters written from right to left, and those that turn others around.
+const TURNED =
+  /[\u0590-\u08ff\u200e\u200f\u202a-\u202e\u2066-\u2069\ufb1d-\ufdff\ufe70-\ufeff\ud802\ud803\ud83a\ud83b]/;
 const LEVELS = [0x00, 0x5f, 0x87, 0xaf, 0xd7, 0xff];
 const at = Object.fromEntries([...document.querySelectorAll('[id]')].map(element => [element.id, element]));
 
@@ -395,13 +430,8 @@ function allowed(text) {
   return text.replace(/[\ufffe\uffff]/g, '\ufffd');
 }
 
-// The letters of a run, in pieces that a list of places serves.
-function letters(run, paper) {
-  const { kind, characters, step, before } = run;
-  if (kind & CONCEALED) return [];
-  const names = [kind & BOLD && 'b', kind & ITALIC && 't', kind & BLINK && 'k'];
-  const drawn = { class: [...names, 'n'].filter(Boolean).join(' ') };
-  const attributes = kind & DRAWN ? drawn : coloured(run, names, paper);
+// The characters of a run, in pieces that a list of places serves.
+function piecesOf({ kind, characters, step, before }) {
   const pieces = [];
   characters.forEach((character, i) => {
     const alone = isAlone(character, kind), place = 10 * (before + step * i);
@@ -411,7 +441,16 @@ function letters(run, paper) {
       pieces.at(-1).places.push(place);
     }
   });
-  return pieces.map(({ text, places }) => draw('tspan', { ...attributes, x: places.join(' ') }, allowed(text)));
+  return pieces;
+}
+
+function letters(run, paper) {
+  const { kind } = run;
+  if (kind & CONCEALED) return [];
+  const names = [kind & BOLD && 'b', kind & ITALIC && 't', kind & BLINK && 'k'];
+  const drawn = { class: [...names, 'n'].filter(Boolean).join(' ') };
+  const attributes = kind & DRAWN ? drawn : coloured(run, names, paper);
+  return piecesOf(run).map(({ text, places }) => draw('tspan', { ...attributes, x: places.join(' ') }, allowed(text)));
 }
 
 // The dots of a Braille pattern, each told from the one before it.
@@ -489,8 +528,8 @@ function drawnCursor(row, flags, line, column, paper) {
   return framed(row[0], line - 1, [outer, inner]);
 }
 
-// What stands there: the rows that were drawn, their elements and grounds, and the flags.
-const shown = { count: -1, flags: null, rows: [], elements: [], grounds: [], svg: null };
+// What stands there: the rows that were drawn, their runs, elements and grounds, and the flags.
+const shown = { count: -1, flags: null, rows: [], runs: [], elements: [], grounds: [], svg: null };
 
 function drawFrame(flags) {
   const width = 10 * columnsOf(flags) + 20, height = 20 * LINES + 20;
@@ -503,41 +542,199 @@ function drawFrame(flags) {
   shown.svg = draw('svg', { class: ink, viewBox: box, width, height, role: 'group', 'aria-label': 'Screen' },
     back, shown.ground, ...shown.elements, shown.cursor);
   shown.svg.setAttributeNS('http://www.w3.org/XML/1998/namespace', 'xml:space', 'preserve');
-  shown.rows = [];
+  shown.rows = Array(LINES).fill([SINGLE]);
+  shown.runs = Array(LINES).fill([]);
   shown.grounds = Array(LINES).fill(TODAY ? [] : '');
   shown.flags = flags;
   at.screen.replaceChildren(shown.svg);
 }
 
-// Puts a row's grounds in the place of those that were drawn, before those of the rows below.
-function replaceGrounds(line, grounds) {
-  for (const path of shown.grounds[line]) path.remove();
-  const below = shown.grounds.find((paths, i) => i > line && paths.length);
-  for (const path of grounds) shown.ground.insertBefore(path, below ? below[0] : null);
-  shown.grounds[line] = grounds;
+// A row as one text: rows that say the same are drawn the same.
+const written = new WeakMap();
+
+function writtenRow(row) {
+  if (!written.has(row)) written.set(row, JSON.stringify(row));
+  return written.get(row);
 }
 
-// Draws the screen of an entry; of its rows only those that aren't drawn so already.
+// By how many lines most rows moved: 0 and the three that serve most, rows that stand in many places left out.
+function shifts(before, after) {
+  const places = new Map(), tally = new Map([[0, 0]]);
+  before.forEach((text, j) => {
+    if (!places.has(text)) places.set(text, []);
+    places.get(text).push(j);
+  });
+  after.forEach((text, i) => {
+    const there = places.get(text) || [];
+    if (there.length > 4) return;
+    for (const j of there) tally.set(j - i, (tally.get(j - i) || 0) + 1);
+  });
+  return [...tally].sort((one, other) => other[1] - one[1]).slice(0, 4).map(([shift]) => shift).concat(0);
+}
+
+// The most numbers of a list, -1 aside, that rise: the places where they stand.
+function rising(list) {
+  const tails = [], from = [];
+  list.forEach((number, i) => {
+    if (number < 0) return;
+    let k = tails.length;
+    while (k > 0 && list[tails[k - 1]] >= number) k--;
+    from[i] = k > 0 ? tails[k - 1] : -1;
+    tails[k] = i;
+  });
+  const places = new Set();
+  for (let i = tails.length ? tails.at(-1) : -1; i >= 0; i = from[i]) places.add(i);
+  return places;
+}
+
+// For each row the place where it stood before, in an order that their elements keep, or -1 where it is drawn anew.
+function standingRows(rows) {
+  if (rows.every((row, i) => row === shown.rows[i])) return rows.map((_, i) => i);
+  const before = shown.rows.map(writtenRow), after = rows.map(writtenRow), best = shifts(before, after);
+  const wanted = after.map((text, i) => {
+    const shift = best.find(shift => before[i + shift] === text);
+    return shift === undefined ? -1 : i + shift;
+  });
+  const kept = rising(wanted);
+  return wanted.map((place, i) => kept.has(i) ? place : -1);
+}
+
+// A row's element stands on another line.
+function moveRow(element, size, line) {
+  const y = 20 * line;
+  if (size === SINGLE) element.setAttribute('transform', `translate(0 ${y})`);
+  else if (size === DOUBLE) element.setAttribute('transform', `matrix(2 0 0 1 0 ${y})`);
+  else element.setAttribute('y', y);
+}
+
+// Draws rows, anew those that stood nowhere; the others keep their elements. How many characters were drawn.
+function drawRows(rows, paper) {
+  const places = standingRows(rows), { runs, elements, grounds } = shown, stays = new Set(places);
+  elements.forEach((element, j) => { if (!stays.has(j)) element.remove(); });
+  if (TODAY) grounds.forEach((paths, j) => { if (places[j] !== j) for (const path of paths) path.remove(); });
+  shown.rows = rows;
+  [shown.runs, shown.elements, shown.grounds] = [[], [], []];
+  let next = shown.cursor, ground = null, fresh = 0;
+  for (let i = LINES - 1; i >= 0; i--) {
+    const [size] = rows[i], place = places[i], now = place < 0 ? runsOf(rows[i]) : runs[place];
+    shown.runs[i] = now;
+    shown.elements[i] = place < 0 ? drawnRow(size, now, i, paper) : elements[place];
+    if (place < 0) {
+      shown.svg.insertBefore(shown.elements[i], next);
+      fresh += now.reduce((sum, run) => sum + run.characters.length, 0);
+    } else if (place !== i) moveRow(elements[place], size, i);
+    if (place === i) shown.grounds[i] = grounds[i];
+    else {
+      shown.grounds[i] = TODAY ? groundsOf(now, i) : pathOf(size, now, i);
+      if (TODAY) for (const path of shown.grounds[i]) shown.ground.insertBefore(path, ground);
+    }
+    next = shown.elements[i];
+    if (TODAY && shown.grounds[i].length) [ground] = shown.grounds[i];
+  }
+  if (!TODAY) shown.ground.setAttribute('d', shown.grounds.join(''));
+  return fresh;
+}
+
+// Draws the screen of an entry; of its rows only those that don't stand there already.
 function drawScreen(count) {
   if (count === shown.count) return;
   const [, flags, line, column] = entries[count];
   const rows = rowsAt(count);
   const paper = flags & REVERSED ? 'i' : 'p';
   if ((flags & ~HIDDEN) !== shown.flags) drawFrame(flags & ~HIDDEN);
-  rows.forEach((row, i) => {
-    if (row === shown.rows[i]) return;
-    const runs = runsOf(row), element = drawnRow(row[0], runs, i, paper);
-    shown.elements[i].replaceWith(element);
-    shown.elements[i] = element;
-    if (TODAY) replaceGrounds(i, groundsOf(runs, i));
-    else shown.grounds[i] = pathOf(row[0], runs, i);
-  });
+  const fresh = drawRows(rows, paper);
   shown.count = count;
-  shown.rows = rows;
-  if (!TODAY) shown.ground.setAttribute('d', shown.grounds.join(''));
   const cursor = drawnCursor(rows[line - 1], flags, line, column, paper);
   shown.cursor.replaceWith(cursor);
   shown.cursor = cursor;
+  sketchScreen(fresh);
+}
+
+// ---- a sketch while the screen moves
+
+// A browser takes long for letters that have a place each. Where many are new all are hidden, and drawn on a canvas in
+// their places, until no more screens come, or none with many for a second.
+const MANY = 250, REST = 200;
+const STYLE = (TODAY ? at.today : at.drawing).textContent;
+const FONT = /font:([^;]*)/.exec(STYLE)[1];
+const PAINTS = { i: /\.i{fill:(#\w+)/.exec(STYLE)[1], p: /\.p{fill:(#\w+)/.exec(STYLE)[1] };
+const sketch = { pen: at.sketch.getContext('2d'), waiting: 0, box: { width: 0, height: 0 } };
+
+function isSketched() {
+  return at.figure.classList.contains('sketched');
+}
+
+// The letters themselves are shown again.
+function rest() {
+  clearTimeout(sketch.waiting);
+  at.figure.classList.remove('sketched');
+}
+
+function sketchRun(pen, run, ink, back) {
+  const { kind } = run, [paint] = paintsOf(run);
+  if (kind & (CONCEALED | DRAWN)) return;
+  pen.font = `${kind & ITALIC ? 'italic ' : ''}${kind & BOLD ? 'bold ' : ''}${FONT}`;
+  pen.fillStyle = paint === INK ? ink : paint === BACK ? back : paint;
+  pen.globalAlpha = kind & FAINT ? 0.7 : 1;
+  for (const { text, places } of piecesOf(run)) {
+    const whole = places.length === 1 || sketch.spacing !== undefined && /^[ -~]*$/.test(text);
+    if (whole) pen.fillText(text, places[0], 15);
+    else [...text].forEach((character, i) => pen.fillText(character, places[i], 15));
+  }
+}
+
+// A row's letters; of letters of double height a half.
+function sketchRow(pen, size, runs, line, scale, ink, back) {
+  const wide = size === SINGLE ? 1 : 2, high = size > DOUBLE ? 2 : 1, up = size > 2 ? 20 : 0;
+  pen.save();
+  pen.translate(10 * scale, (10 + 20 * line) * scale);
+  pen.scale(scale, scale);
+  if (high > 1) {
+    pen.beginPath();
+    pen.rect(0, 0, 1320, 20);
+    pen.clip();
+  }
+  pen.translate(0, -up);
+  pen.scale(wide, high);
+  for (const run of runs) sketchRun(pen, run, ink, back);
+  pen.restore();
+}
+
+// The canvas has a pixel for each of the device's, of which it tells how many make one of the page.
+function fitSketch() {
+  const { box, pen, spacing } = sketch, dense = devicePixelRatio;
+  const [width, height] = [box.width, box.height].map(length => Math.round(length * dense));
+  if (at.sketch.width !== width) at.sketch.width = width;
+  if (at.sketch.height !== height) at.sketch.height = height;
+  if (spacing !== undefined) pen.letterSpacing = spacing;
+  return dense;
+}
+
+function sketchScreen(fresh) {
+  if (!isSketched() && (fresh < MANY || !at.figure.classList.contains('begun'))) return;
+  const { pen, box: { width, height } } = sketch, dense = fitSketch();
+  const wide = 10 * columnsOf(shown.flags) + 20, high = 20 * LINES + 20;
+  const scale = Math.min(width / wide, height / high);
+  const [ink, back] = shown.flags & REVERSED ? [PAINTS.p, PAINTS.i] : [PAINTS.i, PAINTS.p];
+  pen.setTransform(1, 0, 0, 1, 0, 0);
+  pen.clearRect(0, 0, at.sketch.width, at.sketch.height);
+  pen.setTransform(dense, 0, 0, dense, dense * (width - wide * scale) / 2, dense * (height - high * scale) / 2);
+  shown.rows.forEach(([size], i) => sketchRow(pen, size, shown.runs[i], i, scale, ink, back));
+  at.figure.classList.add('sketched');
+  if (fresh >= MANY) sketch.moved = performance.now();
+  clearTimeout(sketch.waiting);
+  sketch.waiting = setTimeout(rest, Math.min(REST, Math.max(0, sketch.moved + 5 * REST - performance.now())));
+}
+
+// What stands between letters so that they have 10 units each, where a canvas knows of that.
+function readSketch() {
+  const { pen } = sketch;
+  pen.font = FONT;
+  if (pen.letterSpacing !== undefined) sketch.spacing = `${10 - pen.measureText('m'.repeat(100)).width / 100}px`;
+  new ResizeObserver(([{ contentRect }]) => {
+    sketch.box = contentRect;
+    sketchScreen(0);
+  }).observe(at.screen);
 }
 
 // ---- the moment
@@ -847,7 +1044,7 @@ function pictureFile() {
   const picture = shown.svg.cloneNode(true);
   const title = draw('title', {}, `Screen at ${place.moment.toFixed(6)} s`);
   const text = draw('desc', {}, allowed(plainText(rowsAt(place.count))));
-  picture.prepend(title, text, draw('style', {}, (TODAY ? at.today : at.drawing).textContent));
+  picture.prepend(title, text, draw('style', {}, STYLE));
   return new XMLSerializer().serializeToString(picture);
 }
 
@@ -902,11 +1099,12 @@ function tellUnder(event) {
 }
 
 const KEYS = {
-  ' ': toggle, k: toggle, ',': () => stepChunk(-1), '.': () => stepChunk(1),
+  ' ': toggle, k: toggle, K: toggle, ',': () => stepChunk(-1), '.': () => stepChunk(1),
   '<': () => changeSpeed(-1), '>': () => changeSpeed(1),
   ArrowLeft: () => seek(place.moment - 5), ArrowRight: () => seek(place.moment + 5),
   Home: () => seek(0), End: () => seek(end), '/': () => at.text.focus(),
-  n: () => stepFind(1), N: () => stepFind(-1), f: () => fillWindow(), Escape: () => fillWindow(false),
+  n: () => stepFind(1), N: () => stepFind(-1),
+  f: () => fillWindow(), F: () => fillWindow(), Escape: () => fillWindow(false),
   c: copyText, l: copyLink, s: savePicture,
 };
 for (let tenth = 0; tenth < 10; tenth++) KEYS[tenth] = () => seek(end * tenth / 10);
@@ -926,19 +1124,31 @@ function pressed(event) {
   act();
 }
 
-// A click that ends a selection of text is none.
-function clicked() {
-  if (getSelection().isCollapsed) toggle();
+// A row may be drawn anew while the button is down, and then no click comes: it is told by both of its ends. One that
+// ends a selection of text is none, and the second of two fills the window besides.
+let held = false;
+
+function heldDown(event) {
+  held = event.button === 0;
+  if (event.detail > 1) event.preventDefault();
+}
+
+function letGo(event) {
+  if (!held || event.button !== 0 || !getSelection().isCollapsed) return;
+  toggle();
+  if (event.detail === 2) fillWindow();
 }
 
 const CLICKS = {
-  theme: turnTheme, poster: play, screen: clicked, play: toggle, back: () => stepChunk(-1), on: () => stepChunk(1),
+  theme: turnTheme, poster: play, play: toggle, back: () => stepChunk(-1), on: () => stepChunk(1),
   copy: copyText, link: copyLink, save: savePicture, fill: () => fillWindow(),
   previous: () => stepFind(-1), next: () => stepFind(1),
 };
 for (const [name, act] of Object.entries(CLICKS)) at[name].addEventListener('click', act);
 
 (TODAY ? at.drawing : at.today).disabled = true;
+at.screen.classList.toggle('turned', TURNED.test(data));
+readSketch();
 at.player.hidden = false;
 at.time.max = end;
 at.length.textContent = clock(end);
@@ -946,8 +1156,9 @@ at.facts.textContent = `${entries.some(entry => entry[1] & WIDE) ? 132 : COLUMNS
 at.time.addEventListener('input', () => seek(Number(at.time.value)));
 at.time.addEventListener('pointermove', tellUnder);
 at.time.addEventListener('pointerleave', () => { at.under.hidden = true; });
-at.screen.addEventListener('mousedown', event => { if (event.detail > 1) event.preventDefault(); });
-at.screen.addEventListener('dblclick', () => fillWindow());
+at.screen.addEventListener('mousedown', heldDown);
+at.screen.addEventListener('mouseup', letGo);
+addEventListener('mouseup', () => { held = false; });
 at.finder.addEventListener('submit', event => { event.preventDefault(); listMoments(); });
 addEventListener('keydown', pressed);
 addEventListener('hashchange', () => { if (readAddress()) begin(); });
