@@ -7,16 +7,17 @@ SOURCES := crates.txt $(shell find crates -name out -prune -o -type f -print)
 
 all: bin/typetool
 
-# The program at work before any proof: the screen of a recording at a moment in seconds. `rt try` compiles it, runs it
-# once and keeps nothing.
+# The program at work before any proof: the screen of a recording at a moment in seconds, of one of today with
+# PROFILE=xterm. `rt try` compiles it, runs it once and keeps nothing.
 quick: export SCRIPT ?= examples/tour.script
 quick: export TIMING ?= examples/tour.timing
 quick: export AT ?= 10
+quick: export PROFILE ?= vt100
 quick:
 	@echo "UNPROVED: this compiles the program and proves nothing; 'make' proves it, and builds bin/typetool."
-	@echo "Compiling takes about two minutes, in silence; then comes the screen of $$SCRIPT at $$AT seconds."
+	@echo "Compiling takes about two minutes, in silence; then comes the screen of $$SCRIPT at $$AT seconds ($$PROFILE)."
 	@script=$$(realpath -- "$$SCRIPT") && timing=$$(realpath -- "$$TIMING") && cd crates/typetool && \
-		rt try --data "script=$$script" --data "timing=$$timing" -- screen --at "$$AT" script timing
+		rt try --data "script=$$script" --data "timing=$$timing" -- screen --profile "$$PROFILE" --at "$$AT" script timing
 
 # The Debian packages that tests and linters use. It never fails: a test that lacks its tool is skipped, and says so.
 tools:
@@ -67,11 +68,13 @@ test:
 		'tests/cast.py bin/typetool' \
 		'tests/archive.py bin/typetool 500' \
 		'tests/refused.py 1 12 13' \
-		'tests/browser.py bin/typetool'
+		$(BROWSER)
 
-# The player of a page in Chromium.
+# Pages in Chromium.
+BROWSER := 'tests/browser.py bin/typetool' 'tests/browser_look.py bin/typetool' 'tests/browser_today.py bin/typetool'
+
 browser: bin/typetool
-	tests/run.py 'tests/browser.py bin/typetool'
+	tests/run.py $(BROWSER)
 
 # The long forms: more limits on memory, 20,000 damaged pairs and random recordings, 1,000 kills of each job that writes a
 # pair, an archive of 2,000, every growth refused in turn, and more wrong bodies.

@@ -6,7 +6,7 @@ _typetool() {
         [due]='--at --help' [info]='--help' [check]='--profile --size --help' [screen]='--at --escaped --profile --size --help' [save]='--help'
         [picture]='--at --profile --size --help' [page]='--profile --size --title --help' [cast]='--profile --size --help'
         [mend]='--last --headless --help' [redact]='--profile --size --help'
-        [changes]='--from --to --profile --size --help' [find]='--from --to --profile --help' [reports]='--at --profile --size --help' [session]='--every --profile --size --help'
+        [changes]='--from --to --profile --size --help' [find]='--from --to --profile --size --help' [reports]='--at --profile --size --help' [session]='--every --profile --size --help'
     )
     if [ "$COMP_CWORD" = 1 ]; then
         mapfile -t COMPREPLY < <(compgen -W "${!taken[*]} help --help --version" -- "$word")
@@ -23,12 +23,9 @@ _typetool() {
         last=${COMP_WORDS[COMP_CWORD - 2]}
     fi
     case $last in
-    --profile)
-        flags='vt100 vt102'
-        case ${COMP_WORDS[1]} in check | screen | picture | changes | reports | page | cast | redact | session) flags+=' xterm' ;; esac
-        mapfile -t COMPREPLY < <(compgen -W "$flags" -- "$word")
-        ;;
-    --at | --from | --to | --every | --size | --title) COMPREPLY=() ;;
+    --profile) mapfile -t COMPREPLY < <(compgen -W 'vt100 vt102 xterm' -- "$word") ;;
+    --size) mapfile -t COMPREPLY < <(compgen -W '80x24 100x30 120x40 132x43 160x50' -- "$word") ;;
+    --at | --from | --to | --every | --title) COMPREPLY=() ;;
     *)
         flags=${taken[${COMP_WORDS[1]}]-}
         if [[ $word == -* ]]; then

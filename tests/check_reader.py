@@ -256,15 +256,21 @@ def facts(line):
         yield b"size " + b"x".join(size)
 
 
+def played_size(line, asked=None):
+    """The columns and lines of a terminal of today that plays a recording, those that are asked for, if they are."""
+    size = size_of(line)
+    given = [int(text) for text in size] if size else [0, 0]
+    usual = given if 2 <= given[0] <= 1000 and 1 <= given[1] <= 500 else [80, 24]
+    return list(asked or usual)
+
+
 def parts(profile, line, trailer, asked=None):
     """The notes that are told to whoever plays the recording, by their names."""
     size, term = size_of(line), value(b"TERM", line)
     told = {}
     if profile == "xterm":
-        given = [int(text) for text in size] if size else [0, 0]
-        usual = given if 2 <= given[0] <= 1000 and 1 <= given[1] <= 500 else [80, 24]
-        played = list(asked or usual)
-        other = size and given != played
+        played = played_size(line, asked)
+        other = size and [int(text) for text in size] != played
     else:
         played, other = [80, 24], size and size != [b"80", b"24"]
     if other:

@@ -21,7 +21,9 @@ import tempfile
 
 import check_reader
 import harm
+import plain_find
 import plain_reader as plain
+import plain_redact
 
 program = os.path.abspath(sys.argv[1])
 pairs = int(sys.argv[2]) if len(sys.argv) > 2 else 200
@@ -117,6 +119,7 @@ class Damage:
         text, status = check_reader.check("vt100", header, b"".join(chunk for _, chunk in chunks), trailer)
         self.expect("check", self.run(["check", "s", "t"]), (status, text, b""))
         self.played(recording)
+        self.found_today(recording)
         self.edited(recording)
         self.redacted(recording, script)
 
@@ -128,6 +131,7 @@ class Damage:
             ["picture", "--at", "1"],
             ["changes", "--to", "1"],
             ["find", "a"],
+            ["find", "--profile", "xterm", "a"],
             ["check"],
             ["page"],
             ["cast"],
@@ -154,6 +158,17 @@ class Damage:
             status, text, errors = self.run([*words, "s", "t"])
             self.expect(words[0], (status, errors), (0 if text else 1, self.note))
         self.changed(recording, at, us)
+
+    def found_today(self, recording):
+        """What find tells of the terminal of today; of a long recording whether it ends."""
+        header, chunks, trailer = recording
+        body, size = b"".join(text for _, text in chunks), check_reader.played_size(header.removesuffix(b"\n"))
+        status, text, errors = self.run(["find", "--profile", "xterm", "e", "s", "t"])
+        note = check_reader.note_line("xterm", header, trailer)
+        self.expect("find as of today", (status, errors), (0 if text else 1, note))
+        if len(body) < 1500:
+            screens = list(plain_find.screens_of_today(size, body))
+            self.expect("found as of today", text, plain_find.found(chunks, screens, None, None, "e").encode())
 
     def changed(self, recording, at, us):
         """Change lines name chunks that are due, when they are due, and lines of the screen, each in rising order."""
@@ -220,16 +235,13 @@ class Damage:
     def redacted(self, recording, script):
         """A piece of the typescript as TEXT: each byte of it is *, and it stands where find says it does."""
         text = piece_of(self.rng, script)
-        wanted, count = without(script, text)
+        wanted, count = plain_redact.without(script, text)
         status, told, errors = self.run(["redact", "--", text, "s", "t", "s3", "t3"])
         self.expect("what redact wrote", (self.text("s3"), self.text("t3")), (wanted, plain.save(recording, b"")[1]))
         lines = self.run(["find", "--", text, "s3", "t3"])[1]
         self.expect(f"redact {text}", (told, errors), (b"redacted %d\n%s" % (count, lines), self.note))
         new = plain.read(wanted, self.text("t"))
-        sizes = [check_reader.size_of(header.removesuffix(b"\n")) for header in (recording[0], new[0])]
-        usual = not new[2] or re.fullmatch(rb"\nScript done on [^\n]*\n?", new[2])
-        good = count > 0 and not lines and sizes[0] == sizes[1] and usual
-        self.expect(f"redact {text}, the status", status, 0 if good else 1)
+        self.expect(f"redact {text}, the status", status, plain_redact.status(recording, new, count, lines))
 
 
 def piece_of(rng, script):
@@ -237,13 +249,6 @@ def piece_of(rng, script):
     at = rng.randrange(len(script))
     text = re.match(rb"[ -)+-~]*", script[at : at + rng.choice([1, 1, 2, 3, 8])])[0]
     return text if text.strip(b" ") else b"e"
-
-
-def without(script, text):
-    """A typescript with * for each byte of the text, wherever it stands, and how often it does."""
-    places = [at for at in range(len(script)) if script.startswith(text, at)]
-    covered = {at + n for at in places for n in range(len(text))}
-    return bytes(42 if at in covered else byte for at, byte in enumerate(script)), len(places)
 
 
 def one(folder, number, whole):

@@ -1,12 +1,14 @@
 #!/usr/bin/env python3
-"""Plays random recordings by `find`, `picture` and `check` in both profiles, and compares with plain readings.
+"""Plays random recordings by `find`, `redact`, `picture` and `check`, and compares with plain readings.
 
     tests/fuzz.py TYPETOOL [RECORDINGS [SEED]]
 
-The screens that find lines speak of are those of a page of the same bytes, a chunk each: one run of the program draws
-them all (`screen` for each byte takes an hour), and page_data.py says that pages hold what `session` tells.
-plain_find.py says what stands there, plain_picture.py how a screen is drawn, and check_reader.py what is told of the
-recording itself, and the note on standard error.
+Each is played as a VT100, as a VT102, and, by `find` and `redact`, as a terminal of today too (today_fuzz.py has the
+rest). The screens that find lines speak of are those of a page of the same bytes, a chunk each: one run of the program
+draws them all (`screen` for each byte takes an hour), and page_data.py says that pages hold what `session` tells;
+those of today are plain_today.py's. plain_find.py says what stands there, plain_redact.py what is taken out,
+plain_picture.py how a screen is drawn, and check_reader.py what is told of the recording itself, and the note on
+standard error.
 
 The last line is 'N passed, M failed'.
 """
@@ -23,6 +25,7 @@ import check_reader
 import plain_find
 import plain_picture
 import plain_reader
+import plain_redact
 import plain_screen
 import random_recordings
 
@@ -30,6 +33,7 @@ program = os.path.abspath(sys.argv[1])
 count = int(sys.argv[2]) if len(sys.argv) > 2 else 200
 seed = int(sys.argv[3]) if len(sys.argv) > 3 else 1
 PATIENCE = 20
+PROFILES = ["vt100", "vt102", "xterm"]
 DATA = re.compile('<script type="application/json" id="entries">(.*?)</script>', re.S)
 TEXTS = [
     "err",
@@ -67,23 +71,19 @@ def written(folder, name, recording):
     return f"{name}.script", f"{name}.timing"
 
 
-def screens_of(folder, profile, recording):
-    """The rows after each byte of the body, from none on."""
+def screens_of(folder, profile, recording, size):
+    """The rows before the first byte of the body and after each of them; the size is that of a terminal of today."""
     header, chunks, trailer = recording
     body = b"".join(text for _, text in chunks)
+    if profile == "xterm":
+        yield from plain_find.screens_of_today(size, body)
+        return
     pair = written(folder, "apart", (header, [(0, body[at : at + 1]) for at in range(len(body))], trailer))
     entries = json.loads(DATA.search(run(folder, "page", "--profile", profile, *pair)[1].decode())[1])
     for (_, flags, *_), rows in zip(entries, plain_picture.folded(entries)):
         columns = 132 if flags & 1 else 80
-        yield ["".join(row[2::2]).ljust(columns if row[0] == plain_screen.SINGLE else columns // 2) for row in rows]
-
-
-def by_chunk(chunks, screens):
-    """The screens before each chunk and after each of its bytes."""
-    at = 0
-    for _, text in chunks:
-        yield screens[at : at + len(text) + 1]
-        at += len(text)
+        texts = ["".join(row[2::2]).ljust(columns if row[0] == plain_screen.SINGLE else columns // 2) for row in rows]
+        yield [plain_find.row_of(text) for text in texts]
 
 
 def bounds_of(rng, moments):
@@ -103,26 +103,40 @@ def moments_of(recording):
 
 def found(rng, folder, profile, recording, pair):
     """What find writes, and what it is to write."""
-    moments = moments_of(recording)
-    first, last = bounds_of(rng, moments)
+    first, last = bounds_of(rng, moments_of(recording))
     text = rng.choice(TEXTS)
-    asked = [
-        index for index, due in enumerate(moments) if (first is None or due > first) and (last is None or due <= last)
-    ]
-    dues = [plain_reader.written(due).decode() for due in moments]
-    screens = list(screens_of(folder, profile, recording))
-    start = None
-    if first is not None:
-        count = sum(due <= first for due in moments)
-        fed = sum(len(text) for _, text in recording[1][:count])
-        start = (plain_reader.written(first).decode(), count, screens[fed])
-    wanted = plain_find.find_lines(list(by_chunk(recording[1], screens)), dues, asked, start, text).encode()
+    size = check_reader.played_size(recording[0].removesuffix(b"\n"))
+    screens = list(screens_of(folder, profile, recording, size))
+    wanted = plain_find.found(recording[1], screens, first, last, text).encode()
     words = ["--profile", profile]
     words += [] if first is None else ["--from", plain_reader.written(first).decode()]
     words += [] if last is None else ["--to", plain_reader.written(last).decode()]
     told = run(folder, "find", *words, "--", text, *pair)
     note = check_reader.note_line(profile, recording[0], recording[2])
     return f"find {words} {text!r}", told, (0 if wanted else 1, wanted, note)
+
+
+def redacted(rng, folder, profile, recording, pair):
+    """What redact tells and writes, and what it is to tell and write."""
+    text = rng.choice(TEXTS)
+    size = check_reader.played_size(recording[0].removesuffix(b"\n"))
+    script, timing, new, count = plain_redact.redacted(recording, text)
+    lines = plain_find.found(new[1], list(screens_of(folder, profile, new, size)), None, None, text).encode()
+    status = plain_redact.status(recording, new, count, lines)
+    note = check_reader.note_line(profile, recording[0], recording[2])
+    told = run(folder, "redact", "--profile", profile, "--", text, *pair, "new.script", "new.timing")
+    pieces = [taken(folder, name) for name in ("new.script", "new.timing")]
+    wanted = (status, b"redacted %d\n" % count + lines, note), [script, timing]
+    return f"redact {profile} {text!r}", (told, pieces), wanted
+
+
+def taken(folder, name):
+    """The bytes of a file, which is then removed."""
+    path = os.path.join(folder, name)
+    with open(path, "rb") as file:
+        text = file.read()
+    os.remove(path)
+    return text
 
 
 def pictured(rng, folder, profile, recording, pair):
@@ -135,7 +149,7 @@ def pictured(rng, folder, profile, recording, pair):
     return f"picture {words}", run(folder, "picture", *words), (0, wanted, note)
 
 
-def checked(folder, profile, recording, pair):
+def checked(_, folder, profile, recording, pair):
     """What check writes, and what it is to write."""
     header, chunks, trailer = recording
     text, status = check_reader.check(profile, header, b"".join(text for _, text in chunks), trailer)
@@ -149,14 +163,12 @@ def one(number):
     problems = []
     with tempfile.TemporaryDirectory(prefix="fuzz-") as folder:
         pair = written(folder, "made", recording)
-        for profile in ("vt100", "vt102"):
-            for name, got, wanted in (
-                found(rng, folder, profile, recording, pair),
-                pictured(rng, folder, profile, recording, pair),
-                checked(folder, profile, recording, pair),
-            ):
-                if got != wanted:
-                    problems.append(f"{name}: got {got}, wanted {wanted}, of {recording}")
+        asked = [(found, profile) for profile in PROFILES] + [(redacted, profile) for profile in PROFILES]
+        asked += [(job, profile) for job in (pictured, checked) for profile in PROFILES[:2]]
+        for job, profile in asked:
+            name, got, wanted = job(rng, folder, profile, recording, pair)
+            if got != wanted:
+                problems.append(f"{name}: got {got}, wanted {wanted}, of {recording}")
     return number, problems
 
 

@@ -299,6 +299,18 @@ def found_texts():
         line = b"+ 0 0.000000 1 1 " + b"x" * (24 * columns) + b"\n"
         check(f"a screen of {columns} columns", run(["find", "x" * (24 * columns), "s", "t"]), (0, line, b""))
         check(f"more than {columns} columns", run(["find", "x" * (24 * columns + 1), "s", "t"]), (1, b"", b""))
+    for columns, lines in ((2, 1), (3, 2), (41, 6)):
+        words = ["--profile", "xterm", "--size", f"{columns}x{lines}"]
+        # Where columns are odd the last one stays free of a character of two columns, and doesn't end the row.
+        for text in ("x" * (columns * lines), "日" * (columns // 2 * lines)):
+            full = text.encode()
+            pair(HEADER + full, b"0 %d\n" % len(full))
+            line = b"+ 0 0.000000 1 1 " + full + b"\n"
+            check(f"{columns}x{lines}, full of {text[0]}", run(["find", *words, text, "s", "t"]), (0, line, b""))
+            check(f"more than that of {text[0]}", run(["find", *words, text + text[0], "s", "t"]), (1, b"", b""))
+    pair(HEADER + b"\x1b[500;999Hab", b"0 12\n")
+    words = ["find", "--profile", "xterm", "--size", "1000x500", "ab", "s", "t"]
+    check("the largest screen", run(words), (0, b"+ 0 0.000000 500 999 " + b" " * 998 + b"ab\n", b""))
     for text in ("", " " * 9, "a\x1f", "\x7f", "a\u0080", "\u009f"):
         check(f"find {text!r}", run(["find", text, "nowhere", "nowhere"]), (2, b"", b"typetool: bad text\n"))
     for text in ("~", "\u00a0", "\U0010ffff", "x" * 100_000):

@@ -129,11 +129,16 @@ def in_shells():
             check(f"{shell}: {command}", offered(shell, "typetool", command, "--"), flags_of(text))
         check(f"{shell}: profiles", offered(shell, "typetool", "screen", "--profile", "vt"), {"vt100", "vt102"})
     # bash cuts words at =, fish doesn't.
-    for words in (["--profile", "="], ["--profile", "=", "vt"]):
-        check(f"bash: {''.join(words)}", offered("bash", "typetool", "find", *words), {"vt100", "vt102"})
-    for command in "screen", "picture", "changes", "reports", "page", "cast", "redact", "session":
+    for words, wanted in ((["="], {"vt100", "vt102", "xterm"}), (["=", "vt"], {"vt100", "vt102"})):
+        got = offered("bash", "typetool", "find", "--profile", *words)
+        check(f"bash: --profile{''.join(words)}", got, wanted)
+    for command in "check", "screen", "picture", "changes", "find", "reports", "page", "cast", "redact", "session":
         of_today = offered("bash", "typetool", command, "--profile", "")
         check(f"bash: profiles of {command}", of_today, {"vt100", "vt102", "xterm"})
+    check("bash: sizes", offered("bash", "typetool", "page", "--size", "1"), {"100x30", "120x40", "132x43", "160x50"})
+    check("bash: --size=8", offered("bash", "typetool", "page", "--size", "=", "8"), {"80x24"})
+    check("fish: sizes", offered("fish", "typetool", "page", "--size", "8"), {"80x24"})
+    check("fish: --size=8", offered("fish", "typetool", "page", "--size=8"), {"--size=80x24"})
     wanted = {"--profile=vt100", "--profile=vt102"}
     check("fish: --profile=", offered("fish", "typetool", "screen", "--profile=vt"), wanted)
     check("bash: files", "README.md" in offered("bash", "typetool", "info", "READ"), True)
@@ -146,10 +151,10 @@ def in_zsh():
     for command, words in helps().items():
         arm = re.search(rf"^    {command}\)(.*?);;", text, flags=re.MULTILINE | re.DOTALL)
         said = arm[1] if arm else ""
-        flags = set(re.findall(r"--[a-z]+", said)) | {"--help"} | ({"--profile"} if "$profile" in said else set())
-        flags |= {"--profile", "--size"} if "$any" in said else set()
+        flags = set(re.findall(r"--[a-z]+", said)) | {"--help"} | ({"--profile", "--size"} if "$any" in said else set())
         check(f"zsh: {command}", flags, flags_of(words))
         check(f"zsh: {command} is described", f"'{command}:" in text, True)
+    check("zsh: sizes", "--size=[columns, x and lines, with --profile xterm]:size:(80x24 " in text, True)
     if not skip.lacks("zsh", "whether zsh reads its completions"):
         told = subprocess.run(["zsh", "-n", "completions/_typetool"], cwd=TOP, capture_output=True, text=True)
         check("zsh: reads", (told.returncode, told.stderr), (0, ""))

@@ -1,24 +1,73 @@
 """A plain reading of where a text stands on a screen, and of when it came and went, looked at byte by byte.
 
-It is written from docs/PICTURES.md alone and shares nothing with the program.
+It is written from docs/PICTURES.md alone and shares nothing with the program. The terminal of today is played by
+plain_today.py; the screens of a VT100 are drawn by the program itself.
 """
 from collections import Counter
+from typing import NamedTuple
 
+import plain_reader
+import plain_today
 from plain_screen import drawn, text_of
 
 
+class Row(NamedTuple):
+    """A row's characters, the column in which each of them stands, and whether it runs on into the next row."""
+
+    text: str
+    columns: tuple
+    runs_on: bool
+
+
+def row_of(text):
+    """A row of a VT100, whose characters stand from column 1 to its right margin."""
+    return Row(text, tuple(range(1, len(text) + 1)), text[-1] != " ")
+
+
 def rows_of(escaped):
-    """The characters of each row, from column 1 to its right margin."""
+    """The rows of a VT100."""
     screen = drawn(escaped)
-    return [text_of(screen, row) for row in screen.rows]
+    return [row_of(text_of(screen, row)) for row in screen.rows]
+
+
+def row_of_today(cells, below):
+    """A row of a terminal of today, by its cells and those of the row below it, if there is one."""
+    before, last = (cell.text == " " for cell in cells[-2:])
+    # A character of two columns may not have fit into the last one.
+    unfit = last and not before and below is not None and below[0].wide == 2
+    if unfit:
+        cells = cells[:-1]
+    columns = tuple(column for column, cell in enumerate(cells, 1) for _ in cell.text)
+    return Row("".join(cell.text for cell in cells), columns, unfit or not last)
+
+
+def rows_of_today(terminal, known):
+    """The rows of a terminal of today. Those that are known by the lists of cells that they were read of, which
+    plain_today.py never changes, are not read again."""
+    shown = terminal.rows()
+    for cells, below in zip(shown, [*shown[1:], None]):
+        of = id(cells), id(below)
+        if of not in known:
+            # With the lists, so that no other one gets their numbers.
+            known[of] = row_of_today(cells, below), cells, below
+        yield known[of][0]
+
+
+def screens_of_today(size, data):
+    """The rows of a terminal of a size before the first byte and after each of them."""
+    terminal, known = plain_today.Terminal(*size), {}
+    yield list(rows_of_today(terminal, known))
+    for byte in data:
+        terminal.step(byte)
+        yield list(rows_of_today(terminal, known))
 
 
 def lines_of(rows):
-    """The rows of each line, from its first one on: a row whose last character is a space ends a line."""
+    """The rows of each line, from its first one on."""
     line = []
     for number, row in enumerate(rows):
         line.append((number, row))
-        if row[-1] == " " or number == len(rows) - 1:
+        if not row.runs_on or number == len(rows) - 1:
             yield line
             line = []
 
@@ -34,16 +83,16 @@ def places_of(joined, text):
 def standing(rows, text):
     """Each place of the text: row and column from 1, its left part, and its rows as they are written."""
     for line in lines_of(rows):
-        joined = "".join(row for _, row in line)
+        joined = "".join(row.text for _, row in line)
         if text not in joined:
             continue
-        starts = [sum(len(row) for _, row in line[:n]) for n in range(len(line) + 1)]
+        starts = [sum(len(row.text) for _, row in line[:n]) for n in range(len(line) + 1)]
         for at in places_of(joined, text):
             first = max(n for n in range(len(line)) if starts[n] <= at)
             last = max(n for n in range(len(line)) if starts[n] < at + len(text))
             left = joined[starts[first] : at + len(text)]
             shown = joined[starts[first] : starts[last + 1]].rstrip(" ")
-            yield line[first][0] + 1, at - starts[first] + 1, left, shown
+            yield line[first][0] + 1, line[first][1].columns[at - starts[first]], left, shown
 
 
 def standings(screens, text):
@@ -89,3 +138,22 @@ def find_lines(screens, dues, asked, start, text):
         lines.append(told("~", index, dues[index], passed(stands)))
         lines.append(told("+", index, dues[index], less(stands[-1], stands[0])))
     return "".join(lines)
+
+
+def found(chunks, screens, first, last, text):
+    """The find lines of the chunks that are due after one moment, where it is told, and by another, where it is told.
+
+    A chunk is a delay in microseconds and bytes; the screens are the one before the first byte and those after each.
+    """
+    moments, ends = [0], [0]
+    for delay, data in chunks:
+        moments.append(moments[-1] + delay)
+        ends.append(ends[-1] + len(data))
+    dues = moments[1:]
+    asked = [n for n, due in enumerate(dues) if (first is None or due > first) and (last is None or due <= last)]
+    start = None
+    if first is not None:
+        count = sum(due <= first for due in dues)
+        start = plain_reader.written(first).decode(), count, screens[ends[count]]
+    by_chunk = [screens[at : end + 1] for at, end in zip(ends, ends[1:])]
+    return find_lines(by_chunk, [plain_reader.written(due).decode() for due in dues], asked, start, text)

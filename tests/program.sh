@@ -359,10 +359,10 @@ holds 'a header that is made' new.script 'Script started\nno line'
 printf '%bold\nScript done on X\n%bab' "$head" 'Script started on Y\n' >appended.script
 mended 'a typescript that was appended to' 0 '' '' appended.script ab.timing --last
 holds 'a typescript that was appended to' new.script 'Script started on Y\nab'
-# redacted NAME STATUS OUT TEXT SCRIPT TIMING: takes a text out of a pair into new.script and new.timing.
+# redacted NAME STATUS OUT TEXT SCRIPT TIMING [FLAG..]: takes a text out of a pair into new.script and new.timing.
 redacted() {
     rm -f new.script new.timing
-    "$program" redact "$4" "$5" "$6" new.script new.timing </dev/null >out.txt 2>err.txt
+    "$program" redact "${@:7}" "$4" "$5" "$6" new.script new.timing </dev/null >out.txt 2>err.txt
     verdict "redacted: $1" "$2" $? "$3" ''
 }
 printf '%bsecret x' "$head" >secret.script
@@ -379,12 +379,29 @@ redacted 'overlapping' 0 'redacted 2\n' aa aaa.script aaa.timing
 printf '%bab' "$head" >trailed.script
 printf '0 1\n' >trailed.timing
 redacted 'into the trailer' 1 'redacted 1\n' ab trailed.script trailed.timing
+# Under xterm the size is that of the old first line, also where the new one tells none.
+printf 'Script started on X [TERM="xterm" COLUMNS="100" LINES="30"]\n\033[1;95H1\033[1;96H00' >sized.script
+printf '0 17\n' >sized.timing
+redacted 'out of the size' 1 "redacted 1\n+ 0 0.000000 1 95 $(printf '%94s' '')100\n" 100 sized.script sized.timing --profile xterm
+holds 'out of the size' new.script 'Script started on X [TERM="xterm" COLUMNS="***" LINES="30"]\n\033[1;95H1\033[1;96H00'
+rm -f new.script new.timing
+check 'redacted: out of the size, played at another' 1 'redacted 1\n' \
+    'typetool: note: size: recorded at 100x30, played at 80x2 (see typetool check)\n' \
+    redact --profile xterm --size 80x2 100 sized.script sized.timing new.script new.timing
+printf '%b日本x' "$head" >japan.script
+printf '0 2\n0.5 5\n' >japan.timing
+redacted 'a character that a chunk cuts' 0 'redacted 1\n' 日本 japan.script japan.timing --profile xterm
+holds 'a character that a chunk cuts' new.script "$head******x"
+holds 'a character that a chunk cuts' new.timing '0.000000 2\n0.500000 5\n'
+printf '%b\rsex\033[Dcret' "$head" >drawn.script
+printf '0 11\n' >drawn.timing
+redacted 'what was drawn in parts' 1 'redacted 0\n+ 0 0.000000 1 1 secret\n' secret drawn.script drawn.timing --profile xterm --size 6x2
 rm -f new.script new.timing
 check 'a secret in a damaged pair' 3 '' "typetool: typescript ends inside chunk 1\n$(hint "$keeps")" \
     redact a aaa.script secret.timing new.script new.timing
 rm -f new.script new.timing
 check 'a secret with a star' 2 '' 'typetool: bad text\n' redact 'a*' nowhere nowhere none none
-check 'a secret under xterm' 2 '' 'typetool: not yet with --profile xterm\n' redact --profile xterm '*' nowhere nowhere none none
+check 'a secret with a star, under xterm' 2 '' 'typetool: bad text\n' redact --profile xterm '*' nowhere nowhere none none
 check 'both headers' 2 '' 'typetool: --last and --headless exclude each other\n' mend --last --headless nowhere nowhere none none
 status 'mend with a profile' 2 mend --profile vt100 ab.script ab.timing none none
 rm -f new.script new.timing
@@ -425,10 +442,10 @@ check 'a text that came later' 0 '+ 2 1.500000 3 1 b\n' '' find --from 1 --to 1.
 check 'a text that never came' 1 '' '' find c three.script three.timing
 check 'a text that came too late' 1 '' '' find --to 1.499999 b three.script three.timing
 check 'a text that stands already' 0 '= 2 1.000000 1 1 a\n' '' find --from 1 a three.script three.timing
-seen() { # what it is, the body (one chunk), the text, the lines
+seen() { # what it is, the body (one chunk), the text, the lines, flags
     printf '%b%b' "$head" "$2" >seen.script
     printf '0 %d\n' "$(printf '%b' "$2" | wc -c)" >seen.timing
-    check "$1" 0 "$4" '' find "$3" seen.script seen.timing
+    check "$1" "$([ -n "$4" ]; echo $?)" "$4" '' find "${@:5}" "$3" seen.script seen.timing
 }
 seen 'a text that scrolled off' "a$(printf '\\n%.0s' $(seq 30))" a '~ 0 0.000000 1 1 a\n'
 seen 'a text that was written over' 'err\rok ' err '~ 0 0.000000 1 1 err\n'
@@ -438,6 +455,36 @@ printf '0 6\n' >flag.timing
 check 'a text that looks like a flag' 0 '+ 0 0.000000 1 1 --help\n' '' find -- --help flag.script flag.timing
 check 'a text of spaces' 2 '' 'typetool: bad text\n' find '  ' nowhere nowhere
 check 'a text with a tab' 2 '' 'typetool: bad text\n' find $'a\tb' nowhere nowhere
+
+# The same on a terminal of today.
+today=(--profile xterm --size 9x3)
+seen 'today: a text that scrolled off' 'a\n\n\nb' a '~ 0 0.000000 1 1 a\n' "${today[@]}"
+seen 'today: a text that was written over' 'err\rok ' err '~ 0 0.000000 1 1 err\n' "${today[@]}"
+seen 'today: a column of its own for each cell' '日本x' x '+ 0 0.000000 1 5 日本x\n' "${today[@]}"
+seen 'today: over the margin' 'Tokyo 0123' '0123' '+ 0 0.000000 1 7 Tokyo 0123\n' "${today[@]}"
+seen 'today: a last column that is free' 'Tokyo 東京' 東京 '+ 0 0.000000 1 7 Tokyo 東京\n' "${today[@]}"
+seen 'today: a last column that is free, and a narrow one' 'Tokyo 東\r\nx' 東x '' "${today[@]}"
+seen 'today: two columns that are free' 'abcdefg\r\n日' g日 '' "${today[@]}"
+seen 'today: a space on the margin' 'abcdefgh ij' 'h i' '' "${today[@]}"
+seen 'today: a mark' 'xe\xcc\x81y' $'e\xcc\x81' '+ 0 0.000000 1 2 xe\xcc\x81y\n' "${today[@]}"
+seen 'today: what stands behind a mark' 'xe\xcc\x81y' y '+ 0 0.000000 1 3 xe\xcc\x81y\n' "${today[@]}"
+seen 'today: no normal form' 'xe\xcc\x81y' é '' "${today[@]}"
+seen 'today: half a character that is written over' '日\rx' 日 '~ 0 0.000000 1 1 日\n' "${today[@]}"
+# REP is one byte's work: of the row that it fills and leaves nothing is seen.
+seen 'today: a text that REP left' "ab${E}[4b" abb '' --profile xterm --size 3x1
+seen 'today: a text before REP' "ab${E}[4b" ab '~ 0 0.000000 1 1 ab\n' --profile xterm --size 3x1
+seen 'today: a text at the end of REP' "ab${E}[4b" bbb '+ 0 0.000000 1 1 bbb\n' --profile xterm --size 3x1
+printf '%bsecret%b' "$head" "${E}[?1049hother${E}[?1049l" >sheets.script
+printf '0 2\n0.5 4\n0.5 13\n0.5 8\n' >sheets.timing
+check 'today: behind another sheet' 0 \
+    '+ 1 0.500000 1 1 secret\n- 2 1.000000 1 1 secret\n+ 3 1.500000 1 1 secret\n' '' \
+    find "${today[@]}" secret sheets.script sheets.timing
+check 'today: what another sheet shows' 0 '+ 2 1.000000 1 7       other\n- 3 1.500000 1 7       other\n' '' \
+    find "${today[@]}" othe sheets.script sheets.timing
+check 'today: what stands at a moment' 0 '= 4 2.000000 1 1 secret\n' '' find --from 2 "${today[@]}" secret sheets.script sheets.timing
+check 'a bad size before a bad text' 2 '' 'typetool: bad size: 2x1 to 1000x500, with --profile xterm\n' \
+    find --profile xterm --size 1x1 '' nowhere nowhere
+check 'a size without xterm' 2 '' 'typetool: bad size: 2x1 to 1000x500, with --profile xterm\n' find --size 80x24 a nowhere nowhere
 check 'bad seconds before a bad text' 2 '' "typetool: bad seconds\n$seconds" find --to x '' nowhere nowhere
 check 'a bad profile before a bad text' 2 '' 'typetool: bad profile: vt100, vt102 or xterm\n' find --profile x '' nowhere nowhere
 

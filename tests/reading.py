@@ -1,13 +1,13 @@
 #!/usr/bin/env python3
 """Sees that docs/READING.md and docs/READING_TODAY.md list just the definitions that the headline rests on, and
-docs/READING_FIND.md those that *nowhere means nowhere* does.
+docs/READING_FIND.md and docs/READING_FIND_TODAY.md those that *nowhere means nowhere* does.
 
     tests/reading.py [--write]
 
 The lists are computed: every name that a clause of `Session::seek` cites, every name that those definitions cite, and
 so on, by the `use` lines of the specs/ folders; for the terminal of today, what the ghost members cite by which it
-plays, and for find its clause `nowhere`, both without what the first list has. A record, a data type and its
-constructors count as one; so does a type of the code that the definitions speak of. With --write the page gets its
+plays, and for find its clause `nowhere`, each without what the lists have that it builds on. A record, a data type and
+its constructors count as one; so does a type of the code that the definitions speak of. With --write a page gets its
 lists anew, a row for each file with the names that it has: the headings and their order stay, names that went are
 dropped, new ones stand behind the definition that stands before them in their file, and one that moved to another file
 keeps its place.
@@ -23,6 +23,7 @@ TOP = os.path.join(os.path.dirname(os.path.abspath(__file__)), "..")
 PAGE = "docs/READING.md"
 TODAY = "docs/READING_TODAY.md"
 FIND = "docs/READING_FIND.md"
+FIND_TODAY = "docs/READING_FIND_TODAY.md"
 NAME = r"[^\W\d]\w*(?:\.\w+)*"
 USE = re.compile(r"^\s*(?:ghost )?use (Rattle\.[\w.]+?)(?:\.\{([^}]*)\}| as (\w+))?;?$", re.M)
 HEAD = re.compile(r"^(?:abbrev |unfoldable )?pub (?:record |data )?(\w+)", re.M)
@@ -199,9 +200,8 @@ def members_of_today():
     return path, text, " ".join(re.findall(r"^    ghost \w+ = \{.*?\};", text, re.M | re.S))
 
 
-def clause_of_find():
-    """The file of `find`, and its clause that nowhere means nowhere."""
-    path = "crates/screen_print/src/each_byte.rt"
+def clause_of_find(path):
+    """The file of a `find`, and its clause that nowhere means nowhere."""
     text = read(path)
     return path, text, re.search(r"^pub fn find<.*?^    ensures nowhere (\{.*?\})\n", text, re.M | re.S)[1]
 
@@ -286,10 +286,12 @@ def pages():
     """Each page as it is, with the definitions of its list, and as it has to be."""
     found, book = rests_on(contract_of_seek())
     yield PAGE, found, book
-    more, book = rests_on(members_of_today())
-    yield TODAY, {key: one for key, one in more.items() if key not in found}, book
-    more, book = rests_on(clause_of_find())
+    today, book = rests_on(members_of_today())
+    yield TODAY, {key: one for key, one in today.items() if key not in found}, book
+    more, book = rests_on(clause_of_find("crates/screen_print/src/each_byte.rt"))
     yield FIND, {key: one for key, one in more.items() if key not in found}, book
+    more, book = rests_on(clause_of_find("crates/xterm_print/src/find_lines.rt"))
+    yield FIND_TODAY, {key: one for key, one in more.items() if key not in found and key not in today}, book
 
 
 def main():

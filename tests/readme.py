@@ -1,5 +1,5 @@
 #!/usr/bin/env python3
-"""Runs the examples of README.md and docs/COMMANDS.md, twice, and compares what they print.
+"""Runs the examples of README.md, docs/COMMANDS.md and docs/TODAY.md, twice, and compares what they print.
 
     tests/readme.py TYPETOOL
     tests/readme.py --root FOLDER
@@ -19,7 +19,7 @@ import sys
 import tempfile
 
 TOP = os.path.join(os.path.dirname(os.path.abspath(__file__)), "..")
-PAGES = ["README.md", "docs/COMMANDS.md"]
+PAGES = ["README.md", "docs/COMMANDS.md", "docs/TODAY.md"]
 MARK = "-- the next example --"
 
 

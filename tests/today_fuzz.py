@@ -7,8 +7,8 @@ The rows of xterm_rows.json are played by the plain reading (plain_today.py), an
 `reports` with `--profile xterm` where the program is named. Each random stream (random_today.py) is cut into chunks
 anywhere, and played at a size of its own; the screens after it, as text and as a picture (plain_today_drawing.py), the
 reports, and what `check` tells (check_reader.py), have to be the plain reading's, and so what `session` answers to
-questions with edits between them. The cursor and whether a wrap is pending are told by reports, asked for in one more
-chunk.
+questions with edits between them, where `find` finds a text (plain_find.py), and what `redact` tells and leaves of one
+(plain_redact.py). The cursor and whether a wrap is pending are told by reports, asked for in one more chunk.
 
 The last line is 'N passed, M failed'.
 """
@@ -21,7 +21,9 @@ import sys
 import tempfile
 
 import check_reader
+import plain_find
 import plain_reader
+import plain_redact
 import plain_today
 import plain_today_drawing
 import random_today
@@ -30,6 +32,7 @@ program = os.path.abspath(sys.argv[1]) if len(sys.argv) > 1 else None
 count = int(sys.argv[2]) if len(sys.argv) > 2 else 1000
 seed = int(sys.argv[3]) if len(sys.argv) > 3 else 1
 PATIENCE = 20
+REPLACED = "\ufffd"
 HEADER = b"Script started on 2026-11-25 10:00:00+00:00\n"
 # What ends whatever is pending, tells the cursor, and then whether a wrap was pending.
 ASKED = b"\x18\x1b[6nZ\x1b[6n"
@@ -41,7 +44,11 @@ def recorded(chunks):
 
 
 def write(folder, chunks):
-    for kind, text in zip(("script", "timing"), plain_reader.files_of(recorded(chunks))):
+    write_pair(folder, plain_reader.files_of(recorded(chunks)))
+
+
+def write_pair(folder, pair):
+    for kind, text in zip(("script", "timing"), pair):
         with open(os.path.join(folder, f"made.{kind}"), "wb") as file:
             file.write(text)
 
@@ -129,6 +136,64 @@ def session_by_reading(size, chunks, lines):
     return plain_reader.session(recorded(chunks), lines, ask)
 
 
+def text_of(rng, screens):
+    """What is looked for: most often a piece of what stood on a screen, over the ends of rows too."""
+    shown = "".join(row.text for row in rng.choice(screens))
+    inked = [at for at, character in enumerate(shown) if character != " "]
+    if not inked or rng.random() < 0.2:
+        return rng.choice(["a", "x" * 5, "err", "日", "語本", "é", "e\u0301", "\u0301", " a", "b ", REPLACED])
+    count, at = rng.choice([1, 1, 2, 2, 3, 5, 8]), rng.choice(inked)
+    first = max(at - rng.randrange(count), 0)
+    return shown[first : first + count]
+
+
+def search(rng, size, chunks):
+    """What find is asked of these chunks, and what it answers by the plain reading."""
+    screens = list(plain_find.screens_of_today(size, b"".join(text for _, text in chunks)))
+    text = text_of(rng, screens)
+    first, last = (rng.choice([None, None, rng.randrange(len(chunks) + 1) * 10**6]) for _ in range(2))
+    bounds = [(flag, at) for flag, at in (("--from", first), ("--to", last)) if at is not None]
+    words = [word for flag, at in bounds for word in (flag, plain_reader.written(at).decode())]
+    lines = plain_find.found(chunks, screens, first, last, text).encode()
+    return ["find", *words, *words_of(size)[:4], "--", text, *words_of(size)[4:]], (0 if lines else 1, lines, b"")
+
+
+def taking_out(rng, size, chunks):
+    """What redact is asked of these chunks, the pair and what it answers by the plain reading, and the new pair.
+
+    The first line tells the size, now and then another one than is asked for.
+    """
+    header = HEADER[:-1] + b' [TERM="xterm-256color" COLUMNS="%d" LINES="%d"]\n' % random_today.size(rng)
+    asked = rng.choice([None, size])
+    played = check_reader.played_size(header[:-1], asked)
+    recording = header, chunks, rng.choice([b"", b"\nScript done on X\n", b"\nScript done on X\nab"])
+    screens = list(plain_find.screens_of_today(played, b"".join(text for _, text in chunks)))
+    text = text_of(rng, screens).replace("*", "+")
+    script, timing, new, count = plain_redact.redacted(recording, text)
+    left = plain_find.screens_of_today(played, b"".join(text for _, text in new[1]))
+    lines = plain_find.found(new[1], list(left), None, None, text).encode()
+    told = plain_redact.status(recording, new, count, lines), b"redacted %d\n" % count + lines
+    words = words_of(size)[:4] if asked else words_of(size)[:2]
+    words = ["redact", *words, "--", text, *words_of(size)[4:], "new.script", "new.timing"]
+    note = check_reader.note_line("xterm", header, recording[2], asked)
+    return plain_reader.files_of(recording), words, (*told, note), (script, timing)
+
+
+def search_by_program(folder, words):
+    done = subprocess.run([program, *words], capture_output=True, cwd=folder, timeout=PATIENCE)
+    return done.returncode, done.stdout, done.stderr
+
+
+def taking_out_by_program(folder, pair, words):
+    """What redact answers, and the pair that it writes."""
+    write_pair(folder, pair)
+    answer, texts = search_by_program(folder, words), []
+    for name in ("new.script", "new.timing"):
+        with open(os.path.join(folder, name), "rb") as file:
+            texts.append(file.read())
+    return answer, tuple(texts)
+
+
 def cut(rng, text):
     """The text in chunks."""
     ends = sorted(rng.randrange(len(text) + 1) for _ in range(rng.randint(0, 3)))
@@ -141,12 +206,17 @@ def one(number):
     size, text = random_today.size(rng), random_today.stream(rng)
     chunks = [*cut(rng, text), ASKED]
     lines = requests(rng, len(chunks))
-    wanted = list(by_reading(size, chunks)), session_by_reading(size, chunks, lines)
+    timed = recorded(chunks)[1]
+    words, found = search(rng, size, timed)
+    pair, redact, answer, new_pair = taking_out(rng, size, timed)
+    wanted = [*by_reading(size, chunks), session_by_reading(size, chunks, lines), found, (answer, new_pair)]
     if not program:
         return number, None
     with tempfile.TemporaryDirectory(prefix="today-fuzz-") as folder:
-        got = list(by_program(folder, size, chunks)), session_by_program(folder, size, chunks, lines)
-    return number, None if got == wanted else f"{size} {chunks} {lines}: got {got}, wanted {wanted}"
+        got = [*by_program(folder, size, chunks), session_by_program(folder, size, chunks, lines)]
+        got += [search_by_program(folder, words), taking_out_by_program(folder, pair, redact)]
+    asked = f"{size} {chunks} {lines} {words} {redact} {pair}"
+    return number, None if got == wanted else f"{asked}: got {got}, wanted {wanted}"
 
 
 def rows_that_differ(rows, size, play):
