@@ -42,8 +42,8 @@ pub trait Visitor<T: Plays> {
             → IfOk result (λ kept. keeps profile kept before) }
         ensures room { takes_none → IsOk result };
 
-    /// Writes the text of a chunk, by what was kept before it and by the terminal after it, of which it then keeps the
-    /// same. Where memory is refused, nothing was written.
+    /// Writes the text of a chunk, by what was kept before it and by the terminal after it, whose marks tell what the
+    /// chunk may have touched, and of which it then keeps the same. Where memory is refused, nothing was written.
     fn visit<W: Write>(
         &self,
         index: usize,
@@ -52,11 +52,15 @@ pub trait Visitor<T: Plays> {
         terminal: &T,
         writer: &mut Watched<W>,
     ) -> Result<(), OutOfMemory>
+        requires { (profile : T.Profile) × (before : List ℕ) × keeps profile kept.old before
+            × T.told profile terminal.now before }
         ensures gave { (profile : T.Profile) (before after : List ℕ) → keeps profile kept.old before
-            → T.shows profile terminal.now after → OnOk result (Gave W.contents writer.old writer.new
+            → T.shows profile terminal.now after → T.told profile terminal.now before
+            → OnOk result (Gave W.contents writer.old writer.new
             (text self.now profile index due before after)) }
         ensures keeps { (profile : T.Profile) (before after : List ℕ) → keeps profile kept.old before
-            → T.shows profile terminal.now after → OnOk result (keeps profile kept.new after) }
+            → T.shows profile terminal.now after → T.told profile terminal.now before
+            → OnOk result (keeps profile kept.new after) }
         ensures refused { OnErr result (writer.new ≡ writer.old) }
         ensures room { takes_none → IsOk result };
 }

@@ -163,6 +163,9 @@ impl Plays for Strip {
 
     ghost keeps = { λ setup packed bytes. packed ≡ play (blank setup.size) bytes };
 
+    // A strip marks nothing, and tells nothing by its marks.
+    ghost told = { λ _ _ _. Unit {0} };
+
     ghost fits = { λ setup strip. length strip.cells ≡ setup.size };
 
     ghost sent = { λ setup bytes. answers (blank setup.size) bytes };

@@ -15,7 +15,7 @@ use Rattle.tape_core.specs.Law.{FirstGrowsByAChunk}
 use Rattle.plays.specs.declared.plays.Plays.{Ghosts}
 use Rattle.plays.specs.Sink.{HasRoom, Sink, after_sending}
 use Rattle.tape_seek.specs.declared.replay.Replay.{Replay}
-use Rattle.tape_seek.specs.Kept.{HasSent, HoldsUpTo, IsAhead, IsKept, IsPlaying, IsReplay, PlaysOn, SameFront, SendsInParts, Stores, sent_after}
+use Rattle.tape_seek.specs.Kept.{HasSent, HoldsUpTo, IsAhead, IsKept, IsPlaying, IsReplay, PlaysOn, SameFront, SendsInParts, StandsAt, Stores, TellsOfNothing, sent_after}
 use Rattle.tape_seek.specs.Marks.{multiple_below}
 
 -- what stays, by its parts
@@ -101,11 +101,16 @@ module _ {T P K : Type 0} (p : Ghosts T P K) where
   pub multiple_within : (every count : ℕ) → multiple_below every count ≤ count
   multiple_within every count = div-mul-le_self count every
 
-  pub working_reset : (profile : P) (chunks : List Chunk) (every count : ℕ) (seen : T) → count / every ≡ 0
-      → p.shows profile seen [] → p.shows profile seen (first chunks (multiple_below every count))
-  working_reset profile chunks every count seen none shows =
+  -- before the first chunk
+  pub stands_first : TellsOfNothing p → (profile : P) (chunks : List Chunk) (seen : T) → p.shows profile seen []
+      → StandsAt p profile seen chunks 0
+  stands_first nothing profile chunks seen shows = record { shows = shows; told = nothing profile seen [] shows }
+
+  pub working_reset : TellsOfNothing p → (profile : P) (chunks : List Chunk) (every count : ℕ) (seen : T) → count / every ≡ 0
+      → p.shows profile seen [] → StandsAt p profile seen chunks (multiple_below every count)
+  working_reset nothing profile chunks every count seen none shows =
       let place : multiple_below every count ≡ 0 = ap (λ n. n * every) none ∙ zero-mul every in
-      rw place shows
+      rw place (stands_first nothing profile chunks seen shows)
 
   pub working_stored : (chunks : List Chunk) (count : ℕ) (r : Replay T P K) (b : Box K Global) → count / r.every ≢ 0
       → HoldsUpTo p chunks count r
@@ -119,10 +124,21 @@ module _ {T P K : Type 0} (p : Ghosts T P K) where
 
   -- ---- the next chunk, by its bytes
 
-  pub next_shows : FirstGrowsByAChunk → (profile : P) (chunks : List Chunk) (at : ℕ) (c : Chunk)
+  next_shows : FirstGrowsByAChunk → (profile : P) (chunks : List Chunk) (at : ℕ) (c : Chunk)
       → at < length chunks → get_or chunks at c ≡ c → (seen : T) (bytes : List ℕ) → bytes ≡ c.bytes
       → p.shows profile seen (first chunks at ++ bytes) → p.shows profile seen (first chunks (at + 1))
   next_shows grows profile chunks at c lt is seen bytes same shows = subst (p.shows profile seen) (ap (λ (l : List ℕ). first chunks at ++ l) same ∙ sym (grows.of chunks at c lt is)) shows
+
+  pub next_stands : FirstGrowsByAChunk → (profile : P) (chunks : List Chunk) (at : ℕ) (c : Chunk)
+      → at < length chunks → get_or chunks at c ≡ c → (seen : T) (bytes : List ℕ) → bytes ≡ c.bytes
+      → p.shows profile seen (first chunks at ++ bytes) → p.told profile seen (first chunks at)
+      → StandsAt p profile seen chunks (at + 1)
+  next_stands grows profile chunks at c lt is seen bytes same shows told =
+      let back : at + 1 - 1 ≡ at = omega arith in
+      record {
+        shows = next_shows grows profile chunks at c lt is seen bytes same shows;
+        told = rw back told;
+      }
 
   next_length : FirstGrowsByAChunk → SendsInParts p → (profile : P) (chunks : List Chunk) (at : ℕ) (c : Chunk)
       → at < length chunks → get_or chunks at c ≡ c → (bytes : List ℕ) → bytes ≡ c.bytes
@@ -162,9 +178,9 @@ module _ {T P K : Type 0} (p : Ghosts T P K) where
   -- after the chunk was fed within the frontier
   pub fed_within : SendsInParts p → (chunks : List Chunk) (r new : Replay T P K) → IsPlaying p chunks r
       → new ≡ record r { working = new.working; reports = new.reports; head = r.head + 1; fed = r.fed + 1 }
-      → p.shows r.profile new.working (first chunks (r.head + 1)) → HasSent p chunks r new → new.head ≤ new.frontier
+      → StandsAt p r.profile new.working chunks (r.head + 1) → HasSent p chunks r new → new.head ≤ new.frontier
       → IsPlaying p chunks new
-  fed_within parts chunks r new playing rest shows sends within =
+  fed_within parts chunks r new playing rest stands sends within =
       let kept = playing.replay.kept in
       let low : r.head + 1 ≤ r.frontier = omega (arith, within, ap (λ (x : Replay T P K). x.head) rest, ap (λ (x : Replay T P K). x.frontier) rest) in
       let same : new.reports.bytes ≡ r.reports.bytes = sends.within (omega (arith, sent_rises parts r.profile chunks (r.head + 1) r.frontier low, ap length kept.reports)) in
@@ -179,7 +195,7 @@ module _ {T P K : Type 0} (p : Ghosts T P K) where
             reports = same ∙ kept.reports;
           };
           behind = low;
-          working = shows;
+          working = stands;
         };
         place = sends.place;
       } in
@@ -188,9 +204,9 @@ module _ {T P K : Type 0} (p : Ghosts T P K) where
   -- after the chunk at the frontier was fed
   pub fed_ahead : (chunks : List Chunk) (r new : Replay T P K) → IsPlaying p chunks r → r.head < length chunks
       → new ≡ record r { working = new.working; reports = new.reports; head = r.head + 1; fed = r.fed + 1 }
-      → p.shows r.profile new.working (first chunks (r.head + 1)) → HasSent p chunks r new
+      → StandsAt p r.profile new.working chunks (r.head + 1) → HasSent p chunks r new
       → take (length r.reports.bytes) new.reports.bytes ≡ r.reports.bytes → new.frontier < new.head → IsAhead p chunks new
-  fed_ahead chunks r new playing lt rest shows sends front past =
+  fed_ahead chunks r new playing lt rest stands sends front past =
       let kept = playing.replay.kept in
       let at : r.head ≡ r.frontier = omega (arith, past, playing.replay.behind, ap (λ (x : Replay T P K). x.head) rest, ap (λ (x : Replay T P K). x.frontier) rest) in
       let moved : Replay T P K = record r { working = new.working; reports = new.reports; head = r.head + 1; fed = r.fed + 1 } in
@@ -200,7 +216,7 @@ module _ {T P K : Type 0} (p : Ghosts T P K) where
         counts = kept.counts;
         head = ap (λ n. n + 1) at;
         within = omega arith;
-        working = shows;
+        working = stands;
         reports = sends.behind (kept.reports ∙ ap (sent_after p r.profile chunks) (sym at));
         place = sends.place;
       } in
@@ -255,7 +271,7 @@ module _ {T P K : Type 0} (p : Ghosts T P K) where
       let place : (n + 1) * r.every ≡ r.head = ap (λ k. k * r.every) (sym next) ∙ exact r.head r.every whole in
       let at_end : (d : Box K Global) → p.keeps r.profile (get_or new.stored.items n d).value (first chunks ((n + 1) * r.every))
       = λ d. subst (λ (b : Box K Global). p.keeps r.profile b.value (first chunks ((n + 1) * r.every))) (sym (ap (λ (l : List (Box K Global)). get_or l n d) stores.stored ∙ get_or_push r.stored.items stores.copy d n ahead.terminals))
-      (rw place (stores.value (first chunks r.head) ahead.working)) in
+      (rw place (stores.value (first chunks r.head) ahead.working.shows)) in
       record {
         rest = rest;
         terminals = ap length stores.stored ∙ length_push r.stored.items stores.copy ∙ ap (λ k. k + 1) ahead.terminals ∙ sym next;
@@ -331,8 +347,8 @@ module _ {T P K : Type 0} (p : Ghosts T P K) where
 
   pub back_replay : (chunks : List Chunk) (r new : Replay T P K) (count : ℕ) → IsKept p chunks r → count ≤ r.frontier
       → new ≡ record r { working = new.working; head = multiple_below r.every count }
-      → p.shows r.profile new.working (first chunks (multiple_below r.every count)) → IsReplay p chunks new
-  back_replay chunks r new count kept low rest shows =
+      → StandsAt p r.profile new.working chunks (multiple_below r.every count) → IsReplay p chunks new
+  back_replay chunks r new count kept low rest stands =
       let moved : Replay T P K = record r { working = new.working; head = multiple_below r.every count } in
       let here : IsReplay p chunks moved = record {
         kept = record {
@@ -350,7 +366,7 @@ module _ {T P K : Type 0} (p : Ghosts T P K) where
           reports = kept.reports;
         };
         behind = omega (arith, multiple_within r.every count);
-        working = shows;
+        working = stands;
       } in
       subst (IsReplay p chunks) (sym rest) here
 
@@ -412,8 +428,11 @@ module _ {T P K : Type 0} (p : Ghosts T P K) where
       least a b lt = omega arith
 
   same_working : (profile : P) (old new : List Chunk) (n at : ℕ) (seen : T) → SameFront old new n → at ≤ n
-      → p.shows profile seen (first old at) → p.shows profile seen (first new at)
-  same_working profile old new n at seen same low shows = subst (p.shows profile seen) (sym (same.bytes at low)) shows
+      → StandsAt p profile seen old at → StandsAt p profile seen new at
+  same_working profile old new n at seen same low stands = record {
+    shows = subst (p.shows profile seen) (sym (same.bytes at low)) stands.shows;
+    told = subst (p.told profile seen) (sym (same.bytes (at - 1) (omega arith))) stands.told;
+  }
 
   pub same_replay : (old new : List Chunk) (r : Replay T P K) → SameFront old new r.frontier → IsReplay p old r → IsReplay p new r
   same_replay old new r same replay = record {
@@ -442,10 +461,10 @@ module _ {T P K : Type 0} (p : Ghosts T P K) where
   zero_div : (every : ℕ) → 0 < every → 0 / every ≡ 0
   zero_div every some = let low = div-mul-le_self 0 every in div-eq_of_lt some
 
-  pub replay_new : ((profile : P) → p.sent profile [] ≡ []) → (chunks : List Chunk) (r : Replay T P K) → 0 < r.every → r.frontier ≡ 0 → r.head ≡ 0
+  pub replay_new : TellsOfNothing p → ((profile : P) → p.sent profile [] ≡ []) → (chunks : List Chunk) (r : Replay T P K) → 0 < r.every → r.frontier ≡ 0 → r.head ≡ 0
       → r.stored.items ≡ [] → r.reports ≡ record { bytes = []; place = 0 } → r.sent.items ≡ 0 ∷ []
       → p.shows r.profile r.working [] → IsReplay p chunks r
-  replay_new nothing chunks r some frontier at stored reports counts shows =
+  replay_new tells nothing chunks r some frontier at stored reports counts shows =
       let none : r.frontier / r.every ≡ 0 = ap (λ n. n / r.every) frontier ∙ zero_div r.every some in
       let empty : r.reports.bytes ≡ [] = ap (λ (s : Sink). s.bytes) reports in
       let sent_now : sent_after p r.profile chunks r.frontier ≡ [] = ap (sent_after p r.profile chunks) frontier ∙ sent_none nothing r.profile chunks in
@@ -467,5 +486,5 @@ module _ {T P K : Type 0} (p : Ghosts T P K) where
           reports = empty ∙ sym sent_now;
         };
         behind = omega arith;
-        working = rw at shows;
+        working = rw at (stands_first tells r.profile chunks r.working shows);
       }

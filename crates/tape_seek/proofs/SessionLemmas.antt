@@ -22,7 +22,7 @@ pub shows_up_to : {T P K : Type 0} (p : Ghosts T P K) (profile : P) (chunks : Li
 shows_up_to {P = P} p profile chunks tape r count plays same replay at =
     subst (λ (q : P). p.shows q r.working (first tape.chunks count)) plays
     (subst (λ (cs : List Chunk). p.shows r.profile r.working (first cs count)) same
-    (subst (λ (n : ℕ). p.shows r.profile r.working (first chunks n)) at replay.working))
+    (subst (λ (n : ℕ). p.shows r.profile r.working (first chunks n)) at replay.working.shows))
 
 pub reports_up_to : {T P K : Type 0} (p : Ghosts T P K)
     → (profile plays : P) (chunks : List Chunk) (tape : Tape) (bytes : List ℕ) (count : ℕ) → plays ≡ profile

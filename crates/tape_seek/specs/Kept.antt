@@ -1,5 +1,5 @@
 -- Private: what a replay keeps, against what the recording's first chunks come to.
-use Rattle.std.specs.Prelude.{◌≡◌, ℕ, ◌+◌, ◌*◌, ◌/◌, ◌<◌, ◌≤◌, List, [], ◌∷◌, ◌++◌, Box, All, length, take, slice_index, slice_index_or}
+use Rattle.std.specs.Prelude.{◌≡◌, ℕ, ◌+◌, ◌-◌, ◌*◌, ◌/◌, ◌<◌, ◌≤◌, List, [], ◌∷◌, ◌++◌, Box, All, length, take, slice_index, slice_index_or}
 use Rattle.std.specs.declared.alloc.Global.{Global}
 use Rattle.tape_core.specs.declared.chunk.Chunk.{Chunk}
 use Rattle.tape_core.specs.Due.{first}
@@ -20,6 +20,11 @@ abbrev pub SendsInParts : {T P K : Type 0} → Ghosts T P K → Type 0
 SendsInParts {P = P} p = (profile : P) (before more : List ℕ)
     → p.sent profile (before ++ more) ≡ p.sent profile before ++ p.replies profile before more
 
+-- against what it shows a terminal's marks tell of nothing
+abbrev pub TellsOfNothing : {T P K : Type 0} → Ghosts T P K → Type 0
+TellsOfNothing {T = T} {P = P} p = (profile : P) (terminal : T) (bytes : List ℕ)
+    → p.shows profile terminal bytes → p.told profile terminal bytes
+
 -- where the replay stands, as its session tells it
 abbrev pub marks_of : {T P K : Type 0} → Replay T P K → Marks
 marks_of r = record { frontier = r.frontier; head = r.head }
@@ -39,9 +44,15 @@ pub record PlaysOn {T P K : Type 0} (old new : Replay T P K) : Type 0 where
   pub profile : new.profile ≡ old.profile
   pub every : new.every ≡ old.every
 
--- the working terminal shows what the first chunks up to the head come to
+-- a terminal shows what the first chunks up to a count come to, and its marks tell what the last of them touched
+pub record StandsAt {T P K : Type 0} (p : Ghosts T P K) (profile : P) (terminal : T) (chunks : List Chunk) (count : ℕ)
+    : Type 0 where
+  pub shows : p.shows profile terminal (first chunks count)
+  pub told : p.told profile terminal (first chunks (count - 1))
+
+-- so the working terminal stands at the head
 abbrev pub ShowsHead : {T P K : Type 0} → Ghosts T P K → List Chunk → Replay T P K → Type 0
-ShowsHead p chunks r = p.shows r.profile r.working (first chunks r.head)
+ShowsHead p chunks r = StandsAt p r.profile r.working chunks r.head
 
 -- what the next chunk sends goes behind what was sent by the head
 abbrev pub SendsNext : {T P K : Type 0} → Ghosts T P K → List Chunk → Replay T P K → Type 0

@@ -16,9 +16,8 @@
 //! the terminal at 8 goes, the frontier is 6, and a head past it goes back to the last stored terminal.
 ghost use Rattle.std.specs.Prelude.{◌≡◌, ℕ, ◌+◌, ◌-◌, ◌*◌, ◌/◌, ◌<◌, ◌≤◌, List, length, min, IfOk, OnOk, OnErr, IsOk, slice_index};
 ghost use Rattle.tape_core.specs.declared.chunk.Chunk.{Chunk};
-ghost use Rattle.tape_core.specs.Due.{first as bytes_of_first};
 ghost use Rattle.plays.specs.Sink.{KeepsFront};
-ghost use Rattle.tape_seek.specs.Kept.{HasSent, HoldsUpTo, IsAhead, IsKept, IsPlaying, IsReplay, PlaysOn, SameFront, SendsNext, ShowsHead, Stores, marks_of, sent_after};
+ghost use Rattle.tape_seek.specs.Kept.{HasSent, HoldsUpTo, IsAhead, IsKept, IsPlaying, IsReplay, PlaysOn, SameFront, SendsNext, ShowsHead, StandsAt, Stores, marks_of, sent_after};
 ghost use Rattle.tape_seek.specs.Marks.{after_cut, after_refused_seek, after_seek, fed_by, first_marks, multiple_below, start_of};
 
 use plays::{OutOfMemory, Plays, Reports};
@@ -149,13 +148,14 @@ impl<T: Plays> Replay<T> {
         requires stored { count / self.old.every ≤ length self.old.stored.items }
         requires fits { T.fits self.old.profile self.old.working }
         ensures working { (chunks : List Chunk) → HoldsUpTo T.Plays chunks count self.old
-            → T.shows self.old.profile self.new.working
-            (bytes_of_first chunks (multiple_below self.old.every count)) }
+            → StandsAt T.Plays self.old.profile self.new.working chunks
+            (multiple_below self.old.every count) }
         ensures rest { self.new ≡ record self.old {
           working = self.new.working;
           head = multiple_below self.old.every count;
         } }
     {
+        T::laws();
         let terminals = count / self.every;
         if terminals == 0 {
             self.working.clear(self.profile);
@@ -244,8 +244,8 @@ impl<T: Plays> Replay<T> {
           working = self.new.working;
           reports = self.new.reports;
         }) }
-        ensures shows { ShowsHead T.Plays chunks.now self.old → OnOk result (T.shows self.old.profile
-            self.new.working (bytes_of_first chunks.now (self.old.head + 1))) }
+        ensures stands { ShowsHead T.Plays chunks.now self.old → OnOk result (StandsAt T.Plays
+            self.old.profile self.new.working chunks.now (self.old.head + 1)) }
         ensures fits { T.fits self.old.profile self.old.working
             → T.fits self.old.profile self.new.working }
         ensures sent { ShowsHead T.Plays chunks.now self.old → SendsNext T.Plays chunks.now self.old

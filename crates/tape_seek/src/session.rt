@@ -1,5 +1,5 @@
 //! Sessions over a recording.
-ghost use Rattle.std.specs.Prelude.{◌≡◌, ◌+◌, ◌/◌, ◌<◌, ◌≤◌, None, All, length, unwrap_or, vec_capacity, vec_len, IfOk, IfErr, OnOk, OnErr, IsOk};
+ghost use Rattle.std.specs.Prelude.{◌≡◌, ◌+◌, ◌-◌, ◌/◌, ◌<◌, ◌≤◌, None, All, length, unwrap_or, vec_capacity, vec_len, IfOk, IfErr, OnOk, OnErr, IsOk};
 ghost use Rattle.tape_core.specs.Due.{due_count};
 ghost use Rattle.tape_core.specs.Tape.{Tape, fits};
 ghost use Rattle.tape_seek.specs.Edits.{CanBeLogged, edit_fault, edited, edited_all};
@@ -267,10 +267,12 @@ impl<T: Plays> Session<T> {
         self.replay.head
     }
 
-    /// The working terminal, which stands at the head.
+    /// The working terminal, which stands at the head. Its marks tell what the last chunk may have touched.
     pub fn terminal(&self) -> &T
-        ensures { T.shows self.now.profile result.now
+        ensures shows { T.shows self.now.profile result.now
             (bytes_of_first self.now.recording.chunks self.now.marks.head) }
+        ensures told { T.told self.now.profile result.now
+            (bytes_of_first self.now.recording.chunks (self.now.marks.head - 1)) }
     {
         &self.replay.working
     }

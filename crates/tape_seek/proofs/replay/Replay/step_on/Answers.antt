@@ -17,10 +17,10 @@ returns-in_ok-keep_working-clause-ok g c =
     let fed = c.in_ok-feed_next.ensures in
     let playing = c.requires.playing in
     c.in_ok-keep_working.ensures.ok c.args.chunks.now
-    (fed_ahead g.T.Plays c.args.chunks.now c.args.self.now c.feed_next.new.self playing c.requires.within fed.ok (fed.shows playing.replay.working) (fed.sent playing.replay.working playing.place) fed.front c.if-self.true)
+    (fed_ahead g.T.Plays c.args.chunks.now c.args.self.now c.feed_next.new.self playing c.requires.within fed.ok (fed.stands playing.replay.working) (fed.sent playing.replay.working playing.place) fed.front c.if-self.true)
 
 pub returns-else-self-clause-ok : goal.returns-else-self-clause-ok
 returns-else-self-clause-ok g c =
     let fed = c.in_ok-feed_next.ensures in
     let playing = c.requires.playing in
-    fed_within g.T.Plays c.laws.ensures.parts c.args.chunks.now c.args.self.now c.feed_next.new.self playing fed.ok (fed.shows playing.replay.working) (fed.sent playing.replay.working playing.place) c.if-self.false
+    fed_within g.T.Plays c.laws.ensures.parts c.args.chunks.now c.args.self.now c.feed_next.new.self playing fed.ok (fed.stands playing.replay.working) (fed.sent playing.replay.working playing.place) c.if-self.false
