@@ -11,5 +11,6 @@ mod SoundRows
 mod Soundness
 mod Stops
 mod Tables
+mod Told
 mod Turns
 mod Packed

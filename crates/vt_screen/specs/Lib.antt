@@ -12,6 +12,7 @@ pub mod Puts
 pub mod Scrolls
 pub mod Table
 pub mod Tabs
+pub mod Touched
 pub mod View
 pub mod Written
 pub mod Packed

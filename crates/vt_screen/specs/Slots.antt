@@ -16,11 +16,12 @@ pub record Held : Type 0 where
   pub order : List ℕ
   pub slots : List Row
 
--- a screen: its picture, and where its rows lie
+-- a screen: its picture, where its rows lie, and for each line whether it was touched since that was last cleared
 pub record ScreenState : Type 0 where
   pub picture : Picture
   pub order : List ℕ
   pub slots : List Row
+  pub touched : List Bool
 
 -- the slot of a line
 abbrev pub slot_at : List ℕ → ℕ → ℕ

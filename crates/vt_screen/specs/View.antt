@@ -16,4 +16,4 @@ picture_of s = record {
 }
 
 abbrev pub state_of : Fields → ScreenState
-state_of s = record { picture = picture_of s; order = s.grid.order; slots = s.grid.slots }
+state_of s = record { picture = picture_of s; order = s.grid.order; slots = s.grid.slots; touched = s.touched }

@@ -7,10 +7,12 @@ ghost use Rattle.vt_screen.specs.Lines.{filled_to};
 ghost use Rattle.vt_screen.specs.Slots.{OncePerSlot, slot_at, row_in, rows_of, first_order, line_below, line_above, turned_up, turned_down};
 ghost use Rattle.vt_screen.specs.Puts.{with_row, with_cell};
 ghost use Rattle.vt_screen.specs.Written.{written, line_changed, lines_changed, lines_taken, slots_filled};
+ghost use Rattle.vt_screen.specs.Touched.{touched_from};
 
 use crate::cell::{Cell, Row};
 use crate::limits::{LINES, WIDE_COLUMNS};
 use crate::rendition::Rendition;
+use crate::touched::touch_lines;
 use std::marker::Model;
 
 /// 24 slots for rows, and for each line the name of its slot.
@@ -169,8 +171,8 @@ impl Grid {
         }
     }
 
-    /// Turns the names up by `n` from the top line to the bottom one; no slot is written.
-    pub fn turn_up(&mut self, n: u8, top: u8, bottom: u8)
+    /// Turns the names up by `n` from the top line to the bottom one, and touches these; no slot is written.
+    pub fn turn_up(&mut self, n: u8, top: u8, bottom: u8, touched: &mut [bool; LINES as usize])
         requires low { 1 ≤ top }
         requires room { top + n ≤ bottom + 1 }
         requires apart { top ≤ bottom }
@@ -178,12 +180,15 @@ impl Grid {
         ensures rows { rows_of self.new ≡ lines_taken (line_below n top bottom) (rows_of self.old) }
         ensures order { self.new.order ≡ turned_up n top bottom self.old.order }
         ensures slots { self.new.slots ≡ self.old.slots }
+        ensures touched { touched.new ≡ touched_from top (bottom + 1) touched.old }
     {
-        turn_lines(&mut self.order, n as usize, top as usize, bottom as usize);
+        let (n, top, bottom) = (n as usize, top as usize, bottom as usize);
+        turn_lines(&mut self.order, n, top, bottom, touched);
     }
 
     /// Turns the names down by `n`.
-    pub fn turn_down(&mut self, n: u8, top: u8, bottom: u8)
+    #[inline(never)]
+    pub fn turn_down(&mut self, n: u8, top: u8, bottom: u8, touched: &mut [bool; LINES as usize])
         requires low { 1 ≤ top }
         requires room { top + n ≤ bottom + 1 }
         requires apart { top ≤ bottom }
@@ -191,25 +196,54 @@ impl Grid {
         ensures rows { rows_of self.new ≡ lines_taken (line_above n top bottom) (rows_of self.old) }
         ensures order { self.new.order ≡ turned_down n top bottom self.old.order }
         ensures slots { self.new.slots ≡ self.old.slots }
+        ensures touched { touched.new ≡ touched_from top (bottom + 1) touched.old }
     {
-        self.turn_up(bottom + 1 - top - n, top, bottom);
+        self.turn_up(bottom + 1 - top - n, top, bottom, touched);
     }
 }
 
-// `turn`, for the scroll that comes most often with numbers that the compiler knows: it is a few moves then.
+// `turn` and the marks, for the scroll that comes most often with numbers that the compiler knows: it is a few moves then.
 #[inline]
-fn turn_lines(order: &mut [u8; LINES as usize], n: usize, top: usize, bottom: usize)
+fn turn_lines(
+    order: &mut [u8; LINES as usize],
+    n: usize,
+    top: usize,
+    bottom: usize,
+    touched: &mut [bool; LINES as usize],
+)
     requires low { 1 ≤ top }
     requires room { top + n ≤ bottom + 1 }
     requires apart { top ≤ bottom }
     requires high { bottom ≤ LINES }
-    ensures { order.new ≡ turned_up n top bottom order.old }
+    ensures order { order.new ≡ turned_up n top bottom order.old }
+    ensures touched { touched.new ≡ touched_from top (bottom + 1) touched.old }
 {
     if n == 1 && top == 1 && bottom == LINES as usize {
         turn(order, 1, 1, LINES as usize);
+        touch_lines(touched, 1, LINES);
     } else {
-        turn(order, n, top, bottom);
+        turn_part(order, n, top, bottom, touched);
     }
+}
+
+// The same of any other scroll; its calls stay out of the one above, which then saves no registers.
+#[inline(never)]
+fn turn_part(
+    order: &mut [u8; LINES as usize],
+    n: usize,
+    top: usize,
+    bottom: usize,
+    touched: &mut [bool; LINES as usize],
+)
+    requires low { 1 ≤ top }
+    requires room { top + n ≤ bottom + 1 }
+    requires apart { top ≤ bottom }
+    requires high { bottom ≤ LINES }
+    ensures order { order.new ≡ turned_up n top bottom order.old }
+    ensures touched { touched.new ≡ touched_from top (bottom + 1) touched.old }
+{
+    turn(order, n, top, bottom);
+    touch_lines(touched, top as u8, bottom as u8);
 }
 
 /// Each line from top to bottom takes the name of the one `n` below it, the last `n` those of the first.

@@ -9,6 +9,7 @@ pub mod laws;
 pub mod limits;
 mod rendition;
 mod screen;
+mod touched;
 
 pub use cell::{Cell, Row, Size, margin_of};
 pub use rendition::Rendition;

@@ -1,8 +1,9 @@
 //! The screen and its operations. Lines and columns are counted from 1.
 
-ghost use Rattle.std.specs.Prelude.{◌≡◌, ℕ, ◌+◌, ◌-◌, ◌<◌, ◌≤◌, ◌&&◌, nat_le, nat_lt, min, All, length, slice_set, take, true, false};
+ghost use Rattle.std.specs.Prelude.{◌≡◌, ℕ, ◌+◌, ◌-◌, ◌<◌, ◌≤◌, ◌&&◌, nat_le, nat_lt, min, All, List, length, slice_set, take, true, false};
 ghost use Rattle.vt_screen.specs.CellEdits.{cells_deleted, room_made, shown_inserting};
 ghost use Rattle.vt_screen.specs.Cells.{blank_row, row_at, cell_at};
+ghost use Rattle.vt_screen.specs.declared.cell.Row.{Row};
 ghost use Rattle.vt_screen.specs.Erasures.{display_erased, erased_whole, in_other_lines, line_erased};
 ghost use Rattle.vt_screen.specs.Lines.{size_set, columns_set, aligned, are_margins, margins_set};
 ghost use Rattle.vt_screen.specs.Moves.{stepped_up, stepped_down, stepped_right, stepped_left, moved_to_left, placed, moved_home, wrap_cleared, put_back, on_line};
@@ -11,6 +12,7 @@ ghost use Rattle.vt_screen.specs.Slots.{OncePerSlot, first_order, slot_at, row_i
 ghost use Rattle.vt_screen.specs.Puts.{put, shown, run_shown, wrap_taken};
 ghost use Rattle.vt_screen.specs.Scrolls.{indexed, reverse_indexed, lines_deleted, lines_inserted, scrolled_up, scrolled_down};
 ghost use Rattle.vt_screen.specs.Tabs.{stop_at, stop_after, tabbed, tab_made, tabs_cleared};
+ghost use Rattle.vt_screen.specs.Touched.{KeepsTold, Told, all_touched, is_touched};
 
 mod packed;
 
@@ -18,11 +20,13 @@ use crate::cell::{Cell, Row, Size, columns_of, margin_of};
 use crate::grid::Grid;
 use crate::limits::{LAST_GLYPH, LINES, WIDE_COLUMNS};
 use crate::rendition::Rendition;
+use crate::touched::{touch_line, touch_lines, was_touched};
 pub use packed::PackedScreen;
 use std::marker::Model;
 
 /// 24 lines of 80 or 132 columns with a cursor, a pending wrap, margins, tab stops and a size for each
-/// line. Contracts see a `ScreenState`: the picture, told by line and column, and where its rows lie.
+/// line, and the lines touched since that was last cleared. Contracts see a `ScreenState`: the picture, told by line and
+/// column, where its rows lie, and which lines were touched.
 #[derive(Debug, Drop)]
 pub struct Screen {
     grid: Grid,
@@ -33,6 +37,7 @@ pub struct Screen {
     wrap: bool,
     top: u8,
     bottom: u8,
+    touched: [bool; LINES as usize],
 }
 
 const _: () = prove!(size_of::<Screen>() < 7000);
@@ -51,10 +56,13 @@ impl Model for Screen {
 }
 
 impl Screen {
-    /// The initial screen: 80 columns, all blank and single width, tab stops at 9, 17 and so on to 129.
+    /// The initial screen: 80 columns, all blank and single width, tab stops at 9, 17 and so on to 129. All lines are
+    /// touched.
     pub fn reset() -> Self
         ensures picture { result.picture ≡ reset }
         ensures order { result.order ≡ first_order }
+        ensures touched { result.touched ≡ all_touched }
+        ensures told { (before : List Row) → Told before result }
     {
         Screen {
             grid: Grid::new(),
@@ -65,6 +73,7 @@ impl Screen {
             wrap: false,
             top: 1,
             bottom: LINES,
+            touched: [true; LINES as usize],
         }
     }
 
@@ -80,6 +89,7 @@ impl Screen {
         self.wrap = other.wrap;
         self.top = other.top;
         self.bottom = other.bottom;
+        self.touched = other.touched;
     }
 
     /// 80 or 132.
@@ -172,6 +182,25 @@ impl Screen {
         self.tabs[col as usize - 1]
     }
 
+    /// Whether a line was touched since that was last cleared.
+    pub fn is_touched(&self, row: u8) -> bool
+        requires low { 1 ≤ row }
+        requires high { row ≤ LINES }
+        ensures { result ≡ is_touched self.now.touched row }
+    {
+        was_touched(&self.touched, row)
+    }
+
+    /// From here on lines are told against the rows of now.
+    pub fn clear_touched(&mut self)
+        ensures picture { self.new.picture ≡ self.old.picture }
+        ensures order { self.new.order ≡ self.old.order }
+        ensures slots { self.new.slots ≡ self.old.slots }
+        ensures told { Told self.old.picture.rows self.new }
+    {
+        self.touched = [false; LINES as usize];
+    }
+
     /// The slot in which a line lies, from 0.
     pub fn place_of(&self, row: u8) -> u8
         requires low { 1 ≤ row }
@@ -198,6 +227,7 @@ impl Screen {
         requires { glyph ≤ LAST_GLYPH }
         ensures picture { self.new.picture ≡ shown glyph rendition autowrap self.old.picture }
         ensures order { self.new.order ≡ order_wrap_taken self.old.picture self.old.order }
+        ensures told { KeepsTold self.old self.new }
     {
         self.take_wrap();
         self.put(Cell { glyph, rendition }, autowrap);
@@ -211,9 +241,11 @@ impl Screen {
             ≡ run_shown glyphs.now rendition autowrap self.old.picture }
         ensures order { self.new.order
             ≡ order_run_shown glyphs.now rendition autowrap self.old.picture self.old.order }
+        ensures told { KeepsTold self.old self.new }
     {
         let room = (self.margin() - self.column) as usize;
         if !self.wrap && glyphs.len() <= room {
+            touch_line(&mut self.touched, self.line);
             self.grid
                 .write_run(self.line, self.column, glyphs, rendition);
             self.column += glyphs.len() as u8;
@@ -225,6 +257,7 @@ impl Screen {
     /// CUU: `n` lines up, at most to the top margin from it or below, else to line 1.
     pub fn step_up(&mut self, n: u16)
         ensures picture { self.new.picture ≡ stepped_up n self.old.picture }
+        ensures told { KeepsTold self.old self.new }
     {
         let stop = if self.top <= self.line { self.top } else { 1 };
         let up = n.min(u16::from(LINES)) as u8;
@@ -234,6 +267,7 @@ impl Screen {
     /// CUD: `n` lines down, at most to the bottom margin from it or above, else to line 24.
     pub fn step_down(&mut self, n: u16)
         ensures picture { self.new.picture ≡ stepped_down n self.old.picture }
+        ensures told { KeepsTold self.old self.new }
     {
         let stop = if self.line <= self.bottom {
             self.bottom
@@ -247,6 +281,7 @@ impl Screen {
     /// CUF: `n` columns right, at most to the right margin.
     pub fn step_right(&mut self, n: u16)
         ensures picture { self.new.picture ≡ stepped_right n self.old.picture }
+        ensures told { KeepsTold self.old self.new }
     {
         let right = n.min(u16::from(WIDE_COLUMNS));
         let margin = u16::from(self.margin());
@@ -257,6 +292,7 @@ impl Screen {
     /// CUB and BS: `n` columns left, at least column 1.
     pub fn step_left(&mut self, n: u16)
         ensures picture { self.new.picture ≡ stepped_left n self.old.picture }
+        ensures told { KeepsTold self.old self.new }
     {
         let left = n.min(u16::from(WIDE_COLUMNS)) as u8;
         self.column = self.column.saturating_sub(left).max(1);
@@ -267,6 +303,7 @@ impl Screen {
     pub fn to_left(&mut self)
         ensures picture { self.new.picture ≡ moved_to_left self.old.picture }
         ensures order { self.new.order ≡ self.old.order }
+        ensures told { KeepsTold self.old self.new }
     {
         self.column = 1;
         self.wrap = false;
@@ -278,6 +315,7 @@ impl Screen {
         requires line { 1 ≤ line }
         requires col { 1 ≤ col }
         ensures picture { self.new.picture ≡ placed line col origin self.old.picture }
+        ensures told { KeepsTold self.old self.new }
     {
         let line = line.min(u16::from(LINES)) as u8;
         let to = if origin {
@@ -293,6 +331,7 @@ impl Screen {
     /// Column 1 of line 1, or of the top margin with `origin`.
     pub fn home(&mut self, origin: bool)
         ensures picture { self.new.picture ≡ moved_home origin self.old.picture }
+        ensures told { KeepsTold self.old self.new }
     {
         self.line = if origin { self.top } else { 1 };
         self.column = 1;
@@ -306,6 +345,7 @@ impl Screen {
         ensures order { self.new.order ≡ order_indexed self.old.picture self.old.order }
         ensures slots { self.new.slots
             ≡ slots_indexed self.old.picture self.old.order self.old.slots }
+        ensures told { KeepsTold self.old self.new }
     {
         if self.line == self.bottom {
             self.scroll_up();
@@ -321,6 +361,7 @@ impl Screen {
         ensures order { self.new.order ≡ order_reverse_indexed self.old.picture self.old.order }
         ensures slots { self.new.slots
             ≡ slots_reverse_indexed self.old.picture self.old.order self.old.slots }
+        ensures told { KeepsTold self.old self.new }
     {
         if self.line == self.top {
             self.scroll_down();
@@ -337,11 +378,13 @@ impl Screen {
         ensures order { self.new.order ≡ order_lines_inserted n self.old.picture self.old.order }
         ensures slots { self.new.slots
             ≡ slots_lines_inserted n self.old.picture self.old.order self.old.slots }
+        ensures told { KeepsTold self.old self.new }
     {
         if self.top <= self.line && self.line <= self.bottom {
             let count = self.lines_left(n);
             let last = self.line + count - 1;
-            self.grid.turn_down(count, self.line, self.bottom);
+            self.grid
+                .turn_down(count, self.line, self.bottom, &mut self.touched);
             self.grid
                 .fill_lines(self.line, last, Cell::blank(), columns_of(self.wide));
             self.column = 1;
@@ -351,16 +394,19 @@ impl Screen {
 
     /// DL: `n` lines from the cursor's on go away; those below move up, blank and single ones come in
     /// at the bottom margin, and the cursor goes to column 1. Outside the margins nothing.
+    #[inline(never)]
     pub fn delete_lines(&mut self, n: u16)
         ensures picture { self.new.picture ≡ lines_deleted n self.old.picture }
         ensures order { self.new.order ≡ order_lines_deleted n self.old.picture self.old.order }
         ensures slots { self.new.slots
             ≡ slots_lines_deleted n self.old.picture self.old.order self.old.slots }
+        ensures told { KeepsTold self.old self.new }
     {
         if self.top <= self.line && self.line <= self.bottom {
             let count = self.lines_left(n);
             let first = self.bottom + 1 - count;
-            self.grid.turn_up(count, self.line, self.bottom);
+            self.grid
+                .turn_up(count, self.line, self.bottom, &mut self.touched);
             self.grid
                 .fill_lines(first, self.bottom, Cell::blank(), columns_of(self.wide));
             self.column = 1;
@@ -372,11 +418,13 @@ impl Screen {
     /// left, and blank ones come in at the margin.
     pub fn delete_cells(&mut self, n: u16)
         ensures picture { self.new.picture ≡ cells_deleted n self.old.picture }
+        ensures told { KeepsTold self.old self.new }
     {
         let margin = self.margin();
         let count = n.min(u16::from(margin + 1 - self.column)) as u8;
         let mut row = *self.grid.row(self.line);
         row.take_out(count, self.column, margin);
+        touch_line(&mut self.touched, self.line);
         self.grid.set_row(self.line, row);
     }
 
@@ -387,6 +435,7 @@ impl Screen {
         ensures picture { self.new.picture
             ≡ shown_inserting glyph rendition autowrap self.old.picture }
         ensures order { self.new.order ≡ order_wrap_taken self.old.picture self.old.order }
+        ensures told { KeepsTold self.old self.new }
     {
         self.take_wrap();
         self.make_room();
@@ -396,6 +445,7 @@ impl Screen {
     /// HT: to the next tab stop, at most to the right margin.
     pub fn tab_forward(&mut self)
         ensures picture { self.new.picture ≡ tabbed self.old.picture }
+        ensures told { KeepsTold self.old self.new }
     {
         let margin = self.margin();
         self.column = next_stop(&self.tabs, self.column, margin);
@@ -405,6 +455,7 @@ impl Screen {
     /// HTS: a tab stop at the cursor's column.
     pub fn set_tab(&mut self)
         ensures picture { self.new.picture ≡ tab_made true self.old.picture }
+        ensures told { KeepsTold self.old self.new }
     {
         self.tabs[self.column as usize - 1] = true;
     }
@@ -412,6 +463,7 @@ impl Screen {
     /// TBC: no tab stop at the cursor's column.
     pub fn clear_tab(&mut self)
         ensures picture { self.new.picture ≡ tab_made false self.old.picture }
+        ensures told { KeepsTold self.old self.new }
     {
         self.tabs[self.column as usize - 1] = false;
     }
@@ -419,6 +471,7 @@ impl Screen {
     /// TBC of all: no tab stop at any of the 132 columns.
     pub fn clear_tabs(&mut self)
         ensures picture { self.new.picture ≡ tabs_cleared self.old.picture }
+        ensures told { KeepsTold self.old self.new }
     {
         self.tabs = [false; WIDE_COLUMNS as usize];
     }
@@ -428,6 +481,7 @@ impl Screen {
     pub fn set_margins(&mut self, top: u16, bottom: u16, origin: bool) -> bool
         ensures answer { result ≡ are_margins top bottom }
         ensures picture { self.new.picture ≡ margins_set top bottom origin self.old.picture }
+        ensures told { KeepsTold self.old self.new }
     {
         if top < 1 || bottom <= top || u16::from(LINES) < bottom {
             return false;
@@ -443,11 +497,14 @@ impl Screen {
     pub fn erase_display(&mut self, part: u8)
         requires { part ≤ 2 }
         ensures picture { self.new.picture ≡ display_erased part self.old.picture }
+        ensures told { KeepsTold self.old self.new }
     {
         let whole = self.erases_line(part);
         let was_single = self.size(self.line).is_single();
         let columns = columns_of(self.wide);
         let (first, last) = other_lines(part, self.line);
+        touch_lines(&mut self.touched, first, last);
+        touch_line(&mut self.touched, self.line);
         self.grid.fill_lines(first, last, Cell::blank(), columns);
         if whole {
             self.grid.fill_line(self.line, Cell::blank(), columns);
@@ -461,7 +518,9 @@ impl Screen {
     pub fn erase_line(&mut self, part: u8)
         requires { part ≤ 2 }
         ensures picture { self.new.picture ≡ line_erased part self.old.picture }
+        ensures told { KeepsTold self.old self.new }
     {
+        touch_line(&mut self.touched, self.line);
         self.grid.erase_part(part, self.line, self.column);
     }
 
@@ -469,9 +528,11 @@ impl Screen {
     /// the middle become blank.
     pub fn set_size(&mut self, size: Size)
         ensures picture { self.new.picture ≡ size_set size self.old.picture }
+        ensures told { KeepsTold self.old self.new }
     {
         let mut row = *self.grid.row(self.line);
         row.resize(size, self.wide);
+        touch_line(&mut self.touched, self.line);
         self.grid.set_row(self.line, row);
         self.column = self.column.min(margin_of(self.wide, size));
         self.wrap = false;
@@ -480,7 +541,9 @@ impl Screen {
     /// DECCOLM: 132 columns, or 80; all blank and single, margins 1 and 24, home. Tabs stay.
     pub fn set_columns(&mut self, wide: bool, origin: bool)
         ensures picture { self.new.picture ≡ columns_set wide origin self.old.picture }
+        ensures told { KeepsTold self.old self.new }
     {
+        touch_lines(&mut self.touched, 1, LINES);
         self.grid.fill_lines(1, LINES, Cell::blank(), WIDE_COLUMNS);
         self.wide = wide;
         self.top = 1;
@@ -493,11 +556,13 @@ impl Screen {
     /// DECALN: every cell to the number of columns is the letter E, all lines single width.
     pub fn align(&mut self)
         ensures picture { self.new.picture ≡ aligned self.old.picture }
+        ensures told { KeepsTold self.old self.new }
     {
         let pattern = Cell {
             glyph: b'E',
             rendition: Rendition::plain(),
         };
+        touch_lines(&mut self.touched, 1, LINES);
         self.grid
             .fill_lines(1, LINES, pattern, columns_of(self.wide));
         self.wrap = false;
@@ -506,6 +571,7 @@ impl Screen {
     /// Takes the pending wrap away, for what else clears it.
     pub fn clear_wrap(&mut self)
         ensures picture { self.new.picture ≡ wrap_cleared self.old.picture }
+        ensures told { KeepsTold self.old self.new }
     {
         self.wrap = false;
     }
@@ -519,6 +585,7 @@ impl Screen {
         requires col { 1 ≤ col }
         ensures picture { self.new.picture
             ≡ put_back row col wrap origin autowrap self.old.picture }
+        ensures told { KeepsTold self.old self.new }
     {
         self.line = if origin {
             row.min(self.bottom).max(self.top)
@@ -545,6 +612,7 @@ impl Screen {
         ensures picture { self.new.picture ≡ on_line line self.old.picture }
         ensures order { self.new.order ≡ self.old.order }
         ensures slots { self.new.slots ≡ self.old.slots }
+        ensures told { KeepsTold self.old self.new }
     {
         self.column = self.column.min(self.right_margin(line));
         self.line = line;
@@ -560,8 +628,10 @@ impl Screen {
             ≡ turned_up 1 self.old.picture.top self.old.picture.bottom self.old.order }
         ensures slots { self.new.slots
             ≡ slice_set self.old.slots (slot_at self.old.order self.old.picture.top) blank_row }
+        ensures told { KeepsTold self.old self.new }
     {
-        self.grid.turn_up(1, self.top, self.bottom);
+        self.grid
+            .turn_up(1, self.top, self.bottom, &mut self.touched);
         self.grid
             .fill_line(self.bottom, Cell::blank(), columns_of(self.wide));
     }
@@ -575,8 +645,10 @@ impl Screen {
             ≡ turned_down 1 self.old.picture.top self.old.picture.bottom self.old.order }
         ensures slots { self.new.slots
             ≡ slice_set self.old.slots (slot_at self.old.order self.old.picture.bottom) blank_row }
+        ensures told { KeepsTold self.old self.new }
     {
-        self.grid.turn_down(1, self.top, self.bottom);
+        self.grid
+            .turn_down(1, self.top, self.bottom, &mut self.touched);
         self.grid
             .fill_line(self.top, Cell::blank(), columns_of(self.wide));
     }
@@ -585,6 +657,7 @@ impl Screen {
     fn take_wrap(&mut self)
         ensures picture { self.new.picture ≡ wrap_taken self.old.picture }
         ensures order { self.new.order ≡ order_wrap_taken self.old.picture self.old.order }
+        ensures told { KeepsTold self.old self.new }
     {
         if self.wrap {
             self.to_left();
@@ -599,6 +672,7 @@ impl Screen {
             ≡ run_shown glyphs.now rendition autowrap self.old.picture }
         ensures order { self.new.order
             ≡ order_run_shown glyphs.now rendition autowrap self.old.picture self.old.order }
+        ensures told { KeepsTold self.old self.new }
     {
         let mut rest = glyphs;
         while !rest.is_empty() {
@@ -614,8 +688,10 @@ impl Screen {
         requires { cell.glyph ≤ LAST_GLYPH }
         ensures picture { self.new.picture ≡ put cell autowrap self.old.picture }
         ensures order { self.new.order ≡ self.old.order }
+        ensures told { KeepsTold self.old self.new }
     {
         let margin = self.margin();
+        touch_line(&mut self.touched, self.line);
         self.grid.write(self.line, self.column, cell);
         if self.column == margin {
             self.wrap = autowrap;
@@ -628,10 +704,12 @@ impl Screen {
     fn make_room(&mut self)
         ensures picture { self.new.picture ≡ room_made self.old.picture }
         ensures order { self.new.order ≡ self.old.order }
+        ensures told { KeepsTold self.old self.new }
     {
         let margin = self.margin();
         let mut row = *self.grid.row(self.line);
         row.move_right(self.column, margin);
+        touch_line(&mut self.touched, self.line);
         self.grid.set_row(self.line, row);
     }
 
@@ -655,10 +733,12 @@ impl Screen {
         ensures order { self.new.order
             ≡ order_run_shown (take result glyphs.now) rendition autowrap
             self.old.picture self.old.order }
+        ensures told { KeepsTold self.old self.new }
     {
         let margin = self.margin();
         let room = (margin - self.column) as usize + 1;
         let taken = glyphs.len().min(room);
+        touch_line(&mut self.touched, self.line);
         self.grid
             .write_run(self.line, self.column, &glyphs[..taken], rendition);
         if taken == room {

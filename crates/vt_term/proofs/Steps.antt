@@ -1,5 +1,5 @@
 -- What bytes leave of the terms that a terminal shows.
-use Rattle.std.proofs.Common.{◌≡◌, ℕ, true, false, List, [], ◌∷◌, ◌++◌, refl, sym, ap, ap₂, subst, ◌∙◌, inl, inr, arith}
+use Rattle.std.proofs.Common.{◌≡◌, ℕ, Bool, true, false, List, [], ◌∷◌, ◌++◌, refl, sym, ap, ap₂, subst, ◌∙◌, inl, inr, arith}
 use Rattle.std.specs.Prelude.{Option, Some, None, IfSome}
 use Rattle.std.proofs.lemmas.List.{append-nil, append_assoc}
 use Rattle.std.proofs.lemmas.List.Sums.{fold-append}
@@ -123,23 +123,23 @@ module _ (laws : LawsBelow) where
   ]
 
   -- bytes that come to one command, or to none
-  pub shows_given : (seen : Seen) (x : Term) (bytes : List ℕ) (command : Option Command) (state : ParserState) → Shows seen x
+  pub shows_given : (seen : Seen) (x : Term) (bytes : List ℕ) (command : Option Command) (state : ParserState) (touched : List Bool) → Shows seen x
       → Gives seen.console.modes.mode (mode_of x) x.pending bytes command
       → parser_view (mode_after_bytes seen.console.modes.mode (mode_of x) bytes)
       (pending_after_bytes seen.console.modes.mode (mode_of x) x.pending bytes)
       ≡ Some state
-      → Shows (record { console = effect_of effect command seen.console; state = state }) (play x bytes) × (sent x bytes ≡ reply_of reply command seen.console)
-  shows_given seen x bytes command state shows gives view =
+      → Shows (record { console = effect_of effect command seen.console; state = state; touched = touched }) (play x bytes) × (sent x bytes ≡ reply_of reply command seen.console)
+  shows_given seen x bytes command state touched shows gives view =
       let given = seen.console.modes.mode in
       let mode : mode_of x ≡ given = mode_shown seen x shows in
       let after = played given (mode_of x) x.console x.pending x.reports bytes command mode mode gives in
       let stays = mode_stays given (mode_of x) bytes mode in
       let pending = pending_after_bytes given (mode_of x) x.pending bytes in
-      let there : Shows (record { console = effect_of effect command seen.console; state = state }) (term (effect_of effect command x.console) pending (x.reports ++ reply_of reply command x.console)) = record {
+      let there : Shows (record { console = effect_of effect command seen.console; state = state; touched = touched }) (term (effect_of effect command x.console) pending (x.reports ++ reply_of reply command x.console)) = record {
         console = ap (effect_of effect command) shows.console;
         state = view_then given (mode_of x) x.console x.pending bytes command state mode gives (ap (λ (m : Mode). parser_view m pending) (sym stays) ∙ view);
       } in
-      (subst (Shows (record { console = effect_of effect command seen.console; state = state })) (sym after.0) there, after.1 ∙ ap (reply_of reply command) shows.console)
+      (subst (Shows (record { console = effect_of effect command seen.console; state = state; touched = touched })) (sym after.0) there, after.1 ∙ ap (reply_of reply command) shows.console)
 
   -- terms of which the same is seen
   pub seen_decides : SeenDecides
@@ -150,9 +150,9 @@ module _ (laws : LawsBelow) where
       let next = laws.stays_shown given (mode_of x) x.pending seen.state byte shows_x.state in
       let same = laws.state_decides given (mode_of y) (mode_of x) y.pending x.pending seen.state byte shows_y.state shows_x.state in
       let command = command_of (mode_of x) x.pending byte in
-      let after_x = shows_given seen x (byte ∷ []) command next.0 shows_x refl next.1 in
-      let after_y = shows_given seen y (byte ∷ []) command next.0 shows_y same.0 (same.1 ∙ next.1) in
-      let rest = seen_decides (record { console = effect_of effect command seen.console; state = next.0 }) (step x byte) (step y byte) bytes after_x.0 after_y.0 in
+      let after_x = shows_given seen x (byte ∷ []) command next.0 seen.touched shows_x refl next.1 in
+      let after_y = shows_given seen y (byte ∷ []) command next.0 seen.touched shows_y same.0 (same.1 ∙ next.1) in
+      let rest = seen_decides (record { console = effect_of effect command seen.console; state = next.0; touched = seen.touched }) (step x byte) (step y byte) bytes after_x.0 after_y.0 in
       let answers : reply_to x byte ≡ reply_to y byte = sym (append-nil (reply_to x byte)) ∙ after_x.1 ∙ sym after_y.1 ∙ append-nil (reply_to y byte) in
       (rest.0, ap₂ (λ (l m : List ℕ). l ++ m) answers rest.1)
 

@@ -1,10 +1,12 @@
 //! A terminal without its parser: the screen, the modes, the sets and what else commands change. `obey` is the top: from a
 //! token to the table that its control or sequence stands in.
-ghost use Rattle.std.specs.Prelude.{◌≡◌, ◌≤◌, All, OnOk, OnErr, IsOk, map, length, take};
+ghost use Rattle.std.specs.Prelude.{◌≡◌, ◌≤◌, All, List, OnOk, OnErr, IsOk, map, length, take};
 ghost use Rattle.vt_term.specs.Sets.{glyph_of, set_in_use};
 ghost use Rattle.vt_term.specs.Console.{IsSafe, reset_console, console_of};
 ghost use Rattle.vt_term.specs.Effect.{glyph_shown, glyphs_shown, glyphs_written, glyph_for, token_effect, token_reply, IsProperToken};
 ghost use Rattle.plays.specs.Sink.{after_sending, HasRoom};
+ghost use Rattle.vt_screen.specs.Touched.{KeepsTold, Told};
+ghost use Rattle.vt_screen.specs.declared.cell.Row.{Row};
 
 use crate::sets::CHECKERBOARD;
 use crate::{CharacterSet, Modes, OutOfMemory, Profile, Reports, Saved, Sets};
@@ -30,7 +32,8 @@ pub(crate) struct Console {
 impl Console {
     /// The initial state of a profile.
     pub(crate) fn reset(profile: Profile) -> Self
-        ensures { console_of result ≡ reset_console profile }
+        ensures done { console_of result ≡ reset_console profile }
+        ensures told { (before : List Row) → Told before result.screen }
     {
         Console {
             profile,
@@ -44,7 +47,8 @@ impl Console {
     }
 
     pub(crate) fn copy_from(&mut self, other: &Console)
-        ensures { console_of self.new ≡ console_of other.now }
+        ensures done { console_of self.new ≡ console_of other.now }
+        ensures touched { self.new.screen.touched ≡ other.now.screen.touched }
     {
         self.profile = other.profile;
         self.screen.copy_from(&other.screen);
@@ -69,6 +73,7 @@ impl Console {
         ensures err_sink { OnErr result (sink.new ≡ sink.old) }
         ensures room { HasRoom sink.old (token_reply token.entry (console_of self.old))
             → IsOk result }
+        ensures told { KeepsTold self.old.screen self.new.screen }
     {
         match token {
             Token::Show(run) => self.show_bytes(run),
@@ -102,7 +107,8 @@ impl Console {
     #[inline(never)]
     fn show_glyph(&mut self, glyph: u8)
         requires { glyph ≤ LAST_GLYPH }
-        ensures { console_of self.new ≡ glyph_shown glyph (console_of self.old) }
+        ensures done { console_of self.new ≡ glyph_shown glyph (console_of self.old) }
+        ensures told { KeepsTold self.old.screen self.new.screen }
     {
         if self.modes.insert {
             self.screen
@@ -114,7 +120,8 @@ impl Console {
 
     /// Shows the error character.
     pub(crate) fn show_error(&mut self)
-        ensures { console_of self.new ≡ glyph_shown CHECKERBOARD (console_of self.old) }
+        ensures done { console_of self.new ≡ glyph_shown CHECKERBOARD (console_of self.old) }
+        ensures told { KeepsTold self.old.screen self.new.screen }
     {
         self.show_glyph(CHECKERBOARD);
     }
@@ -123,8 +130,9 @@ impl Console {
     #[inline]
     pub(crate) fn show_bytes(&mut self, bytes: &[u8])
         requires { All (λ byte. byte ≤ LAST_GLYPH) bytes.now }
-        ensures { console_of self.new
+        ensures done { console_of self.new
             ≡ glyphs_shown (map (glyph_for (console_of self.old)) bytes.now) (console_of self.old) }
+        ensures told { KeepsTold self.old.screen self.new.screen }
     {
         if self.modes.insert {
             self.insert_glyphs(self.set_in_use(), bytes);
@@ -136,8 +144,9 @@ impl Console {
     // In insert mode a run's glyphs are shown one by one.
     fn insert_glyphs(&mut self, set: CharacterSet, bytes: &[u8])
         requires { All (λ byte. byte ≤ LAST_GLYPH) bytes.now }
-        ensures { console_of self.new
+        ensures done { console_of self.new
             ≡ glyphs_shown (map (glyph_of set) bytes.now) (console_of self.old) }
+        ensures told { KeepsTold self.old.screen self.new.screen }
     {
         for &byte in bytes {
             self.show_glyph(set.glyph(byte));
@@ -148,9 +157,10 @@ impl Console {
     #[inline]
     fn write_bytes(&mut self, bytes: &[u8])
         requires { All (λ byte. byte ≤ LAST_GLYPH) bytes.now }
-        ensures { console_of self.new
+        ensures done { console_of self.new
             ≡ glyphs_written (map (glyph_for (console_of self.old)) bytes.now)
             (console_of self.old) }
+        ensures told { KeepsTold self.old.screen self.new.screen }
     {
         match self.set_in_use() {
             CharacterSet::Ascii => self
@@ -164,8 +174,9 @@ impl Console {
     #[inline(never)]
     fn write_glyphs(&mut self, set: CharacterSet, bytes: &[u8])
         requires { All (λ byte. byte ≤ LAST_GLYPH) bytes.now }
-        ensures { console_of self.new
+        ensures done { console_of self.new
             ≡ glyphs_written (map (glyph_of set) bytes.now) (console_of self.old) }
+        ensures told { KeepsTold self.old.screen self.new.screen }
     {
         let mut rest = bytes;
         while !rest.is_empty() {
@@ -178,8 +189,9 @@ impl Console {
     fn write_piece(&mut self, set: CharacterSet, bytes: &[u8])
         requires short { length bytes.now ≤ PIECE }
         requires graphic { All (λ byte. byte ≤ LAST_GLYPH) bytes.now }
-        ensures { console_of self.new
+        ensures done { console_of self.new
             ≡ glyphs_written (map (glyph_of set) bytes.now) (console_of self.old) }
+        ensures told { KeepsTold self.old.screen self.new.screen }
     {
         let mut glyphs = [0; PIECE];
         fill_glyphs(set, bytes, &mut glyphs);

@@ -3,6 +3,7 @@ ghost use Rattle.std.specs.Prelude.{◌≡◌};
 ghost use Rattle.vt_term.specs.Rows.{named};
 ghost use Rattle.vt_term.specs.Controls.{controls, control_effect, line_fed, invoked};
 ghost use Rattle.vt_term.specs.Console.{console_of, on_picture, effect_of};
+ghost use Rattle.vt_screen.specs.Touched.{KeepsTold};
 
 use crate::Slot;
 use crate::console::Console;
@@ -12,8 +13,9 @@ impl Console {
     /// Does what a control character asks for.
     #[inline]
     pub(crate) fn control(&mut self, byte: u8)
-        ensures { console_of self.new
+        ensures done { console_of self.new
             ≡ effect_of control_effect (named controls byte) (console_of self.old) }
+        ensures told { KeepsTold self.old.screen self.new.screen }
     {
         match byte {
             8 => self.screen.step_left(1), // BS
@@ -28,8 +30,9 @@ impl Console {
 
     #[inline]
     fn feed_line(&mut self)
-        ensures { console_of self.new
+        ensures done { console_of self.new
             ≡ on_picture (line_fed self.old.modes.newline) (console_of self.old) }
+        ensures told { KeepsTold self.old.screen self.new.screen }
     {
         if self.modes.newline {
             self.screen.to_left();
@@ -38,7 +41,8 @@ impl Console {
     }
 
     fn invoke(&mut self, slot: Slot)
-        ensures { console_of self.new ≡ invoked slot self.old.modes.mode (console_of self.old) }
+        ensures done { console_of self.new ≡ invoked slot self.old.modes.mode (console_of self.old) }
+        ensures told { KeepsTold self.old.screen self.new.screen }
     {
         match self.modes.mode {
             Mode::Ansi => self.sets.invoked = slot,

@@ -5,6 +5,7 @@ ghost use Rattle.vt_term.specs.Escapes.{Nel, Decsc, plain_escapes, line_escapes,
 ghost use Rattle.vt_term.specs.Replies.{escape_reply, reply_of};
 ghost use Rattle.plays.specs.Sink.{after_sending, HasRoom};
 ghost use Rattle.vt_term.specs.Console.{console_of, effect_of, IsSavedWell};
+ghost use Rattle.vt_screen.specs.Touched.{KeepsTold};
 
 use crate::console::Console;
 use crate::replies::device_attributes;
@@ -47,6 +48,7 @@ impl Console {
         ensures room { HasRoom sink.old
             (reply_of escape_reply (escape_named inter last) (console_of self.old))
             → IsOk result }
+        ensures told { KeepsTold self.old.screen self.new.screen }
     {
         match inter {
             None => return self.obey_plain_escape(last, sink),
@@ -73,6 +75,7 @@ impl Console {
         ensures room { HasRoom sink.old
             (reply_of escape_reply (named plain_escapes last) (console_of self.old))
             → IsOk result }
+        ensures told { KeepsTold self.old.screen self.new.screen }
     {
         match last {
             b'D' => self.screen.index(), // IND
@@ -96,6 +99,7 @@ impl Console {
             ≡ effect_of escape_effect (named line_escapes last) (console_of self.old) }
         ensures silent { reply_of escape_reply (named line_escapes last) (console_of self.old)
             ≡ [] }
+        ensures told { KeepsTold self.old.screen self.new.screen }
     {
         match last {
             b'3' => self.screen.set_size(Size::Top), // DECDHL
@@ -113,6 +117,7 @@ impl Console {
             ≡ effect_of escape_effect (designation_named slot last) (console_of self.old) }
         ensures silent { reply_of escape_reply (designation_named slot last) (console_of self.old)
             ≡ [] }
+        ensures told { KeepsTold self.old.screen self.new.screen }
     {
         if let Some(set) = set_named(last) {
             self.sets.designate(slot, set);
@@ -120,14 +125,16 @@ impl Console {
     }
 
     fn next_line(&mut self)
-        ensures { console_of self.new ≡ escape_effect Nel (console_of self.old) }
+        ensures done { console_of self.new ≡ escape_effect Nel (console_of self.old) }
+        ensures told { KeepsTold self.old.screen self.new.screen }
     {
         self.screen.to_left();
         self.screen.index();
     }
 
     fn save(&mut self)
-        ensures { console_of self.new ≡ escape_effect Decsc (console_of self.old) }
+        ensures done { console_of self.new ≡ escape_effect Decsc (console_of self.old) }
+        ensures told { KeepsTold self.old.screen self.new.screen }
     {
         let (line, column) = self.screen.cursor();
         self.saved = Some(Saved {
@@ -144,7 +151,8 @@ impl Console {
 
     fn restore(&mut self)
         requires { IsSavedWell self.old.saved }
-        ensures { console_of self.new ≡ restored self.old.saved (console_of self.old) }
+        ensures done { console_of self.new ≡ restored self.old.saved (console_of self.old) }
+        ensures told { KeepsTold self.old.screen self.new.screen }
     {
         match self.saved {
             None => self.restore_nothing(),
@@ -154,7 +162,8 @@ impl Console {
 
     // Where nothing was saved: home, no rendition, and the sets of the initial state.
     fn restore_nothing(&mut self)
-        ensures { console_of self.new ≡ restored Option.None (console_of self.old) }
+        ensures done { console_of self.new ≡ restored Option.None (console_of self.old) }
+        ensures told { KeepsTold self.old.screen self.new.screen }
     {
         self.screen.home(false);
         self.modes.origin = false;
@@ -166,7 +175,8 @@ impl Console {
 
     fn restore_saved(&mut self, saved: Saved)
         requires { IsSavedWell (Option.Some saved) }
-        ensures { console_of self.new ≡ restored (Option.Some saved) (console_of self.old) }
+        ensures done { console_of self.new ≡ restored (Option.Some saved) (console_of self.old) }
+        ensures told { KeepsTold self.old.screen self.new.screen }
     {
         self.screen.put_back(
             saved.line,
@@ -184,7 +194,8 @@ impl Console {
 
     /// DECKPAM and DECKPNM.
     pub(crate) fn set_keypad(&mut self, application: bool)
-        ensures { console_of self.new ≡ keypad_set application (console_of self.old) }
+        ensures done { console_of self.new ≡ keypad_set application (console_of self.old) }
+        ensures told { KeepsTold self.old.screen self.new.screen }
     {
         self.modes.application_keypad = application;
     }

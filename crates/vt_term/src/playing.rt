@@ -11,12 +11,14 @@ impl Plays for Terminal {
 
     type Packed = PackedTerminal;
 
-    ghost use Rattle.vt_term.specs.Seen.{Shows};
+    ghost use Rattle.vt_term.specs.Seen.{Shows, Told};
     ghost use Rattle.vt_term.specs.Term.{play, reset_term_as, sent as sent_from};
 
     ghost shows = { λ profile terminal bytes. Shows terminal (play (reset_term_as profile) bytes) };
 
     ghost keeps = { λ profile packed bytes. Shows packed (play (reset_term_as profile) bytes) };
+
+    ghost told = { λ profile terminal bytes. Told (play (reset_term_as profile) bytes).console.picture.rows terminal };
 
     ghost fits = { λ _ _. Unit {0} };
 

@@ -7,6 +7,7 @@ ghost use Rattle.vt_term.specs.Sequences.{Sgr, Decll, sequence_effect, param_or,
 ghost use Rattle.vt_term.specs.Effect.{control_sequence_effect, control_sequence_reply};
 ghost use Rattle.vt_term.specs.Console.{console_of, on_picture, on_modes};
 ghost use Rattle.plays.specs.Sink.{after_sending, HasRoom};
+ghost use Rattle.vt_screen.specs.Touched.{KeepsTold};
 
 use crate::console::Console;
 use crate::{OutOfMemory, Reports};
@@ -64,6 +65,7 @@ impl Console {
         ensures room { HasRoom sink.old
             (control_sequence_reply false last params.now (console_of self.old))
             → IsOk result }
+        ensures told { KeepsTold self.old.screen self.new.screen }
     {
         match last {
             b'A' => self.screen.step_up(param_or(params, 0, 1)), // CUU
@@ -102,8 +104,9 @@ impl Console {
     }
 
     fn erase_display(&mut self, part: u16)
-        ensures { console_of self.new
+        ensures done { console_of self.new
             ≡ on_picture (erased display_erased part) (console_of self.old) }
+        ensures told { KeepsTold self.old.screen self.new.screen }
     {
         if part <= 2 {
             self.screen.erase_display(part as u8);
@@ -111,7 +114,8 @@ impl Console {
     }
 
     fn erase_line(&mut self, part: u16)
-        ensures { console_of self.new ≡ on_picture (erased line_erased part) (console_of self.old) }
+        ensures done { console_of self.new ≡ on_picture (erased line_erased part) (console_of self.old) }
+        ensures told { KeepsTold self.old.screen self.new.screen }
     {
         if part <= 2 {
             self.screen.erase_line(part as u8);
@@ -119,7 +123,8 @@ impl Console {
     }
 
     fn insert_lines(&mut self, n: u16)
-        ensures { console_of self.new ≡ where_it_edits (lines_inserted n) (console_of self.old) }
+        ensures done { console_of self.new ≡ where_it_edits (lines_inserted n) (console_of self.old) }
+        ensures told { KeepsTold self.old.screen self.new.screen }
     {
         if self.profile.has_editing() {
             self.screen.insert_lines(n);
@@ -127,7 +132,8 @@ impl Console {
     }
 
     fn delete_lines(&mut self, n: u16)
-        ensures { console_of self.new ≡ where_it_edits (lines_deleted n) (console_of self.old) }
+        ensures done { console_of self.new ≡ where_it_edits (lines_deleted n) (console_of self.old) }
+        ensures told { KeepsTold self.old.screen self.new.screen }
     {
         if self.profile.has_editing() {
             self.screen.delete_lines(n);
@@ -135,7 +141,8 @@ impl Console {
     }
 
     fn delete_cells(&mut self, n: u16)
-        ensures { console_of self.new ≡ where_it_edits (cells_deleted n) (console_of self.old) }
+        ensures done { console_of self.new ≡ where_it_edits (cells_deleted n) (console_of self.old) }
+        ensures told { KeepsTold self.old.screen self.new.screen }
     {
         if self.profile.has_editing() {
             self.screen.delete_cells(n);
@@ -143,7 +150,8 @@ impl Console {
     }
 
     fn take_tabs(&mut self, param: u16)
-        ensures { console_of self.new ≡ on_picture (tabs_taken param) (console_of self.old) }
+        ensures done { console_of self.new ≡ on_picture (tabs_taken param) (console_of self.old) }
+        ensures told { KeepsTold self.old.screen self.new.screen }
     {
         match param {
             0 => self.screen.clear_tab(),
@@ -153,7 +161,8 @@ impl Console {
     }
 
     fn set_rendition(&mut self, params: &[u16])
-        ensures { console_of self.new ≡ sequence_effect Sgr params.now (console_of self.old) }
+        ensures done { console_of self.new ≡ sequence_effect Sgr params.now (console_of self.old) }
+        ensures told { KeepsTold self.old.screen self.new.screen }
     {
         let mut rendition = self.rendition;
         for &param in params {
@@ -163,9 +172,10 @@ impl Console {
     }
 
     fn set_ansi_modes(&mut self, value: bool, params: &[u16])
-        ensures { console_of self.new
+        ensures done { console_of self.new
             ≡ on_modes (λ modes. fold (ansi_mode_set self.old.profile value) modes params.now)
             (console_of self.old) }
+        ensures told { KeepsTold self.old.screen self.new.screen }
     {
         for &param in params {
             self.set_ansi_mode(value, param);
@@ -196,7 +206,8 @@ impl Console {
 
     fn set_leds(&mut self, params: &[u16])
         requires { length self.old.leds ≡ 4 }
-        ensures { console_of self.new ≡ sequence_effect Decll params.now (console_of self.old) }
+        ensures done { console_of self.new ≡ sequence_effect Decll params.now (console_of self.old) }
+        ensures told { KeepsTold self.old.screen self.new.screen }
     {
         let mut leds = self.leds;
         for &param in params {

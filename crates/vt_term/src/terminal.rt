@@ -13,7 +13,7 @@ use vt_parser::{Parser, ParserState};
 use vt_screen::{Rendition, Screen};
 
 /// A VT100 or VT102 terminal. Contracts see what is seen of it: its profile, picture, modes, rendition, sets, save and
-/// LEDs, and its parser's state.
+/// LEDs, its parser's state, and which lines were touched.
 #[derive(Debug, Drop)]
 pub struct Terminal {
     console: Console,
@@ -33,9 +33,10 @@ impl Model for Terminal {
 }
 
 impl Terminal {
-    ghost use Rattle.std.specs.Prelude.{true};
+    ghost use Rattle.std.specs.Prelude.{List, true};
+    ghost use Rattle.vt_screen.specs.declared.cell.Row.{Row};
     ghost use Rattle.vt_term.specs.Term.{Term, reset_term, reset_term_as, play, sent};
-    ghost use Rattle.vt_term.specs.Seen.{Shows, IsTerminal};
+    ghost use Rattle.vt_term.specs.Seen.{Shows, IsTerminal, Told};
     ghost use Rattle.plays.specs.Sink.{after_sending, HasRoom, KeepsFront};
 
     /// The initial state of a VT100: 80 columns, all blank, ANSI mode, DECAWM set and every other mode reset.
@@ -64,8 +65,8 @@ impl Terminal {
         self.parser.copy_from(&other.parser);
     }
 
-    /// Takes bytes, and sends the replies to them. It feeds in place, and keeps a copy of the terminal for the case that
-    /// memory is refused.
+    /// Takes bytes, and sends the replies to them. Its marks are cleared first, so that then they tell which rows the bytes
+    /// may have touched. It feeds in place, and keeps a copy of the terminal for the case that memory is refused.
     pub fn feed(&mut self, bytes: &[u8], sink: &mut Reports) -> Result<(), OutOfMemory>
         // For every term that the terminal shows, it shows that term with the bytes played ..
         ensures shows { (x : Term) → Shows self.old x
@@ -73,7 +74,8 @@ impl Terminal {
         // .. and the replies to them were sent.
         ensures sent { (x : Term) → Shows self.old x
             → OnOk result (sink.new ≡ after_sending sink.old (sent x bytes.now)) }
-
+        // Each row that isn't marked as touched is the one of before.
+        ensures told { OnOk result (Told self.old.console.picture.rows self.new) }
         ensures err { OnErr result (self.new ≡ self.old) }
         ensures err_sink { OnErr result (sink.new ≡ sink.old) }
         ensures room { (x : Term) → Shows self.old x → HasRoom sink.old (sent x bytes.now)
@@ -99,6 +101,23 @@ impl Terminal {
             → OnOk result (Shows self.new (play x bytes.now)) }
         ensures sent { (x : Term) → Shows self.old x
             → OnOk result (sink.new ≡ after_sending sink.old (sent x bytes.now)) }
+        ensures told { OnOk result (Told self.old.console.picture.rows self.new) }
+        ensures front { KeepsFront sink.old sink.new }
+        ensures room { (x : Term) → Shows self.old x → HasRoom sink.old (sent x bytes.now)
+            → IsOk result }
+    {
+        self.console.screen.clear_touched();
+        self.take_all(bytes, sink)
+    }
+
+    // Takes all of the bytes.
+    #[inline]
+    fn take_all(&mut self, bytes: &[u8], sink: &mut Reports) -> Result<(), OutOfMemory>
+        ensures shows { (x : Term) → Shows self.old x
+            → OnOk result (Shows self.new (play x bytes.now)) }
+        ensures sent { (x : Term) → Shows self.old x
+            → OnOk result (sink.new ≡ after_sending sink.old (sent x bytes.now)) }
+        ensures told { (before : List Row) → Told before self.old → Told before self.new }
         ensures front { KeepsFront sink.old sink.new }
         ensures room { (x : Term) → Shows self.old x → HasRoom sink.old (sent x bytes.now)
             → IsOk result }
@@ -123,6 +142,7 @@ impl Terminal {
             → IfOk result (λ n. Shows self.new (play x (take n bytes.now))) }
         ensures sent { (x : Term) → Shows self.old x
             → IfOk result (λ n. sink.new ≡ after_sending sink.old (sent x (take n bytes.now))) }
+        ensures told { (before : List Row) → Told before self.old → Told before self.new }
         ensures front { KeepsFront sink.old sink.new }
         ensures room { (x : Term) → Shows self.old x → HasRoom sink.old (sent x bytes.now)
             → IsOk result }
@@ -136,9 +156,10 @@ impl Terminal {
         Ok(taken)
     }
 
-    /// The cells, sizes, cursor, pending wrap, margins and tabs.
+    /// The cells, sizes, cursor, pending wrap, margins and tabs, and which lines were touched by the last feed.
     pub fn screen(&self) -> &Screen
         ensures value { result.now.picture ≡ self.now.console.picture }
+        ensures touched { result.now.touched ≡ self.now.touched }
         // The cursor is within its line's right margin, cells right of it are blank, glyphs are at most 126, and while DECOM
         // is set the cursor is inside the margins.
         ensures proper { IsTerminal self.now }

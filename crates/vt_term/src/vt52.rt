@@ -6,6 +6,7 @@ ghost use Rattle.vt_term.specs.Vt52.{vt52_sequences, vt52_effect, graphics_set};
 ghost use Rattle.vt_term.specs.Replies.{vt52_reply, reply_of};
 ghost use Rattle.vt_term.specs.Console.{console_of, on_picture, effect_of};
 ghost use Rattle.plays.specs.Sink.{after_sending, HasRoom};
+ghost use Rattle.vt_screen.specs.Touched.{KeepsTold};
 
 use crate::console::Console;
 use crate::replies::VT52_IDENTITY;
@@ -28,6 +29,7 @@ impl Console {
         ensures room { HasRoom sink.old
             (reply_of vt52_reply (named vt52_sequences last) (console_of self.old))
             → IsOk result }
+        ensures told { KeepsTold self.old.screen self.new.screen }
     {
         match last {
             b'A' => self.screen.step_up(1),
@@ -50,7 +52,8 @@ impl Console {
     }
 
     fn set_graphics(&mut self, value: bool)
-        ensures { console_of self.new ≡ graphics_set value (console_of self.old) }
+        ensures done { console_of self.new ≡ graphics_set value (console_of self.old) }
+        ensures told { KeepsTold self.old.screen self.new.screen }
     {
         self.sets.vt52_graphics = value;
     }
@@ -59,8 +62,9 @@ impl Console {
     pub(crate) fn go_to_address(&mut self, line: u8, column: u8)
         requires line { 1 ≤ line }
         requires column { 1 ≤ column }
-        ensures { console_of self.new
+        ensures done { console_of self.new
             ≡ on_picture (placed line column self.old.modes.origin) (console_of self.old) }
+        ensures told { KeepsTold self.old.screen self.new.screen }
     {
         self.screen
             .place(u16::from(line), u16::from(column), self.modes.origin);

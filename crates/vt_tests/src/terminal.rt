@@ -40,6 +40,7 @@ mod rows;
 mod starts;
 mod stream;
 mod tables;
+mod touched;
 mod whole;
 mod wraps;
 

@@ -1,10 +1,12 @@
 //! Screens that are kept for later, without the blank tails of their lines.
 
-ghost use Rattle.std.specs.Prelude.{◌≡◌, ℕ, ◌+◌, ◌≤◌, IfOk, OnOk, length, true};
+ghost use Rattle.std.specs.Prelude.{◌≡◌, ℕ, ◌+◌, ◌≤◌, IfOk, List, OnOk, length, true};
 ghost use Rattle.vt_screen.specs.Cells.{blank, row_at};
 ghost use Rattle.vt_screen.specs.Packed.{ArePacked, AreUsed, IsPart, IsUsed, unpacked};
+ghost use Rattle.vt_screen.specs.declared.cell.Row.{Row};
 ghost use Rattle.vt_screen.specs.declared.screen.packed.Part.{Part};
 ghost use Rattle.vt_screen.specs.Slots.{rows_of};
+ghost use Rattle.vt_screen.specs.Touched.{Told, all_touched};
 
 use crate::cell::{Cell, Row, Size};
 use crate::grid::Grid;
@@ -71,9 +73,11 @@ impl Screen {
         })
     }
 
-    /// Becomes the screen that was packed.
+    /// Becomes the screen that was packed, with all lines touched.
     pub fn unpack(&mut self, packed: &PackedScreen)
-        ensures { self.new.picture ≡ packed.now }
+        ensures picture { self.new.picture ≡ packed.now }
+        ensures touched { self.new.touched ≡ all_touched }
+        ensures told { (before : List Row) → Told before self.new }
     {
         put_rows(&mut self.grid, packed);
         self.tabs = packed.tabs;
@@ -83,6 +87,7 @@ impl Screen {
         self.wrap = packed.wrap;
         self.top = packed.top;
         self.bottom = packed.bottom;
+        self.touched = [true; LINES as usize];
     }
 }
 

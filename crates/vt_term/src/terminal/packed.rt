@@ -1,5 +1,8 @@
 //! Terminals that are kept for later, without the blank tails of their lines.
-ghost use Rattle.std.specs.Prelude.{◌≡◌, IfOk};
+ghost use Rattle.std.specs.Prelude.{◌≡◌, IfOk, List};
+ghost use Rattle.vt_screen.specs.declared.cell.Row.{Row};
+ghost use Rattle.vt_term.specs.Packed.{wholly_touched};
+ghost use Rattle.vt_term.specs.Seen.{Told};
 
 use crate::terminal::Terminal;
 use crate::{Modes, Profile, Saved, Sets};
@@ -36,9 +39,9 @@ impl Model for PackedTerminal {
 }
 
 impl Terminal {
-    /// The terminal to be kept for later.
+    /// The terminal to be kept for later, with all lines touched.
     pub fn pack(&self, alloc: Global) -> Result<PackedTerminal, AllocError>
-        ensures { IfOk result (λ packed. packed ≡ self.now) }
+        ensures { IfOk result (λ packed. packed ≡ wholly_touched self.now) }
     {
         let console = &self.console;
         let screen = console.screen.pack(alloc)?;
@@ -58,7 +61,8 @@ impl Terminal {
 
     /// Becomes the terminal that was packed.
     pub fn unpack(&mut self, packed: &PackedTerminal)
-        ensures { self.new ≡ packed.now }
+        ensures value { self.new ≡ packed.now }
+        ensures told { (before : List Row) → Told before self.new }
     {
         self.console.profile = packed.profile;
         self.console.screen.unpack(&packed.screen);

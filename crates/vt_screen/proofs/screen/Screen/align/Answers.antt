@@ -8,6 +8,7 @@ use Rattle.vt_screen.specs.Slots.{ScreenState, rows_of}
 use Rattle.vt_screen.specs.View.{picture_of}
 use Rattle.vt_screen.proofs.Scrolled.{all_filled, filled_with}
 use Rattle.vt_screen.proofs.Soundness.{sound_aligned}
+use Rattle.vt_screen.proofs.Told.{nothing_told, touched_all}
 use Rattle.vt_screen.proofs.screen.Screen.align.Goals as goal
 
 is_aligned : (c : goal.After-self-1)
@@ -22,4 +23,7 @@ pub invariant_of-self : goal.invariant_of-self
 invariant_of-self c = subst Sound (sym (is_aligned c)) (sound_aligned (picture_of c.self.inside) c.self.invariant)
 
 pub returns : goal.returns
-returns c = record { picture = is_aligned c ∙ ap (λ (s : ScreenState). aligned s.picture) c.self.view_is }
+returns c = record {
+  picture = is_aligned c ∙ ap (λ (s : ScreenState). aligned s.picture) c.self.view_is;
+  told = λ before told. nothing_told _ before _ (c.touch_lines.ensures ∙ sym (touched_all c.self.inside.touched));
+}

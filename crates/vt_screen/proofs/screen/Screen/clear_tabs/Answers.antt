@@ -4,6 +4,6 @@ use Rattle.vt_screen.specs.Table.{table}
 use Rattle.vt_screen.specs.Tabs.{tabs_cleared}
 use Rattle.vt_screen.proofs.screen.Screen.clear_tabs.Goals as goal
 
-pub returns : goal.returns
+pub returns-clause-picture : goal.returns-clause-picture
 unfolding table
-returns c = record { picture = ap (λ (s : ScreenState). tabs_cleared s.picture) c.self.view_is }
+returns-clause-picture c = ap (λ (s : ScreenState). tabs_cleared s.picture) c.self.view_is

@@ -5,10 +5,11 @@ use Rattle.vt_screen.specs.CellEdits.{taken_out, cells_deleted}
 use Rattle.vt_screen.specs.Picture.{Sound, with_rows, right_margin}
 use Rattle.vt_screen.specs.Puts.{with_row}
 use Rattle.vt_screen.specs.Slots.{ScreenState, rows_of}
-use Rattle.vt_screen.specs.View.{picture_of}
+use Rattle.vt_screen.specs.View.{picture_of, state_of}
 use Rattle.vt_screen.proofs.Rows.{taken_few}
 use Rattle.vt_screen.proofs.Soundness.{sound_cells_deleted}
 use Rattle.vt_screen.proofs.Tables.{length-table}
+use Rattle.vt_screen.proofs.Told.{row_told}
 use Rattle.vt_screen.proofs.screen.Screen.delete_cells.Goals as goal
 
 pub set_row-requires-clause-whole : goal.set_row-requires-clause-whole
@@ -29,4 +30,7 @@ pub invariant_of-self : goal.invariant_of-self
 invariant_of-self c = subst Sound (sym (are_deleted c)) (sound_cells_deleted (picture_of c.self.inside) c.self.invariant c.args.n)
 
 pub returns : goal.returns
-returns c = record { picture = are_deleted c ∙ ap (λ (s : ScreenState). cells_deleted c.args.n s.picture) c.self.view_is }
+returns c = record {
+  picture = are_deleted c ∙ ap (λ (s : ScreenState). cells_deleted c.args.n s.picture) c.self.view_is;
+  told = row_told (state_of c.self.inside) c.args.self.now _ _ c.self.view_is c.self.inside.line _ c.touch_line.ensures c.set_row.ensures.rows;
+}

@@ -1,19 +1,26 @@
-use Rattle.std.proofs.Common.{◌≡◌, ℕ, ◌≤◌, Bool, true, false, sym, ap, ap₂, subst, inl, inr, ◌∙◌, arith}
+use Rattle.std.proofs.Common.{◌≡◌, ℕ, ◌≤◌, Bool, true, false, sym, ap, ap₂, subst, inl, inr, ◌∙◌, arith, refl, List}
 use Rattle.std.specs.Prelude.{◌&&◌}
 use Rattle.std.proofs.lemmas.Bool.{cases_eq}
 use Rattle.vt_screen.specs.declared.cell.Cell.{Cell}
 use Rattle.vt_screen.specs.Cells.{blank, row_at, is_single}
 use Rattle.vt_screen.specs.Erasures.{erased_whole, display_erased}
 use Rattle.vt_screen.specs.Lines.{filled_to}
-use Rattle.vt_screen.specs.Picture.{Sound, columns}
+use Rattle.vt_screen.specs.Picture.{Sound, columns, with_rows}
 use Rattle.vt_screen.specs.Puts.{with_row}
 use Rattle.vt_screen.specs.Slots.{ScreenState, rows_of}
-use Rattle.vt_screen.specs.View.{picture_of}
+use Rattle.vt_screen.specs.View.{picture_of, state_of}
 use Rattle.vt_screen.proofs.Erased.{erased_all, erased_in_part, whole_all}
 use Rattle.vt_screen.proofs.Scrolled.{filled_with}
 use Rattle.vt_screen.proofs.Soundness.{sound_display_erased}
+use Rattle.vt_screen.proofs.Told.{lines_told, row_told}
+use Rattle.vt_screen.specs.declared.cell.Row.{Row}
+use Rattle.vt_screen.specs.declared.screen.Screen.TheInside.{Inside as Fields}
 use Rattle.vt_screen.proofs.screen.Screen.erase_display.Goals as goal
 use Rattle.vt_screen.proofs.screen.Screen.erase_display.Goals.{then-self, else-self}
+
+-- the screen with other rows, and other lines touched
+abbrev mid : Fields → List Row → List Bool → ScreenState
+mid s rows touched = record (state_of s) { picture = with_rows rows (picture_of s); touched = touched }
 
 -- the picture where the cursor's line is erased whole, and where it is not
 with_line : (c : goal.After-self-1)
@@ -57,7 +64,19 @@ pub invariant_of-self-else-whole : goal.invariant_of-self-else-whole
 invariant_of-self-else-whole c = subst Sound (sym (in_part c)) (sound_display_erased (picture_of c.self.inside) c.self.invariant c.args.part)
 
 pub returns-after-self : goal.returns-after-self
-returns-after-self c = record { picture = with_line c ∙ ap (λ (s : ScreenState). display_erased c.args.part s.picture) c.self.view_is }
+returns-after-self c = record {
+  picture = with_line c ∙ ap (λ (s : ScreenState). display_erased c.args.part s.picture) c.self.view_is;
+  told = λ before told.
+      row_told (mid c.self.inside (rows_of c.fill_lines.new.self) c.touch_lines.new.touched) (mid c.self.inside (rows_of c.fill_lines.new.self) c.touch_lines.new.touched) _ _ refl c.self.inside.line _ c.touch_line.ensures c.fill_line.ensures.rows before
+      (lines_told (state_of c.self.inside) c.args.self.now (rows_of c.fill_lines.new.self) c.touch_lines.new.touched c.self.view_is
+      (filled_to c.blank.result c.columns_of-columns.result) _ _ c.touch_lines.ensures c.fill_lines.ensures.rows before told);
+}
 
 pub returns-else-whole : goal.returns-else-whole
-returns-else-whole c = record { picture = in_part c ∙ ap (λ (s : ScreenState). display_erased c.args.part s.picture) c.self.view_is }
+returns-else-whole c = record {
+  picture = in_part c ∙ ap (λ (s : ScreenState). display_erased c.args.part s.picture) c.self.view_is;
+  told = λ before told.
+      row_told (mid c.self.inside (rows_of c.fill_lines.new.self) c.touch_lines.new.touched) (mid c.self.inside (rows_of c.fill_lines.new.self) c.touch_lines.new.touched) _ _ refl c.self.inside.line _ c.touch_line.ensures c.erase_part.ensures before
+      (lines_told (state_of c.self.inside) c.args.self.now (rows_of c.fill_lines.new.self) c.touch_lines.new.touched c.self.view_is
+      (filled_to c.blank.result c.columns_of-columns.result) _ _ c.touch_lines.ensures c.fill_lines.ensures.rows before told);
+}

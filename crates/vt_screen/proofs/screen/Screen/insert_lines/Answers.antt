@@ -1,12 +1,16 @@
-use Rattle.std.proofs.Common.{◌≡◌, ℕ, ◌+◌, ◌-◌, false, min, ap, subst, sym, ◌∙◌, arith}
+use Rattle.std.proofs.Common.{◌≡◌, ℕ, ◌+◌, ◌-◌, false, min, ap, subst, sym, ◌∙◌, arith, Bool, true, List}
 use Rattle.std.proofs.lemmas.Bool.Decides.{nat_tests}
-use Rattle.vt_screen.specs.Picture.{Sound}
-use Rattle.vt_screen.specs.Scrolls.{lines_inserted}
+use Rattle.vt_screen.specs.Picture.{Sound, Picture}
+use Rattle.vt_screen.specs.Scrolls.{lines_inserted, is_in_region, scrolled_down}
 use Rattle.vt_screen.specs.Slots.{ScreenState, rows_of, line_above, slots_blanked, slots_lines_inserted}
-use Rattle.vt_screen.specs.View.{picture_of}
+use Rattle.vt_screen.specs.View.{picture_of, state_of}
 use Rattle.vt_screen.proofs.Blanked.{Filled, slots_freed}
 use Rattle.vt_screen.proofs.Scrolled.{region_moved, in_region, down_by}
 use Rattle.vt_screen.proofs.Soundness.{sound_lines_inserted}
+use Rattle.vt_screen.proofs.Told.{down_told}
+use Rattle.vt_screen.specs.declared.cell.Row.{Row}
+use Rattle.vt_screen.specs.Moves.{moved_to_left}
+use Rattle.std.specs.Prelude.{if◌then◌else◌}
 use Rattle.vt_screen.proofs.screen.Screen.insert_lines.Goals as goal
 
 -- how many lines move
@@ -54,3 +58,15 @@ are_freed c =
 
 pub returns-then-self-2-clause-slots : goal.returns-then-self-2-clause-slots
 returns-then-self-2-clause-slots c = are_freed c ∙ ap (λ (s : ScreenState). slots_lines_inserted c.args.n s.picture s.order s.slots) c.self.view_is
+
+-- the rows of the region have moved
+rows_moved : (c : goal.After-self-then-self-2-1) → rows_of c.fill_lines.new.self ≡ scrolled_down c.args.n c.self.inside.line c.self.inside.bottom (rows_of c.self.inside.grid)
+rows_moved c =
+    let p = picture_of c.self.inside in
+    let moved : Picture = moved_to_left (record p { rows = scrolled_down c.args.n p.line p.bottom p.rows }) in
+    let here : is_in_region p ≡ true = (let top = c.if-self.true in let bottom = c.if-self-2.true in grind (arith, nat_tests)) in
+    ap (λ (q : Picture). q.rows) (are_inserted c) ∙ ap (λ (b : Bool). let q : Picture = if b then moved else p in q.rows) here
+
+pub returns-then-self-2-clause-told : goal.returns-then-self-2-clause-told
+returns-then-self-2-clause-told c =
+    down_told (state_of c.self.inside) c.args.self.now _ _ c.self.view_is c.args.n c.self.inside.line c.self.inside.bottom c.turn_down.ensures.touched (rows_moved c)

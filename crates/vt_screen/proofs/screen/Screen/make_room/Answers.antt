@@ -4,9 +4,10 @@ use Rattle.vt_screen.specs.CellEdits.{moved_right, room_made}
 use Rattle.vt_screen.specs.Picture.{Sound, with_rows, right_margin}
 use Rattle.vt_screen.specs.Puts.{with_row}
 use Rattle.vt_screen.specs.Slots.{ScreenState, rows_of}
-use Rattle.vt_screen.specs.View.{picture_of}
+use Rattle.vt_screen.specs.View.{picture_of, state_of}
 use Rattle.vt_screen.proofs.Soundness.{sound_room_made}
 use Rattle.vt_screen.proofs.Tables.{length-table}
+use Rattle.vt_screen.proofs.Told.{row_told}
 use Rattle.vt_screen.proofs.screen.Screen.make_room.Goals as goal
 
 pub set_row-requires-clause-whole : goal.set_row-requires-clause-whole
@@ -24,3 +25,6 @@ invariant_of-self c = subst Sound (sym (has_room c)) (sound_room_made (picture_o
 
 pub returns-clause-picture : goal.returns-clause-picture
 returns-clause-picture c = has_room c ∙ ap (λ (s : ScreenState). room_made s.picture) c.self.view_is
+
+pub returns-clause-told : goal.returns-clause-told
+returns-clause-told c = row_told (state_of c.self.inside) c.args.self.now _ _ c.self.view_is c.self.inside.line _ c.touch_line.ensures c.set_row.ensures.rows

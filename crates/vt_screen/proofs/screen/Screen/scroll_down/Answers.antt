@@ -7,10 +7,11 @@ use Rattle.vt_screen.specs.Lines.{filled_to}
 use Rattle.vt_screen.specs.Picture.{Sound, columns, with_rows}
 use Rattle.vt_screen.specs.Scrolls.{scrolled_down}
 use Rattle.vt_screen.specs.Slots.{ScreenState, rows_of, slot_at, line_above}
-use Rattle.vt_screen.specs.View.{picture_of}
+use Rattle.vt_screen.specs.View.{picture_of, state_of}
 use Rattle.vt_screen.proofs.Answers.{sound_rolled_down}
 use Rattle.vt_screen.proofs.Rows.{changed_one}
 use Rattle.vt_screen.proofs.Scrolled.{scrolled, slot_cleared, filled_with, down_by}
+use Rattle.vt_screen.proofs.Told.{down_told}
 use Rattle.vt_screen.proofs.screen.Screen.scroll_down.Goals as goal
 
 is_scrolled : (c : goal.After-fill_line)
@@ -43,3 +44,7 @@ returns-clause-slots c =
     c.self.invariant.top_low (omega (arith, c.self.invariant.bottom_high, c.self.invariant.apart)) (grind (arith, nat_tests)) c.turn_down.ensures.order c.turn_down.ensures.slots
     (ap₂ (λ (e : Cell) (k : ℕ). filled_to e k (row_at was p.top)) c.blank.ensures c.columns_of.ensures) c.fill_line.ensures.slots
     ∙ ap (λ (s : ScreenState). set s.slots (slot_at s.order s.picture.bottom) blank_row) c.self.view_is
+
+pub returns-clause-told : goal.returns-clause-told
+returns-clause-told c =
+    down_told (state_of c.self.inside) c.args.self.now _ _ c.self.view_is 1 c.self.inside.top c.self.inside.bottom c.turn_down.ensures.touched (is_scrolled c)

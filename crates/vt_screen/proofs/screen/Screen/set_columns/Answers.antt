@@ -7,6 +7,7 @@ use Rattle.vt_screen.specs.Slots.{ScreenState, rows_of}
 use Rattle.vt_screen.specs.View.{picture_of}
 use Rattle.vt_screen.proofs.Scrolled.{all_cleared, filled_with}
 use Rattle.vt_screen.proofs.Soundness.{sound_columns_set}
+use Rattle.vt_screen.proofs.Told.{nothing_told, touched_all}
 use Rattle.vt_screen.proofs.screen.Screen.set_columns.Goals as goal
 
 is_wide : (c : goal.After-self-6-1) (origin : Bool)
@@ -25,4 +26,7 @@ pub invariant_of-self : goal.invariant_of-self
 invariant_of-self c = subst Sound (sym (is_wide c false)) (sound_columns_set (picture_of c.self.inside) c.self.invariant c.args.wide false)
 
 pub returns : goal.returns
-returns c = record { picture = is_wide c c.args.origin ∙ ap (λ (s : ScreenState). columns_set c.args.wide c.args.origin s.picture) c.self.view_is }
+returns c = record {
+  picture = is_wide c c.args.origin ∙ ap (λ (s : ScreenState). columns_set c.args.wide c.args.origin s.picture) c.self.view_is;
+  told = λ before told. nothing_told _ before _ (c.touch_lines.ensures ∙ sym (touched_all c.self.inside.touched));
+}

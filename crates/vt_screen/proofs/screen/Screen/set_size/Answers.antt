@@ -4,9 +4,10 @@ use Rattle.vt_screen.specs.Lines.{resized, size_set}
 use Rattle.vt_screen.specs.Picture.{Picture, Sound}
 use Rattle.vt_screen.specs.Puts.{with_row}
 use Rattle.vt_screen.specs.Slots.{ScreenState, rows_of}
-use Rattle.vt_screen.specs.View.{picture_of}
+use Rattle.vt_screen.specs.View.{picture_of, state_of}
 use Rattle.vt_screen.proofs.Soundness.{sound_size_set}
 use Rattle.vt_screen.proofs.Tables.{length-table}
+use Rattle.vt_screen.proofs.Told.{row_told}
 use Rattle.vt_screen.proofs.screen.Screen.set_size.Goals as goal
 
 pub set_row-requires-clause-whole : goal.set_row-requires-clause-whole
@@ -25,4 +26,7 @@ pub invariant_of-self : goal.invariant_of-self
 invariant_of-self c = subst Sound (sym (is_sized c)) (sound_size_set (picture_of c.self.inside) c.self.invariant c.args.size)
 
 pub returns : goal.returns
-returns c = record { picture = is_sized c ∙ ap (λ (s : ScreenState). size_set c.args.size s.picture) c.self.view_is }
+returns c = record {
+  picture = is_sized c ∙ ap (λ (s : ScreenState). size_set c.args.size s.picture) c.self.view_is;
+  told = row_told (state_of c.self.inside) c.args.self.now _ _ c.self.view_is c.self.inside.line _ c.touch_line.ensures c.set_row.ensures.rows;
+}

@@ -5,9 +5,10 @@ use Rattle.vt_screen.specs.declared.cell.Row.{Row}
 use Rattle.vt_screen.specs.Picture.{Sound, right_margin}
 use Rattle.vt_screen.specs.Slots.{ScreenState, rows_of, order_run_shown}
 use Rattle.vt_screen.specs.Puts.{run_shown}
-use Rattle.vt_screen.specs.View.{picture_of}
+use Rattle.vt_screen.specs.View.{picture_of, state_of}
 use Rattle.vt_screen.proofs.Runs.{run_within, run_to_margin, names_stay}
 use Rattle.vt_screen.proofs.Soundness.{sound_run_shown}
+use Rattle.vt_screen.proofs.Told.{row_told}
 use Rattle.vt_screen.proofs.screen.Screen.show_part.Goals as goal
 
 -- the picture where the glyphs end at the right margin, and where they end left of it
@@ -65,3 +66,9 @@ returns-else-taken-room-clause-order c =
     c.margin-margin.result c.self.inside.grid.order c.write_run.new.self.order (ap (λ (s : ScreenState). s.picture) c.self.view_is)
     c.self.invariant c.requires.wrap c.margin-margin.ensures.value (omega arith) (omega arith) c.write_run.ensures.order
     ∙ ap (λ (s : ScreenState). order_run_shown (take c.min-taken.result c.args.glyphs.now) c.args.rendition c.args.autowrap s.picture s.order) c.self.view_is
+
+pub returns-then-taken-room-clause-told : goal.returns-then-taken-room-clause-told
+returns-then-taken-room-clause-told c = row_told (state_of c.self.inside) c.args.self.now _ _ c.self.view_is c.self.inside.line _ c.touch_line.ensures c.write_run.ensures.rows
+
+pub returns-else-taken-room-clause-told : goal.returns-else-taken-room-clause-told
+returns-else-taken-room-clause-told c = row_told (state_of c.self.inside) c.args.self.now _ _ c.self.view_is c.self.inside.line _ c.touch_line.ensures c.write_run.ensures.rows

@@ -27,4 +27,5 @@ loop-rest-preserved c =
           c.show_part-taken.new.self.order (omega arith) part c.take_wrap.ensures.order
           (c.show_part-taken.ensures.order ∙ ap (λ (p : Picture). order_run_shown (take taken rest) c.args.rendition c.args.autowrap p c.take_wrap.new.self.order) c.take_wrap.ensures.picture)
           ∙ c.loop-rest.invariant.order;
+      told = λ before told. c.show_part-taken.ensures.told before (c.take_wrap.ensures.told before (c.loop-rest.invariant.told before told));
     }

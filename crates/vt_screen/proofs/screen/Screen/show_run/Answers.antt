@@ -3,9 +3,10 @@ use Rattle.vt_screen.specs.declared.cell.Row.{Row}
 use Rattle.vt_screen.specs.Picture.{Picture, Sound, right_margin}
 use Rattle.vt_screen.specs.Puts.{run_shown}
 use Rattle.vt_screen.specs.Slots.{ScreenState, rows_of, order_run_shown}
-use Rattle.vt_screen.specs.View.{picture_of}
+use Rattle.vt_screen.specs.View.{picture_of, state_of}
 use Rattle.vt_screen.proofs.Runs.{run_within, order_within}
 use Rattle.vt_screen.proofs.Soundness.{sound_run_shown}
+use Rattle.vt_screen.proofs.Told.{row_told}
 use Rattle.vt_screen.proofs.screen.Screen.show_run.Goals as goal
 
 -- all of them stand left of the right margin
@@ -36,4 +37,5 @@ pub returns-then-glyphs-room : goal.returns-then-glyphs-room
 returns-then-glyphs-room c = record {
   picture = fits c ∙ ap (λ (s : ScreenState). run_shown c.args.glyphs.now c.args.rendition c.args.autowrap s.picture) c.self.view_is;
   order = names_stay c ∙ ap (λ (s : ScreenState). order_run_shown c.args.glyphs.now c.args.rendition c.args.autowrap s.picture s.order) c.self.view_is;
+  told = row_told (state_of c.self.inside) c.args.self.now _ _ c.self.view_is c.self.inside.line _ c.touch_line.ensures c.write_run.ensures.rows;
 }

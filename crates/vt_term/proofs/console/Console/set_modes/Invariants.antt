@@ -1,8 +1,12 @@
 use Rattle.std.proofs.Common.{◌≡◌, take}
 use Rattle.std.specs.Prelude.{fold}
+use Rattle.vt_screen.specs.Touched.{KeepsTold}
 use Rattle.vt_term.specs.Console.{console_of}
 use Rattle.vt_term.specs.PrivateModes.{mode_set}
 use Rattle.vt_term.proofs.console.Console.set_modes.Given as goal
 
 abbrev pub invariant-loop-param : goal.invariant-loop-param
-invariant-loop-param l = console_of l.self ≡ fold (mode_set l.value) (console_of l.initial.self) (take l.param-index l.params)
+invariant-loop-param l = record {
+  done : console_of l.self ≡ fold (mode_set l.value) (console_of l.initial.self) (take l.param-index l.params);
+  told : KeepsTold l.initial.self.screen l.self.screen;
+}

@@ -11,5 +11,6 @@ loop-rest-preserved c = record {
       (All-drop (λ byte. byte ≤ 126) c.min.result c.loop-rest.rest.now c.loop-rest.invariant.graphic);
   written = front_written c.args.set c.min.result c.loop-rest.rest.now c.split_at.result.0.now c.split_at.result.1.now
       (console_of c.loop-rest.self) (console_of c.write_piece.new.self) _
-      c.split_at.ensures.front c.split_at.ensures.back c.write_piece.ensures c.loop-rest.invariant.written;
+      c.split_at.ensures.front c.split_at.ensures.back c.write_piece.ensures.done c.loop-rest.invariant.written;
+  told = λ before told. c.write_piece.ensures.told before (c.loop-rest.invariant.told before told);
 }

@@ -5,7 +5,7 @@ use Rattle.plays.specs.Sink.{after_sending, HasRoom}
 use Rattle.vt_term.specs.Term.{play, sent}
 use Rattle.vt_term.specs.Seen.{Shows}
 use Rattle.vt_term.proofs.Feeding.{play_on, sink_on, room_on, left_on}
-use Rattle.vt_term.proofs.terminal.Terminal.feed_in_place.Goals as goal
+use Rattle.vt_term.proofs.terminal.Terminal.take_all.Goals as goal
 
 pub loop-rest-init : goal.loop-rest-init
 unfolding play sent
@@ -17,6 +17,7 @@ loop-rest-init c = record {
     sent = λ x shows. sym (c.sending_adds_up.ensures.nothing c.args.sink.now);
   };
   front = c.the_front_stays.ensures.nothing c.args.sink.now;
+  told = λ before told. told;
 }
 
 pub loop-rest-preserved : goal.loop-rest-preserved
@@ -38,6 +39,7 @@ loop-rest-preserved c =
             (c.in_ok-taken.ensures.sent (play x (take fed.at bytes)) (fed.shows x shows)));
       };
       front = c.the_front_stays.ensures.twice c.args.sink.now c.loop-rest.sink c.take_some.new.sink c.loop-rest.invariant.front c.take_some.ensures.front;
+      told = λ before told. c.take_some.ensures.told before (c.loop-rest.invariant.told before told);
     }
 
 pub returns-in_err-taken-clause-room : goal.returns-in_err-taken-clause-room
