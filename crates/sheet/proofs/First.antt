@@ -1,5 +1,5 @@
 -- The first rows of a sheet.
-use Rattle.std.proofs.Common.{◌≡◌, ℕ, ◌+◌, ◌-◌, ◌<◌, ◌≤◌, ◌++◌, ◌∷◌, Bool, true, List, [], length, sym, ap, ap₂, ◌∙◌, subst, arith}
+use Rattle.std.proofs.Common.{◌≡◌, ℕ, ◌+◌, ◌-◌, ◌<◌, ◌≤◌, ◌++◌, ◌∷◌, Bool, true, List, [], length, sym, ap, ◌∙◌, subst, arith}
 use Rattle.std.specs.Prelude.{if◌then◌else◌, ◌&&◌, nat_le, replicate}
 use Rattle.std.proofs.lemmas.Bool.Decides.{nat_tests}
 use Rattle.std.proofs.lemmas.List.{length-replicate, get_or-replicate}
@@ -7,7 +7,6 @@ use Rattle.std.proofs.lemmas.List.FromFn.{map-range_with_len_more}
 use Rattle.sheet.specs.Cells.{Cell}
 use Rattle.sheet.specs.Table.{table}
 use Rattle.sheet.specs.Halves.{Whole}
-use Rattle.sheet.specs.Grid.{Grid}
 use Rattle.sheet.specs.Held.{Held, Sound, grid_of, row_in, rows_of, slot_at}
 use Rattle.sheet.proofs.Tables.{length-table, get_or-table, nth-table_any, nth_is, table_ext, is_table}
 

@@ -1,5 +1,5 @@
 -- Cells as two numbers.
-use Rattle.std.proofs.Common.{◌≡◌, ◌≢◌, ℕ, ◌+◌, ◌-◌, ◌*◌, ◌/◌, ◌%◌, ◌<◌, ◌≤◌, Bool, true, false, refl, sym, ap, ap₂, inl, inr, ◌∙◌, subst, arith}
+use Rattle.std.proofs.Common.{[], ◌≡◌, ◌≢◌, ℕ, ◌+◌, ◌-◌, ◌*◌, ◌/◌, ◌%◌, ◌<◌, ◌≤◌, Bool, true, false, refl, sym, ap, ap₂, inl, inr, ◌∙◌, subst, arith}
 use Rattle.std.specs.Prelude.{◌==◌}
 use Rattle.std.specs.Char.{IsScalar}
 use Rattle.std.proofs.lemmas.Bool.{cases_eq}
@@ -11,8 +11,8 @@ use Rattle.sheet.specs.declared.rendition.Rendition.{Rendition}
 use Rattle.sheet.specs.declared.cell.Kind.{Kind}
 use Rattle.sheet.specs.declared.rendition.Colour.TheVariants.{Default, Palette, Direct}
 use Rattle.sheet.specs.declared.cell.Kind.TheVariants.{Narrow, Wide, Covered}
-use Rattle.sheet.specs.Cells.{Cell, blank}
-use Rattle.sheet.specs.Numbers.{AreCell, AreNumbers, attribute_number, bit, cell_of, colour_of, first_number, kind_of, marks_of, rendition_of, second_number, style_again, style_number, text_again, text_number}
+use Rattle.sheet.specs.Cells.{Cell, blank, plain_on}
+use Rattle.sheet.specs.Numbers.{AreCell, AreNumbers, IsPaper, IsPen, attribute_number, attributes_again, bit, cell_of, colour_of, first_number, kind_of, marks_of, paper_of, pen_of, rendition_of, second_number, style_again, style_number, text_again, text_number}
 
 -- a character takes 21 bits
 pub scalar_below : (c : ℕ) → IsScalar c → c < 1114112
@@ -161,6 +161,93 @@ module _ (text style character first second k a p n : ℕ) (kind : Kind) (r : Re
     rendition = (ap (λ (m : ℕ). rendition_of m (style % 33554432) (style / 33554432 % 33554432)) (bits ∙ a_is)
         ∙ ap₂ (rendition_of (attribute_number r)) ink paper ∙ rendition_made r n p is_ink is_paper) i;
   }
+
+-- ---- pens
+
+-- the numbers of a pen that is seen, and of a cell of it
+module _ (style : ℕ) (r : Rendition) (is : IsPen style) (seen : pen_of style ≡ r) where
+  pub pen_bits : style / 33554432 / 33554432 % 256 ≡ attribute_number r
+  unfolding pen_of
+  pen_bits = sym (attributes_again (style / 33554432 / 33554432 % 256) (style % 33554432) (style / 33554432 % 33554432) (omega arith)) ∙ ap attribute_number seen
+
+  pub pen_ink : colour_of (style % 33554432) ≡ r.ink
+  unfolding pen_of rendition_of
+  pen_ink = ap (λ (s : Rendition). s.ink) seen
+
+  pub pen_paper : colour_of (style / 33554432 % 33554432) ≡ r.paper
+  unfolding pen_of rendition_of
+  pen_paper = ap (λ (s : Rendition). s.paper) seen
+
+  pub pen_joined : (k : ℕ) → k * 288230376151711744 + style
+      ≡ ((k * 256 + style / 33554432 / 33554432 % 256) * 33554432 + style / 33554432 % 33554432) * 33554432 + style % 33554432
+  pen_joined k = omega (arith, is.bits)
+
+space : IsScalar 32
+space = refl
+
+no_numbers : AreNumbers 0 0
+no_numbers = record { one = λ some. absurd (some refl); two = λ some. absurd (some refl); order = λ none. none }
+
+few : 0 < 3
+few = omega arith
+
+-- a pen of its numbers
+module _ (style a p n : ℕ) (r : Rendition) (is_style : style ≡ (a * 33554432 + p) * 33554432 + n)
+    (a_is : a ≡ attribute_number r) (p_below : p < 16777473) (n_below : n < 16777473) (is_ink : colour_of n ≡ r.ink) (is_paper : colour_of p ≡ r.paper) where
+  as_cell : cell_of 32 style ≡ record { kind = Narrow; character = 32; marks = []; rendition = r }
+  as_cell =
+      made_is 32 style 32 0 0 0 a p n Narrow r refl (omega (arith, is_style)) space no_numbers few a_is p_below n_below narrow_made is_ink is_paper
+
+  pub made_pen : IsPen style
+  made_pen = record {
+    ink = omega (arith, is_style);
+    paper = omega (arith, is_style);
+    bits = omega (arith, is_style, a_is, attributes_below r);
+  }
+
+  pub pen_is : pen_of style ≡ r
+  unfolding pen_of cell_of
+  pen_is = ap (λ (c : Cell). c.rendition) as_cell
+
+-- that of a cell
+module _ (text style : ℕ) (cell : Cell) (are : AreCell text style) (seen : cell_of text style ≡ cell) where
+  cells_ink : style % 288230376151711744 % 33554432 ≡ style % 33554432
+  cells_ink = omega arith
+
+  cells_paper : style % 288230376151711744 / 33554432 % 33554432 ≡ style / 33554432 % 33554432
+  cells_paper = omega arith
+
+  same_bits : style % 288230376151711744 / 33554432 / 33554432 ≡ style / 33554432 / 33554432 % 256
+  same_bits = omega arith
+
+  pub cells_pen : IsPen (style % 288230376151711744)
+  cells_pen = record { ink = omega (arith, cells_ink, are.ink); paper = omega (arith, cells_paper, are.paper); bits = omega (arith, same_bits) }
+
+  pub cells_pen_is : pen_of (style % 288230376151711744) ≡ cell.rendition
+  unfolding pen_of cell_of
+  cells_pen_is =
+      ap₂ (rendition_of (style % 288230376151711744 / 33554432 / 33554432 % 256)) cells_ink cells_paper
+      ∙ ap (λ (b : ℕ). rendition_of b (style % 33554432) (style / 33554432 % 33554432)) (ap (λ (b : ℕ). b % 256) same_bits ∙ omega arith)
+      ∙ ap (λ (c : Cell). c.rendition) seen
+
+-- ---- papers
+
+module _ (style : ℕ) (paper : Colour) (is : IsPaper style) (seen : paper_of style ≡ paper) where
+  pub papers_pen : IsPen style
+  papers_pen = record { ink = omega (arith, is.ink); paper = omega (arith, is.paper); bits = omega (arith, is.paper) }
+
+  no_bits : style / 33554432 / 33554432 % 256 ≡ 0
+  no_bits = omega (arith, is.paper)
+
+  same_paper : style / 33554432 % 33554432 ≡ style / 33554432
+  same_paper = omega (arith, is.paper)
+
+  pub plain_is : pen_of style ≡ plain_on paper
+  unfolding pen_of paper_of rendition_of colour_of
+  plain_is =
+      ap₂ (rendition_of (style / 33554432 / 33554432 % 256)) is.ink same_paper
+      ∙ ap (λ (b : ℕ). rendition_of b 0 (style / 33554432)) no_bits
+      ∙ ap plain_on seen
 
 -- the numbers of a cell that is seen
 pub text_seen : (text style : ℕ) (cell : Cell) → AreCell text style → cell_of text style ≡ cell → text ≡ text_number cell.character (first_number cell.marks) (second_number cell.marks)

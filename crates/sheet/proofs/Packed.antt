@@ -1,19 +1,20 @@
 -- Rows that are kept up to their last cell that isn't blank.
-use Rattle.std.proofs.Common.{◌≡◌, ℕ, zero, suc, ◌+◌, ◌-◌, ◌<◌, ◌≤◌, Bool, true, List, [], ◌∷◌, ◌++◌, length, take, get_or, refl, sym, ap, ap₂, inl, inr, ◌∙◌, subst, arith}
+use Rattle.std.proofs.Common.{◌≡◌, ℕ, ◌+◌, ◌-◌, ◌<◌, ◌≤◌, Bool, true, List, [], ◌∷◌, ◌++◌, length, take, refl, sym, ap, ap₂, inl, inr, ◌∙◌, subst, arith}
 use Rattle.std.specs.Prelude.{if◌then◌else◌, ◌&&◌, nat_le}
 use Rattle.std.proofs.lemmas.Bool.{cases_eq, cases_lt}
 use Rattle.std.proofs.lemmas.Bool.Decides.{nat_tests}
 use Rattle.std.proofs.lemmas.List.{get_or-take, get_or_push, get_or_append_left, get_or_past, length-append, length-take}
 use Rattle.sheet.specs.declared.rendition.Colour.TheVariants.{Default}
-use Rattle.sheet.specs.Table.{table, nth}
+use Rattle.sheet.specs.Table.{table}
 use Rattle.sheet.specs.Cells.{Cell, blank, cell_at}
-use Rattle.sheet.specs.Edits.{filled}
+use Rattle.sheet.specs.Edits.{erased, filled}
 use Rattle.sheet.specs.Halves.{Whole}
-use Rattle.sheet.specs.Grid.{Grid, all_touched, blank_row, row_at}
-use Rattle.sheet.specs.Held.{Held, Sound, grid_of, row_in, rows_of, slot_at}
+use Rattle.sheet.specs.Grid.{Grid, all_touched, blank_row, row_at, row_of}
+use Rattle.sheet.specs.Held.{Held, Sound, grid_of, row_in}
 use Rattle.sheet.specs.Packed.{IsPacked, IsUsed, packed_grid, unpacked}
-use Rattle.sheet.proofs.Tables.{is_table, length-table, nth_is, nth_next, nth_past, table_ext, table_is}
-use Rattle.sheet.proofs.Rows.{blank_narrow, blank_open}
+use Rattle.sheet.proofs.Tables.{is_table, length-table, nth-table, nth_is, nth_past, table_ext, table_is}
+use Rattle.sheet.specs.declared.rendition.Colour.{Colour}
+use Rattle.sheet.proofs.Rows.{blank_narrow, blank_open, filled_there, length_erased, mended_there}
 use Rattle.sheet.proofs.Turns.{row_of_whole}
 use Rattle.sheet.proofs.First.{first_is, first_sound}
 
@@ -146,3 +147,44 @@ module _ (held : Held) (old : Grid) (sound : Sound held) (seen : grid_of held �
     where
       again : packed_grid columns kept ≡ record { columns = held.columns; lines = length held.order; rows = table (length held.order) (λ line. unpacked held.columns (row_in kept (line - 1))); touched = table (length held.order) (λ _. true) }
       again = ap₂ (λ (m n : ℕ). let g : Grid = record { columns = m; lines = n; rows = table n (λ line. unpacked m (row_in kept (line - 1))); touched = table n (λ _. true) } in g) width lines
+
+-- ---- cells that needn't be blanked anew
+
+pub all_used : (row : List Cell) (used : ℕ) → used ≡ length row → IsUsed row used
+all_used row used is = record {
+  within = omega arith;
+  tail = λ column past. nth_past (blank Default) row column (omega arith);
+}
+
+-- a row whose cells in use are filled is filled
+pub filled_used : (row : List Cell) (used : ℕ) (cell : Cell) → IsUsed row used → cell ≡ blank Default → filled 1 used cell row ≡ row_of (length row) cell
+filled_used row used cell is is_blank =
+    table_ext (length row) _ _ (λ k low high.
+    elim (cases_lt used k) [
+      | inl past ↦ (let e = is.tail k past in grind (arith, nat_tests))
+      | inr within ↦ grind (arith, nat_tests)
+    ])
+
+pub none_used : (n : ℕ) (cell : Cell) → cell ≡ blank Default → IsUsed (row_of n cell) 0
+none_used n cell is_blank = record {
+  within = omega arith;
+  tail = λ column past.
+      elim (cases_lt n column) [
+        | inl out ↦ nth_past (blank Default) (row_of n cell) column (omega (arith, length-table n (λ (k : ℕ). cell)))
+        | inr within ↦ nth-table (blank Default) n (λ (k : ℕ). cell) column past within ∙ is_blank
+      ];
+}
+
+-- cells that become blank need no more
+pub erased_used : (row : List Cell) (used from to : ℕ) (paper : Colour) → IsUsed row used → blank paper ≡ blank Default → 1 ≤ from → to ≤ length row
+    → IsUsed (erased from to paper row) used
+erased_used row used from to paper is is_blank low high =
+    let x = filled from to (blank paper) row in
+    record {
+      within = omega (arith, is.within, length_erased from to paper row);
+      tail = λ k past.
+          let here = filled_there row from to (blank paper) k low high in
+          let was = is.tail k past in
+          let same : cell_at x k ≡ blank Default = here ∙ grind (arith, nat_tests) in
+          mended_there paper x k ∙ grind (arith, nat_tests);
+    }

@@ -398,3 +398,19 @@ pub all_copied : (cells : List Cell) (n : ℕ) (cell other : Cell) → cell ≡ 
 all_copied cells n cell other same copies =
     copies ∙ is_table (blank Default) n (replicate n cell) (λ _. other) (length-replicate n cell) (λ k low high.
     nth_is (blank Default) (replicate n cell) k low ∙ get_or-replicate n (k - 1) cell (blank Default) (omega arith) ∙ same)
+
+-- a cell that is no half of a wide character stays none
+pub still_narrow : (border : ℕ) (paper : Colour) (row : List Cell) (k : ℕ) → 1 ≤ border → is_wide (cell_at row k) ≡ false
+    → is_wide (cell_at (border_mended border paper row) k) ≡ false
+still_narrow border paper row k low is =
+    let there = at_mended border paper row low k in
+    let n = blank_narrow paper in
+    ap is_wide there ∙ grind (arith, nat_tests)
+
+-- a blank cell right of a border stays blank
+pub still_blank : (border : ℕ) (paper : Colour) (row : List Cell) (k : ℕ) → 1 ≤ border → border ≤ k → cell_at row k ≡ blank Default
+    → cell_at (border_mended border paper row) k ≡ blank Default
+still_blank border paper row k low right is =
+    let there = at_mended border paper row low k in
+    let uncovered : is_covered (cell_at row k) ≡ false = ap is_covered is ∙ blank_open Default in
+    there ∙ grind (arith, nat_tests)

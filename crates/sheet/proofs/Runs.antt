@@ -11,8 +11,9 @@ use Rattle.sheet.specs.Table.{table}
 use Rattle.sheet.specs.Cells.{blank, covering, lettered, is_wide, is_covered, cell_at}
 use Rattle.sheet.specs.Halves.{Whole, mended, border_mended}
 use Rattle.sheet.specs.Edits.{written, put, run_written, run_put}
+use Rattle.sheet.specs.Packed.{IsUsed}
 use Rattle.sheet.proofs.Tables.{length-table, table_ext}
-use Rattle.sheet.proofs.Rows.{Intact, at_mended, blank_narrow, lettered_wide, lettered_open, written_there, narrow_put, two_mended, mended_same, mended_whole, whole_mended}
+use Rattle.sheet.proofs.Rows.{Intact, at_mended, blank_narrow, still_blank, lettered_wide, lettered_open, written_there, narrow_put, two_mended, mended_same, mended_whole, whole_mended}
 
 module _ (rendition : Rendition) where
   pub len_written : (column : ℕ) (cs : List ℕ) (row : List Cell) → length (run_written column cs rendition row) ≡ length row
@@ -145,6 +146,24 @@ module _ (rendition : Rendition) where
   run_is_put cs column row whole low room =
       two_mended column (column + length cs) rendition.paper (run_written column cs rendition row) low (omega arith) (λ k a b. run_intact cs column row k whole low room a b)
       ∙ run_mended cs column row whole low room
+
+  -- the cells in use are those of before and those of the run
+  pub run_used : (cs : List ℕ) (column : ℕ) (row : List Cell) (used most : ℕ) → Whole row → IsUsed row used → 1 ≤ column → column + length cs ≤ length row + 1
+      → used ≤ most → column + length cs ≤ most + 1 → most ≤ length row → IsUsed (run_put column cs rendition row) most
+  run_used cs column row used most whole is low room a b within =
+      let paper = rendition.paper in
+      let w = run_written column cs rendition row in
+      let x = border_mended column paper w in
+      let put = run_is_put cs column row whole low room in
+      let len : length (run_put column cs rendition row) ≡ length row
+      = sym (ap length put) ∙ length-table (length x) _ ∙ length-table (length w) _ ∙ len_written column cs row in
+      record {
+        within = omega arith;
+        tail = λ k past.
+            sym (ap (λ (r : List Cell). cell_at r k) put)
+            ∙ still_blank (column + length cs) paper x k (omega arith) (omega arith)
+            (still_blank column paper w k low (omega arith) (run_outside cs column row k low room (λ _. omega arith) ∙ is.tail k (omega arith)));
+      }
 
   -- nothing is left to write
   pub run_done : (cs : List ℕ) (i column : ℕ) (row : List Cell) → length cs ≤ i → run_written column (drop i cs) rendition row ≡ row

@@ -2,6 +2,7 @@ pub mod Cells
 pub mod Edits
 pub mod Halves
 pub mod Numbers
+pub mod Mixed
 pub mod Table
 pub mod Grid
 pub mod Held

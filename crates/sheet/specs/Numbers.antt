@@ -7,10 +7,10 @@ use Rattle.sheet.specs.declared.rendition.Rendition.{Rendition}
 use Rattle.sheet.specs.declared.cell.Kind.{Kind}
 use Rattle.sheet.specs.declared.cell.Kind.TheVariants.{Narrow, Wide, Covered}
 use Rattle.sheet.specs.Cells.{Cell}
-use Rattle.std.proofs.Common.{zero, suc, refl, sym, ap, ap₂, inl, inr, true, false, ◌∙◌, arith}
+use Rattle.std.proofs.Common.{zero, suc, refl, sym, ap, ap₂, inl, inr, ◌∙◌, arith}
 use Rattle.std.proofs.lemmas.Bool.{cases_eq, cases_lt}
 use Rattle.std.proofs.lemmas.Bool.Decides.{nat_tests}
-use Rattle.std.proofs.Math.Nat.{div-add-mod'}
+use Rattle.std.proofs.Math.Nat.{div-add-mod', mod-eq_of_lt}
 
 -- the marks of two numbers: 0 is none, and a mark's number is one more than its code
 abbrev pub marks_of : ℕ → ℕ → List ℕ
@@ -110,6 +110,34 @@ pub record AreCell (text style : ℕ) : Type 0 where
   pub paper : style / 33554432 % 33554432 < 16777473
   pub kind : style / 33554432 / 33554432 / 256 < 3
 
+-- the rendition that a cell's second number holds
+unfoldable pub pen_of : ℕ → Rendition
+pen_of style =
+    rendition_of (style / 33554432 / 33554432 % 256) (style % 33554432) (style / 33554432 % 33554432)
+
+-- the second number of a cell of a rendition, where its kind is 0
+unfoldable pub pen_number : Rendition → ℕ
+pen_number r = (attribute_number r * 33554432 + colour_number r.paper) * 33554432 + colour_number r.ink
+
+-- a number is a rendition's
+pub record IsPen (style : ℕ) : Type 0 where
+  pub ink : style % 33554432 < 16777473
+  pub paper : style / 33554432 % 33554432 < 16777473
+  pub bits : style / 33554432 / 33554432 < 256
+
+-- the paper that the second number of a blank cell holds
+unfoldable pub paper_of : ℕ → Colour
+paper_of style = colour_of (style / 33554432)
+
+-- the second number of a blank cell
+unfoldable pub paper_number : Colour → ℕ
+paper_number paper = colour_number paper * 33554432
+
+-- a number is a paper's
+pub record IsPaper (style : ℕ) : Type 0 where
+  pub ink : style % 33554432 ≡ 0
+  pub paper : style / 33554432 < 16777473
+
 -- marks and their numbers give each other
 pub first_again : (first second : ℕ) → first_number (marks_of first second) ≡ first
 first_again zero second = refl
@@ -153,9 +181,9 @@ ink_again : (bits ink paper : ℕ) → ink < 16777473 → colour_number (renditi
 unfolding rendition_of
 ink_again bits ink paper below = colour_again ink below
 
-paper_again : (bits ink paper : ℕ) → paper < 16777473 → colour_number (rendition_of bits ink paper).paper ≡ paper
+ground_again : (bits ink paper : ℕ) → paper < 16777473 → colour_number (rendition_of bits ink paper).paper ≡ paper
 unfolding rendition_of
-paper_again bits ink paper below = colour_again paper below
+ground_again bits ink paper below = colour_again paper below
 
 -- a cell's numbers are those of its parts
 pub text_again : (text style : ℕ) → AreCell text style
@@ -176,5 +204,21 @@ style_again text style are =
     let all : kind_number (kind_of (high / 256)) * 256 + attribute_number (rendition_of (high % 256) ink paper) ≡ high =
     ap₂ (λ (k a : ℕ). k * 256 + a) (kind_again (high / 256) are.kind) (attributes_again (high % 256) ink paper (omega arith)) ∙ div-add-mod' high 256 in
     ap₂ (λ (h i : ℕ). (h * 33554432 + colour_number (rendition_of (high % 256) ink paper).paper) * 33554432 + i) all (ink_again (high % 256) ink paper are.ink)
-    ∙ ap (λ (p : ℕ). (high * 33554432 + p) * 33554432 + ink) (paper_again (high % 256) ink paper are.paper)
+    ∙ ap (λ (p : ℕ). (high * 33554432 + p) * 33554432 + ink) (ground_again (high % 256) ink paper are.paper)
     ∙ ap (λ (m : ℕ). m * 33554432 + ink) (div-add-mod' (style / 33554432) 33554432) ∙ div-add-mod' style 33554432
+
+-- so do renditions, papers and theirs
+pub pen_again : (style : ℕ) → IsPen style → pen_number (pen_of style) ≡ style
+unfolding pen_number pen_of
+pen_again style is =
+    let high = style / 33554432 / 33554432 in
+    let ink = style % 33554432 in
+    let paper = style / 33554432 % 33554432 in
+    let all : attribute_number (rendition_of (high % 256) ink paper) ≡ high = attributes_again (high % 256) ink paper (omega arith) ∙ mod-eq_of_lt is.bits in
+    ap₂ (λ (h i : ℕ). (h * 33554432 + colour_number (rendition_of (high % 256) ink paper).paper) * 33554432 + i) all (ink_again (high % 256) ink paper is.ink)
+    ∙ ap (λ (p : ℕ). (high * 33554432 + p) * 33554432 + ink) (ground_again (high % 256) ink paper is.paper)
+    ∙ ap (λ (m : ℕ). m * 33554432 + ink) (div-add-mod' (style / 33554432) 33554432) ∙ div-add-mod' style 33554432
+
+pub paper_again : (style : ℕ) → IsPaper style → paper_number (paper_of style) ≡ style
+unfolding paper_number paper_of
+paper_again style is = ap (λ (m : ℕ). m * 33554432) (colour_again (style / 33554432) is.paper) ∙ omega (arith, is.ink)

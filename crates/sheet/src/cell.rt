@@ -4,6 +4,9 @@ ghost use Rattle.std.specs.Prelude.{◌≡◌, ◌≤◌, ◌<◌, IsTrue, lengt
 ghost use Rattle.sheet.specs.Numbers.{AreNumbers, kind_number, kind_of, marks_of};
 ghost use Rattle.sheet.specs.Cells.{alignment, blank, covering, is_covered, is_wide, lettered, plain_on, with_mark};
 
+mod alike;
+
+use crate::pen::{COLOURS, Paper, Pen, STYLES};
 use crate::rendition::{Colour, Rendition};
 use std::marker::Model;
 
@@ -44,10 +47,8 @@ impl Kind {
     }
 }
 
-// A character takes 21 bits, a colour 25.
+// A character takes 21 bits.
 const CHARACTERS: u64 = 2_097_152;
-
-const COLOURS: u64 = 33_554_432;
 
 /// A character with at most two marks, and its rendition, in 16 bytes. A covered cell holds a space.
 #[derive(Clone, Copy, Debug, PartialEq, Eq)]
@@ -83,7 +84,7 @@ impl Model for Cell {
 
 impl Cell {
     /// A cell of its parts, with marks by their numbers.
-    fn of(kind: Kind, character: char, first: u32, second: u32, rendition: Rendition) -> Self
+    fn of(kind: Kind, character: char, first: u32, second: u32, rendition: Pen) -> Self
         requires numbers { AreNumbers first second }
         requires first { first < 2097152 }
         requires second { second < 2097152 }
@@ -91,18 +92,15 @@ impl Cell {
             ≡ record { kind = kind; character = character; marks = marks_of first second; rendition = rendition } }
     {
         let sort = kind.number();
-        let bits = rendition.attributes();
-        let paper = rendition.paper.number();
-        let ink = rendition.ink.number();
         Cell {
             text: (second as u64 * CHARACTERS + first as u64) * CHARACTERS + character as u64,
-            style: ((sort * 256 + bits as u64) * COLOURS + paper as u64) * COLOURS + ink as u64,
+            style: sort * STYLES + rendition.style,
         }
     }
 
     /// A character without marks, in one column or two.
     #[tactic(auto, unfolding(crate::specs::Cells::lettered))]
-    pub fn lettered(character: char, wide: bool, rendition: Rendition) -> Self
+    pub fn lettered(character: char, wide: bool, rendition: Pen) -> Self
         ensures { result ≡ lettered character wide rendition }
     {
         let kind = if wide { Kind::Wide } else { Kind::Narrow };
@@ -111,15 +109,22 @@ impl Cell {
 
     /// A space, erased in colour.
     #[tactic(auto, unfolding(crate::specs::Cells::blank))]
-    pub fn blank(paper: Colour) -> Self
+    pub fn blank(paper: Paper) -> Self
         ensures { result ≡ blank paper }
     {
-        Cell::of(Kind::Narrow, ' ', 0, 0, Rendition::plain_on(paper))
+        Cell::of(Kind::Narrow, ' ', 0, 0, Pen::plain_on(paper))
+    }
+
+    /// A space without rendition.
+    pub fn empty() -> Self
+        ensures { result ≡ blank Colour.Default }
+    {
+        Cell::blank(Paper::of(Colour::Default))
     }
 
     /// The right half of a character of this rendition.
     #[tactic(auto, unfolding(crate::specs::Cells::covering))]
-    pub fn covering(rendition: Rendition) -> Self
+    pub fn covering(rendition: Pen) -> Self
         ensures { result ≡ covering rendition }
     {
         Cell::of(Kind::Covered, ' ', 0, 0, rendition)
@@ -129,7 +134,7 @@ impl Cell {
     pub fn alignment() -> Self
         ensures { result ≡ alignment }
     {
-        Cell::lettered('E', false, Rendition::plain_on(Colour::Default))
+        Cell::lettered('E', false, Pen::plain())
     }
 
     /// The same cell with one mark more, where there is room for it.
@@ -144,7 +149,7 @@ impl Cell {
                 self.character(),
                 mark as u32 + 1,
                 0,
-                self.rendition(),
+                self.pen(),
             )
         } else if second == 0 {
             Cell::of(
@@ -152,7 +157,7 @@ impl Cell {
                 self.character(),
                 first,
                 mark as u32 + 1,
-                self.rendition(),
+                self.pen(),
             )
         } else {
             self
@@ -176,14 +181,19 @@ impl Cell {
     }
 
     /// How it is written.
-    #[tactic(auto, unfolding(crate::specs::Numbers::cell_of))]
     pub fn rendition(self) -> Rendition
         ensures { result ≡ self.rendition }
     {
-        let bits = (self.style / COLOURS / COLOURS % 256) as u8;
-        let ink = (self.style % COLOURS) as u32;
-        let paper = (self.style / COLOURS % COLOURS) as u32;
-        Rendition::of(bits, ink, paper)
+        self.pen().rendition()
+    }
+
+    /// The same, as cells hold it.
+    pub fn pen(self) -> Pen
+        ensures { result ≡ self.rendition }
+    {
+        Pen {
+            style: self.style % STYLES,
+        }
     }
 
     /// The numbers of the two marks.

@@ -4,6 +4,7 @@
 mod cell;
 mod edit;
 pub mod limits;
+mod pen;
 mod rendition;
 mod row;
 mod sheet;
@@ -11,5 +12,6 @@ mod slot;
 
 pub use cell::{Cell, Kind};
 pub use edit::Edit;
+pub use pen::{Paper, Pen};
 pub use rendition::{Colour, Rendition};
 pub use sheet::{PackedSheet, Sheet};

@@ -8,7 +8,7 @@ ghost use Rattle.sheet.specs.Edits.{character_column, deleted, erased, filled, i
 ghost use Rattle.sheet.specs.Edits.{put, run_put};
 
 use crate::cell::Cell;
-use crate::rendition::{Colour, Rendition};
+use crate::pen::{Paper, Pen};
 
 /// Whether a wide character begins at a column; none does outside the row.
 fn wide_at(cells: &[Cell], column: usize) -> bool
@@ -53,7 +53,7 @@ fn character_at(cells: &[Cell], column: usize) -> usize
 }
 
 /// Blanks the character that lies on both sides of a column's left border.
-pub(crate) fn part(cells: &mut [Cell], border: usize, paper: Colour)
+pub(crate) fn part(cells: &mut [Cell], border: usize, paper: Paper)
     requires whole { Whole cells.old }
     requires low { 1 ≤ border }
     ensures { cells.new ≡ parted border paper cells.old }
@@ -65,7 +65,7 @@ pub(crate) fn part(cells: &mut [Cell], border: usize, paper: Colour)
 }
 
 /// Blanks the halves on both sides of a column's left border.
-pub(crate) fn mend(cells: &mut [Cell], border: usize, paper: Colour)
+pub(crate) fn mend(cells: &mut [Cell], border: usize, paper: Paper)
     requires low { 1 ≤ border }
     ensures { cells.new ≡ border_mended border paper cells.old }
 {
@@ -77,6 +77,28 @@ pub(crate) fn mend(cells: &mut [Cell], border: usize, paper: Colour)
         } else {
             cells[border - 1] = Cell::blank(paper);
         }
+    }
+}
+
+/// The same where a wide character was written over from its right half on.
+fn mend_before(cells: &mut [Cell], border: usize, paper: Paper)
+    requires low { 1 ≤ border }
+    requires open { is_covered (cell_at cells.old border) ≡ false }
+    ensures { cells.new ≡ border_mended border paper cells.old }
+{
+    if wide_at(cells, border - 1) {
+        cells[border - 2] = Cell::blank(paper);
+    }
+}
+
+/// The same where one was written over up to its left half.
+fn mend_behind(cells: &mut [Cell], border: usize, paper: Paper)
+    requires low { 1 ≤ border }
+    requires narrow { is_wide (cell_at cells.old (border - 1)) ≡ false }
+    ensures { cells.new ≡ border_mended border paper cells.old }
+{
+    if covered_at(cells, border) {
+        cells[border - 1] = Cell::blank(paper);
     }
 }
 
@@ -112,11 +134,11 @@ pub(crate) fn restore(cells: &mut [Cell], kept: &[Cell])
 {
     let columns = cells.len();
     cells[..kept.len()].copy_from_slice(kept);
-    fill(cells, kept.len() + 1, columns, Cell::blank(Colour::Default));
+    fill(cells, kept.len() + 1, columns, Cell::empty());
 }
 
 /// Blanks the cells from one column to another.
-pub(crate) fn erase(cells: &mut [Cell], from: usize, to: usize, paper: Colour)
+pub(crate) fn erase(cells: &mut [Cell], from: usize, to: usize, paper: Paper)
     requires whole { Whole cells.old }
     requires low { 1 ≤ from }
     requires apart { from ≤ to }
@@ -129,19 +151,20 @@ pub(crate) fn erase(cells: &mut [Cell], from: usize, to: usize, paper: Colour)
 }
 
 /// Puts a character of one column.
-pub(crate) fn put_narrow(cells: &mut [Cell], column: usize, character: char, rendition: Rendition)
+pub(crate) fn put_narrow(cells: &mut [Cell], column: usize, character: char, rendition: Pen)
     requires whole { Whole cells.old }
     requires low { 1 ≤ column }
     requires high { column ≤ length cells.old }
     ensures { cells.new ≡ put column character false rendition cells.old }
 {
     cells[column - 1] = Cell::lettered(character, false, rendition);
-    mend(cells, column, rendition.paper);
-    mend(cells, column + 1, rendition.paper);
+    let paper = rendition.paper();
+    mend_before(cells, column, paper);
+    mend_behind(cells, column + 1, paper);
 }
 
 /// Puts a character of two columns.
-pub(crate) fn put_wide(cells: &mut [Cell], column: usize, character: char, rendition: Rendition)
+pub(crate) fn put_wide(cells: &mut [Cell], column: usize, character: char, rendition: Pen)
     requires whole { Whole cells.old }
     requires low { 1 ≤ column }
     requires high { column + 1 ≤ length cells.old }
@@ -149,22 +172,27 @@ pub(crate) fn put_wide(cells: &mut [Cell], column: usize, character: char, rendi
 {
     cells[column - 1] = Cell::lettered(character, true, rendition);
     cells[column] = Cell::covering(rendition);
-    mend(cells, column, rendition.paper);
-    mend(cells, column + 2, rendition.paper);
+    let paper = rendition.paper();
+    mend(cells, column, paper);
+    mend(cells, column + 2, paper);
 }
 
 /// Puts characters of ASCII, one after another.
-pub(crate) fn put_run(cells: &mut [Cell], column: usize, characters: &[u8], rendition: Rendition)
+pub(crate) fn put_run(cells: &mut [Cell], column: usize, characters: &[u8], rendition: Pen)
     requires whole { Whole cells.old }
     requires low { 1 ≤ column }
     requires high { column + length characters.now ≤ length cells.old + 1 }
     ensures { cells.new ≡ run_put column characters.now rendition cells.old }
 {
+    if characters.is_empty() {
+        return;
+    }
     for (i, character) in characters.iter().enumerate() {
         cells[column - 1 + i] = Cell::lettered(char::from(*character), false, rendition);
     }
-    mend(cells, column, rendition.paper);
-    mend(cells, column + characters.len(), rendition.paper);
+    let paper = rendition.paper();
+    mend_before(cells, column, paper);
+    mend_behind(cells, column + characters.len(), paper);
 }
 
 /// Adds a mark to the character that lies at a column.
@@ -179,7 +207,7 @@ pub(crate) fn add_mark(cells: &mut [Cell], column: usize, mark: char)
 }
 
 /// Makes room for `n` blank cells at a column; the row's last ones are lost.
-pub(crate) fn insert(cells: &mut [Cell], n: usize, from: usize, paper: Colour)
+pub(crate) fn insert(cells: &mut [Cell], n: usize, from: usize, paper: Paper)
     requires whole { Whole cells.old }
     requires low { 1 ≤ from }
     requires room { from + n ≤ length cells.old + 1 }
@@ -195,7 +223,7 @@ pub(crate) fn insert(cells: &mut [Cell], n: usize, from: usize, paper: Colour)
 }
 
 /// Takes out `n` cells from a column on; blank ones come in at the end.
-pub(crate) fn delete(cells: &mut [Cell], n: usize, from: usize, paper: Colour)
+pub(crate) fn delete(cells: &mut [Cell], n: usize, from: usize, paper: Paper)
     requires whole { Whole cells.old }
     requires low { 1 ≤ from }
     requires room { from + n ≤ length cells.old + 1 }

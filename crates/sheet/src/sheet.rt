@@ -15,7 +15,8 @@ mod packed;
 use crate::cell::Cell;
 use crate::edit::Edit;
 use crate::limits::{LEAST_COLUMNS, MOST_COLUMNS, MOST_LINES};
-use crate::rendition::{Colour, Rendition};
+use crate::pen::{Paper, Pen};
+use crate::rendition::Colour;
 use crate::slot::Slot;
 pub use packed::PackedSheet;
 use std::alloc::{AllocError, Global};
@@ -45,6 +46,7 @@ impl Model for Sheet {
 
 impl Sheet {
     /// Changes one line.
+    #[inline(always)]
     pub fn edit(&mut self, line: u16, edit: Edit)
         requires line_low { 1 ≤ line }
         requires line_high { line ≤ self.old.lines }
@@ -62,7 +64,7 @@ impl Sheet {
     }
 
     /// Blanks the cells of a line from one column to another.
-    pub fn erase(&mut self, line: u16, from: u16, to: u16, paper: Colour)
+    pub fn erase(&mut self, line: u16, from: u16, to: u16, paper: Paper)
         requires line_low { 1 ≤ line }
         requires line_high { line ≤ self.old.lines }
         requires from_low { 1 ≤ from }
@@ -78,7 +80,7 @@ impl Sheet {
     }
 
     /// Puts a character of one column.
-    pub fn put_narrow(&mut self, line: u16, column: u16, character: char, rendition: Rendition)
+    pub fn put_narrow(&mut self, line: u16, column: u16, character: char, rendition: Pen)
         requires line_low { 1 ≤ line }
         requires line_high { line ≤ self.old.lines }
         requires column_low { 1 ≤ column }
@@ -93,7 +95,7 @@ impl Sheet {
     }
 
     /// Puts a character of two columns.
-    pub fn put_wide(&mut self, line: u16, column: u16, character: char, rendition: Rendition)
+    pub fn put_wide(&mut self, line: u16, column: u16, character: char, rendition: Pen)
         requires line_low { 1 ≤ line }
         requires line_high { line ≤ self.old.lines }
         requires column_low { 1 ≤ column }
@@ -108,7 +110,7 @@ impl Sheet {
     }
 
     /// Puts characters of ASCII, one after another.
-    pub fn put_run(&mut self, line: u16, column: u16, characters: &[u8], rendition: Rendition)
+    pub fn put_run(&mut self, line: u16, column: u16, characters: &[u8], rendition: Pen)
         requires line_low { 1 ≤ line }
         requires line_high { line ≤ self.old.lines }
         requires column_low { 1 ≤ column }
@@ -141,7 +143,7 @@ impl Sheet {
     }
 
     /// Blank cells come in at a column; the row's last ones are lost.
-    pub fn insert(&mut self, line: u16, n: u16, from: u16, paper: Colour)
+    pub fn insert(&mut self, line: u16, n: u16, from: u16, paper: Paper)
         requires line_low { 1 ≤ line }
         requires line_high { line ≤ self.old.lines }
         requires from_low { 1 ≤ from }
@@ -156,7 +158,7 @@ impl Sheet {
     }
 
     /// Cells are taken out from a column on, and blank ones come in at the end.
-    pub fn delete(&mut self, line: u16, n: u16, from: u16, paper: Colour)
+    pub fn delete(&mut self, line: u16, n: u16, from: u16, paper: Paper)
         requires line_low { 1 ≤ line }
         requires line_high { line ≤ self.old.lines }
         requires from_low { 1 ≤ from }
@@ -171,7 +173,7 @@ impl Sheet {
     }
 
     /// Blanks the lines from one to another; none where the second lies before the first.
-    pub fn erase_lines(&mut self, from: u16, to: u16, paper: Colour)
+    pub fn erase_lines(&mut self, from: u16, to: u16, paper: Paper)
         requires low { 1 ≤ from }
         requires apart { from ≤ to + 1 }
         requires high { to ≤ self.old.lines }
@@ -193,7 +195,7 @@ impl Sheet {
     }
 
     /// Blanks all lines.
-    pub fn clear(&mut self, paper: Colour)
+    pub fn clear(&mut self, paper: Paper)
         ensures rows { self.new.rows ≡ blank_rows self.old.columns self.old.lines paper }
         ensures columns { self.new.columns ≡ self.old.columns }
         ensures lines { self.new.lines ≡ self.old.lines }
@@ -223,7 +225,7 @@ impl Sheet {
     }
 
     /// The lines from the top to the bottom move up by `n`, and blank ones come in.
-    pub fn scroll_up(&mut self, n: u16, top: u16, bottom: u16, paper: Colour)
+    pub fn scroll_up(&mut self, n: u16, top: u16, bottom: u16, paper: Paper)
         requires low { 1 ≤ top }
         requires apart { top ≤ bottom }
         requires high { bottom ≤ self.old.lines }
@@ -248,7 +250,7 @@ impl Sheet {
     }
 
     /// The lines from the top to the bottom move down by `n`, and blank ones come in.
-    pub fn scroll_down(&mut self, n: u16, top: u16, bottom: u16, paper: Colour)
+    pub fn scroll_down(&mut self, n: u16, top: u16, bottom: u16, paper: Paper)
         requires low { 1 ≤ top }
         requires apart { top ≤ bottom }
         requires high { bottom ≤ self.old.lines }

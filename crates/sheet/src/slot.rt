@@ -6,10 +6,11 @@ ghost use Rattle.sheet.specs.EditOf.{Fits, edited};
 ghost use Rattle.sheet.specs.Grid.{blank_row, row_of};
 ghost use Rattle.sheet.specs.Halves.{Whole};
 ghost use Rattle.sheet.specs.Packed.{unpacked};
+ghost use Rattle.sheet.specs.declared.rendition.Colour.{Colour};
 
 use crate::cell::Cell;
 use crate::edit::Edit;
-use crate::rendition::{Colour, Rendition};
+use crate::pen::{Paper, Pen};
 use crate::row;
 use std::alloc::{AllocError, Global};
 use std::marker::Model;
@@ -18,6 +19,8 @@ use std::marker::Model;
 #[derive(Debug, Drop)]
 pub(crate) struct Slot {
     cells: Vec<Cell>,
+    // Behind so many cells all are blank, so that they needn't be blanked anew.
+    used: usize,
 }
 
 impl Model for Slot {
@@ -27,6 +30,10 @@ impl Model for Slot {
     ghost Value = { List Cell };
 
     ghost view = { λ s. s.cells.items };
+
+    ghost use Rattle.sheet.specs.Packed.{IsUsed};
+
+    ghost invariant = { λ s. IsUsed s.cells.items s.used };
 }
 
 impl Slot {
@@ -34,8 +41,9 @@ impl Slot {
     pub fn new(alloc: Global, columns: u16) -> Result<Self, AllocError>
         ensures { IfOk result (λ s. s ≡ blank_row columns Colour.Default) }
     {
-        let cells = vec![in alloc; Cell::blank(Colour::Default); columns as usize]?;
-        Ok(Slot { cells })
+        let cells = vec![in alloc; Cell::empty(); columns as usize]?;
+        let used = cells.len();
+        Ok(Slot { cells, used })
     }
 
     /// The cells of a row up to the last one that isn't blank.
@@ -45,7 +53,8 @@ impl Slot {
     {
         let used = row::used(cells);
         let cells = cells[..used].to_vec(alloc)?;
-        Ok(Slot { cells })
+        let used = cells.len();
+        Ok(Slot { cells, used })
     }
 
     /// Becomes a row of which these are the first cells.
@@ -54,6 +63,7 @@ impl Slot {
         ensures { self.new ≡ unpacked (length self.old) kept.now }
     {
         row::restore(self.cells.as_mut_slice(), kept.cells());
+        self.used = self.cells.len();
     }
 
     /// Becomes the other row.
@@ -62,6 +72,7 @@ impl Slot {
         ensures { self.new ≡ other.now }
     {
         self.cells.as_mut_slice().copy_from_slice(other.cells());
+        self.used = self.cells.len();
     }
 
     pub fn cells(&self) -> &[Cell]
@@ -74,11 +85,17 @@ impl Slot {
     pub fn fill(&mut self, cell: Cell)
         ensures { self.new ≡ row_of (length self.old) cell }
     {
-        let columns = self.cells.len();
-        row::fill(self.cells.as_mut_slice(), 1, columns, cell);
+        if cell.is_blank() {
+            row::fill(self.cells.as_mut_slice(), 1, self.used, cell);
+            self.used = 0;
+        } else {
+            let columns = self.cells.len();
+            row::fill(self.cells.as_mut_slice(), 1, columns, cell);
+            self.used = columns;
+        }
     }
 
-    pub fn erase(&mut self, from: usize, to: usize, paper: Colour)
+    pub fn erase(&mut self, from: usize, to: usize, paper: Paper)
         requires whole { Whole self.old }
         requires low { 1 ≤ from }
         requires apart { from ≤ to }
@@ -86,33 +103,39 @@ impl Slot {
         ensures { self.new ≡ erased from to paper self.old }
     {
         row::erase(self.cells.as_mut_slice(), from, to, paper);
+        if !Cell::blank(paper).is_blank() {
+            self.used = self.cells.len();
+        }
     }
 
-    pub fn put_narrow(&mut self, column: usize, character: char, rendition: Rendition)
+    pub fn put_narrow(&mut self, column: usize, character: char, rendition: Pen)
         requires whole { Whole self.old }
         requires low { 1 ≤ column }
         requires high { column ≤ length self.old }
         ensures { self.new ≡ put column character false rendition self.old }
     {
         row::put_narrow(self.cells.as_mut_slice(), column, character, rendition);
+        self.used = self.used.max(column);
     }
 
-    pub fn put_wide(&mut self, column: usize, character: char, rendition: Rendition)
+    pub fn put_wide(&mut self, column: usize, character: char, rendition: Pen)
         requires whole { Whole self.old }
         requires low { 1 ≤ column }
         requires high { column + 1 ≤ length self.old }
         ensures { self.new ≡ put column character true rendition self.old }
     {
         row::put_wide(self.cells.as_mut_slice(), column, character, rendition);
+        self.used = self.cells.len();
     }
 
-    pub fn put_run(&mut self, column: usize, characters: &[u8], rendition: Rendition)
+    pub fn put_run(&mut self, column: usize, characters: &[u8], rendition: Pen)
         requires whole { Whole self.old }
         requires low { 1 ≤ column }
         requires high { column + length characters.now ≤ length self.old + 1 }
         ensures { self.new ≡ run_put column characters.now rendition self.old }
     {
         row::put_run(self.cells.as_mut_slice(), column, characters, rendition);
+        self.used = self.used.max(column + characters.len() - 1);
     }
 
     pub fn add_mark(&mut self, column: usize, mark: char)
@@ -122,9 +145,10 @@ impl Slot {
         ensures { self.new ≡ mark_added column mark self.old }
     {
         row::add_mark(self.cells.as_mut_slice(), column, mark);
+        self.used = self.cells.len();
     }
 
-    pub fn insert(&mut self, n: usize, from: usize, paper: Colour)
+    pub fn insert(&mut self, n: usize, from: usize, paper: Paper)
         requires whole { Whole self.old }
         requires low { 1 ≤ from }
         requires room { from + n ≤ length self.old + 1 }
@@ -132,9 +156,10 @@ impl Slot {
         ensures { self.new ≡ inserted n from paper self.old }
     {
         row::insert(self.cells.as_mut_slice(), n, from, paper);
+        self.used = self.cells.len();
     }
 
-    pub fn delete(&mut self, n: usize, from: usize, paper: Colour)
+    pub fn delete(&mut self, n: usize, from: usize, paper: Paper)
         requires whole { Whole self.old }
         requires low { 1 ≤ from }
         requires room { from + n ≤ length self.old + 1 }
@@ -142,8 +167,10 @@ impl Slot {
         ensures { self.new ≡ deleted n from paper self.old }
     {
         row::delete(self.cells.as_mut_slice(), n, from, paper);
+        self.used = self.cells.len();
     }
 
+    #[inline(always)]
     pub fn edit(&mut self, edit: Edit)
         requires whole { Whole self.old }
         requires bound { length self.old ≤ 1000 }

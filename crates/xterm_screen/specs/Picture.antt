@@ -1,5 +1,5 @@
 -- What a screen holds, as a plain value; lines and columns are counted from 1.
-use Rattle.std.specs.Prelude.{◌≡◌, ℕ, ◌≤◌, ◌%◌, Bool, false, List, length, nat_lt, ◌==◌, ◌&&◌}
+use Rattle.std.specs.Prelude.{◌≡◌, ℕ, ◌≤◌, ◌%◌, Bool, true, false, List, length, nat_lt, ◌==◌, ◌&&◌}
 use Rattle.sheet.specs.Cells.{Cell, cell_at}
 use Rattle.sheet.specs.declared.rendition.Colour.TheVariants.{Default}
 use Rattle.sheet.specs.Grid.{blank_rows, is_touched, row_at}
@@ -35,6 +35,14 @@ pub record ScreenState : Type 0 where
 -- each line that wasn't touched since that was last cleared has the row of before (ours)
 abbrev pub Told : List (List Cell) → ScreenState → Type 0
 Told before s = (line : ℕ) → is_touched s.touched line ≡ false → row_at s.picture.rows line ≡ row_at before line
+
+-- whatever rows a screen is told against, it is then too (ours)
+abbrev pub KeepsTold : ScreenState → ScreenState → Type 0
+KeepsTold s t = (before : List (List Cell)) → Told before s → Told before t
+
+-- all lines are touched (ours)
+abbrev pub all_touched : ℕ → List Bool
+all_touched lines = table lines (λ _. true)
 
 -- the cell at a line and a column of the sheet that is shown
 abbrev pub cell : Picture → ℕ → ℕ → Cell

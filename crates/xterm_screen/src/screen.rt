@@ -4,7 +4,7 @@ ghost use Rattle.std.specs.Prelude.{◌≡◌, ℕ, ◌≤◌, Bool, IfOk, List,
 ghost use Rattle.sheet.specs.Cells.{Cell};
 ghost use Rattle.sheet.specs.Grid.{is_touched, row_at};
 ghost use Rattle.sheet.specs.Halves.{Whole};
-ghost use Rattle.xterm_screen.specs.Picture.{Sound, Told, first_tabs, reset};
+ghost use Rattle.xterm_screen.specs.Picture.{KeepsTold, Sound, Told, first_tabs, reset};
 ghost use Rattle.xterm_screen.specs.Tabs.{stop_at};
 
 mod cells;
@@ -19,7 +19,7 @@ mod tabs;
 
 pub use packed::PackedScreen;
 use sheet::limits::{LEAST_COLUMNS, MOST_COLUMNS, MOST_LINES};
-use sheet::{Cell, Colour, Sheet};
+use sheet::{Cell, Colour, Paper, Sheet};
 use std::alloc::{AllocError, Global};
 use std::marker::Model;
 
@@ -84,10 +84,11 @@ impl Screen {
     /// RIS: the initial screen of the same size.
     pub fn reset(&mut self)
         ensures picture { self.new.picture ≡ reset self.old.picture.columns self.old.picture.lines }
-        ensures told { (before : List (List Cell)) → Told before self.old → Told before self.new }
+        ensures told { KeepsTold self.old self.new }
     {
-        self.shown.clear(Colour::Default);
-        self.other.clear(Colour::Default);
+        let paper = Paper::of(Colour::Default);
+        self.shown.clear(paper);
+        self.other.clear(paper);
         put_first_tabs(self.tabs.as_mut_slice());
         self.line = 1;
         self.column = 1;

@@ -3,6 +3,8 @@ use Rattle.std.proofs.Common.{◌≡◌, ℕ, zero, suc, ◌+◌, ◌-◌, ◌<�
 use Rattle.std.proofs.Math.Seq.{drop-cons}
 use Rattle.std.proofs.lemmas.List.{drop_all}
 use Rattle.sheet.specs.declared.rendition.Rendition.{Rendition}
+use Rattle.sheet.specs.declared.rendition.Colour.TheVariants.{Default}
+use Rattle.sheet.specs.Cells.{plain_on}
 use Rattle.xterm_term.specs.Renditions.{renditions_set, rendition_set, tells_colour, used_up, colour_told, colour_taken}
 
 -- one that is used up
@@ -43,3 +45,10 @@ all_taken (suc used) r = refl
 pub finished : (used i : ℕ) (params : List ℕ) (r out : Rendition) → length params ≤ i → renditions_set used (drop i params) r ≡ out → r ≡ out
 finished used i params r out past is =
     sym (all_taken used r) ∙ ap (λ (l : List ℕ). renditions_set used l r) (sym (drop_all i params past)) ∙ is
+
+-- a lone 0 leaves no rendition
+pub resets : (params : List ℕ) (r : Rendition) → length params ≡ 1 → get_or params 0 0 ≡ 0 → renditions_set 0 params r ≡ plain_on Default
+unfolding renditions_set rendition_set
+resets [] r one none = absurd (omega arith)
+resets (param ∷ []) r one none = ap (λ (n : ℕ). renditions_set 0 (n ∷ []) r) none
+resets (param ∷ next ∷ rest) r one none = absurd (omega arith)

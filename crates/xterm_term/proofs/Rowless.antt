@@ -1,19 +1,18 @@
 -- What has no row does nothing; whether a title is read behind a command.
-use Rattle.std.proofs.Common.{◌≡◌, ℕ, zero, suc, Bool, true, false, List, [], ◌∷◌, refl, ap, ◌∙◌}
+use Rattle.std.proofs.Common.{◌≡◌, ℕ, zero, suc, Bool, true, false, List, [], ◌∷◌, refl, ◌∙◌}
 use Rattle.std.specs.Prelude.{fold, Option, Some, None, is_some, if◌then◌else◌}
 use Rattle.vt_parser.specs.declared.commands.Command.TheVariants.{Show, Error, Control as ControlOf, Esc, Csi, Vt52, Vt52Address}
 use Rattle.characters.specs.Width.{width}
-use Rattle.xterm_term.specs.declared.modes.Modes.{Modes}
 use Rattle.xterm_term.specs.declared.saved.Saved.{Saved}
 use Rattle.xterm_term.specs.Rows.{named, effect_of}
 use Rattle.xterm_term.specs.Console.{Console, saved_here}
 use Rattle.xterm_term.specs.Puts.{put, put_by_width, is_c1, put_times, repeated, character_for}
 use Rattle.xterm_term.specs.Controls.{Control, Lf, controls, control_effect}
 use Rattle.xterm_term.specs.Escapes.{Escape, Decsc, Decrc, Title, Ris, escape_named, escape_effect, saved, restored, restored_from}
-use Rattle.xterm_term.specs.Sequences.{Sequence, Rep, Scosc, Scorc, sequences, sequence_effect, param_or, AnsiMode, ansi_modes, ansi_mode_effect}
+use Rattle.xterm_term.specs.Sequences.{Sequence, Rep, Scosc, Scorc, sequences, sequence_effect, param_or, ansi_modes, ansi_mode_effect}
 use Rattle.xterm_term.specs.PrivateModes.{PrivateMode, AlternateSheet, Save, SaveAndSheet, private_modes, switches, mode_effect, mode_set, modes_set, sheet_shown, save_switched, save_and_sheet_switched}
 use Rattle.xterm_term.specs.Replies.{escape_reply, sequence_reply, reply_of}
-use Rattle.xterm_term.specs.Effect.{effect, reply, control_sequence_effect}
+use Rattle.xterm_term.specs.Effect.{effect, reply}
 use Rattle.xterm_term.specs.Played.{title_by_escape, RowlessDoNothing, RowlessModesStay, RowlessAnsiModesStay, TitleGoesAlone}
 
 -- ---- what has no row

@@ -35,7 +35,7 @@ use Rattle.xterm_term.proofs.ByteKinds.{first, other}
 use Rattle.xterm_term.proofs.Parts.{ground_shown, either_mode}
 use Rattle.xterm_term.proofs.Runs.{stepped, run_graphic}
 use Rattle.xterm_term.proofs.Stays.{safe_play, size_stays}
-use Rattle.xterm_term.proofs.Told.{seen}
+use Rattle.xterm_term.proofs.Told.{seen, shows_touched}
 
 -- ---- bytes that go on
 
@@ -286,11 +286,11 @@ module _ (laws : LawsBelow) where
 
   -- what a terminal shows once the bytes of a token were played
   record Shown (s : Console) (x : Term) (bytes : List ℕ) (command : Option Command) (t : Console) (state : ParserState) : Type 0 where
-    shows : Shows (seen t state []) (play x bytes)
+    shows : Shows (seen [] t state []) (play x bytes)
     sends : sent x bytes ≡ reply_of reply command s
 
   shown : (s : Console) (x : Term) (bytes : List ℕ) (command : Option Command) (before state : ParserState) (t : Console)
-      → Shows (seen s before []) x → s.title ≡ false → GoesOn before bytes → Gives Ansi Ansi x.sequence bytes command → IsNoShow command
+      → Shows (seen [] s before []) x → s.title ≡ false → GoesOn before bytes → Gives Ansi Ansi x.sequence bytes command → IsNoShow command
       → Leads before Ansi bytes state → t ≡ forgotten_if (is_ground_state state) (effect_of effect command s)
       → Shown s x bytes command t state
   shown s x bytes command before state t shows title goes gives none leads told =
@@ -302,14 +302,14 @@ module _ (laws : LawsBelow) where
       let left : left_by command s after ≡ t
       = ap (λ (b : Bool). forgotten_if b (effect_of effect command s)) (sym (ground_shown after state stands)) ∙ sym told in
       record {
-        shows = subst (Shows (seen t state [])) (sym (ap (λ (y : Term). play y bytes) here ∙ played.to)) (record { console = left; state = stands; character = refl });
+        shows = subst (Shows (seen [] t state [])) (sym (ap (λ (y : Term). play y bytes) here ∙ played.to)) (record { console = left; state = stands; character = refl });
         sends = ap (λ (y : Term). sent y bytes) here ∙ played.sends;
       }
 
   told : (s : Console) (x : Term) (bytes : List ℕ) (token : Option Token) (before state : ParserState) (t : Console)
-      → Shows (seen s before []) x → s.title ≡ false → GoesOn before bytes → TellsOf Ansi Ansi x.sequence bytes token
+      → Shows (seen [] s before []) x → s.title ≡ false → GoesOn before bytes → TellsOf Ansi Ansi x.sequence bytes token
       → Leads before Ansi bytes state → t ≡ forgotten_if (is_ground_state state) (effect_of token_effect token s)
-      → Shows (seen t state []) (play x bytes) × (sent x bytes ≡ reply_of token_reply token s)
+      → Shows (seen [] t state []) (play x bytes) × (sent x bytes ≡ reply_of token_reply token s)
   told s x bytes None before state t shows title goes tells leads is =
       let done = shown s x bytes None before state t shows title goes tells tt leads is in (done.shows, done.sends)
   told s x bytes (Some (lent.Show run)) before state t shows title goes tells leads is =
@@ -318,29 +318,29 @@ module _ (laws : LawsBelow) where
       let done = shown s x bytes (Some (command_of_token token)) before state t shows title goes tells tt leads is in (done.shows, done.sends)
 
   -- from what the parser says of any pending text
-  pub shows_next : (before now_ : Seen) (x : Term) (bytes : List ℕ) (token : Option Token) (state : ParserState) (t : Console)
+  pub shows_next : {touched : List Bool} (before now_ : Seen) (x : Term) (bytes : List ℕ) (token : Option Token) (state : ParserState) (t : Console)
       → before ≡ now_ → Shows now_ x → now_.console.title ≡ false → now_.character ≡ [] → GoesOn now_.state bytes
       → ((mode : Mode) (pending : List ℕ) → parser_view mode pending ≡ Some before.state → TellsOf Ansi mode pending bytes token)
       → Leads before.state Ansi bytes state → t ≡ forgotten_if (is_ground_state state) (effect_of token_effect token before.console)
-      → Shows (seen t state before.character) (play x bytes) × (sent x bytes ≡ reply_of token_reply token before.console)
+      → Shows (seen touched t state before.character) (play x bytes) × (sent x bytes ≡ reply_of token_reply token before.console)
   shows_next before now_ x bytes token state t same shows title character goes tells leads is =
       let none : before.character ≡ [] = ap (λ (it : Seen). it.character) same ∙ character in
       let inside : Shows before x = subst (λ (it : Seen). Shows it x) (sym same) shows in
       let done = told before.console x bytes token before.state state t
-      (subst (λ (l : List ℕ). Shows (seen before.console before.state l) x) none inside)
+      (subst (λ (l : List ℕ). Shows (seen [] before.console before.state l) x) none (shows_touched [] before x inside))
       (ap (λ (it : Seen). it.console.title) same ∙ title)
       (subst (λ (it : Seen). GoesOn it.state bytes) (sym same) goes) (tells Ansi x.sequence inside.state) leads is in
-      (subst (λ (l : List ℕ). Shows (seen t state l) (play x bytes)) (sym none) done.0, done.1)
+      (shows_touched _ _ (play x bytes) (subst (λ (l : List ℕ). Shows (seen [] t state l) (play x bytes)) (sym none) done.0), done.1)
 
   -- the terminal stays one
-  pub next_terminal : (before now_ : Seen) (bytes : List ℕ) (token : Option Token) (state : ParserState) (t : Console)
+  pub next_terminal : {touched : List Bool} (before now_ : Seen) (bytes : List ℕ) (token : Option Token) (state : ParserState) (t : Console)
       → before ≡ now_ → IsTerminal before → now_.console.title ≡ false → now_.character ≡ [] → GoesOn now_.state bytes
       → ((mode : Mode) (pending : List ℕ) → parser_view mode pending ≡ Some before.state → TellsOf Ansi mode pending bytes token)
       → Leads before.state Ansi bytes state → t ≡ forgotten_if (is_ground_state state) (effect_of token_effect token before.console)
-      → IsTerminal (seen t state before.character)
-  next_terminal before now_ bytes token state t same is title character goes tells leads console =
+      → IsTerminal (seen touched t state before.character)
+  next_terminal {touched} before now_ bytes token state t same is title character goes tells leads console =
       let x = is.term.0 in
-      let after = (shows_next before now_ x bytes token state t same (subst (λ (it : Seen). Shows it x) same is.term.1) title character goes tells leads console).0 in
+      let after = (shows_next {touched = touched} before now_ x bytes token state t same (subst (λ (it : Seen). Shows it x) same is.term.1) title character goes tells leads console).0 in
       record {
         safe = subst IsSafe after.console (safe_play laws x bytes (subst IsSafe (sym is.term.1.console) is.safe));
         term = (play x bytes, after);
@@ -355,12 +355,12 @@ module _ (laws : LawsBelow) where
   next_size before now_ bytes token state t same is title character goes tells leads console =
       let x = is.term.0 in
       let shows : Shows now_ x = subst (λ (it : Seen). Shows it x) same is.term.1 in
-      let after = (shows_next before now_ x bytes token state t same shows title character goes tells leads console).0 in
+      let after = (shows_next {touched = []} before now_ x bytes token state t same shows title character goes tells leads console).0 in
       subst (λ (s : Console). SameSize s t) shows.console (subst (SameSize x.console) after.console (size_stays x bytes))
 
   -- where memory was refused, the parser has gone on alone
-  pub left_terminal : (before : Seen) (bytes : List ℕ) (state : ParserState) (t : Console) → IsTerminal before → t ≡ before.console
-      → Leads before.state Ansi bytes state → IsTerminal (seen t state before.character)
+  pub left_terminal : {touched : List Bool} (before : Seen) (bytes : List ℕ) (state : ParserState) (t : Console) → IsTerminal before → t ≡ before.console
+      → Leads before.state Ansi bytes state → IsTerminal (seen touched t state before.character)
   left_terminal before bytes state t is same leads =
       let x = is.term.0 in
       let shows = is.term.1 in

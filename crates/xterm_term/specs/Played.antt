@@ -1,6 +1,6 @@
 -- Which finished sequences are played: those of which the form has a row in the tables that play them. Whether a title is
 -- read, by a command alone.
-use Rattle.std.specs.Prelude.{◌≡◌, ℕ, Bool, true, false, List, [], Option, Some, None, is_some}
+use Rattle.std.specs.Prelude.{◌≡◌, ℕ, Bool, true, false, [], Option, Some, is_some}
 use Rattle.vt_parser.specs.declared.commands.Command.{Command}
 use Rattle.vt_parser.specs.declared.commands.Command.TheVariants.{Esc, Csi}
 use Rattle.xterm_term.specs.declared.modes.Modes.{Modes}

@@ -1,24 +1,36 @@
 -- What a terminal's queries tell of a term.
-use Rattle.std.specs.Prelude.{◌≡◌, ℕ, List, Some}
+use Rattle.std.specs.Prelude.{◌≡◌, ℕ, Bool, false, List, Some}
 use Rattle.vt_parser.specs.declared.commands.Mode.TheVariants.{Ansi}
 use Rattle.vt_parser.specs.declared.states.ParserState.{ParserState}
 use Rattle.vt_parser.specs.View.{parser_view}
+use Rattle.sheet.specs.Cells.{Cell}
+use Rattle.sheet.specs.Grid.{is_touched, row_at}
 use Rattle.xterm_term.specs.declared.console.Console.{Console as Fields}
 use Rattle.xterm_term.specs.Console.{Console, IsSafe, console_of}
 use Rattle.xterm_term.specs.Term.{Term}
 
 -- all of a term but the reports, with a parser's state and the bytes of a character that isn't finished in place of what
--- is pending
+-- is pending, and for each line of the sheet that is shown whether it was touched since that was last cleared
 pub record Seen : Type 0 where
   pub console : Console
   pub state : ParserState
   pub character : List ℕ
+  pub touched : List Bool
 
 -- a terminal shows a term: its queries tell what is seen of it
 pub record Shows (seen : Seen) (x : Term) : Type 0 where
   pub console : x.console ≡ seen.console
   pub state : parser_view Ansi x.sequence ≡ Some seen.state
   pub character : x.character ≡ seen.character
+
+-- each line that wasn't touched since that was last cleared has the row of before (ours)
+abbrev pub Told : List (List Cell) → Seen → Type 0
+Told before seen =
+    (line : ℕ) → is_touched seen.touched line ≡ false → row_at seen.console.picture.rows line ≡ row_at before line
+
+-- Private: whatever rows a terminal is told against, it is then too
+abbrev pub KeepsTold : Seen → Seen → Type 0
+KeepsTold seen next = (before : List (List Cell)) → Told before seen → Told before next
 
 -- what every terminal keeps: it is safe, and shows some term
 pub record IsTerminal (seen : Seen) : Type 0 where
@@ -27,4 +39,5 @@ pub record IsTerminal (seen : Seen) : Type 0 where
 
 -- Private: what the fields of the code's terminal stand for
 abbrev pub seen_of : Fields → ParserState → List ℕ → Seen
-seen_of fields state character = record { console = console_of fields; state = state; character = character }
+seen_of fields state character =
+    record { console = console_of fields; state = state; character = character; touched = fields.screen.touched }

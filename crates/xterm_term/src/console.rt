@@ -9,9 +9,10 @@ ghost use Rattle.xterm_term.specs.Rows.{effect_of};
 ghost use Rattle.vt_parser.specs.Law.{IsProper};
 ghost use Rattle.vt_parser.specs.Token.{command_of_token};
 ghost use Rattle.plays.specs.Sink.{after_sending, HasRoom};
+ghost use Rattle.xterm_screen.specs.Picture.{KeepsTold};
 
 use crate::{Modes, OutOfMemory, Reports, Saved, Sets, Size};
-use sheet::{Colour, Rendition};
+use sheet::Pen;
 use std::alloc::{AllocError, Global};
 use vt_parser::{Command, Token};
 use xterm_screen::Screen;
@@ -21,7 +22,7 @@ use xterm_screen::Screen;
 pub(crate) struct Console {
     pub(crate) screen: Screen,
     pub(crate) modes: Modes,
-    pub(crate) rendition: Rendition,
+    pub(crate) rendition: Pen,
     pub(crate) sets: Sets,
     pub(crate) last: Option<char>,
     pub(crate) title: bool,
@@ -38,7 +39,7 @@ impl Console {
         Ok(Console {
             screen,
             modes: Modes::first(),
-            rendition: Rendition::plain_on(Colour::Default),
+            rendition: Pen::plain(),
             sets: Sets::first(),
             last: None,
             title: false,
@@ -49,12 +50,13 @@ impl Console {
 
     /// RIS: the initial state of the same size.
     pub(crate) fn reset(&mut self)
-        ensures { console_of self.new
+        ensures done { console_of self.new
             ≡ reset_console self.old.screen.picture.columns self.old.screen.picture.lines }
+        ensures told { KeepsTold self.old.screen self.new.screen }
     {
         self.screen.reset();
         self.modes = Modes::first();
-        self.rendition = Rendition::plain_on(Colour::Default);
+        self.rendition = Pen::plain();
         self.sets = Sets::first();
         self.last = None;
         self.title = false;
@@ -66,7 +68,8 @@ impl Console {
     pub(crate) fn copy_from(&mut self, other: &Console)
         requires columns { self.old.screen.picture.columns ≡ other.now.screen.picture.columns }
         requires lines { self.old.screen.picture.lines ≡ other.now.screen.picture.lines }
-        ensures { console_of self.new ≡ console_of other.now }
+        ensures done { console_of self.new ≡ console_of other.now }
+        ensures touched { self.new.screen.touched ≡ other.now.screen.touched }
     {
         self.screen.copy_from(&other.screen);
         self.modes = other.modes;
@@ -89,6 +92,7 @@ impl Console {
         ensures err { OnErr result (console_of self.new ≡ console_of self.old) }
         ensures err_sink { OnErr result (sink.new ≡ sink.old) }
         ensures room { HasRoom sink.old (reply command.now (console_of self.old)) → IsOk result }
+        ensures told { KeepsTold self.old.screen self.new.screen }
     {
         match command {
             Command::Show(byte) => self.put_byte(*byte),
@@ -123,6 +127,7 @@ impl Console {
         ensures err_sink { OnErr result (sink.new ≡ sink.old) }
         ensures room { HasRoom sink.old (token_reply token.entry (console_of self.old))
             → IsOk result }
+        ensures told { KeepsTold self.old.screen self.new.screen }
     {
         match token {
             Token::Show(run) => self.put_byte(run[0]),
@@ -161,6 +166,7 @@ impl Console {
         ensures err_sink { OnErr result (sink.new ≡ sink.old) }
         ensures room { HasRoom sink.old (reply_of token_reply token.entry (console_of self.old))
             → IsOk result }
+        ensures told { KeepsTold self.old.screen self.new.screen }
     {
         match token {
             Some(token) => self.obey_token(token, sink),
@@ -185,6 +191,7 @@ impl Console {
         ensures err_sink { OnErr result (sink.new ≡ sink.old) }
         ensures room { HasRoom sink.old (reply_of reply command.now (console_of self.old))
             → IsOk result }
+        ensures told { KeepsTold self.old.screen self.new.screen }
     {
         match command {
             Some(command) => self.obey(command, sink),
@@ -195,7 +202,8 @@ impl Console {
     /// There is no last character any more, if something has ended.
     #[inline]
     pub(crate) fn forget_if(&mut self, ended: bool)
-        ensures { console_of self.new ≡ forgotten_if ended (console_of self.old) }
+        ensures done { console_of self.new ≡ forgotten_if ended (console_of self.old) }
+        ensures told { KeepsTold self.old.screen self.new.screen }
     {
         if ended {
             self.last = None;
@@ -204,7 +212,8 @@ impl Console {
 
     /// A title begins or ends.
     pub(crate) fn set_title(&mut self, value: bool)
-        ensures { console_of self.new ≡ title_set value (console_of self.old) }
+        ensures done { console_of self.new ≡ title_set value (console_of self.old) }
+        ensures told { KeepsTold self.old.screen self.new.screen }
     {
         self.title = value;
     }

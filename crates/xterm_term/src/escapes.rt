@@ -5,11 +5,12 @@ ghost use Rattle.xterm_term.specs.Escapes.{Nel, Decaln, plain_escapes, line_esca
 ghost use Rattle.xterm_term.specs.Replies.{escape_reply, reply_of};
 ghost use Rattle.plays.specs.Sink.{after_sending, HasRoom};
 ghost use Rattle.xterm_term.specs.Console.{console_of, IsSavedWell, IsSafe, saved_here};
+ghost use Rattle.xterm_screen.specs.Picture.{KeepsTold};
 
 use crate::console::Console;
 use crate::replies::DEVICE_ATTRIBUTES;
 use crate::{CharacterSet, OutOfMemory, Reports, Saved, Sets, Slot};
-use sheet::{Colour, Rendition};
+use sheet::Pen;
 
 // The set that SCS designates.
 #[inline]
@@ -47,6 +48,7 @@ impl Console {
         ensures room { HasRoom sink.old
             (reply_of escape_reply (escape_named inter last) (console_of self.old))
             → IsOk result }
+        ensures told { KeepsTold self.old.screen self.new.screen }
     {
         match inter {
             None => return self.obey_plain_escape(last, sink),
@@ -73,11 +75,12 @@ impl Console {
         ensures room { HasRoom sink.old
             (reply_of escape_reply (named plain_escapes last) (console_of self.old))
             → IsOk result }
+        ensures told { KeepsTold self.old.screen self.new.screen }
     {
         match last {
-            b'D' => self.screen.index(self.rendition.paper), // IND
+            b'D' => self.screen.index(self.rendition.paper()), // IND
             b'E' => self.next_line(), // NEL
-            b'M' => self.screen.reverse_index(self.rendition.paper), // RI
+            b'M' => self.screen.reverse_index(self.rendition.paper()), // RI
             b'H' => self.screen.set_tab(), // HTS
             b'Z' => return sink.send(DEVICE_ATTRIBUTES), // DECID
             b'c' => self.reset(), // RIS
@@ -97,6 +100,7 @@ impl Console {
             ≡ effect_of escape_effect (named line_escapes last) (console_of self.old) }
         ensures silent { reply_of escape_reply (named line_escapes last) (console_of self.old)
             ≡ [] }
+        ensures told { KeepsTold self.old.screen self.new.screen }
     {
         if last == b'8' {
             self.align(); // DECALN
@@ -109,6 +113,7 @@ impl Console {
             ≡ effect_of escape_effect (designation_named slot last) (console_of self.old) }
         ensures silent { reply_of escape_reply (designation_named slot last) (console_of self.old)
             ≡ [] }
+        ensures told { KeepsTold self.old.screen self.new.screen }
     {
         if let Some(set) = set_named(last) {
             self.sets.designate(slot, set);
@@ -116,14 +121,16 @@ impl Console {
     }
 
     fn next_line(&mut self)
-        ensures { console_of self.new ≡ escape_effect Nel (console_of self.old) }
+        ensures done { console_of self.new ≡ escape_effect Nel (console_of self.old) }
+        ensures told { KeepsTold self.old.screen self.new.screen }
     {
         self.screen.to_left();
-        self.screen.index(self.rendition.paper);
+        self.screen.index(self.rendition.paper());
     }
 
     fn align(&mut self)
-        ensures { console_of self.new ≡ escape_effect Decaln (console_of self.old) }
+        ensures done { console_of self.new ≡ escape_effect Decaln (console_of self.old) }
+        ensures told { KeepsTold self.old.screen self.new.screen }
     {
         self.screen.align();
         self.modes.origin = false;
@@ -137,7 +144,7 @@ impl Console {
             line,
             column,
             wrap: self.screen.wrap(),
-            rendition: self.rendition,
+            rendition: self.rendition.rendition(),
             g0: self.sets.g0,
             g1: self.sets.g1,
             invoked: self.sets.invoked,
@@ -147,7 +154,8 @@ impl Console {
 
     /// DECSC.
     pub(crate) fn save(&mut self)
-        ensures { console_of self.new ≡ saved (console_of self.old) }
+        ensures done { console_of self.new ≡ saved (console_of self.old) }
+        ensures told { KeepsTold self.old.screen self.new.screen }
     {
         let saved = Some(self.saved_from());
         if self.screen.is_alternate() {
@@ -170,7 +178,8 @@ impl Console {
     /// DECRC.
     pub(crate) fn restore(&mut self)
         requires { IsSafe (console_of self.old) }
-        ensures { console_of self.new ≡ restored (console_of self.old) }
+        ensures done { console_of self.new ≡ restored (console_of self.old) }
+        ensures told { KeepsTold self.old.screen self.new.screen }
     {
         match self.saved_here() {
             None => self.restore_nothing(),
@@ -180,17 +189,19 @@ impl Console {
 
     // Where nothing was saved: home, no rendition, and the sets of the initial state.
     fn restore_nothing(&mut self)
-        ensures { console_of self.new ≡ restored_from Option.None (console_of self.old) }
+        ensures done { console_of self.new ≡ restored_from Option.None (console_of self.old) }
+        ensures told { KeepsTold self.old.screen self.new.screen }
     {
         self.screen.home(false);
         self.modes.origin = false;
-        self.rendition = Rendition::plain_on(Colour::Default);
+        self.rendition = Pen::plain();
         self.sets = Sets::first();
     }
 
     fn restore_saved(&mut self, saved: Saved)
         requires { IsSavedWell (Option.Some saved) }
-        ensures { console_of self.new ≡ restored_from (Option.Some saved) (console_of self.old) }
+        ensures done { console_of self.new ≡ restored_from (Option.Some saved) (console_of self.old) }
+        ensures told { KeepsTold self.old.screen self.new.screen }
     {
         self.screen.put_back(
             saved.line.min(self.screen.lines()),
@@ -200,7 +211,7 @@ impl Console {
             self.modes.autowrap,
         );
         self.modes.origin = saved.origin;
-        self.rendition = saved.rendition;
+        self.rendition = Pen::of(saved.rendition);
         self.sets = Sets {
             g0: saved.g0,
             g1: saved.g1,
@@ -210,7 +221,8 @@ impl Console {
 
     /// DECKPAM and DECKPNM.
     pub(crate) fn set_keypad(&mut self, application: bool)
-        ensures { console_of self.new ≡ keypad_set application (console_of self.old) }
+        ensures done { console_of self.new ≡ keypad_set application (console_of self.old) }
+        ensures told { KeepsTold self.old.screen self.new.screen }
     {
         self.modes.application_keypad = application;
     }

@@ -11,7 +11,7 @@ impl Plays for Terminal {
 
     type Packed = PackedTerminal;
 
-    ghost use Rattle.xterm_term.specs.Seen.{Shows};
+    ghost use Rattle.xterm_term.specs.Seen.{Shows, Told};
     ghost use Rattle.xterm_term.specs.Term.{play, reset_term, sent as sent_from};
 
     ghost shows = { λ size terminal bytes.
@@ -19,6 +19,9 @@ impl Plays for Terminal {
 
     ghost keeps = { λ size packed bytes.
         Shows packed (play (reset_term size.columns size.lines) bytes) };
+
+    ghost told = { λ size terminal bytes.
+        Told (play (reset_term size.columns size.lines) bytes).console.picture.rows terminal };
 
     ghost fits = { λ size terminal. (terminal.console.picture.columns ≡ size.columns)
         × (terminal.console.picture.lines ≡ size.lines) };

@@ -1,8 +1,9 @@
 //! A byte, by what is pending: of a character, of a title, or of the control syntax.
 ghost use Rattle.std.specs.Prelude.{◌≡◌, ℕ, ◌<◌, length, ◌&&◌, ◌||◌, List, [], true, false, not, nat_le, IsOk, OnOk, OnErr};
 ghost use Rattle.vt_parser.specs.Forms.{is_string_begun};
-ghost use Rattle.vt_parser.specs.Syntax.{is_within};
+ghost use Rattle.vt_parser.specs.Syntax.{is_graphic, is_within};
 ghost use Rattle.plays.specs.Sink.{after_sending, HasRoom};
+ghost use Rattle.xterm_screen.specs.Picture.{KeepsTold};
 ghost use Rattle.xterm_term.specs.Console.{IsSafe, console_of};
 ghost use Rattle.xterm_term.specs.Term.{is_ground, is_control, ends_title, syntax_read, title_read, upper_read, read, outcome_of};
 ghost use Rattle.xterm_term.specs.SameSize.{SameSize};
@@ -39,6 +40,14 @@ pub(crate) fn is_ground_state(state: &ParserState) -> bool
     matches!(state, ParserState::Ground)
 }
 
+// A graphic character of ASCII.
+#[inline]
+pub(crate) fn is_graphic(byte: u8) -> bool
+    ensures { result ≡ is_graphic byte }
+{
+    matches!(byte, 32..=126)
+}
+
 // A control that has an effect: BS to SI.
 #[inline]
 pub(crate) fn is_effective(byte: u8) -> bool
@@ -47,12 +56,18 @@ pub(crate) fn is_effective(byte: u8) -> bool
     matches!(byte, 8..=15)
 }
 
-// Whether the text of a control sequence is read.
+// Whether a sequence goes on by graphic characters, and no string is skipped.
 #[inline]
-pub(crate) fn is_text_open(state: &ParserState) -> bool
+pub(crate) fn is_open(state: &ParserState) -> bool
     ensures { result ≡ true → is_ground_state state.now ≡ false }
 {
-    matches!(state, ParserState::CsiStart | ParserState::Csi { .. })
+    matches!(
+        state,
+        ParserState::CsiStart
+            | ParserState::Csi { .. }
+            | ParserState::Escape
+            | ParserState::EscapeOne(_)
+    )
 }
 
 fn is_text_state(state: &ParserState) -> bool
@@ -126,6 +141,7 @@ fn read_syntax(
     ensures room { (sequence : List ℕ) → Stands sequence parser.old
         → HasRoom sink.old (syntax_read (console_of console.old) sequence byte).reply
         → IsOk result }
+    ensures told { KeepsTold console.old.screen console.new.screen }
 {
     laws_below();
     let acts = acts(parser, byte);
@@ -143,6 +159,7 @@ fn read_title(console: &mut Console, parser: &mut Parser, byte: u8)
         parser.new [] }
     ensures silent { (sequence : List ℕ)
         → (title_read (console_of console.old) sequence byte).reply ≡ [] }
+    ensures told { KeepsTold console.old.screen console.new.screen }
 {
     if byte == ESC {
         let _begins = parser.step(Mode::Ansi, byte);
@@ -157,6 +174,7 @@ fn read_upper(console: &mut Console, decoder: &mut Decoder, byte: u8)
     requires { decoder.old ≡ [] }
     ensures console { console_of console.new ≡ (upper_read (console_of console.old) byte).console }
     ensures character { decoder.new ≡ (upper_read (console_of console.old) byte).character }
+    ensures told { KeepsTold console.old.screen console.new.screen }
 {
     if begins(byte) {
         decoder.begin(byte);
@@ -188,6 +206,7 @@ fn read(
     ensures err_sink { OnErr result (sink.new ≡ sink.old) }
     ensures room { (sequence : List ℕ) → Stands sequence parser.old
         → HasRoom sink.old (read (console_of console.old) sequence byte).reply → IsOk result }
+    ensures told { KeepsTold console.old.screen console.new.screen }
 {
     laws_below();
     if console.title {
@@ -225,6 +244,7 @@ fn read_next(
     ensures room { (sequence : List ℕ) → Stands sequence parser.old
         → HasRoom sink.old (outcome_of (console_of console.old) sequence decoder.old byte).reply
         → IsOk result }
+    ensures told { KeepsTold console.old.screen console.new.screen }
 {
     laws_below();
     match decoder.take(byte) {
@@ -263,6 +283,7 @@ pub(crate) fn read_byte(
     ensures room { (sequence : List ℕ) → Stands sequence parser.old
         → HasRoom sink.old (outcome_of (console_of console.old) sequence decoder.old byte).reply
         → IsOk result }
+    ensures told { KeepsTold console.old.screen console.new.screen }
 {
     if decoder.is_pending() {
         return read_next(console, parser, decoder, byte, sink);

@@ -2,7 +2,7 @@
 ghost use Rattle.std.specs.Prelude.{◌≡◌, ◌∷◌};
 ghost use Rattle.xterm_term.specs.Renditions.{attribute_set, attribute_taken, colour_set, rendition_set, tells_colour, used_up, colour_told, colour_taken, renditions_set};
 
-use sheet::{Colour, Rendition};
+use sheet::{Colour, Pen, Rendition};
 
 // 0 to 9 and 21: no rendition, or one attribute more.
 fn attribute_set(rendition: Rendition, param: u16) -> Rendition
@@ -137,8 +137,21 @@ fn after_param(rendition: Rendition, used: usize, param: u16, rest: &[u16]) -> (
     (rendition_set(rendition, param), 0)
 }
 
-/// The rendition after the parameters of SGR.
-pub(crate) fn renditions_set(rendition: Rendition, params: &[u16]) -> Rendition
+/// The same of a pen.
+#[inline]
+#[tactic(auto, using(crate::proofs::Rendered::resets))]
+pub(crate) fn pen_set(pen: Pen, params: &[u16]) -> Pen
+    ensures { result ≡ renditions_set 0 params.now pen }
+{
+    // A lone 0 comes most often.
+    if params.len() == 1 && params[0] == 0 {
+        return Pen::plain();
+    }
+    Pen::of(renditions_set(pen.rendition(), params))
+}
+
+// The rendition after the parameters of SGR.
+fn renditions_set(rendition: Rendition, params: &[u16]) -> Rendition
     ensures { result ≡ renditions_set 0 params.now rendition }
 {
     let mut rendition = rendition;

@@ -6,9 +6,10 @@ ghost use Rattle.xterm_term.specs.Sequences.{Sgr, Decstbm, sequence_effect, para
 ghost use Rattle.xterm_term.specs.Effect.{control_sequence_effect, control_sequence_reply};
 ghost use Rattle.xterm_term.specs.Console.{console_of, on_picture, on_paper, on_modes, IsSafe};
 ghost use Rattle.plays.specs.Sink.{after_sending, HasRoom};
+ghost use Rattle.xterm_screen.specs.Picture.{KeepsTold};
 
 use crate::console::Console;
-use crate::renditions::renditions_set;
+use crate::renditions::pen_set;
 use crate::{OutOfMemory, Reports};
 
 // The parameter at an index, or the default where it is missing or 0.
@@ -42,6 +43,7 @@ impl Console {
         ensures room { HasRoom sink.old
             (control_sequence_reply false last params.now (console_of self.old))
             → IsOk result }
+        ensures told { KeepsTold self.old.screen self.new.screen }
     {
         match last {
             b'c' => return self.send_attributes(param_or(params, 0, 0), sink), // DA
@@ -55,11 +57,12 @@ impl Console {
     // Those that have no reply.
     fn obey_silent_sequence(&mut self, last: u8, params: &[u16])
         requires { IsSafe (console_of self.old) }
-        ensures { console_of self.new
+        ensures done { console_of self.new
             ≡ control_sequence_effect false last params.now (console_of self.old) }
+        ensures told { KeepsTold self.old.screen self.new.screen }
     {
         let n = param_or(params, 0, 1);
-        let paper = self.rendition.paper;
+        let paper = self.rendition.paper();
         match last {
             b'A' => self.screen.step_up(n), // CUU
             b'B' => self.screen.step_down(n), // CUD
@@ -88,7 +91,7 @@ impl Console {
             b'g' => self.take_tabs(param_or(params, 0, 0)), // TBC
             b'h' => self.set_ansi_modes(true, params), // SM
             b'l' => self.set_ansi_modes(false, params), // RM
-            b'm' => self.rendition = renditions_set(self.rendition, params), // SGR
+            b'm' => self.set_rendition(params), // SGR
             b'r' => self.set_margins(params), // DECSTBM
             b's' => self.save(), // SCOSC
             b'u' => self.restore(), // SCORC
@@ -96,49 +99,63 @@ impl Console {
         }
     }
 
+    fn set_rendition(&mut self, params: &[u16])
+        ensures done { console_of self.new ≡ sequence_effect Sgr params.now (console_of self.old) }
+        ensures told { KeepsTold self.old.screen self.new.screen }
+    {
+        self.rendition = pen_set(self.rendition, params);
+    }
+
     fn go_to_next_lines(&mut self, n: u16)
-        ensures { console_of self.new
+        ensures done { console_of self.new
             ≡ on_picture (then_to_left stepped_down n) (console_of self.old) }
+        ensures told { KeepsTold self.old.screen self.new.screen }
     {
         self.screen.step_down(n);
         self.screen.to_left();
     }
 
     fn go_to_previous_lines(&mut self, n: u16)
-        ensures { console_of self.new
+        ensures done { console_of self.new
             ≡ on_picture (then_to_left stepped_up n) (console_of self.old) }
+        ensures told { KeepsTold self.old.screen self.new.screen }
     {
         self.screen.step_up(n);
         self.screen.to_left();
     }
 
     fn erase_display(&mut self, part: u16)
-        ensures { console_of self.new ≡ on_paper (erased display_erased part) (console_of self.old) }
+        ensures done { console_of self.new ≡ on_paper (erased display_erased part) (console_of self.old) }
+        ensures told { KeepsTold self.old.screen self.new.screen }
     {
         if part <= 2 {
-            self.screen.erase_display(part as u8, self.rendition.paper);
+            self.screen
+                .erase_display(part as u8, self.rendition.paper());
         }
     }
 
     fn erase_line(&mut self, part: u16)
-        ensures { console_of self.new ≡ on_paper (erased line_erased part) (console_of self.old) }
+        ensures done { console_of self.new ≡ on_paper (erased line_erased part) (console_of self.old) }
+        ensures told { KeepsTold self.old.screen self.new.screen }
     {
         if part <= 2 {
-            self.screen.erase_line(part as u8, self.rendition.paper);
+            self.screen.erase_line(part as u8, self.rendition.paper());
         }
     }
 
     fn scroll_down(&mut self, params: &[u16])
-        ensures { console_of self.new ≡ on_paper (region_lowered_by params.now) (console_of self.old) }
+        ensures done { console_of self.new ≡ on_paper (region_lowered_by params.now) (console_of self.old) }
+        ensures told { KeepsTold self.old.screen self.new.screen }
     {
         if params.len() <= 1 {
             self.screen
-                .scroll_down(param_or(params, 0, 1), self.rendition.paper);
+                .scroll_down(param_or(params, 0, 1), self.rendition.paper());
         }
     }
 
     fn take_tabs(&mut self, param: u16)
-        ensures { console_of self.new ≡ on_picture (tabs_taken param) (console_of self.old) }
+        ensures done { console_of self.new ≡ on_picture (tabs_taken param) (console_of self.old) }
+        ensures told { KeepsTold self.old.screen self.new.screen }
     {
         match param {
             0 => self.screen.clear_tab(),
@@ -148,7 +165,8 @@ impl Console {
     }
 
     fn set_margins(&mut self, params: &[u16])
-        ensures { console_of self.new ≡ sequence_effect Decstbm params.now (console_of self.old) }
+        ensures done { console_of self.new ≡ sequence_effect Decstbm params.now (console_of self.old) }
+        ensures told { KeepsTold self.old.screen self.new.screen }
     {
         let top = param_or(params, 0, 1);
         let bottom = param_or(params, 1, self.screen.lines());
@@ -157,9 +175,10 @@ impl Console {
     }
 
     fn set_ansi_modes(&mut self, value: bool, params: &[u16])
-        ensures { console_of self.new
+        ensures done { console_of self.new
             ≡ on_modes (λ modes. fold (ansi_mode_set value) modes params.now)
             (console_of self.old) }
+        ensures told { KeepsTold self.old.screen self.new.screen }
     {
         for &param in params {
             self.set_ansi_mode(value, param);

@@ -9,7 +9,7 @@ mod packed;
 
 use crate::below::laws_below;
 use crate::console::Console;
-use crate::reading::{ESC, is_effective, is_ground_state, is_text_open, read_byte};
+use crate::reading::{ESC, is_effective, is_graphic, is_ground_state, is_open, read_byte};
 use crate::{Modes, OutOfMemory, Reports, Saved, Sets, Size};
 use characters::{Begun, Decoder, character_at};
 pub use packed::PackedTerminal;
@@ -21,7 +21,7 @@ use vt_parser::{Mode, Parser, ParserState, printable_run};
 use xterm_screen::Screen;
 
 /// A terminal of a size. Contracts see what is seen of it: its picture, modes, rendition, sets and saves, its parser's
-/// state, and the bytes of the character that isn't finished.
+/// state, the bytes of the character that isn't finished, and which lines were touched.
 #[derive(Debug, Drop)]
 pub struct Terminal {
     alloc: Global,
@@ -44,7 +44,7 @@ impl Model for Terminal {
 
 impl Terminal {
     ghost use Rattle.xterm_term.specs.Term.{Term, reset_term, step, play, reply_to, sent};
-    ghost use Rattle.xterm_term.specs.Seen.{Shows, IsTerminal};
+    ghost use Rattle.xterm_term.specs.Seen.{Shows, IsTerminal, Told, KeepsTold};
     ghost use Rattle.xterm_term.specs.SameSize.{SameSize};
     ghost use Rattle.plays.specs.Sink.{after_sending, HasRoom, KeepsFront};
 
@@ -98,6 +98,8 @@ impl Terminal {
         ensures err { OnErr result (self.new ≡ self.old) }
         ensures err_sink { OnErr result (sink.new ≡ sink.old) }
         ensures size { SameSize self.old.console self.new.console }
+        // Lines that aren't touched then have the rows of before.
+        ensures told { OnOk result (Told self.old.console.picture.rows self.new) }
     {
         let place = sink.place();
         let len = sink.bytes().len();
@@ -121,6 +123,34 @@ impl Terminal {
             → OnOk result (sink.new ≡ after_sending sink.old (sent x bytes.now)) }
         ensures size { SameSize self.old.console self.new.console }
         ensures front { KeepsFront sink.old sink.new }
+        ensures told { OnOk result (Told self.old.console.picture.rows self.new) }
+        ensures room { (x : Term) → Shows self.old x → HasRoom sink.old (sent x bytes.now)
+            → IsOk result }
+    {
+        self.clear_touched();
+        self.take_all(bytes, sink)
+    }
+
+    // From here on lines are told against the rows of now.
+    #[inline]
+    fn clear_touched(&mut self)
+        ensures shows { (x : Term) → Shows self.old x → Shows self.new x }
+        ensures size { SameSize self.old.console self.new.console }
+        ensures told { Told self.old.console.picture.rows self.new }
+    {
+        self.console.screen.clear_touched();
+    }
+
+    // Takes bytes, some after others.
+    #[inline]
+    fn take_all(&mut self, bytes: &[u8], sink: &mut Reports) -> Result<(), OutOfMemory>
+        ensures shows { (x : Term) → Shows self.old x
+            → OnOk result (Shows self.new (play x bytes.now)) }
+        ensures sent { (x : Term) → Shows self.old x
+            → OnOk result (sink.new ≡ after_sending sink.old (sent x bytes.now)) }
+        ensures size { SameSize self.old.console self.new.console }
+        ensures told { KeepsTold self.old self.new }
+        ensures front { KeepsFront sink.old sink.new }
         ensures room { (x : Term) → Shows self.old x → HasRoom sink.old (sent x bytes.now)
             → IsOk result }
     {
@@ -142,6 +172,7 @@ impl Terminal {
         ensures sent { (x : Term) → Shows self.old x
             → IfOk result (λ n. sink.new ≡ after_sending sink.old (sent x (take n bytes.now))) }
         ensures size { SameSize self.old.console self.new.console }
+        ensures told { KeepsTold self.old self.new }
         ensures front { KeepsFront sink.old sink.new }
         ensures room { (x : Term) → Shows self.old x → HasRoom sink.old (sent x bytes.now)
             → IsOk result }
@@ -159,14 +190,17 @@ impl Terminal {
         Ok(1)
     }
 
-    // Whether nothing is pending, and no title is read.
+    // Whether nothing is pending, no title is read, and no sequence begins.
     #[inline]
-    fn is_idle(&self) -> bool
+    fn is_idle(&self, byte: u8) -> bool
         ensures title { result ≡ true → self.now.console.title ≡ false }
         ensures state { result ≡ true → self.now.state ≡ ParserState.Ground }
         ensures character { result ≡ true → self.now.character ≡ [] }
     {
-        !self.console.title && is_ground_state(self.parser.state()) && !self.decoder.is_pending()
+        byte != ESC
+            && !self.console.title
+            && is_ground_state(self.parser.state())
+            && !self.decoder.is_pending()
     }
 
     // Takes bytes that have their effect just as they come, if they do: where nothing is pending, a run of graphic
@@ -179,8 +213,9 @@ impl Terminal {
             → Shows self.new (play x (take result bytes.now)) }
         ensures silent { (x : Term) → Shows self.old x → sent x (take result bytes.now) ≡ [] }
         ensures size { SameSize self.old.console self.new.console }
+        ensures told { KeepsTold self.old self.new }
     {
-        if self.is_idle() {
+        if self.is_idle(bytes[0]) {
             self.take_idle(bytes)
         } else {
             0
@@ -198,9 +233,10 @@ impl Terminal {
             → Shows self.new (play x (take result bytes.now)) }
         ensures silent { (x : Term) → Shows self.old x → sent x (take result bytes.now) ≡ [] }
         ensures size { SameSize self.old.console self.new.console }
+        ensures told { KeepsTold self.old self.new }
     {
-        let run = printable_run(bytes);
-        if run > 0 {
+        if is_graphic(bytes[0]) {
+            let run = printable_run(bytes);
             self.take_run(&bytes[..run]);
             return run;
         }
@@ -226,6 +262,7 @@ impl Terminal {
         ensures shows { (x : Term) → Shows self.old x → Shows self.new (play x run.now) }
         ensures silent { (x : Term) → Shows self.old x → sent x run.now ≡ [] }
         ensures size { SameSize self.old.console self.new.console }
+        ensures told { KeepsTold self.old self.new }
     {
         laws_below();
         self.console.put_bytes(run);
@@ -241,6 +278,7 @@ impl Terminal {
         ensures shows { (x : Term) → Shows self.old x → Shows self.new (play x (byte ∷ [])) }
         ensures silent { (x : Term) → Shows self.old x → sent x (byte ∷ []) ≡ [] }
         ensures size { SameSize self.old.console self.new.console }
+        ensures told { KeepsTold self.old self.new }
     {
         laws_below();
         control_is_given();
@@ -258,6 +296,7 @@ impl Terminal {
         ensures shows { (x : Term) → Shows self.old x → Shows self.new (play x bytes.now) }
         ensures silent { (x : Term) → Shows self.old x → sent x bytes.now ≡ [] }
         ensures size { SameSize self.old.console self.new.console }
+        ensures told { KeepsTold self.old self.new }
     {
         laws_below();
         let _bytes = bytes;
@@ -277,7 +316,7 @@ impl Terminal {
         if self.console.title || self.decoder.is_pending() {
             return 0;
         }
-        if is_text_open(self.parser.state()) {
+        if is_open(self.parser.state()) {
             return printable_run(bytes);
         }
         if bytes[0] == ESC {
@@ -300,6 +339,7 @@ impl Terminal {
         ensures sent { (x : Term) → Shows self.old x
             → IfOk result (λ n. sink.new ≡ after_sending sink.old (sent x (take n bytes.now))) }
         ensures size { SameSize self.old.console self.new.console }
+        ensures told { KeepsTold self.old self.new }
         ensures front { KeepsFront sink.old sink.new }
         ensures room { (x : Term) → Shows self.old x → HasRoom sink.old (sent x bytes.now)
             → IsOk result }
@@ -317,6 +357,7 @@ impl Terminal {
         ensures sent { (x : Term) → Shows self.old x
             → OnOk result (sink.new ≡ after_sending sink.old (reply_to x byte)) }
         ensures size { SameSize self.old.console self.new.console }
+        ensures told { KeepsTold self.old self.new }
         ensures front { KeepsFront sink.old sink.new }
         ensures room { (x : Term) → Shows self.old x → HasRoom sink.old (reply_to x byte)
             → IsOk result }
@@ -344,9 +385,10 @@ impl Terminal {
         }
     }
 
-    /// The cells, the cursor, pending wrap, margins and tabs.
+    /// The cells, the cursor, pending wrap, margins and tabs, and which lines were touched.
     pub fn screen(&self) -> &Screen
         ensures value { result.now.picture ≡ self.now.console.picture }
+        ensures touched { result.now.touched ≡ self.now.touched }
         // The cursor is on the sheet, and inside the margins while DECOM is set.
         ensures proper { IsTerminal self.now }
     {
@@ -378,7 +420,7 @@ impl Terminal {
     pub fn rendition(&self) -> Rendition
         ensures { result ≡ self.now.console.rendition }
     {
-        self.console.rendition
+        self.console.rendition.rendition()
     }
 
     /// The designated sets, and which of them is invoked.

@@ -27,6 +27,8 @@ mod stream;
 #[cfg(test)]
 mod told;
 #[cfg(test)]
+mod touched;
+#[cfg(test)]
 mod whole;
 #[cfg(test)]
 mod widths;

@@ -159,7 +159,7 @@ impl Run {
 
 // Cells up to the last that isn't blank on the default ground.
 pub(crate) fn write_row(text: &mut String, row: &[Cell]) -> Result<(), Fail> {
-    let blank = Cell::blank(Colour::Default);
+    let blank = Cell::empty();
     let mut run = Run {
         cell: blank,
         count: 0,
@@ -182,7 +182,7 @@ pub(crate) fn write_row(text: &mut String, row: &[Cell]) -> Result<(), Fail> {
 }
 
 fn is_blank(row: &[Cell]) -> bool {
-    row.iter().all(|cell| *cell == Cell::blank(Colour::Default))
+    row.iter().all(|cell| *cell == Cell::empty())
 }
 
 // The lines that aren't blank, each with its number.

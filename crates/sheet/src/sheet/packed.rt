@@ -31,7 +31,7 @@ impl Model for PackedSheet {
 }
 
 impl Sheet {
-    /// The sheet to be kept for later: 16 bytes a cell up to the last one of a row that isn't blank, and 24 a row.
+    /// The sheet to be kept for later: 16 bytes a cell up to the last one of a row that isn't blank, and 32 a row.
     pub fn pack(&self, alloc: Global) -> Result<PackedSheet, AllocError>
         ensures { IfOk result (λ packed. packed ≡ all_touched self.now) }
     {

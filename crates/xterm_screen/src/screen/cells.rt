@@ -1,19 +1,18 @@
 //! Cells that come in at the cursor and that are taken out there. The cursor stays, and a pending wrap is cleared.
 
-ghost use Rattle.std.specs.Prelude.{◌≡◌, ◌+◌, ◌≤◌, List};
-ghost use Rattle.sheet.specs.Cells.{Cell};
+ghost use Rattle.std.specs.Prelude.{◌≡◌, ◌+◌, ◌≤◌};
 ghost use Rattle.xterm_screen.specs.CellEdits.{cells_deleted, cells_inserted, cells_left};
-ghost use Rattle.xterm_screen.specs.Picture.{Told};
+ghost use Rattle.xterm_screen.specs.Picture.{KeepsTold};
 
 use crate::screen::Screen;
-use sheet::Colour;
+use sheet::Paper;
 
 impl Screen {
     /// ICH: `n` blank cells come in at the cursor; that cell and those right of it move right, and the last ones
     /// are lost.
-    pub fn insert_cells(&mut self, n: u16, paper: Colour)
+    pub fn insert_cells(&mut self, n: u16, paper: Paper)
         ensures picture { self.new.picture ≡ cells_inserted n paper self.old.picture }
-        ensures told { (before : List (List Cell)) → Told before self.old → Told before self.new }
+        ensures told { KeepsTold self.old self.new }
     {
         let count = self.cells_left(n);
         self.shown.insert(self.line, count, self.column, paper);
@@ -22,9 +21,9 @@ impl Screen {
 
     /// DCH: `n` cells from the cursor on are taken out; those right of them move left, and blank ones come in at
     /// the last column.
-    pub fn delete_cells(&mut self, n: u16, paper: Colour)
+    pub fn delete_cells(&mut self, n: u16, paper: Paper)
         ensures picture { self.new.picture ≡ cells_deleted n paper self.old.picture }
-        ensures told { (before : List (List Cell)) → Told before self.old → Told before self.new }
+        ensures told { KeepsTold self.old self.new }
     {
         let count = self.cells_left(n);
         self.shown.delete(self.line, count, self.column, paper);

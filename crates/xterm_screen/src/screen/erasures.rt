@@ -1,19 +1,18 @@
 //! Erasing, in a paper. The cursor stays, and a pending wrap is cleared.
 
-ghost use Rattle.std.specs.Prelude.{◌≡◌, ◌+◌, ◌≤◌, List};
-ghost use Rattle.sheet.specs.Cells.{Cell};
+ghost use Rattle.std.specs.Prelude.{◌≡◌, ◌+◌, ◌≤◌};
 ghost use Rattle.xterm_screen.specs.Erasures.{cells_erased, display_erased, first_column, first_line, last_column, last_line, line_erased};
-ghost use Rattle.xterm_screen.specs.Picture.{Told};
+ghost use Rattle.xterm_screen.specs.Picture.{KeepsTold};
 
 use crate::screen::Screen;
-use sheet::Colour;
+use sheet::Paper;
 
 impl Screen {
     /// EL: part 0 is from the cursor to the line's end, 1 from its start to the cursor, 2 all.
-    pub fn erase_line(&mut self, part: u8, paper: Colour)
+    pub fn erase_line(&mut self, part: u8, paper: Paper)
         requires { part ≤ 2 }
         ensures picture { self.new.picture ≡ line_erased part paper self.old.picture }
-        ensures told { (before : List (List Cell)) → Told before self.old → Told before self.new }
+        ensures told { KeepsTold self.old self.new }
     {
         let (from, to) = columns_of(part, self.column, self.columns);
         self.shown.erase(self.line, from, to, paper);
@@ -21,10 +20,10 @@ impl Screen {
     }
 
     /// ED: part 0 is from the cursor to the end, 1 from the start to the cursor, 2 all.
-    pub fn erase_display(&mut self, part: u8, paper: Colour)
+    pub fn erase_display(&mut self, part: u8, paper: Paper)
         requires { part ≤ 2 }
         ensures picture { self.new.picture ≡ display_erased part paper self.old.picture }
-        ensures told { (before : List (List Cell)) → Told before self.old → Told before self.new }
+        ensures told { KeepsTold self.old self.new }
     {
         self.erase_line(part, paper);
         let (first, last) = lines_of(part, self.line, self.lines);
@@ -32,10 +31,10 @@ impl Screen {
     }
 
     /// ECH: `n` cells from the cursor on are blank, at most to the last column.
-    pub fn erase_cells(&mut self, n: u16, paper: Colour)
+    pub fn erase_cells(&mut self, n: u16, paper: Paper)
         requires { 1 ≤ n }
         ensures picture { self.new.picture ≡ cells_erased n paper self.old.picture }
-        ensures told { (before : List (List Cell)) → Told before self.old → Told before self.new }
+        ensures told { KeepsTold self.old self.new }
     {
         let to = self.column.saturating_add(n - 1).min(self.columns);
         self.shown.erase(self.line, self.column, to, paper);

@@ -1,9 +1,8 @@
 //! The margins, and the alignment pattern.
 
-ghost use Rattle.std.specs.Prelude.{◌≡◌, List};
-ghost use Rattle.sheet.specs.Cells.{Cell};
+ghost use Rattle.std.specs.Prelude.{◌≡◌};
 ghost use Rattle.xterm_screen.specs.Margins.{aligned, are_margins, margins_set};
-ghost use Rattle.xterm_screen.specs.Picture.{Told};
+ghost use Rattle.xterm_screen.specs.Picture.{KeepsTold};
 
 use crate::screen::Screen;
 
@@ -13,7 +12,7 @@ impl Screen {
     pub fn set_margins(&mut self, top: u16, bottom: u16, origin: bool) -> bool
         ensures answer { result ≡ are_margins top bottom self.old.picture.lines }
         ensures picture { self.new.picture ≡ margins_set top bottom origin self.old.picture }
-        ensures told { (before : List (List Cell)) → Told before self.old → Told before self.new }
+        ensures told { KeepsTold self.old self.new }
     {
         let bottom = bottom.min(self.lines);
         if top < 1 || bottom <= top {
@@ -28,7 +27,7 @@ impl Screen {
     /// DECALN: every cell is the letter E; margins 1 and the last line, cursor at line 1 column 1.
     pub fn align(&mut self)
         ensures picture { self.new.picture ≡ aligned self.old.picture }
-        ensures told { (before : List (List Cell)) → Told before self.old → Told before self.new }
+        ensures told { KeepsTold self.old self.new }
     {
         self.shown.align();
         self.line = 1;

@@ -1,9 +1,8 @@
 //! Moves of the cursor. Each takes the pending wrap away.
 
-ghost use Rattle.std.specs.Prelude.{◌≡◌, ◌≤◌, List};
-ghost use Rattle.sheet.specs.Cells.{Cell};
+ghost use Rattle.std.specs.Prelude.{◌≡◌, ◌≤◌};
 ghost use Rattle.xterm_screen.specs.Moves.{line_placed, lowered, moved_home, moved_to_left, on_column, placed, placed_on_line, put_back, stepped_down, stepped_left, stepped_right, stepped_up, wrap_cleared};
-ghost use Rattle.xterm_screen.specs.Picture.{Told};
+ghost use Rattle.xterm_screen.specs.Picture.{KeepsTold};
 
 use crate::screen::Screen;
 
@@ -11,7 +10,7 @@ impl Screen {
     /// CUU: `n` lines up, at most to the top margin from it or below, else to line 1.
     pub fn step_up(&mut self, n: u16)
         ensures picture { self.new.picture ≡ stepped_up n self.old.picture }
-        ensures told { (before : List (List Cell)) → Told before self.old → Told before self.new }
+        ensures told { KeepsTold self.old self.new }
     {
         let stop = if self.top <= self.line { self.top } else { 1 };
         self.line = self.line.saturating_sub(n).max(stop);
@@ -21,7 +20,7 @@ impl Screen {
     /// CUD: `n` lines down, at most to the bottom margin from it or above, else to the last line.
     pub fn step_down(&mut self, n: u16)
         ensures picture { self.new.picture ≡ stepped_down n self.old.picture }
-        ensures told { (before : List (List Cell)) → Told before self.old → Told before self.new }
+        ensures told { KeepsTold self.old self.new }
     {
         let stop = if self.line <= self.bottom {
             self.bottom
@@ -35,7 +34,7 @@ impl Screen {
     /// VPR: `n` lines down, at most to the last line, or to the bottom margin with `origin`.
     pub fn lower(&mut self, n: u16, origin: bool)
         ensures picture { self.new.picture ≡ lowered n origin self.old.picture }
-        ensures told { (before : List (List Cell)) → Told before self.old → Told before self.new }
+        ensures told { KeepsTold self.old self.new }
     {
         let stop = if origin { self.bottom } else { self.lines };
         self.line = self.line.saturating_add(n).min(stop);
@@ -45,7 +44,7 @@ impl Screen {
     /// CUF and HPR: `n` columns right, at most to the last one.
     pub fn step_right(&mut self, n: u16)
         ensures picture { self.new.picture ≡ stepped_right n self.old.picture }
-        ensures told { (before : List (List Cell)) → Told before self.old → Told before self.new }
+        ensures told { KeepsTold self.old self.new }
     {
         self.column = self.column.saturating_add(n).min(self.columns);
         self.wrap = false;
@@ -54,7 +53,7 @@ impl Screen {
     /// CUB and BS: `n` columns left, at least column 1.
     pub fn step_left(&mut self, n: u16)
         ensures picture { self.new.picture ≡ stepped_left n self.old.picture }
-        ensures told { (before : List (List Cell)) → Told before self.old → Told before self.new }
+        ensures told { KeepsTold self.old self.new }
     {
         self.column = self.column.saturating_sub(n).max(1);
         self.wrap = false;
@@ -63,7 +62,7 @@ impl Screen {
     /// CR: column 1.
     pub fn to_left(&mut self)
         ensures picture { self.new.picture ≡ moved_to_left self.old.picture }
-        ensures told { (before : List (List Cell)) → Told before self.old → Told before self.new }
+        ensures told { KeepsTold self.old self.new }
     {
         self.column = 1;
         self.wrap = false;
@@ -73,7 +72,7 @@ impl Screen {
     pub fn to_column(&mut self, column: u16)
         requires { 1 ≤ column }
         ensures picture { self.new.picture ≡ on_column column self.old.picture }
-        ensures told { (before : List (List Cell)) → Told before self.old → Told before self.new }
+        ensures told { KeepsTold self.old self.new }
     {
         self.column = column.min(self.columns);
         self.wrap = false;
@@ -83,7 +82,7 @@ impl Screen {
     pub fn to_line(&mut self, line: u16, origin: bool)
         requires { 1 ≤ line }
         ensures picture { self.new.picture ≡ placed_on_line line origin self.old.picture }
-        ensures told { (before : List (List Cell)) → Told before self.old → Told before self.new }
+        ensures told { KeepsTold self.old self.new }
     {
         self.line = self.line_placed(line, origin);
         self.wrap = false;
@@ -95,7 +94,7 @@ impl Screen {
         requires line { 1 ≤ line }
         requires column { 1 ≤ column }
         ensures picture { self.new.picture ≡ placed line column origin self.old.picture }
-        ensures told { (before : List (List Cell)) → Told before self.old → Told before self.new }
+        ensures told { KeepsTold self.old self.new }
     {
         self.line = self.line_placed(line, origin);
         self.column = column.min(self.columns);
@@ -105,7 +104,7 @@ impl Screen {
     /// Column 1 of line 1, or of the top margin with `origin`.
     pub fn home(&mut self, origin: bool)
         ensures picture { self.new.picture ≡ moved_home origin self.old.picture }
-        ensures told { (before : List (List Cell)) → Told before self.old → Told before self.new }
+        ensures told { KeepsTold self.old self.new }
     {
         self.line = if origin { self.top } else { 1 };
         self.column = 1;
@@ -115,7 +114,7 @@ impl Screen {
     /// Takes the pending wrap away, for what else clears it.
     pub fn clear_wrap(&mut self)
         ensures picture { self.new.picture ≡ wrap_cleared self.old.picture }
-        ensures told { (before : List (List Cell)) → Told before self.old → Told before self.new }
+        ensures told { KeepsTold self.old self.new }
     {
         self.wrap = false;
     }
@@ -128,7 +127,7 @@ impl Screen {
         requires column { 1 ≤ column }
         ensures picture { self.new.picture
             ≡ put_back line column wrap origin autowrap self.old.picture }
-        ensures told { (before : List (List Cell)) → Told before self.old → Told before self.new }
+        ensures told { KeepsTold self.old self.new }
     {
         self.line = if origin {
             line.min(self.bottom).max(self.top)

@@ -2,7 +2,7 @@
 
 ghost use Rattle.std.specs.Prelude.{◌≡◌, IfOk, List};
 ghost use Rattle.sheet.specs.Cells.{Cell};
-ghost use Rattle.xterm_screen.specs.Picture.{Told};
+ghost use Rattle.xterm_screen.specs.Picture.{Told, all_touched};
 
 use crate::screen::Screen;
 use sheet::PackedSheet;
@@ -65,10 +65,10 @@ impl Screen {
         requires columns { packed.now.columns ≡ self.old.picture.columns }
         requires lines { packed.now.lines ≡ self.old.picture.lines }
         ensures picture { self.new.picture ≡ packed.now }
+        ensures touched { self.new.touched ≡ all_touched packed.now.lines }
         ensures told { (before : List (List Cell)) → Told before self.new }
     {
         self.shown.unpack(&packed.shown);
-        self.shown.touch_all();
         self.other.unpack(&packed.other);
         self.tabs
             .as_mut_slice()

@@ -1,18 +1,17 @@
 //! Lines that move. Rows that enter are blank in a paper, and the rows themselves stay where they lie.
 
-ghost use Rattle.std.specs.Prelude.{◌≡◌, List};
-ghost use Rattle.sheet.specs.Cells.{Cell};
-ghost use Rattle.xterm_screen.specs.Picture.{Told};
+ghost use Rattle.std.specs.Prelude.{◌≡◌};
+ghost use Rattle.xterm_screen.specs.Picture.{KeepsTold};
 ghost use Rattle.xterm_screen.specs.Scrolls.{indexed, lines_deleted, lines_inserted, region_lowered, region_raised, reverse_indexed};
 
 use crate::screen::Screen;
-use sheet::Colour;
+use sheet::Paper;
 
 impl Screen {
     /// IND: one line down; at the bottom margin the region moves up.
-    pub fn index(&mut self, paper: Colour)
+    pub fn index(&mut self, paper: Paper)
         ensures picture { self.new.picture ≡ indexed paper self.old.picture }
-        ensures told { (before : List (List Cell)) → Told before self.old → Told before self.new }
+        ensures told { KeepsTold self.old self.new }
     {
         self.wrap = false;
         if self.line == self.bottom {
@@ -23,9 +22,9 @@ impl Screen {
     }
 
     /// RI: one line up; at the top margin the region moves down.
-    pub fn reverse_index(&mut self, paper: Colour)
+    pub fn reverse_index(&mut self, paper: Paper)
         ensures picture { self.new.picture ≡ reverse_indexed paper self.old.picture }
-        ensures told { (before : List (List Cell)) → Told before self.old → Told before self.new }
+        ensures told { KeepsTold self.old self.new }
     {
         self.wrap = false;
         if self.line == self.top {
@@ -36,26 +35,26 @@ impl Screen {
     }
 
     /// SU: the rows inside the margins move up by `n`; cursor and wrap stay.
-    pub fn scroll_up(&mut self, n: u16, paper: Colour)
+    pub fn scroll_up(&mut self, n: u16, paper: Paper)
         ensures picture { self.new.picture ≡ region_raised n paper self.old.picture }
-        ensures told { (before : List (List Cell)) → Told before self.old → Told before self.new }
+        ensures told { KeepsTold self.old self.new }
     {
         self.shown.scroll_up(n, self.top, self.bottom, paper);
     }
 
     /// SD: the rows inside the margins move down by `n`; cursor and wrap stay.
-    pub fn scroll_down(&mut self, n: u16, paper: Colour)
+    pub fn scroll_down(&mut self, n: u16, paper: Paper)
         ensures picture { self.new.picture ≡ region_lowered n paper self.old.picture }
-        ensures told { (before : List (List Cell)) → Told before self.old → Told before self.new }
+        ensures told { KeepsTold self.old self.new }
     {
         self.shown.scroll_down(n, self.top, self.bottom, paper);
     }
 
     /// IL: `n` blank lines come in at the cursor's, and those from it to the bottom margin move down; the cursor
     /// goes to column 1. Outside the margins nothing.
-    pub fn insert_lines(&mut self, n: u16, paper: Colour)
+    pub fn insert_lines(&mut self, n: u16, paper: Paper)
         ensures picture { self.new.picture ≡ lines_inserted n paper self.old.picture }
-        ensures told { (before : List (List Cell)) → Told before self.old → Told before self.new }
+        ensures told { KeepsTold self.old self.new }
     {
         if self.top <= self.line && self.line <= self.bottom {
             self.shown.scroll_down(n, self.line, self.bottom, paper);
@@ -66,9 +65,9 @@ impl Screen {
 
     /// DL: `n` lines from the cursor's on go away, those below move up, and blank ones come in at the bottom
     /// margin; the cursor goes to column 1. Outside the margins nothing.
-    pub fn delete_lines(&mut self, n: u16, paper: Colour)
+    pub fn delete_lines(&mut self, n: u16, paper: Paper)
         ensures picture { self.new.picture ≡ lines_deleted n paper self.old.picture }
-        ensures told { (before : List (List Cell)) → Told before self.old → Told before self.new }
+        ensures told { KeepsTold self.old self.new }
     {
         if self.top <= self.line && self.line <= self.bottom {
             self.shown.scroll_up(n, self.line, self.bottom, paper);

@@ -1,19 +1,18 @@
 //! The main and the alternate sheet.
 
-ghost use Rattle.std.specs.Prelude.{◌≡◌, List};
-ghost use Rattle.sheet.specs.Cells.{Cell};
-ghost use Rattle.xterm_screen.specs.Picture.{Told};
+ghost use Rattle.std.specs.Prelude.{◌≡◌};
+ghost use Rattle.xterm_screen.specs.Picture.{KeepsTold};
 ghost use Rattle.xterm_screen.specs.Sheets.{alternate_shown, main_shown};
 
 use crate::screen::Screen;
-use sheet::Colour;
+use sheet::Paper;
 use std::mem::swap;
 
 impl Screen {
     /// From the main sheet the alternate one is shown, blank in a paper; else nothing.
-    pub fn show_alternate(&mut self, paper: Colour)
+    pub fn show_alternate(&mut self, paper: Paper)
         ensures picture { self.new.picture ≡ alternate_shown paper self.old.picture }
-        ensures told { (before : List (List Cell)) → Told before self.old → Told before self.new }
+        ensures told { KeepsTold self.old self.new }
     {
         if !self.alternate {
             swap(&mut self.shown, &mut self.other);
@@ -26,7 +25,7 @@ impl Screen {
     /// The main sheet is shown, as it was left.
     pub fn show_main(&mut self)
         ensures picture { self.new.picture ≡ main_shown self.old.picture }
-        ensures told { (before : List (List Cell)) → Told before self.old → Told before self.new }
+        ensures told { KeepsTold self.old self.new }
     {
         if self.alternate {
             swap(&mut self.shown, &mut self.other);

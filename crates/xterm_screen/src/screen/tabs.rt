@@ -1,9 +1,8 @@
 //! Tab stops.
 
-ghost use Rattle.std.specs.Prelude.{◌≡◌, ◌≤◌, ◌<◌, List, false, length, true};
-ghost use Rattle.sheet.specs.Cells.{Cell};
+ghost use Rattle.std.specs.Prelude.{◌≡◌, ◌≤◌, ◌<◌, false, length, true};
 ghost use Rattle.sheet.specs.Table.{table};
-ghost use Rattle.xterm_screen.specs.Picture.{Told};
+ghost use Rattle.xterm_screen.specs.Picture.{KeepsTold};
 ghost use Rattle.xterm_screen.specs.Tabs.{stop_after, stop_before, tab_made, tabbed, tabbed_back, tabbed_on, tabs_cleared, times};
 
 use crate::screen::Screen;
@@ -12,7 +11,7 @@ impl Screen {
     /// HT: to the next tab stop, at most to the last column. A pending wrap stays.
     pub fn tab_forward(&mut self)
         ensures picture { self.new.picture ≡ tabbed self.old.picture }
-        ensures told { (before : List (List Cell)) → Told before self.old → Told before self.new }
+        ensures told { KeepsTold self.old self.new }
     {
         self.column = next_stop(self.tabs.as_slice(), self.column);
     }
@@ -20,7 +19,7 @@ impl Screen {
     /// CHT: HT `n` times.
     pub fn tab_on(&mut self, n: u16)
         ensures picture { self.new.picture ≡ tabbed_on n self.old.picture }
-        ensures told { (before : List (List Cell)) → Told before self.old → Told before self.new }
+        ensures told { KeepsTold self.old self.new }
     {
         self.column = stop_on(self.tabs.as_slice(), self.column, n);
     }
@@ -28,7 +27,7 @@ impl Screen {
     /// CBT: `n` times back to the stop left of the cursor, at least column 1.
     pub fn tab_back(&mut self, n: u16)
         ensures picture { self.new.picture ≡ tabbed_back n self.old.picture }
-        ensures told { (before : List (List Cell)) → Told before self.old → Told before self.new }
+        ensures told { KeepsTold self.old self.new }
     {
         self.column = stop_back(self.tabs.as_slice(), self.column, n);
         self.wrap = false;
@@ -37,7 +36,7 @@ impl Screen {
     /// HTS: a tab stop at the cursor's column.
     pub fn set_tab(&mut self)
         ensures picture { self.new.picture ≡ tab_made true self.old.picture }
-        ensures told { (before : List (List Cell)) → Told before self.old → Told before self.new }
+        ensures told { KeepsTold self.old self.new }
     {
         self.tabs[self.column as usize - 1] = true;
     }
@@ -45,7 +44,7 @@ impl Screen {
     /// TBC: no tab stop at the cursor's column.
     pub fn clear_tab(&mut self)
         ensures picture { self.new.picture ≡ tab_made false self.old.picture }
-        ensures told { (before : List (List Cell)) → Told before self.old → Told before self.new }
+        ensures told { KeepsTold self.old self.new }
     {
         self.tabs[self.column as usize - 1] = false;
     }
@@ -53,7 +52,7 @@ impl Screen {
     /// TBC of all: no tab stop at any column.
     pub fn clear_tabs(&mut self)
         ensures picture { self.new.picture ≡ tabs_cleared self.old.picture }
-        ensures told { (before : List (List Cell)) → Told before self.old → Told before self.new }
+        ensures told { KeepsTold self.old self.new }
     {
         put_no_tabs(self.tabs.as_mut_slice());
     }

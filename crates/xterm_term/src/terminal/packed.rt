@@ -1,23 +1,27 @@
 //! Terminals that are kept for later, without the blank tails of their rows.
-ghost use Rattle.std.specs.Prelude.{◌≡◌, IfOk};
+ghost use Rattle.std.specs.Prelude.{◌≡◌, IfOk, List};
+ghost use Rattle.sheet.specs.Cells.{Cell};
+ghost use Rattle.xterm_term.specs.Packed.{touched_whole};
+ghost use Rattle.xterm_term.specs.Seen.{Told};
 
 use crate::terminal::Terminal;
 use crate::{Modes, Saved, Sets, Size};
 use characters::Decoder;
-use sheet::Rendition;
+use sheet::Pen;
 use std::alloc::{AllocError, Global};
 use std::marker::Model;
 use vt_parser::Parser;
 use xterm_screen::PackedScreen;
 
-/// A terminal of which each row is kept up to its last cell that isn't blank. Contracts see what is seen of the terminal.
+/// A terminal of which each row is kept up to its last cell that isn't blank. Contracts see what is seen of the terminal,
+/// all lines touched.
 #[derive(Debug, Drop)]
 pub struct PackedTerminal {
     columns: u16,
     lines: u16,
     screen: PackedScreen,
     modes: Modes,
-    rendition: Rendition,
+    rendition: Pen,
     sets: Sets,
     last: Option<char>,
     title: bool,
@@ -55,7 +59,7 @@ impl PackedTerminal {
 impl Terminal {
     /// The terminal to be kept for later.
     pub fn pack(&self, alloc: Global) -> Result<PackedTerminal, AllocError>
-        ensures { IfOk result (λ packed. packed ≡ self.now) }
+        ensures { IfOk result (λ packed. packed ≡ touched_whole self.now) }
     {
         let console = &self.console;
         let screen = console.screen.pack(alloc)?;
@@ -79,11 +83,12 @@ impl Terminal {
         })
     }
 
-    /// Becomes the terminal of the same size that was packed.
+    /// Becomes the terminal of the same size that was packed, all lines touched.
     pub fn unpack(&mut self, packed: &PackedTerminal)
         requires columns { self.old.console.picture.columns ≡ packed.now.console.picture.columns }
         requires lines { self.old.console.picture.lines ≡ packed.now.console.picture.lines }
-        ensures { self.new ≡ packed.now }
+        ensures value { self.new ≡ packed.now }
+        ensures told { (before : List (List Cell)) → Told before self.new }
     {
         self.console.screen.unpack(&packed.screen);
         self.console.modes = packed.modes;

@@ -1,4 +1,4 @@
-use Rattle.std.proofs.Common.{◌∙◌, ap, arith}
+use Rattle.std.proofs.Common.{◌∙◌, ap}
 use Rattle.sheet.specs.Cells.{with_mark}
 use Rattle.sheet.proofs.Marks.{mark_written}
 use Rattle.sheet.proofs.Rows.{cell_read}

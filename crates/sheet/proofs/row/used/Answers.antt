@@ -1,4 +1,4 @@
-use Rattle.std.proofs.Common.{◌≡◌, ℕ, ◌+◌, ◌-◌, ◌∙◌, get_or, length, refl, sym, ap, inl, inr, subst, arith}
+use Rattle.std.proofs.Common.{ℕ, ◌+◌, ◌∙◌, get_or, length, sym, ap, inl, inr, arith}
 use Rattle.std.proofs.lemmas.Bool.{cases_eq, cases_lt}
 use Rattle.sheet.specs.Cells.{cell_at}
 use Rattle.sheet.proofs.Rows.{cell_outside, cell_read}

@@ -1,4 +1,4 @@
-use Rattle.std.proofs.Common.{◌≡◌, ◌<◌, ◌∙◌, [], length, sym, arith}
+use Rattle.std.proofs.Common.{◌≡◌, ◌∙◌, [], length, sym, arith}
 use Rattle.std.proofs.lemmas.List.{get_or_default, same_lists}
 use Rattle.sheet.proofs.sheet.copy_slots.Goals as goal
 

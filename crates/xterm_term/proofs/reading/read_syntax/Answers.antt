@@ -25,7 +25,7 @@ returns-clause-comes c sequence stands =
     (c.has_ended.ensures (pending_after Ansi sequence c.args.byte) state) in
     let done = c.in_ok-obey_if.ensures.done ∙ ap (λ (o : Option Command). effect_of effect o s) command in
     record {
-      console = c.forget_if.ensures ∙ ap₂ (λ (e : Bool) (t : Console). forgotten_if e t) ended done;
+      console = c.forget_if.ensures.done ∙ ap₂ (λ (e : Bool) (t : Console). forgotten_if e t) ended done;
       state = state;
       character = refl;
     }
@@ -37,7 +37,7 @@ returns-clause-sent c sequence stands =
 
 pub returns-clause-sound : goal.returns-clause-sound
 returns-clause-sound c sequence stands = record {
-  safe = subst IsSafe (sym c.forget_if.ensures) (safe_if_forgotten c.has_ended.result _
+  safe = subst IsSafe (sym c.forget_if.ensures.done) (safe_if_forgotten c.has_ended.result _
       (subst IsSafe (sym c.in_ok-obey_if.ensures.done) (safe_command c.laws_below.ensures c.step-command.result _ c.step-command.ensures.proper c.requires)));
   sequence = (
     pending_after Ansi sequence c.args.byte,
@@ -48,7 +48,7 @@ returns-clause-sound c sequence stands = record {
 pub returns-clause-size : goal.returns-clause-size
 returns-clause-size c sequence stands =
     let s : Console = console_of c.args.console.now in
-    subst (SameSize s) (sym c.forget_if.ensures)
+    subst (SameSize s) (sym c.forget_if.ensures.done)
     (both s (console_of c.obey_if.new.self) _ (subst (SameSize s) (sym c.in_ok-obey_if.ensures.done) (size_command c.step-command.result s))
     (size_forgotten c.has_ended.result (console_of c.obey_if.new.self)))
 

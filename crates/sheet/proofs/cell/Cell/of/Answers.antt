@@ -1,15 +1,23 @@
-use Rattle.std.proofs.Common.{◌∙◌, arith, refl}
-use Rattle.sheet.proofs.Numbers.{made_cell, made_is}
+use Rattle.std.proofs.Common.{refl, ◌/◌, ◌%◌}
+use Rattle.sheet.proofs.Numbers.{made_cell, made_is, pen_bits, pen_ink, pen_joined, pen_paper}
 use Rattle.sheet.proofs.cell.Cell.of.Goals as goal
 
 pub invariant_of-result : goal.invariant_of-result
 invariant_of-result c =
-    made_cell _ _ c.args.character c.args.first c.args.second c.number-sort.result c.attributes-bits.result c.number-paper.result c.number-ink.result c.args.kind c.args.rendition
-    refl refl c.ranges.character.0 c.requires.numbers c.number-sort.ensures.below c.attributes-bits.ensures c.number-paper.ensures.below c.number-ink.ensures.below
-    c.number-sort.ensures.again c.number-ink.ensures.again c.number-paper.ensures.again
+    let style = c.rendition.inside.style in
+    let is = c.rendition.invariant in
+    let seen = c.rendition.view_is in
+    made_cell _ _ c.args.character c.args.first c.args.second c.number-sort.result (style / 33554432 / 33554432 % 256) (style / 33554432 % 33554432) (style % 33554432) c.args.kind c.args.rendition
+    refl (pen_joined style c.args.rendition is seen c.number-sort.result) c.ranges.character.0 c.requires.numbers c.number-sort.ensures.below
+    (pen_bits style c.args.rendition is seen) is.paper is.ink
+    c.number-sort.ensures.again (pen_ink style c.args.rendition is seen) (pen_paper style c.args.rendition is seen)
 
 pub returns : goal.returns
 returns c =
-    made_is _ _ c.args.character c.args.first c.args.second c.number-sort.result c.attributes-bits.result c.number-paper.result c.number-ink.result c.args.kind c.args.rendition
-    refl refl c.ranges.character.0 c.requires.numbers c.number-sort.ensures.below c.attributes-bits.ensures c.number-paper.ensures.below c.number-ink.ensures.below
-    c.number-sort.ensures.again c.number-ink.ensures.again c.number-paper.ensures.again
+    let style = c.rendition.inside.style in
+    let is = c.rendition.invariant in
+    let seen = c.rendition.view_is in
+    made_is _ _ c.args.character c.args.first c.args.second c.number-sort.result (style / 33554432 / 33554432 % 256) (style / 33554432 % 33554432) (style % 33554432) c.args.kind c.args.rendition
+    refl (pen_joined style c.args.rendition is seen c.number-sort.result) c.ranges.character.0 c.requires.numbers c.number-sort.ensures.below
+    (pen_bits style c.args.rendition is seen) is.paper is.ink
+    c.number-sort.ensures.again (pen_ink style c.args.rendition is seen) (pen_paper style c.args.rendition is seen)

@@ -1,4 +1,4 @@
-use Rattle.std.proofs.Common.{◌∙◌, ◌≡◌, ℕ, List, ap}
+use Rattle.std.proofs.Common.{◌∙◌, ℕ, ap}
 use Rattle.sheet.specs.Grid.{blank_row, lines_erased}
 use Rattle.sheet.proofs.Turns.{lines_all}
 use Rattle.sheet.proofs.sheet.Sheet.clear.Goals as goal

@@ -12,8 +12,8 @@ invariant_of-self c =
       sound =
           sound_reset_is c.self.inside.columns c.self.inside.lines c.clear.new.self.rows c.clear-2.new.self.rows _
           is.sound.columns_low is.sound.columns_high is.sound.lines_low is.sound.lines_high
-          (c.clear.ensures.rows ∙ ap₂ (λ (columns lines : ℕ). blank_rows columns lines Default) is.shown_columns is.shown_lines)
-          (c.clear-2.ensures.rows ∙ ap₂ (λ (columns lines : ℕ). blank_rows columns lines Default) is.other_columns is.other_lines)
+          (c.clear.ensures.rows ∙ ap (blank_rows c.self.inside.shown.columns c.self.inside.shown.lines) c.of-paper.ensures ∙ ap₂ (λ (columns lines : ℕ). blank_rows columns lines Default) is.shown_columns is.shown_lines)
+          (c.clear-2.ensures.rows ∙ ap (blank_rows c.self.inside.other.columns c.self.inside.other.lines) c.of-paper.ensures ∙ ap₂ (λ (columns lines : ℕ). blank_rows columns lines Default) is.other_columns is.other_lines)
           (take_at c.put_first_tabs.new.tabs _ c.self.inside.tabs.len (c.put_first_tabs.auto.tabs ∙ c.as_mut_slice.ensures.len) ∙ c.put_first_tabs.ensures
           ∙ ap (λ (tabs : List Bool). first_tabs (length tabs)) c.as_mut_slice.ensures.value ∙ ap first_tabs is.sound.tabs);
       shown_columns = c.clear.ensures.columns ∙ is.shown_columns;

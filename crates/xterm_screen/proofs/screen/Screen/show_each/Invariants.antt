@@ -1,6 +1,5 @@
-use Rattle.std.proofs.Common.{◌≡◌, List, true, take}
-use Rattle.sheet.specs.Cells.{Cell}
-use Rattle.xterm_screen.specs.Picture.{Told}
+use Rattle.std.proofs.Common.{◌≡◌, true, take}
+use Rattle.xterm_screen.specs.Picture.{KeepsTold}
 use Rattle.xterm_screen.specs.Puts.{run_shown}
 use Rattle.xterm_screen.proofs.screen.Screen.show_each.Given as goal
 
@@ -8,5 +7,5 @@ use Rattle.xterm_screen.proofs.screen.Screen.show_each.Given as goal
 abbrev pub invariant-loop-i : goal.invariant-loop-i
 invariant-loop-i l = record {
   shown : l.self.picture ≡ run_shown (take l.i l.characters) l.rendition l.autowrap true l.fn.self.picture;
-  told : (before : List (List Cell)) → Told before l.fn.self → Told before l.self;
+  told : KeepsTold l.fn.self l.self;
 }

@@ -1,6 +1,5 @@
-use Rattle.std.proofs.Common.{◌≡◌, List, false, length}
-use Rattle.sheet.specs.Cells.{Cell}
-use Rattle.xterm_screen.specs.Picture.{Told}
+use Rattle.std.proofs.Common.{◌≡◌, false, length}
+use Rattle.xterm_screen.specs.Picture.{KeepsTold}
 use Rattle.xterm_screen.specs.Puts.{run_shown}
 use Rattle.xterm_screen.proofs.screen.Screen.show_parts.Given as goal
 
@@ -8,7 +7,7 @@ use Rattle.xterm_screen.proofs.screen.Screen.show_parts.Given as goal
 abbrev pub invariant-loop-rest : goal.invariant-loop-rest
 invariant-loop-rest l = record {
   shown : run_shown l.rest l.rendition l.autowrap false l.self.picture ≡ run_shown l.characters l.rendition l.autowrap false l.fn.self.picture;
-  told : (before : List (List Cell)) → Told before l.fn.self → Told before l.self;
+  told : KeepsTold l.fn.self l.self;
 }
 
 abbrev pub decreases-loop-rest : goal.decreases-loop-rest

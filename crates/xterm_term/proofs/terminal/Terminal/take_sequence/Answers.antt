@@ -1,4 +1,4 @@
-use Rattle.std.proofs.Common.{take, refl, sym, ap, ap₂, subst, ◌∙◌}
+use Rattle.std.proofs.Common.{[], take, refl, sym, ap, ap₂, subst, ◌∙◌}
 use Rattle.std.specs.Prelude.{Bool}
 use Rattle.std.proofs.lemmas.Bool.{false≢true}
 use Rattle.plays.specs.Sink.{after_sending, HasRoom}
@@ -20,7 +20,7 @@ pub returns-in_err-obey_token_if-clause-room : goal.returns-in_err-obey_token_if
 returns-in_err-obey_token_if-clause-room c x shows room =
     let before : Seen = seen_of c.self.inside.console c.self.inside.parser c.self.inside.decoder in
     let n = c.next.result.0 in
-    let after = shows_next c.laws_below.ensures before c.args.self.now x (take n c.args.bytes.now) c.next.result.1 _ _ c.self.view_is shows
+    let after = shows_next c.laws_below.ensures {touched = []} before c.args.self.now x (take n c.args.bytes.now) c.next.result.1 _ _ c.self.view_is shows
     c.requires.title c.requires.character (goes_front _ c.args.bytes.now n c.next.ensures.some c.requires.goes) c.next.ensures.told c.next.follows.holds-at-none refl in
     absurd (false≢true (c.in_err-obey_token_if.ensures.room (subst (HasRoom c.args.sink.now) after.1 (room_for_front x c.args.bytes.now n c.args.sink.now room))))
 
@@ -28,7 +28,7 @@ pub invariant_of-self-2 : goal.invariant_of-self-2
 invariant_of-self-2 c =
     let before : Seen = seen_of c.self.inside.console c.self.inside.parser c.self.inside.decoder in
     let n = c.next.result.0 in
-    let console = c.forget_if.ensures
+    let console = c.forget_if.ensures.done
     ∙ ap₂ (λ (b : Bool) (s : Console). forgotten_if b s) (c.is_ground_state.ensures ∙ ap is_ground_state c.state.ensures.value) c.in_ok-obey_token_if.ensures.done in
     next_terminal c.laws_below.ensures before c.args.self.now (take n c.args.bytes.now) c.next.result.1 c.next.follows.lender-at-none _ c.self.view_is c.self.invariant
     c.requires.title c.requires.character (goes_front _ c.args.bytes.now n c.next.ensures.some c.requires.goes) c.next.ensures.told c.next.follows.holds-at-none console
@@ -37,7 +37,7 @@ pub returns-clause-shows : goal.returns-clause-shows
 returns-clause-shows c x shows =
     let before : Seen = seen_of c.self.inside.console c.self.inside.parser c.self.inside.decoder in
     let n = c.next.result.0 in
-    let console = c.forget_if.ensures
+    let console = c.forget_if.ensures.done
     ∙ ap₂ (λ (b : Bool) (s : Console). forgotten_if b s) (c.is_ground_state.ensures ∙ ap is_ground_state c.state.ensures.value) c.in_ok-obey_token_if.ensures.done in
     (shows_next c.laws_below.ensures before c.args.self.now x (take n c.args.bytes.now) c.next.result.1 c.next.follows.lender-at-none _ c.self.view_is shows
     c.requires.title c.requires.character (goes_front _ c.args.bytes.now n c.next.ensures.some c.requires.goes) c.next.ensures.told c.next.follows.holds-at-none console).0
@@ -46,7 +46,7 @@ pub returns-clause-sent : goal.returns-clause-sent
 returns-clause-sent c x shows =
     let before : Seen = seen_of c.self.inside.console c.self.inside.parser c.self.inside.decoder in
     let n = c.next.result.0 in
-    let after = shows_next c.laws_below.ensures before c.args.self.now x (take n c.args.bytes.now) c.next.result.1 c.next.follows.lender-at-none _ c.self.view_is shows
+    let after = shows_next c.laws_below.ensures {touched = []} before c.args.self.now x (take n c.args.bytes.now) c.next.result.1 c.next.follows.lender-at-none _ c.self.view_is shows
     c.requires.title c.requires.character (goes_front _ c.args.bytes.now n c.next.ensures.some c.requires.goes) c.next.ensures.told c.next.follows.holds-at-none refl in
     c.in_ok-obey_token_if.ensures.sent ∙ ap (after_sending c.args.sink.now) (sym after.1)
 
@@ -54,7 +54,7 @@ pub returns-clause-size : goal.returns-clause-size
 returns-clause-size c =
     let before : Seen = seen_of c.self.inside.console c.self.inside.parser c.self.inside.decoder in
     let n = c.next.result.0 in
-    let console = c.forget_if.ensures
+    let console = c.forget_if.ensures.done
     ∙ ap₂ (λ (b : Bool) (s : Console). forgotten_if b s) (c.is_ground_state.ensures ∙ ap is_ground_state c.state.ensures.value) c.in_ok-obey_token_if.ensures.done in
     next_size c.laws_below.ensures before c.args.self.now (take n c.args.bytes.now) c.next.result.1 c.next.follows.lender-at-none _ c.self.view_is c.self.invariant
     c.requires.title c.requires.character (goes_front _ c.args.bytes.now n c.next.ensures.some c.requires.goes) c.next.ensures.told c.next.follows.holds-at-none console

@@ -7,7 +7,7 @@ use Rattle.xterm_term.specs.Seen.{Shows}
 use Rattle.xterm_term.proofs.Feeding.{play_on, sink_on, room_on, left_on}
 use Rattle.xterm_term.proofs.Sizes.{both}
 use Rattle.xterm_term.proofs.Sinks.{sends_nothing, keeps_itself, keeps_trans}
-use Rattle.xterm_term.proofs.terminal.Terminal.feed_in_place.Goals as goal
+use Rattle.xterm_term.proofs.terminal.Terminal.take_all.Goals as goal
 
 pub loop-rest-init : goal.loop-rest-init
 unfolding play sent
@@ -20,6 +20,7 @@ loop-rest-init c = record {
   };
   front = keeps_itself c.args.sink.now;
   size = record { columns = refl; lines = refl };
+  told = λ before was. was;
 }
 
 pub loop-rest-preserved : goal.loop-rest-preserved
@@ -42,6 +43,7 @@ loop-rest-preserved c =
       };
       front = keeps_trans c.args.sink.now c.loop-rest.sink c.take_some.new.sink c.loop-rest.invariant.front c.take_some.ensures.front;
       size = both _ _ _ c.loop-rest.invariant.size c.take_some.ensures.size;
+      told = λ before was. c.take_some.ensures.told before (c.loop-rest.invariant.told before was);
     }
 
 pub returns-in_err-taken-clause-room : goal.returns-in_err-taken-clause-room
