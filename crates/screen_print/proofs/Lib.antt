@@ -19,3 +19,4 @@ mod SkimRows
 mod SkimEffects
 mod SkimLemmas
 mod MuteLemmas
+mod FreeLemmas

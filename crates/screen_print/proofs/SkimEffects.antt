@@ -434,8 +434,8 @@ module _ (key : List ℕ) (good : IsKey key) where
   plain_lacks x byte safe calm lacks plain = (lasts_on x byte safe plain (record { calm = calm; lacks = lacks })).lacks
 
   -- bytes that are plain, however many of them were played
-  pub running_lacks : ((x : Term) (bytes : List ℕ) → IsSafe x.console → IsSafe (play x bytes).console) → (x : Term) (bytes : List ℕ) (n count : ℕ)
-      → IsSafe x.console → All (IsPlain key) (take n bytes) → IsCalm x → ScreenLacks key x.console.picture → count ≤ n → ScreenLacks key (play x (take count bytes)).console.picture
-  running_lacks safes x bytes n count safe running calm lacks high =
-      subst (λ (b : List ℕ). ScreenLacks key (play x b).console.picture) (take-take count n bytes high)
-      (plain_lasts safes x (take n bytes) count safe (recursion_from_All (IsPlain key) (take n bytes) running) (record { calm = calm; lacks = lacks })).lacks
+  pub running_lasts : ((x : Term) (bytes : List ℕ) → IsSafe x.console → IsSafe (play x bytes).console) → (x : Term) (bytes : List ℕ) (n count : ℕ)
+      → IsSafe x.console → All (IsPlain key) (take n bytes) → IsCalm x → ScreenLacks key x.console.picture → count ≤ n → Lasts (play x (take count bytes))
+  running_lasts safes x bytes n count safe running calm lacks high =
+      subst (λ (b : List ℕ). Lasts (play x b)) (take-take count n bytes high)
+      (plain_lasts safes x (take n bytes) count safe (recursion_from_All (IsPlain key) (take n bytes) running) (record { calm = calm; lacks = lacks }))

@@ -1,9 +1,9 @@
 -- Rows and screens that lack a key.
 use Rattle.std.proofs.Common.{◌≡◌, ◌≢◌, ◌⊎◌, ℕ, zero, suc, ◌+◌, ◌-◌, ◌<◌, ◌≤◌, Bool, true, false, ◌&&◌, ◌==◌, List, [], ◌∷◌, ◌++◌, length, get_or, take, drop, map, nat_eq, nat_le, replicate, refl, ap, sym, ◌∙◌, subst, arith, inl, inr, if◌then◌else◌}
 use Rattle.std.specs.Cmp.Lexicographic.{pointwise}
-use Rattle.std.specs.List.{All, AllByRecursion, AllZip, list_all, range_with_len}
+use Rattle.std.specs.List.{All, AllByRecursion, AllZip, list_all, range_with_len, starts_with}
 use Rattle.std.proofs.lemmas.Bool.{and_parts, and_from, cases_Bool, cases_eq, cases_lt, both_ways, eqb-true, eq-eqb, ne_eqb, or_left, or_right}
-use Rattle.std.proofs.lemmas.List.{get_or_past, length-replicate}
+use Rattle.std.proofs.lemmas.List.{get_or_past, length-drop, length-replicate}
 use Rattle.std.proofs.lemmas.List.FromFn.{length-map-range_with_len, get_or-map-range_with_len}
 use Rattle.std.proofs.lemmas.List.Elements.{All-map, All-replicate, All-take, recursion_from_All}
 use Rattle.vt_screen.specs.declared.cell.Cell.{Cell}
@@ -22,8 +22,7 @@ use Rattle.vt_screen.specs.Table.{nth, table}
 use Rattle.screen_rows.specs.Glyphs.{character}
 use Rattle.screen_rows.specs.RowText.{row_text}
 use Rattle.screen_print.specs.FindLines.{begins}
-use Rattle.screen_print.specs.Quiet.{BeginsUpTo}
-use Rattle.screen_print.specs.Skim.{IsKey, RowLacks, ScreenLacks, is_in}
+use Rattle.screen_print.specs.Skim.{IsKey, Misses, RowLacks, ScreenLacks, is_in}
 
 -- what holds of both holds of the one that is taken
 pub pick : {X : Type 0} (P : X → Type 0) (b : Bool) (x y : X) → P x → P y → P (if b then x else y)
@@ -105,16 +104,29 @@ zip_begins key (c ∷ w) (x ∷ xs) (y ∷ ys) m z h =
       | inr f ↦ absurd (both_ways (is_in key x) f (ap (is_in key) (sym is) ∙ m.0))
     ]
 
--- a key begins nowhere in a row that is read as another, or has no character of it
-misses_too : (key new old : List ℕ) → AllZip (Read key) new old → BeginsUpTo key 0 old → BeginsUpTo key 0 new
-misses_too key new old z none rest column low high =
+dropped_all : (P : ℕ → Type 0) (n : ℕ) (w : List ℕ) → AllByRecursion P w → AllByRecursion P (drop n w)
+dropped_all P zero w h = h
+dropped_all P (suc n) [] h = h
+dropped_all P (suc n) (c ∷ w) h = dropped_all P n w h.1
+
+-- a key doesn't stand in a row that is read as another, or has no character of it
+misses_too : (key new old : List ℕ) → AllZip (Read key) new old → Misses key old → Misses key new
+misses_too key new old z none =
     let long : length new ≡ length old = zip_length (Read key) new old z in
-    let all = zip_drop (Read key) (column - 1) (new ++ rest) (old ++ rest) (zip_append (Read key) new old rest rest z (zip_itself key rest)) in
-    elim (cases_Bool (begins key (new ++ rest) column)) [
-      | inl t ↦ absurd (both_ways (begins key (old ++ rest) column) (none rest column low (omega arith))
-          (zip_begins key key (drop (column - 1) (new ++ rest)) (drop (column - 1) (old ++ rest)) (members key) all t))
-      | inr f ↦ f
-    ]
+    record {
+      inside = λ rest column low high.
+          let all = zip_drop (Read key) (column - 1) (new ++ rest) (old ++ rest) (zip_append (Read key) new old rest rest z (zip_itself key rest)) in
+          elim (cases_Bool (begins key (new ++ rest) column)) [
+            | inl t ↦ absurd (both_ways (begins key (old ++ rest) column) (none.inside rest column low (omega (arith, high, long)))
+                (zip_begins key key (drop (column - 1) (new ++ rest)) (drop (column - 1) (old ++ rest)) (members key) all t))
+            | inr f ↦ f
+          ];
+      start = λ n low high. elim (cases_Bool (starts_with nat_eq new (drop n key))) [
+        | inl t ↦ absurd (both_ways (starts_with nat_eq old (drop n key)) (none.start n low high)
+            (zip_begins key (drop n key) new old (dropped_all (λ c. is_in key c ≡ true) n key (members key)) z t))
+        | inr f ↦ f
+      ];
+    }
 
 -- a row without a character of a key
 strange : (key w : List ℕ) (c : ℕ) (row rest : List ℕ) (n : ℕ) → is_in key c ≡ true → AllByRecursion (λ x. is_in key x ≡ false) row → n < length row
@@ -124,30 +136,42 @@ strange key w c (x ∷ row) rest zero m none lt =
     rw (ne_eqb c x (λ e. both_ways (is_in key x) none.0 (ap (is_in key) (sym e) ∙ m))) refl
 strange key w c (x ∷ row) rest (suc n) m none lt = strange key w c row rest n m none.1 (omega arith)
 
-strange_misses : (key row : List ℕ) → 1 ≤ length key → AllByRecursion (λ x. is_in key x ≡ false) row → BeginsUpTo key 0 row
-strange_misses [] row some none rest column low high = absurd (omega arith)
-strange_misses (c ∷ w) row some none rest column low high =
-    strange (c ∷ w) w c row rest (column - 1) (members (c ∷ w)).0 none (omega arith)
+strange_start : (key w row : List ℕ) → 1 ≤ length w → AllByRecursion (λ c. is_in key c ≡ true) w → AllByRecursion (λ x. is_in key x ≡ false) row → starts_with nat_eq row w ≡ false
+strange_start key [] row some m none = absurd (omega arith)
+strange_start key (c ∷ w) [] some m none = refl
+strange_start key (c ∷ w) (x ∷ row) some m none = rw (ne_eqb c x (λ e. both_ways (is_in key x) none.0 (ap (is_in key) (sym e) ∙ m.0))) refl
+
+strange_inside : (key w row : List ℕ) → 1 ≤ length w → AllByRecursion (λ c. is_in key c ≡ true) w → AllByRecursion (λ x. is_in key x ≡ false) row
+    → (rest : List ℕ) (column : ℕ) → column - 1 < length row → begins w (row ++ rest) column ≡ false
+strange_inside key [] row some m none rest column lt = absurd (omega arith)
+strange_inside key (c ∷ w) row some m none rest column lt = strange key w c row rest (column - 1) m.0 none lt
+
+strange_misses : (key row : List ℕ) → 1 ≤ length key → AllByRecursion (λ x. is_in key x ≡ false) row → Misses key row
+strange_misses key row some none = record {
+  inside = λ rest column low high. strange_inside key key row some (members key) none rest column (omega (arith, some, high));
+  start = λ n low high.
+      strange_start key (drop n key) row (omega (arith, high, length-drop n key)) (dropped_all (λ c. is_in key c ≡ true) n key (members key)) none;
+}
 
 -- ---- lists told by number
 
-length-table : {X : Type 0} (n : ℕ) (f : ℕ → X) → length (table n f) ≡ n
+pub length-table : {X : Type 0} (n : ℕ) (f : ℕ → X) → length (table n f) ≡ n
 unfolding table
 length-table n f = length-map-range_with_len f 1 n
 
-get_or-table : {X : Type 0} (n : ℕ) (f : ℕ → X) (i : ℕ) (d : X) → i < n → get_or (table n f) i d ≡ f (i + 1)
+pub get_or-table : {X : Type 0} (n : ℕ) (f : ℕ → X) (i : ℕ) (d : X) → i < n → get_or (table n f) i d ≡ f (i + 1)
 unfolding table
 get_or-table n f i d below = get_or-map-range_with_len f 1 n i (i + 1) d below (omega arith)
 
-nth_is : {X : Type 0} (d : X) (xs : List X) (k : ℕ) → nth d xs k ≡ get_or xs (k - 1) d
+pub nth_is : {X : Type 0} (d : X) (xs : List X) (k : ℕ) → nth d xs k ≡ get_or xs (k - 1) d
 unfolding nth
 nth_is d xs k = refl
 
-nth_next : {X : Type 0} (d : X) (xs : List X) (k : ℕ) → nth d xs (k + 1) ≡ get_or xs k d
+pub nth_next : {X : Type 0} (d : X) (xs : List X) (k : ℕ) → nth d xs (k + 1) ≡ get_or xs k d
 nth_next d xs k = nth_is d xs (k + 1) ∙ ap (λ (i : ℕ). get_or xs i d) (omega arith)
 
 -- the row of a line among rows that are told by it
-row_told : (f : ℕ → Row) (line : ℕ) → line - 1 < 24 → row_at (rows_by f) line ≡ f (line - 1 + 1)
+pub row_told : (f : ℕ → Row) (line : ℕ) → line - 1 < 24 → row_at (rows_by f) line ≡ f (line - 1 + 1)
 row_told f line lt = nth_is blank_row (rows_by f) line ∙ get_or-table 24 f (line - 1) blank_row lt
 
 row_past : (f : ℕ → Row) (line : ℕ) → 24 ≤ line - 1 → row_at (rows_by f) line ≡ blank_row
@@ -250,7 +274,7 @@ module _ (key : List ℕ) (good : IsKey key) where
       (record { row = down_lacks p.wide 1 p.top p.bottom p.rows lacks.row })
       (pick (ScreenLacks key) (p.line == 1) (on_line 1 p) (on_line (p.line - 1) p) (record { row = lacks.row }) (record { row = lacks.row }))
 
-  row_changed : (wide : Bool) (at : ℕ) (row : Row) (rows : List Row) → RowLacks key wide row → RowsLack wide rows → RowsLack wide (with_row at row rows)
+  pub row_changed : (wide : Bool) (at : ℕ) (row : Row) (rows : List Row) → RowLacks key wide row → RowsLack wide rows → RowsLack wide (with_row at row rows)
   row_changed wide at row rows new lacks =
       rows_told (RowLacks key wide) (λ line. if line == at then row else row_at rows line) (row_blank wide)
       (λ line. pick (RowLacks key wide) (line == at) row (row_at rows line) new (lacks line))
@@ -347,7 +371,7 @@ module _ (key : List ℕ) (good : IsKey key) where
   abbrev pub put_rows : Cell → Picture → List Row
   put_rows cell p = with_row p.line (with_cell p.column cell (row_at p.rows p.line)) p.rows
 
-  put_lacks : (cell : Cell) (autowrap : Bool) (p : Picture) → RowsLack p.wide (put_rows cell p) → ScreenLacks key (put cell autowrap p)
+  pub put_lacks : (cell : Cell) (autowrap : Bool) (p : Picture) → RowsLack p.wide (put_rows cell p) → ScreenLacks key (put cell autowrap p)
   put_lacks cell autowrap p lacks =
       let rows = put_rows cell p in
       pick (ScreenLacks key) (p.column == right_margin p p.line) (record p { rows = rows; wrap = autowrap }) (record p { rows = rows; column = p.column + 1 })

@@ -16,6 +16,7 @@ use Rattle.screen_print.specs.declared.start.Start.{Start}
 use Rattle.screen_print.specs.declared.start.Wanted.{Wanted}
 use Rattle.screen_rows.specs.RowText.{row_text, characters}
 use Rattle.screen_rows.specs.Glyphs.{character, special_graphics}
+use Rattle.screen_print.specs.FindLines.{begins}
 use Rattle.screen_print.specs.Quiet.{BeginsUpTo}
 use Rattle.screen_print.specs.Start.{IsStart, Wants, fits, starts_at, starts_at_end}
 use Rattle.screen_print.proofs.QuietLemmas.{differs_at}
@@ -135,3 +136,17 @@ begins_nowhere text start wide row cells is are same none ends =
       | inl more ↦ starts_not text start cells row.cells (margin_of wide row.size) at rest is are more (none at (omega (arith, long)))
       | inr near ↦ ends_not text start cells at rest is near within ends
     ])
+
+-- a row in which no three cells show the first characters of a text: it begins nowhere with half of it, which is three or more
+pub halves_nowhere : (text : List ℕ) (start : Start) (wide : Bool) (row : Row) (cells : List Cell) (half : ℕ) → IsStart text start → 3 ≤ half
+    → cells ≡ take (margin_of wide row.size) row.cells → characters cells ≡ row_text wide row
+    → ((k : ℕ) → k + 2 < length (row_text wide row) → starts_at start row.cells k ≡ false)
+    → (rest : List ℕ) (column : ℕ) → column - 1 + half ≤ length (row_text wide row) → begins text (row_text wide row ++ rest) column ≡ false
+halves_nowhere text start wide row cells half is three are same none rest column high =
+    let at = column - 1 in
+    let read : Cell → ℕ = λ c. character c.glyph in
+    let long : length cells ≡ length (row_text wide row) = sym (length-map cells read) ∙ ap length same in
+    let parts = drop-append-le at (characters cells) rest (omega (arith, length-map cells read)) ∙ ap (λ l. l ++ rest) (drop-map read at cells) in
+    subst (λ l. begins text (l ++ rest) column ≡ false) same
+    (ap (λ l. starts_with nat_eq l text) parts
+    ∙ starts_not text start cells row.cells (margin_of wide row.size) at rest is are (omega (arith, high, long)) (none at (omega arith)))

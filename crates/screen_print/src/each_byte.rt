@@ -29,7 +29,7 @@ ghost use Rattle.tape_core.specs.Due.{due_count};
 ghost use Rattle.tape_seek.specs.Moments.{up_to};
 ghost use Rattle.tape_seek.specs.State.{KeepsHistory, Leaves};
 ghost use Rattle.chunk_walk.specs.Stops.{OnlySeeks, first_asked};
-ghost use Rattle.vt_term.specs.Seen.{Shows};
+ghost use Rattle.vt_term.specs.Seen.{Shows, Told};
 ghost use Rattle.vt_term.specs.Term.{Term, play};
 ghost use Rattle.vt_term.specs.declared.profile.Profile.{Profile};
 ghost use Rattle.screen_print.specs.EachByte.{
@@ -47,7 +47,7 @@ ghost use Rattle.screen_print.specs.EachByte.{
 };
 ghost use Rattle.screen_print.specs.FindLines.{found_line, left_of, place_in, standing};
 ghost use Rattle.screen_print.specs.Places.{IsPlace};
-ghost use Rattle.screen_print.specs.Skim.{AreKeysOf, IsKeyed, IsPart, MayLack, NowhereIn, ScreenLacks};
+ghost use Rattle.screen_print.specs.Skim.{AreKeysOf, IsKeyed, IsLacked, IsPart, NowhereIn, ScreenLacks};
 ghost use Rattle.screen_print.specs.Start.{IsStart};
 ghost use Rattle.screen_print.specs.Stills.{still_of};
 ghost use Rattle.screen_rows.specs.SameRows.{changed_lines};
@@ -57,7 +57,7 @@ use crate::find_lines::{Chunk, Standing, count_left, is_less, put_found, put_les
 use crate::key::{Key, Keys};
 use crate::laws::nowhere_means_nowhere;
 use crate::quiet::stays;
-use crate::skim::skims;
+use crate::skim::skim_some;
 use crate::standing::{Place, standing};
 use crate::start::Start;
 use crate::still::Still;
@@ -74,9 +74,6 @@ use vt_term::{Reports, Terminal};
 
 /// How many bytes the list has over which replies go: no reply to a byte is longer.
 const SCRATCH: usize = 20;
-
-/// How many bytes of a chunk are passed over by one key, before others are tried.
-const PART: usize = 128;
 
 /// A list over which replies go.
 pub fn scratch(alloc: Global) -> Result<Reports, OutOfMemory>
@@ -257,15 +254,42 @@ fn put_between<W: Write>(
         (flat_map (chunk_lines_at text.now profile recording.now)
         (range_with_len start (end - start))) }
 {
-    gives_join::<W>();
-    gives_end::<W>();
     let begins = Start::of(text);
     let keys = Keys::of(text);
+    put_each(
+        recording, start, end, text, &begins, &keys, terminal, scratch, writer,
+    );
+}
+
+/// The same by how the text begins, and by its keys.
+fn put_each<W: Write>(
+    recording: &Recording,
+    start: usize,
+    end: usize,
+    text: &[char],
+    begins: &Start,
+    keys: &Keys<'_>,
+    terminal: &mut Terminal,
+    scratch: &mut Reports,
+    writer: &mut Watched<W>,
+)
+    requires rising { start ≤ end }
+    requires within { end ≤ length recording.now.chunks }
+    requires begins { IsStart text.now begins.now }
+    requires keys { AreKeysOf text.now keys.now }
+    requires scratch { SCRATCH ≤ length scratch.old.bytes }
+    ensures { (profile : Profile) → Shows terminal.old (up_to profile recording.now.chunks start)
+        → Gave W.contents writer.old writer.new
+        (flat_map (chunk_lines_at text.now profile recording.now)
+        (range_with_len start (end - start))) }
+{
+    gives_join::<W>();
+    gives_end::<W>();
     let mut kept = Terminal::reset();
-    let mut known = false;
+    let mut known = None;
     for index in start..end {
         known = put_chunk_at(
-            recording, index, text, &begins, &keys, known, terminal, &mut kept, scratch, writer,
+            recording, index, text, begins, keys, known, terminal, &mut kept, scratch, writer,
         );
         if writer.failed() {
             return;
@@ -273,23 +297,23 @@ fn put_between<W: Write>(
     }
 }
 
-/// Plays a chunk of a recording, and writes its lines. Given and answered is whether the screen is known to lack the
-/// first key.
-fn put_chunk_at<W: Write>(
+/// Plays a chunk of a recording, and writes its lines. Given and answered is a key that the screen is known to
+/// lack, if there is one.
+fn put_chunk_at<'k, 'a, W: Write>(
     recording: &Recording,
     index: usize,
     text: &[char],
     start: &Start,
-    keys: &Keys<'_>,
-    known: bool,
+    keys: &'k Keys<'a>,
+    known: Option<&'k Key<'a>>,
     terminal: &mut Terminal,
     kept: &mut Terminal,
     scratch: &mut Reports,
     writer: &mut Watched<W>,
-) -> bool
+) -> Option<&'k Key<'a>>
     requires start { IsStart text.now start.now }
     requires keys { AreKeysOf text.now keys.now }
-    requires known { known ≡ true → MayLack keys.now.pair terminal.old.console.picture }
+    requires known { IfSome known (λ key. IsLacked text.now key.now terminal.old.console.picture) }
     requires within { index < length recording.now.chunks }
     requires scratch { SCRATCH ≤ length scratch.old.bytes }
     ensures gave { (profile : Profile) → Shows terminal.old (up_to profile recording.now.chunks index)
@@ -297,7 +321,7 @@ fn put_chunk_at<W: Write>(
         (chunk_lines_at text.now profile recording.now index) }
     ensures shows { (profile : Profile) → Shows terminal.old (up_to profile recording.now.chunks index)
         → Shows terminal.new (up_to profile recording.now.chunks (index + 1)) }
-    ensures known { result ≡ true → MayLack keys.now.pair terminal.new.console.picture }
+    ensures known { IfSome result (λ key. IsLacked text.now key.now terminal.new.console.picture) }
     ensures scratch { SCRATCH ≤ length scratch.new.bytes }
 {
     first_grows_by_a_chunk();
@@ -313,142 +337,111 @@ fn put_chunk_at<W: Write>(
     )
 }
 
-/// The same of a chunk's bytes: where a key tells that the text stands nowhere, there are no lines. Else the terminal
+/// The same of a chunk's bytes: where keys tell that the text stands nowhere, there are no lines. Else the terminal
 /// takes them once more, from where it stood.
-fn put_or_pass<W: Write>(
+fn put_or_pass<'k, 'a, W: Write>(
     text: &[char],
     start: &Start,
     chunk: &Chunk,
     bytes: &[u8],
-    keys: &Keys<'_>,
-    known: bool,
+    keys: &'k Keys<'a>,
+    known: Option<&'k Key<'a>>,
     terminal: &mut Terminal,
     kept: &mut Terminal,
     scratch: &mut Reports,
     writer: &mut Watched<W>,
-) -> bool
+) -> Option<&'k Key<'a>>
     requires len { chunk.now.len ≡ length text.now }
     requires start { IsStart text.now start.now }
     requires keys { AreKeysOf text.now keys.now }
-    requires known { known ≡ true → MayLack keys.now.pair terminal.old.console.picture }
+    requires known { IfSome known (λ key. IsLacked text.now key.now terminal.old.console.picture) }
     requires scratch { SCRATCH ≤ length scratch.old.bytes }
     ensures gave { (x : Term) → Shows terminal.old x → Gave W.contents writer.old writer.new
         (chunk_lines text.now chunk.now.index chunk.now.due x bytes.now) }
     ensures shows { (x : Term) → Shows terminal.old x
         → Shows terminal.new (play x bytes.now) }
-    ensures known { result ≡ true → MayLack keys.now.pair terminal.new.console.picture }
+    ensures known { IfSome result (λ key. IsLacked text.now key.now terminal.new.console.picture) }
     ensures scratch { SCRATCH ≤ length scratch.new.bytes }
 {
     gives_join::<W>();
     kept.copy_from(terminal);
-    if passes(text, &keys.pair, known, bytes, terminal, scratch) {
-        return true;
-    }
-    terminal.copy_from(kept);
-    if passes_in_parts(text, keys, bytes, terminal, scratch) {
-        return false;
+    if let Some(key) = passes(text, keys, known, bytes, terminal, scratch) {
+        return Some(key);
     }
     terminal.copy_from(kept);
     put_chunk(text, start, chunk, bytes, terminal, scratch, writer);
-    false
+    None
 }
 
-/// Plays a chunk part by part, and tells whether the keys show that the text stands nowhere: for each part it tries one
-/// after another.
-fn passes_in_parts(
+/// Plays a chunk, and answers a key that the screen lacks then, where keys show that the text stands nowhere before it and
+/// after each of its bytes. Where they don't, the terminal is some terminal.
+fn passes<'k, 'a>(
     text: &[char],
-    keys: &Keys<'_>,
+    keys: &'k Keys<'a>,
+    known: Option<&'k Key<'a>>,
     bytes: &[u8],
     terminal: &mut Terminal,
     scratch: &mut Reports,
-) -> bool
+) -> Option<&'k Key<'a>>
     requires keys { AreKeysOf text.now keys.now }
+    requires known { IfSome known (λ key. IsLacked text.now key.now terminal.old.console.picture) }
     requires scratch { SCRATCH ≤ length scratch.old.bytes }
-    ensures nowhere { result ≡ true → (x : Term) → Shows terminal.old x
-        → NowhereIn text.now x bytes.now }
-    ensures shows { result ≡ true → (x : Term) → Shows terminal.old x
-        → Shows terminal.new (play x bytes.now) }
+    ensures nowhere { IfSome result (λ _. (x : Term) → Shows terminal.old x
+        → NowhereIn text.now x bytes.now) }
+    ensures shows { IfSome result (λ _. (x : Term) → Shows terminal.old x
+        → Shows terminal.new (play x bytes.now)) }
+    ensures known { IfSome result (λ key. IsLacked text.now key.now terminal.new.console.picture) }
     ensures scratch { SCRATCH ≤ length scratch.new.bytes }
 {
     plays_in_parts();
-    let mut kept = Terminal::reset();
+    let mut current = known_or_found(text, keys, known, terminal);
     let mut done = 0;
     while done < bytes.len() {
-        let rest = &bytes[done..];
-        let len = PART.min(bytes.len() - done);
-        if !passes_by_any(text, keys, &rest[..len], terminal, &mut kept, scratch) {
-            return false;
-        }
-        done += len;
+        let Some(key) = current else {
+            return None;
+        };
+        let skimmed = skim_some(key, &bytes[done..], terminal, scratch);
+        current = kept_or_found(text, keys, key, skimmed.sure, terminal);
+        done += skimmed.taken;
     }
-    done > 0
+    current
 }
 
-/// Plays a part of a chunk, and tells whether one of the keys shows that the text stands nowhere.
-fn passes_by_any(
+/// The key that the screen of a terminal is known to lack, or else one that it is seen to lack.
+fn known_or_found<'k, 'a>(
     text: &[char],
-    keys: &Keys<'_>,
-    bytes: &[u8],
-    terminal: &mut Terminal,
-    kept: &mut Terminal,
-    scratch: &mut Reports,
-) -> bool
+    keys: &'k Keys<'a>,
+    known: Option<&'k Key<'a>>,
+    terminal: &Terminal,
+) -> Option<&'k Key<'a>>
     requires keys { AreKeysOf text.now keys.now }
-    requires scratch { SCRATCH ≤ length scratch.old.bytes }
-    ensures nowhere { result ≡ true → (x : Term) → Shows terminal.old x
-        → NowhereIn text.now x bytes.now }
-    ensures shows { result ≡ true → (x : Term) → Shows terminal.old x
-        → Shows terminal.new (play x bytes.now) }
-    ensures scratch { SCRATCH ≤ length scratch.new.bytes }
+    requires known { IfSome known (λ key. IsLacked text.now key.now terminal.now.console.picture) }
+    ensures { IfSome result (λ key. IsLacked text.now key.now terminal.now.console.picture) }
 {
-    kept.copy_from(terminal);
-    if passes(text, &keys.word, false, bytes, terminal, scratch) {
-        return true;
+    match known {
+        Some(_) => known,
+        None => keys.lacked_by(text, terminal),
     }
-    terminal.copy_from(kept);
-    if passes(text, &keys.tail, false, bytes, terminal, scratch) {
-        return true;
-    }
-    terminal.copy_from(kept);
-    passes(text, &keys.pair, false, bytes, terminal, scratch)
 }
 
-/// Plays a chunk, and tells whether a key, if there is one, shows that the text stands nowhere before it and after each
-/// of its bytes. Where it doesn't, the terminal is some terminal.
-fn passes(
+/// A key, where the screen of a terminal surely lacks it, or else one that it is seen to lack.
+fn kept_or_found<'k, 'a>(
     text: &[char],
-    key: &Option<Key<'_>>,
-    known: bool,
-    bytes: &[u8],
-    terminal: &mut Terminal,
-    scratch: &mut Reports,
-) -> bool
-    requires keyed { IfSome key.now (λ key. IsKeyed key) }
-    requires part { IfSome key.now (λ key. IsPart key.chars.now text.now) }
-    requires known { known ≡ true → MayLack key.now terminal.old.console.picture }
-    requires scratch { SCRATCH ≤ length scratch.old.bytes }
-    ensures nowhere { result ≡ true → (x : Term) → Shows terminal.old x
-        → NowhereIn text.now x bytes.now }
-    ensures shows { result ≡ true → (x : Term) → Shows terminal.old x
-        → Shows terminal.new (play x bytes.now) }
-    ensures after { result ≡ true → MayLack key.now terminal.new.console.picture }
-    ensures scratch { SCRATCH ≤ length scratch.new.bytes }
-{
-    let _text = text;
-    match key {
-        None => false,
-        Some(key) => { is_lacked(key, known, terminal) && skims(key, bytes, terminal, scratch) }
-    }
-}
-
-/// Whether the screen of a terminal lacks a key, if that isn't known already.
-fn is_lacked(key: &Key<'_>, known: bool, terminal: &Terminal) -> bool
+    keys: &'k Keys<'a>,
+    key: &'k Key<'a>,
+    sure: bool,
+    terminal: &Terminal,
+) -> Option<&'k Key<'a>>
+    requires keys { AreKeysOf text.now keys.now }
     requires keyed { IsKeyed key.now }
-    requires known { known ≡ true
-        → ScreenLacks key.now.chars.now terminal.now.console.picture }
-    ensures { result ≡ true → ScreenLacks key.now.chars.now terminal.now.console.picture }
+    requires part { IsPart key.now.chars.now text.now }
+    requires sure { sure ≡ true → ScreenLacks key.now.chars.now terminal.now.console.picture }
+    ensures { IfSome result (λ key. IsLacked text.now key.now terminal.now.console.picture) }
 {
-    known || key.lacked_by(terminal)
+    if sure {
+        return Some(key);
+    }
+    keys.lacked_by(text, terminal)
 }
 
 /// What stands on the screen at both ends of a chunk, and where the text stands there.
@@ -527,6 +520,7 @@ fn play_all(terminal: &mut Terminal, bytes: &[u8], scratch: &mut Reports)
 pub(crate) fn step(terminal: &mut Terminal, byte: u8, scratch: &mut Reports)
     requires { SCRATCH ≤ length scratch.old.bytes }
     ensures shows { (x : Term) → Shows terminal.old x → Shows terminal.new (play x (byte ∷ [])) }
+    ensures told { Told terminal.old.console.picture.rows terminal.new }
     ensures scratch { SCRATCH ≤ length scratch.new.bytes }
 {
     right_margins();
@@ -581,6 +575,7 @@ fn put_byte<W: Write>(
     terminal: &Terminal,
     writer: &mut Watched<W>,
 )
+    requires told { Told still.old.rows terminal.now }
     requires start { IsStart text.now start.now }
     requires first { All (IsPlace ends.now.first.still.now) ends.now.first.places.now }
     requires last { All (IsPlace ends.now.last.still.now) ends.now.last.places.now }

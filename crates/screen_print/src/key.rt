@@ -1,38 +1,53 @@
 //! Some characters side by side of a text: while none of a screen's rows has them, the text stands nowhere.
 
-ghost use Rattle.std.specs.Prelude.{◌≡◌, ◌+◌, ◌<◌, ◌≤◌, IfSome, ℕ, false, length, slice_index_or, true};
+ghost use Rattle.std.specs.Prelude.{◌≡◌, ◌+◌, ◌++◌, ◌-◌, ◌<◌, ◌≤◌, IfSome, List, ℕ, drop, false, length, nat_eq, slice_index_or, true};
+ghost use Rattle.std.specs.List.{starts_with};
+ghost use Rattle.screen_rows.specs.RowText.{characters, row_text};
+ghost use Rattle.screen_print.specs.FindLines.{begins};
 ghost use Rattle.vt_screen.specs.Cells.{row_at};
-ghost use Rattle.screen_print.specs.Skim.{AreKeysOf, IsKey, IsKeyed, IsMute, IsPart, IsPlain, IsRunning, RowLacks, ScreenLacks, is_asking, is_text};
+ghost use Rattle.screen_print.specs.Skim.{AreKeysOf, IsKey, IsEnding, IsKeyOf, IsKeyed, IsLacked, IsMute, IsPart, IsPlain, IsRunning, RowLacks, ScreenLacks, half, is_asking, is_text};
 
-use crate::quiet::{may_begin, may_begin_behind};
+use crate::quiet::{agrees, may_begin, may_begin_between, may_start_in};
 use crate::start::Start;
 use screen_rows::{cells_to_margin, character};
-use vt_screen::Row;
 use vt_screen::laws::screens_are_sound;
 use vt_screen::limits::{LINES, WIDE_COLUMNS};
+use vt_screen::{Cell, Row};
 use vt_term::Terminal;
+
+/// How many characters a key has at most: those of the shortest row.
+const MOST: usize = 40;
 
 /// How many bytes there are.
 const BYTES: usize = 256;
 
-/// Some characters side by side of a text, how they begin, which bytes may show one of them or begin ESC #, which do or
+/// The last two characters of a key, which ASCII has behind the space.
+#[derive(Clone, Copy)]
+pub(crate) struct Ending {
+    pub(crate) near: u8,
+    pub(crate) last: u8,
+}
+
+/// Some characters side by side of a text, how they begin and end, which bytes may show one of them or begin ESC #, which do or
 /// are no text, and which do or end a sequence to which there is a reply.
 #[derive(Drop)]
 pub(crate) struct Key<'a> {
     chars: &'a [char],
     start: Start,
+    pub(crate) ending: Option<Ending>,
     marks: [bool; BYTES],
     stops: [bool; BYTES],
     pauses: [bool; BYTES],
 }
 
-/// The keys of a text, as far as it has them: two neighbours, the longest word, and the same without its first character,
-/// which may stand at a right margin where the word may not.
+/// The keys of a text, as far as it has them: the longest word, the same without its last character, the last of the longest
+/// words, and two neighbours.
 #[derive(Drop)]
 pub(crate) struct Keys<'a> {
-    pub(crate) pair: Option<Key<'a>>,
-    pub(crate) word: Option<Key<'a>>,
-    pub(crate) tail: Option<Key<'a>>,
+    word: Option<Key<'a>>,
+    front: Option<Key<'a>>,
+    other: Option<Key<'a>>,
+    pair: Option<Key<'a>>,
 }
 
 impl<'a> Keys<'a> {
@@ -41,10 +56,44 @@ impl<'a> Keys<'a> {
         ensures { AreKeysOf text.now result }
     {
         Keys {
+            word: Key::of(text, word_of(text, false, 0)),
+            front: Key::of(text, word_of(text, false, 1)),
+            other: Key::of(text, word_of(text, true, 0)),
             pair: Key::of(text, pair_of(text)),
-            word: Key::of(text, word_of(text, 0)),
-            tail: Key::of(text, word_of(text, 1)),
         }
+    }
+
+    /// A key that the screen of a terminal lacks.
+    pub(crate) fn lacked_by(&self, text: &[char], terminal: &Terminal) -> Option<&Key<'a>>
+        requires { AreKeysOf text.now self.now }
+        ensures { IfSome result (λ key. IsLacked text.now key.now terminal.now.console.picture) }
+    {
+        if let Some(key) = lacked(text, &self.word, terminal) {
+            return Some(key);
+        }
+        if let Some(key) = lacked(text, &self.front, terminal) {
+            return Some(key);
+        }
+        if let Some(key) = lacked(text, &self.other, terminal) {
+            return Some(key);
+        }
+        lacked(text, &self.pair, terminal)
+    }
+}
+
+/// A key, if there is one and the screen of a terminal lacks it.
+fn lacked<'k, 'a>(
+    text: &[char],
+    key: &'k Option<Key<'a>>,
+    terminal: &Terminal,
+) -> Option<&'k Key<'a>>
+    requires { IsKeyOf text.now key.now }
+    ensures { IfSome result (λ key. IsLacked text.now key.now terminal.now.console.picture) }
+{
+    let _text = text;
+    match key {
+        Some(key) if key.lacked_by(terminal) => Some(key),
+        _ => None,
     }
 }
 
@@ -59,12 +108,14 @@ impl<'a> Key<'a> {
         if !is_key(chars) {
             return None;
         }
+        let marks = marks_of(chars);
         Some(Key {
             chars,
             start: Start::of(chars),
-            marks: marks_of(chars),
-            stops: stops_of(chars),
-            pauses: pauses_of(chars),
+            ending: ending_of(chars),
+            stops: stops_of(chars, &marks),
+            pauses: pauses_of(chars, &marks),
+            marks,
         })
     }
 
@@ -118,17 +169,54 @@ impl<'a> Key<'a> {
         self.lacked_in(screen.is_wide(), screen.row(line))
     }
 
+    /// Whether half of it may stand in a row: its first three characters, or, where that is more than half, fewer at the end.
+    fn may_begin_in(&self, wide: bool, row: &Row) -> bool
+        requires keyed { IsKeyed self.now }
+        requires whole { length row.now.cells ≡ WIDE_COLUMNS }
+        ensures { result ≡ false → (rest : List ℕ) (column : ℕ) → 0 < column
+            → column - 1 + half self.now.chars.now ≤ length (row_text wide row.now)
+            → begins self.now.chars.now (row_text wide row.now ++ rest) column ≡ false }
+    {
+        let _cells = cells_to_margin(wide, row);
+        if self.chars.len() <= SHORT {
+            return may_begin(&self.start, wide, row);
+        }
+        may_start_in(&self.start, wide, row)
+    }
+
     /// Whether a row hasn't it.
     fn lacked_in(&self, wide: bool, row: &Row) -> bool
         requires keyed { IsKeyed self.now }
         requires whole { length row.now.cells ≡ WIDE_COLUMNS }
         ensures { result ≡ true → RowLacks self.now.chars.now wide row.now }
     {
-        if may_begin(&self.start, wide, row) {
-            return !may_begin_behind(self.chars, cells_to_margin(wide, row), 0);
+        let cells = cells_to_margin(wide, row);
+        if begins_with_rest(self.chars, cells) {
+            return false;
+        }
+        if self.may_begin_in(wide, row) {
+            let end = cells.len() + 1 - (self.chars.len() + 1) / 2;
+            return !may_begin_between(self.chars, cells, 0, end);
         }
         true
     }
+}
+
+/// In keys that are longer three characters are half or less.
+const SHORT: usize = 4;
+
+/// Whether a row begins with what is behind less than half of a key.
+fn begins_with_rest(chars: &[char], cells: &[Cell]) -> bool
+    requires { length chars.now ≤ MOST }
+    ensures { result ≡ false → (n : ℕ) → 1 ≤ n → n < half chars.now
+        → starts_with nat_eq (characters cells.now) (drop n chars.now) ≡ false }
+{
+    for at in 1..(chars.len() + 1) / 2 {
+        if agrees(&chars[at..], cells) {
+            return true;
+        }
+    }
+    false
 }
 
 /// The two neighbours in a text that are the rarest in texts and in programs, as it seems, without a space among them.
@@ -153,9 +241,9 @@ fn pair_of(text: &[char]) -> &[char]
     &text[best..best + 2]
 }
 
-/// The longest part without a space, without so many of its first characters.
-fn word_of(text: &[char], skipped: usize) -> &[char]
-    requires { skipped ≤ 1 }
+/// The longest part without a space, the first or the last one, without so many of its last characters, and not more than a
+/// key has.
+fn word_of(text: &[char], last: bool, cut: usize) -> &[char]
     ensures { IsPart result.now text.now }
 {
     let mut from = 0;
@@ -164,15 +252,18 @@ fn word_of(text: &[char], skipped: usize) -> &[char]
     for at in 0..text.len() {
         if text[at] == ' ' {
             begun = at + 1;
-        } else if at - begun >= end - from {
+        } else if is_longer(at + 1 - begun, end - from, last) {
             from = begun;
             end = at + 1;
         }
     }
-    if from < end {
-        from += skipped;
-    }
-    &text[from..end]
+    end -= cut.min(end - from);
+    &text[from..end.min(from + MOST)]
+}
+
+/// Whether a length is longer than another, or no shorter.
+fn is_longer(len: usize, other: usize, last: bool) -> bool {
+    len > other || last && len == other
 }
 
 /// How common a character and the one behind it are together.
@@ -199,7 +290,28 @@ fn weight(character: char) -> u32
 fn is_key(chars: &[char]) -> bool
     ensures { result ≡ true → IsKey chars.now }
 {
-    !chars.is_empty() && !chars.contains(&' ') && !chars.contains(&'\u{2592}')
+    if chars.is_empty() || chars.len() > MOST {
+        return false;
+    }
+    !chars.contains(&' ') && !chars.contains(&'\u{2592}')
+}
+
+/// The last two characters, where ASCII has both behind the space.
+fn ending_of(chars: &[char]) -> Option<Ending>
+    ensures { IfSome result (IsEnding chars.now) }
+{
+    if chars.len() < 2 {
+        return None;
+    }
+    let near = chars[chars.len() - 2];
+    let last = chars[chars.len() - 1];
+    if near <= ' ' || near > '~' || last <= ' ' || last > '~' {
+        return None;
+    }
+    Some(Ending {
+        near: near as u8,
+        last: last as u8,
+    })
 }
 
 /// Which bytes aren't plain.
@@ -215,41 +327,49 @@ fn marks_of(chars: &[char]) -> [bool; BYTES]
 }
 
 /// Which aren't plain text.
-fn stops_of(chars: &[char]) -> [bool; BYTES]
+fn stops_of(chars: &[char], marks: &[bool; BYTES]) -> [bool; BYTES]
+    requires { (byte : ℕ) → byte < BYTES → slice_index_or marks.now byte false ≡ false
+        → IsPlain chars.now byte }
     ensures { (byte : ℕ) → byte < BYTES → slice_index_or result byte false ≡ false
         → IsRunning chars.now byte }
 {
     let mut stops = [true; BYTES];
     for byte in 0..BYTES {
-        stops[byte] = may_stop(chars, byte as u8);
+        stops[byte] = may_stop(chars, byte as u8, marks[byte]);
     }
     stops
 }
 
 /// Whether a byte isn't plain text.
-fn may_stop(chars: &[char], byte: u8) -> bool
+fn may_stop(chars: &[char], byte: u8, marked: bool) -> bool
+    requires { marked ≡ false → IsPlain chars.now byte }
     ensures { result ≡ false → IsRunning chars.now byte }
 {
-    !is_text(byte) || may_show(chars, byte)
+    let _chars = chars;
+    !is_text(byte) || marked
 }
 
 /// Which aren't mute.
-fn pauses_of(chars: &[char]) -> [bool; BYTES]
+fn pauses_of(chars: &[char], marks: &[bool; BYTES]) -> [bool; BYTES]
+    requires { (byte : ℕ) → byte < BYTES → slice_index_or marks.now byte false ≡ false
+        → IsPlain chars.now byte }
     ensures { (byte : ℕ) → byte < BYTES → slice_index_or result byte false ≡ false
         → IsMute chars.now byte }
 {
     let mut pauses = [true; BYTES];
     for byte in 0..BYTES {
-        pauses[byte] = may_pause(chars, byte as u8);
+        pauses[byte] = may_pause(chars, byte as u8, marks[byte]);
     }
     pauses
 }
 
 /// Whether a byte isn't mute.
-fn may_pause(chars: &[char], byte: u8) -> bool
+fn may_pause(chars: &[char], byte: u8, marked: bool) -> bool
+    requires { marked ≡ false → IsPlain chars.now byte }
     ensures { result ≡ false → IsMute chars.now byte }
 {
-    is_asking(byte) || may_show(chars, byte)
+    let _chars = chars;
+    is_asking(byte) || marked
 }
 
 /// Whether a byte ends a sequence to which there is a reply.
@@ -270,7 +390,7 @@ fn may_show(chars: &[char], byte: u8) -> bool
 }
 
 /// Whether a byte is a graphic character, or a control from BS to SI.
-fn is_text(byte: u8) -> bool
+pub(crate) fn is_text(byte: u8) -> bool
     ensures { result ≡ is_text byte }
 {
     32 <= byte && byte <= 126 || 8 <= byte && byte <= 15

@@ -5,6 +5,7 @@ mod change_lines;
 mod each_byte;
 mod escaped_print;
 mod find_lines;
+mod free;
 mod key;
 pub mod laws;
 mod plain_print;

@@ -18,7 +18,7 @@ ghost use Rattle.std.specs.Prelude.{
   true,
 };
 ghost use Rattle.std.specs.List.{starts_with};
-ghost use Rattle.screen_print.specs.FindLines.{find_text};
+ghost use Rattle.screen_print.specs.FindLines.{begins, find_text};
 ghost use Rattle.screen_rows.specs.RowText.{row_text, characters};
 ghost use Rattle.screen_print.specs.Quiet.{AllPlacesStay, BeginsUpTo, LineStays, LinesStay, RowStays, SamePlacesStay};
 ghost use Rattle.screen_rows.specs.SameRows.{changed_lines};
@@ -244,7 +244,7 @@ pub(crate) fn may_begin(start: &Start, wide: bool, row: &Row) -> bool
 }
 
 /// Whether the first characters of a text may stand in a row.
-fn may_start_in(start: &Start, wide: bool, row: &Row) -> bool
+pub(crate) fn may_start_in(start: &Start, wide: bool, row: &Row) -> bool
     requires { length row.now.cells ≡ WIDE_COLUMNS }
     ensures { result ≡ false → (k : ℕ) → k + 2 < length (row_text wide row.now)
         → starts_at start.now row.now.cells k ≡ false }
@@ -260,7 +260,16 @@ fn may_start_in(start: &Start, wide: bool, row: &Row) -> bool
 pub(crate) fn may_begin_behind(text: &[char], cells: &[Cell], behind: usize) -> bool
     ensures { result ≡ false → BeginsUpTo text.now behind (characters cells.now) }
 {
-    for at in behind..cells.len() {
+    may_begin_between(text, cells, behind, cells.len())
+}
+
+/// The same in the columns behind so many cells, up to another.
+pub(crate) fn may_begin_between(text: &[char], cells: &[Cell], behind: usize, end: usize) -> bool
+    requires { end ≤ length cells.now }
+    ensures { result ≡ false → (rest : List ℕ) (column : ℕ) → behind < column → column ≤ end
+        → begins text.now (characters cells.now ++ rest) column ≡ false }
+{
+    for at in behind..end {
         if agrees(text, &cells[at..]) {
             return true;
         }

@@ -1,100 +1,166 @@
 //! Chunks after each byte of which a screen surely lacks a key. Most bytes leave it so whatever they come to, and after any
 //! other one the row of the cursor is looked at, since no other row shows anything new.
 
-ghost use Rattle.std.specs.Prelude.{◌≡◌, ◌≢◌, ◌+◌, ◌<◌, ◌≤◌, ◌∷◌, [], All, ℕ, false, length, take, true};
+ghost use Rattle.std.specs.Prelude.{◌≡◌, ◌≢◌, ◌+◌, ◌-◌, ◌<◌, ◌≤◌, ◌∷◌, [], All, ℕ, false, length, take, true};
 ghost use Rattle.vt_parser.specs.declared.states.ParserState.TheVariants.{EscapeOne, Ground};
 ghost use Rattle.vt_term.specs.declared.profile.Profile.TheVariants.{Vt100};
 ghost use Rattle.vt_term.specs.Seen.{Shows};
 ghost use Rattle.vt_term.specs.Term.{Term, play, sent};
-ghost use Rattle.screen_print.specs.Skim.{IsCalm, IsKeyed, IsMute, IsPlain, IsRunning, LacksUpTo, ScreenLacks};
+ghost use Rattle.screen_print.specs.Skim.{IsCalm, IsKeyed, IsMute, IsPlain, IsRunning, LacksUpTo, ScreenLacks, is_text};
 
 use crate::each_byte::step;
-use crate::key::Key;
+use crate::free::free_len;
+use crate::key::{Key, is_text};
 use vt_parser::ParserState;
 use vt_parser::laws::ground_is_empty;
-use vt_term::laws::{characters_bring, controls_bring, parts_bring, plays_in_parts, stays_safe};
+use vt_screen::laws::right_margins;
+use vt_term::laws::{
+    characters_bring, controls_bring, glyphs_are_written, parts_bring, plays_in_parts, stays_safe,
+};
 use vt_term::{Profile, Reports, Terminal};
 
-/// Plays a chunk, and tells whether the screen surely lacked a key after each of its bytes. Where it isn't sure the
-/// terminal is some terminal.
-pub(crate) fn skims(
+/// How many bytes of text are taken behind those that go over blank cells: the one at the right margin and the one that
+/// wraps, or the end of a line.
+const BEHIND: usize = 2;
+
+/// How many bytes were played, and whether the screen surely lacks the key then.
+#[derive(Drop)]
+pub(crate) struct Skimmed {
+    pub(crate) taken: usize,
+    pub(crate) sure: bool,
+}
+
+/// Plays some of the bytes, before the last of which the screen lacks the key.
+pub(crate) fn skim_some(
     key: &Key<'_>,
     bytes: &[u8],
     terminal: &mut Terminal,
     scratch: &mut Reports,
-) -> bool
-    requires keyed { IsKeyed key.now }
-    requires lacks { ScreenLacks key.now.chars.now terminal.old.console.picture }
-    requires scratch { 20 ≤ length scratch.old.bytes }
-    ensures lacks { result ≡ true → (x : Term) → Shows terminal.old x
-        → LacksUpTo key.now.chars.now x bytes.now (length bytes.now) }
-    ensures shows { result ≡ true → (x : Term) → Shows terminal.old x
-        → Shows terminal.new (play x bytes.now) }
-    ensures after { result ≡ true
-        → ScreenLacks key.now.chars.now terminal.new.console.picture }
-    ensures scratch { 20 ≤ length scratch.new.bytes }
-{
-    plays_in_parts();
-    let mut done = 0;
-    while done < bytes.len() {
-        let taken = skim_some(key, &bytes[done..], terminal, scratch);
-        if taken == 0 {
-            return false;
-        }
-        done += taken;
-    }
-    true
-}
-
-/// Plays some of the bytes, and tells how many: none where the screen may not lack the key then.
-fn skim_some(key: &Key<'_>, bytes: &[u8], terminal: &mut Terminal, scratch: &mut Reports) -> usize
+) -> Skimmed
     requires some { 0 < length bytes.now }
     requires keyed { IsKeyed key.now }
     requires lacks { ScreenLacks key.now.chars.now terminal.old.console.picture }
     requires scratch { 20 ≤ length scratch.old.bytes }
-    ensures within { result ≤ length bytes.now }
-    ensures lacks { 0 < result → (x : Term) → Shows terminal.old x
-        → LacksUpTo key.now.chars.now x bytes.now result }
-    ensures shows { 0 < result → (x : Term) → Shows terminal.old x
-        → Shows terminal.new (play x (take result bytes.now)) }
-    ensures after { 0 < result → ScreenLacks key.now.chars.now terminal.new.console.picture }
+    ensures some { 0 < result.taken }
+    ensures within { result.taken ≤ length bytes.now }
+    ensures lacks { (x : Term) → Shows terminal.old x
+        → LacksUpTo key.now.chars.now x bytes.now (result.taken - 1) }
+    ensures shows { (x : Term) → Shows terminal.old x
+        → Shows terminal.new (play x (take result.taken bytes.now)) }
+    ensures after { result.sure ≡ true
+        → ScreenLacks key.now.chars.now terminal.new.console.picture }
     ensures scratch { 20 ≤ length scratch.new.bytes }
 {
-    plays_in_parts();
     stays_safe();
+    ground_is_empty();
     let _screen = terminal.screen();
     if is_calm(terminal) {
-        let len = plain_len(key, bytes, terminal);
-        if len > 0 {
-            run(&bytes[..len], terminal, scratch);
-            return len;
+        if is_ground(terminal.parser_state()) {
+            let text = text_len(key, bytes, terminal);
+            if text.len > 0 {
+                return skim_text(key, bytes, &text, terminal, scratch);
+            }
+        }
+        let taken = mute_len(key, bytes);
+        if taken > 0 {
+            run(&bytes[..taken], terminal, scratch);
+            return Skimmed { taken, sure: true };
         }
     }
-    if steps(key, bytes[0], terminal, scratch) {
-        return 1;
-    }
-    0
+    let sure = steps(key, bytes[0], terminal, scratch);
+    Skimmed { taken: 1, sure }
 }
 
-/// How many bytes from the first on are plain and not replied to: text where nothing is pending, else what ends no sequence
-/// that asks.
-fn plain_len(key: &Key<'_>, bytes: &[u8], terminal: &Terminal) -> usize
-    requires { IsKeyed key.now }
-    ensures within { result ≤ length bytes.now }
-    ensures plain { All (IsPlain key.now.chars.now) (take result bytes.now) }
-    ensures silent { (x : Term) → Shows terminal.now x → sent x (take result bytes.now) ≡ [] }
+/// How many bytes of text leave the screen lacking the key, and whether the next one may show one of its characters.
+#[derive(Drop)]
+struct Text {
+    len: usize,
+    stopped: bool,
+}
+
+/// Plays text, and with it the byte at which it stopped, after which the row of the cursor is looked at.
+fn skim_text(
+    key: &Key<'_>,
+    bytes: &[u8],
+    text: &Text,
+    terminal: &mut Terminal,
+    scratch: &mut Reports,
+) -> Skimmed
+    requires keyed { IsKeyed key.now }
+    requires some { 0 < text.now.len }
+    requires within { text.now.len ≤ length bytes.now }
+    requires ground { (x : Term) → Shows terminal.old x → x.pending ≡ [] }
+    requires lacks { (x : Term) → Shows terminal.old x
+        → LacksUpTo key.now.chars.now x bytes.now text.now.len }
+    requires calm { (x : Term) → Shows terminal.old x
+        → IsCalm (play x (take text.now.len bytes.now)) }
+    requires text { All (λ byte. is_text byte ≡ true) (take text.now.len bytes.now) }
+    requires scratch { 20 ≤ length scratch.old.bytes }
+    ensures some { 0 < result.taken }
+    ensures within { result.taken ≤ length bytes.now }
+    ensures lacks { (x : Term) → Shows terminal.old x
+        → LacksUpTo key.now.chars.now x bytes.now (result.taken - 1) }
+    ensures shows { (x : Term) → Shows terminal.old x
+        → Shows terminal.new (play x (take result.taken bytes.now)) }
+    ensures after { result.sure ≡ true
+        → ScreenLacks key.now.chars.now terminal.new.console.picture }
+    ensures scratch { 20 ≤ length scratch.new.bytes }
 {
+    stays_safe();
+    plays_in_parts();
     parts_bring();
     characters_bring();
     controls_bring();
-    ground_is_empty();
-    if is_ground(terminal.parser_state()) {
-        let len = running_len(key, bytes);
-        if len > 0 {
-            return len;
+    let _screen = terminal.screen();
+    let len = text.len;
+    if text.stopped && len < bytes.len() && is_text(bytes[len]) {
+        run(&bytes[..len + 1], terminal, scratch);
+        let sure = key.lacked_at_cursor(terminal);
+        return Skimmed {
+            taken: len + 1,
+            sure,
+        };
+    }
+    run(&bytes[..len], terminal, scratch);
+    Skimmed {
+        taken: len,
+        sure: true,
+    }
+}
+
+/// How many from the first on are text that leaves the screen lacking the key, where nothing is pending: what goes over the
+/// blank rest of the row, and plain text behind it.
+fn text_len(key: &Key<'_>, bytes: &[u8], terminal: &Terminal) -> Text
+    requires keyed { IsKeyed key.now }
+    requires lacks { ScreenLacks key.now.chars.now terminal.now.console.picture }
+    requires calm { (x : Term) → Shows terminal.now x → IsCalm x }
+    requires ground { (x : Term) → Shows terminal.now x → x.pending ≡ [] }
+    ensures within { result.len ≤ length bytes.now }
+    ensures lacks { (x : Term) → Shows terminal.now x
+        → LacksUpTo key.now.chars.now x bytes.now result.len }
+    ensures calm { (x : Term) → Shows terminal.now x → IsCalm (play x (take result.len bytes.now)) }
+    ensures text { All (λ byte. is_text byte ≡ true) (take result.len bytes.now) }
+{
+    stays_safe();
+    plays_in_parts();
+    characters_bring();
+    glyphs_are_written();
+    right_margins();
+    if let Some(ending) = key.ending {
+        let free = free_len(ending, bytes, terminal.screen());
+        if free > 0 {
+            let end = bytes.len().min(free + BEHIND);
+            let more = running_len(key, &bytes[free..end]);
+            return Text {
+                len: free + more,
+                stopped: free + more < end,
+            };
         }
     }
-    mute_len(key, bytes)
+    let screen = terminal.screen();
+    let stopped = !screen.wrap();
+    let len = running_len(key, bytes);
+    Text { len, stopped }
 }
 
 /// Plays a byte, and tells whether the screen surely lacks the key then.

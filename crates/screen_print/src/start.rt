@@ -1,6 +1,6 @@
 //! How a text begins, told by the glyphs of three cells side by side.
 
-ghost use Rattle.std.specs.Prelude.{◌≡◌, ◌+◌, ◌<◌, ◌≤◌, ℕ, false, length, slice_index_or};
+ghost use Rattle.std.specs.Prelude.{◌≡◌, ◌+◌, ◌<◌, ◌≤◌, ℕ, false, length, slice_index_or, true};
 ghost use Rattle.vt_screen.specs.Cells.{blank};
 ghost use Rattle.screen_print.specs.Start.{IsStart, Wants, fits, starts_at, starts_at_end, three_fit};
 
@@ -108,4 +108,24 @@ pub(crate) fn may_start_at_end(start: &Start, cells: &[Cell]) -> bool
     let last = cells.len() - 1;
     fits(start.first, cells[last])
         | fits(start.first, cells[last - 1]) & fits(start.second, cells[last])
+}
+
+/// Whether all cells are blank. All are looked at, so that many are at once.
+#[inline(never)]
+pub(crate) fn are_spaces(cells: &[Cell]) -> bool
+    ensures { result ≡ true → (k : ℕ) → k < length cells.now
+        → (slice_index_or cells.now k blank).glyph ≡ 32 }
+{
+    let mut any = false;
+    for at in 0..cells.len() {
+        any |= is_other(cells[at]);
+    }
+    !any
+}
+
+/// Whether a cell isn't blank, told by its number.
+fn is_other(cell: Cell) -> bool
+    ensures { result ≡ false → cell.glyph ≡ 32 }
+{
+    cell.number() != u16::from(b' ')
 }

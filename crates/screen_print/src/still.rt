@@ -3,7 +3,8 @@
 ghost use Rattle.std.specs.Prelude.{◌≡◌, ◌≤◌, ℕ, true, false};
 ghost use Rattle.vt_screen.specs.Cells.{row_at};
 ghost use Rattle.vt_screen.specs.Picture.{SoundRow};
-ghost use Rattle.screen_rows.specs.SameRows.{changed_lines};
+ghost use Rattle.vt_screen.specs.Touched.{Told as ScreenTold};
+ghost use Rattle.screen_rows.specs.SameRows.{changed_lines, is_changed};
 
 use arrayvec::ArrayVec;
 use screen_rows::same_row;
@@ -39,6 +40,7 @@ impl Model for Still {
 }
 
 impl Still {
+    ghost use Rattle.vt_term.specs.Seen.{Told};
     ghost use Rattle.screen_print.specs.Stills.{IsStill, still_of};
 
     /// What stands on the screen of a terminal.
@@ -95,8 +97,10 @@ impl Still {
         let _wide = self.wide;
     }
 
-    /// The lines in which it differs from what stands on the screen of a terminal.
+    /// The lines in which it differs from what stands on the screen of a terminal, which marks all that it may have
+    /// touched since.
     pub(crate) fn changed_lines(&self, terminal: &Terminal) -> ArrayVec<u8, ROWS>
+        requires { Told self.now.rows terminal.now }
         ensures { result.items
             ≡ changed_lines self.now.rows terminal.now.console.picture.rows }
     {
@@ -133,6 +137,7 @@ fn rows_of(screen: &Screen) -> [Row; ROWS]
 
 /// The lines in which the rows differ from those of the screen.
 fn changed_lines(rows: &[Row; ROWS], screen: &Screen, narrow: bool) -> ArrayVec<u8, ROWS>
+    requires told { ScreenTold rows.now screen.now }
     requires here { narrow ≡ true → screen.now.picture.wide ≡ false }
     requires there { narrow ≡ true → (k : ℕ) → SoundRow false (row_at rows.now k) }
     ensures { result.items ≡ changed_lines rows.now screen.now.picture.rows }
@@ -140,11 +145,23 @@ fn changed_lines(rows: &[Row; ROWS], screen: &Screen, narrow: bool) -> ArrayVec<
     screens_are_sound(screen);
     let mut changed = ArrayVec::new();
     for line in 1..LINES + 1 {
-        if !same_row(&rows[line as usize - 1], screen.row(line), narrow) {
+        if is_changed(rows, screen, line, narrow) {
             changed.push(line);
         }
     }
     changed
+}
+
+/// Whether the row of a line differs from that of the screen. One that wasn't touched doesn't.
+fn is_changed(rows: &[Row; ROWS], screen: &Screen, line: u8, narrow: bool) -> bool
+    requires low { 1 ≤ line }
+    requires high { line ≤ LINES }
+    requires told { ScreenTold rows.now screen.now }
+    requires here { narrow ≡ true → screen.now.picture.wide ≡ false }
+    requires there { narrow ≡ true → (k : ℕ) → SoundRow false (row_at rows.now k) }
+    ensures { result ≡ is_changed rows.now screen.now.picture.rows line }
+{
+    screen.is_touched(line) && !same_row(&rows[line as usize - 1], screen.row(line), narrow)
 }
 
 /// Copies the rows of these lines from the screen.

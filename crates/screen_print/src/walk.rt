@@ -9,6 +9,7 @@ ghost use Rattle.chunk_walk.specs.Stops.{OnlySeeks, StopsSound};
 ghost use Rattle.screen_rows.specs.SameRows.{changed_lines};
 ghost use Rattle.screen_print.specs.Stills.{still_of};
 ghost use Rattle.screen_print.specs.Walk.{walk_text, whole_text};
+ghost use Rattle.vt_term.specs.Seen.{Told};
 
 use crate::still::Still;
 use chunk_walk::{Visitor, visit_all_chunks, visit_chunks};
@@ -160,6 +161,7 @@ fn put_seen<P: ChunkPrinter, W: Write>(
     printer: &P,
     writer: &mut Watched<W>,
 )
+    requires { Told still.old.rows terminal.now }
     ensures gave { Gave W.contents writer.old writer.new
         (P.text printer.now index due still.old (still_of terminal.now.console)) }
     ensures after { still.new ≡ still_of terminal.now.console }

@@ -1,8 +1,9 @@
 use Rattle.std.proofs.Common.{◌<◌, ◌+◌, arith, length, subst, sym, take}
 use Rattle.tape_core.specs.Devices.{Gave}
-use Rattle.vt_term.specs.Seen.{Shows}
+use Rattle.vt_term.specs.Seen.{Shows, Told}
 use Rattle.vt_term.specs.Term.{Term, play}
 use Rattle.screen_print.specs.EachByte.{byte_lines}
+use Rattle.screen_print.specs.Stills.{Still}
 use Rattle.screen_print.proofs.EachByteLemmas.{byte_is, play_more, shows_start}
 use Rattle.screen_print.proofs.FindLemmas.{first_more}
 use Rattle.screen_print.proofs.each_byte.put_bytes.Goals as goal
@@ -14,6 +15,10 @@ loop-at-init g c = record {
   still = c.of-still.ensures;
   gave = λ x h. c.gives_join.ensures.nothing c.args.writer.now;
 }
+
+pub put_byte-requires-clause-told : goal.put_byte-requires-clause-told
+put_byte-requires-clause-told g c =
+    subst (λ (still : Still). Told still.rows c.step.new.terminal) (sym c.loop-at.invariant.still) c.step.ensures.told
 
 pub loop-at-preserved : goal.loop-at-preserved
 loop-at-preserved g c =

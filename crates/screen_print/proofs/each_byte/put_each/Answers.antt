@@ -2,7 +2,7 @@ use Rattle.std.proofs.Common.{◌∙◌, arith, refl, subst, sym}
 use Rattle.tape_core.specs.Devices.{Gave}
 use Rattle.screen_print.specs.EachByte.{chunk_lines_at}
 use Rattle.chunk_walk.proofs.TextLemmas.{texts_cut, texts_more}
-use Rattle.screen_print.proofs.each_byte.put_between.Goals as goal
+use Rattle.screen_print.proofs.each_byte.put_each.Goals as goal
 
 pub returns-then-failed : goal.returns-then-failed
 returns-then-failed g c = λ profile h.
