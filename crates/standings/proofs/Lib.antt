@@ -1,2 +1,3 @@
 mod RowLemmas
 mod CountLemmas
+pub mod SpanLemmas

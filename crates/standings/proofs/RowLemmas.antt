@@ -144,7 +144,7 @@ places_one : (text : List ℕ) (above : ℕ) (line : List ℕ) (before : ℕ) (h
 places_one text above line before true is = rw (sym is) refl
 places_one text above line before false is = rw (sym is) refl
 
-places_more : (text : List ℕ) (above : ℕ) (line : List ℕ) (before : ℕ) (here : Bool) → here ≡ begins text line before
+pub places_more : (text : List ℕ) (above : ℕ) (line : List ℕ) (before : ℕ) (here : Bool) → here ≡ begins text line before
     → places_in text above line (before + 1) ≡ places_in text above line before ++ cond here (place_in above before ∷ []) []
 places_more text above line before here is =
     let same : 0 + before ≡ before = omega arith in
@@ -164,7 +164,7 @@ placed_step text above line before here old so_far new is known more =
     ∙ ap (λ l. old ++ l) (sym (places_more text above line before here is))
 
 -- and a row more
-places_row : (text : List ℕ) (rows : List Row) (above : ℕ) → above < length rows
+pub places_row : (text : List ℕ) (rows : List Row) (above : ℕ) → above < length rows
     → places_from text above (drop above rows)
     ≡ places_in text above (line_text (drop above rows)) (length (row_below rows above).characters) ++ places_from text (above + 1) (drop (above + 1) rows)
 unfolding places_from

@@ -1,11 +1,14 @@
 //! What of a text went between two screens, told by what stands left of it.
 
-ghost use Rattle.std.specs.Prelude.{◌≡◌, ◌+◌, ◌<◌, ◌≤◌, true, List, ℕ, length, nat_eq, take, IfOk};
+ghost use Rattle.std.specs.Prelude.{◌≡◌, ◌+◌, ◌<◌, ◌≤◌, true, List, ℕ, length, nat_eq, take, IfOk, OnOk};
 ghost use Rattle.std.specs.Cmp.Lexicographic.{pointwise};
+ghost use Rattle.standings.specs.Rows.{Row};
+ghost use Rattle.standings.specs.Spans.{Stays};
 ghost use Rattle.standings.specs.Standing.{count_left, is_less, is_lone, left_of, place_at, standing};
 
-use crate::place::{Place, standing};
+use crate::place::{Place, may_come, push_standing, standing};
 use crate::row::{Row, characters_below};
+use crate::span::Span;
 use std::alloc::{AllocError, Global};
 
 /// The rows of a screen, and where a text stands on it.
@@ -24,6 +27,46 @@ impl Standing {
         let places = standing(alloc, rows.as_slice(), text)?;
         Ok(Standing { rows, places })
     }
+
+    /// Looks again where the text stands, where only these rows may have changed.
+    pub fn look_again(&mut self, text: &[char], span: Span) -> Result<(), AllocError>
+        ensures rows { self.new.rows.items ≡ self.old.rows.items }
+        ensures places { (before : List Row) → Stays span before self.old.rows.items
+            → self.old.places.items ≡ standing text.now before
+            → OnOk result (self.new.places.items ≡ standing text.now self.new.rows.items) }
+    {
+        if span.is_none() {
+            return Ok(());
+        }
+        if self.places.is_empty() && !may_come(self.rows.as_slice(), text, span) {
+            return Ok(());
+        }
+        self.places.clear();
+        push_standing(self.rows.as_slice(), text, &mut self.places)
+    }
+
+    /// Becomes another one, from which only these of its rows may differ.
+    pub fn follow(&mut self, other: &Standing, span: Span) -> Result<(), AllocError>
+        ensures rows { Stays span self.old.rows.items other.now.rows.items
+            → OnOk result (self.new.rows.items ≡ other.now.rows.items) }
+        ensures places { OnOk result (self.new.places.items ≡ other.now.places.items) }
+    {
+        copy_rows(&mut self.rows, other.rows.as_slice(), span)?;
+        self.places.clear();
+        self.places.extend_from_slice(other.places.as_slice())?;
+        Ok(())
+    }
+}
+
+/// Rows become those of others, from which only these may differ.
+fn copy_rows(rows: &mut Vec<Row>, others: &[Row], span: Span) -> Result<(), AllocError>
+    ensures { Stays span rows.old.items others.now → OnOk result (rows.new.items ≡ others.now) }
+{
+    for above in span.from..span.to.min(rows.len()).min(others.len()) {
+        let row = &mut rows[above];
+        row.copy_from(&others[above])?;
+    }
+    Ok(())
 }
 
 /// Whether a place is less on the other screen: at least as many places before it have the same to the left as there are

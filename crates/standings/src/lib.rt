@@ -5,8 +5,10 @@ mod left;
 mod line;
 mod place;
 mod row;
+mod span;
 
 pub use left::{Standing, is_less, is_lone, keeps_all};
 pub use line::{Moment, put_found};
 pub use place::{Place, standing};
 pub use row::Row;
+pub use span::Span;

@@ -1,11 +1,13 @@
 //! Where a text stands on a screen.
 
-ghost use Rattle.std.specs.Prelude.{◌≡◌, ◌≤◌, ◌<◌, ◌++◌, false, List, ℕ, drop, length, nat_eq, IfOk, OnOk};
+ghost use Rattle.std.specs.Prelude.{◌≡◌, ◌≤◌, ◌<◌, ◌++◌, ◌-◌, [], false, List, ℕ, drop, length, nat_eq, IfOk, OnOk};
 ghost use Rattle.std.specs.List.{starts_with};
-ghost use Rattle.standings.specs.Rows.{row_below};
+ghost use Rattle.standings.specs.Rows.{Row, row_below};
+ghost use Rattle.standings.specs.Spans.{Stays};
 ghost use Rattle.standings.specs.Standing.{begins, line_text, places_in, standing};
 
 use crate::row::{Row, characters_below, runs_on_below};
+use crate::span::Span;
 use std::alloc::{AllocError, Global};
 
 /// A place on a screen: how many rows are above it, and how many characters before it in its row.
@@ -20,10 +22,63 @@ pub fn standing(alloc: Global, rows: &[Row], text: &[char]) -> Result<Vec<Place>
     ensures { IfOk result (λ places. places.items ≡ standing text.now rows.now) }
 {
     let mut places = Vec::new(alloc);
-    for above in 0..rows.len() {
-        push_places(rows, above, text, &mut places)?;
-    }
+    push_standing(rows, text, &mut places)?;
     Ok(places)
+}
+
+/// Puts the places at which a text stands behind others.
+pub(crate) fn push_standing(
+    rows: &[Row],
+    text: &[char],
+    places: &mut Vec<Place>,
+) -> Result<(), AllocError>
+    ensures { OnOk result (places.new.items ≡ places.old.items ++ standing text.now rows.now) }
+{
+    for above in 0..rows.len() {
+        push_places(rows, above, text, places)?;
+    }
+    Ok(())
+}
+
+/// Whether a text may have come to stand, where it stood nowhere, by a change of these rows: whether it begins in one of
+/// them, or in one above that runs on to them.
+pub(crate) fn may_come(rows: &[Row], text: &[char], span: Span) -> bool
+    ensures { result ≡ false → (before : List Row) → Stays span before rows.now
+        → standing text.now before ≡ [] → standing text.now rows.now ≡ [] }
+{
+    let start = run_start(rows, span.from);
+    for above in start..span.to.min(rows.len()) {
+        if begins_in(rows, above, text) {
+            return true;
+        }
+    }
+    false
+}
+
+/// How many rows are above those that run on to the one below so many others.
+fn run_start(rows: &[Row], above: usize) -> usize
+    ensures within { result ≤ above }
+    ensures ends { 0 < result → (row_below rows.now (result - 1)).runs_on ≡ false }
+{
+    let mut start = above;
+    while start > 0 && runs_on_below(rows, start - 1) {
+        start -= 1;
+    }
+    start
+}
+
+/// Whether a text begins in a row.
+fn begins_in(rows: &[Row], above: usize, text: &[char]) -> bool
+    requires { above < length rows.now }
+    ensures { result ≡ false → places_in text.now above (line_text (drop above rows.now)) (length (row_below rows.now above).characters) ≡ [] }
+{
+    let below = &rows[above..];
+    for before in 0..characters_below(below, 0).len() {
+        if begins(below, before, text) {
+            return true;
+        }
+    }
+    false
 }
 
 /// Puts the places of one row behind others.

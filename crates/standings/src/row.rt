@@ -1,6 +1,6 @@
 //! A row of characters.
 
-ghost use Rattle.std.specs.Prelude.{◌≡◌, ◌∷◌, ◌++◌, [], IfOk, OnOk, slice_index_or};
+ghost use Rattle.std.specs.Prelude.{◌≡◌, ◌≤◌, ◌<◌, ◌∷◌, ◌++◌, [], IfOk, OnOk, length, slice_index_or, slice_set, take};
 ghost use Rattle.standings.specs.Rows.{empty_row, row_below};
 
 use std::alloc::{AllocError, Global};
@@ -49,6 +49,61 @@ impl Row {
     {
         self.characters.push(character)?;
         self.columns.push(column)?;
+        Ok(())
+    }
+
+    /// Becomes a row without a character, and keeps its room.
+    pub fn restart(&mut self, runs_on: bool)
+        ensures { self.new ≡ record { characters = []; columns = []; runs_on = runs_on } }
+    {
+        self.characters.clear();
+        self.columns.clear();
+        self.runs_on = runs_on;
+    }
+
+    /// How many characters it has.
+    pub fn count(&self) -> usize
+        ensures characters { result ≤ length self.now.characters }
+        ensures columns { result ≤ length self.now.columns }
+    {
+        self.characters.len().min(self.columns.len())
+    }
+
+    /// The character behind so many others becomes this one, which stands in a column.
+    pub fn set(&mut self, before: usize, character: char, column: u16)
+        requires characters { before < length self.old.characters }
+        requires columns { before < length self.old.columns }
+        ensures { self.new ≡ record {
+          characters = slice_set self.old.characters before character;
+          columns = slice_set self.old.columns before column;
+          runs_on = self.old.runs_on;
+        } }
+    {
+        self.characters[before] = character;
+        self.columns[before] = column;
+    }
+
+    /// Keeps so many characters.
+    pub fn cut(&mut self, count: usize, runs_on: bool)
+        ensures { self.new ≡ record {
+          characters = take count self.old.characters;
+          columns = take count self.old.columns;
+          runs_on = runs_on;
+        } }
+    {
+        self.characters.truncate(count);
+        self.columns.truncate(count);
+        self.runs_on = runs_on;
+    }
+
+    /// Becomes a copy of another row.
+    pub fn copy_from(&mut self, other: &Row) -> Result<(), AllocError>
+        ensures { OnOk result (self.new ≡ other.now) }
+    {
+        self.restart(other.runs_on);
+        self.characters
+            .extend_from_slice(other.characters.as_slice())?;
+        self.columns.extend_from_slice(other.columns.as_slice())?;
         Ok(())
     }
 

@@ -17,6 +17,10 @@ began_none contents a text = record { front = []; rest = text; cut = refl; gave 
 pub began_stays : {T : Type 0} (contents : T → Option (List ℕ)) (a b : Watched T) (text : List ℕ) → b ≡ a → Began contents a b text
 began_stays contents a b text same = subst (λ w. Began contents a w text) (sym same) (began_none contents a text)
 
+-- all of it
+pub began_whole : {T : Type 0} (contents : T → Option (List ℕ)) (a b : Watched T) (text : List ℕ) → Gave contents a b text → Began contents a b text
+began_whole contents a b text gave = record { front = text; rest = []; cut = sym (append-nil text); gave = gave }
+
 -- a beginning of what comes behind another text
 pub began_behind : {T : Type 0} (contents : T → Option (List ℕ)) (a b c : Watched T) (text x y z : List ℕ) → text ≡ (x ++ y) ++ z
     → Gave contents a b x → Began contents b c y → Began contents a c text

@@ -15,6 +15,9 @@ use Rattle.chunk_walk.specs.Walk.{asked_places, is_asked}
 use Rattle.chunk_walk.proofs.TextLemmas.{passing_between, texts_from}
 use Rattle.standings.specs.declared.left.Standing.{Standing}
 use Rattle.standings.specs.declared.place.Place.{Place}
+use Rattle.standings.specs.declared.span.Span.{Span}
+use Rattle.standings.specs.Spans.{Stays}
+use Rattle.standings.proofs.SpanLemmas.{stays_none}
 use Rattle.standings.specs.Found.{Found, found, found_line, found_text}
 use Rattle.standings.specs.Rows.{Row}
 use Rattle.standings.specs.Standing.{count_left, gone, is_less, is_lone, left_of, passed, place_at, place_in, standing}
@@ -160,14 +163,22 @@ bytes_more before bytes at lt =
 pub places_kept : (text : List ℕ) (screen : List Row) (still : Standing) → IsStill text screen still → still.places.items ≡ standing text still.rows.items
 places_kept text screen still is = is.places ∙ ap (standing text) (sym is.rows)
 
-pub byte_is : (text : List ℕ) (index due len : ℕ) (first : List Row) (firsts : List Place) (last : List Row) (lasts : List Place) (screen other : List Row) (one : Standing)
-    → len ≡ length text → IsStill text screen one
-    → passed_lines index due len first firsts last lasts one.rows.items one.places.items other (standing text other)
-    ≡ passed_lines index due (length text) first firsts last lasts screen (standing text screen) other (standing text other)
-byte_is text index due len first firsts last lasts screen other one l is =
-    ap (λ n. passed_lines index due n first firsts last lasts one.rows.items one.places.items other (standing text other)) l
-    ∙ ap (λ ps. passed_lines index due (length text) first firsts last lasts one.rows.items ps other (standing text other)) is.places
-    ∙ ap (λ r. passed_lines index due (length text) first firsts last lasts r (standing text screen) other (standing text other)) is.rows
+-- what passed, by what is kept of both screens
+pub passed_by : (text : List ℕ) (index due len : ℕ) (first : List Row) (firsts : List Place) (last : List Row) (lasts : List Place) (screen screen' : List Row) (one other : Standing)
+    → IsStill text screen one → IsStill text screen' other
+    → passed_lines index due len first firsts last lasts one.rows.items one.places.items other.rows.items other.places.items
+    ≡ passed_lines index due len first firsts last lasts screen (standing text screen) screen' (standing text screen')
+passed_by text index due len first firsts last lasts screen screen' one other is is' =
+    ap (λ ps. passed_lines index due len first firsts last lasts one.rows.items ps other.rows.items other.places.items) is.places
+    ∙ ap (λ r. passed_lines index due len first firsts last lasts r (standing text screen) other.rows.items other.places.items) is.rows
+    ∙ ap (λ ps. passed_lines index due len first firsts last lasts screen (standing text screen) other.rows.items ps) is'.places
+    ∙ ap (λ r. passed_lines index due len first firsts last lasts screen (standing text screen) r (standing text screen')) is'.rows
+
+-- where no row differs, the screens are the same
+pub same_screens : (text : List ℕ) (span : Span) (screen screen' : List Row) (one other : Standing) → IsStill text screen one → IsStill text screen' other
+    → span.to ≤ span.from → Stays span one.rows.items other.rows.items → screen' ≡ screen
+same_screens text span screen screen' one other is is' none stays =
+    sym is'.rows ∙ stays_none span one.rows.items other.rows.items none stays ∙ is.rows
 
 less_is : (sign index due : ℕ) (text : List ℕ) (len : ℕ) (screen screen' : List Row) (one other : Standing)
     → len ≡ length text → IsStill text screen one → IsStill text screen' other

@@ -10,6 +10,7 @@ use Rattle.standings.specs.Rows.{Row}
 use Rattle.standings.specs.Standing.{is_less, is_lone, left_of, place_at, standing}
 use Rattle.standings.specs.declared.left.Standing.{Standing}
 use Rattle.standings.specs.declared.place.Place.{Place}
+use Rattle.text_find.specs.declared.sides.Sides.{Sides}
 use Rattle.text_find.specs.FindLines.{Screens, rows_within}
 
 -- a beginning of a text was given
@@ -19,10 +20,15 @@ pub record Began {T : Type 0} (contents : T → Option (List ℕ)) (old new : Wa
   pub cut : text ≡ front ++ rest
   pub gave : Gave contents old new front
 
--- these are the rows of a screen, and where a text stands on it
+-- this tells the rows of a screen, and where a text stands on it
 pub record IsStill (text : List ℕ) (screen : List Row) (still : Standing) : Type 0 where
   pub rows : still.rows.items ≡ screen
   pub places : still.places.items ≡ standing text screen
+
+-- so do both of these
+pub record AreStill (text : List ℕ) (screen : List Row) (sides : Sides) : Type 0 where
+  pub before : IsStill text screen sides.before
+  pub after : IsStill text screen sides.after
 
 -- the line of place n, where it is less on the other screen
 abbrev pub less_line : ℕ → ℕ → ℕ → ℕ → List Row → List Place → List Row → List Place → ℕ → List ℕ

@@ -1,8 +1,9 @@
 //! What a text is looked for in: a terminal that shows rows of characters.
-ghost use Rattle.std.specs.Prelude.{◌≡◌, ◌≤◌, List, ℕ, length, true, IfOk, IsOk};
+ghost use Rattle.std.specs.Prelude.{◌≡◌, ◌≤◌, List, ℕ, length, IfOk, IsOk, OnOk};
+ghost use Rattle.standings.specs.Spans.{Stays};
 
 use plays::{OutOfMemory, Plays};
-use standings::Row;
+use standings::{Row, Span};
 use std::alloc::Global;
 use tape_seek::Session;
 
@@ -30,10 +31,13 @@ pub trait Finder<T: Plays> {
         ensures { (profile : T.Profile) (bytes : List ℕ) → T.shows profile terminal.now bytes
             → IfOk result (λ rows. rows.items ≡ screens profile bytes) };
 
-    /// Whether it surely shows these rows still, so that nothing of a text went. It may answer no.
-    fn stays(rows: &[Row], terminal: &T) -> bool
-        ensures { (profile : T.Profile) (bytes : List ℕ) → T.shows profile terminal.now bytes
-            → result ≡ true → rows.now ≡ screens profile bytes };
+    /// Rows of before become those that it shows now. It reads no others than those that its marks tell of, and says
+    /// which ones may differ.
+    fn catch_up(rows: &mut Vec<Row>, terminal: &T) -> Result<Span, OutOfMemory>
+        ensures rows { (profile : T.Profile) (before after : List ℕ) → T.shows profile terminal.now after
+            → T.told profile terminal.now before → rows.old.items ≡ screens profile before
+            → OnOk result (rows.new.items ≡ screens profile after) }
+        ensures others { IfOk result (λ span. Stays span rows.old.items rows.new.items) };
 
     /// Where nothing was played a text with ink stands nowhere. Nothing is done.
     fn begins_blank()

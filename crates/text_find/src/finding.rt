@@ -7,15 +7,15 @@ ghost use Rattle.tape_core.specs.Due.{first as bytes_of_first};
 ghost use Rattle.tape_seek.specs.State.{KeepsHistory};
 ghost use Rattle.chunk_walk.specs.Stops.{OnlySeeks, StopsPrint, first_asked};
 ghost use Rattle.text_find.specs.FindLines.{NowhereOn, has_ink, lines_found};
-ghost use Rattle.text_find.specs.Lines.{Began, IsStill, chunk_lines_at};
+ghost use Rattle.text_find.specs.Lines.{AreStill, Began, chunk_lines_at};
 
-use crate::each_byte::{put_chunk_at, still_of};
+use crate::each_byte::put_chunk_at;
 use crate::finder::Finder;
 use crate::laws::nowhere_means_nowhere;
 use crate::lines::put_from;
+use crate::sides::{Sides, sides_of};
 use chunk_walk::WalkFault;
 use plays::{OutOfMemory, Plays};
-use standings::Standing;
 use std::alloc::Global;
 use std::io::Write;
 use tape_core::laws::{due_is_below_the_count, gives_end, gives_join};
@@ -157,10 +157,11 @@ fn put_lines<T: Plays, F: Finder<T>, W: Write>(
     due_is_below_the_count();
     gives_join::<W>();
     let end = recording.due_count(to).max(start);
-    let still = still_of::<T, F>(alloc, behind, text)?;
-    put_from(alloc, from, start, text.len(), &still, writer)?;
+    let mut ends = sides_of::<T, F>(alloc, behind, text)?;
+    let mut steps = sides_of::<T, F>(alloc, behind, text)?;
+    put_from(alloc, from, start, text.len(), &ends.before, writer)?;
     put_between::<T, F, W>(
-        alloc, recording, start, end, text, still, behind, ahead, writer,
+        alloc, recording, start, end, text, &mut ends, &mut steps, behind, ahead, writer,
     )?;
     Ok(())
 }
@@ -173,7 +174,8 @@ fn put_between<T: Plays, F: Finder<T>, W: Write>(
     start: usize,
     end: usize,
     text: &[char],
-    still: Standing,
+    ends: &mut Sides,
+    steps: &mut Sides,
     behind: &mut T,
     ahead: &mut T,
     writer: &mut Watched<W>,
@@ -182,25 +184,25 @@ fn put_between<T: Plays, F: Finder<T>, W: Write>(
     requires within { end ≤ length recording.now.chunks }
     ensures gave { (profile : T.Profile) → T.shows profile behind.old (bytes_of_first recording.now.chunks start)
         → T.shows profile ahead.old (bytes_of_first recording.now.chunks start)
-        → IsStill text.now (F.screens profile (bytes_of_first recording.now.chunks start)) still
+        → AreStill text.now (F.screens profile (bytes_of_first recording.now.chunks start)) ends.old
+        → AreStill text.now (F.screens profile (bytes_of_first recording.now.chunks start)) steps.old
         → OnOk result (Gave W.contents writer.old writer.new
         (flat_map (chunk_lines_at text.now F.screens profile recording.now)
         (range_with_len start (end - start)))) }
     ensures front { (profile : T.Profile) → T.shows profile behind.old (bytes_of_first recording.now.chunks start)
         → T.shows profile ahead.old (bytes_of_first recording.now.chunks start)
-        → IsStill text.now (F.screens profile (bytes_of_first recording.now.chunks start)) still
+        → AreStill text.now (F.screens profile (bytes_of_first recording.now.chunks start)) ends.old
+        → AreStill text.now (F.screens profile (bytes_of_first recording.now.chunks start)) steps.old
         → OnErr result (Began W.contents writer.old writer.new
         (flat_map (chunk_lines_at text.now F.screens profile recording.now)
         (range_with_len start (end - start)))) }
 {
     gives_join::<W>();
     gives_end::<W>();
-    let mut first = still;
     for index in start..end {
-        let next = put_chunk_at::<T, F, W>(
-            alloc, recording, index, text, &first, behind, ahead, writer,
+        put_chunk_at::<T, F, W>(
+            alloc, recording, index, text, ends, steps, behind, ahead, writer,
         )?;
-        first = next;
         if writer.failed() {
             return Ok(());
         }

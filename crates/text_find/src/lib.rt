@@ -7,6 +7,7 @@ mod finder;
 mod finding;
 pub mod laws;
 mod lines;
+mod sides;
 
 pub use finder::Finder;
 pub use finding::find;

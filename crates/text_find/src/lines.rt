@@ -6,19 +6,13 @@ ghost use Rattle.standings.specs.Standing.{is_lone, left_of, place_at};
 ghost use Rattle.tape_core.specs.Devices.{Gave};
 ghost use Rattle.text_find.specs.Lines.{Began, from_lines, less_line, less_lines, passed_line, passed_lines, standing_lines};
 
+use crate::sides::Sides;
 use plays::OutOfMemory;
 use standings::{Moment, Standing, is_less, is_lone, keeps_all, put_found};
 use std::alloc::Global;
 use std::io::Write;
 use tape_core::Watched;
 use tape_core::laws::gives_join;
-
-/// What stands on the screen at both ends of a chunk.
-#[derive(Drop)]
-pub(crate) struct Ends<'a> {
-    pub(crate) first: &'a Standing,
-    pub(crate) last: &'a Standing,
-}
 
 /// Writes where the text stands at the moment from which chunks are asked for, if there is one.
 pub(crate) fn put_from<W: Write>(
@@ -141,20 +135,20 @@ fn put_if_less<W: Write>(
 pub(crate) fn put_passed<W: Write>(
     alloc: Global,
     moment: Moment,
-    ends: &Ends<'_>,
+    ends: &Sides,
     one: &Standing,
     other: &Standing,
     writer: &mut Watched<W>,
 ) -> Result<(), OutOfMemory>
     ensures gave { OnOk result (Gave W.contents writer.old writer.new
         (passed_lines moment.index moment.due moment.len
-        ends.now.first.now.rows.items ends.now.first.now.places.items
-        ends.now.last.now.rows.items ends.now.last.now.places.items
+        ends.now.before.rows.items ends.now.before.places.items
+        ends.now.after.rows.items ends.now.after.places.items
         one.now.rows.items one.now.places.items other.now.rows.items other.now.places.items)) }
     ensures front { OnErr result (Began W.contents writer.old writer.new
         (passed_lines moment.index moment.due moment.len
-        ends.now.first.now.rows.items ends.now.first.now.places.items
-        ends.now.last.now.rows.items ends.now.last.now.places.items
+        ends.now.before.rows.items ends.now.before.places.items
+        ends.now.after.rows.items ends.now.after.places.items
         one.now.rows.items one.now.places.items other.now.rows.items other.now.places.items)) }
 {
     gives_join::<W>();
@@ -172,7 +166,7 @@ pub(crate) fn put_passed<W: Write>(
 fn put_if_passed<W: Write>(
     alloc: Global,
     moment: Moment,
-    ends: &Ends<'_>,
+    ends: &Sides,
     one: &Standing,
     at: usize,
     other: &Standing,
@@ -181,8 +175,8 @@ fn put_if_passed<W: Write>(
     requires within { at < length one.now.places.items }
     ensures gave { OnOk result (Gave W.contents writer.old writer.new
         (passed_line moment.index moment.due moment.len
-        ends.now.first.now.rows.items ends.now.first.now.places.items
-        ends.now.last.now.rows.items ends.now.last.now.places.items
+        ends.now.before.rows.items ends.now.before.places.items
+        ends.now.after.rows.items ends.now.after.places.items
         one.now.rows.items one.now.places.items other.now.rows.items other.now.places.items at)) }
     ensures refused { OnErr result (writer.new ≡ writer.old) }
 {
@@ -194,11 +188,11 @@ fn put_if_passed<W: Write>(
 }
 
 /// Whether neither end has anything with the same to the left.
-fn stood_at_neither(ends: &Ends<'_>, one: &Standing, at: usize) -> bool
+fn stood_at_neither(ends: &Sides, one: &Standing, at: usize) -> bool
     requires within { at < length one.now.places.items }
     ensures { let left = left_of one.now.rows.items (place_at one.now.places.items at) in
-        result ≡ (is_lone ends.now.first.now.rows.items ends.now.first.now.places.items left
-        && is_lone ends.now.last.now.rows.items ends.now.last.now.places.items left) }
+        result ≡ (is_lone ends.now.before.rows.items ends.now.before.places.items left
+        && is_lone ends.now.after.rows.items ends.now.after.places.items left) }
 {
-    is_lone(ends.first, one, at) && is_lone(ends.last, one, at)
+    is_lone(&ends.before, one, at) && is_lone(&ends.after, one, at)
 }

@@ -1,14 +1,16 @@
 -- Rows that are read, a row, a cell and a character more.
-use Rattle.std.proofs.Common.{◌≡◌, ℕ, suc, ◌+◌, ◌<◌, ◌≤◌, true, false, List, [], ◌∷◌, ◌++◌, append_assoc, append-nil, get_or, length, map, take, ap, sym, ◌∙◌, add-one, arith, refl}
+use Rattle.std.proofs.Common.{◌≡◌, ℕ, suc, ◌+◌, ◌-◌, ◌<◌, ◌≤◌, true, false, List, [], ◌∷◌, ◌++◌, append_assoc, append-nil, get_or, length, map, set, take, ap, sym, ◌∙◌, add-one, arith, refl}
 use Rattle.std.specs.List.{flat_map, range_with_len}
-use Rattle.std.proofs.lemmas.List.{get_or_past, length-take, map-append, take_all, take_more}
+use Rattle.std.proofs.lemmas.List.{get_or_past, length-take, map-append, take_all, take_more, take_more_set}
 use Rattle.std.proofs.lemmas.List.Concat.{flat_map-append}
+use Rattle.std.proofs.lemmas.List.FromFn.{get_or-map-range_with_len, length-map-range_with_len}
 use Rattle.sheet.specs.Cells.{Cell, is_covered}
 use Rattle.sheet.specs.Grid.{row_at}
 use Rattle.sheet.specs.Table.{nth, table}
 use Rattle.xterm_rows.specs.RowText.{characters}
 use Rattle.xterm_rows.proofs.RangeLemmas.{range_split}
-use Rattle.xterm_print.specs.FindRows.{columns_from}
+use Rattle.standings.specs.Rows.{empty_row, row_below}
+use Rattle.xterm_print.specs.FindRows.{columns_from, heeds_next, kept_cells, leaves_last, row_read, rows_read}
 
 -- a row more
 pub table_more : {X : Type 0} (f : ℕ → X) (n line : ℕ) → line ≡ n + 1 → table line f ≡ table n f ++ f line ∷ []
@@ -52,10 +54,20 @@ characters_more cells at d lt =
     ap (flat_map characters) (take_more cells at d lt) ∙ flat_map-append characters (take at cells) (get_or cells at d ∷ [])
     ∙ ap (λ l. flat_map characters (take at cells) ++ l) (append-nil (characters (get_or cells at d)))
 
--- a text and two more
-pub joined_more : {X : Type 0} (old so_far new part before after : List X) → so_far ≡ old ++ before → new ≡ so_far ++ part → after ≡ before ++ part → new ≡ old ++ after
-joined_more old so_far new part before after known more is =
-    more ∙ ap (λ l. l ++ part) known ∙ append_assoc old before part ∙ ap (λ l. old ++ l) (sym is)
+-- a cell more without marks, whose character is written over another one
+pub characters_over : (row : List ℕ) (cells : List Cell) (at : ℕ) (d : Cell) → at < length row → at < length cells → take at row ≡ flat_map characters (take at cells)
+    → characters (get_or cells at d) ≡ (get_or cells at d).character ∷ []
+    → take (at + 1) (set row at (get_or cells at d).character) ≡ flat_map characters (take (at + 1) cells)
+characters_over row cells at d lt lt' so_far plain =
+    let character = (get_or cells at d).character in
+    take_more_set row at character lt ∙ ap (λ l. l ++ character ∷ []) so_far
+    ∙ ap (λ l. flat_map characters (take at cells) ++ l) (sym plain) ∙ sym (characters_more cells at d lt')
+
+pub columns_over : (row : List ℕ) (cells : List Cell) (at : ℕ) (d : Cell) → at < length row → at < length cells → take at row ≡ columns_from 1 (take at cells)
+    → characters (get_or cells at d) ≡ (get_or cells at d).character ∷ [] → take (at + 1) (set row at (at + 1)) ≡ columns_from 1 (take (at + 1) cells)
+columns_over row cells at d lt lt' so_far plain =
+    take_more_set row at (at + 1) lt ∙ ap (λ l. l ++ (at + 1) ∷ []) so_far
+    ∙ ap (λ l. columns_from 1 (take at cells) ++ map (λ _. at + 1) l) (sym plain) ∙ sym (columns_more cells at d lt')
 
 -- the characters of a right half, and of another cell, once so many marks were taken
 pub half_bare : (cell : Cell) → is_covered cell ≡ true → [] ≡ characters cell
@@ -65,3 +77,25 @@ half_bare cell covered = rw covered refl
 pub cell_whole : (cell : Cell) (n : ℕ) → is_covered cell ≡ false → length cell.marks ≤ n → cell.character ∷ take n cell.marks ≡ characters cell
 unfolding characters
 cell_whole cell n bare all = rw (bare, take_all n cell.marks all) refl
+
+-- ---- rows that are read again
+
+-- how many rows are read, and each of them
+pub count_read : (lines : ℕ) (rows : List (List Cell)) → length (rows_read lines rows) ≡ lines
+unfolding rows_read table
+count_read lines rows = length-map-range_with_len (λ line. row_read (row_at rows line) (row_at rows (line + 1))) 1 lines
+
+pub read_at : (lines : ℕ) (rows : List (List Cell)) (line : ℕ) → 1 ≤ line → line ≤ lines
+    → row_below (rows_read lines rows) (line - 1) ≡ row_read (row_at rows line) (row_at rows (line + 1))
+unfolding rows_read table
+read_at lines rows line low high =
+    let within : line - 1 < lines = omega arith in
+    let there : 1 + (line - 1) ≡ line = omega arith in
+    get_or-map-range_with_len (λ k. row_read (row_at rows k) (row_at rows (k + 1))) 1 lines (line - 1) line empty_row within there
+
+-- where a row heeds no next one, it is read the same above each
+pub read_alike : (row one other : List Cell) → heeds_next row ≡ false → row_read row one ≡ row_read row other
+unfolding row_read kept_cells leaves_last
+read_alike row one other heeds =
+    let left : (next : List Cell) → leaves_last row next ≡ false = λ next. rw heeds refl in
+    rw (left one, left other) refl

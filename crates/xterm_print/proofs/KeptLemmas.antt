@@ -1,5 +1,5 @@
 -- Rows that are kept, and which of them another sheet changes.
-use Rattle.std.proofs.Common.{◌≡◌, ◌≢◌, ℕ, zero, suc, ◌+◌, ◌-◌, ◌<◌, ◌≤◌, Bool, true, not, List, [], ◌∷◌, ◌++◌, length, get_or, set, filter, cond, refl, ap, sym, ◌∙◌, subst, arith, add-zero, add-one, length-append, inl, inr, get_or-set_same, get_or-set_other}
+use Rattle.std.proofs.Common.{◌≡◌, ◌≢◌, ℕ, zero, suc, ◌+◌, ◌-◌, ◌<◌, ◌≤◌, Bool, true, false, not, List, [], ◌∷◌, ◌++◌, length, get_or, set, filter, cond, ap, sym, ◌∙◌, subst, arith, add-zero, add-one, length-append, inl, inr, get_or-set_same, get_or-set_other}
 use Rattle.std.proofs.lemmas.Bool.{cases_eq}
 use Rattle.std.proofs.lemmas.List.{get_or_append_left, get_or_default}
 use Rattle.std.proofs.lemmas.List.Elements.{filter-append}
@@ -10,7 +10,7 @@ use Rattle.std.specs.List.{range_with_len}
 use Rattle.sheet.specs.Cells.{Cell}
 use Rattle.sheet.specs.Grid.{row_at}
 use Rattle.sheet.specs.Table.{nth}
-use Rattle.xterm_print.specs.ChangeLines.{changed_lines, is_changed, same_cell, same_row, style_of, text_of}
+use Rattle.xterm_print.specs.ChangeLines.{is_changed, same_cell, same_row, style_of, text_of}
 use Rattle.xterm_print.specs.Kept.{FollowAll, Follows}
 
 -- ---- rows that are the same
@@ -26,7 +26,7 @@ pub same_itself : (row : List Cell) → same_row row row ≡ true
 same_itself row = same_rows.refl row
 
 -- of two rows that are the same, each is the same as a third, or neither
-same_as : (one other third : List Cell) → same_row one other ≡ true → same_row one third ≡ same_row other third
+pub same_as : (one other third : List Cell) → same_row one other ≡ true → same_row one third ≡ same_row other third
 same_as one other third h = same_rows.congr one other third h
 
 -- a row that is another follows it
@@ -39,6 +39,11 @@ follows_itself row other is = record {
 -- a row that is the same as another follows it
 pub follows_same : (row other : List Cell) → length row ≡ length other → true ≡ same_row row other → Follows (length other) row other
 follows_same row other long same = record { columns = long; same = sym same }
+
+-- a row that is as before isn't changed
+pub not_changed : (before after : List (List Cell)) (line : ℕ) → row_at after line ≡ row_at before line → false ≡ is_changed before after line
+not_changed before after line same =
+    sym (ap (λ r. not (same_row (row_at before line) r)) same ∙ ap not (same_itself (row_at before line)))
 
 -- ---- rows by line
 
@@ -54,7 +59,7 @@ row_read rows line d low high =
     row_is rows line low ∙ get_or_default rows (line - 1) [] d within
 
 -- a row that is written
-row_set_same : (rows : List (List Cell)) (line : ℕ) (row : List Cell) → 1 ≤ line → line ≤ length rows → row_at (set rows (line - 1) row) line ≡ row
+pub row_set_same : (rows : List (List Cell)) (line : ℕ) (row : List Cell) → 1 ≤ line → line ≤ length rows → row_at (set rows (line - 1) row) line ≡ row
 row_set_same rows line row low high =
     let within : line - 1 < length rows = omega arith in
     row_is (set rows (line - 1) row) line low ∙ get_or-set_same rows (line - 1) row [] within
@@ -87,16 +92,6 @@ follow_more n width rows others row kept more = record {
 pub follow_none : (width : ℕ) (rows others : List (List Cell)) → rows ≡ [] → FollowAll 0 width rows others
 follow_none width rows others none = record { lines = ap length none; row = λ k low high. absurd (omega (arith, low, high)) }
 
--- a row more follows
-pub caught_more : (width line k : ℕ) (rows others : List (List Cell)) (row : List Cell) → 1 ≤ line → line ≤ length rows → 1 ≤ k → k < line + 1
-    → (k ≡ line → Follows width row (row_at others line)) → (k < line → Follows width (row_at rows k) (row_at others k))
-    → Follows width (row_at (set rows (line - 1) row) k) (row_at others k)
-caught_more width line k rows others row low high here below at before = elim (cases_eq k line) [
-  | inl e ↦ subst (λ m. Follows width (row_at (set rows (line - 1) row) m) (row_at others m)) (sym e)
-      (subst (λ r. Follows width r (row_at others line)) (sym (row_set_same rows line row low high)) (at e))
-  | inr ne ↦ subst (λ r. Follows width r (row_at others k)) (sym (row_set_other rows line k row low here ne)) (before (omega arith))
-]
-
 -- ---- the lines that differ
 
 range_more : (a n : ℕ) → range_with_len a (n + 1) ≡ range_with_len a n ++ (a + n) ∷ []
@@ -117,18 +112,3 @@ passing_more p line here old new low is so_far more =
     ∙ ap (λ m. filter p (range_with_len 1 n) ++ filter p (m ∷ [])) next
     ∙ sym (filter-append p (range_with_len 1 n) ((1 + n) ∷ []))
     ∙ ap (filter p) (sym (range_more 1 n)) ∙ ap (λ m. filter p (range_with_len 1 m)) at
-
--- tests that agree on numbers let the same ones pass
-same_passing : (p q : ℕ → Bool) (a n : ℕ) → ((k : ℕ) → a ≤ k → k < a + n → p k ≡ q k) → filter p (range_with_len a n) ≡ filter q (range_with_len a n)
-same_passing p q a zero agree = refl
-same_passing p q a (suc n) agree =
-    ap (λ b. cond b (a ∷ filter p (range_with_len (a + 1) n)) (filter p (range_with_len (a + 1) n))) (agree a (omega arith) (omega arith))
-    ∙ ap (λ l. cond (q a) (a ∷ l) l) (same_passing p q (a + 1) n (λ k low high. agree k (omega arith) (omega arith)))
-
--- rows that follow others are changed where those are
-pub changed_alike : (height width : ℕ) (kept before after : List (List Cell)) → FollowAll height width kept before
-    → changed_lines height kept after ≡ changed_lines height before after
-unfolding changed_lines
-changed_alike height width kept before after follow =
-    same_passing (is_changed kept after) (is_changed before after) 1 height
-    (λ k low high. ap not (same_as (row_at kept k) (row_at before k) (row_at after k) (follow.row k low (omega arith)).same))

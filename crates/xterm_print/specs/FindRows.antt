@@ -19,6 +19,10 @@ unfoldable pub leaves_last : List Cell → List Cell → Bool
 leaves_last row next =
     ends_in_space row && not (is_space (cell_behind row (length row - 2))) && is_wide (cell_behind next 0)
 
+-- Private: whether that may be so, whatever row is next
+abbrev pub heeds_next : List Cell → Bool
+heeds_next row = ends_in_space row && not (is_space (cell_behind row (length row - 2)))
+
 -- then the last cell is left out
 unfoldable pub kept_cells : List Cell → List Cell → List Cell
 kept_cells row next = if leaves_last row next then take (length row - 1) row else row

@@ -6,16 +6,16 @@ ghost use Rattle.tape_seek.specs.State.{KeepsHistory};
 ghost use Rattle.chunk_walk.specs.Stops.{OnlySeeks, StopsPrint};
 ghost use Rattle.xterm_print.specs.FindLines.{StandsNowhere, find_lines, has_ink};
 
-use crate::find_rows::rows_read;
+use crate::find_rows::{read_touched, rows_read};
 use crate::seeking::seek_count;
 use chunk_walk::WalkFault;
-use standings::Row;
+use standings::{Row, Span};
 use std::alloc::Global;
 use std::io::Write;
 use tape_core::Watched;
 use tape_seek::Session;
 use text_find::Finder;
-use xterm_term::laws::size_stays;
+use xterm_term::laws::{size_stays, stays_safe};
 use xterm_term::{OutOfMemory, Terminal};
 
 /// Writes, as `=`, where a text stands at the moment `from`, if that is given; and for each chunk that is due
@@ -74,10 +74,11 @@ impl Finder<Terminal> for Sheets {
         Ok(rows_read(alloc, screen)?)
     }
 
-    fn stays(rows: &[Row], terminal: &Terminal) -> bool {
-        let _rows = rows;
-        let _terminal = terminal;
-        false
+    fn catch_up(rows: &mut Vec<Row>, terminal: &Terminal) -> Result<Span, OutOfMemory> {
+        size_stays();
+        stays_safe();
+        let screen = terminal.screen();
+        Ok(read_touched(rows, screen)?)
     }
 
     fn begins_blank() {}

@@ -1,14 +1,17 @@
 //! The rows of the sheet that is shown, as a text is looked for in them.
 
-ghost use Rattle.std.specs.Prelude.{◌≡◌, ◌+◌, ◌≤◌, ◌++◌, length, map, take, IfOk, OnOk};
+ghost use Rattle.std.specs.Prelude.{◌≡◌, ◌+◌, ◌≤◌, ◌++◌, ◌∷◌, [], List, false, true, length, map, take, IfOk, OnOk};
 ghost use Rattle.std.specs.List.{flat_map};
+ghost use Rattle.sheet.specs.Cells.{Cell};
 ghost use Rattle.sheet.specs.Grid.{row_at};
+ghost use Rattle.standings.specs.Spans.{Stays};
+ghost use Rattle.xterm_screen.specs.Picture.{Told};
 ghost use Rattle.xterm_rows.specs.RowText.{characters, is_space};
-ghost use Rattle.xterm_print.specs.FindRows.{columns_from, ends_in_space, kept_cells, leaves_last, row_read, rows_read};
+ghost use Rattle.xterm_print.specs.FindRows.{columns_from, ends_in_space, heeds_next, kept_cells, leaves_last, row_read, rows_read};
 
 use sheet::Cell;
 use sheet::limits::MOST_COLUMNS;
-use standings::Row;
+use standings::{Row, Span};
 use std::alloc::{AllocError, Global};
 use xterm_rows::cell_behind;
 use xterm_screen::Screen;
@@ -27,6 +30,59 @@ pub fn rows_read(alloc: Global, screen: &Screen) -> Result<Vec<Row>, AllocError>
     Ok(rows)
 }
 
+/// Rows of before become those of the sheet that is shown. Only those on which touched lines bear are read; it says
+/// which.
+pub fn read_touched(rows: &mut Vec<Row>, screen: &Screen) -> Result<Span, AllocError>
+    ensures rows { (before : List (List Cell)) → Told before screen.now
+        → length before ≡ screen.now.picture.lines
+        → rows.old.items ≡ rows_read screen.now.picture.lines before
+        → OnOk result (rows.new.items ≡ rows_read screen.now.picture.lines screen.now.picture.rows) }
+    ensures others { IfOk result (λ span. Stays span rows.old.items rows.new.items) }
+{
+    let _cursor = screen.cursor();
+    let mut span = Span::none();
+    if rows.len() != screen.lines() as usize {
+        return Ok(span);
+    }
+    for line in 1..screen.lines() + 1 {
+        if may_differ(screen, line) {
+            let row = &mut rows[line as usize - 1];
+            read_again(row, screen.row(line), next_row(screen, line))?;
+            span = span.widened(line as usize - 1);
+        }
+    }
+    Ok(span)
+}
+
+/// Whether a row may be read otherwise than before: it was touched, or the next one was and bears on it.
+fn may_differ(screen: &Screen, line: u16) -> bool
+    requires low { 1 ≤ line }
+    requires high { line ≤ screen.now.picture.lines }
+    ensures { result ≡ false → (before : List (List Cell)) → Told before screen.now
+        → length before ≡ screen.now.picture.lines
+        → row_read (row_at before line) (row_at before (line + 1))
+        ≡ row_read (row_at screen.now.picture.rows line) (row_at screen.now.picture.rows (line + 1)) }
+{
+    let _cursor = screen.cursor();
+    if screen.is_touched(line) {
+        return true;
+    }
+    if line == screen.lines() {
+        return false;
+    }
+    if !screen.is_touched(line + 1) {
+        return false;
+    }
+    heeds_next(screen.row(line))
+}
+
+/// Whether how a row is read depends on the next one.
+fn heeds_next(cells: &[Cell]) -> bool
+    ensures { result ≡ heeds_next cells.now }
+{
+    ends_in_space(cells) && !is_space(cell_behind(cells, cells.len().saturating_sub(2)))
+}
+
 /// The cells of the row below a line; none below the last.
 fn next_row(screen: &Screen, line: u16) -> &[Cell]
     ensures { result.now ≡ row_at screen.now.picture.rows (line + 1) }
@@ -40,17 +96,53 @@ fn next_row(screen: &Screen, line: u16) -> &[Cell]
 }
 
 /// A row, by its cells and by those of the row below it.
-#[tactic(auto, unfolding(crate::specs::FindRows::row_read))]
 fn row_read(alloc: Global, cells: &[Cell], next: &[Cell]) -> Result<Row, AllocError>
     requires some { 1 ≤ length cells.now }
     requires few { length cells.now ≤ MOST_COLUMNS }
     ensures { IfOk result (λ row. row ≡ row_read cells.now next.now) }
 {
+    let mut row = Row::with_room(alloc, cells.len(), false)?;
+    read_again(&mut row, cells, next)?;
+    Ok(row)
+}
+
+/// Becomes a row, by its cells and by those of the row below it.
+#[tactic(auto, unfolding(crate::specs::FindRows::row_read))]
+fn read_again(row: &mut Row, cells: &[Cell], next: &[Cell]) -> Result<(), AllocError>
+    requires some { 1 ≤ length cells.now }
+    requires few { length cells.now ≤ MOST_COLUMNS }
+    ensures { OnOk result (row.new ≡ row_read cells.now next.now) }
+{
     let runs_on = !ends_in_space(cells) || leaves_last(cells, next);
     let kept = kept_cells(cells, next);
-    let mut row = Row::with_room(alloc, kept.len(), runs_on)?;
-    push_cells(&mut row, kept)?;
-    Ok(row)
+    let plain = write_over(row, kept);
+    row.cut(plain, runs_on);
+    push_cells(row, kept, plain)
+}
+
+/// Writes the characters of the first cells, each one character wide and without marks, over those of a row, as far as
+/// it has so many; says of how many.
+fn write_over(row: &mut Row, cells: &[Cell]) -> usize
+    requires few { length cells.now ≤ MOST_COLUMNS }
+    ensures within { result ≤ length cells.now }
+    ensures characters { take result row.new.characters ≡ flat_map characters (take result cells.now) }
+    ensures columns { take result row.new.columns ≡ columns_from 1 (take result cells.now) }
+{
+    let end = row.count().min(cells.len());
+    let mut at = 0;
+    while at < end && is_plain(cells[at]) {
+        row.set(at, cells[at].character(), at as u16 + 1);
+        at += 1;
+    }
+    at
+}
+
+/// Whether a cell holds a character without marks.
+#[tactic(auto, unfolding(xterm_rows::specs::RowText::characters))]
+fn is_plain(cell: Cell) -> bool
+    ensures { result ≡ true → characters cell ≡ cell.character ∷ [] }
+{
+    !cell.is_covered() && cell.mark_count() == 0
 }
 
 /// The cells without the last one, where that is left out.
@@ -92,16 +184,17 @@ fn is_space(cell: Cell) -> bool
     !cell.is_covered() && cell.character() == ' ' && cell.mark_count() == 0
 }
 
-/// Puts the characters of cells behind those of a row, from its first column on.
-fn push_cells(row: &mut Row, cells: &[Cell]) -> Result<(), AllocError>
+/// Puts the characters of cells behind those of the first so many.
+fn push_cells(row: &mut Row, cells: &[Cell], from: usize) -> Result<(), AllocError>
     requires few { length cells.now ≤ MOST_COLUMNS }
-    ensures characters { OnOk result
-        (row.new.characters ≡ row.old.characters ++ flat_map characters cells.now) }
-    ensures columns { OnOk result
-        (row.new.columns ≡ row.old.columns ++ columns_from 1 cells.now) }
+    requires within { from ≤ length cells.now }
+    requires characters { row.old.characters ≡ flat_map characters (take from cells.now) }
+    requires columns { row.old.columns ≡ columns_from 1 (take from cells.now) }
+    ensures characters { OnOk result (row.new.characters ≡ flat_map characters cells.now) }
+    ensures columns { OnOk result (row.new.columns ≡ columns_from 1 cells.now) }
     ensures runs_on { OnOk result (row.new.runs_on ≡ row.old.runs_on) }
 {
-    for at in 0..cells.len() {
+    for at in from..cells.len() {
         push_cell(row, cells[at], at as u16 + 1)?;
     }
     Ok(())

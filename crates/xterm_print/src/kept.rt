@@ -1,8 +1,10 @@
 //! Rows that are kept of a sheet, to tell which of them another one changes.
 
-ghost use Rattle.std.specs.Prelude.{◌≡◌, IfOk, List, length, not};
+ghost use Rattle.std.specs.Prelude.{◌≡◌, ◌≢◌, ◌≤◌, ℕ, IfOk, List, length, not};
 ghost use Rattle.sheet.specs.Cells.{Cell};
-ghost use Rattle.xterm_print.specs.ChangeLines.{changed_lines, same_row};
+ghost use Rattle.sheet.specs.Grid.{row_at};
+ghost use Rattle.xterm_screen.specs.Picture.{Told};
+ghost use Rattle.xterm_print.specs.ChangeLines.{changed_lines, is_changed, same_row};
 ghost use Rattle.xterm_print.specs.Kept.{FollowAll, Follows};
 
 use crate::same::same_row;
@@ -82,22 +84,45 @@ pub fn kept_rows(alloc: Global, screen: &Screen) -> Result<Vec<KeptRow>, AllocEr
     Ok(rows)
 }
 
-/// The lines whose rows differ from those of the sheet that is shown, which they then follow.
+/// The lines whose rows differ from those of the sheet that is shown, which they then follow. Only touched lines are
+/// looked at: the sheet tells that the others are as before.
 pub fn catch_up(rows: &mut [KeptRow], screen: &Screen) -> ArrayVec<u16, ROWS>
     requires { length rows.old ≡ screen.now.picture.lines }
-    ensures changed { result.items
-        ≡ changed_lines screen.now.picture.lines rows.old screen.now.picture.rows }
-    ensures caught { (others : List (List Cell))
-        → FollowAll screen.now.picture.lines screen.now.picture.columns rows.old others
+    ensures changed { (before : List (List Cell)) → Told before screen.now
+        → FollowAll screen.now.picture.lines screen.now.picture.columns rows.old before
+        → result.items ≡ changed_lines screen.now.picture.lines before screen.now.picture.rows }
+    ensures caught { (before : List (List Cell)) → Told before screen.now
+        → FollowAll screen.now.picture.lines screen.now.picture.columns rows.old before
         → FollowAll screen.now.picture.lines screen.now.picture.columns rows.new
         screen.now.picture.rows }
 {
     let mut changed = ArrayVec::new();
     for line in 1..screen.lines() + 1 {
-        let row = &mut rows[line as usize - 1];
-        if row.catch_up(screen.row(line)) {
+        if catch_up_line(rows, screen, line) {
             changed.push(line);
         }
     }
     changed
+}
+
+/// Whether the row of a line differs from that of the sheet that is shown, which it then follows.
+fn catch_up_line(rows: &mut [KeptRow], screen: &Screen, line: u16) -> bool
+    requires whole { length rows.old ≡ screen.now.picture.lines }
+    requires low { 1 ≤ line }
+    requires high { line ≤ screen.now.picture.lines }
+    ensures whole { length rows.new ≡ length rows.old }
+    ensures others { (k : ℕ) → 1 ≤ k → k ≢ line → row_at rows.new k ≡ row_at rows.old k }
+    ensures changed { (before : List (List Cell)) → Told before screen.now
+        → Follows screen.now.picture.columns (row_at rows.old line) (row_at before line)
+        → result ≡ is_changed before screen.now.picture.rows line }
+    ensures caught { (before : List (List Cell)) → Told before screen.now
+        → Follows screen.now.picture.columns (row_at rows.old line) (row_at before line)
+        → Follows screen.now.picture.columns (row_at rows.new line)
+        (row_at screen.now.picture.rows line) }
+{
+    if !screen.is_touched(line) {
+        return false;
+    }
+    let row = &mut rows[line as usize - 1];
+    row.catch_up(screen.row(line))
 }

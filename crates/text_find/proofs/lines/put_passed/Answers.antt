@@ -13,7 +13,7 @@ returns-then-keeps_all-clause-gave g c =
     let ends = c.args.ends.now in
     let m = c.args.moment in
     subst (λ t. Gave g.W.Write.contents c.args.writer.now c.args.writer.now t)
-    (sym (none_passed m.index m.due m.len ends.first.now.rows.items ends.first.now.places.items ends.last.now.rows.items ends.last.now.places.items one.rows.items one.places.items other.rows.items other.places.items
+    (sym (none_passed m.index m.due m.len ends.before.rows.items ends.before.places.items ends.after.rows.items ends.after.places.items one.rows.items one.places.items other.rows.items other.places.items
     (c.keeps_all.ensures c.if-keeps_all.true)))
     (c.gives_join.ensures.nothing c.args.writer.now)
 
@@ -23,7 +23,7 @@ returns-in_err-put_if_passed-clause-front g c =
     let other = c.args.other.now in
     let ends = c.args.ends.now in
     let m = c.args.moment in
-    let f = passed_line m.index m.due m.len ends.first.now.rows.items ends.first.now.places.items ends.last.now.rows.items ends.last.now.places.items one.rows.items one.places.items other.rows.items other.places.items in
+    let f = passed_line m.index m.due m.len ends.before.rows.items ends.before.places.items ends.after.rows.items ends.after.places.items one.rows.items one.places.items other.rows.items other.places.items in
     let p = err_from_is_err_and c.from_residual.result c.from_residual.ensures.1 in
     rw p.1 (began_at g.W.Write.contents c.args.writer.now c.loop-at.writer c.put_if_passed.new.writer f c.loop-at.at (length one.places.items) (omega arith) c.loop-at.invariant
     (began_stays g.W.Write.contents c.loop-at.writer c.put_if_passed.new.writer (f c.loop-at.at) c.in_err-put_if_passed.ensures.refused))
@@ -34,6 +34,6 @@ loop-at-preserved g c =
     let other = c.args.other.now in
     let ends = c.args.ends.now in
     let m = c.args.moment in
-    let f = passed_line m.index m.due m.len ends.first.now.rows.items ends.first.now.places.items ends.last.now.rows.items ends.last.now.places.items one.rows.items one.places.items other.rows.items other.places.items in
+    let f = passed_line m.index m.due m.len ends.before.rows.items ends.before.places.items ends.after.rows.items ends.after.places.items one.rows.items one.places.items other.rows.items other.places.items in
     subst (λ t. Gave g.W.Write.contents c.args.writer.now c.put_if_passed.new.writer t) (sym (first_more f c.loop-at.at))
     (c.gives_join.ensures.both _ _ _ _ _ c.in_ok-put_if_passed.ensures.gave c.loop-at.invariant)

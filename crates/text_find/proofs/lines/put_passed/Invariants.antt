@@ -7,5 +7,5 @@ use Rattle.text_find.proofs.lines.put_passed.Given as goal
 abbrev pub invariant-loop-at : goal.invariant-loop-at
 invariant-loop-at g l =
     Gave g.W.Write.contents l.fn.writer l.writer
-    (texts_from (passed_line l.moment.index l.moment.due l.moment.len l.ends.first.now.rows.items l.ends.first.now.places.items l.ends.last.now.rows.items l.ends.last.now.places.items
+    (texts_from (passed_line l.moment.index l.moment.due l.moment.len l.ends.before.rows.items l.ends.before.places.items l.ends.after.rows.items l.ends.after.places.items
     l.one.rows.items l.one.places.items l.other.rows.items l.other.places.items) 0 l.at)

@@ -1,4 +1,4 @@
-use Rattle.std.proofs.Common.{◌≡◌, ◌++◌, take}
+use Rattle.std.proofs.Common.{◌≡◌, take}
 use Rattle.std.specs.List.{flat_map}
 use Rattle.xterm_rows.specs.RowText.{characters}
 use Rattle.xterm_print.specs.FindRows.{columns_from}
@@ -7,7 +7,7 @@ use Rattle.xterm_print.proofs.find_rows.push_cells.Given as goal
 -- the characters of the cells so far were put
 abbrev pub invariant-loop-at : goal.invariant-loop-at
 invariant-loop-at l = record {
-  characters : l.row.characters ≡ l.fn.row.characters ++ flat_map characters (take l.at l.cells);
-  columns : l.row.columns ≡ l.fn.row.columns ++ columns_from 1 (take l.at l.cells);
+  characters : l.row.characters ≡ flat_map characters (take l.at l.cells);
+  columns : l.row.columns ≡ columns_from 1 (take l.at l.cells);
   runs_on : l.row.runs_on ≡ l.fn.row.runs_on;
 }

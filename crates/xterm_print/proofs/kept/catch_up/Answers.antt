@@ -1,70 +1,73 @@
-use Rattle.std.proofs.Common.{◌≡◌, ◌-◌, ◌≤◌, length, get_or, not, ap, sym, ◌∙◌, subst, arith, append-nil, refl, filter}
-use Rattle.std.proofs.lemmas.List.{length-set}
+use Rattle.std.proofs.Common.{◌≡◌, ◌-◌, ◌≤◌, List, length, ap, sym, ◌∙◌, subst, arith, append-nil, refl, filter, inl, inr}
+use Rattle.std.proofs.lemmas.Bool.{cases_eq}
 use Rattle.std.specs.List.{range_with_len}
+use Rattle.sheet.specs.Cells.{Cell}
 use Rattle.sheet.specs.Grid.{row_at}
-use Rattle.xterm_print.specs.ChangeLines.{changed_lines, is_changed, same_row}
-use Rattle.xterm_print.specs.Kept.{Follows}
-use Rattle.xterm_print.proofs.KeptLemmas.{caught_more, passing_more, row_read, row_set_other}
+use Rattle.xterm_print.specs.ChangeLines.{changed_lines, is_changed}
+use Rattle.xterm_print.specs.Kept.{FollowAll, Follows}
+use Rattle.xterm_print.proofs.KeptLemmas.{passing_more}
 use Rattle.xterm_print.proofs.kept.catch_up.Goals as goal
-use Rattle.xterm_print.proofs.kept.catch_up.Goals.{then-catch_up, else-catch_up}
+use Rattle.xterm_print.proofs.kept.catch_up.Goals.{then-catch_up_line, else-catch_up_line}
 
 pub loop-line-init : goal.loop-line-init
 loop-line-init c = record {
   whole = c.requires;
-  changed = c.new-changed.ensures;
+  changed = λ before told follow. c.new-changed.ensures;
   few = omega (arith, ap length c.new-changed.ensures);
-  later = λ k low. refl;
-  caught = λ k low high. absurd (omega (arith, low, high));
+  later = λ k here low. refl;
+  caught = λ before told follow k low high. absurd (omega (arith, low, high));
 }
 
 pub push-requires : goal.push-requires
 push-requires c = (omega arith, omega (arith, c.loop-line.invariant.few, c.loop-line-test.true, c.lines-line-end.ensures.high))
 
+-- the row of the line follows that of before until it is caught up with
+was : (c : goal.Joined-catch_up_line) → (before : List (List Cell))
+    → FollowAll c.args.screen.now.picture.lines c.args.screen.now.picture.columns c.args.rows.now before
+    → Follows c.args.screen.now.picture.columns (row_at c.loop-line.rows c.loop-line.line) (row_at before c.loop-line.line)
+was c before follow =
+    let line = c.loop-line.line in
+    let low : 1 ≤ line = omega arith in
+    subst (λ row. Follows c.args.screen.now.picture.columns row (row_at before line)) (sym (c.loop-line.invariant.later line low (omega arith)))
+    (follow.row line low (omega (arith, c.lines-line-end.ensures.value, c.loop-line-test.true)))
+
 pub loop-line-preserved : goal.loop-line-preserved
 loop-line-preserved c =
     let line = c.loop-line.line in
-    let before = c.args.rows.now in
     let after = c.args.screen.now.picture.rows in
     let columns = c.args.screen.now.picture.columns in
-    let rows = c.loop-line.rows in
-    let row = c.catch_up.new.self in
-    let old = get_or rows (line - 1) c.index-rows-line.result in
     let kept = c.loop-line.invariant in
     let low : 1 ≤ line = omega arith in
-    let high : line ≤ length rows = omega (arith, kept.whole, c.lines-line-end.ensures.value, c.loop-line-test.true) in
-    let was : old ≡ row_at before line = sym (row_read rows line c.index-rows-line.result low high) ∙ kept.later line (omega arith) in
-    let is : c.catch_up.result ≡ is_changed before after line =
-    c.catch_up.ensures.changed ∙ ap (λ r. not (same_row r c.row.result.now)) was ∙ ap (λ r. not (same_row (row_at before line) r)) c.row.ensures.value in
     record {
-      whole = length-set rows (line - 1) row ∙ kept.whole;
-      changed = passing_more (is_changed before after) line c.catch_up.result c.loop-line.changed.items c.if-catch_up.changed.items low is kept.changed
-          (elim c.if-catch_up.branch [
-            | then-catch_up w ↦ rw (w.changed-is, w.if-catch_up.true) w.push.ensures.items
-            | else-catch_up w ↦ rw (w.changed-is, w.if-catch_up.false) (sym (append-nil c.loop-line.changed.items))
+      whole = c.catch_up_line.ensures.whole ∙ kept.whole;
+      changed = λ before told follow.
+          passing_more (is_changed before after) line c.catch_up_line.result c.loop-line.changed.items c.if-catch_up_line.changed.items low
+          (c.catch_up_line.ensures.changed before told (was c before follow)) (kept.changed before told follow)
+          (elim c.if-catch_up_line.branch [
+            | then-catch_up_line w ↦ rw (w.changed-is, w.if-catch_up_line.true) w.push.ensures.items
+            | else-catch_up_line w ↦ rw (w.changed-is, w.if-catch_up_line.false) (sym (append-nil c.loop-line.changed.items))
           ]);
-      few = elim c.if-catch_up.branch [
-        | then-catch_up w ↦ rw w.changed-is (omega (arith, w.push.ensures.len, kept.few))
-        | else-catch_up w ↦ rw w.changed-is (omega (arith, kept.few))
+      few = elim c.if-catch_up_line.branch [
+        | then-catch_up_line w ↦ rw w.changed-is (omega (arith, w.push.ensures.len, kept.few))
+        | else-catch_up_line w ↦ rw w.changed-is (omega (arith, kept.few))
       ];
-      later = λ k from. row_set_other rows line k row low (omega arith) (omega arith) ∙ kept.later k (omega arith);
-      caught = λ k here below long.
-          caught_more columns line k rows after row low high here below
-          (λ e.
-          let long' : length old ≡ length c.row.result.now =
-          ap length was ∙ ap (λ m. length (row_at before m)) (sym e) ∙ long ∙ sym c.row.ensures.columns in
-          subst (λ r. Follows columns row r) c.row.ensures.value
-          (subst (λ w. Follows w row c.row.result.now) c.row.ensures.columns (c.catch_up.ensures.caught long')))
-          (λ less. kept.caught k here less long);
+      later = λ k here from. c.catch_up_line.ensures.others k here (omega arith) ∙ kept.later k here (omega arith);
+      caught = λ before told follow k here below. elim (cases_eq k line) [
+        | inl e ↦ subst (λ m. Follows columns (row_at c.catch_up_line.new.rows m) (row_at after m)) (sym e)
+            (c.catch_up_line.ensures.caught before told (was c before follow))
+        | inr ne ↦ subst (λ row. Follows columns row (row_at after k)) (sym (c.catch_up_line.ensures.others k here ne))
+            (kept.caught before told follow k here (omega arith))
+      ];
     }
 
 pub returns-clause-changed : goal.returns-clause-changed
 unfolding changed_lines
-returns-clause-changed c =
+returns-clause-changed c = λ before told follow.
     let all : c.loop-line.line - 1 ≡ c.args.screen.now.picture.lines = omega (arith, c.lines-line-end.ensures.value, c.loop-line-test.false) in
-    c.loop-line.invariant.changed ∙ ap (λ n. filter (is_changed c.args.rows.now c.args.screen.now.picture.rows) (range_with_len 1 n)) all
+    c.loop-line.invariant.changed before told follow ∙ ap (λ n. filter (is_changed before c.args.screen.now.picture.rows) (range_with_len 1 n)) all
 
 pub returns-clause-caught : goal.returns-clause-caught
-returns-clause-caught c = λ others follow. record {
+returns-clause-caught c = λ before told follow. record {
   lines = c.loop-line.invariant.whole;
-  row = λ k low high. c.loop-line.invariant.caught k low (omega (arith, c.lines-line-end.ensures.value, c.loop-line-test.false)) (follow.row k low high).columns;
+  row = λ k low high. c.loop-line.invariant.caught before told follow k low (omega (arith, c.lines-line-end.ensures.value, c.loop-line-test.false));
 }

@@ -1,17 +1,20 @@
-use Rattle.std.proofs.Common.{◌≡◌, ℕ, ◌+◌, ◌-◌, ◌<◌, ◌≤◌, filter, length}
+use Rattle.std.proofs.Common.{◌≡◌, ℕ, ◌+◌, ◌-◌, ◌<◌, ◌≤◌, List, filter, length}
 use Rattle.std.specs.List.{range_with_len}
+use Rattle.sheet.specs.Cells.{Cell}
 use Rattle.sheet.specs.Grid.{row_at}
+use Rattle.xterm_screen.specs.Picture.{Told}
 use Rattle.xterm_print.specs.ChangeLines.{is_changed}
-use Rattle.xterm_print.specs.Kept.{Follows}
+use Rattle.xterm_print.specs.Kept.{FollowAll, Follows}
 use Rattle.xterm_print.proofs.kept.catch_up.Given as goal
 
 -- those so far differed and follow now, and the others are as they were
 abbrev pub invariant-loop-line : goal.invariant-loop-line
 invariant-loop-line l = record {
   whole : length l.rows ≡ l.fn.screen.picture.lines;
-  changed : l.changed.items ≡ filter (is_changed l.fn.rows l.fn.screen.picture.rows) (range_with_len 1 (l.line - 1));
+  changed : (before : List (List Cell)) → Told before l.fn.screen → FollowAll l.fn.screen.picture.lines l.fn.screen.picture.columns l.fn.rows before
+      → l.changed.items ≡ filter (is_changed before l.fn.screen.picture.rows) (range_with_len 1 (l.line - 1));
   few : length l.changed.items + 1 ≤ l.line;
-  later : (k : ℕ) → l.line ≤ k → row_at l.rows k ≡ row_at l.fn.rows k;
-  caught : (k : ℕ) → 1 ≤ k → k < l.line → length (row_at l.fn.rows k) ≡ l.fn.screen.picture.columns
-      → Follows l.fn.screen.picture.columns (row_at l.rows k) (row_at l.fn.screen.picture.rows k);
+  later : (k : ℕ) → 1 ≤ k → l.line ≤ k → row_at l.rows k ≡ row_at l.fn.rows k;
+  caught : (before : List (List Cell)) → Told before l.fn.screen → FollowAll l.fn.screen.picture.lines l.fn.screen.picture.columns l.fn.rows before
+      → (k : ℕ) → 1 ≤ k → k < l.line → Follows l.fn.screen.picture.columns (row_at l.rows k) (row_at l.fn.screen.picture.rows k);
 }

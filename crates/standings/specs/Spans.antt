@@ -1,0 +1,18 @@
+-- Private: rows of which something is said together, by how many are above them.
+use Rattle.std.specs.Prelude.{◌≡◌, ℕ, ◌+◌, ◌<◌, ◌≤◌, List, if◌then◌else◌, length, max, min, nat_le}
+use Rattle.standings.specs.declared.span.Span.{Span}
+use Rattle.standings.specs.Rows.{Row, row_below}
+
+-- as many rows, and all but these are the same
+pub record Stays (span : Span) (one other : List Row) : Type 0 where
+  pub count : length other ≡ length one
+  pub above : (k : ℕ) → k < span.from → row_below other k ≡ row_below one k
+  pub below : (k : ℕ) → span.to ≤ k → row_below other k ≡ row_below one k
+
+abbrev pub span_of : ℕ → ℕ → Span
+span_of from to = record { from = from; to = to }
+
+-- these rows, the one below so many others, and those between
+unfoldable pub widened : Span → ℕ → Span
+widened span above =
+    if nat_le span.to span.from then span_of above (above + 1) else span_of (min span.from above) (max span.to (above + 1))
