@@ -10,17 +10,14 @@ use Rattle.sheet.specs.declared.rendition.Rendition.{Rendition}
 use Rattle.sheet.specs.declared.cell.Kind.{Kind}
 use Rattle.sheet.specs.declared.cell.Kind.TheVariants.{Narrow, Wide, Covered}
 use Rattle.sheet.specs.Cells.{Cell, blank}
-use Rattle.xterm_rows.specs.Ink.{attribute_number, bit}
+use Rattle.xterm_rows.specs.Ink.{attribute_number}
+use Rattle.xterm_rows.proofs.BitLemmas.{SameBits, both, same_bits}
 use Rattle.xterm_print.specs.ChangeLines.{same_row as same_numbers}
 use Rattle.xterm_print.proofs.SameLemmas.{equal_same}
 use Rattle.xterm_page.specs.Same.{row_mixed, same_at, same_cell, same_colour, same_kind, same_mark, same_marks, same_rendition, same_row}
 use Rattle.xterm_page.proofs.SameLemmas.{one_fails, row_itself}
 
 -- ---- truth values and lists
-
-both : (s t : Bool) → (s && t) ≡ true → (s ≡ true) × (t ≡ true)
-both true t h = (refl, h)
-both false t h = absurd (false≢true h)
 
 -- where all numbers pass, each does
 each_passes : (p : ℕ → Bool) (n k : ℕ) → list_all p (range_with_len 0 n) ≡ true → k < n → p k ≡ true
@@ -50,81 +47,6 @@ colours_equal (Direct r g b) (Direct s i c) h =
     let first = both (r == s) ((g == i) && (b == c)) h in
     let rest = both (g == i) (b == c) first.1 in
     ap (λ x. Direct x g b) (eqb-true r s first.0) ∙ ap (λ x. Direct s x b) (eqb-true g i rest.0) ∙ ap (λ x. Direct s i x) (eqb-true b c rest.1)
-
-bit_low : (b : Bool) → bit b ≤ 1
-bit_low true = omega arith
-bit_low false = omega arith
-
-bits_equal : (a b : Bool) → bit a ≡ bit b → a ≡ b
-bits_equal true true h = refl
-bits_equal true false h = absurd (omega (arith, h))
-bits_equal false true h = absurd (omega (arith, h))
-bits_equal false false h = refl
-
--- the lowest bit, and the number above it
-peeled : (a b : Bool) (x y : ℕ) → bit a + 2 * x ≡ bit b + 2 * y → (a ≡ b) × (x ≡ y)
-peeled a b x y h =
-    let low = bit_low a in
-    let low' = bit_low b in
-    (bits_equal a b (omega (arith, low, low', h)), omega (arith, low, low', h))
-
--- the attributes by their bits
-record SameBits (one other : Rendition) : Type 0 where
-  bold : one.bold ≡ other.bold
-  underscore : one.underscore ≡ other.underscore
-  blink : one.blink ≡ other.blink
-  reverse : one.reverse ≡ other.reverse
-  faint : one.faint ≡ other.faint
-  italic : one.italic ≡ other.italic
-  concealed : one.concealed ≡ other.concealed
-  crossed_out : one.crossed_out ≡ other.crossed_out
-
-abbrev above_concealed : Rendition → ℕ
-above_concealed r = bit r.crossed_out + 2 * 0
-
-abbrev above_italic : Rendition → ℕ
-above_italic r = bit r.concealed + 2 * above_concealed r
-
-abbrev above_faint : Rendition → ℕ
-above_faint r = bit r.italic + 2 * above_italic r
-
-abbrev above_gap : Rendition → ℕ
-above_gap r = bit r.faint + 2 * above_faint r
-
-abbrev above_blink : Rendition → ℕ
-above_blink r = bit r.reverse + 2 * (2 * above_gap r)
-
-abbrev above_underscore : Rendition → ℕ
-above_underscore r = bit r.blink + 2 * above_blink r
-
-abbrev above_bold : Rendition → ℕ
-above_bold r = bit r.underscore + 2 * above_underscore r
-
-nested : (r : Rendition) → attribute_number r ≡ bit r.bold + 2 * above_bold r
-unfolding attribute_number
-nested r = omega arith
-
-same_bits : (one other : Rendition) → attribute_number one ≡ attribute_number other → SameBits one other
-same_bits one other h =
-    let a = peeled one.bold other.bold (above_bold one) (above_bold other) (sym (nested one) ∙ h ∙ nested other) in
-    let b = peeled one.underscore other.underscore (above_underscore one) (above_underscore other) a.1 in
-    let c = peeled one.blink other.blink (above_blink one) (above_blink other) b.1 in
-    let d = peeled one.reverse other.reverse (2 * above_gap one) (2 * above_gap other) c.1 in
-    let gap : above_gap one ≡ above_gap other = omega (arith, d.1) in
-    let e = peeled one.faint other.faint (above_faint one) (above_faint other) gap in
-    let f = peeled one.italic other.italic (above_italic one) (above_italic other) e.1 in
-    let g = peeled one.concealed other.concealed (above_concealed one) (above_concealed other) f.1 in
-    let i = peeled one.crossed_out other.crossed_out 0 0 g.1 in
-    record {
-      bold = a.0;
-      underscore = b.0;
-      blink = c.0;
-      reverse = d.0;
-      faint = e.0;
-      italic = f.0;
-      concealed = g.0;
-      crossed_out = i.0;
-    }
 
 unfoldable made : Bool → Bool → Bool → Bool → Bool → Bool → Bool → Bool → Colour → Colour → Rendition
 made bold faint italic underscore blink reverse concealed crossed_out ink paper = record {

@@ -2,6 +2,7 @@ pub mod SameLemmas
 pub mod EqualLemmas
 pub mod KeptLemmas
 pub mod StringLemmas
+mod HeldLemmas
 pub mod PageLemmas
 pub mod Replays
 mod ReadLemmas

@@ -11,9 +11,10 @@ use Rattle.sheet.specs.declared.rendition.Rendition.{Rendition}
 use Rattle.sheet.specs.declared.cell.Kind.{Kind}
 use Rattle.sheet.specs.declared.cell.Kind.TheVariants.{Narrow, Wide, Covered}
 use Rattle.sheet.specs.Cells.{Cell}
+use Rattle.sheet.specs.Mixed.{mixed}
 use Rattle.xterm_rows.specs.Ink.{attribute_number}
 use Rattle.xterm_rows.specs.Runs.{cell_behind}
-use Rattle.xterm_page.specs.Same.{mixed, row_mixed, same_at, same_cell, same_colour, same_kind, same_mark, same_marks, same_rendition, same_row}
+use Rattle.xterm_page.specs.Same.{row_mixed, same_at, same_cell, same_colour, same_kind, same_mark, same_marks, same_rendition, same_row}
 
 -- where one number fails, not all pass
 pub one_fails : (p : ℕ → Bool) (n k : ℕ) → k < n → p k ≡ false → list_all p (range_with_len 0 n) ≡ false
@@ -23,9 +24,9 @@ one_fails p n k below fails =
 
 -- a cell more is mixed in
 pub mixed_more : (sum : ℕ) (cells : List Cell) (cell : Cell)
-    → row_mixed sum (cells ++ cell ∷ []) ≡ mixed (row_mixed sum cells) cell.character
+    → row_mixed sum (cells ++ cell ∷ []) ≡ mixed (row_mixed sum cells) cell
 mixed_more sum [] cell = refl
-mixed_more sum (first ∷ cells) cell = mixed_more (mixed sum first.character) cells cell
+mixed_more sum (first ∷ cells) cell = mixed_more (mixed sum first) cells cell
 
 -- ---- each cell and row is the same as itself
 

@@ -1,5 +1,5 @@
 -- Characters as they stand in a string, and a cell character by character.
-use Rattle.std.proofs.Common.{◌≡◌, ◌≢◌, ℕ, ◌+◌, ◌<◌, ◌≤◌, false, List, [], ◌∷◌, ◌++◌, encode_utf8, length, get_or, take, drop, ap, sym, ◌∙◌, arith, append-nil, append_assoc, inl, inr}
+use Rattle.std.proofs.Common.{◌≡◌, ◌≢◌, ℕ, ◌+◌, ◌<◌, ◌≤◌, List, [], ◌∷◌, ◌++◌, encode_utf8, length, get_or, take, drop, ap, sym, ◌∙◌, arith, append-nil, append_assoc, inl, inr}
 use Rattle.std.specs.List.{flat_map}
 use Rattle.std.proofs.lemmas.Bool.{cases_lt}
 use Rattle.std.proofs.lemmas.Bool.Decides.{nat_tests}
@@ -7,7 +7,8 @@ use Rattle.std.proofs.lemmas.List.{take_more}
 use Rattle.std.proofs.lemmas.List.Concat.{flat_map-append}
 use Rattle.std.proofs.lemmas.Str.{encode_ascii}
 use Rattle.std.proofs.Math.Seq.{take-add}
-use Rattle.sheet.specs.Cells.{Cell, is_covered}
+use Rattle.sheet.specs.declared.cell.Kind.TheVariants.{Narrow}
+use Rattle.sheet.specs.Cells.{Cell, covered_kind, is_covered}
 use Rattle.xterm_rows.specs.RowText.{printed}
 use Rattle.xterm_print.proofs.PlainLemmas.{printed_open}
 use Rattle.screen_page.specs.EntryText.{comma_number, string_byte}
@@ -26,11 +27,13 @@ plain_character c quote slash less = elim (cases_lt c 128) [
 ]
 
 -- a cell that holds such a character alone
-pub plain_cell : (cell : Cell) → is_covered cell ≡ false → length cell.marks ≤ 0 → cell.character < 128 → cell.character ≢ 34
+pub plain_cell : (cell : Cell) → cell.kind ≡ Narrow → cell.marks ≡ [] → cell.character < 128 → cell.character ≢ 34
     → cell.character ≢ 92 → cell.character ≢ 60 → IsPlain cell
-plain_cell cell covered alone low quote slash less =
+unfolding is_covered
+plain_cell cell kind alone low quote slash less =
     let c = cell.character in
-    let one : printed cell ≡ encode_utf8 c = sym (printed_open cell 0 covered alone) ∙ append-nil (encode_utf8 c) in
+    let few : length cell.marks ≤ 0 = omega (arith, ap (λ (marks : List ℕ). length marks) alone) in
+    let one : printed cell ≡ encode_utf8 c = sym (printed_open cell 0 (ap covered_kind kind) few) ∙ append-nil (encode_utf8 c) in
     record {
       low = low;
       text = ap (flat_map string_byte) one ∙ sym (plain_character c quote slash less) ∙ encode_ascii c low;

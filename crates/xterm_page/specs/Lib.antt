@@ -1,4 +1,5 @@
 pub mod Same
+pub mod Held
 pub mod Entries
 pub mod EntryText
 pub mod Folded

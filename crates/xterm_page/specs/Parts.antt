@@ -1,14 +1,14 @@
 -- Private: the parts of a page in the order in which they are written.
-use Rattle.std.specs.Prelude.{◌≡◌, ℕ, ◌≤◌, Bool, List, [], ◌∷◌, ◌++◌, length, map, if◌then◌else◌}
+use Rattle.std.specs.Prelude.{◌≡◌, ℕ, ◌≤◌, Bool, false, not, List, [], ◌∷◌, ◌++◌, ◌&&◌, Option, Some, None, length, map, if◌then◌else◌}
 use Rattle.std.specs.List.{flat_map, range_with_len}
 use Rattle.sheet.specs.Cells.{Cell}
-use Rattle.sheet.specs.Grid.{row_at}
+use Rattle.sheet.specs.Grid.{is_touched, row_at}
 use Rattle.screen_page.specs.Page.{front, tail}
 use Rattle.xterm_term.specs.declared.measure.Size.{Size}
 use Rattle.xterm_term.specs.Console.{Console}
-use Rattle.xterm_page.specs.Entries.{change_of, console_by, entry_by, entry_of, first_entry, is_changed}
+use Rattle.xterm_page.specs.Entries.{change_of, console_by, entry_by, entry_of, first_entry}
 use Rattle.xterm_page.specs.EntryText.{entry_front, named_text, next_text, size_text}
-use Rattle.xterm_page.specs.Same.{same_row}
+use Rattle.xterm_page.specs.Same.{row_mixed, same_row}
 
 -- what stands before the chunks' entries ..
 unfoldable pub first_text : List ℕ
@@ -25,22 +25,36 @@ chunk_text size index due before after = next_text (entry_by size.columns size.l
 unfoldable pub closing : List ℕ
 closing = 93 ∷ tail
 
--- a line, if it has changed
+-- a line that has changed
 unfoldable pub changed_text : ℕ → List (List Cell) → List Cell → ℕ → List ℕ
 changed_text lines before row line = named_text (change_of lines before row line)
 
-unfoldable pub line_text : ℕ → List (List Cell) → List Cell → ℕ → List ℕ
-line_text lines before row line =
-    if same_row (row_at before line) row then [] else changed_text lines before row line
+-- a line is told as changed: it was touched, and differs
+abbrev pub is_renewed : List Bool → List Cell → List Cell → ℕ → Bool
+is_renewed touched was row line = is_touched touched line && not (same_row was row)
 
--- whether each line has changed, of so many
-abbrev pub differing : ℕ → List (List Cell) → List (List Cell) → List Bool
-differing lines before after = map (is_changed before after) (range_with_len 1 lines)
+-- its number then
+abbrev pub differing_row : List Bool → List Cell → List Cell → ℕ → Option ℕ
+differing_row touched was row line = if is_renewed touched was row line then Some (row_mixed 0 row) else None
+
+-- that of each line, of so many
+abbrev pub differing : List Bool → ℕ → List (List Cell) → List (List Cell) → List (Option ℕ)
+differing touched lines before after =
+    map (λ line. differing_row touched (row_at before line) (row_at after line) line) (range_with_len 1 lines)
+
+-- what is written of a line
+unfoldable pub line_text : List Bool → ℕ → List (List Cell) → List Cell → ℕ → List ℕ
+line_text touched lines before row line =
+    if is_renewed touched (row_at before line) row line then changed_text lines before row line else []
 
 -- the lines that have changed, of so many
-unfoldable pub lines_text : ℕ → List (List Cell) → List (List Cell) → List ℕ
-lines_text lines before after =
-    flat_map (λ line. line_text lines before (row_at after line) line) (range_with_len 1 lines)
+unfoldable pub lines_text : List Bool → ℕ → List (List Cell) → List (List Cell) → List ℕ
+lines_text touched lines before after =
+    flat_map (λ line. line_text touched lines before (row_at after line) line) (range_with_len 1 lines)
+
+-- each line that wasn't touched has the row of before
+abbrev pub AreTold : List (List Cell) → List Bool → List (List Cell) → Type 0
+AreTold before touched rows = (line : ℕ) → is_touched touched line ≡ false → row_at rows line ≡ row_at before line
 
 -- when a chunk is due, the flags and the cursor
 unfoldable pub front_text : ℕ → Console → List ℕ

@@ -1,5 +1,5 @@
 -- When cells are the same, and when rows are.
-use Rattle.std.specs.Prelude.{ℕ, ◌+◌, ◌*◌, ◌%◌, Bool, true, false, List, [], ◌∷◌, length, ◌==◌, ◌&&◌, slice_index_or}
+use Rattle.std.specs.Prelude.{ℕ, Bool, true, false, List, [], ◌∷◌, length, ◌==◌, ◌&&◌, slice_index_or}
 use Rattle.std.specs.List.{list_all, range_with_len}
 use Rattle.sheet.specs.declared.rendition.Colour.{Colour}
 use Rattle.sheet.specs.declared.rendition.Colour.TheVariants.{Default, Palette, Direct}
@@ -7,6 +7,7 @@ use Rattle.sheet.specs.declared.rendition.Rendition.{Rendition}
 use Rattle.sheet.specs.declared.cell.Kind.{Kind}
 use Rattle.sheet.specs.declared.cell.Kind.TheVariants.{Narrow, Wide, Covered}
 use Rattle.sheet.specs.Cells.{Cell}
+use Rattle.sheet.specs.Mixed.{mixed}
 use Rattle.xterm_rows.specs.Ink.{attribute_number}
 use Rattle.xterm_rows.specs.Runs.{cell_behind}
 
@@ -53,11 +54,7 @@ same_row one other =
 
 -- ---- private: a number that most rows don't share
 
--- a number more is mixed into it
-unfoldable pub mixed : ℕ → ℕ → ℕ
-mixed sum n = (sum * 6364136223846793005 % 18446744073709551616 + n) % 18446744073709551616
-
--- the characters of a row
+-- all cells of a row are mixed into a number
 abbrev pub row_mixed : ℕ → List Cell → ℕ
 row_mixed sum [] = sum
-row_mixed sum (cell ∷ cells) = row_mixed (mixed sum cell.character) cells
+row_mixed sum (cell ∷ cells) = row_mixed (mixed sum cell) cells

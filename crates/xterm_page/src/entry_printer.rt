@@ -4,10 +4,14 @@ ghost use Rattle.std.specs.Prelude.{◌≡◌, length};
 ghost use Rattle.tape_core.specs.Devices.{Gave};
 ghost use Rattle.xterm_page.specs.Entries.{entry_of};
 ghost use Rattle.xterm_page.specs.EntryText.{next_text};
+ghost use Rattle.xterm_page.specs.Held.{Wrote};
 ghost use Rattle.xterm_page.specs.Parts.{differing, front_text, lines_text};
+ghost use Rattle.xterm_term.specs.Seen.{Told};
 
+use crate::held::{HELD, let_out, put, put_byte, put_comma_number};
 use crate::kept::{KeptRow, catch_up, changed_rows, kept_rows};
-use crate::rows::{put_changed, put_comma_number};
+use crate::rows::put_changed;
+use arrayvec::ArrayVec;
 use chunk_walk::Visitor;
 use std::alloc::Global;
 use std::io::Write;
@@ -57,7 +61,7 @@ impl Visitor<Terminal> for EntryPrinter {
         size_stays();
         let screen = terminal.screen();
         if kept.len() == screen.lines() as usize {
-            let changed = changed_rows(kept.as_slice(), screen);
+            let changed = changed_rows(self.alloc, kept.as_slice(), screen)?;
             put_entry(due, kept.as_slice(), changed.as_slice(), terminal, writer);
             catch_up(kept.as_mut_slice(), changed.as_slice(), screen);
         }
@@ -69,55 +73,69 @@ impl Visitor<Terminal> for EntryPrinter {
 fn put_entry<W: Write>(
     due: u64,
     before: &[KeptRow],
-    changed: &[bool],
+    changed: &[Option<u64>],
     after: &Terminal,
     writer: &mut Watched<W>,
 )
     requires lines { length before.now ≡ after.now.console.picture.lines }
-    requires changed { changed.now ≡ differing after.now.console.picture.lines before.now
-        after.now.console.picture.rows }
-    ensures { Gave W.contents writer.old writer.new
+    requires changed { changed.now ≡ differing after.now.touched after.now.console.picture.lines
+        before.now after.now.console.picture.rows }
+    ensures { Told before.now after.now → Gave W.contents writer.old writer.new
         (next_text (entry_of due before.now after.now.console)) }
 {
     gives_join::<W>();
-    writer.give(b",\n[");
-    put_front(due, after, writer);
-    put_lines(before, changed, after.screen(), writer);
-    writer.give(b"]");
+    let mut held = ArrayVec::new();
+    put(b",\n[", &mut held, writer);
+    put_front(due, after, &mut held, writer);
+    put_lines(before, changed, after.screen(), &mut held, writer);
+    put_byte(b']', &mut held, writer);
+    let_out(&mut held, writer);
 }
 
 /// Writes an entry's beginning: when the chunk is due, the flags, the cursor.
-#[tactic(auto, unfolding(crate::specs::Parts::front_text, crate::specs::EntryText::entry_front))]
-fn put_front<W: Write>(due: u64, after: &Terminal, writer: &mut Watched<W>)
-    ensures { Gave W.contents writer.old writer.new (front_text due after.now.console) }
+fn put_front<W: Write>(
+    due: u64,
+    after: &Terminal,
+    held: &mut ArrayVec<u8, HELD>,
+    writer: &mut Watched<W>,
+)
+    ensures { Wrote W.contents writer.old held.old.items writer.new held.new.items
+        (front_text due after.now.console) }
 {
-    gives_join::<W>();
     let modes = after.modes();
     let (line, column) = after.screen().cursor();
     let flags = 2 * usize::from(modes.reverse_screen) + 4 * usize::from(!modes.cursor_shown);
-    writer.give(seconds_text(due).as_bytes());
-    put_comma_number(flags, writer);
-    put_comma_number(usize::from(line), writer);
-    put_comma_number(usize::from(column), writer);
+    put(seconds_text(due).as_bytes(), held, writer);
+    put_comma_number(flags, held, writer);
+    put_comma_number(usize::from(line), held, writer);
+    put_comma_number(usize::from(column), held, writer);
 }
 
 /// Writes what the lines are that a chunk changes.
 fn put_lines<W: Write>(
     before: &[KeptRow],
-    changed: &[bool],
+    changed: &[Option<u64>],
     screen: &Screen,
+    held: &mut ArrayVec<u8, HELD>,
     writer: &mut Watched<W>,
 )
     requires lines { length before.now ≡ screen.now.picture.lines }
-    requires changed { changed.now
-        ≡ differing screen.now.picture.lines before.now screen.now.picture.rows }
-    ensures { Gave W.contents writer.old writer.new
-        (lines_text screen.now.picture.lines before.now screen.now.picture.rows) }
+    requires changed { changed.now ≡ differing screen.now.touched screen.now.picture.lines
+        before.now screen.now.picture.rows }
+    ensures { Wrote W.contents writer.old held.old.items writer.new held.new.items
+        (lines_text screen.now.touched screen.now.picture.lines before.now
+        screen.now.picture.rows) }
 {
-    gives_join::<W>();
     for line in 1..screen.lines() + 1 {
-        if changed[line as usize - 1] {
-            put_changed(before, screen.row(line), line as usize, writer);
+        if let Some(number) = changed[line as usize - 1] {
+            put_changed(
+                before,
+                screen.row(line),
+                number,
+                line as usize,
+                held,
+                writer,
+            );
         }
     }
 }

@@ -2,6 +2,7 @@
 #![tactic(auto)]
 
 mod entry_printer;
+mod held;
 mod kept;
 pub mod laws;
 mod page_file;

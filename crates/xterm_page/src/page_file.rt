@@ -1,17 +1,18 @@
 //! The page of a recording.
 
-ghost use Rattle.std.specs.Prelude.{◌≡◌, true, false, OnOk, IfErr};
+ghost use Rattle.std.specs.Prelude.{◌≡◌, true, false, decimal, OnOk, IfErr};
 ghost use Rattle.tape_core.specs.Devices.{Gave, Took, has_failed, is_flushed};
 ghost use Rattle.tape_seek.specs.State.{KeepsHistory};
 ghost use Rattle.chunk_walk.specs.Stops.{OnlySeeks, StopsPrint};
+ghost use Rattle.screen_page.specs.EntryText.{comma_number};
 ghost use Rattle.xterm_page.specs.EntryText.{size_text};
 ghost use Rattle.xterm_page.specs.Page.{page_text};
 ghost use Rattle.xterm_page.specs.Parts.{closing, first_text, opening};
 
 use crate::entry_printer::EntryPrinter;
-use crate::rows::{put_comma_number, put_number};
 use chunk_walk::laws::walks_end_sound;
 use chunk_walk::{WalkFault, visit_all_chunks};
+use itoa::Buffer;
 use screen_page::{put_front, put_tail};
 use std::alloc::Global;
 use std::io::Write;
@@ -72,9 +73,23 @@ fn put_size<W: Write>(size: Size, writer: &mut Watched<W>)
 {
     gives_join::<W>();
     writer.give(b"[");
-    put_number(size.columns as usize, writer);
-    put_comma_number(size.lines as usize, writer);
+    give_number(size.columns as usize, writer);
+    give_comma_number(size.lines as usize, writer);
     writer.give(b"]");
+}
+
+/// Writes a number.
+fn give_number<W: Write>(number: usize, writer: &mut Watched<W>)
+    ensures { Gave W.contents writer.old writer.new (decimal number) }
+{
+    writer.give(Buffer::new().format(number).as_bytes());
+}
+
+/// Writes a comma and a number.
+fn give_comma_number<W: Write>(number: usize, writer: &mut Watched<W>)
+    ensures { Gave W.contents writer.old writer.new (comma_number number) }
+{
+    writer.give_all(&[b",", Buffer::new().format(number).as_bytes()]);
 }
 
 /// The entry before all chunks, behind the size.

@@ -1,164 +1,165 @@
 //! What a line is after a chunk: what another line was before it, or a row.
 
-ghost use Rattle.std.specs.Prelude.{◌≡◌, ◌≤◌, ◌∷◌, IsTrue, decimal, encode_utf8, length, take};
+ghost use Rattle.std.specs.Prelude.{◌≡◌, ◌≤◌, ◌∷◌, ◌++◌, IsTrue, encode_utf8, length, take};
 ghost use Rattle.std.specs.List.{flat_map};
-ghost use Rattle.tape_core.specs.Devices.{Gave};
-ghost use Rattle.screen_page.specs.EntryText.{comma_number, string_byte};
+ghost use Rattle.screen_page.specs.EntryText.{string_byte};
 ghost use Rattle.xterm_rows.specs.RowText.{printed};
 ghost use Rattle.xterm_page.specs.Entries.{cells_shown, shown, shown_run};
 ghost use Rattle.xterm_page.specs.EntryText.{change_text, numbers_text, row_text, run_text};
+ghost use Rattle.xterm_page.specs.Held.{Wrote};
 ghost use Rattle.xterm_page.specs.Parts.{changed_text};
 ghost use Rattle.xterm_page.specs.Plain.{IsPlain, string_of};
+ghost use Rattle.xterm_page.specs.Same.{row_mixed};
 
+use crate::held::{HELD, put, put_byte, put_comma_number};
 use crate::kept::{KeptRow, line_of};
 use arrayvec::ArrayVec;
-use itoa::Buffer;
 use sheet::Cell;
 use std::io::Write;
 use tape_core::Watched;
-use tape_core::laws::gives_join;
 use xterm_rows::{Run, colour_number, inked, run_at};
 
-/// How many characters go out at once at most.
-const HELD: usize = 64;
-
-/// Writes what a line is that the chunk changes.
+/// Writes what a line is that the chunk changes, by the number of its cells.
 pub(crate) fn put_changed<W: Write>(
     before: &[KeptRow],
     cells: &[Cell],
+    number: u64,
     line: usize,
+    held: &mut ArrayVec<u8, HELD>,
     writer: &mut Watched<W>,
 )
-    ensures { Gave W.contents writer.old writer.new
+    requires { number ≡ row_mixed 0 cells.now }
+    ensures { Wrote W.contents writer.old held.old.items writer.new held.new.items
         (changed_text (length before.now) before.now cells.now line) }
 {
-    gives_join::<W>();
-    put_comma_number(line, writer);
-    match line_of(before, cells) {
-        Some(other) => put_comma_number(other, writer),
-        None => put_row(cells, writer),
+    put_comma_number(line, held, writer);
+    match line_of(before, cells, number) {
+        Some(other) => put_comma_number(other, held, writer),
+        None => put_row(cells, held, writer),
     }
 }
 
-/// Writes a number.
-pub(crate) fn put_number<W: Write>(number: usize, writer: &mut Watched<W>)
-    ensures { Gave W.contents writer.old writer.new (decimal number) }
-{
-    writer.give(Buffer::new().format(number).as_bytes());
-}
-
-/// Writes a comma and a number.
-pub(crate) fn put_comma_number<W: Write>(number: usize, writer: &mut Watched<W>)
-    ensures { Gave W.contents writer.old writer.new (comma_number number) }
-{
-    writer.give_all(&[b",", Buffer::new().format(number).as_bytes()]);
-}
-
 /// Writes a row behind a comma.
-fn put_row<W: Write>(cells: &[Cell], writer: &mut Watched<W>)
-    ensures { Gave W.contents writer.old writer.new (44 ∷ row_text (shown cells.now)) }
+fn put_row<W: Write>(cells: &[Cell], held: &mut ArrayVec<u8, HELD>, writer: &mut Watched<W>)
+    ensures { Wrote W.contents writer.old held.old.items writer.new held.new.items
+        (44 ∷ row_text (shown cells.now)) }
 {
-    gives_join::<W>();
-    writer.give(b",[0");
-    put_runs(inked(cells), writer);
-    writer.give(b"]");
+    put(b",[0", held, writer);
+    put_runs(inked(cells), held, writer);
+    put_byte(b']', held, writer);
 }
 
 /// Writes the runs of cells.
-fn put_runs<W: Write>(cells: &[Cell], writer: &mut Watched<W>)
-    ensures { Gave W.contents writer.old writer.new (flat_map run_text (cells_shown cells.now)) }
+fn put_runs<W: Write>(cells: &[Cell], held: &mut ArrayVec<u8, HELD>, writer: &mut Watched<W>)
+    ensures { Wrote W.contents writer.old held.old.items writer.new held.new.items
+        (flat_map run_text (cells_shown cells.now)) }
 {
-    gives_join::<W>();
     let mut at = 0;
     while at < cells.len() {
         let run = run_at(cells, at);
-        put_run(cells, run, writer);
+        put_run(cells, run, held, writer);
         at = run.end;
     }
 }
 
 /// Writes a run.
-fn put_run<W: Write>(cells: &[Cell], run: Run, writer: &mut Watched<W>)
+fn put_run<W: Write>(
+    cells: &[Cell],
+    run: Run,
+    held: &mut ArrayVec<u8, HELD>,
+    writer: &mut Watched<W>,
+)
     requires some { run.before ≤ run.end }
     requires within { run.end ≤ length cells.now }
-    ensures { Gave W.contents writer.old writer.new (run_text (shown_run cells.now run)) }
+    ensures { Wrote W.contents writer.old held.old.items writer.new held.new.items
+        (run_text (shown_run cells.now run)) }
 {
-    gives_join::<W>();
     let ink = colour_number(run.kind.rendition.ink);
     let paper = colour_number(run.kind.rendition.paper);
     put_numbers(
         run.kind.number() as usize,
         ink as usize,
         paper as usize,
+        held,
         writer,
     );
-    writer.give(b",\"");
-    put_characters(&cells[run.before..run.end], writer);
-    writer.give(b"\"");
+    put(b",\"", held, writer);
+    put_characters(&cells[run.before..run.end], held, writer);
+    put_byte(b'"', held, writer);
 }
 
 /// Writes a kind, an ink and a paper without the noughts at their end, a comma before each.
-fn put_numbers<W: Write>(kind: usize, ink: usize, paper: usize, writer: &mut Watched<W>)
-    ensures { Gave W.contents writer.old writer.new (numbers_text kind ink paper) }
+fn put_numbers<W: Write>(
+    kind: usize,
+    ink: usize,
+    paper: usize,
+    held: &mut ArrayVec<u8, HELD>,
+    writer: &mut Watched<W>,
+)
+    ensures { Wrote W.contents writer.old held.old.items writer.new held.new.items
+        (numbers_text kind ink paper) }
 {
-    gives_join::<W>();
     if paper != 0 {
-        put_comma_number(kind, writer);
-        put_comma_number(ink, writer);
-        put_comma_number(paper, writer);
+        put_comma_number(kind, held, writer);
+        put_comma_number(ink, held, writer);
+        put_comma_number(paper, held, writer);
         return;
     }
     if ink != 0 {
-        put_comma_number(kind, writer);
-        put_comma_number(ink, writer);
+        put_comma_number(kind, held, writer);
+        put_comma_number(ink, held, writer);
         return;
     }
     if kind == 0 {
         return;
     }
-    put_comma_number(kind, writer);
+    put_comma_number(kind, held, writer);
 }
 
 /// Writes the characters of cells as they stand in a string.
-fn put_characters<W: Write>(cells: &[Cell], writer: &mut Watched<W>)
-    ensures { Gave W.contents writer.old writer.new (string_of cells.now) }
+fn put_characters<W: Write>(cells: &[Cell], held: &mut ArrayVec<u8, HELD>, writer: &mut Watched<W>)
+    ensures { Wrote W.contents writer.old held.old.items writer.new held.new.items
+        (string_of cells.now) }
 {
-    gives_join::<W>();
     let mut at = 0;
     while at < cells.len() {
-        at += put_some(&cells[at..], writer);
+        at += put_some(&cells[at..], held, writer);
     }
 }
 
 /// Writes the characters of the first cells, and tells how many.
-fn put_some<W: Write>(cells: &[Cell], writer: &mut Watched<W>) -> usize
+fn put_some<W: Write>(
+    cells: &[Cell],
+    held: &mut ArrayVec<u8, HELD>,
+    writer: &mut Watched<W>,
+) -> usize
     requires { 1 ≤ length cells.now }
     ensures some { 1 ≤ result }
     ensures few { result ≤ length cells.now }
-    ensures gave { Gave W.contents writer.old writer.new (string_of (take result cells.now)) }
+    ensures wrote { Wrote W.contents writer.old held.old.items writer.new held.new.items
+        (string_of (take result cells.now)) }
 {
-    let held = plain_characters(cells);
-    if held.len() == 0 {
-        put_cell(cells[0], writer);
-        return 1;
+    let count = hold_plain(cells, held);
+    if count > 0 {
+        return count;
     }
-    writer.give(held.as_slice());
-    held.len()
+    put_cell(cells[0], held, writer);
+    1
 }
 
-/// The characters of the first cells, as long as each is a plain one.
-fn plain_characters(cells: &[Cell]) -> ArrayVec<u8, HELD>
-    ensures text { result.items ≡ string_of (take (length result.items) cells.now) }
-    ensures few { length result.items ≤ length cells.now }
+/// Holds the characters of the first cells, as long as each is a plain one and there is room, and tells how many.
+fn hold_plain(cells: &[Cell], held: &mut ArrayVec<u8, HELD>) -> usize
+    ensures text { held.new.items ≡ held.old.items ++ string_of (take result cells.now) }
+    ensures few { result ≤ length cells.now }
 {
-    let mut held = ArrayVec::new();
-    for at in 0..cells.len().min(HELD) {
+    let count = cells.len().min(held.remaining_capacity());
+    for at in 0..count {
         if !is_plain(cells[at]) {
-            return held;
+            return at;
         }
-        held.push(cells[at].character() as u32 as u8);
+        held.push(cells[at].ascii());
     }
-    held
+    count
 }
 
 /// Whether a cell is a character of ASCII alone that isn't escaped.
@@ -166,37 +167,37 @@ fn plain_characters(cells: &[Cell]) -> ArrayVec<u8, HELD>
 fn is_plain(cell: Cell) -> bool
     ensures { IsTrue result → IsPlain cell }
 {
-    let character = cell.character();
-    if cell.is_covered() || cell.mark_count() > 0 || character as u32 >= 128 {
+    if !cell.is_narrow() || !cell.is_ascii() {
         return false;
     }
-    character != '"' && character != '\\' && character != '<'
+    let byte = cell.ascii();
+    byte != b'"' && byte != b'\\' && byte != b'<'
 }
 
 /// Writes the character of a cell and its marks as they stand in a string; of a right half nothing.
-fn put_cell<W: Write>(cell: Cell, writer: &mut Watched<W>)
-    ensures { Gave W.contents writer.old writer.new (flat_map string_byte (printed cell)) }
+fn put_cell<W: Write>(cell: Cell, held: &mut ArrayVec<u8, HELD>, writer: &mut Watched<W>)
+    ensures { Wrote W.contents writer.old held.old.items writer.new held.new.items
+        (flat_map string_byte (printed cell)) }
 {
-    gives_join::<W>();
     if cell.is_covered() {
         return;
     }
-    put_character(cell.character(), writer);
+    put_character(cell.character(), held, writer);
     for n in 0..cell.mark_count() {
-        put_character(cell.mark(n), writer);
+        put_character(cell.mark(n), held, writer);
     }
 }
 
 /// Writes a character as it stands in a string. Of those that take more than a byte none is escaped.
 #[tactic(auto, using(crate::proofs::StringLemmas::plain_character))]
-fn put_character<W: Write>(character: char, writer: &mut Watched<W>)
-    ensures { Gave W.contents writer.old writer.new
+fn put_character<W: Write>(character: char, held: &mut ArrayVec<u8, HELD>, writer: &mut Watched<W>)
+    ensures { Wrote W.contents writer.old held.old.items writer.new held.new.items
         (flat_map string_byte (encode_utf8 character)) }
 {
     match character {
-        '"' => writer.give(b"\\\""),
-        '\\' => writer.give(b"\\\\"),
-        '<' => writer.give(b"\\u003c"),
-        _ => writer.give(character.encode_utf8(&mut [0; 4]).as_bytes()),
+        '"' => put(b"\\\"", held, writer),
+        '\\' => put(b"\\\\", held, writer),
+        '<' => put(b"\\u003c", held, writer),
+        _ => put(character.encode_utf8(&mut [0; 4]).as_bytes(), held, writer),
     }
 }

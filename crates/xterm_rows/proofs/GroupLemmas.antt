@@ -1,5 +1,5 @@
 -- Groups of neighbours, told by where they begin.
-use Rattle.std.proofs.Common.{◌≡◌, ℕ, zero, suc, ◌+◌, ◌-◌, ◌≤◌, ◌<◌, Bool, true, false, not, cond, List, [], ◌∷◌, ◌++◌, ap, refl, ◌∙◌, filter, arith, add-zero, append-nil}
+use Rattle.std.proofs.Common.{◌≡◌, ℕ, zero, suc, ◌+◌, ◌-◌, ◌≤◌, ◌<◌, Bool, true, false, not, cond, List, [], ◌∷◌, ◌++◌, ap, refl, ◌∙◌, filter, arith, add-zero, append-nil, sym}
 use Rattle.std.specs.List.{flat_map, prefix_len, range_with_len}
 use Rattle.std.proofs.lemmas.List.Elements.{filter-append}
 use Rattle.std.proofs.lemmas.List.Concat.{flat_map-append}
@@ -20,6 +20,23 @@ reach_more begins at end within none =
     ap (λ l. at + prefix_len (λ k. not (begins k)) l) (range_first at (end - at) (end - (at + 1)) count)
     ∙ ap (λ b. at + cond (not b) (1 + reach begins (at + 1) end) 0) none
     ∙ omega arith
+
+-- .. as many more as there are at which none begins ..
+pub reach_by : (begins : ℕ → Bool) (n at end : ℕ) → at + n ≤ end → ((k : ℕ) → at ≤ k → k < at + n → begins k ≡ false)
+    → at + reach begins at end ≡ at + n + reach begins (at + n) end
+reach_by begins zero at end within none = ap (λ m. m + reach begins m end) (sym (add-zero at))
+reach_by begins (suc n) at end within none =
+    let next : at + 1 + n ≡ at + suc n = omega arith in
+    reach_more begins at end (omega (arith, within)) (none at (omega arith) (omega arith))
+    ∙ reach_by begins n (at + 1) end (omega (arith, within)) (λ k low high. none k (omega (arith, low)) (omega (arith, high)))
+    ∙ ap (λ m. m + reach begins m end) next
+
+pub reach_to : (begins : ℕ → Bool) (at to end : ℕ) → at ≤ to → to ≤ end → ((k : ℕ) → at ≤ k → k < to → begins k ≡ false)
+    → at + reach begins at end ≡ to + reach begins to end
+reach_to begins at to end low within none =
+    let there : at + (to - at) ≡ to = omega (arith, low) in
+    reach_by begins (to - at) at end (omega (arith, there, within)) (λ k from below. none k from (omega (arith, below, there)))
+    ∙ ap (λ m. m + reach begins m end) there
 
 -- .. none where one does ..
 pub reach_ends : (begins : ℕ → Bool) (at end : ℕ) → at < end → begins at ≡ true → reach begins at end ≡ 0

@@ -1,15 +1,24 @@
--- Cells that are blank, and letters beside each other.
-use Rattle.std.proofs.Common.{◌≡◌, ◌≢◌, ℕ, ◌-◌, true, false, not, List, refl, ap, ap₂, ◌∙◌, if◌then◌else◌, arith}
-use Rattle.std.specs.Prelude.{◌&&◌, ◌||◌, ◌==◌}
+-- Cells that are blank, and neighbours in one run.
+use Rattle.std.proofs.Common.{◌≡◌, ◌≢◌, ℕ, ◌+◌, ◌*◌, ◌-◌, ◌/◌, ◌<◌, ◌≤◌, get_or, inl, inr, subst, true, false, not, List, [], length, refl, ap, ap₂, ◌∙◌, sym, if◌then◌else◌, arith}
+use Rattle.std.specs.Prelude.{◌&&◌, ◌||◌, ◌==◌, nat_eq, nat_lt}
+use Rattle.std.proofs.lemmas.Bool.{cases_Bool, cases_eq, eqb-true}
 use Rattle.std.proofs.lemmas.Bool.Decides.{nat_tests}
-use Rattle.sheet.specs.declared.rendition.Colour.TheVariants.{Default}
-use Rattle.sheet.specs.Cells.{Cell, blank, is_covered, is_wide, lettered, plain_on}
-use Rattle.xterm_rows.specs.Ink.{attribute_number, colour_number, is_blank}
-use Rattle.xterm_rows.specs.Letters.{IsLetter}
-use Rattle.xterm_rows.specs.Outlines.{is_outlined}
+use Rattle.std.proofs.lemmas.List.{get_or_default}
+use Rattle.sheet.specs.declared.cell.Kind.{Kind as Sort}
+use Rattle.sheet.specs.declared.rendition.Colour.{Colour}
+use Rattle.sheet.specs.declared.rendition.Colour.TheVariants.{Default, Palette, Direct}
+use Rattle.sheet.specs.declared.rendition.Rendition.{Rendition}
+use Rattle.sheet.specs.Cells.{Cell, blank, covered_kind, is_covered, is_wide, wide_kind}
+use Rattle.sheet.specs.Mixed.{AreAlike}
+use Rattle.sheet.specs.Numbers.{attribute_number as sheet_attributes, colour_number as sheet_colour}
+use Rattle.xterm_rows.specs.Ink.{attribute_number, bit, colour_number, is_blank}
+use Rattle.xterm_rows.specs.Letters.{AreJoined, AreParted, IsLetter}
+use Rattle.xterm_rows.specs.Outlines.{is_braille, is_outlined, outline, outline_in}
+use Rattle.xterm_rows.specs.OutlineTable.{block}
 use Rattle.xterm_rows.specs.RowText.{is_space}
-use Rattle.xterm_rows.specs.Runs.{begins, cell_behind, goes_on, kind_number, kind_of, owner}
+use Rattle.xterm_rows.specs.Runs.{begins, cell_behind, goes_on, is_marked, kind_number, kind_of, owner}
 use Rattle.xterm_rows.specs.declared.runs.Kind.{Kind}
+use Rattle.xterm_rows.proofs.BitLemmas.{SameBits, both, same_bits}
 
 blank_itself : is_blank (blank Default) ≡ true
 unfolding is_space is_covered blank attribute_number colour_number
@@ -18,44 +27,176 @@ blank_itself = refl
 pub blank_is : (cell : Cell) → cell ≡ blank Default → is_blank cell ≡ true
 blank_is cell is = ap is_blank is ∙ blank_itself
 
--- the kind of letters
-abbrev letters : Kind
-letters = record { rendition = plain_on Default; drawn = false; wide = false; marked = false }
+-- ---- letters
 
-letter_kind : (c : ℕ) → is_outlined c ≡ false → kind_of (lettered c false (plain_on Default)) ≡ letters
-unfolding kind_of lettered is_wide
-letter_kind c written = ap (λ b. let k : Kind = record { rendition = plain_on Default; drawn = b && true; wide = false; marked = false } in k) written
+-- no character of ASCII is drawn
+low_block : (n : ℕ) → n < 8 → block n ≡ []
+unfolding block
+low_block n low = grind (arith, nat_tests)
 
-letter_open : (c : ℕ) → is_covered (lettered c false (plain_on Default)) ≡ false
-unfolding lettered is_covered
-letter_open c = refl
+pub not_drawn : (c : ℕ) → c < 128 → is_outlined c ≡ false
+unfolding is_outlined outline
+not_drawn c low =
+    let below : c / 16 < 8 = omega (arith, low) in
+    ap (λ rows. is_braille c || nat_lt 0 (length (outline_in rows c))) (low_block (c / 16) below) ∙ grind (arith, nat_tests)
 
-kind_is : (cell : Cell) → IsLetter cell → kind_of cell ≡ letters
-kind_is cell letter = ap kind_of letter.plain ∙ letter_kind cell.character letter.written
+pub letters_join : (r : Rendition) (one other : Cell) → IsLetter r one → IsLetter r other → AreJoined one other
+unfolding is_covered
+letters_join r one other is is' = record {
+  uncovered = ap covered_kind is.kind;
+  kind = is.kind ∙ sym is'.kind;
+  rendition = is.rendition_is ∙ sym is'.rendition_is;
+  alone = ap length is.alone;
+  alone_too = ap length is'.alone;
+  drawn = not_drawn one.character is.low ∙ sym (not_drawn other.character is'.low);
+}
 
-is_open : (cell : Cell) → IsLetter cell → is_covered cell ≡ false
-is_open cell letter = ap is_covered letter.plain ∙ letter_open cell.character
+-- ---- neighbours
 
-letters_join : not (goes_on letters letters) ≡ false
-unfolding kind_number attribute_number colour_number
-letters_join = refl
+equal_number : (n : ℕ) → nat_eq n n ≡ true
+equal_number n = grind (arith, nat_tests)
 
-owns_itself : (cells : List Cell) (at : ℕ) → IsLetter (cell_behind cells at) → owner cells at ≡ cell_behind cells at
-unfolding owner
-owns_itself cells at letter =
-    ap (λ b. if b then cell_behind cells (at - 1) else cell_behind cells at) (is_open (cell_behind cells at) letter)
+-- a kind without marks goes on
+goes_on_itself : (kind : Kind) → kind.marked ≡ false → goes_on kind kind ≡ true
+goes_on_itself kind alone =
+    ap₂ (λ s t. s && t)
+    (ap₂ (λ s t. s && t)
+    (ap₂ (λ s t. s && t) (equal_number (kind_number kind)) (equal_number (colour_number kind.rendition.ink)))
+    (equal_number (colour_number kind.rendition.paper)))
+    (ap not alone)
+
+unmarked : (cell : Cell) → length cell.marks ≡ 0 → is_marked cell ≡ false
+unmarked cell alone = ap (nat_lt 0) alone
+
+same_kind : (one other : Cell) → AreJoined one other → kind_of one ≡ kind_of other
+unfolding kind_of is_wide
+same_kind one other are =
+    let drawn = ap₂ (λ d m. d && not m) are.drawn (unmarked one are.alone ∙ sym (unmarked other are.alone_too)) in
+    let wide = ap (λ (k : Sort). wide_kind k) are.kind in
+    let marked = unmarked one are.alone ∙ sym (unmarked other are.alone_too) in
+    let rendition = are.rendition in
+    cc
 
 is_some : (n : ℕ) → n ≢ 0 → (n == 0) ≡ false
 is_some n some = grind (arith, nat_tests)
 
--- between two letters no run begins
-pub letters_go_on : (cells : List Cell) (at : ℕ) → at ≢ 0 → IsLetter (cell_behind cells at) → IsLetter (cell_behind cells (at - 1))
+owns_itself : (cells : List Cell) (at : ℕ) → is_covered (cell_behind cells at) ≡ false → owner cells at ≡ cell_behind cells at
+unfolding owner
+owns_itself cells at uncovered = ap (λ b. if b then cell_behind cells (at - 1) else cell_behind cells at) uncovered
+
+still_uncovered : (one other : Cell) → AreJoined one other → is_covered other ≡ false
+unfolding is_covered
+still_uncovered one other are = ap covered_kind (sym are.kind) ∙ are.uncovered
+
+is_alone : (cell : Cell) → length cell.marks ≡ 0 → (kind_of cell).marked ≡ false
+unfolding kind_of
+is_alone cell alone = unmarked cell alone
+
+letter_uncovered : (cell : Cell) → IsLetter cell.rendition cell → is_covered cell ≡ false
+unfolding is_covered
+letter_uncovered cell letter = ap covered_kind letter.kind
+
+-- at one that is joined to the one before it no run begins
+pub joined_go_on : (cells : List Cell) (at : ℕ) → at ≢ 0 → AreJoined (cell_behind cells (at - 1)) (cell_behind cells at)
     → begins cells at ≡ false
 unfolding begins
-letters_go_on cells at some here before =
+joined_go_on cells at some are =
+    let before = cell_behind cells (at - 1) in
     let cell = cell_behind cells at in
     let kind = kind_of (owner cells (at - 1)) in
+    let uncovered : is_covered cell ≡ false = still_uncovered before cell are in
     ap (λ b. b || (not (is_covered cell) && not (goes_on kind (kind_of cell)))) (is_some at some)
-    ∙ ap (λ b. not b && not (goes_on kind (kind_of cell))) (is_open cell here)
-    ∙ ap₂ (λ (p q : Kind). not (goes_on p q)) (ap kind_of (owns_itself cells (at - 1) before) ∙ kind_is (cell_behind cells (at - 1)) before) (kind_is cell here)
-    ∙ letters_join
+    ∙ ap (λ b. not b && not (goes_on kind (kind_of cell))) uncovered
+    ∙ ap (λ (k : Kind). not (goes_on k (kind_of cell))) (ap kind_of (owns_itself cells (at - 1) are.uncovered) ∙ same_kind before cell are)
+    ∙ ap not (goes_on_itself (kind_of cell) (is_alone cell are.alone_too))
+
+-- ---- letters of two renditions
+
+abbrev letters_of : Rendition → Kind
+letters_of r = record { rendition = r; drawn = false; wide = false; marked = false }
+
+kind_is : (r : Rendition) (cell : Cell) → IsLetter r cell → kind_of cell ≡ letters_of r
+unfolding kind_of is_wide
+kind_is r cell letter =
+    let drawn = ap (λ d. d && not (is_marked cell)) (not_drawn cell.character letter.low) in
+    let wide = ap (λ (k : Sort). wide_kind k) letter.kind in
+    let marked = unmarked cell (ap length letter.alone) in
+    let rendition = letter.rendition_is in
+    cc
+
+-- the numbers of the sheet follow from those of a run
+colour_as : (c : Colour) → sheet_colour c ≡ colour_number c
+unfolding sheet_colour colour_number
+colour_as Default = refl
+colour_as (Palette n) = refl
+colour_as (Direct r g b) = omega arith
+
+attributes_as : (one other : Rendition) → SameBits one other → sheet_attributes one ≡ sheet_attributes other
+unfolding sheet_attributes
+attributes_as one other same =
+    omega (arith, ap bit same.bold, ap bit same.underscore, ap bit same.blink, ap bit same.reverse, ap bit same.faint, ap bit same.italic, ap bit same.concealed, ap bit same.crossed_out)
+
+attributes_equal : (one other : Rendition) → kind_number (letters_of one) ≡ kind_number (letters_of other)
+    → attribute_number one ≡ attribute_number other
+unfolding kind_number
+attributes_equal one other same = omega (arith, same)
+
+letters_alike : (one other : Rendition) → goes_on (letters_of one) (letters_of other) ≡ true → AreAlike one other
+letters_alike one other goes =
+    let kinds = kind_number (letters_of one) == kind_number (letters_of other) in
+    let inks = colour_number one.ink == colour_number other.ink in
+    let papers = colour_number one.paper == colour_number other.paper in
+    let first = both ((kinds && inks) && papers) true goes in
+    let second = both (kinds && inks) papers first.0 in
+    let third = both kinds inks second.0 in
+    record {
+      attributes = attributes_as one other (same_bits one other (attributes_equal one other (eqb-true _ _ third.0)));
+      ink = colour_as one.ink ∙ eqb-true _ _ third.1 ∙ sym (colour_as other.ink);
+      paper = colour_as one.paper ∙ eqb-true _ _ second.1 ∙ sym (colour_as other.paper);
+    }
+
+-- at one of another rendition a run begins
+pub parted_begin : (cells : List Cell) (at : ℕ) → at ≢ 0 → AreParted (cell_behind cells (at - 1)) (cell_behind cells at)
+    → begins cells at ≡ true
+unfolding begins
+parted_begin cells at some are =
+    let before = cell_behind cells (at - 1) in
+    let cell = cell_behind cells at in
+    let kind = kind_of (owner cells (at - 1)) in
+    let is : kind ≡ letters_of before.rendition =
+    ap kind_of (owns_itself cells (at - 1) (letter_uncovered before are.first)) ∙ kind_is before.rendition before are.first in
+    let stops : goes_on (letters_of before.rendition) (letters_of cell.rendition) ≡ false = elim (cases_Bool (goes_on (letters_of before.rendition) (letters_of cell.rendition))) [
+      | inl t ↦ absurd (are.apart (letters_alike before.rendition cell.rendition t))
+      | inr f ↦ f
+    ] in
+    ap (λ b. b || (not (is_covered cell) && not (goes_on kind (kind_of cell)))) (is_some at some)
+    ∙ ap (λ b. not b && not (goes_on kind (kind_of cell))) (letter_uncovered cell are.next)
+    ∙ ap₂ (λ (p q : Kind). not (goes_on p q)) is (kind_is cell.rendition cell are.next)
+    ∙ ap not stops
+
+-- ---- letters in a row
+
+-- the letters so far
+abbrev pub AreLetters : Rendition → List Cell → ℕ → ℕ → Type 0
+AreLetters r cells from end = (k : ℕ) → from ≤ k → k < end → IsLetter r (cell_behind cells k)
+
+-- what is read at a place
+pub letter_read : (cells : List Cell) (at : ℕ) (cell : Cell) (r : Rendition) → at < length cells → cell ≡ get_or cells at cell
+    → IsLetter r cell → IsLetter r (cell_behind cells at)
+letter_read cells at cell r within is letter =
+    subst (IsLetter r) (is ∙ get_or_default cells at cell (blank Default) within) letter
+
+-- one letter more
+pub letters_more : (r : Rendition) (cells : List Cell) (from end : ℕ) → AreLetters r cells from end → IsLetter r (cell_behind cells end)
+    → AreLetters r cells from (end + 1)
+letters_more r cells from end are is k low high = elim (cases_eq k end) [
+  | inl e ↦ subst (λ n. IsLetter r (cell_behind cells n)) (sym e) is
+  | inr other ↦ are k low (omega arith)
+]
+
+-- among them no run begins
+pub none_begin : (r : Rendition) (cells : List Cell) (from end : ℕ) → AreLetters r cells from end
+    → (k : ℕ) → from < k → k < end → begins cells k ≡ false
+none_begin r cells from end are k low high =
+    joined_go_on cells k (omega (arith, low))
+    (letters_join r (cell_behind cells (k - 1)) (cell_behind cells k) (are (k - 1) (omega (arith, low)) (omega (arith, low, high))) (are k (omega (arith, low)) high))

@@ -1,4 +1,5 @@
 pub mod RangeLemmas
 pub mod GroupLemmas
 pub mod RunLemmas
+pub mod BitLemmas
 pub mod LetterLemmas

@@ -7,7 +7,7 @@ ghost use Rattle.xterm_rows.specs.RowText.{is_space, trimmed};
 ghost use Rattle.xterm_rows.specs.Runs.{cell_behind, owner};
 
 use crate::renditions::is_plain;
-use sheet::{Cell, Colour};
+use sheet::Cell;
 
 /// The cells without the spaces at their end, whatever rendition those have.
 pub fn trimmed(cells: &[Cell]) -> &[Cell]
@@ -56,7 +56,7 @@ pub fn cell_behind(cells: &[Cell], before: usize) -> Cell
     if before < cells.len() {
         cells[before]
     } else {
-        Cell::blank(Colour::Default)
+        Cell::empty()
     }
 }
 

@@ -1,14 +1,14 @@
 //! The runs of a row.
 
-ghost use Rattle.std.specs.Prelude.{◌≡◌, ◌≤◌, ◌<◌, IsTrue, length};
+ghost use Rattle.std.specs.Prelude.{◌≡◌, ◌≤◌, ◌<◌, ℕ, false, IsTrue, length};
 ghost use Rattle.xterm_rows.specs.Groups.{group_end};
-ghost use Rattle.xterm_rows.specs.Letters.{IsLetter};
+ghost use Rattle.xterm_rows.specs.Letters.{AreJoined, AreParted, IsLetter};
 ghost use Rattle.xterm_rows.specs.Runs.{begins, goes_on, kind_number, kind_of, run_at};
 
 use crate::cells::{cell_behind, owner};
 use crate::outlines::is_outlined;
 use crate::renditions::{attribute_number, bit_of, colour_number};
-use sheet::{Cell, Colour, Rendition};
+use sheet::{Cell, Rendition};
 
 /// What the characters of a run have in common: their rendition, whether they are drawn, whether they are of width 2,
 /// and whether it is one with marks, which is a run by itself (ours).
@@ -88,30 +88,76 @@ fn run_end(cells: &[Cell], at: usize) -> usize
     ensures some { at < result }
     ensures within { result ≤ length cells.now }
 {
-    let mut end = at + 1;
+    let mut end = letters_end(cells, at);
     while end < cells.len() && !begins(cells, end) {
-        end += 1;
+        end = letters_end(cells, end);
     }
     end
 }
 
-/// Whether a run begins at a place. Between two letters none does, and most cells are letters.
+/// Where the letters end that follow a letter in its rendition; most cells are letters, and among these no run begins.
+fn letters_end(cells: &[Cell], at: usize) -> usize
+    requires { at < length cells.now }
+    ensures none { (k : ℕ) → at < k → k < result → begins cells.now k ≡ false }
+    ensures some { at < result }
+    ensures within { result ≤ length cells.now }
+{
+    let first = cells[at];
+    let mut end = at + 1;
+    if is_letter(first) {
+        while end < cells.len() && is_letter_like(first, cells[end]) {
+            end += 1;
+        }
+    }
+    end
+}
+
+/// Whether a cell is a letter: a character of ASCII alone.
+fn is_letter(cell: Cell) -> bool
+    ensures { IsTrue result → IsLetter cell.rendition cell }
+{
+    cell.is_narrow() && cell.is_ascii()
+}
+
+/// Whether another cell is a letter in the rendition of one that is a letter.
+fn is_letter_like(letter: Cell, cell: Cell) -> bool
+    requires { IsLetter letter.rendition letter }
+    ensures { IsTrue result → IsLetter letter.rendition cell }
+{
+    letter.same_style(cell) && cell.is_ascii()
+}
+
+/// Whether a run begins at a place.
 fn begins(cells: &[Cell], at: usize) -> bool
     ensures { result ≡ begins cells.now at }
 {
-    if at > 0 && is_letter(cell_behind(cells, at)) && is_letter(cell_behind(cells, at - 1)) {
+    if at > 0 && are_joined(cell_behind(cells, at - 1), cell_behind(cells, at)) {
         return false;
+    }
+    if at > 0 && are_parted(cell_behind(cells, at - 1), cell_behind(cells, at)) {
+        return true;
     }
     begins_by_kind(cells, at)
 }
 
-/// Whether a cell is a letter: a character of width 1 without marks and rendition that isn't drawn.
-fn is_letter(cell: Cell) -> bool
-    ensures { IsTrue result → IsLetter cell }
+/// Whether two neighbours are letters of two renditions.
+fn are_parted(one: Cell, other: Cell) -> bool
+    ensures { IsTrue result → AreParted one other }
 {
-    let character = cell.character();
-    let letter = Cell::lettered(character, false, Rendition::plain_on(Colour::Default));
-    cell == letter && !is_outlined(character)
+    if is_letter(one) && is_letter(other) {
+        return !one.same_style(other);
+    }
+    false
+}
+
+/// Whether two neighbours are in one run, as far as that is told without a look at each part.
+fn are_joined(one: Cell, other: Cell) -> bool
+    ensures { IsTrue result → AreJoined one other }
+{
+    if !one.same_style(other) || one.is_covered() || one.mark_count() + other.mark_count() > 0 {
+        return false;
+    }
+    is_outlined(one.character()) == is_outlined(other.character())
 }
 
 /// Whether a run begins at a place, by the kinds of both cells.

@@ -1,24 +1,28 @@
-use Rattle.std.proofs.Common.{◌∷◌, List, [], ℕ, ap, subst, sym, ◌∙◌}
+use Rattle.std.proofs.Common.{◌∷◌, ◌++◌, List, [], ℕ, Bool, ap, ap₂, subst, sym, ◌∙◌}
 use Rattle.tape_core.specs.Devices.{Gave}
 use Rattle.xterm_screen.specs.Picture.{Picture}
-use Rattle.xterm_page.specs.Parts.{differing, lines_text}
+use Rattle.xterm_page.specs.Held.{Wrote}
+use Rattle.xterm_page.specs.Parts.{differing, front_text, lines_text}
+use Rattle.xterm_page.proofs.HeldLemmas.{gave_all, wrote_both}
 use Rattle.xterm_page.proofs.PageLemmas.{entry_is}
 use Rattle.xterm_page.proofs.entry_printer.put_entry.Goals as goal
 
 pub put_lines-requires : goal.put_lines-requires
 put_lines-requires g c = record {
   lines = c.requires.lines ∙ ap (λ (p : Picture). p.lines) (sym c.screen.ensures.value);
-  changed = c.requires.changed ∙ ap (λ (p : Picture). differing p.lines c.args.before.now p.rows) (sym c.screen.ensures.value);
+  changed = c.requires.changed ∙ ap₂ (λ (t : List Bool) (p : Picture). differing t p.lines c.args.before.now p.rows) (sym c.screen.ensures.touched) (sym c.screen.ensures.value);
 }
 
 pub returns : goal.returns
-returns g c =
-    let after = c.args.after.now.console in
+returns g c = λ tells.
+    let seen = c.args.after.now in
+    let after = seen.console in
     let before = c.args.before.now in
-    let opening : List ℕ = 44 ∷ 10 ∷ 91 ∷ [] in
-    let told = subst (λ (p : Picture). Gave g.W.Write.contents c.put_front.new.writer c.put_lines.new.writer (lines_text p.lines before p.rows))
-    c.screen.ensures.value c.put_lines.ensures in
-    let front = c.gives_join.ensures.both _ _ _ _ _ c.put_front.ensures c.give.ensures in
-    let lines = c.gives_join.ensures.both _ _ _ _ _ told front in
-    subst (Gave g.W.Write.contents c.args.writer.now c.give-2.new.self) (sym (entry_is c.args.due before after))
-    (c.gives_join.ensures.both _ _ _ _ _ c.give-2.ensures lines)
+    let joins = c.gives_join.ensures in
+    let told = subst (Wrote g.W.Write.contents c.put_front.new.writer c.put_front.new.held.items c.put_lines.new.writer c.put_lines.new.held.items)
+    (ap₂ (λ (t : List Bool) (p : Picture). lines_text t p.lines before p.rows) c.screen.ensures.touched c.screen.ensures.value) c.put_lines.ensures in
+    let all = wrote_both c.put_byte.ensures (wrote_both told (wrote_both c.put_front.ensures c.put.ensures)) in
+    let text = (((44 ∷ 10 ∷ 91 ∷ []) ++ front_text c.args.due after) ++ lines_text seen.touched after.picture.lines before after.picture.rows) ++ 93 ∷ [] in
+    let opened = subst (λ (x : List ℕ). Wrote g.W.Write.contents c.args.writer.now x c.put_byte.new.writer c.put_byte.new.held.items text) c.new-held.ensures all in
+    subst (Gave g.W.Write.contents c.args.writer.now c.let_out.new.writer) (sym (entry_is seen.touched c.args.due before after tells))
+    (gave_all joins.both joins.nothing _ _ _ _ _ opened c.let_out.ensures.gave)

@@ -12,7 +12,7 @@ returns-in_err-visit_all_chunks-clause-fault g c =
     let s = c.args.session.now in
     let title = c.args.title.now in
     let opened = subst (Gave g.W.Write.contents c.args.writer.now c.put_opening.new.writer)
-    (ap₂ (opening title) (c.size-size.ensures.columns ∙ columns_by c.size_stays.ensures _ s.profile _ c.terminal.ensures) (c.size-size.ensures.lines ∙ lines_by c.size_stays.ensures _ s.profile _ c.terminal.ensures))
+    (ap₂ (opening title) (c.size-size.ensures.columns ∙ columns_by c.size_stays.ensures _ s.profile _ c.terminal.ensures.shows) (c.size-size.ensures.lines ∙ lines_by c.size_stays.ensures _ s.profile _ c.terminal.ensures.shows))
     c.put_opening.ensures in
     let p = err_from_is_err_and c.from_residual.result c.from_residual.ensures.1 in
     rw (p.1, p.2) (c.walks_end_sound.ensures.between _ _ _ _ (opening title s.profile.columns s.profile.lines) _ closing (page_is title s.profile s.recording) c.in_err-visit_all_chunks.ensures.refused opened)
@@ -24,7 +24,7 @@ returns-in_err-settle-clause-fault g c =
     let walk = all_texts chunk_text s.profile s.recording in
     let first = opening title s.profile.columns s.profile.lines in
     let opened = subst (Gave g.W.Write.contents c.args.writer.now c.put_opening.new.writer)
-    (ap₂ (opening title) (c.size-size.ensures.columns ∙ columns_by c.size_stays.ensures _ s.profile _ c.terminal.ensures) (c.size-size.ensures.lines ∙ lines_by c.size_stays.ensures _ s.profile _ c.terminal.ensures))
+    (ap₂ (opening title) (c.size-size.ensures.columns ∙ columns_by c.size_stays.ensures _ s.profile _ c.terminal.ensures.shows) (c.size-size.ensures.lines ∙ lines_by c.size_stays.ensures _ s.profile _ c.terminal.ensures.shows))
     c.put_opening.ensures in
     let before = c.gives_join.ensures.both _ _ _ first walk c.in_ok-visit_all_chunks.ensures.gave opened in
     let all = c.gives_join.ensures.both _ _ _ (first ++ walk) closing c.put_closing.ensures before in
@@ -38,7 +38,7 @@ returns-clause-ok g c =
     let walk = all_texts chunk_text s.profile s.recording in
     let first = opening title s.profile.columns s.profile.lines in
     let opened = subst (Gave g.W.Write.contents c.args.writer.now c.put_opening.new.writer)
-    (ap₂ (opening title) (c.size-size.ensures.columns ∙ columns_by c.size_stays.ensures _ s.profile _ c.terminal.ensures) (c.size-size.ensures.lines ∙ lines_by c.size_stays.ensures _ s.profile _ c.terminal.ensures))
+    (ap₂ (opening title) (c.size-size.ensures.columns ∙ columns_by c.size_stays.ensures _ s.profile _ c.terminal.ensures.shows) (c.size-size.ensures.lines ∙ lines_by c.size_stays.ensures _ s.profile _ c.terminal.ensures.shows))
     c.put_opening.ensures in
     let before = c.gives_join.ensures.both _ _ _ first walk c.in_ok-visit_all_chunks.ensures.gave opened in
     let all = c.gives_join.ensures.both _ _ _ (first ++ walk) closing c.put_closing.ensures before in

@@ -5,4 +5,4 @@ pub returns : goal.returns
 unfolding size_text
 returns g c =
     c.gives_join.ensures.both _ _ _ _ _ c.give-2.ensures
-    (c.gives_join.ensures.both _ _ _ _ _ c.put_comma_number.ensures (c.gives_join.ensures.both _ _ _ _ _ c.put_number.ensures c.give.ensures))
+    (c.gives_join.ensures.both _ _ _ _ _ c.give_comma_number.ensures (c.gives_join.ensures.both _ _ _ _ _ c.give_number.ensures c.give.ensures))

@@ -1,17 +1,18 @@
 use Rattle.std.proofs.Common.{◌≡◌, ℕ, ◌<◌, List, ◌++◌, ◌∙◌, length, true, ap, sym, subst, arith}
 use Rattle.std.proofs.lemmas.List.Folds.{flat_map-map}
-use Rattle.tape_core.specs.Devices.{Gave}
+use Rattle.xterm_page.specs.Held.{Wrote}
 use Rattle.xterm_rows.specs.Groups.{starts}
 use Rattle.xterm_rows.specs.Runs.{begins}
 use Rattle.xterm_rows.proofs.GroupLemmas.{groups_more, groups_to, next_begins}
 use Rattle.xterm_rows.proofs.RunLemmas.{first_begins}
 use Rattle.xterm_page.specs.Entries.{cells_shown, shown_at, shown_run}
 use Rattle.xterm_page.specs.EntryText.{run_text}
+use Rattle.xterm_page.proofs.HeldLemmas.{wrote_both, wrote_none}
 use Rattle.xterm_page.proofs.rows.put_runs.Goals as goal
 
 pub loop-at-init : goal.loop-at-init
 loop-at-init g c = record {
-  gave = c.gives_join.ensures.nothing c.args.writer.now;
+  gave = wrote_none c.args.writer.now c.args.held.now.items;
   here = λ _. first_begins c.args.cells.now;
   high = omega arith;
 }
@@ -25,10 +26,10 @@ loop-at-preserved g c =
     let end = c.run_at-run.ensures.end in
     let more = groups_more text (begins cells) 0 at (length cells) (omega arith) within (c.loop-at.invariant.here within) in
     record {
-      gave = subst (Gave g.W.Write.contents c.args.writer.now c.put_run.new.writer)
+      gave = subst (Wrote g.W.Write.contents c.args.writer.now c.args.held.now.items c.put_run.new.writer c.put_run.new.held.items)
           (ap (λ run. groups_to text (begins cells) 0 at ++ run_text (shown_run cells run)) c.run_at-run.ensures.run
           ∙ sym more ∙ ap (groups_to text (begins cells) 0) (sym end))
-          (c.gives_join.ensures.both _ _ _ _ _ c.put_run.ensures c.loop-at.invariant.gave);
+          (wrote_both c.put_run.ensures c.loop-at.invariant.gave);
       here = λ more. subst (λ n. begins cells n ≡ true) (sym end)
           (next_begins (begins cells) at (length cells) within (subst (λ n. n < length cells) end more));
       high = c.run_at-run.ensures.within;
@@ -40,6 +41,6 @@ returns g c =
     let cells = c.args.cells.now in
     let text : ℕ → List ℕ = λ n. run_text (shown_at cells n) in
     let all : c.loop-at.at ≡ length cells = omega (arith, c.loop-at.invariant.high, c.loop-at-test.false) in
-    subst (Gave g.W.Write.contents c.args.writer.now c.loop-at.writer)
+    subst (Wrote g.W.Write.contents c.args.writer.now c.args.held.now.items c.loop-at.writer c.loop-at.held.items)
     (ap (groups_to text (begins cells) 0) all ∙ sym (flat_map-map run_text (shown_at cells) (starts (begins cells) 0 (length cells))))
     c.loop-at.invariant.gave

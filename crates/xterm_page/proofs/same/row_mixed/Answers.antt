@@ -1,6 +1,7 @@
 use Rattle.std.proofs.Common.{[], ◌∷◌, ◌++◌, ◌∙◌, ap, sym, take}
 use Rattle.std.proofs.lemmas.List.{take_more}
-use Rattle.xterm_page.specs.Same.{mixed, row_mixed}
+use Rattle.sheet.specs.Mixed.{mixed}
+use Rattle.xterm_page.specs.Same.{row_mixed}
 use Rattle.xterm_page.proofs.SameLemmas.{mixed_more}
 use Rattle.xterm_page.proofs.same.row_mixed.Goals as goal
 
@@ -9,6 +10,6 @@ loop-cell-preserved c =
     let cells = c.args.cells.now in
     let at = c.loop-cell.cell-index in
     let cell = c.cell-item.result in
-    c.mixed-sum.ensures ∙ ap (mixed c.loop-cell.sum) c.character.ensures ∙ ap (λ sum. mixed sum cell.character) c.loop-cell.invariant
+    c.mixed-sum.ensures ∙ ap (λ sum. mixed sum cell) c.loop-cell.invariant
     ∙ sym (mixed_more 0 (take at cells) cell)
     ∙ ap (row_mixed 0) (sym (take_more cells at cell c.loop-cell-test.true ∙ ap (λ x. take at cells ++ x ∷ []) (sym c.cell-item.is)))

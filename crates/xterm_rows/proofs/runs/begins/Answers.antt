@@ -1,11 +1,26 @@
-use Rattle.std.proofs.Common.{sym, subst, arith}
+use Rattle.std.proofs.Common.{◌-◌, sym, subst, arith}
 use Rattle.sheet.specs.Cells.{Cell}
-use Rattle.xterm_rows.specs.Letters.{IsLetter}
-use Rattle.xterm_rows.proofs.LetterLemmas.{letters_go_on}
+use Rattle.xterm_rows.specs.Letters.{AreJoined, AreParted}
+use Rattle.xterm_rows.specs.Runs.{cell_behind}
+use Rattle.xterm_rows.proofs.LetterLemmas.{joined_go_on, parted_begin}
 use Rattle.xterm_rows.proofs.runs.begins.Goals as goal
 
-pub returns-then-is_letter-2 : goal.returns-then-is_letter-2
-returns-then-is_letter-2 c =
-    sym (letters_go_on c.args.cells.now c.args.at (omega (arith, c.if-at-gt0.true))
-    (subst (λ (cell : Cell). IsLetter cell) c.cell_behind.ensures (c.is_letter.ensures c.if-is_letter.true))
-    (subst (λ (cell : Cell). IsLetter cell) c.cell_behind-then-is_letter.ensures (c.is_letter-then-is_letter.ensures c.if-is_letter-2.true)))
+pub returns-then-are_joined : goal.returns-then-are_joined
+returns-then-are_joined c =
+    let cells = c.args.cells.now in
+    let at = c.args.at in
+    let one = c.cell_behind.result in
+    let told : AreJoined one c.cell_behind-then-at-gt0.result = c.are_joined.ensures c.if-are_joined.true in
+    sym (joined_go_on cells at (omega (arith, c.if-at-gt0.true))
+    (subst (λ (cell : Cell). AreJoined cell (cell_behind cells at)) c.cell_behind.ensures
+    (subst (λ (cell : Cell). AreJoined one cell) c.cell_behind-then-at-gt0.ensures told)))
+
+pub returns-then-are_parted : goal.returns-then-are_parted
+returns-then-are_parted c =
+    let cells = c.args.cells.now in
+    let at = c.args.at in
+    let one = c.cell_behind-then-at-gt0-2.result in
+    let told : AreParted one c.cell_behind-then-at-gt0-2-2.result = c.are_parted.ensures c.if-are_parted.true in
+    sym (parted_begin cells at (omega (arith, c.if-at-gt0-2.true))
+    (subst (λ (cell : Cell). AreParted cell (cell_behind cells at)) c.cell_behind-then-at-gt0-2.ensures
+    (subst (λ (cell : Cell). AreParted one cell) c.cell_behind-then-at-gt0-2-2.ensures told)))

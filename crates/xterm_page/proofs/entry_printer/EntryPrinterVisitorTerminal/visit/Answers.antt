@@ -1,4 +1,4 @@
-use Rattle.std.proofs.Common.{◌≡◌, ◌∙◌, List, length, ap, sym, subst, arith}
+use Rattle.std.proofs.Common.{◌≡◌, ◌∙◌, List, Bool, length, ap, ap₂, sym, subst, arith}
 use Rattle.tape_core.specs.Devices.{Gave}
 use Rattle.sheet.specs.Cells.{Cell}
 use Rattle.xterm_screen.specs.Picture.{Picture}
@@ -6,7 +6,7 @@ use Rattle.xterm_term.specs.Console.{Console}
 use Rattle.xterm_print.proofs.ShownLemmas.{written_back}
 use Rattle.xterm_page.specs.Entries.{console_by, entry_of}
 use Rattle.xterm_page.specs.EntryText.{next_text}
-use Rattle.xterm_page.specs.Parts.{AreKept, AreWide, differing}
+use Rattle.xterm_page.specs.Parts.{AreKept, AreTold, AreWide, differing}
 use Rattle.xterm_page.proofs.KeptLemmas.{kept_by, wide_by}
 use Rattle.xterm_page.proofs.entry_printer.EntryPrinterVisitorTerminal.visit.Goals as goal
 
@@ -20,8 +20,9 @@ put_entry-requires g c =
     omega (arith, c.as_slice-then-len-lines.ensures.len, c.len.ensures, c.if-len-lines.true, c.lines.ensures.value) in
     record {
       lines = long ∙ ap (λ (q : Picture). q.lines) is;
-      changed = c.as_slice-then-len-lines-2.ensures.value ∙ c.changed_rows-changed.ensures
-          ∙ ap (λ (rows : List (List Cell)). differing p.lines rows p.rows) same ∙ ap (λ (q : Picture). differing q.lines before q.rows) is;
+      changed = c.as_slice-then-len-lines-2.ensures.value ∙ c.in_ok-changed.ensures
+          ∙ ap (λ (rows : List (List Cell)). differing c.screen-screen.result.now.touched p.lines rows p.rows) same
+          ∙ ap₂ (λ (t : List Bool) (q : Picture). differing t q.lines before q.rows) c.screen-screen.ensures.touched is;
     }
 
 pub catch_up-requires : goal.catch_up-requires
@@ -29,27 +30,34 @@ catch_up-requires g c =
     let p = c.screen-screen.result.now.picture in
     record {
       lines = omega (arith, c.as_mut_slice.ensures.len, c.len.ensures, c.if-len-lines.true, c.lines.ensures.value);
-      changed = c.as_slice-then-len-lines-3.ensures.value ∙ c.changed_rows-changed.ensures
-          ∙ ap (λ (rows : List (List Cell)). differing p.lines rows p.rows) (c.as_slice.ensures.value ∙ sym c.as_mut_slice.ensures.value);
+      changed = c.as_slice-then-len-lines-3.ensures.value ∙ c.in_ok-changed.ensures
+          ∙ ap (λ (rows : List (List Cell)). differing c.screen-screen.result.now.touched p.lines rows p.rows) (c.as_slice.ensures.value ∙ sym c.as_mut_slice.ensures.value);
     }
 
-pub returns-then-len-lines-clause-gave : goal.returns-then-len-lines-clause-gave
-returns-then-len-lines-clause-gave g c = λ profile before after are shows.
+pub returns-in_ok-changed-clause-gave : goal.returns-in_ok-changed-clause-gave
+returns-in_ok-changed-clause-gave g c = λ profile before after are shows tells.
     let was = c.as_slice-then-len-lines.ensures.value ∙ are.rows in
+    let told = subst (λ (rows : List (List Cell)). AreTold rows c.args.terminal.now.touched c.args.terminal.now.console.picture.rows) (sym was) tells in
     subst (Gave g.W.Write.contents c.args.writer.now c.put_entry.new.writer)
     (ap (λ (rows : List (List Cell)). next_text (entry_of c.args.due rows c.args.terminal.now.console)) was
     ∙ ap (λ (s : Console). next_text (entry_of c.args.due (console_by profile.columns profile.lines before).picture.rows s)) (sym shows.console))
-    c.put_entry.ensures
+    (c.put_entry.ensures told)
 
-pub returns-then-len-lines-clause-keeps : goal.returns-then-len-lines-clause-keeps
-returns-then-len-lines-clause-keeps g c = λ profile before after are shows.
+pub returns-in_ok-changed-clause-keeps : goal.returns-in_ok-changed-clause-keeps
+returns-in_ok-changed-clause-keeps g c = λ profile before after are shows tells.
     let p = c.screen-screen.result.now.picture in
     let is = c.screen-screen.ensures.value in
     let new = c.catch_up.new.rows in
     let law = c.size_stays.ensures in
+    let was = c.as_mut_slice.ensures.value ∙ are.rows in
+    let old_rows = (console_by profile.columns profile.lines before).picture.rows in
+    let told : AreTold c.as_mut_slice.result.now c.screen-screen.result.now.touched p.rows =
+    subst (λ (rows : List (List Cell)). AreTold rows c.screen-screen.result.now.touched p.rows) (sym was)
+    (subst (λ (q : Picture). AreTold old_rows c.screen-screen.result.now.touched q.rows) (sym is)
+    (subst (λ (t : List Bool). AreTold old_rows t c.args.terminal.now.console.picture.rows) (sym c.screen-screen.ensures.touched) tells)) in
     let wide = wide_by law p c.args.terminal.now profile after c.as_mut_slice.result.now is shows
     (subst (λ rows. AreWide profile.lines profile.columns rows) (sym c.as_mut_slice.ensures.value) are.columns) in
-    let kept = c.catch_up.ensures wide in
+    let kept = c.catch_up.ensures wide told in
     let follows = kept_by law p c.args.terminal.now profile after new is shows kept in
     let long = c.as_mut_slice.ensures.len in
     let old : length c.args.kept.now.items ≡ c.args.kept.now.len = sym (ap length c.as_mut_slice.ensures.value) ∙ long in

@@ -1,4 +1,4 @@
-use Rattle.std.proofs.Common.{◌≡◌, ap, sym, ◌∙◌}
+use Rattle.std.proofs.Common.{◌≡◌, ap, ◌∙◌}
 use Rattle.xterm_page.specs.Same.{same_row}
 use Rattle.xterm_page.proofs.EqualLemmas.{alike}
 use Rattle.xterm_page.proofs.kept.KeptRow.is_same.Goals as goal
