@@ -1,3 +1,5 @@
 mod CommandLemmas
+mod FlagValues
 mod HelpLemmas
 mod LineLemmas
+mod PlainWords

@@ -1,23 +1,14 @@
 -- What clap makes of a plain command line.
-use Rattle.std.proofs.Common.{◌≡◌, ℕ, ◌&&◌, ◌||◌, Bool, true, false, not, List, [], ◌∷◌, ◌++◌, map, Option, Some, None, Result, Ok, chars, zero, drop, position, codes, ◌==◌, length, min, nat_lt, ◌+◌, arith, suc, take, refl, sym, ◌∙◌, ap, ap₂, subst, is_some, append_assoc, append-nil, if◌then◌else◌}
-use Rattle.std.proofs.lemmas.Bool.{eqb-true}
-use Rattle.std.proofs.lemmas.Bool.Decides.{nat_tests}
-use Rattle.std.specs.Char.{is_ascii_digit}
-use Rattle.std.specs.Int.{IsInRange}
-use Rattle.std.specs.Str.Parse.{digits_value}
-use Rattle.std.specs.List.{after_first, before_first, fold, list_all, position_or_len}
-use Rattle.std.specs.Option.{option_and_then, option_map, option_map_or}
-use Rattle.std.specs.Str.{bytes_eq}
-use Rattle.clap.specs.Lexer.{strip_byte, long_of, long_of_rest, short_of_rest}
+use Rattle.std.proofs.Common.{◌≡◌, ℕ, ◌&&◌, Bool, true, false, List, [], ◌∷◌, ◌++◌, map, Option, Some, None, Result, Ok, chars, codes, ◌+◌, refl, sym, ◌∙◌, ap, is_some, append_assoc, append-nil, if◌then◌else◌}
+use Rattle.std.specs.List.{fold, list_all}
 use Rattle.clap.specs.Words.{App, Shape, Text}
 use Rattle.clap.specs.Simple.{built, built_leaf, entered, inherited, names_of, marked_built, with_leaf_noted}
-use Rattle.clap.specs.Takes.{bundle_passes, built_takes, default_passes, entered_passes, flag_word_passes, is_valid, level_passes, other_passes, settle_passes, step_passes, turn_passes, walk_passes, word_passes}
-use Rattle.clap.specs.Walk.{Held, Names, Rule, Step, Walk, Waiting, after_step, finished, idle, option, positional, long_or_other, nothing_held, plain_word, rows_after, short_or_plain, subcommand_met, subcommand_or_other, trailing, walk, walk_from, walked, walked_from, word_met}
+use Rattle.clap.specs.Takes.{built_takes, default_passes, entered_passes, is_valid, level_passes, settle_passes, walk_passes}
+use Rattle.clap.specs.Walk.{Held, Names, Rule, Walk, finished, nothing_held, rows_after, walk, walk_from, walked}
 use Rattle.clap.proofs.OnLiterals.{clap_on_literals}
 use Rattle.command_line.proofs.CommandLemmas.{is_simple_app, means, means_job}
-use Rattle.tape_core.specs.Seconds.{last_moment, micros, seconds_of}
-use Rattle.tape_seek.specs.Requests.{place_of}
-use Rattle.command_line.specs.CommandLine.{typetool_app, clap_takes, every_allowed, every_of, usual_every, after, readable, job_in, is_searchable, is_secret, moment_if, moment_or_last, profile_named, is_today, size_cut, size_from, size_named, stem_of, today_if, searchable, secret, value_in, subcommand_in, app_in, name_in, id_in, rule_in, flags_in, texts_in, text_in, paths_in, print_by}
+use Rattle.tape_core.specs.Seconds.{last_moment, seconds_of}
+use Rattle.command_line.specs.CommandLine.{typetool_app, clap_takes, every_of, usual_every, after, readable, job_in, is_searchable, is_secret, moment_if, moment_or_last, profile_named, is_today, size_named, stem_of, today_if, searchable, secret, value_in, subcommand_in, app_in, name_in, id_in, rule_in, flags_in, texts_in, text_in, paths_in, print_by}
 use Rattle.command_line.specs.Lines.{Asks, IsPlain, escaped_words, header_words, profile_or_first, profile_words, sized_words, today_words}
 use Rattle.tape_mend.specs.declared.opening.Header.{Header}
 use Rattle.tape_mend.specs.declared.opening.Header.TheVariants.{Kept, Last, Made}
@@ -33,145 +24,9 @@ use Rattle.command_line.specs.declared.words.values.Unreadable.{Unreadable}
 use Rattle.command_line.specs.declared.words.values.Unreadable.TheVariants as unread
 use Rattle.command_line.specs.declared.words.table.Subcommand.{Subcommand}
 use Rattle.command_line.specs.declared.words.table.Subcommand.TheVariants.{Due, Info, Check, Screen, Picture, Changes, Find, Reports, Page, Cast, Save, Mend, Redact, Session}
-
-both_true : (a b : Bool) → a ≡ true → b ≡ true → (a && b) ≡ true
-both_true a b e f = ap₂ (λ x y. x && y) e f
-
-first_true : (a b : Bool) → (a && b) ≡ true → a ≡ true
-first_true true b e = refl
-first_true false b e = e
-
-second_true : (a b : Bool) → (a && b) ≡ true → b ≡ true
-second_true true b e = e
-second_true false b e = absurd (cc)
-
-is_not : (a : Bool) → not a ≡ true → a ≡ false
-is_not true e = absurd (cc)
-is_not false e = refl
-
--- ---- a plain word is no flag
-
-no_hyphen : (word : Text) → IsPlain word → strip_byte 45 word ≡ None
-no_hyphen [] plain = refl
-no_hyphen (c ∷ rest) plain = ap (λ b. if b then Some rest else None) plain
-
-no_hyphens : (word : Text) → IsPlain word → bytes_eq word (45 ∷ 45 ∷ []) ≡ false
-no_hyphens [] plain = refl
-no_hyphens (c ∷ rest) plain = ap (λ b. b && bytes_eq rest (45 ∷ [])) plain
-
-no_name : (waiting : Waiting) (word : Text) → subcommand_met [] waiting word ≡ None
-no_name idle word = refl
-no_name (option id) word = refl
-no_name positional word = refl
-
-module _ (word : Text) (plain : IsPlain word) where
-  -- so it is a value
-  is_value : (c : List Rule) (waiting : Waiting) (position : ℕ) (h : Held)
-      → word_met c [] false waiting position word h ≡ plain_word c waiting word h
-  is_value c waiting position h =
-      ap (λ o. subcommand_or_other c o waiting position word h) (no_name waiting word)
-      ∙ ap (λ b. if b then (h, trailing position) else long_or_other c waiting word (long_of word) h) (no_hyphens word plain)
-      ∙ ap (λ o. long_or_other c waiting word (option_and_then long_of_rest (option_and_then (strip_byte 45) o)) h) (no_hyphen word plain)
-      ∙ ap (λ o. short_or_plain c waiting word (option_and_then short_of_rest o) h) (no_hyphen word plain)
-
-  -- and no call for help
-  value_passes_by : (s : Shape) (waiting : Waiting) (h : Held) → word_passes s [] false waiting word h ≡ true
-  value_passes_by s waiting h =
-      ap (λ o. other_passes s o word h) (no_name waiting word)
-      ∙ ap (λ b. b || (flag_word_passes s.rules s.args_override_self (long_of word) word h)) (no_hyphens word plain)
-      ∙ ap (λ o. flag_word_passes s.rules s.args_override_self (option_and_then long_of_rest (option_and_then (strip_byte 45) o)) word h)
-      (no_hyphen word plain)
-      ∙ ap (λ o. option_map_or (λ flags. bundle_passes s.rules s.args_override_self flags h) (option_and_then short_of_rest o) true)
-      (no_hyphen word plain)
-
--- ---- a walk over words of which some are plain
-
--- a word that is written out, or a plain one
-data Word : Type 0 where
-  literal : Text → Word
-  value_word : Text → Word
-
-abbrev text_of : Word → Text
-text_of (literal text) = text
-text_of (value_word text) = text
-
-abbrev ArePlain : List Word → Type 0
-ArePlain [] = Unit {0}
-ArePlain (literal text ∷ rest) = ArePlain rest
-ArePlain (value_word text ∷ rest) = IsPlain text × ArePlain rest
-
--- the walk, which computes whatever the plain words are
-abbrev stepped : List Rule → Walk → Word → Walk
-stepped c w (literal text) = walked c [] w text
-stepped c w (value_word text) = after_step c text w (plain_word c w.waiting text w.held).0 (plain_word c w.waiting text w.held).1
-
-abbrev step_is_taken : Shape → Walk → Word → Bool
-step_is_taken s w (literal text) = turn_passes s [] w text
-step_is_taken s w (value_word text) =
-    not w.is_trailing && (not (is_some w.stopped)
-    && step_passes s w.position (plain_word s.rules w.waiting text w.held).0 (plain_word s.rules w.waiting text w.held).1)
-
-abbrev are_taken : Shape → Walk → List Word → Bool
-are_taken s w [] = true
-are_taken s w (word ∷ rest) = step_is_taken s w word && are_taken s (stepped s.rules w word) rest
-
-is_none : {X : Type 0} (o : Option X) → not (is_some o) ≡ true → o ≡ None
-is_none None e = refl
-is_none (Some x) e = absurd (cc)
-
--- the walk over a plain word that nothing stops
-module _ (s : Shape) (w : Walk) (text : Text) (plain : IsPlain text) (untrailing : w.is_trailing ≡ false)
-    (unstopped : w.stopped ≡ None) where
-  -- what the word does, by whether a `--` stands before it
-  abbrev met_where : Bool → Held × Step
-  met_where is_trailing = word_met s.rules [] is_trailing w.waiting w.position text w.held
-
-  plain_step : walked s.rules [] w text ≡ stepped s.rules w (value_word text)
-  unfolding walked
-  plain_step =
-      ap (λ o. walked_from s.rules [] o w text) unstopped
-      ∙ ap (λ b. after_step s.rules text w (met_where b).0 (met_where b).1) untrailing
-      ∙ ap (λ met. after_step s.rules text w met.0 met.1) (is_value text plain s.rules w.waiting w.position w.held)
-
-  abbrev turn_where : Option (Text × List Text) → Bool → Bool
-  turn_where stopped is_trailing =
-      is_some stopped || (word_passes s [] is_trailing w.waiting text w.held
-      && step_passes s w.position (met_where is_trailing).0 (met_where is_trailing).1)
-
-  plain_turn : step_passes s w.position (plain_word s.rules w.waiting text w.held).0 (plain_word s.rules w.waiting text w.held).1 ≡ true
-      → turn_passes s [] w text ≡ true
-  plain_turn passes =
-      ap (λ o. turn_where o w.is_trailing) unstopped
-      ∙ ap (turn_where None) untrailing
-      ∙ both_true _ _ (value_passes_by text plain s w.waiting w.held)
-      (ap (λ met. step_passes s w.position met.0 met.1) (is_value text plain s.rules w.waiting w.position w.held) ∙ passes)
-
--- what is walked, where it passes
-record Goes (s : Shape) (w : Walk) (words : List Word) : Type 0 where
-  pub to : fold (walked s.rules []) w (map text_of words) ≡ fold (stepped s.rules) w words
-  pub passes : walk_passes s [] w (map text_of words) ≡ true
-
-goes_on : (s : Shape) (w : Walk) (word : Word) (rest : List Word)
-    → walked s.rules [] w (text_of word) ≡ stepped s.rules w word → turn_passes s [] w (text_of word) ≡ true
-    → Goes s (stepped s.rules w word) rest → Goes s w (word ∷ rest)
-unfolding walk_passes
-goes_on s w word rest step turn g = record {
-  to = ap (λ x. fold (walked s.rules []) x (map text_of rest)) step ∙ g.to;
-  passes = both_true _ _ turn (ap (λ x. walk_passes s [] x (map text_of rest)) step ∙ g.passes);
-}
-
-goes : (s : Shape) (words : List Word) (w : Walk) → ArePlain words → are_taken s w words ≡ true → Goes s w words
-unfolding walk_passes
-goes s [] w plain taken = record { to = refl; passes = refl }
-goes s (literal text ∷ rest) w plain taken =
-    goes_on s w (literal text) rest refl (first_true _ _ taken) (goes s rest (stepped s.rules w (literal text)) plain (second_true _ _ taken))
-goes s (value_word text ∷ rest) w plain taken =
-    let here = first_true _ _ taken in
-    let untrailing = is_not _ (first_true _ _ here) in
-    let unstopped = is_none _ (first_true _ _ (second_true _ _ here)) in
-    goes_on s w (value_word text) rest (plain_step s w text plain.0 untrailing unstopped)
-    (plain_turn s w text plain.0 untrailing unstopped (second_true _ _ (second_true _ _ here)))
-    (goes s rest (stepped s.rules w (value_word text)) plain.1 (second_true _ _ taken))
+use Rattle.command_line.proofs.PlainWords.{both_true, first_true, second_true, Word, text_of, ArePlain, stepped, are_taken, goes}
+use Rattle.command_line.proofs.PlainWords.Word.{literal, value_word}
+use Rattle.command_line.proofs.FlagValues.{seconds_are_plain, number_in_digits, number_is_plain, size_is_plain}
 
 -- ---- a subcommand, with the words behind its name
 
@@ -344,93 +199,6 @@ module _ (program : Text) (s : Subcommand) (words : List Word) (plain : ArePlain
     taken = takes_line;
     meaning = means _ s _ line_met ∙ ap (λ m. Some m) (means_job s _ job text paths is beside are);
   }
-
--- ---- the values of flags
-
-is_false : (b : Bool) → (b ≡ true → ⊥) → b ≡ false
-is_false true h = absurd (h refl)
-is_false false h = refl
-
-no_value : {X Y : Type 0} (f : X → Y) (x : X) (b : Bool) → option_map f (if b && false then Some x else None) ≡ None
-no_value f x true = refl
-no_value f x false = refl
-
-no_digit : (n : ℕ) (rest : Text) → list_all is_ascii_digit (take (1 + n) (45 ∷ rest)) ≡ false
-no_digit n rest =
-    let more : 1 + n ≡ suc n = omega arith in
-    ap (λ k. list_all is_ascii_digit (take k (45 ∷ rest))) more
-
-no_seconds : (rest : Text) → seconds_of (45 ∷ rest) ≡ None
-unfolding seconds_of
-no_seconds rest =
-    let whole = before_first (λ b. b == 46) (45 ∷ rest) in
-    let decimals = after_first (λ b. b == 46) (45 ∷ rest) in
-    ap (λ c. option_map (λ us. min us last_moment)
-    (if nat_lt 0 (length whole) && (c && list_all is_ascii_digit decimals) then Some (micros whole decimals) else None))
-    (no_digit (position_or_len (λ b. b == 46) rest) rest)
-    ∙ no_value (λ us. min us last_moment) (micros whole decimals) (nat_lt 0 (length whole))
-
-some_seconds : (rest : Text) (moment : ℕ) → seconds_of (45 ∷ rest) ≡ Some moment → ⊥
-some_seconds rest moment e =
-    let bad : None ≡ Some moment = sym (no_seconds rest) ∙ e in
-    absurd (cc)
-
--- a text that is read as seconds begins with a digit
-seconds_are_plain : (text : Text) (moment : ℕ) → seconds_of text ≡ Some moment → IsPlain text
-unfolding seconds_of
-seconds_are_plain [] moment e = refl
-seconds_are_plain (c ∷ rest) moment e =
-    is_false (c == 45) (λ same. some_seconds rest moment (subst (λ x. seconds_of (x ∷ rest) ≡ Some moment) (eqb-true c 45 same) e))
-
--- ---- the number of chunks that a flag gives
-
-digits_if : (text : Text) (count : ℕ) (is : Bool) → is ≡ (nat_lt 0 (length text) && list_all is_ascii_digit text)
-    → option_and_then every_allowed (option_map (λ n. min n last_moment) (if is then Some (digits_value 10 text) else None)) ≡ Some count
-    → list_all is_ascii_digit text ≡ true
-digits_if text count false is e = absurd (cc)
-digits_if text count true is e = second_true _ _ (sym is)
-
--- a number of chunks is written in digits
-number_in_digits : (text : Text) (count : ℕ) → every_of text ≡ Some count → list_all is_ascii_digit text ≡ true
-unfolding every_of
-number_in_digits text count e = digits_if text count (nat_lt 0 (length text) && list_all is_ascii_digit text) refl e
-
-digit_range : (c : ℕ) → is_ascii_digit c ≡ true → IsInRange 48 57 c
-digit_range c e = (grind (arith, nat_tests), grind (arith, nat_tests))
-
-number_is_plain : (text : Text) → list_all is_ascii_digit text ≡ true → IsPlain text
-number_is_plain [] e = refl
-number_is_plain (c ∷ rest) e =
-    is_false (c == 45) (λ same. absurd (omega (arith, eqb-true c 45 same, (digit_range c (first_true _ _ e)).0)))
-
--- ---- the size that a flag gives
-
-no_place : (n : ℕ) (rest : Text) → place_of (take n (45 ∷ rest)) ≡ None
-no_place zero rest = refl
-no_place (suc n) rest =
-    no_value (λ n. min n last_moment) (digits_value 10 (take (suc n) (45 ∷ rest))) (nat_lt 0 (length (take (suc n) (45 ∷ rest))))
-
-no_columns : (lines : Option ℕ) → size_from None lines ≡ None
-no_columns None = refl
-no_columns (Some lines) = refl
-
-no_cut : (rest : Text) (cross : Option ℕ) → option_and_then (size_cut (45 ∷ rest)) cross ≡ None
-no_cut rest None = refl
-no_cut rest (Some n) =
-    ap (λ columns. size_from columns (place_of (drop (n + 1) (45 ∷ rest)))) (no_place n rest) ∙ no_columns (place_of (drop (n + 1) (45 ∷ rest)))
-
-no_size : (rest : Text) → size_named (45 ∷ rest) ≡ None
-unfolding size_named
-no_size rest = no_cut rest (position (λ byte. byte == 120) (45 ∷ rest))
-
--- a text that is read as a size begins with a digit
-size_is_plain : (text : Text) (measure : Measure) → size_named text ≡ Some measure → IsPlain text
-unfolding size_named
-size_is_plain [] measure e = refl
-size_is_plain (c ∷ rest) measure e =
-    is_false (c == 45) (λ same.
-    let bad : None ≡ Some measure = sym (no_size rest) ∙ subst (λ x. size_named (x ∷ rest) ≡ Some measure) (eqb-true c 45 same) e in
-    absurd (cc))
 
 -- ---- each line
 

@@ -147,46 +147,56 @@ const CAST_DETAILS: &str =
     Example: typetool cast demo.script demo.timing >demo.cast\n\n\
     The long form: man typetool";
 
+/// When a chunk is due.
+const DUE_DETAILS: &str = "A chunk is due at the sum of the delays up to its own.\n\n\
+    Example: typetool due --at 12.5 demo.script demo.timing >bytes\n\n\
+    The long form: man typetool";
+
+/// The lines that `info` writes.
+const INFO_DETAILS: &str =
+    "Five lines: chunks (their number), bytes (those of all chunks), length (seconds, with six\n\
+    decimals), header and trailer (bytes before the first chunk and after the last).\n\n\
+    Example: typetool info demo.script demo.timing\n\n\
+    The long form: man typetool";
+
+/// The form of the printed screen.
+const SCREEN_DETAILS: &str =
+    "UTF-8, without the spaces at the ends of lines. With --escaped a text for a terminal, without a\n\
+    last line feed, that draws size, characters, renditions and cursor again.\n\n\
+    Example: typetool screen --at 12.5 demo.script demo.timing\n\n\
+    The long form: man typetool";
+
+/// What a picture holds.
+const PICTURE_DETAILS: &str =
+    "One file for browsers and programs that draw SVG, which needs nothing else: line drawing, double\n\
+    sizes, renditions and the cursor on an exact grid, and text that can be copied; with --profile\n\
+    xterm in colours.\n\n\
+    Example: typetool picture --at 12.5 demo.script demo.timing >screen.svg\n\n\
+    The long form: man typetool";
+
+/// The lines that `changes` writes.
+const CHANGES_DETAILS: &str =
+    "A line for each chunk that changes the screen: the chunk (counted from 0), when it is due (seconds),\n\
+    and the lines that differ before and after it alone (from 1 on), one space between.\n\n\
+    Example: typetool changes --from 12.5 --to 60 demo.script demo.timing\n\n\
+    The long form: man typetool";
+
+/// The line that `reports` writes.
+const REPORTS_DETAILS: &str = "One line of lower-case digits, empty where nothing was answered.\n\n\
+    Example: typetool reports --at 12.5 demo.script demo.timing\n\n\
+    The long form: man typetool";
+
 /// What help tells of a subcommand after its arguments: more of what it does, an example, and where more stands.
 pub fn details_of<'a>(subcommand: Subcommand) -> &'a str {
     match subcommand {
-        Subcommand::Due => {
-            "A chunk is due at the sum of the delays up to its own.\n\n\
-             Example: typetool due --at 12.5 demo.script demo.timing >bytes\n\n\
-             The long form: man typetool"
-        }
-        Subcommand::Info => {
-            "Five lines: chunks (their number), bytes (those of all chunks), length (seconds, with six\n\
-             decimals), header and trailer (bytes before the first chunk and after the last).\n\n\
-             Example: typetool info demo.script demo.timing\n\n\
-             The long form: man typetool"
-        }
+        Subcommand::Due => DUE_DETAILS,
+        Subcommand::Info => INFO_DETAILS,
         Subcommand::Check => CHECK_DETAILS,
-        Subcommand::Screen => {
-            "UTF-8, without the spaces at the ends of lines. With --escaped a text for a terminal, without a\n\
-             last line feed, that draws size, characters, renditions and cursor again.\n\n\
-             Example: typetool screen --at 12.5 demo.script demo.timing\n\n\
-             The long form: man typetool"
-        }
-        Subcommand::Picture => {
-            "One file for browsers and programs that draw SVG, which needs nothing else: line drawing, double\n\
-             sizes, renditions and the cursor on an exact grid, and text that can be copied; with --profile\n\
-             xterm in colours.\n\n\
-             Example: typetool picture --at 12.5 demo.script demo.timing >screen.svg\n\n\
-             The long form: man typetool"
-        }
-        Subcommand::Changes => {
-            "A line for each chunk that changes the screen: the chunk (counted from 0), when it is due (seconds),\n\
-             and the lines that differ before and after it alone (from 1 on), one space between.\n\n\
-             Example: typetool changes --from 12.5 --to 60 demo.script demo.timing\n\n\
-             The long form: man typetool"
-        }
+        Subcommand::Screen => SCREEN_DETAILS,
+        Subcommand::Picture => PICTURE_DETAILS,
+        Subcommand::Changes => CHANGES_DETAILS,
         Subcommand::Find => FIND_DETAILS,
-        Subcommand::Reports => {
-            "One line of lower-case digits, empty where nothing was answered.\n\n\
-             Example: typetool reports --at 12.5 demo.script demo.timing\n\n\
-             The long form: man typetool"
-        }
+        Subcommand::Reports => REPORTS_DETAILS,
         Subcommand::Page => PAGE_DETAILS,
         Subcommand::Cast => CAST_DETAILS,
         Subcommand::Save => SAVE_DETAILS,
