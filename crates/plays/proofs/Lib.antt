@@ -1,1 +1,1 @@
-mod Sinks
+pub mod Sinks

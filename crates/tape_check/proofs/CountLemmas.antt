@@ -26,7 +26,7 @@ use Rattle.tape_check.specs.declared.played.PlayedAs.TheVariants.{Vt}
 use Rattle.tape_check.specs.Unplayed.{command_names, formless_names}
 use Rattle.tape_check.specs.declared.scan.Scanner.{Scanner}
 use Rattle.tape_check.specs.Scan.{Scan, mode_left_by, scan_step, names_in, counted}
-use Rattle.tape_check.specs.Counting.{plain_entries, entries_of, Follows, Scanned, LawsBelow}
+use Rattle.tape_check.specs.Counting.{plain_entries, entries_of, Follows, Scanned}
 use Rattle.tape_check.proofs.ScanLemmas.{names_append, mode_same_bytes, told, comes_told, view_told}
 
 -- ---- counts
@@ -111,15 +111,15 @@ first_taken (suc n) (byte ∷ rest) some = refl
 abbrev pub scanner : Profile → Mode → ParserState → Counts → Scanner
 scanner profile mode state counts = record { profile = profile; mode = mode; parser = state; counts = counts }
 
-pub scanned_told : (laws : LawsBelow) (old : Scanner) (mid new : Counts) (state : ParserState) (mode : Mode) (s : Scan) (taken : List ℕ)
+pub scanned_told : (old : Scanner) (mid new : Counts) (state : ParserState) (mode : Mode) (s : Scan) (taken : List ℕ)
     (given token : Option Token) → 0 < length taken → given ≡ token → Follows old s
     → TellsOf old.mode s.mode s.pending taken given → NoneEndsBehind old.mode s.mode s.pending taken → Leads old.parser old.mode taken state
     → mode ≡ mode_left_by (told token) old.mode
     → entries_of mid ≡ fold counted (entries_of old.counts) (formless_names (formless_of s.mode s.pending (get_or taken 0 0)))
     → entries_of new ≡ fold counted (entries_of mid) (command_names (Vt old.profile) (told token))
     → Scanned old (scanner old.profile mode state new) s taken
-scanned_told laws old mid new state mode s [] given token some same follows tells none leads mode_is first more = absurd (omega arith)
-scanned_told laws old mid new state mode s (byte ∷ rest) given token some same follows tells none leads mode_is first more =
+scanned_told old mid new state mode s [] given token some same follows tells none leads mode_is first more = absurd (omega arith)
+scanned_told old mid new state mode s (byte ∷ rest) given token some same follows tells none leads mode_is first more =
     let m = s.mode in
     let bytes = byte ∷ rest in
     let here = sym follows.mode in
@@ -132,13 +132,13 @@ scanned_told laws old mid new state mode s (byte ∷ rest) given token some same
     let pending = pending_after_bytes m m s.pending bytes in
     let view : parser_view m pending ≡ Some state
     = ap (λ (n : Mode). parser_view n pending) (sym (mode_same_bytes m bytes)) ∙ leads_here in
-    let comes = comes_told laws old.profile m s.pending byte rest token tells_here none_here in
+    let comes = comes_told old.profile m s.pending byte rest token tells_here none_here in
     let form = formless_names (formless_of m s.pending byte) in
     let names = command_names (Vt old.profile) (told token) in
     record {
       follows = subst (Follows (scanner old.profile mode state new)) (sym comes.scan_is) (record {
         mode = ap (mode_left_by (told token)) follows.mode ∙ sym mode_is;
-        state = view_told laws m s.pending byte rest token state tells_here view;
+        state = view_told m s.pending byte rest token state tells_here view;
       });
       profile = refl;
       counts = more ∙ ap (λ (l : List (List ℕ × ℕ)). fold counted l names) first

@@ -11,11 +11,11 @@ use Rattle.vt_parser.specs.Syntax.{escape}
 use Rattle.vt_parser.specs.Step.{command_of, pending_after}
 use Rattle.xterm_term.specs.Console.{Console, forgotten}
 use Rattle.xterm_term.specs.Effect.{effect}
-use Rattle.xterm_term.specs.Played.{TitleGoesAlone}
 use Rattle.xterm_term.specs.Puts.{put, put_by_width, is_c1}
 use Rattle.xterm_term.specs.Rows.{effect_of}
 use Rattle.xterm_term.specs.Term as term
 use Rattle.xterm_term.specs.Term.{Term, Outcome, play, step, is_ground, ends_last, ends_title, forgotten_if, outcome_of}
+use Rattle.xterm_term.proofs.Rowless.{title_goes_alone}
 use Rattle.tape_check.specs.Tally.{Tally, GoesWith, TallyFollowsPlay, gone_on, one_part, read, syntax_read, tallied, title_by, title_read, upper_read}
 
 -- ---- whether a title is read
@@ -36,10 +36,10 @@ forgotten_untitled : (b : Bool) (s : Console) → (forgotten_if b s).title ≡ s
 forgotten_untitled true s = refl
 forgotten_untitled false s = refl
 
-titled_by : TitleGoesAlone → (command : Option Command) (s : Console)
+titled_by : (command : Option Command) (s : Console)
     → title_by command s.title ≡ (effect_of effect command s).title
-titled_by alone None s = refl
-titled_by alone (Some command) s = sym (alone command s)
+titled_by None s = refl
+titled_by (Some command) s = sym (title_goes_alone command s)
 
 -- ---- a byte
 
@@ -53,11 +53,11 @@ abbrev tally : Bool → List ℕ → List ℕ → List (List ℕ × ℕ) → ℕ
 tally title sequence character entries parts =
     record { title = title; sequence = sequence; character = character; entries = entries; parts = parts }
 
-module _ (alone : TitleGoesAlone) (entries : List (List ℕ × ℕ)) where
+module _ (entries : List (List ℕ × ℕ)) where
   syntax_agrees : (s : Console) (sequence : List ℕ) (parts byte : ℕ)
       → Agrees (syntax_read (tally s.title sequence [] entries parts) byte) (term.syntax_read s sequence byte)
   syntax_agrees s sequence parts byte = record {
-    title = titled_by alone (command_of Ansi sequence byte) s
+    title = titled_by (command_of Ansi sequence byte) s
         ∙ sym (forgotten_untitled (ends_last sequence byte) (effect_of effect (command_of Ansi sequence byte) s));
     sequence = refl;
     character = refl;
@@ -136,8 +136,8 @@ module _ (alone : TitleGoesAlone) (entries : List (List ℕ × ℕ)) where
 
 -- ---- the law
 
-goes_on : TitleGoesAlone → (x : Term) (t : Tally) (byte : ℕ) → GoesWith t x → GoesWith (tallied t byte) (step x byte)
-goes_on alone x t byte goes =
+goes_on : (x : Term) (t : Tally) (byte : ℕ) → GoesWith t x → GoesWith (tallied t byte) (step x byte)
+goes_on x t byte goes =
     let same : Agrees (tallied t byte) (outcome_of x.console x.sequence x.character byte)
     = subst (λ (title : Bool). Agrees (tallied (tally title t.sequence t.character t.entries t.parts) byte)
     (outcome_of x.console x.sequence x.character byte)) (sym goes.title)
@@ -145,11 +145,11 @@ goes_on alone x t byte goes =
     (outcome_of x.console x.sequence x.character byte)) (sym goes.sequence)
     (subst (λ (character : List ℕ). Agrees (tallied (tally x.console.title x.sequence character t.entries t.parts) byte)
     (outcome_of x.console x.sequence x.character byte)) (sym goes.character)
-    (byte_agrees alone t.entries x.console x.sequence x.character t.parts byte))) in
+    (byte_agrees t.entries x.console x.sequence x.character t.parts byte))) in
     record { title = same.title; sequence = same.sequence; character = same.character }
 
-pub tally_follows : TitleGoesAlone → TallyFollowsPlay
+pub tally_follows : TallyFollowsPlay
 unfolding play
-tally_follows alone x t [] goes = goes
-tally_follows alone x t (byte ∷ rest) goes =
-    tally_follows alone (step x byte) (tallied t byte) rest (goes_on alone x t byte goes)
+tally_follows x t [] goes = goes
+tally_follows x t (byte ∷ rest) goes =
+    tally_follows (step x byte) (tallied t byte) rest (goes_on x t byte goes)

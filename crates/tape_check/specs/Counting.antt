@@ -4,8 +4,6 @@ use Rattle.arrayvec.specs.ArrayVec.{ArrayVec}
 use Rattle.vt_parser.specs.View.{parser_view}
 use Rattle.tape_check.specs.declared.unplayed.Counts.{Counts}
 use Rattle.tape_check.specs.declared.scan.Scanner.{Scanner}
-use Rattle.vt_parser.specs.Law.{GroundIsEmpty, FinishedLeavesNothing, GraphicIsShown}
-use Rattle.vt_term.specs.Played.{ModeGoesAlone}
 use Rattle.tape_check.specs.Scan.{Scan, scan_step, names_in, counted}
 
 -- names with how often each was counted
@@ -25,10 +23,3 @@ pub record Scanned (old new : Scanner) (s : Scan) (bytes : List ℕ) : Type 0 wh
   pub follows : Follows new (fold scan_step s bytes)
   pub profile : new.profile ≡ old.profile
   pub counts : entries_of new.counts ≡ fold counted (entries_of old.counts) (names_in old.profile s bytes)
-
--- the laws of the crates below
-pub record LawsBelow : Type 0 where
-  pub ground_is_empty : GroundIsEmpty
-  pub finished_leaves_nothing : FinishedLeavesNothing
-  pub graphic_is_shown : GraphicIsShown
-  pub mode_goes_alone : ModeGoesAlone

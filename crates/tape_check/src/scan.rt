@@ -4,7 +4,6 @@ ghost use Rattle.tape_core.specs.Tape.{body};
 ghost use Rattle.tape_check.specs.Scan.{Scan, names_in, unplayed_in};
 ghost use Rattle.tape_check.specs.Counting.{Follows, Scanned, entries_of};
 
-use crate::laws::laws_below;
 use crate::played::PlayedAs;
 use crate::unplayed::Counts;
 use std::alloc::{AllocError, Global};
@@ -23,7 +22,7 @@ pub(crate) struct Scanner {
 }
 
 /// The unplayed sequences of chunks.
-#[tactic(auto, unfolding(crate::specs::Scan::unplayed_in, crate::specs::Scan::names_in))]
+#[tactic(auto, using(vt_parser::proofs::Agrees::ground_is_empty), unfolding(crate::specs::Scan::unplayed_in, crate::specs::Scan::names_in))]
 pub(crate) fn unplayed_in(
     alloc: Global,
     profile: Profile,
@@ -31,7 +30,6 @@ pub(crate) fn unplayed_in(
 ) -> Result<Counts, AllocError>
     ensures { IfOk result (λ counts. entries_of counts ≡ unplayed_in profile (body chunks.now)) }
 {
-    laws_below();
     let mut scanner = Scanner {
         profile,
         mode: Mode::Ansi,
@@ -72,7 +70,6 @@ impl Scanner {
         ensures scanned { (s : Scan) → Follows self.old s
             → IfOk result (λ n. Scanned self.old self.new s (take n bytes.now)) }
     {
-        laws_below();
         let formless = self.parser.state().formless_with(bytes[0]);
         self.counts.count_formless(formless)?;
         let (taken, token) = self.parser.next(self.mode, bytes);

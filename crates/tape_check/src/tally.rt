@@ -10,7 +10,6 @@ ghost use Rattle.tape_check.specs.Counting.{entries_of};
 ghost use Rattle.tape_check.specs.Tally.{Tally, any_today, forms_at, gone_on, parts_of, read, syntax_read, tallied, tally_start, title_by, title_read, upper_read};
 ghost use Rattle.tape_check.specs.Tallying.{IsAt};
 
-use crate::laws::laws_below;
 use crate::played::PlayedAs;
 use crate::quiet::Marks;
 use crate::unplayed::Counts;
@@ -63,10 +62,10 @@ pub(crate) fn tally(alloc: Global, chunks: &[Chunk]) -> Result<(Counts, u64), Al
 }
 
 impl Reader {
+    #[tactic(auto, using(vt_parser::proofs::Agrees::ground_is_empty))]
     fn new(alloc: Global) -> Reader
         ensures { IsAt result tally_start }
     {
-        laws_below();
         Reader {
             title: false,
             parser: Parser::new(),
@@ -157,10 +156,10 @@ impl Reader {
         self.read_syntax(byte)
     }
 
+    #[tactic(auto, using(vt_parser::proofs::Agrees::ground_is_empty))]
     fn is_on_ground(&self) -> bool
         ensures { (t : Tally) → IsAt self.now t → result ≡ is_ground t.sequence }
     {
-        laws_below();
         matches!(self.parser.state(), ParserState::Ground)
     }
 
@@ -222,7 +221,6 @@ impl Reader {
         ensures stands { (t : Tally) → IsAt self.old t
             → IsAt self.new (record t { sequence = pending_after Mode.Ansi t.sequence byte }) }
     {
-        laws_below();
         self.marks = self.marks.after(byte);
         self.parser.step(Mode::Ansi, byte)
     }

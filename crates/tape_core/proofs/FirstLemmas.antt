@@ -11,6 +11,7 @@ use Rattle.tape_core.specs.declared.chunk.Chunk.{Chunk}
 use Rattle.tape_core.specs.Edited.{capped_chunk, changed_at}
 use Rattle.tape_core.specs.Due.{bytes_at, first}
 use Rattle.tape_core.specs.Tape.{body}
+use Rattle.tape_core.specs.Law.{FirstIsKept}
 
 abbrev bytes_of : Chunk → List ℕ
 bytes_of c = c.bytes
@@ -26,13 +27,13 @@ first-more_of chunks n c lt is =
     ∙ ap (λ x. first chunks n ++ x) (append-nil (get_or chunks n c).bytes ∙ ap bytes_of is)
 
 -- what stands behind a place changes nothing before it
-pub front_kept : (chunks rest : List Chunk) (at n : ℕ) → n ≤ at → at ≤ length chunks → first (take at chunks ++ rest) n ≡ first chunks n
+front_kept : (chunks rest : List Chunk) (at n : ℕ) → n ≤ at → at ≤ length chunks → first (take at chunks ++ rest) n ≡ first chunks n
 front_kept chunks rest at n le within =
     let long : n ≤ length (take at chunks) = omega (arith, length-take at chunks) in
     ap body (take-append-le n (take at chunks) rest long ∙ take-take n at chunks le)
 
 -- nor does a change of the chunk at the place
-pub change_kept : (change : Chunk → Chunk) (chunks : List Chunk) (at n : ℕ) → n ≤ at → first (changed_at change at chunks) n ≡ first chunks n
+change_kept : (change : Chunk → Chunk) (chunks : List Chunk) (at n : ℕ) → n ≤ at → first (changed_at change at chunks) n ≡ first chunks n
 change_kept change chunks at n le =
     elim (cases_lt (length chunks) at) [
       | inl lt ↦
@@ -50,7 +51,7 @@ same_bytes old new n same =
     let of = λ (chunks : List Chunk). sym (flat_map-map (λ (b : List ℕ). b) bytes_of (take n chunks)) ∙ ap (flat_map (λ (b : List ℕ). b)) (sym (take-map bytes_of n chunks)) in
     of new ∙ ap (λ bs. flat_map (λ (b : List ℕ). b) (take n bs)) same ∙ sym (of old)
 
-pub retimed_kept : (delay : ℕ) (chunks : List Chunk) (at n : ℕ) → first (changed_at (λ c. record c { delay = delay }) at chunks) n ≡ first chunks n
+retimed_kept : (delay : ℕ) (chunks : List Chunk) (at n : ℕ) → first (changed_at (λ c. record c { delay = delay }) at chunks) n ≡ first chunks n
 retimed_kept delay chunks at n =
     let change : Chunk → Chunk = λ c. record c { delay = delay } in
     let whole : take at chunks ++ take 1 (drop at chunks) ++ drop (at + 1) chunks ≡ chunks =
@@ -63,5 +64,14 @@ retimed_kept delay chunks at n =
     ∙ ap (λ x. map bytes_of (take at chunks) ++ x) (map-map bytes_of change (take 1 (drop at chunks))) ∙ sym (map-append bytes_of (take at chunks) (take 1 (drop at chunks))))
     ∙ sym (map-append bytes_of (take at chunks ++ take 1 (drop at chunks)) (drop (at + 1) chunks)) ∙ ap (map bytes_of) whole)
 
-pub capped_kept : (chunks : List Chunk) (max n : ℕ) → first (map (capped_chunk max) chunks) n ≡ first chunks n
+capped_kept : (chunks : List Chunk) (max n : ℕ) → first (map (capped_chunk max) chunks) n ≡ first chunks n
 capped_kept chunks max n = same_bytes chunks (map (capped_chunk max) chunks) n (map-map bytes_of (capped_chunk max) chunks)
+
+pub first_kept : FirstIsKept
+first_kept = record {
+  inserted = λ tape at n chunk le within. front_kept tape.chunks (chunk ∷ drop at tape.chunks) at n le within;
+  removed = λ tape from to n le within. front_kept tape.chunks (drop to tape.chunks) from n le within;
+  replaced = λ tape at n bytes le. change_kept (λ x. record x { bytes = bytes }) tape.chunks at n le;
+  retimed = λ tape at delay n. retimed_kept delay tape.chunks at n;
+  capped = λ tape max n. capped_kept tape.chunks max n;
+}

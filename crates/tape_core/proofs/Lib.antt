@@ -2,17 +2,17 @@ pub mod DeviceLemmas
 pub mod GaveLemmas
 mod DigitLemmas
 mod SecondsLemmas
-mod DueLemmas
-mod FirstLemmas
+pub mod DueLemmas
+pub mod FirstLemmas
 mod FieldLemmas
 mod TimingLemmas
-mod EditedLemmas
+pub mod EditedLemmas
 mod WrittenLemmas
-mod LineLemmas
+pub mod LineLemmas
 mod ReadingLemmas
 mod CutLemmas
-mod ReadBackLemmas
+pub mod ReadBackLemmas
 mod FaultLemmas
-mod WordLemmas
-mod OneReadingLemmas
+pub mod WordLemmas
+pub mod OneReadingLemmas
 mod FirstLineLemmas

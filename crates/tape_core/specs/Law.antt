@@ -1,12 +1,12 @@
 -- What holds of every recording and of every text: statements of the crate's laws.
-use Rattle.std.specs.Prelude.{◌≡◌, ℕ, ◌+◌, ◌<◌, ◌≤◌, ◌^◌, ◌↔◌, ◌==◌, All, List, [], ◌∷◌, ◌++◌, Some, false, true, length, slice_index_or}
+use Rattle.std.specs.Prelude.{◌≡◌, ℕ, ◌+◌, ◌<◌, ◌≤◌, ◌^◌, ◌↔◌, List, ◌++◌, Some, length, slice_index_or}
 use Rattle.std.specs.Fmt.{decimal}
 use Rattle.tape_core.specs.declared.chunk.Chunk.{Chunk}
 use Rattle.tape_core.specs.Edited.{capped, inserted, removed, replaced, retimed}
 use Rattle.tape_core.specs.Due.{bytes_at, due_count, due_time, first}
 use Rattle.tape_core.specs.Seconds.{IsSeconds, last_moment, seconds_of}
-use Rattle.tape_core.specs.Tape.{Tape, body_len}
-use Rattle.tape_core.specs.Text.{IsWord, fields, is_blank, lines_of, number_of}
+use Rattle.tape_core.specs.Tape.{Tape}
+use Rattle.tape_core.specs.Text.{IsWord, number_of}
 use Rattle.tape_core.specs.Written.{seconds_form}
 
 -- a chunk is due by a moment just where its index is below the count of those due
@@ -30,25 +30,6 @@ pub record FirstIsKept : Type 0 where
       → first (replaced at bytes tape).chunks n ≡ first tape.chunks n
   pub retimed : (tape : Tape) (at delay n : ℕ) → first (retimed at delay tape).chunks n ≡ first tape.chunks n
   pub capped : (tape : Tape) (max n : ℕ) → first (capped max tape).chunks n ≡ first tape.chunks n
-
--- the bytes of all chunks, after a chunk came in and after one got others
-pub record BodiesAddUp : Type 0 where
-  pub inserted : (tape : Tape) (at : ℕ) (chunk : Chunk)
-      → body_len (inserted at chunk tape).chunks ≡ body_len tape.chunks + length chunk.bytes
-  pub replaced : (tape : Tape) (at : ℕ) (bytes : List ℕ) (chunk : Chunk) → at < length tape.chunks
-      → chunk ≡ slice_index_or tape.chunks at chunk
-      → body_len (replaced at bytes tape).chunks + length chunk.bytes ≡ body_len tape.chunks + length bytes
-
--- a word is one field, and the fields of a word, a blank and a text are the word and the text's
-pub record AWordIsAField : Type 0 where
-  pub alone : (word : List ℕ) → IsWord word → fields word ≡ word ∷ []
-  pub first : (word rest : List ℕ) (b : ℕ) → IsWord word → is_blank b ≡ true
-      → fields (word ++ b ∷ rest) ≡ word ∷ fields rest
-
--- the lines of a text without an LF, an LF and another text are the first text and the other's lines
-abbrev pub AnLfEndsALine : Type 0
-AnLfEndsALine = (text rest : List ℕ) → All (λ b. (b == 10) ≡ false) text
-    → lines_of (text ++ 10 ∷ rest) ≡ text ∷ lines_of rest
 
 -- numbers below 2^64 are written as a word of digits, and read back
 pub record NumbersReadBack : Type 0 where

@@ -1,5 +1,5 @@
 //! Laws over the definitions alone, as functions with empty bodies.
-ghost use Rattle.std.specs.Prelude.{◌≡◌, ◌++◌, ◌∷◌, [], Bool, ℕ, List, MatchOption, Ok, Some, false, min, true};
+ghost use Rattle.std.specs.Prelude.{◌≡◌, ◌++◌, [], Bool, ℕ, List, MatchOption, Ok, Some, false, min, true};
 ghost use Rattle.std.specs.List.{AllPass};
 ghost use Rattle.tape_core.specs.declared.chunk.Chunk.{Chunk};
 ghost use Rattle.tape_core.specs.declared.devices.Watched.{Watched};
@@ -7,7 +7,7 @@ ghost use Rattle.tape_core.specs.declared.timing.Entry.{Entry};
 ghost use Rattle.tape_core.specs.declared.timing.EntryFault.{EntryFault};
 ghost use Rattle.tape_core.specs.Devices.{Gave, Took, TookPart, has_failed};
 ghost use Rattle.tape_core.specs.Due.{due, due_count, first};
-ghost use Rattle.tape_core.specs.Law.{AWordIsAField, AnLfEndsALine, BodiesAddUp, DueIsBelowTheCount, FirstGrowsByAChunk, FirstIsKept, NumbersReadBack, SecondsReadBack};
+ghost use Rattle.tape_core.specs.Law.{DueIsBelowTheCount, FirstGrowsByAChunk, FirstIsKept, NumbersReadBack, SecondsReadBack};
 ghost use Rattle.tape_core.specs.Seconds.{IsSeconds, last_moment, seconds_of};
 ghost use Rattle.tape_core.specs.Tape.{Tape, fits};
 ghost use Rattle.tape_core.specs.Reading.{reads};
@@ -18,6 +18,7 @@ ghost use Rattle.tape_core.specs.Written.{script_text, timing_text};
 use std::io::Write;
 
 /// As no delay is negative, the bytes due by a moment are those of the first chunks.
+#[tactic(auto, using(crate::proofs::DueLemmas::due_first))]
 pub fn due_is_first()
     ensures { (chunks : List Chunk) (t : ℕ) → due chunks t ≡ first chunks (due_count chunks t) }
 {}
@@ -36,21 +37,6 @@ pub fn first_grows_by_a_chunk()
 /// delays all bytes.
 pub fn first_is_kept()
     ensures { FirstIsKept }
-{}
-
-/// A chunk that comes in adds its bytes to those of all chunks, and one that gets others changes them by the difference.
-pub fn bodies_add_up()
-    ensures { BodiesAddUp }
-{}
-
-/// A word is one field, and the fields of a word, a blank and a text are the word and the text's.
-pub fn a_word_is_a_field()
-    ensures { AWordIsAField }
-{}
-
-/// The lines of a text without an LF, an LF and another text are the first text and the other's lines.
-pub fn an_lf_ends_a_line()
-    ensures { AnLfEndsALine }
 {}
 
 /// A text is read as a number where it is spelled as one, with that value, and nowhere else.
@@ -96,6 +82,7 @@ pub fn a_line_is_blank_timed_or_faulty()
 {}
 
 /// A blank line is told as one, and a fault that a line has is the one that is told.
+#[tactic(auto, using(crate::proofs::FaultLemmas::blank_told, crate::proofs::FaultLemmas::fault_told))]
 pub fn a_fault_is_told()
     ensures blank { (text : List ℕ) → AllPass is_blank text → entry_of text ≡ Ok None }
     ensures faulty { (text : List ℕ) (fault : EntryFault)

@@ -1,5 +1,6 @@
 -- What a job comes to, and how a run of it ends.
-use Rattle.std.proofs.Common.{◌≡◌, ◌≢◌, ◌⊎◌, ℕ, Bool, true, false, List, [], refl, sym, ap, ◌∙◌, subst, inl, inr, not, Option, Some, None, MatchOption, Result, Ok, Err, true≢false, if◌then◌else◌}
+use Rattle.std.proofs.Common.{◌≡◌, ◌≢◌, ◌⊎◌, ℕ, Bool, true, false, List, [], ◌++◌, refl, sym, ap, ◌∙◌, subst, inl, inr, not, Option, Some, None, MatchOption, Result, Ok, Err, true≢false, if◌then◌else◌}
+use Rattle.tape_core.proofs.DeviceLemmas.{stopped-append, stopped_before}
 use Rattle.tape_core.proofs.GaveLemmas.{gave_early, gave_none, gave_took}
 use Rattle.tape_core.specs.Devices.{Took, TookPart, has_failed, is_flushed}
 use Rattle.tape_core.specs.declared.devices.Watched.{Watched}
@@ -8,7 +9,7 @@ use Rattle.tape_core.specs.Reading.{fault_of, reads}
 use Rattle.tape_core.specs.Tape.{Tape}
 use Rattle.tape_core.specs.declared.fault.Fault.{Fault}
 use Rattle.tape_core.specs.declared.fault.Fault.TheVariants.{OutOfMemory, ReadFault, WriteFault}
-use Rattle.tape_jobs.specs.Endings.{AreRead, AreSound, AsksNothing, HasFailed, HoldFiles, IsDone, IsUndone, IsUnwritten, JobEnds, OnFiles, Readers, RunEnds, TookBoth, TookPartOfBoth, WantsMemory, Writers}
+use Rattle.tape_jobs.specs.Endings.{AreRead, AreSound, AsksNothing, HasFailed, HoldFiles, IsDone, IsUndone, IsUnwritten, JobEnds, OnFiles, Readers, RunEnds, StopsIn, TookBoth, TookPartOfBoth, WantsMemory, Writers}
 use Rattle.tape_jobs.specs.Output.{Comes, ComesBy, Done, Files, IsDoneStatus, answers_by_status, done_on, done_with, is_stopped, mends, outcome_in, refused_in, takes_requests, writes_timing}
 use Rattle.tape_jobs.specs.declared.job.Ending.{Ending}
 use Rattle.tape_jobs.specs.declared.job.Ending.TheVariants.{Clean}
@@ -22,6 +23,17 @@ use Rattle.tape_mend.specs.declared.opening.Header.{Header}
 pub part_none : {T : Type 0} (contents : T → Option (List ℕ)) (a : Watched T) (text : List ℕ) → has_failed a ≡ false
     → TookPart contents a a text false
 part_none contents a text sound = gave_early contents a a text [] text false refl sound (gave_none contents a)
+
+-- a job that stops in the first of two texts, and one that stops in the second
+pub stops_first : {T : Type 0} (contents : T → Option (List ℕ)) (a b : Watched T) (x y : List ℕ) (f : JobFault)
+    → StopsIn contents a b x f → StopsIn contents a b (x ++ y) f
+stops_first contents a b x y f (inl (m, began)) = inl (m, stopped_before y began)
+stops_first contents a b x y f (inr (w, stopped)) = inr (w, stopped_before y stopped)
+
+pub stops_second : {T : Type 0} (contents : T → Option (List ℕ)) (a b c : Watched T) (x y : List ℕ) (f : JobFault)
+    → StopsIn contents b c y f → Took contents a b x → StopsIn contents a c (x ++ y) f
+stops_second contents a b c x y f (inl (m, began)) took = inl (m, stopped-append took began)
+stops_second contents a b c x y f (inr (w, stopped)) took = inr (w, stopped-append took stopped)
 
 -- a writer that wasn't asked for anything has taken all of a text of nothing
 pub whole_none : {T : Type 0} (contents : T → Option (List ℕ)) (a : Watched T) (text : List ℕ) → has_failed a ≡ false

@@ -1,26 +1,11 @@
 //! Laws over the definitions alone, as functions with empty bodies.
 
-ghost use Rattle.std.specs.Prelude.{◌≡◌, ◌++◌, ◌∷◌, [], ℕ, Bool, List, None, Option, Some, codes, false};
-ghost use Rattle.tape_core.specs.Devices.{Took, has_failed};
-ghost use Rattle.tape_core.specs.declared.devices.Watched.{Watched};
 ghost use Rattle.tape_jobs.specs.Player.{NowhereMeansNowhere};
-ghost use Rattle.tape_jobs.specs.Endings.{NothingIsNowhere, Readers, RunEnds, StopsIn, Writers};
+ghost use Rattle.tape_jobs.specs.Endings.{NothingIsNowhere, Readers, RunEnds, Writers};
 ghost use Rattle.command_line.specs.declared.job.Job.{Job};
 ghost use Rattle.tape_jobs.specs.declared.job.Outcome.{Outcome};
-ghost use Rattle.tape_jobs.specs.declared.job.JobFault.{JobFault};
-ghost use Rattle.tape_jobs.specs.declared.job.JobFault.TheVariants.{Memory};
 
 use std::io::{Read, Write};
-
-/// What has gone out of texts one after another, where a job stops before them, in the first or in the second.
-pub fn stops_join<W: Write>()
-    ensures nothing { (a : Watched W) (text : List ℕ) → has_failed a ≡ false
-        → StopsIn W.contents a a text Memory }
-    ensures in_first { (a b : Watched W) (x y : List ℕ) (f : JobFault)
-        → StopsIn W.contents a b x f → StopsIn W.contents a b (x ++ y) f }
-    ensures in_second { (a b c : Watched W) (x y : List ℕ) (f : JobFault)
-        → StopsIn W.contents b c y f → Took W.contents a b x → StopsIn W.contents a c (x ++ y) f }
-{}
 
 /// Where no line of a text is written, of whichever terminal, it stands nowhere: not at the moment `from`, and not after
 /// any byte of a chunk that is asked for.

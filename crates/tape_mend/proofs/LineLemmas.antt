@@ -2,17 +2,14 @@
 use Rattle.std.proofs.Common.{◌≡◌, ℕ, Bool, true, false, cond, List, [], ◌∷◌, Option, Some, None, MatchOption, Ok, nat_eq, refl, ap, sym, ◌∙◌, subst}
 use Rattle.std.proofs.lemmas.Bool.{eqb-true}
 use Rattle.tape_core.specs.Text.{NumberText, fields, number_of}
-use Rattle.tape_core.specs.Timing.{DelayText, delay_of}
+use Rattle.tape_core.specs.Timing.{delay_of}
+use Rattle.tape_core.proofs.LineLemmas.{delay_text}
+use Rattle.tape_core.proofs.ReadBackLemmas.{delay_read}
+use Rattle.tape_core.proofs.WordLemmas.{number_spelled}
 use Rattle.tape_mend.specs.declared.line.Line.{Line}
 use Rattle.tape_mend.specs.declared.line.Stream.{Stream}
 use Rattle.tape_mend.specs.declared.line.Stream.TheVariants.{Header, Input, Output, Signal}
 use Rattle.tape_mend.specs.Streams.{CountText, StreamLine, count_of, counted, delayed, letter_of, named, stream_line, stream_of, stream_of_letter}
-
--- numbers and delays are read where they are spelled: what laws of `tape_core` say
-pub record AreSpelled : Type 0 where
-  pub numbers : (text : List ℕ) → MatchOption (number_of text) ((n : ℕ) → NumberText text n → ⊥) (λ n. NumberText text n)
-  pub delays : (text : List ℕ) (delay : ℕ) → delay_of text ≡ Some delay → DelayText text delay
-  pub read : (text : List ℕ) (delay : ℕ) → DelayText text delay → delay_of text ≡ Some delay
 
 -- a letter names its stream, and no other does
 of_letter : (s : Stream) → stream_of (letter_of s ∷ []) ≡ Some s
@@ -38,44 +35,44 @@ field_is (b ∷ []) s is = ap (λ x. x ∷ []) (letter_is b s is)
 field_is (b ∷ c ∷ rest) s is = absurd (cc)
 
 -- a number that is spelled is read
-number_read : AreSpelled → (text : List ℕ) (n : ℕ) → NumberText text n → number_of text ≡ Some n
-number_read are text n is = by (number_of text) refl (are.numbers text)
+number_read : (text : List ℕ) (n : ℕ) → NumberText text n → number_of text ≡ Some n
+number_read text n is = by (number_of text) refl (number_spelled text)
   where
     by : (o : Option ℕ) → number_of text ≡ o → MatchOption o ((n : ℕ) → NumberText text n → ⊥) (λ n. NumberText text n) → number_of text ≡ Some n
     by None e none = absurd (none n is)
     by (Some m) e some = e ∙ ap Some (some.value ∙ sym is.value)
 
-number_spelled : AreSpelled → (text : List ℕ) (n : ℕ) → number_of text ≡ Some n → NumberText text n
-number_spelled are text n is = rw is at (are.numbers text)
+number_text : (text : List ℕ) (n : ℕ) → number_of text ≡ Some n → NumberText text n
+number_text text n is = rw is at (number_spelled text)
 
-one_count : AreSpelled → (rest : List (List ℕ)) (count : ℕ) → count_of Output rest ≡ Some count
+one_count : (rest : List (List ℕ)) (count : ℕ) → count_of Output rest ≡ Some count
     → (text : List ℕ) × (rest ≡ text ∷ []) × NumberText text count
-one_count are [] count is = absurd (cc)
-one_count are (text ∷ []) count is = (text, refl, number_spelled are text count is)
-one_count are (text ∷ next ∷ more) count is = absurd (cc)
+one_count [] count is = absurd (cc)
+one_count (text ∷ []) count is = (text, refl, number_text text count is)
+one_count (text ∷ next ∷ more) count is = absurd (cc)
 
-count_text : AreSpelled → (s : Stream) (rest : List (List ℕ)) (count : ℕ) → count_of s rest ≡ Some count → CountText s rest count
-count_text are Output rest count is = one_count are rest count is
-count_text are Input rest count is = one_count are rest count is
-count_text are Header rest count is = let none : 0 ≡ count = cc in sym none
-count_text are Signal rest count is = let none : 0 ≡ count = cc in sym none
+count_text : (s : Stream) (rest : List (List ℕ)) (count : ℕ) → count_of s rest ≡ Some count → CountText s rest count
+count_text Output rest count is = one_count rest count is
+count_text Input rest count is = one_count rest count is
+count_text Header rest count is = let none : 0 ≡ count = cc in sym none
+count_text Signal rest count is = let none : 0 ≡ count = cc in sym none
 
-count_read : AreSpelled → (s : Stream) (rest : List (List ℕ)) (count : ℕ) → CountText s rest count → count_of s rest ≡ Some count
-count_read are Output rest count (text, e, is) = rw e (number_read are text count is)
-count_read are Input rest count (text, e, is) = rw e (number_read are text count is)
-count_read are Header rest count is = ap Some (sym is)
-count_read are Signal rest count is = ap Some (sym is)
+count_read : (s : Stream) (rest : List (List ℕ)) (count : ℕ) → CountText s rest count → count_of s rest ≡ Some count
+count_read Output rest count (text, e, is) = rw e (number_read text count is)
+count_read Input rest count (text, e, is) = rw e (number_read text count is)
+count_read Header rest count is = ap Some (sym is)
+count_read Signal rest count is = ap Some (sym is)
 
 -- what a line says is read
-pub said_read : AreSpelled → (text : List ℕ) (said : Line) → StreamLine text said → stream_line (fields text) ≡ Ok (Some said)
-said_read are text said l =
+pub said_read : (text : List ℕ) (said : Line) → StreamLine text said → stream_line (fields text) ≡ Ok (Some said)
+said_read text said l =
     ap stream_line l.cut ∙ ap (λ o. named o (l.second ∷ l.rest)) (of_letter said.stream)
-    ∙ ap (λ o. delayed said.stream o l.rest) (are.read l.second said.delay l.delayed)
-    ∙ ap (counted said.stream said.delay) (count_read are said.stream l.rest said.count l.counted)
+    ∙ ap (λ o. delayed said.stream o l.rest) (delay_read l.second said.delay l.delayed).read
+    ∙ ap (counted said.stream said.delay) (count_read said.stream l.rest said.count l.counted)
 
 -- and what is read is what the line says
-pub read_said : AreSpelled → (text : List ℕ) (said : Line) → stream_line (fields text) ≡ Ok (Some said) → StreamLine text said
-read_said are text said is = by_fields (fields text) refl is
+pub read_said : (text : List ℕ) (said : Line) → stream_line (fields text) ≡ Ok (Some said) → StreamLine text said
+read_said text said is = by_fields (fields text) refl is
   where
     by_count : (s : Stream) (first second : List ℕ) (rest : List (List ℕ)) (d : ℕ) (o : Option ℕ) → fields text ≡ first ∷ second ∷ rest
         → stream_of first ≡ Some s → delay_of second ≡ Some d → count_of s rest ≡ o → counted s d o ≡ Ok (Some said) → StreamLine text said
@@ -86,8 +83,8 @@ read_said are text said is = by_fields (fields text) refl is
           second = second;
           rest = rest;
           cut = cut ∙ ap (λ x. x ∷ second ∷ rest) (field_is first s name);
-          delayed = are.delays second d delay;
-          counted = count_text are s rest n count;
+          delayed = delay_text second d delay;
+          counted = count_text s rest n count;
         })
 
     by_delay : (s : Stream) (first second : List ℕ) (rest : List (List ℕ)) (o : Option ℕ) → fields text ≡ first ∷ second ∷ rest

@@ -12,7 +12,7 @@ use Rattle.tape_core.specs.declared.timing.EntryFault.TheVariants as entry
 use Rattle.tape_core.specs.Reading.{AreTimed, header_len, reads}
 use Rattle.tape_core.specs.Tape.{IsHeader, Tape, body, body_len, longest_body, longest_chunk, longest_delay, most_chunks}
 use Rattle.tape_core.specs.Text.{fields, lines_of}
-use Rattle.tape_core.specs.Timing.{IsWithin, TimingLine, begins_with_letter, delay_of, delayed, entry_of, entry_of_fields, only_count}
+use Rattle.tape_core.specs.Timing.{IsWithin, TimingLine, begins_with_letter, delay_of, delayed, entry_of_fields, only_count}
 use Rattle.tape_mend.specs.declared.counting.Behind.{Behind}
 use Rattle.tape_mend.specs.declared.counting.Piece.{Piece}
 use Rattle.tape_mend.specs.declared.counting.Piece.TheVariants as piece
@@ -25,11 +25,8 @@ use Rattle.tape_mend.specs.Front.{Front, at_first, format_of, front, front_of, n
 use Rattle.tape_mend.specs.Mended.{mended, nothing_lost, remains}
 use Rattle.tape_mend.specs.Streams.{classic_line, said_by}
 use Rattle.tape_mend.specs.Taken.{Taken, taken}
+use Rattle.tape_core.proofs.ReadBackLemmas.{timing_line_read}
 use Rattle.tape_mend.proofs.FrontLemmas.{front_more}
-
--- a line of the classic format is read: what a law of `tape_core` says
-abbrev pub LinesAreRead : Type 0
-LinesAreRead = (text : List ℕ) (e : Entry) → TimingLine text e.delay e.count → IsWithin e → entry_of text ≡ Ok (Some e)
 
 abbrev has_fields : List ℕ → Bool
 has_fields text = nat_lt 0 (length (fields text))
@@ -72,10 +69,10 @@ unlettered first rest e h = by (begins_with_letter first) refl h
 some_fields : (text first : List ℕ) (others : List (List ℕ)) → fields text ≡ first ∷ others → has_fields text ≡ true
 some_fields text first others is = ap (λ fs. nat_lt 0 (length fs)) is ∙ lt-ltb 0 (length (first ∷ others)) (omega arith)
 
-is_classic : LinesAreRead → (lines : List (List ℕ)) (chunks : List Chunk) → Limits chunks → AreTimed (filter has_fields lines) chunks
+is_classic : (lines : List (List ℕ)) (chunks : List Chunk) → Limits chunks → AreTimed (filter has_fields lines) chunks
     → format_of lines ≡ Classic
-is_classic read [] chunks l timed = refl
-is_classic read (text ∷ rest) chunks l timed = by (fields text) chunks refl l timed (λ timed. is_classic read rest chunks l timed)
+is_classic [] chunks l timed = refl
+is_classic (text ∷ rest) chunks l timed = by (fields text) chunks refl l timed (λ timed. is_classic rest chunks l timed)
   where
     by : (fs : List (List ℕ)) (chunks : List Chunk) → fields text ≡ fs → Limits chunks → AreTimed (filter has_fields (text ∷ rest)) chunks
         → (AreTimed (filter has_fields rest) chunks → format_of rest ≡ Classic) → format_of (text ∷ rest) ≡ Classic
@@ -83,7 +80,7 @@ is_classic read (text ∷ rest) chunks l timed = by (fields text) chunks refl l 
     by (first ∷ others) [] is l timed more = absurd (rw (some_fields text first others is) at timed)
     by (first ∷ others) (c ∷ cs) is l timed more =
         let line = rw (some_fields text first others is) at timed in
-        let said : entry_of_fields (first ∷ others) ≡ Ok (Some (entry_for c)) = ap entry_of_fields (sym is) ∙ read text (entry_for c) line.0 (first_within c cs l) in
+        let said : entry_of_fields (first ∷ others) ≡ Ok (Some (entry_for c)) = ap entry_of_fields (sym is) ∙ timing_line_read text (entry_for c) line.0 (first_within c cs l) in
         rw (is, unlettered first others (entry_for c) said) refl
 
 -- a chunk's line is within the limits behind others
@@ -123,14 +120,14 @@ whole_blank text rest chunks pieces behind logs is whole =
     let said : limited behind (are_shared logs) (said_by Classic text) ≡ Ok None = rw is refl in
     rw (front_more Classic pieces behind logs text rest None said, append-nil pieces) whole
 
-whole_chunk : LinesAreRead → (text : List ℕ) (rest : List (List ℕ)) (c : Chunk) (cs : List Chunk) (logs : Logs)
+whole_chunk : (text : List ℕ) (rest : List (List ℕ)) (c : Chunk) (cs : List Chunk) (logs : Logs)
     → TimingLine text c.delay (length c.bytes) → StaysWhole logs rest cs → StaysWhole logs (text ∷ rest) (c ∷ cs)
-whole_chunk read text rest c cs logs line more pieces behind room =
+whole_chunk text rest c cs logs line more pieces behind room =
     let w = first_within c cs room.limits in
     let count : body_len (c ∷ cs) ≡ length c.bytes + body_len cs = sum_by-cons (λ c. length c.bytes) c cs in
     let fits = within_behind behind (are_shared logs) c room.waited w (omega (arith, room.few)) (omega (arith, room.bytes)) in
     let said : limited behind (are_shared logs) (said_by Classic text) ≡ Ok (Some (line_for c)) =
-    ap (λ r. limited behind (are_shared logs) (classic_line r)) (read text (entry_for c) line w) ∙ fits in
+    ap (λ r. limited behind (are_shared logs) (classic_line r)) (timing_line_read text (entry_for c) line w) ∙ fits in
     let next = with_line behind (are_shared logs) (Some (line_for c)) in
     let room' : RoomBehind next cs = record {
       waited = refl;
@@ -147,13 +144,13 @@ whole_chunk read text rest c cs logs line more pieces behind room =
       signals = whole.signals;
     })
 
-front_whole : LinesAreRead → (lines : List (List ℕ)) (chunks : List Chunk) (logs : Logs) → AreTimed (filter has_fields lines) chunks
+front_whole : (lines : List (List ℕ)) (chunks : List Chunk) (logs : Logs) → AreTimed (filter has_fields lines) chunks
     → StaysWhole logs lines chunks
-front_whole read [] [] logs timed pieces behind room =
+front_whole [] [] logs timed pieces behind room =
     record { pieces = sym (append-nil pieces); fault = refl; inputs = refl; signals = refl }
-front_whole read [] (c ∷ cs) logs timed pieces behind room = absurd timed
-front_whole read (text ∷ rest) chunks logs timed pieces behind room =
-    by (fields text) chunks refl timed (λ chunks timed. front_whole read rest chunks logs timed) pieces behind room
+front_whole [] (c ∷ cs) logs timed pieces behind room = absurd timed
+front_whole (text ∷ rest) chunks logs timed pieces behind room =
+    by (fields text) chunks refl timed (λ chunks timed. front_whole rest chunks logs timed) pieces behind room
   where
     by : (fs : List (List ℕ)) (chunks : List Chunk) → fields text ≡ fs → AreTimed (filter has_fields (text ∷ rest)) chunks
         → ((chunks : List Chunk) → AreTimed (filter has_fields rest) chunks → StaysWhole logs rest chunks)
@@ -166,7 +163,7 @@ front_whole read (text ∷ rest) chunks logs timed pieces behind room =
     by (first ∷ others) [] is timed more pieces behind room = absurd (rw (some_fields text first others is) at timed)
     by (first ∷ others) (c ∷ cs) is timed more pieces behind room =
         let line = rw (some_fields text first others is) at timed in
-        whole_chunk read text rest c cs logs line.0 (more cs line.1) pieces behind room
+        whole_chunk text rest c cs logs line.0 (more cs line.1) pieces behind room
 
 -- the pieces of chunks take just their bytes
 taken_whole : (chunks : List Chunk) (before : List Chunk) (trailer : List ℕ)
@@ -191,9 +188,9 @@ header_of header rest is =
     (λ lt. rw (get_or_append_left header rest 0 place (omega (arith, is))) (passes_at_first (λ b. b == 10) header 0 (omega (arith, is)))) in
     ap (λ n. n + 1) at ∙ sym is
 
-pub whole_stays : LinesAreRead → (script timing : List ℕ) (tape : Tape) → reads script timing tape
+pub whole_stays : (script timing : List ℕ) (tape : Tape) → reads script timing tape
     → mended Kept script timing ≡ record { tape = tape; losses = nothing_lost }
-whole_stays read script timing tape r =
+whole_stays script timing tape r =
     let behind = body tape.chunks ++ tape.trailer in
     let joined : script ≡ tape.header ++ behind = r.joined ∙ append_assoc tape.header (body tape.chunks) tape.trailer in
     let len : header_len script ≡ length tape.header = ap header_len joined ∙ header_of tape.header behind r.fitting.header in
@@ -209,9 +206,9 @@ whole_stays read script timing tape r =
       bytes = omega (arith, r.fitting.bytes);
       limits = limits;
     } in
-    let format = is_classic read lines tape.chunks limits r.timed in
+    let format = is_classic lines tape.chunks limits r.timed in
     let front_is : front_of timing ≡ front Classic [] at_first no_logs lines = ap (λ f. front f [] at_first no_logs lines) format in
-    let whole = front_whole read lines tape.chunks no_logs r.timed [] at_first room in
+    let whole = front_whole lines tape.chunks no_logs r.timed [] at_first room in
     let f = front Classic [] at_first no_logs lines in
     ap (λ f. remains script f (taken [] (drop (header_len script) script) f.pieces)) front_is
     ∙ ap (λ b. remains script f (taken [] b f.pieces)) rest

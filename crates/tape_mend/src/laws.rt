@@ -1,33 +1,23 @@
-//! Laws over the definitions alone, as functions that call those of `tape_core` that they need.
+//! Laws over the definitions alone, as functions with empty bodies.
 ghost use Rattle.std.specs.Prelude.{◌≡◌, List, ℕ, true};
 ghost use Rattle.tape_core.specs.Reading.{has_header};
 ghost use Rattle.tape_mend.specs.declared.opening.Header.{Header};
 ghost use Rattle.tape_mend.specs.Law.{AStreamLineIsRead, MendedReadsBack, WholeStays};
 ghost use Rattle.tape_mend.specs.Mended.{seen};
 
-use tape_core::laws::{
-    a_timing_line_is_read, delays_are_spelled, numbers_are_spelled, what_is_written_reads_back,
-};
-
 /// A line of the multi-stream format is read as what it says, and no other line is.
 pub fn a_stream_line_is_read()
     ensures { AStreamLineIsRead }
-{
-    numbers_are_spelled();
-    delays_are_spelled();
-}
+{}
 
 /// What is mended fits the limits, and, written, it is read again without a fault as that recording.
 pub fn what_is_mended_reads_back()
     ensures { (how : Header) (script timing : List ℕ)
         → has_header (seen how script) ≡ true → MendedReadsBack how script timing }
-{
-    what_is_written_reads_back();
-}
+{}
 
 /// What is read without a fault is mended as it is, and nothing is lost of it.
+#[tactic(auto, using(crate::proofs::WholeLemmas::whole_stays))]
 pub fn what_is_whole_stays()
     ensures { WholeStays }
-{
-    a_timing_line_is_read();
-}
+{}

@@ -8,7 +8,8 @@ use Rattle.std.proofs.lemmas.List.Sums.{get_or-le-sum_by}
 use Rattle.tape_core.specs.declared.chunk.Chunk.{Chunk}
 use Rattle.tape_core.specs.Edited.{capped_chunk, changed_at, replaced}
 use Rattle.tape_core.specs.Tape.{Tape, body_len, longest_body, longest_chunk, longest_delay, most_chunks}
-use Rattle.tape_core.specs.Law.{BodiesAddUp, FirstIsKept}
+use Rattle.tape_core.proofs.EditedLemmas.{body_len-replaced}
+use Rattle.tape_core.proofs.FirstLemmas.{first_kept}
 use Rattle.tape_seek.specs.declared.edits.Edit.{Edit}
 use Rattle.tape_seek.specs.declared.edits.Edit.TheVariants.{Insert, Delete, Replace, Retime, Cap}
 use Rattle.tape_seek.specs.declared.edits.EditFault.TheVariants.{TooManyBytes}
@@ -101,14 +102,14 @@ caps_well tape max sound = ltb-false longest_delay max (no_first _ _ _ sound).0
 -- ---- why a replace is refused
 
 -- In its place, and with bytes that a chunk can hold, it is judged by the body alone: by what the other chunks have.
-pub replace_judged : BodiesAddUp → (tape : Tape) (at : ℕ) (bytes : List ℕ) (chunk : Chunk) (over : Bool)
+pub replace_judged : (tape : Tape) (at : ℕ) (bytes : List ℕ) (chunk : Chunk) (over : Bool)
     → at < length tape.chunks → chunk ≡ get_or tape.chunks at chunk → length bytes ≤ longest_chunk
     → ltb longest_body (body_len tape.chunks - length chunk.bytes + length bytes) ≡ over
     → cond over (Some TooManyBytes) None ≡ edit_fault tape (Replace at bytes)
-replace_judged adds tape at bytes chunk over place is short judged =
+replace_judged tape at bytes chunk over place is short judged =
     let part = get_or-le-sum_by (λ x. length x.bytes) tape.chunks at chunk place in
     let here = ap (λ x. length x.bytes) is in
-    let more = adds.replaced tape at bytes chunk place is in
+    let more = body_len-replaced tape at bytes chunk place is in
     let whole : body_len (replaced at bytes tape).chunks ≡ body_len tape.chunks - length chunk.bytes + length bytes
     = omega arith in
     rw (lt-leb (length tape.chunks) at place, le-ltb longest_chunk (length bytes) short, whole, judged) refl
@@ -136,47 +137,47 @@ same_some : (a b : ℕ) → Some a ≡ Some b → a ≡ b
 same_some a b e = cc
 
 -- the chunks before the first that it touches
-pub front_stays : FirstIsKept → (tape : Tape) (edit : Edit) (place n : ℕ) → edit_fault tape edit ≡ None
+pub front_stays : (tape : Tape) (edit : Edit) (place n : ℕ) → edit_fault tape edit ≡ None
     → first_touched edit ≡ Some place → n ≤ length tape.chunks
     → SameFront tape.chunks (edited tape edit).chunks (min n place)
-front_stays kept tape (Insert at delay bytes) place n sound is low =
+front_stays tape (Insert at delay bytes) place n sound is low =
     let well = inserts_well tape at delay bytes sound in
     let here = same_some at place is in
     record {
       within = omega (arith, length-insert tape.chunks at (record { delay = delay; bytes = bytes }) well.place);
-      bytes = λ k le. kept.inserted tape at k (record { delay = delay; bytes = bytes }) (omega arith) well.place;
+      bytes = λ k le. first_kept.inserted tape at k (record { delay = delay; bytes = bytes }) (omega arith) well.place;
     }
-front_stays kept tape (Delete from to) place n sound is low =
+front_stays tape (Delete from to) place n sound is low =
     let well = deletes_well tape from to sound in
     let here = same_some from place is in
     let few : from ≤ length tape.chunks = omega (arith, well.some, well.within) in
     record {
       within = omega (arith, length-append (take from tape.chunks) (drop to tape.chunks), length-take from tape.chunks);
-      bytes = λ k le. kept.removed tape from to k (omega arith) few;
+      bytes = λ k le. first_kept.removed tape from to k (omega arith) few;
     }
-front_stays kept tape (Replace at bytes) place n sound is low =
+front_stays tape (Replace at bytes) place n sound is low =
     let well = replaces_well tape at bytes sound in
     let here = same_some at place is in
     record {
       within = omega (arith, length-changed (λ c. record c { bytes = bytes }) tape.chunks at well.place);
-      bytes = λ k le. kept.replaced tape at k bytes (omega arith);
+      bytes = λ k le. first_kept.replaced tape at k bytes (omega arith);
     }
-front_stays kept tape (Retime at delay) place n sound is low = absurd (none_some place (sym is))
-front_stays kept tape (Cap max) place n sound is low = absurd (none_some place (sym is))
+front_stays tape (Retime at delay) place n sound is low = absurd (none_some place (sym is))
+front_stays tape (Cap max) place n sound is low = absurd (none_some place (sym is))
 
 -- all bytes, where it touches those of none
-pub all_stays : FirstIsKept → (tape : Tape) (edit : Edit) (n : ℕ) → edit_fault tape edit ≡ None
+pub all_stays : (tape : Tape) (edit : Edit) (n : ℕ) → edit_fault tape edit ≡ None
     → first_touched edit ≡ None → n ≤ length tape.chunks → SameFront tape.chunks (edited tape edit).chunks n
-all_stays kept tape (Insert at delay bytes) n sound is low = absurd (none_some at is)
-all_stays kept tape (Delete from to) n sound is low = absurd (none_some from is)
-all_stays kept tape (Replace at bytes) n sound is low = absurd (none_some at is)
-all_stays kept tape (Retime at delay) n sound is low =
+all_stays tape (Insert at delay bytes) n sound is low = absurd (none_some at is)
+all_stays tape (Delete from to) n sound is low = absurd (none_some from is)
+all_stays tape (Replace at bytes) n sound is low = absurd (none_some at is)
+all_stays tape (Retime at delay) n sound is low =
     let well = retimes_well tape at delay sound in
     record {
       within = omega (arith, length-changed (λ c. record c { delay = delay }) tape.chunks at well.place);
-      bytes = λ k le. kept.retimed tape at delay k;
+      bytes = λ k le. first_kept.retimed tape at delay k;
     }
-all_stays kept tape (Cap max) n sound is low = record {
+all_stays tape (Cap max) n sound is low = record {
   within = omega (arith, length-map tape.chunks (capped_chunk max));
-  bytes = λ k le. kept.capped tape max k;
+  bytes = λ k le. first_kept.capped tape max k;
 }

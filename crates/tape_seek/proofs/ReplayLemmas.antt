@@ -11,7 +11,7 @@ use Rattle.std.proofs.lemmas.List.{drop_all, get_or_append_left, get_or_default,
 use Rattle.tape_core.specs.declared.chunk.Chunk.{Chunk}
 use Rattle.tape_core.specs.Due.{first}
 use Rattle.tape_core.specs.Tape.{body}
-use Rattle.tape_core.specs.Law.{FirstGrowsByAChunk}
+use Rattle.tape_core.proofs.FirstLemmas.{first-more_of}
 use Rattle.plays.specs.declared.plays.Plays.{Ghosts}
 use Rattle.plays.specs.Sink.{HasRoom, Sink, after_sending}
 use Rattle.tape_seek.specs.declared.replay.Replay.{Replay}
@@ -30,10 +30,10 @@ module _ {T P K : Type 0} (p : Ghosts T P K) where
 
   -- ---- one chunk more
 
-  pub sent_more : FirstGrowsByAChunk → SendsInParts p → (profile : P) (chunks : List Chunk) (at : ℕ) (c : Chunk)
+  pub sent_more : SendsInParts p → (profile : P) (chunks : List Chunk) (at : ℕ) (c : Chunk)
       → at < length chunks → get_or chunks at c ≡ c
       → sent_after p profile chunks (at + 1) ≡ sent_after p profile chunks at ++ p.replies profile (first chunks at) c.bytes
-  sent_more grows parts profile chunks at c lt is = ap (p.sent profile) (grows.of chunks at c lt is) ∙ parts profile (first chunks at) c.bytes
+  sent_more parts profile chunks at c lt is = ap (p.sent profile) (first-more_of chunks at c lt is) ∙ parts profile (first chunks at) c.bytes
 
   -- ---- fewer chunks
 
@@ -124,38 +124,38 @@ module _ {T P K : Type 0} (p : Ghosts T P K) where
 
   -- ---- the next chunk, by its bytes
 
-  next_shows : FirstGrowsByAChunk → (profile : P) (chunks : List Chunk) (at : ℕ) (c : Chunk)
+  next_shows : (profile : P) (chunks : List Chunk) (at : ℕ) (c : Chunk)
       → at < length chunks → get_or chunks at c ≡ c → (seen : T) (bytes : List ℕ) → bytes ≡ c.bytes
       → p.shows profile seen (first chunks at ++ bytes) → p.shows profile seen (first chunks (at + 1))
-  next_shows grows profile chunks at c lt is seen bytes same shows = subst (p.shows profile seen) (ap (λ (l : List ℕ). first chunks at ++ l) same ∙ sym (grows.of chunks at c lt is)) shows
+  next_shows profile chunks at c lt is seen bytes same shows = subst (p.shows profile seen) (ap (λ (l : List ℕ). first chunks at ++ l) same ∙ sym (first-more_of chunks at c lt is)) shows
 
-  pub next_stands : FirstGrowsByAChunk → (profile : P) (chunks : List Chunk) (at : ℕ) (c : Chunk)
+  pub next_stands : (profile : P) (chunks : List Chunk) (at : ℕ) (c : Chunk)
       → at < length chunks → get_or chunks at c ≡ c → (seen : T) (bytes : List ℕ) → bytes ≡ c.bytes
       → p.shows profile seen (first chunks at ++ bytes) → p.told profile seen (first chunks at)
       → StandsAt p profile seen chunks (at + 1)
-  next_stands grows profile chunks at c lt is seen bytes same shows told =
+  next_stands profile chunks at c lt is seen bytes same shows told =
       let back : at + 1 - 1 ≡ at = omega arith in
       record {
-        shows = next_shows grows profile chunks at c lt is seen bytes same shows;
+        shows = next_shows profile chunks at c lt is seen bytes same shows;
         told = rw back told;
       }
 
-  next_length : FirstGrowsByAChunk → SendsInParts p → (profile : P) (chunks : List Chunk) (at : ℕ) (c : Chunk)
+  next_length : SendsInParts p → (profile : P) (chunks : List Chunk) (at : ℕ) (c : Chunk)
       → at < length chunks → get_or chunks at c ≡ c → (bytes : List ℕ) → bytes ≡ c.bytes
       → length (sent_after p profile chunks (at + 1)) ≡ length (sent_after p profile chunks at) + length (p.replies profile (first chunks at) bytes)
-  next_length grows parts profile chunks at c lt is bytes same =
-      ap length (sent_more grows parts profile chunks at c lt is) ∙ length-append (sent_after p profile chunks at) (p.replies profile (first chunks at) c.bytes)
+  next_length parts profile chunks at c lt is bytes same =
+      ap length (sent_more parts profile chunks at c lt is) ∙ length-append (sent_after p profile chunks at) (p.replies profile (first chunks at) c.bytes)
       ∙ ap (λ (l : List ℕ). length (sent_after p profile chunks at) + length (p.replies profile (first chunks at) l)) (sym same)
 
-  pub next_sent : FirstGrowsByAChunk → SendsInParts p → (chunks : List Chunk) (r new : Replay T P K) (c : Chunk)
+  pub next_sent : SendsInParts p → (chunks : List Chunk) (r new : Replay T P K) (c : Chunk)
       → r.head < length chunks → get_or chunks r.head c ≡ c → (bytes : List ℕ) → bytes ≡ c.bytes
       → r.reports.place ≡ length (sent_after p r.profile chunks r.head)
       → new.reports ≡ after_sending r.reports (p.replies r.profile (first chunks r.head) bytes) → HasSent p chunks r new
-  next_sent grows parts chunks r new c lt is bytes same place sends =
+  next_sent parts chunks r new c lt is bytes same place sends =
       let more = p.replies r.profile (first chunks r.head) bytes in
-      let len = next_length grows parts r.profile chunks r.head c lt is bytes same in
+      let len = next_length parts r.profile chunks r.head c lt is bytes same in
       let whole : sent_after p r.profile chunks (r.head + 1) ≡ sent_after p r.profile chunks r.head ++ more
-      = sent_more grows parts r.profile chunks r.head c lt is ∙ ap (λ (l : List ℕ). sent_after p r.profile chunks r.head ++ p.replies r.profile (first chunks r.head) l) (sym same) in
+      = sent_more parts r.profile chunks r.head c lt is ∙ ap (λ (l : List ℕ). sent_after p r.profile chunks r.head ++ p.replies r.profile (first chunks r.head) l) (sym same) in
       record {
         place = ap (λ (s : Sink). s.place) sends ∙ ap (λ (n : ℕ). n + length more) place ∙ sym len;
         within = λ le.
@@ -166,13 +166,13 @@ module _ {T P K : Type 0} (p : Ghosts T P K) where
             ap (λ (s : Sink). s.bytes) sends ∙ ap (λ (n : ℕ). r.reports.bytes ++ drop n more) none ∙ ap (λ (l : List ℕ). l ++ more) all ∙ sym whole;
       }
 
-  pub has_room : FirstGrowsByAChunk → SendsInParts p → (chunks : List Chunk) (r : Replay T P K) (c : Chunk)
+  pub has_room : SendsInParts p → (chunks : List Chunk) (r : Replay T P K) (c : Chunk)
       → r.head < length chunks → get_or chunks r.head c ≡ c → (bytes : List ℕ) → bytes ≡ c.bytes
       → r.reports.place ≡ length (sent_after p r.profile chunks r.head)
       → length (sent_after p r.profile chunks (r.head + 1)) ≤ length r.reports.bytes
       → HasRoom r.reports (p.replies r.profile (first chunks r.head) bytes)
-  has_room grows parts chunks r c lt is bytes same place le =
-      let len = next_length grows parts r.profile chunks r.head c lt is bytes same in
+  has_room parts chunks r c lt is bytes same place le =
+      let len = next_length parts r.profile chunks r.head c lt is bytes same in
       omega arith
 
   -- after the chunk was fed within the frontier

@@ -6,7 +6,6 @@ ghost use Rattle.tape_seek.specs.Edits.{bytes_in, edit_fault, edited, first_touc
 
 use crate::edits::{Edit, EditFault};
 use std::alloc::{AllocError, Global};
-use tape_core::laws::bodies_add_up;
 use tape_core::limits::{LONGEST_BODY, LONGEST_CHUNK, LONGEST_DELAY, MOST_CHUNKS};
 use tape_core::{Bytes, Chunk, Recording};
 
@@ -56,7 +55,6 @@ fn delete_fault(recording: &Recording, from: usize, to: usize) -> Option<EditFau
 fn replace_fault(recording: &Recording, at: usize, bytes: &Bytes) -> Option<EditFault>
     ensures { result ≡ edit_fault recording.now (Edit.Replace at bytes.now) }
 {
-    bodies_add_up();
     if at >= recording.chunks().len() {
         return Some(EditFault::NoSuchChunk);
     }
@@ -134,7 +132,6 @@ fn insert(
         (recording.new ≡ edited recording.old (Edit.Insert at delay bytes.now)) }
     ensures err { OnErr result (recording.new ≡ recording.old) }
 {
-    bodies_add_up();
     let bytes = Bytes::copy_of(alloc, bytes.as_slice())?;
     match recording.insert(at, Chunk { delay, bytes }) {
         Ok(()) => Ok(()),

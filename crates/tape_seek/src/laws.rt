@@ -11,10 +11,9 @@ ghost use Rattle.tape_seek.specs.Requests.{request};
 ghost use Rattle.tape_seek.specs.State.{State};
 ghost use Rattle.tape_seek.specs.WrittenLog.{edit_line, log_text};
 
-use tape_core::laws::{a_word_is_a_field, an_lf_ends_a_line, numbers_read_back, seconds_read_back};
-
 /// The line that is written of an edit that a log can hold, as each in a session's log is, is read as that edit; the lines
 /// of a log are those of its edits; and its text, read line by line, is the log.
+#[tactic(auto, using(crate::proofs::RequestLemmas::written_edit_read, crate::proofs::RequestLemmas::written_log_lines, crate::proofs::RequestLemmas::written_log_read))]
 pub fn a_written_edit_is_read()
     ensures read { (edit : Edit) → CanBeLogged edit
         → request (edit_line edit) ≡ Some (asks.Edit edit) }
@@ -22,12 +21,7 @@ pub fn a_written_edit_is_read()
         → lines_of (log_text edits) ≡ map edit_line edits }
     ensures whole { (edits : List Edit) → All CanBeLogged edits
         → map request (lines_of (log_text edits)) ≡ map (λ edit. Some (asks.Edit edit)) edits }
-{
-    a_word_is_a_field();
-    an_lf_ends_a_line();
-    numbers_read_back();
-    seconds_read_back();
-}
+{}
 
 /// A seek feeds fewer chunks than lie between stored terminals, and those past the frontier; where the head isn't past the
 /// count it feeds at most those between them. Retiming and capping leave frontier and head, and so cost no replay.

@@ -23,7 +23,6 @@ ghost use Rattle.tape_seek.specs.Marks.{after_cut, after_refused_seek, after_see
 use plays::{OutOfMemory, Plays, Reports};
 use std::alloc::{AllocError, Global};
 use tape_core::Chunk;
-use tape_core::laws::first_grows_by_a_chunk;
 
 /// A replay of the chunks of a recording, kept up to the frontier.
 #[derive(Debug, Drop)]
@@ -256,7 +255,6 @@ impl<T: Plays> Replay<T> {
             ≤ length self.old.reports.bytes
             → IsOk result }
     {
-        first_grows_by_a_chunk();
         T::laws();
         self.working
             .feed(chunks[self.head].bytes.as_slice(), &mut self.reports)?;

@@ -14,7 +14,6 @@ use plays::{OutOfMemory, Plays};
 use std::alloc::{AllocError, Global};
 use std::marker::Model;
 use tape_core::Recording;
-use tape_core::laws::{due_is_first, first_is_kept};
 use vt_term::{Profile, Terminal};
 
 /// How many chunks may lie between the terminals that a session stores: the fewest, and the most (ours).
@@ -213,7 +212,6 @@ impl<T: Plays> Session<T> {
         ensures room { due_count self.old.recording.chunks moment ≤ self.old.marks.frontier
             → IsOk result }
     {
-        due_is_first();
         let count = self.recording.due_count(moment);
         self.replay.seek(self.recording.chunks(), count)?;
         let replay = &self.replay;
@@ -329,7 +327,6 @@ fn cut<T: Plays>(replay: &mut Replay<T>, edit: &Edit)
     ensures marks { marks_of replay.new
         ≡ after_edit replay.old.every edit.now (marks_of replay.old) }
 {
-    first_is_kept();
     if let Some(first) = first_touched(edit) {
         replay.cut(first);
     }

@@ -3,12 +3,12 @@ mod Table
 mod Shapes
 mod Growing
 mod Joins
-mod Agrees
+pub mod Agrees
 mod Endings
 mod ManyBytes
-mod LawLemmas
-mod Whole
-mod Written
+pub mod LawLemmas
+pub mod Whole
+pub mod Written
 mod Collecting
 mod Telling
 mod Lanes

@@ -1,5 +1,5 @@
 -- Whole sequences, fed byte by byte where nothing is pending.
-use Rattle.std.proofs.Common.{◌≡◌, ℕ, true, List, [], ◌∷◌, ◌++◌, Option, Some, None, refl, sym, ap, ◌∙◌, subst, arith}
+use Rattle.std.proofs.Common.{◌≡◌, ℕ, true, false, List, [], ◌∷◌, ◌++◌, Option, Some, None, refl, sym, ap, ◌∙◌, subst, arith}
 use Rattle.std.specs.List.{list_all}
 use Rattle.std.proofs.lemmas.Bool.{and_parts}
 use Rattle.std.proofs.lemmas.Bool.Decides.{nat_tests}
@@ -12,10 +12,9 @@ use Rattle.vt_parser.specs.declared.syntax.Context.TheVariants as context
 use Rattle.vt_parser.specs.declared.states.ParserState.{ParserState}
 use Rattle.vt_parser.specs.declared.states.ParserState.TheVariants.{Ground, Escape, EscapeOne, CsiStart, Text}
 use Rattle.vt_parser.specs.Syntax.{escape, is_graphic}
-use Rattle.vt_parser.specs.Forms.{is_escape_final, is_control_sequence_text, is_control_sequence_final, control_sequence_meaning}
+use Rattle.vt_parser.specs.Forms.{is_intermediate, is_escape_final, begins_control_sequence, begins_string, bracket, is_control_sequence_text, is_control_sequence_final, control_sequence_meaning}
 use Rattle.vt_parser.specs.View.{control_sequence_view}
 use Rattle.vt_parser.specs.Fold.{Finishes}
-use Rattle.vt_parser.specs.Law.{EscapesFinish, DesignationsFinish, ControlSequencesFinish}
 use Rattle.vt_parser.specs.Machine.{context_in, moves_to, gives, joined, begun, stepped, Runs}
 use Rattle.vt_parser.proofs.Agrees.{ground_is_empty}
 use Rattle.vt_parser.proofs.Growing.{control_sequence_joins}
@@ -58,12 +57,16 @@ last_joins : (state : ParserState) (last : ℕ) (command : Command) → context_
     → joined state last ≡ gives (Some command) → stepped state Ansi last ≡ gives (Some command)
 last_joins state last command inside is ends = joins state Ansi last inside (grind (arith, nat_tests)) ∙ ends
 
-pub escape_finishes : EscapesFinish
+-- ESC and a final byte that opens nothing longer
+pub escape_finishes : (last : ℕ) → is_escape_final last ≡ true → begins_control_sequence last ≡ false → begins_string last ≡ false
+    → Finishes Ansi (escape ∷ last ∷ []) (Some (Esc None last))
 unfolding joined
 escape_finishes last is no_control no_string =
     finishes (last ∷ []) (Some (Esc None last)) (last_joins Escape last (Esc None last) refl is (grind (arith, nat_tests)))
 
-pub designation_finishes : DesignationsFinish
+-- ESC, an intermediate and a final byte
+pub designation_finishes : (inter last : ℕ) → is_intermediate inter ≡ true → is_escape_final last ≡ true
+    → Finishes Ansi (escape ∷ inter ∷ last ∷ []) (Some (Esc (Some inter) last))
 unfolding joined
 designation_finishes inter last first is =
     finishes (inter ∷ last ∷ []) (Some (Esc (Some inter) last))
@@ -92,7 +95,10 @@ runs_text done (byte ∷ text) last all is =
     (gives (control_sequence_meaning whole last)))
     (append_assoc done (byte ∷ []) text) (runs_text (done ++ byte ∷ []) text last parts.1 is))
 
-pub control_sequence_finishes : ControlSequencesFinish
+-- ESC [, a text and a final byte
+pub control_sequence_finishes : (text : List ℕ) (last : ℕ) → list_all is_control_sequence_text text ≡ true
+    → is_control_sequence_final last ≡ true
+    → Finishes Ansi (escape ∷ bracket ∷ (text ++ last ∷ [])) (control_sequence_meaning text last)
 unfolding joined
 control_sequence_finishes text last all is =
     finishes (91 ∷ (text ++ last ∷ [])) (control_sequence_meaning text last)

@@ -1,6 +1,5 @@
 -- What holds of every step: the statements of the crate's laws.
 use Rattle.std.specs.Prelude.{◌≡◌, ◌≢◌, ℕ, ◌+◌, ◌≤◌, ◌<◌, Bool, true, false, List, [], ◌∷◌, ◌++◌, length, Option, Some, None, IfSome, All}
-use Rattle.std.specs.List.{list_all}
 use Rattle.std.specs.Option.{MatchOption}
 use Rattle.vt_parser.specs.declared.commands.Mode.{Mode}
 use Rattle.vt_parser.specs.declared.commands.Mode.TheVariants.{Ansi}
@@ -9,7 +8,7 @@ use Rattle.vt_parser.specs.declared.commands.Command.TheVariants.{Show, Error, C
 use Rattle.vt_parser.specs.declared.states.ParserState.{ParserState}
 use Rattle.vt_parser.specs.declared.states.ParserState.TheVariants.{Ground}
 use Rattle.vt_parser.specs.Syntax.{escape, is_within, is_graphic}
-use Rattle.vt_parser.specs.Forms.{is_intermediate, is_escape_final, is_control_sequence_text, is_control_sequence_final, bracket, begins_control_sequence, begins_string, question_mark, greatest_param, params, held, control_sequence_meaning, most_params}
+use Rattle.vt_parser.specs.Forms.{is_control_sequence_final, bracket, question_mark, greatest_param, params, held, most_params}
 use Rattle.vt_parser.specs.View.{parser_view}
 use Rattle.vt_parser.specs.Step.{command_of, pending_after, mode_after}
 use Rattle.vt_parser.specs.Fold.{Finishes}
@@ -107,29 +106,7 @@ abbrev pub CommandsAreProper : Type 0
 CommandsAreProper =
     (m : Mode) (p : List ℕ) (byte : ℕ) → IfSome (command_of m p byte) IsProper
 
--- A mode that is given with every byte stays.
-abbrev pub SameModeStays : Type 0
-SameModeStays = (mode : Mode) (byte : ℕ) → mode_after mode mode byte ≡ mode
-
 -- ---- whole sequences of ANSI mode, as printers write them
-
--- ESC and a final byte that opens nothing longer
-abbrev pub EscapesFinish : Type 0
-EscapesFinish =
-    (last : ℕ) → is_escape_final last ≡ true → begins_control_sequence last ≡ false → begins_string last ≡ false
-    → Finishes Ansi (escape ∷ last ∷ []) (Some (Esc None last))
-
--- ESC, an intermediate and a final byte
-abbrev pub DesignationsFinish : Type 0
-DesignationsFinish =
-    (inter last : ℕ) → is_intermediate inter ≡ true → is_escape_final last ≡ true
-    → Finishes Ansi (escape ∷ inter ∷ last ∷ []) (Some (Esc (Some inter) last))
-
--- ESC [, a text and a final byte
-abbrev pub ControlSequencesFinish : Type 0
-ControlSequencesFinish =
-    (text : List ℕ) (last : ℕ) → list_all is_control_sequence_text text ≡ true → is_control_sequence_final last ≡ true
-    → Finishes Ansi (escape ∷ bracket ∷ (text ++ last ∷ [])) (control_sequence_meaning text last)
 
 -- numbers that a text can hold as its parameters
 pub record AreParams (numbers : List ℕ) : Type 0 where

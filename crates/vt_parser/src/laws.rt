@@ -1,5 +1,5 @@
 //! What holds of every step, for the layers above. Each function's contract is the law, and its body is empty.
-ghost use Rattle.vt_parser.specs.Law.{StateDecides, StaysShown, GroundIsEmpty, FinishedLeavesNothing, PendingPays, GraphicIsShown, ControlIsGiven, CommandsAreProper, SameModeStays, EscapesFinish, DesignationsFinish, ControlSequencesFinish, DecimalsAreRead, WrittenSequencesFinish, WrittenPrivatesFinish};
+ghost use Rattle.vt_parser.specs.Law.{StateDecides, StaysShown, GroundIsEmpty, FinishedLeavesNothing, PendingPays, GraphicIsShown, ControlIsGiven, CommandsAreProper, DecimalsAreRead, WrittenSequencesFinish, WrittenPrivatesFinish};
 
 /// Pending bytes that show one state give one command after any byte, and show one state again.
 pub fn state_decides()
@@ -43,19 +43,6 @@ pub fn control_is_given()
 #[tactic(auto, using(crate::proofs::LawLemmas::commands_are_proper))]
 pub fn commands_are_proper()
     ensures { CommandsAreProper }
-{}
-
-/// A mode that is given with every byte stays.
-pub fn same_mode_stays()
-    ensures { SameModeStays }
-{}
-
-/// A whole sequence of ANSI mode, fed where nothing is pending, gives its command with its last byte and none before
-/// it, and leaves nothing pending.
-pub fn whole_sequences_finish()
-    ensures escape { EscapesFinish }
-    ensures designation { DesignationsFinish }
-    ensures control { ControlSequencesFinish }
 {}
 
 /// Numbers that are written in decimal are the parameters that are read.

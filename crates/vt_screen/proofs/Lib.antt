@@ -3,12 +3,12 @@ mod Blanked
 mod Drawing
 mod Erased
 mod Index
-mod Regions
+pub mod Regions
 mod Rows
 mod Runs
 mod Scrolled
-mod SoundRows
-mod Soundness
+pub mod SoundRows
+pub mod Soundness
 mod Stops
 mod Tables
 mod Told

@@ -5,7 +5,7 @@ use Rattle.std.proofs.lemmas.Bool.Decides.{nat_tests}
 use Rattle.vt_screen.specs.declared.cell.Cell.{Cell}
 use Rattle.vt_screen.specs.Attributes.{Attributes}
 use Rattle.vt_screen.specs.declared.cell.Row.{Row}
-use Rattle.vt_screen.specs.CellEdits.{cells_deleted, room_made, shown_inserting}
+use Rattle.vt_screen.specs.CellEdits.{room_made, shown_inserting}
 use Rattle.vt_screen.specs.Cells.{row_at}
 use Rattle.vt_screen.specs.Picture.{Picture, Sound, IsInRegion, right_margin}
 use Rattle.vt_screen.specs.Moves.{on_line, stepped_up, stepped_down, moved_to_left, placed, moved_home, put_back}
@@ -58,9 +58,6 @@ module _ (p : Picture) (sound : Sound p) where
 
     pub inside_lines_inserted : (n : ℕ) → IsInRegion (lines_inserted n p)
     inside_lines_inserted n = inside_lines (is_in_region p) (scrolled_down n p.line p.bottom p.rows)
-
-    pub inside_cells_deleted : (n : ℕ) → IsInRegion (cells_deleted n p)
-    inside_cells_deleted n = record { below_top = inside.below_top; above_bottom = inside.above_bottom }
 
     pub inside_room_made : IsInRegion (room_made p)
     inside_room_made = record { below_top = inside.below_top; above_bottom = inside.above_bottom }

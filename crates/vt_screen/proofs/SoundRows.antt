@@ -13,7 +13,7 @@ use Rattle.vt_screen.specs.CellEdits.{taken_out, moved_right}
 use Rattle.vt_screen.specs.Cells.{blank, blank_cells, blank_row, cell_at, row_at, row_by, rows_by, is_single}
 use Rattle.vt_screen.specs.Erasures.{in_line_part, part_erased}
 use Rattle.vt_screen.specs.Lines.{filled_to, resized}
-use Rattle.vt_screen.specs.Picture.{SoundRow, columns, margin_of}
+use Rattle.vt_screen.specs.Picture.{Picture, SoundRow, columns, margin_of, right_margin}
 use Rattle.vt_screen.specs.Puts.{with_cell, with_row}
 use Rattle.vt_screen.proofs.Rows.{blank_whole, row_is}
 use Rattle.vt_screen.proofs.Tables.{length-table, nth-table, nth_is, nth_keeps, table_ext, table_is}
@@ -41,6 +41,12 @@ margin_high false Bottom = omega arith
 pub columns_high : (wide : Bool) → columns wide ≤ 132
 columns_high true = omega arith
 columns_high false = omega arith
+
+pub right_margin_low : (p : Picture) (line : ℕ) → 40 ≤ right_margin p line
+right_margin_low p line = margin_low p.wide (row_at p.rows line).size
+
+pub right_margin_high : (p : Picture) (line : ℕ) → right_margin p line ≤ 132
+right_margin_high p line = omega (arith, margin_high p.wide (row_at p.rows line).size, columns_high p.wide)
 
 -- all double sizes have one margin
 pub double_margin : (wide : Bool) (size other : Size) → is_single size ≡ false → is_single other ≡ false → margin_of wide size ≡ margin_of wide other

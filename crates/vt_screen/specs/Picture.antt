@@ -69,16 +69,6 @@ pub record IsInRegion (p : Picture) : Type 0 where
   pub below_top : p.top ≤ p.line
   pub above_bottom : p.line ≤ p.bottom
 
--- what an operation keeps, and what it brings about
-abbrev pub KeepsSound : (Picture → Picture) → Type 0
-KeepsSound op = (p : Picture) → Sound p → Sound (op p)
-
-abbrev pub KeepsInRegion : (Picture → Picture) → Type 0
-KeepsInRegion op = (p : Picture) → Sound p → IsInRegion p → IsInRegion (op p)
-
-abbrev pub GoesIntoRegion : (Picture → Picture) → Type 0
-GoesIntoRegion op = (p : Picture) → Sound p → IsInRegion (op p)
-
 -- a tab stops at every eighth column from 9 to 129 (ours)
 abbrev pub first_tabs : List Bool
 first_tabs = table wide_columns (λ column. nat_lt 1 column && (column % 8 == 1))

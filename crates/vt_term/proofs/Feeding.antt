@@ -5,6 +5,7 @@ use Rattle.std.proofs.lemmas.List.{length-append, take-append-drop, drop-drop}
 use Rattle.vt_term.specs.Term.{Term, play, sent}
 use Rattle.vt_term.specs.Seen.{Seen, Shows}
 use Rattle.plays.specs.Sink.{Sink, after_sending, HasRoom}
+use Rattle.plays.proofs.Sinks.{after_sending-append}
 use Rattle.vt_term.proofs.Steps.{plays_in_parts, sends_in_parts}
 
 pub play_on : (x : Term) (bytes : List ℕ) (at n : ℕ) → play x (take (at + n) bytes) ≡ play (play x (take at bytes)) (take n (drop at bytes))
@@ -15,15 +16,14 @@ sent_on : (x : Term) (bytes : List ℕ) (at n : ℕ)
 sent_on x bytes at n = ap (sent x) (take-add at n bytes) ∙ sends_in_parts x (take at bytes) (take n (drop at bytes))
 
 -- the sink after a few more bytes
-pub sink_on : ((sink : Sink) (first second : List ℕ) → after_sending (after_sending sink first) second ≡ after_sending sink (first ++ second))
-    → (x : Term) (bytes : List ℕ) (at n : ℕ) (first then_ now_ : Sink)
+pub sink_on : (x : Term) (bytes : List ℕ) (at n : ℕ) (first then_ now_ : Sink)
     → then_ ≡ after_sending first (sent x (take at bytes))
     → now_ ≡ after_sending then_ (sent (play x (take at bytes)) (take n (drop at bytes)))
     → now_ ≡ after_sending first (sent x (take (at + n) bytes))
-sink_on joined x bytes at n first then_ now_ before after =
+sink_on x bytes at n first then_ now_ before after =
     after
     ∙ ap (λ (s : Sink). after_sending s (sent (play x (take at bytes)) (take n (drop at bytes)))) before
-    ∙ joined first (sent x (take at bytes)) (sent (play x (take at bytes)) (take n (drop at bytes)))
+    ∙ after_sending-append first (sent x (take at bytes)) (sent (play x (take at bytes)) (take n (drop at bytes)))
     ∙ ap (after_sending first) (sym (sent_on x bytes at n))
 
 -- what is sent in two parts is as long as both

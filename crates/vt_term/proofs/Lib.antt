@@ -5,4 +5,4 @@ mod Runs
 mod Taken
 mod Feeding
 mod Printed
-mod Rowless
+pub mod Rowless

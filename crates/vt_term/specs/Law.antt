@@ -1,12 +1,7 @@
 -- What holds of every term: the statements of the crate's laws.
 use Rattle.std.specs.Prelude.{◌≡◌, ℕ, ◌*◌, ◌≤◌, List, ◌++◌, length}
-use Rattle.vt_parser.specs.declared.commands.Command.{Command}
-use Rattle.vt_parser.specs.Law.{IsProper, StateDecides, StaysShown, GroundIsEmpty, FinishedLeavesNothing, PendingPays, GraphicIsShown, CommandsAreProper}
-use Rattle.vt_screen.specs.Picture.{Picture, right_margin}
-use Rattle.vt_screen.specs.Limits.{wide_columns}
 use Rattle.vt_term.specs.declared.profile.Profile.{Profile}
-use Rattle.vt_term.specs.Console.{Console, IsSafe, reset_console}
-use Rattle.vt_term.specs.Effect.{effect}
+use Rattle.vt_term.specs.Console.{IsSafe}
 use Rattle.vt_term.specs.Term.{Term, reset_term_as, play, sent}
 use Rattle.vt_term.specs.Seen.{Seen, Shows}
 
@@ -18,10 +13,6 @@ PlaysInParts = (x : Term) (first second : List ℕ) → play x (first ++ second)
 abbrev pub SendsInParts : Type 0
 SendsInParts =
     (x : Term) (first second : List ℕ) → sent x (first ++ second) ≡ sent x first ++ sent (play x first) second
-
--- What is sent is what playing appends to the reports.
-abbrev pub SentIsAppended : Type 0
-SentIsAppended = (x : Term) (bytes : List ℕ) → (play x bytes).reports ≡ x.reports ++ sent x bytes
 
 -- Terms of which the same is seen play to terms of which the same is seen, and send the same.
 abbrev pub SeenDecides : Type 0
@@ -37,22 +28,3 @@ SendsLittle = (profile : Profile) (bytes : List ℕ) → 3 * length (sent (reset
 -- Whatever bytes a safe term takes, it stays safe.
 abbrev pub StaysSafe : Type 0
 StaysSafe = (x : Term) (bytes : List ℕ) → IsSafe x.console → IsSafe (play x bytes).console
-
--- ---- what these laws stand on
-
--- Private: a command whose numbers are in their ranges keeps a terminal safe.
-abbrev pub CommandsKeepSafe : Type 0
-CommandsKeepSafe = (command : Command) (s : Console) → IsProper command → IsSafe s → IsSafe (effect command s)
-
--- Private: the laws of the parser, and what those of the screen come to
-pub record LawsBelow : Type 0 where
-  pub state_decides : StateDecides
-  pub stays_shown : StaysShown
-  pub ground_is_empty : GroundIsEmpty
-  pub finished_leaves_nothing : FinishedLeavesNothing
-  pub pending_pays : PendingPays
-  pub graphic_is_shown : GraphicIsShown
-  pub commands_are_proper : CommandsAreProper
-  pub right_margins : (p : Picture) (line : ℕ) → right_margin p line ≤ wide_columns
-  pub reset_is_safe : (profile : Profile) → IsSafe (reset_console profile)
-  pub commands_keep_safe : CommandsKeepSafe

@@ -2,17 +2,15 @@
 use Rattle.std.specs.Prelude.{◌≡◌, ℕ, true, false, List, [], ◌∷◌, ◌++◌, map, Some, None}
 use Rattle.std.specs.List.{list_all}
 use Rattle.vt_parser.specs.declared.commands.Mode.TheVariants.{Ansi}
-use Rattle.vt_parser.specs.declared.commands.Command.{Command}
 use Rattle.vt_parser.specs.declared.commands.Command.TheVariants.{Control}
 use Rattle.vt_parser.specs.Syntax.{escape, is_graphic, is_within}
 use Rattle.vt_parser.specs.Forms.{is_intermediate, is_escape_final, is_control_sequence_final, begins_control_sequence, begins_string}
-use Rattle.vt_parser.specs.Fold.{Finishes}
 use Rattle.vt_parser.specs.Decimals.{params_text}
 use Rattle.vt_parser.specs.Law.{AreParams}
 use Rattle.vt_term.specs.Console.{Console, effect_of}
 use Rattle.vt_term.specs.Escapes.{escape_named, escape_effect}
 use Rattle.vt_term.specs.Replies.{escape_reply, reply_of}
-use Rattle.vt_term.specs.Effect.{effect, reply, glyphs_shown, glyphs_written, glyph_for, control_sequence_effect, control_sequence_reply}
+use Rattle.vt_term.specs.Effect.{effect, glyphs_shown, glyphs_written, glyph_for, control_sequence_effect, control_sequence_reply}
 use Rattle.vt_term.specs.Term.{Term, play, sent}
 
 -- a term with nothing pending
@@ -48,14 +46,7 @@ GlyphsAreWritten =
 abbrev pub ControlsBring : Type 0
 ControlsBring = (s : Console) (byte : ℕ) → is_within 8 15 byte ≡ true → Brings s (byte ∷ []) (effect (Control byte) s)
 
--- A whole sequence has the effect of its command once, and its reply is sent.
-abbrev pub SequencesAct : Type 0
-SequencesAct =
-    (s : Console) (reports bytes : List ℕ) (command : Command) → Finishes s.modes.mode bytes (Some command)
-    → (play (on_ground s reports) bytes ≡ on_ground (effect command s) (reports ++ reply command s))
-    × (sent (on_ground s reports) bytes ≡ reply command s)
-
--- So has one without a reply: ESC and a final byte ..
+-- A whole sequence without a reply has the effect of its command once: ESC and a final byte ..
 abbrev pub EscapesBring : Type 0
 EscapesBring =
     (s : Console) (last : ℕ) → s.modes.mode ≡ Ansi

@@ -2,18 +2,14 @@
 ghost use Rattle.std.specs.Prelude.{◌≡◌, ℕ, ◌<◌, ◌≤◌, true};
 ghost use Rattle.vt_screen.specs.Cells.{blank};
 ghost use Rattle.vt_screen.specs.Picture.{IsInRegion, cell, right_margin};
-ghost use Rattle.vt_term.specs.Law.{PlaysInParts, SendsInParts, SentIsAppended, SeenDecides, SendsLittle, StaysSafe};
-ghost use Rattle.vt_term.specs.Printing.{NothingBrings, PartsBring, CharactersBring, GlyphsAreWritten, ControlsBring, SequencesAct, EscapesBring, DesignationsBring, ControlSequencesBring, PrivateSequencesBring};
+ghost use Rattle.vt_term.specs.Law.{PlaysInParts, SendsInParts, SeenDecides, SendsLittle, StaysSafe};
+ghost use Rattle.vt_term.specs.Printing.{NothingBrings, PartsBring, CharactersBring, GlyphsAreWritten, ControlsBring, EscapesBring, DesignationsBring, ControlSequencesBring, PrivateSequencesBring};
 ghost use Rattle.vt_term.specs.Played.{RowlessDoNothing, RowlessModesStay, RowlessAnsiModesStay, ModeGoesAlone};
 ghost use Rattle.vt_term.specs.Console.{IsSafe};
 ghost use Rattle.vt_term.specs.declared.profile.Profile.{Profile};
 ghost use Rattle.vt_term.specs.Term.{reset_term_as};
 
 use crate::Terminal;
-use crate::below::laws_below;
-use vt_parser::laws::{
-    control_is_given, decimals_are_read, graphic_is_shown, whole_sequences_finish,
-};
 use vt_screen::limits::{LAST_GLYPH, LINES};
 
 /// Joined texts are played as their parts in turn, wherever the cut is.
@@ -28,33 +24,22 @@ pub fn sends_in_parts()
     ensures { SendsInParts }
 {}
 
-/// What is sent is what playing appends to the reports.
-#[tactic(auto, using(crate::proofs::Steps::sent_is_appended))]
-pub fn sent_is_appended()
-    ensures { SentIsAppended }
-{}
-
 /// Terms of which the same is seen step alike and send the same.
 pub fn seen_decides()
     ensures { SeenDecides }
-{
-    laws_below();
-}
+{}
 
 /// Three times what is sent from a reset term is at most twenty times the bytes.
+#[tactic(auto, using(crate::proofs::Bound::sends_little))]
 pub fn sends_little()
     ensures { SendsLittle }
-{
-    laws_below();
-}
+{}
 
 /// A reset term is safe, and a safe term stays so whatever bytes are played.
 pub fn stays_safe()
     ensures reset { (profile : Profile) → IsSafe (reset_term_as profile).console }
     ensures played { StaysSafe }
-{
-    laws_below();
-}
+{}
 
 /// What every terminal shows: the cursor is on the screen and within its line's right margin, cells right of that margin
 /// are blank, glyphs are at most 126, and while DECOM is set the cursor is inside the margins.
@@ -73,17 +58,17 @@ pub fn terminals_are_safe(terminal: &Terminal)
 }
 
 /// What bytes bring is joined as the bytes are.
+#[tactic(auto, using(crate::proofs::Printed::nothing_brings, crate::proofs::Printed::parts_bring))]
 pub fn parts_bring()
     ensures none { NothingBrings }
     ensures joined { PartsBring }
 {}
 
 /// Graphic characters are put as the run of their glyphs.
+#[tactic(auto, using(crate::proofs::Printed::characters_bring))]
 pub fn characters_bring()
     ensures { CharactersBring }
-{
-    graphic_is_shown();
-}
+{}
 
 /// Outside insert mode they take the place of what stands there.
 #[tactic(auto, using(crate::proofs::Runs::glyphs_are_written))]
@@ -92,30 +77,23 @@ pub fn glyphs_are_written()
 {}
 
 /// A control has its effect, and sends nothing.
+#[tactic(auto, using(crate::proofs::Printed::controls_bring))]
 pub fn controls_bring()
     ensures { ControlsBring }
-{
-    control_is_given();
-}
-
-/// A whole sequence has its effect once, and its reply is sent.
-pub fn sequences_act()
-    ensures { SequencesAct }
 {}
 
 /// Whole sequences of ANSI mode that have no reply have their effect once, and send nothing.
+#[tactic(auto, using(crate::proofs::Printed::escapes_bring, crate::proofs::Printed::designations_bring, crate::proofs::Printed::control_sequences_bring, crate::proofs::Printed::private_sequences_bring))]
 pub fn sequences_bring()
     ensures escape { EscapesBring }
     ensures designation { DesignationsBring }
     ensures control { ControlSequencesBring }
     ensures private { PrivateSequencesBring }
-{
-    whole_sequences_finish();
-    decimals_are_read();
-}
+{}
 
 /// A finished sequence that has no row does nothing and isn't replied to; a parameter of `h` and `l` without a row sets
 /// nothing.
+#[tactic(auto, using(crate::proofs::Rowless::rowless_modes_stay, crate::proofs::Rowless::rowless_ansi_modes_stay))]
 pub fn rowless_do_nothing()
     ensures commands { RowlessDoNothing }
     ensures modes { RowlessModesStay }
@@ -123,6 +101,7 @@ pub fn rowless_do_nothing()
 {}
 
 /// The mode that a command leaves goes by the mode before it, and by nothing else of a terminal.
+#[tactic(auto, using(crate::proofs::Rowless::mode_goes_alone))]
 pub fn mode_goes_alone()
     ensures { ModeGoesAlone }
 {}

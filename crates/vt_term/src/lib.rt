@@ -5,7 +5,6 @@
 //! packed to be kept for later takes what its cells need.
 #![tactic(auto)]
 
-mod below;
 mod console;
 mod controls;
 mod escapes;

@@ -1,7 +1,6 @@
 //! The terminal plays, as every terminal does.
 ghost use Rattle.std.specs.Prelude.{◌≡◌};
 
-use crate::laws::{plays_in_parts, sent_is_appended};
 use crate::{OutOfMemory, PackedTerminal, Profile, Reports, Terminal};
 use plays::Plays;
 use std::alloc::{AllocError, Global};
@@ -35,8 +34,8 @@ impl Plays for Terminal {
         *self = Terminal::reset_as(profile);
     }
 
+    #[tactic(auto, using(crate::proofs::Steps::plays_in_parts))]
     fn feed(&mut self, bytes: &[u8], sink: &mut Reports) -> Result<(), OutOfMemory> {
-        plays_in_parts();
         self.feed_in_place(bytes, sink)
     }
 
@@ -48,8 +47,5 @@ impl Plays for Terminal {
         Terminal::unpack(self, packed);
     }
 
-    fn laws() {
-        plays_in_parts();
-        sent_is_appended();
-    }
+    fn laws() {}
 }

@@ -3,11 +3,9 @@ ghost use Rattle.std.specs.Prelude.{◌≡◌, ◌≤◌, ◌<◌, length, take,
 
 mod packed;
 
-use crate::below::laws_below;
 use crate::console::Console;
 use crate::{Modes, OutOfMemory, Profile, Reports, Saved, Sets};
 pub use packed::PackedTerminal;
-use plays::laws::{sending_adds_up, the_front_stays};
 use std::marker::Model;
 use vt_parser::{Parser, ParserState};
 use vt_screen::{Rendition, Screen};
@@ -50,7 +48,6 @@ impl Terminal {
     pub fn reset_as(profile: Profile) -> Self
         ensures { Shows result (reset_term_as profile) }
     {
-        laws_below();
         Terminal {
             console: Console::reset(profile),
             parser: Parser::new(),
@@ -122,8 +119,6 @@ impl Terminal {
         ensures room { (x : Term) → Shows self.old x → HasRoom sink.old (sent x bytes.now)
             → IsOk result }
     {
-        sending_adds_up();
-        the_front_stays();
         let mut rest = bytes;
         while !rest.is_empty() {
             let taken = self.take_some(rest, sink)?;
@@ -147,8 +142,6 @@ impl Terminal {
         ensures room { (x : Term) → Shows self.old x → HasRoom sink.old (sent x bytes.now)
             → IsOk result }
     {
-        laws_below();
-        sending_adds_up();
         let (taken, token) = self.parser.next(self.console.modes.mode, bytes);
         if let Some(token) = token {
             self.console.obey(token, sink)?;

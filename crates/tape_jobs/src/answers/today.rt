@@ -2,7 +2,6 @@
 
 use super::{Answers, Asked, Question};
 use crate::job::JobFault;
-use crate::laws::stops_join;
 use crate::shared::put_hex_line;
 use std::alloc::Global;
 use std::io::Write;
@@ -27,7 +26,6 @@ impl Answers for Terminal {
         question: Question,
         out: &mut Watched<O>,
     ) -> Result<(), JobFault> {
-        stops_join::<O>();
         let view = seek(session, question.at)?;
         match question.asked {
             Asked::Screen => plain(view.terminal(), out)?,
@@ -46,7 +44,6 @@ impl Answers for Terminal {
         to: u64,
         out: &mut Watched<O>,
     ) -> Result<(), JobFault> {
-        stops_join::<O>();
         changes(alloc, session, from, to, out)?;
         Ok(())
     }
@@ -60,7 +57,6 @@ impl Answers for Terminal {
         text: &[char],
         out: &mut Watched<O>,
     ) -> Result<(), JobFault> {
-        stops_join::<O>();
         find(alloc, session, from, to, text, out)?;
         Ok(())
     }

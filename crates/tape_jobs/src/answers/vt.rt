@@ -2,7 +2,6 @@
 
 use super::{Answers, Asked, Question};
 use crate::job::JobFault;
-use crate::laws::stops_join;
 use crate::shared::put_hex_line;
 use screen_picture::picture;
 use screen_print::{changes, escaped, find, plain, scratch};
@@ -24,7 +23,6 @@ impl Answers for Terminal {
         question: Question,
         out: &mut Watched<O>,
     ) -> Result<(), JobFault> {
-        stops_join::<O>();
         let view = session.seek(question.at)?;
         match question.asked {
             Asked::Screen => plain(view.terminal(), out)?,
@@ -43,7 +41,6 @@ impl Answers for Terminal {
         to: u64,
         out: &mut Watched<O>,
     ) -> Result<(), JobFault> {
-        stops_join::<O>();
         changes(session, from, to, out)?;
         Ok(())
     }
@@ -57,7 +54,6 @@ impl Answers for Terminal {
         text: &[char],
         out: &mut Watched<O>,
     ) -> Result<(), JobFault> {
-        stops_join::<O>();
         let mut scratch = scratch(alloc)?;
         find(session, from, to, text, &mut scratch, out)?;
         Ok(())

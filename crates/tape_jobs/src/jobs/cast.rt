@@ -7,7 +7,6 @@ ghost use Rattle.tape_jobs.specs.Endings.{JobPuts};
 ghost use Rattle.tape_jobs.specs.Player.{cast_of, today_cast};
 
 use crate::job::JobFault;
-use crate::laws::stops_join;
 use crate::player::played_size;
 use crate::shared::{EVERY, open_session};
 use command_line::{Measure, Player};
@@ -46,7 +45,6 @@ fn write_drawn<O: Write>(
     ensures puts { JobPuts O.contents out.old out.new (cast_text profile recording) result }
     ensures flushed { OnOk result (is_flushed out.new ≡ true) }
 {
-    stops_join::<O>();
     let session = open_session(alloc, recording, EVERY, profile)?;
     screen_cast::cast(&mut ManuallyDrop::new(session), out)?;
     Ok(())
@@ -62,7 +60,6 @@ fn write_output<O: Write>(
     ensures puts { JobPuts O.contents out.old out.new (today_cast asked recording.now) result }
     ensures flushed { OnOk result (is_flushed out.new ≡ true) }
 {
-    stops_join::<O>();
     let size = played_size(asked, recording);
     output_cast::cast(size.columns, size.lines, recording, out)?;
     Ok(())

@@ -8,7 +8,6 @@ ghost use Rattle.tape_jobs.specs.Output.{ending_of_check};
 ghost use Rattle.tape_jobs.specs.Player.{played_of};
 
 use crate::job::{Ending, JobFault};
-use crate::laws::stops_join;
 use crate::player::played_as;
 use command_line::Player;
 use std::alloc::Global;
@@ -31,7 +30,6 @@ pub fn write_checked<O: Write>(
     ensures flushed { OnOk result (is_flushed out.new ≡ true) }
     ensures unwritten { result ≡ Err JobFault.Memory → out.new ≡ out.old }
 {
-    stops_join::<O>();
     let noted = write_check(alloc, recording, played_as(player, recording), out)?;
     out.settle()?;
     Ok(ending_of(noted))

@@ -5,10 +5,10 @@ ghost use Rattle.tape_core.specs.Devices.{Puts, has_failed, is_flushed};
 ghost use Rattle.tape_core.specs.Due.{due};
 
 use std::io::Write;
-use tape_core::laws::due_is_first;
 use tape_core::{Fault, Recording, Watched, give_chunks};
 
 /// Writes the bytes of the chunks that are due by the moment, and flushes.
+#[tactic(auto, using(tape_core::proofs::DueLemmas::due_first))]
 pub fn write_due<O: Write>(
     recording: &Recording,
     at: u64,
@@ -18,7 +18,6 @@ pub fn write_due<O: Write>(
     ensures puts { Puts O.contents out.old out.new (due recording.now.chunks at) result }
     ensures flushed { OnOk result (is_flushed out.new ≡ true) }
 {
-    due_is_first();
     let count = recording.due_count(at);
     give_chunks(&recording.chunks()[..count], out);
     out.settle()

@@ -8,7 +8,6 @@ ghost use Rattle.tape_jobs.specs.Player.{page_of};
 ghost use Rattle.xterm_page.specs.Page.{page_text as today_page};
 
 use crate::job::JobFault;
-use crate::laws::stops_join;
 use crate::player::played_size;
 use crate::shared::{EVERY, open_session};
 use command_line::Player;
@@ -56,7 +55,6 @@ fn write_played<O: Write>(
         (page_text title.now profile recording) result }
     ensures flushed { OnOk result (is_flushed out.new ≡ true) }
 {
-    stops_join::<O>();
     let session = open_session(alloc, recording, EVERY, profile)?;
     page(&mut ManuallyDrop::new(session), title, out)?;
     Ok(())
@@ -75,7 +73,6 @@ fn write_today<O: Write>(
         (today_page title.now size.columns size.lines recording) result }
     ensures flushed { OnOk result (is_flushed out.new ≡ true) }
 {
-    stops_join::<O>();
     let session = xterm_print::open(alloc, recording, EVERY, size).map_err(|_| JobFault::Memory)?;
     xterm_page::page(alloc, &mut ManuallyDrop::new(session), title, out)?;
     Ok(())

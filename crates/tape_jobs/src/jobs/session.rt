@@ -15,7 +15,6 @@ ghost use Rattle.tape_jobs.specs.Session.{answer, answered, any_refused, edit_an
 
 use crate::answers::{Answers, Asked, Question};
 use crate::job::{Ending, JobFault};
-use crate::laws::stops_join;
 use crate::player::played_size;
 use crate::shared::{make_edit, name_of, open_session, put_info, put_line};
 use command_line::Player;
@@ -73,7 +72,6 @@ fn put_answers<T: Answers, O: Write>(
         (any_refused (started (T.player profile) recording) (lines_of requests.now))) }
     ensures flushed { OnOk result (is_flushed out.new ≡ true) }
 {
-    stops_join::<O>();
     let session = open_session::<T>(alloc, recording, in_range(every), profile)?;
     let mut session = ManuallyDrop::new(session);
     let refused = answer_all(alloc, &mut session, requests, out)?;
@@ -114,7 +112,6 @@ fn answer_all<T: Answers, O: Write>(
     ensures refused { IfOk result (λ refused. refused
         ≡ any_refused (course_of T.player session.old) (lines_of requests.now)) }
 {
-    stops_join::<O>();
     let mut rest = requests;
     let mut refused = false;
     while !rest.is_empty() {
@@ -143,7 +140,6 @@ fn answer_line<T: Answers, O: Write>(
     ensures course { OnOk result (course_of T.player session.new
         ≡ course_after (course_of T.player session.old) (request line.now)) }
 {
-    stops_join::<O>();
     match read_line(alloc, line) {
         Ok(Request::Nothing) => {}
         Ok(Request::Edit(edit)) => return Ok(answer_edit(session, edit, out)?),
@@ -209,7 +205,6 @@ fn put_changes<T: Answers, O: Write>(
         (ended (changes_of (T.player session.old.profile) session.old.recording from to)) result }
     ensures stays { course_of T.player session.new ≡ course_of T.player session.old }
 {
-    stops_join::<O>();
     T::put_changes(alloc, session, from, to, out)?;
     out.give(b"end\n");
     Ok(())
@@ -220,7 +215,6 @@ fn put_log<T: Answers, O: Write>(session: &Session<T>, out: &mut Watched<O>) -> 
     requires { has_failed out.old ≡ false }
     ensures { JobGives O.contents out.old out.new (ended (log_text session.now.log)) result }
 {
-    stops_join::<O>();
     write_log(session.log(), out)?;
     out.give(b"end\n");
     Ok(())

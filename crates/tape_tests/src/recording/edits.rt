@@ -2,7 +2,6 @@
 use std::alloc::Global;
 use std::process::Abort;
 use std::test::Fail;
-use tape_core::laws::bodies_add_up;
 use tape_core::{Bytes, Chunk, Fault, Recording, read_recording};
 
 /// Three chunks: `a` at 1 second, `bb` at 3 seconds, and an empty one at the same moment.
@@ -117,7 +116,6 @@ fn replace(rt: &impl Abort, recording: &mut Recording, at: usize, bytes: Bytes) 
     assert!(rt; at < recording.chunks().len(), "chunk {at}");
     assert!(rt; bytes.len() <= 1_000, "few bytes");
     assert!(rt; recording.body_len() <= 1_000, "a short body");
-    bodies_add_up();
     recording.replace(at, bytes);
 }
 

@@ -1,4 +1,5 @@
 use Rattle.std.proofs.Common.{length, ap, arith, ◌∙◌}
+use Rattle.tape_core.proofs.EditedLemmas.{body_len-inserted}
 use Rattle.tape_seek.proofs.EditLemmas.{inserts_well}
 use Rattle.tape_seek.proofs.editing.insert.Goals as goal
 
@@ -19,4 +20,4 @@ insert-requires-clause-len c =
 pub insert-requires-clause-bytes : goal.insert-requires-clause-bytes
 insert-requires-clause-bytes c =
     let well = inserts_well c.args.recording.now c.args.at c.args.delay c.args.bytes.now c.requires in
-    omega (arith, well.body, c.bodies_add_up.ensures.inserted c.args.recording.now c.args.at (record { delay = c.args.delay; bytes = c.args.bytes.now }), ap length (c.in_ok-bytes.ensures ∙ c.as_slice.ensures))
+    omega (arith, well.body, body_len-inserted c.args.recording.now.chunks c.args.at (record { delay = c.args.delay; bytes = c.args.bytes.now }), ap length (c.in_ok-bytes.ensures ∙ c.as_slice.ensures))

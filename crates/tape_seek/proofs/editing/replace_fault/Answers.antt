@@ -11,7 +11,7 @@ returns-then-others-len c =
     let chunk = c.index-chunks-at.result in
     let place : at < length chunks = omega (arith, c.if-at-chunks.false, ap length c.chunks.ensures.chunks) in
     let is : chunk ≡ get_or chunks at chunk = c.index-chunks-at.is ∙ ap (λ cs. get_or cs at chunk) c.chunks-2.ensures.chunks in
-    replace_judged c.bodies_add_up.ensures c.args.recording.now at c.args.bytes.now chunk true place is (omega arith)
+    replace_judged c.args.recording.now at c.args.bytes.now chunk true place is (omega arith)
     (lt-ltb longest_body _ (omega (arith, c.body_len.ensures.sum, ap (λ x. length x.bytes) c.index-chunks-at.is)))
 
 pub returns : goal.returns
@@ -21,5 +21,5 @@ returns c =
     let chunk = c.index-chunks-at.result in
     let place : at < length chunks = omega (arith, c.if-at-chunks.false, ap length c.chunks.ensures.chunks) in
     let is : chunk ≡ get_or chunks at chunk = c.index-chunks-at.is ∙ ap (λ cs. get_or cs at chunk) c.chunks-2.ensures.chunks in
-    replace_judged c.bodies_add_up.ensures c.args.recording.now at c.args.bytes.now chunk false place is (omega arith)
+    replace_judged c.args.recording.now at c.args.bytes.now chunk false place is (omega arith)
     (le-ltb longest_body _ (omega (arith, c.body_len.ensures.sum, ap (λ x. length x.bytes) c.index-chunks-at.is)))

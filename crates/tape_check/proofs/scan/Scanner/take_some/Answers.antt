@@ -16,7 +16,7 @@ returns-in_ok-count_token-clause-scanned c = λ s follows.
     let same : formless_of s.mode s.pending (get_or bytes 0 0) ≡ formless_of s.mode s.pending (get_or (take n bytes) 0 0)
     = ap (formless_of s.mode s.pending) (sym (first_taken n bytes c.next.ensures.some)) in
     let form = c.formless_with-formless.ensures s.mode s.pending (follows.state ∙ ap Some (sym c.state.ensures.value)) ∙ same in
-    scanned_told c.laws_below.ensures c.args.self.now c.count_formless.new.self c.count_token.new.self c.next.follows.lender-at-none
+    scanned_told c.args.self.now c.count_formless.new.self c.count_token.new.self c.next.follows.lender-at-none
     _ s (take n bytes) _ _ (omega (arith, length-take n bytes)) c.in-Some.is follows
     (c.next.ensures.told s.mode s.pending follows.state) (c.next.ensures.formless s.mode s.pending follows.state)
     c.next.follows.holds-at-none c.mode_after-self.ensures
@@ -30,7 +30,7 @@ returns-in_default-clause-scanned c = λ s follows.
     let same : formless_of s.mode s.pending (get_or bytes 0 0) ≡ formless_of s.mode s.pending (get_or (take n bytes) 0 0)
     = ap (formless_of s.mode s.pending) (sym (first_taken n bytes c.next.ensures.some)) in
     let form = c.formless_with-formless.ensures s.mode s.pending (follows.state ∙ ap Some (sym c.state.ensures.value)) ∙ same in
-    scanned_told c.laws_below.ensures c.args.self.now c.count_formless.new.self c.count_formless.new.self c.next.follows.lender-at-none
+    scanned_told c.args.self.now c.count_formless.new.self c.count_formless.new.self c.next.follows.lender-at-none
     _ s (take n bytes) _ _ (omega (arith, length-take n bytes)) c.in_default.is follows
     (c.next.ensures.told s.mode s.pending follows.state) (c.next.ensures.formless s.mode s.pending follows.state)
     c.next.follows.holds-at-none refl

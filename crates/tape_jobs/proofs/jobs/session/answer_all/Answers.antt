@@ -6,6 +6,7 @@ use Rattle.tape_core.proofs.GaveLemmas.{gave_join, took_gave}
 use Rattle.tape_core.specs.Text.{lines_of}
 use Rattle.tape_jobs.specs.Requests.{course_of}
 use Rattle.tape_jobs.specs.declared.job.JobFault.TheVariants.{File}
+use Rattle.tape_jobs.proofs.JobLemmas.{stops_first, stops_second}
 use Rattle.tape_jobs.proofs.SessionLemmas.{answered_all, answered_more, answers_left, nothing_answered, refused_all}
 use Rattle.tape_jobs.proofs.jobs.session.answer_all.Goals as goal
 
@@ -25,7 +26,7 @@ returns-in_err-is_refused-clause-puts g c =
     let p = err_from_is_err_and c.from_residual.result c.from_residual.ensures.1 in
     let before = c.loop-rest.invariant in
     rw (p.1, p.2, answers_left (lines_of c.next_line.result.1.now) c.next_line.result.0.now before c.next_line.ensures.lines)
-    (c.stops_join.ensures.in_second _ _ _ before.text _ _ (c.stops_join.ensures.in_first _ _ _ _ _ c.in_err-is_refused.ensures.gives) before.took)
+    (stops_second g.O.Write.contents _ _ _ before.text _ _ (stops_first g.O.Write.contents _ _ _ _ _ c.in_err-is_refused.ensures.gives) before.took)
 
 pub returns-in_err-ask-clause-puts : goal.returns-in_err-ask-clause-puts
 returns-in_err-ask-clause-puts g c =
@@ -33,7 +34,7 @@ returns-in_err-ask-clause-puts g c =
     let before = c.loop-rest.invariant in
     let stopped = c.in_err-ask.ensures.puts _ _ (gave_join _ _ _ _ before.text _ (took_gave _ _ _ _ c.requires before.took) c.in_ok-is_refused.ensures.gives) in
     rw (p.1, p.2, answers_left (lines_of c.next_line.result.1.now) c.next_line.result.0.now before c.next_line.ensures.lines, ← append_assoc)
-    (c.stops_join.ensures.in_first _ _ _ _ _ (inr (ap File stopped.0, stopped.1)))
+    (stops_first g.O.Write.contents _ _ _ _ _ (inr (ap File stopped.0, stopped.1)))
 
 pub returns-clause-puts : goal.returns-clause-puts
 returns-clause-puts g c =

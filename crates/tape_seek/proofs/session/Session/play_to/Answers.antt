@@ -1,6 +1,7 @@
 use Rattle.std.proofs.Common.{◌≡◌, refl, sym, ap, subst, ◌∙◌}
 use Rattle.tape_core.specs.Due.{due, due_count, first}
 use Rattle.tape_core.specs.Tape.{Tape}
+use Rattle.tape_core.proofs.DueLemmas.{due_first}
 use Rattle.tape_seek.specs.Edits.{edited_all}
 use Rattle.tape_seek.specs.Marks.{fed_by}
 use Rattle.tape_seek.specs.Played.{TellsBytes}
@@ -18,7 +19,7 @@ returns g c =
     let went = c.in_ok-seek.ensures in
     let plays = went.rest.profile ∙ ap (λ s. s.profile) c.self.view_is in
     let is_due : count ≡ due_count old.recording.chunks moment = c.due_count-count.ensures.count ∙ ap (λ s. due_count s.recording.chunks moment) c.self.view_is in
-    let bytes : due old.recording.chunks moment ≡ first old.recording.chunks count = c.due_is_first.ensures old.recording.chunks moment ∙ ap (first old.recording.chunks) (sym is_due) in
+    let bytes : due old.recording.chunks moment ≡ first old.recording.chunks count = due_first old.recording.chunks moment ∙ ap (first old.recording.chunks) (sym is_due) in
     let tells : TellsBytes g.T.Plays old.profile c.seek.new.self.working c.sent_by.result.now (due old.recording.chunks moment) = record {
       shows = subst (g.T.Plays.shows old.profile c.seek.new.self.working) (sym bytes) (shows_up_to g.T.Plays old.profile chunks old.recording c.seek.new.self count plays same went.replay (ap (λ m. m.head) went.ok));
       sent = reports_up_to g.T.Plays old.profile c.seek.new.self.profile chunks old.recording c.sent_by.result.now count plays same (c.sent_by.ensures chunks went.replay) ∙ ap (g.T.Plays.sent old.profile) (sym bytes);

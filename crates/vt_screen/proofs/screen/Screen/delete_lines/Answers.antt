@@ -1,4 +1,4 @@
-use Rattle.std.proofs.Common.{◌≡◌, ℕ, ◌+◌, ◌-◌, false, min, ap, subst, sym, ◌∙◌, arith, Bool, true, List}
+use Rattle.std.proofs.Common.{◌≡◌, ℕ, ◌+◌, ◌-◌, false, min, ap, subst, sym, ◌∙◌, arith, Bool, true}
 use Rattle.std.proofs.lemmas.Bool.Decides.{nat_tests}
 use Rattle.vt_screen.specs.Picture.{Sound, Picture}
 use Rattle.vt_screen.specs.Scrolls.{lines_deleted, is_in_region, scrolled_up}
@@ -8,7 +8,6 @@ use Rattle.vt_screen.proofs.Blanked.{Filled, slots_freed}
 use Rattle.vt_screen.proofs.Scrolled.{region_moved, in_region, up_by}
 use Rattle.vt_screen.proofs.Soundness.{sound_lines_deleted}
 use Rattle.vt_screen.proofs.Told.{up_told}
-use Rattle.vt_screen.specs.declared.cell.Row.{Row}
 use Rattle.vt_screen.specs.Moves.{moved_to_left}
 use Rattle.std.specs.Prelude.{if◌then◌else◌}
 use Rattle.vt_screen.proofs.screen.Screen.delete_lines.Goals as goal

@@ -2,6 +2,7 @@ use Rattle.std.proofs.Common.{◌≡◌, ℕ, ◌+◌, List, take, refl, sym, su
 use Rattle.std.proofs.lemmas.Bool.{false≢true}
 use Rattle.std.proofs.lemmas.List.{take_rest}
 use Rattle.plays.specs.Sink.{after_sending, HasRoom}
+use Rattle.plays.proofs.Sinks.{sends_nothing, keeps_itself, keeps_trans, keeps_length}
 use Rattle.vt_term.specs.Term.{play, sent}
 use Rattle.vt_term.specs.Seen.{Shows}
 use Rattle.vt_term.proofs.Feeding.{play_on, sink_on, room_on, left_on}
@@ -14,9 +15,9 @@ loop-rest-init c = record {
     at = 0;
     left = refl;
     shows = λ x shows. shows;
-    sent = λ x shows. sym (c.sending_adds_up.ensures.nothing c.args.sink.now);
+    sent = λ x shows. sym (sends_nothing c.args.sink.now);
   };
-  front = c.the_front_stays.ensures.nothing c.args.sink.now;
+  front = keeps_itself c.args.sink.now;
   told = λ before told. told;
 }
 
@@ -34,11 +35,11 @@ loop-rest-preserved c =
             (subst (λ (l : List ℕ). Shows c.take_some.new.self (play (play x (take fed.at bytes)) (take n l))) fed.left
             (c.in_ok-taken.ensures.shows (play x (take fed.at bytes)) (fed.shows x shows)));
         sent = λ x shows.
-            sink_on c.sending_adds_up.ensures.joined x bytes fed.at n c.args.sink.now c.loop-rest.sink c.take_some.new.sink (fed.sent x shows)
+            sink_on x bytes fed.at n c.args.sink.now c.loop-rest.sink c.take_some.new.sink (fed.sent x shows)
             (subst (λ (l : List ℕ). c.take_some.new.sink ≡ after_sending c.loop-rest.sink (sent (play x (take fed.at bytes)) (take n l))) fed.left
             (c.in_ok-taken.ensures.sent (play x (take fed.at bytes)) (fed.shows x shows)));
       };
-      front = c.the_front_stays.ensures.twice c.args.sink.now c.loop-rest.sink c.take_some.new.sink c.loop-rest.invariant.front c.take_some.ensures.front;
+      front = keeps_trans c.args.sink.now c.loop-rest.sink c.take_some.new.sink c.loop-rest.invariant.front c.take_some.ensures.front;
       told = λ before told. c.take_some.ensures.told before (c.loop-rest.invariant.told before told);
     }
 
@@ -48,7 +49,7 @@ returns-in_err-taken-clause-room c x shows room =
     absurd (false≢true (c.in_err-taken.ensures.room (play x (take fed.at c.args.bytes.now)) (fed.shows x shows)
     (subst (λ (l : List ℕ). HasRoom c.loop-rest.sink (sent (play x (take fed.at c.args.bytes.now)) l)) (sym fed.left)
     (room_on x c.args.bytes.now fed.at c.args.sink.now c.loop-rest.sink (fed.sent x shows)
-    (c.the_front_stays.ensures.length c.args.sink.now c.loop-rest.sink c.loop-rest.invariant.front) room))))
+    (keeps_length c.args.sink.now c.loop-rest.sink c.loop-rest.invariant.front) room))))
 
 pub returns-in_err-taken-clause-front : goal.returns-in_err-taken-clause-front
-returns-in_err-taken-clause-front c = c.the_front_stays.ensures.twice c.args.sink.now c.loop-rest.sink c.take_some.new.sink c.loop-rest.invariant.front c.take_some.ensures.front
+returns-in_err-taken-clause-front c = keeps_trans c.args.sink.now c.loop-rest.sink c.take_some.new.sink c.loop-rest.invariant.front c.take_some.ensures.front

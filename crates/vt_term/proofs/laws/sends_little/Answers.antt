@@ -1,5 +1,0 @@
-use Rattle.vt_term.proofs.Bound.{sends_little}
-use Rattle.vt_term.proofs.laws.sends_little.Goals as goal
-
-pub returns : goal.returns
-returns c = sends_little c.laws_below.ensures
