@@ -1,10 +1,10 @@
 -- Texts as they stand in JSON, part by part.
-use Rattle.std.proofs.Common.{◌≡◌, ℕ, zero, suc, ◌^◌, ◌<◌, ◌≤◌, All, Bool, true, false, List, [], ◌∷◌, ◌++◌, append-nil, append_assoc, ap, sym, refl, ◌∙◌, ◌==◌, ◌&&◌, ◌≢◌, arith, codes, decimal, encode_utf8, get_or, inl, inr, length, nat_lt, not, replicate, slice_index}
-use Rattle.std.specs.List.{flat_map}
-use Rattle.std.proofs.lemmas.Bool.{cases_lt}
+use Rattle.std.proofs.Common.{◌≡◌, ℕ, zero, suc, ◌^◌, ◌<◌, ◌≤◌, All, Bool, true, false, List, [], ◌∷◌, ◌++◌, append-nil, append_assoc, ap, sym, refl, ◌∙◌, ◌==◌, ◌&&◌, ◌≢◌, arith, codes, decimal, drop, encode_utf8, get_or, inl, inr, length, nat_lt, not, replicate, slice_index, take}
+use Rattle.std.specs.List.{AllPass, flat_map, list_all}
+use Rattle.std.proofs.lemmas.Bool.{cases_lt, false≢true}
 use Rattle.std.proofs.lemmas.Bool.Decides.{nat_tests}
 use Rattle.std.proofs.lemmas.Fmt.{decimal_is_IsNumeral}
-use Rattle.std.proofs.lemmas.List.{get_or_default}
+use Rattle.std.proofs.lemmas.List.{drop-map, get_or_default, take-map}
 use Rattle.std.proofs.lemmas.List.Concat.{flat_map-append}
 use Rattle.std.proofs.lemmas.List.Elements.{All-get_or, All-head, All-tail}
 use Rattle.std.proofs.lemmas.List.Sums.{AllPass-from_list_all}
@@ -12,11 +12,21 @@ use Rattle.std.proofs.lemmas.Str.{encode_ascii, inside_one}
 use Rattle.std.proofs.lemmas.Str.Parse.{digit_at}
 use Rattle.tape_core.specs.Written.{seconds_form}
 use Rattle.vt_parser.specs.Syntax.{escape}
-use Rattle.vt_screen.specs.Attributes.{plain}
+use Rattle.vt_screen.specs.declared.cell.Cell.{Cell}
+use Rattle.vt_screen.specs.declared.cell.Row.{Row}
+use Rattle.vt_screen.specs.declared.cell.Size.{Size}
+use Rattle.vt_screen.specs.declared.cell.Size.TheVariants.{Single, Double, Top, Bottom}
+use Rattle.vt_screen.specs.Attributes.{Attributes, plain}
+use Rattle.vt_screen.specs.Cells.{is_single}
 use Rattle.screen_print.specs.EscapedText.{placed_text, rendition_set_text}
 use Rattle.screen_rows.specs.Glyphs.{character, special_graphics}
+use Rattle.screen_rows.specs.Texts.{text_where}
+use Rattle.screen_rows.specs.Plain.{glyphs_of, is_plain}
+use Rattle.screen_rows.specs.RowText.{printed}
+use Rattle.screen_rows.specs.declared.runs.Run.{Run}
+use Rattle.screen_rows.specs.Runs.{cells_of}
 use Rattle.screen_cast.specs.Cast.{event_closing, event_line, event_opening}
-use Rattle.screen_cast.specs.Drawn.{row_opening, spaces_text}
+use Rattle.screen_cast.specs.Drawn.{cell_text, row_opening, spaces_text}
 use Rattle.screen_cast.specs.Events.{resize, size_text}
 use Rattle.screen_cast.specs.Json.{json, json_byte}
 
@@ -101,6 +111,41 @@ ascii_glyph_stands glyph low high =
     let is : character glyph ≡ glyph = grind (arith, nat_tests) in
     ap encode_utf8 is ∙ encode_ascii glyph high
 
+is_the_single : (size : Size) → is_single size ≡ true → size ≡ Single
+is_the_single Single is = refl
+is_the_single Double is = absurd (false≢true is)
+is_the_single Top is = absurd (false≢true is)
+is_the_single Bottom is = absurd (false≢true is)
+
+-- a plain glyph is one of these
+plain_stands : (glyph : ℕ) → is_plain glyph ≡ true → json (encode_utf8 (character glyph)) ≡ glyph ∷ []
+plain_stands glyph is =
+    let low : 32 ≤ glyph = grind (arith, nat_tests, is) in
+    let high : glyph < 128 = grind (arith, nat_tests, is) in
+    let mark : glyph ≢ 34 = grind (arith, nat_tests, is) in
+    let slash : glyph ≢ 92 = grind (arith, nat_tests, is) in
+    glyph_stands glyph mark slash ∙ ascii_glyph_stands glyph low high
+
+plain_cells : (cells : List Cell) → AllPass is_plain (glyphs_of cells) → json (flat_map (cell_text Single) cells) ≡ glyphs_of cells
+unfolding json
+plain_cells [] stand = refl
+plain_cells (cell ∷ cells) stand =
+    let here : is_plain cell.glyph ≡ true = All-head (λ g. is_plain g ≡ true) cell.glyph (glyphs_of cells) stand in
+    let rest = All-tail (λ g. is_plain g ≡ true) cell.glyph (glyphs_of cells) stand in
+    flat_map-append json_byte (cell_text Single cell) (flat_map (cell_text Single) cells)
+    ∙ ap (λ t. t ++ json (flat_map (cell_text Single) cells)) (ap json (append-nil (printed cell)) ∙ plain_stands cell.glyph here)
+    ∙ ap (λ t. cell.glyph ∷ t) (plain_cells cells rest)
+
+-- so the characters of a run of them are its glyphs
+pub plain_run : (row : Row) (run : Run) → is_single row.size ≡ true → list_all is_plain (take run.len (drop run.before (glyphs_of row.cells))) ≡ true
+    → json (flat_map (cell_text row.size) (cells_of row run)) ≡ take run.len (drop run.before (glyphs_of row.cells))
+plain_run row run single stand =
+    let glyph : Cell → ℕ = λ cell. cell.glyph in
+    let behind : glyphs_of (cells_of row run) ≡ take run.len (drop run.before (glyphs_of row.cells)) =
+    sym (take-map glyph run.len (drop run.before row.cells)) ∙ ap (take run.len) (sym (drop-map glyph run.before row.cells)) in
+    ap (λ size. json (flat_map (cell_text size) (cells_of row run))) (is_the_single row.size single)
+    ∙ plain_cells (cells_of row run) (AllPass-from_list_all is_plain (glyphs_of (cells_of row run)) (ap (list_all is_plain) behind ∙ stand)) ∙ behind
+
 -- a number stands as it is ..
 pub json_number : (n : ℕ) (rest : List ℕ) → n < 2 ^ 64 → json (decimal n ++ rest) ≡ decimal n ++ json rest
 unfolding json
@@ -115,8 +160,37 @@ json_spaces (suc n) = ap (λ t. 32 ∷ t) (json_spaces n)
 
 -- ---- parts of what is drawn
 
+-- SGR
+abbrev pub rendition_parts : Bool → Bool → Bool → Bool → List ℕ
+rendition_parts bold underscore blink reverse =
+    ((((codes "\\u001b[0" ++ text_where bold (codes ";1")) ++ text_where underscore (codes ";4")) ++ text_where blink (codes ";5"))
+    ++ text_where reverse (codes ";7")) ++ 109 ∷ []
+
+parts_are : (bold underscore blink reverse : Bool) → rendition_parts bold underscore blink reverse
+    ≡ json (rendition_set_text (record { bold = bold; underscore = underscore; blink = blink; reverse = reverse }))
+unfolding json
+parts_are true true true true = refl
+parts_are true true true false = refl
+parts_are true true false true = refl
+parts_are true true false false = refl
+parts_are true false true true = refl
+parts_are true false true false = refl
+parts_are true false false true = refl
+parts_are true false false false = refl
+parts_are false true true true = refl
+parts_are false true true false = refl
+parts_are false true false true = refl
+parts_are false true false false = refl
+parts_are false false true true = refl
+parts_are false false true false = refl
+parts_are false false false true = refl
+parts_are false false false false = refl
+
+pub rendition_is : (a : Attributes) → rendition_parts a.bold a.underscore a.blink a.reverse ≡ json (rendition_set_text a)
+rendition_is a = parts_are a.bold a.underscore a.blink a.reverse
+
 -- how a row begins
-pub opening_is : (line : ℕ) → line < 2 ^ 64 → codes "\\u001b[" ++ (decimal line ++ codes ";1H\\u001b[0m\\u001b[2K") ≡ json (row_opening line)
+pub opening_is : (line : ℕ) → line < 2 ^ 64 → (codes "\\u001b[" ++ decimal line) ++ codes ";1H\\u001b[0m\\u001b[2K" ≡ json (row_opening line)
 unfolding json
 opening_is line small =
     let number = decimal line in
@@ -129,7 +203,7 @@ opening_is line small =
 
 -- a place
 pub place_is : (line column : ℕ) → line < 2 ^ 64 → column < 2 ^ 64
-    → codes "\\u001b[" ++ (decimal line ++ (codes ";" ++ (decimal column ++ codes "H"))) ≡ json (placed_text line column)
+    → (((codes "\\u001b[" ++ decimal line) ++ 59 ∷ []) ++ decimal column) ++ 72 ∷ [] ≡ json (placed_text line column)
 unfolding json
 place_is line column small short =
     let between : List ℕ = codes ";" in
@@ -137,7 +211,7 @@ place_is line column small short =
     let parts : decimal line ++ between ++ decimal column ++ closes ≡ decimal line ++ (between ++ (decimal column ++ closes)) =
     append_assoc (decimal line ++ between) (decimal column) closes ∙ append_assoc (decimal line) between (decimal column ++ closes) in
     ap (λ t. codes "\\u001b[" ++ t)
-    (sym (ap json parts ∙ json_number line (between ++ (decimal column ++ closes)) small ∙ ap (λ t. decimal line ++ (between ++ t)) (json_number column closes short)))
+    (parts ∙ sym (ap json parts ∙ json_number line (between ++ (decimal column ++ closes)) small ∙ ap (λ t. decimal line ++ (between ++ t)) (json_number column closes short)))
 
 -- the ground of a reversed screen
 pub spaces_are : (count : ℕ) → codes "\\u001b[0;7m" ++ replicate count 32 ≡ json (spaces_text count)

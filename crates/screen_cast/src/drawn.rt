@@ -2,7 +2,7 @@
 
 ghost use Rattle.std.specs.Prelude.{◌≡◌, ◌≤◌, ◌-◌, All, length, replicate};
 ghost use Rattle.std.specs.List.{flat_map};
-ghost use Rattle.tape_core.specs.Devices.{Gave};
+ghost use Rattle.held.specs.Held.{Wrote};
 ghost use Rattle.vt_screen.specs.Attributes.{plain};
 ghost use Rattle.screen_print.specs.EscapedText.{placed_text, rendition_set_text};
 ghost use Rattle.screen_rows.specs.Ink.{inked};
@@ -22,13 +22,12 @@ ghost use Rattle.screen_cast.specs.Drawn.{
 ghost use Rattle.screen_cast.specs.Json.{json};
 ghost use Rattle.screen_cast.specs.Parts.{line_part, row_front, row_part, row_rest};
 
-use crate::runs::{RUN_BYTES, put_runs};
+use crate::runs::put_runs;
 use arrayvec::ArrayVec;
-use itoa::Buffer;
-use screen_rows::{inked, push_bytes, runs_of};
+use held::{HELD, put, put_byte, put_number};
+use screen_rows::inked;
 use std::io::Write;
 use tape_core::Watched;
-use tape_core::laws::gives_join;
 use vt_screen::limits::{LINES, WIDE_COLUMNS};
 use vt_screen::{Row, Screen, Size};
 use vt_term::Terminal;
@@ -37,26 +36,33 @@ use vt_term::Terminal;
 const SPACES: [u8; WIDE_COLUMNS as usize] = [b' '; WIDE_COLUMNS as usize];
 
 /// Writes these lines of a screen, and its cursor.
-pub(crate) fn put_drawn<W: Write>(terminal: &Terminal, lines: &[u8], writer: &mut Watched<W>)
+pub(crate) fn put_drawn<W: Write>(
+    terminal: &Terminal,
+    lines: &[u8],
+    held: &mut ArrayVec<u8, HELD>,
+    writer: &mut Watched<W>,
+)
     requires lines { All (λ line. (1 ≤ line) × (line ≤ LINES)) lines.now }
-    ensures { Gave W.contents writer.old writer.new
+    ensures { Wrote W.contents writer.old held.old.items writer.new held.new.items
         (json (drawn_text (still_of terminal.now.console) lines.now)) }
 {
-    gives_join::<W>();
-    put_lines(terminal, lines, writer);
-    put_cursor(terminal.screen(), writer);
+    put_lines(terminal, lines, held, writer);
+    put_cursor(terminal.screen(), held, writer);
 }
 
 /// Writes these lines.
-fn put_lines<W: Write>(terminal: &Terminal, lines: &[u8], writer: &mut Watched<W>)
+fn put_lines<W: Write>(
+    terminal: &Terminal,
+    lines: &[u8],
+    held: &mut ArrayVec<u8, HELD>,
+    writer: &mut Watched<W>,
+)
     requires lines { All (λ line. (1 ≤ line) × (line ≤ LINES)) lines.now }
-    ensures { Gave W.contents writer.old writer.new
+    ensures { Wrote W.contents writer.old held.old.items writer.new held.new.items
         (flat_map (line_part (still_of terminal.now.console)) lines.now) }
 {
-    gives_join::<W>();
-    let mut text = ArrayVec::new();
     for line in lines {
-        put_line(terminal, *line, &mut text, writer);
+        put_line(terminal, *line, held, writer);
     }
 }
 
@@ -65,12 +71,12 @@ fn put_lines<W: Write>(terminal: &Terminal, lines: &[u8], writer: &mut Watched<W
 fn put_line<W: Write>(
     terminal: &Terminal,
     line: u8,
-    text: &mut ArrayVec<u8, RUN_BYTES>,
+    held: &mut ArrayVec<u8, HELD>,
     writer: &mut Watched<W>,
 )
     requires low { 1 ≤ line }
     requires high { line ≤ LINES }
-    ensures { Gave W.contents writer.old writer.new
+    ensures { Wrote W.contents writer.old held.old.items writer.new held.new.items
         (line_part (still_of terminal.now.console) line) }
 {
     let screen = terminal.screen();
@@ -78,7 +84,7 @@ fn put_line<W: Write>(
         width: screen.columns(),
         reversed: terminal.modes().reverse_screen,
     };
-    put_row(ground, line, screen.row(line), text, writer);
+    put_row(ground, line, screen.row(line), held, writer);
 }
 
 /// What rows stand on: a screen of so many columns, and whether it is reversed.
@@ -93,17 +99,16 @@ fn put_row<W: Write>(
     ground: Ground,
     line: u8,
     row: &Row,
-    text: &mut ArrayVec<u8, RUN_BYTES>,
+    held: &mut ArrayVec<u8, HELD>,
     writer: &mut Watched<W>,
 )
     requires width { ground.width ≤ WIDE_COLUMNS }
     requires whole { length row.now.cells ≡ WIDE_COLUMNS }
-    ensures { Gave W.contents writer.old writer.new
+    ensures { Wrote W.contents writer.old held.old.items writer.new held.new.items
         (row_part ground.width ground.reversed line row.now) }
 {
-    gives_join::<W>();
-    put_front(ground.reversed, line, row, text, writer);
-    put_rest(ground, row, writer);
+    put_front(ground.reversed, line, row, held, writer);
+    put_rest(ground, row, held, writer);
 }
 
 /// Writes a row to its last run.
@@ -112,71 +117,85 @@ fn put_front<W: Write>(
     reversed: bool,
     line: u8,
     row: &Row,
-    text: &mut ArrayVec<u8, RUN_BYTES>,
+    held: &mut ArrayVec<u8, HELD>,
     writer: &mut Watched<W>,
 )
     requires whole { length row.now.cells ≡ WIDE_COLUMNS }
-    ensures { Gave W.contents writer.old writer.new (row_front reversed line row.now) }
+    ensures { Wrote W.contents writer.old held.old.items writer.new held.new.items
+        (row_front reversed line row.now) }
 {
-    gives_join::<W>();
-    put_opening(line, text, writer);
-    put_runs(reversed, row, runs_of(row).as_slice(), text, writer);
+    put_opening(line, held, writer);
+    put_runs(reversed, row, held, writer);
 }
 
 /// Writes what stands behind a row's last run.
 #[tactic(auto, unfolding(crate::specs::Parts::row_rest))]
-fn put_rest<W: Write>(ground: Ground, row: &Row, writer: &mut Watched<W>)
+fn put_rest<W: Write>(
+    ground: Ground,
+    row: &Row,
+    held: &mut ArrayVec<u8, HELD>,
+    writer: &mut Watched<W>,
+)
     requires width { ground.width ≤ WIDE_COLUMNS }
     requires whole { length row.now.cells ≡ WIDE_COLUMNS }
-    ensures { Gave W.contents writer.old writer.new
+    ensures { Wrote W.contents writer.old held.old.items writer.new held.new.items
         (row_rest ground.width ground.reversed row.now) }
 {
-    gives_join::<W>();
-    put_ground(ground, row, writer);
-    put_closing(writer);
+    put_ground(ground, row, held, writer);
+    put_closing(held, writer);
 }
 
 /// Writes how a row ends: no rendition.
 #[tactic(auto, unfolding(crate::specs::Json::json))]
-fn put_closing<W: Write>(writer: &mut Watched<W>)
-    ensures { Gave W.contents writer.old writer.new (json (rendition_set_text plain)) }
+fn put_closing<W: Write>(held: &mut ArrayVec<u8, HELD>, writer: &mut Watched<W>)
+    ensures { Wrote W.contents writer.old held.old.items writer.new held.new.items
+        (json (rendition_set_text plain)) }
 {
-    writer.give(b"\\u001b[0m");
+    put(b"\\u001b[0m", held, writer);
 }
 
 /// Writes how a row begins.
-fn put_opening<W: Write>(line: u8, text: &mut ArrayVec<u8, RUN_BYTES>, writer: &mut Watched<W>)
-    ensures { Gave W.contents writer.old writer.new (json (row_opening line)) }
+fn put_opening<W: Write>(line: u8, held: &mut ArrayVec<u8, HELD>, writer: &mut Watched<W>)
+    ensures { Wrote W.contents writer.old held.old.items writer.new held.new.items
+        (json (row_opening line)) }
 {
-    text.clear();
-    push_bytes(text, b"\\u001b[");
-    push_bytes(text, Buffer::new().format(line).as_bytes());
-    push_bytes(text, b";1H\\u001b[0m\\u001b[2K");
-    writer.give(text.as_slice());
+    put(b"\\u001b[", held, writer);
+    put_number(usize::from(line), held, writer);
+    put(b";1H\\u001b[0m\\u001b[2K", held, writer);
 }
 
 /// Writes the ground right of a row's inked cells, where the screen is reversed.
 #[tactic(auto, unfolding(crate::specs::Json::json))]
-fn put_ground<W: Write>(ground: Ground, row: &Row, writer: &mut Watched<W>)
+fn put_ground<W: Write>(
+    ground: Ground,
+    row: &Row,
+    held: &mut ArrayVec<u8, HELD>,
+    writer: &mut Watched<W>,
+)
     requires width { ground.width ≤ WIDE_COLUMNS }
     requires whole { length row.now.cells ≡ WIDE_COLUMNS }
-    ensures { Gave W.contents writer.old writer.new
+    ensures { Wrote W.contents writer.old held.old.items writer.new held.new.items
         (json (text_where ground.reversed (ground_text ground.width row.now))) }
 {
-    gives_join::<W>();
     if !ground.reversed {
         return;
     }
     let taken = columns_taken(row.size, inked(&row.cells).len());
-    put_spaces(usize::from(ground.width).saturating_sub(taken), writer);
+    put_spaces(
+        usize::from(ground.width).saturating_sub(taken),
+        held,
+        writer,
+    );
 }
 
 /// Writes so many columns of the ground of a reversed screen.
-fn put_spaces<W: Write>(count: usize, writer: &mut Watched<W>)
+fn put_spaces<W: Write>(count: usize, held: &mut ArrayVec<u8, HELD>, writer: &mut Watched<W>)
     requires few { count ≤ WIDE_COLUMNS }
-    ensures { Gave W.contents writer.old writer.new (json (spaces_text count)) }
+    ensures { Wrote W.contents writer.old held.old.items writer.new held.new.items
+        (json (spaces_text count)) }
 {
-    writer.give_all(&[b"\\u001b[0;7m", spaces(count)]);
+    put(b"\\u001b[0;7m", held, writer);
+    put(spaces(count), held, writer);
 }
 
 /// So many spaces.
@@ -196,25 +215,29 @@ fn columns_taken(size: Size, cells: usize) -> usize
 }
 
 /// Writes the cursor.
-fn put_cursor<W: Write>(screen: &Screen, writer: &mut Watched<W>)
-    ensures { let p = screen.now.picture in Gave W.contents writer.old writer.new
+fn put_cursor<W: Write>(screen: &Screen, held: &mut ArrayVec<u8, HELD>, writer: &mut Watched<W>)
+    ensures { let p = screen.now.picture in Wrote W.contents writer.old held.old.items writer.new held.new.items
         (json (cursor_text p.rows p.line p.column)) }
 {
     let (line, column) = screen.cursor();
-    put_place(line, column_in(screen.row(line).size, column), writer);
+    put_place(line, column_in(screen.row(line).size, column), held, writer);
 }
 
 /// Writes a place.
-fn put_place<W: Write>(line: u8, column: u16, writer: &mut Watched<W>)
-    ensures { Gave W.contents writer.old writer.new (json (placed_text line column)) }
+fn put_place<W: Write>(
+    line: u8,
+    column: u16,
+    held: &mut ArrayVec<u8, HELD>,
+    writer: &mut Watched<W>,
+)
+    ensures { Wrote W.contents writer.old held.old.items writer.new held.new.items
+        (json (placed_text line column)) }
 {
-    writer.give_all(&[
-        b"\\u001b[",
-        Buffer::new().format(line).as_bytes(),
-        b";",
-        Buffer::new().format(column).as_bytes(),
-        b"H",
-    ]);
+    put(b"\\u001b[", held, writer);
+    put_number(usize::from(line), held, writer);
+    put_byte(b';', held, writer);
+    put_number(usize::from(column), held, writer);
+    put_byte(b'H', held, writer);
 }
 
 /// The column that a column of a line of this size begins at.

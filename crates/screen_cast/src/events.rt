@@ -3,6 +3,7 @@
 ghost use Rattle.std.specs.Prelude.{◌≡◌, ◌≤◌, ◌++◌, All};
 ghost use Rattle.std.specs.List.{flat_map};
 ghost use Rattle.tape_core.specs.Devices.{Gave};
+ghost use Rattle.held.specs.Held.{Wrote};
 ghost use Rattle.screen_rows.specs.SameRows.{changed_lines};
 ghost use Rattle.screen_print.specs.Stills.{still_of};
 ghost use Rattle.screen_cast.specs.Cast.{event_closing, event_line, event_opening};
@@ -19,6 +20,8 @@ ghost use Rattle.screen_cast.specs.Events.{
 };
 
 use crate::drawn::put_drawn;
+use arrayvec::ArrayVec;
+use held::{HELD, let_out, put, put_byte};
 use screen_print::{ChunkPrinter, Still};
 use std::io::Write;
 use tape_core::laws::gives_join;
@@ -155,23 +158,28 @@ fn put_drawing<W: Write>(due: u64, after: &Terminal, lines: &[u8], writer: &mut 
         (event_line (output due (drawn_text (still_of after.now.console) lines.now))) }
 {
     gives_join::<W>();
-    put_opening(due, writer);
-    put_drawn(after, lines, writer);
-    put_closing(writer);
+    let mut held = ArrayVec::new();
+    put_opening(due, &mut held, writer);
+    put_drawn(after, lines, &mut held, writer);
+    put_closing(&mut held, writer);
+    let_out(&mut held, writer);
 }
 
 /// Writes how an event that draws begins.
 #[tactic(auto, unfolding(crate::specs::Cast::event_opening))]
-fn put_opening<W: Write>(due: u64, writer: &mut Watched<W>)
-    ensures { Gave W.contents writer.old writer.new (event_opening due Output) }
+fn put_opening<W: Write>(due: u64, held: &mut ArrayVec<u8, HELD>, writer: &mut Watched<W>)
+    ensures { Wrote W.contents writer.old held.old.items writer.new held.new.items
+        (event_opening due Output) }
 {
-    writer.give_all(&[b"[", seconds_text(due).as_bytes(), b", \"o\", \""]);
+    put_byte(b'[', held, writer);
+    put(seconds_text(due).as_bytes(), held, writer);
+    put(b", \"o\", \"", held, writer);
 }
 
 /// Writes how an event ends.
 #[tactic(auto, unfolding(crate::specs::Cast::event_closing))]
-fn put_closing<W: Write>(writer: &mut Watched<W>)
-    ensures { Gave W.contents writer.old writer.new event_closing }
+fn put_closing<W: Write>(held: &mut ArrayVec<u8, HELD>, writer: &mut Watched<W>)
+    ensures { Wrote W.contents writer.old held.old.items writer.new held.new.items event_closing }
 {
-    writer.give(b"\"]\n");
+    put(b"\"]\n", held, writer);
 }

@@ -1,106 +1,159 @@
 //! Runs of a row, written as they stand in a string of JSON.
 
-ghost use Rattle.std.specs.Prelude.{◌≡◌, ◌≤◌, ◌++◌, ◌+◌, ◌*◌, All, length};
+ghost use Rattle.std.specs.Prelude.{◌≡◌, length};
 ghost use Rattle.std.specs.List.{flat_map};
-ghost use Rattle.tape_core.specs.Devices.{Gave};
+ghost use Rattle.held.specs.Held.{Wrote};
 ghost use Rattle.screen_print.specs.EscapedText.{rendition_set_text};
-ghost use Rattle.screen_rows.specs.Runs.{IsRun};
-ghost use Rattle.screen_cast.specs.Drawn.{attributes_in, cell_text};
+ghost use Rattle.screen_rows.specs.Plain.{glyphs_of};
+ghost use Rattle.screen_rows.specs.Runs.{IsRun, cells_of, runs_of};
+ghost use Rattle.screen_rows.specs.Texts.{text_where};
+ghost use Rattle.screen_cast.specs.Drawn.{attributes_in, cell_text, is_either};
 ghost use Rattle.screen_cast.specs.Json.{json};
 ghost use Rattle.screen_cast.specs.Parts.{run_part};
 
-use crate::json::{GLYPH_BYTES, push_glyph};
+use crate::json::put_glyph;
 use arrayvec::ArrayVec;
-use screen_rows::{Kind, Run, cells_of, push_bytes, push_bytes_where};
+use held::{HELD, put, put_byte};
+use screen_rows::{CELLS, Kind, Run, are_plain, cells_of, glyphs_of, glyphs_of_run, inked, run_at};
 use std::io::Write;
 use tape_core::Watched;
-use tape_core::laws::gives_join;
 use vt_screen::limits::WIDE_COLUMNS;
 use vt_screen::{Cell, Row, Size};
 
-/// How many bytes SGR takes at most.
-const RENDITION_BYTES: usize = 17;
-
-/// How many bytes a cell takes at most: its glyph's, and a space.
-const CELL_BYTES: usize = GLYPH_BYTES + 1;
-
-/// How many bytes a run takes at most: SGR, and each of 132 cells.
-pub(crate) const RUN_BYTES: usize = 545;
-
-/// Writes runs of a row, each made in the text.
+/// Writes the runs of a row.
 pub(crate) fn put_runs<W: Write>(
     reversed: bool,
     row: &Row,
-    runs: &[Run],
-    text: &mut ArrayVec<u8, RUN_BYTES>,
+    held: &mut ArrayVec<u8, HELD>,
     writer: &mut Watched<W>,
 )
     requires whole { length row.now.cells ≡ WIDE_COLUMNS }
-    requires runs { All IsRun runs.now }
-    ensures { Gave W.contents writer.old writer.new
-        (flat_map (run_part reversed row.now) runs.now) }
+    ensures { Wrote W.contents writer.old held.old.items writer.new held.new.items
+        (flat_map (run_part reversed row.now) (runs_of row.now)) }
 {
-    gives_join::<W>();
-    for run in runs {
-        put_run(reversed, row, *run, text, writer);
+    let glyphs = glyphs_of(row);
+    let cells = inked(&row.cells);
+    let mut before = 0;
+    while before < cells.len() {
+        let run = run_at(cells, before);
+        put_run(reversed, row, &glyphs, run, held, writer);
+        before += usize::from(run.len);
     }
 }
 
-/// Writes a run, made in the text: SGR, and its characters.
+/// Writes a run of a row, of which the glyphs are known: SGR, and its characters.
 #[tactic(auto, unfolding(crate::specs::Json::json))]
 fn put_run<W: Write>(
     reversed: bool,
     row: &Row,
+    glyphs: &[u8; CELLS],
     run: Run,
-    text: &mut ArrayVec<u8, RUN_BYTES>,
+    held: &mut ArrayVec<u8, HELD>,
     writer: &mut Watched<W>,
 )
     requires whole { length row.now.cells ≡ WIDE_COLUMNS }
+    requires glyphs { glyphs.now ≡ glyphs_of row.now.cells }
     requires run { IsRun run }
-    ensures { Gave W.contents writer.old writer.new (run_part reversed row.now run) }
+    ensures { Wrote W.contents writer.old held.old.items writer.new held.new.items
+        (run_part reversed row.now run) }
 {
-    text.clear();
-    push_rendition(text, reversed, run.kind);
-    push_cells(text, row.size, cells_of(row, run));
-    writer.give(text.as_slice());
+    put_rendition(reversed, run.kind, held, writer);
+    put_text(row, glyphs, run, held, writer);
 }
 
-/// Puts SGR behind a text.
+/// Writes SGR.
 #[tactic(auto, unfolding(crate::specs::Json::json))]
-fn push_rendition(text: &mut ArrayVec<u8, RUN_BYTES>, reversed: bool, kind: Kind)
-    requires room { length text.old.items + RENDITION_BYTES ≤ RUN_BYTES }
-    ensures text { text.new.items
-        ≡ text.old.items ++ json (rendition_set_text (attributes_in reversed kind)) }
-    ensures short { length text.new.items ≤ length text.old.items + RENDITION_BYTES }
+fn put_rendition<W: Write>(
+    reversed: bool,
+    kind: Kind,
+    held: &mut ArrayVec<u8, HELD>,
+    writer: &mut Watched<W>,
+)
+    ensures { Wrote W.contents writer.old held.old.items writer.new held.new.items
+        (json (rendition_set_text (attributes_in reversed kind))) }
 {
-    push_bytes(text, b"\\u001b[0");
-    push_bytes_where(text, kind.bold, b";1");
-    push_bytes_where(text, kind.underscore, b";4");
-    push_bytes_where(text, kind.blink, b";5");
-    push_bytes_where(text, kind.reverse != reversed, b";7");
-    text.push(b'm');
+    put(b"\\u001b[0", held, writer);
+    put_where(kind.bold, b";1", held, writer);
+    put_where(kind.underscore, b";4", held, writer);
+    put_where(kind.blink, b";5", held, writer);
+    put_where(is_either(reversed, kind.reverse), b";7", held, writer);
+    put_byte(b'm', held, writer);
 }
 
-/// Puts the characters of cells on a line of this size behind a text.
-#[tactic(auto, unfolding(crate::specs::Json::json))]
-fn push_cells(text: &mut ArrayVec<u8, RUN_BYTES>, size: Size, cells: &[Cell])
-    requires { length text.old.items + CELL_BYTES * length cells.now ≤ RUN_BYTES }
-    ensures { text.new.items ≡ text.old.items ++ json (flat_map (cell_text size) cells.now) }
+/// Whether one of two is so, and not both.
+fn is_either(one: bool, other: bool) -> bool
+    ensures { result ≡ is_either one other }
 {
-    for cell in cells {
-        push_cell(text, size, *cell);
+    one != other
+}
+
+/// Writes bytes, or none.
+fn put_where<W: Write>(
+    holds: bool,
+    bytes: &[u8],
+    held: &mut ArrayVec<u8, HELD>,
+    writer: &mut Watched<W>,
+)
+    ensures { Wrote W.contents writer.old held.old.items writer.new held.new.items
+        (text_where holds bytes.now) }
+{
+    if holds {
+        put(bytes, held, writer);
     }
 }
 
-/// Puts the character of a cell behind a text, and a space behind it on the double sizes.
+/// Writes the characters of a run: at once where each stands for itself.
 #[tactic(auto, unfolding(crate::specs::Json::json))]
-fn push_cell(text: &mut ArrayVec<u8, RUN_BYTES>, size: Size, cell: Cell)
-    requires room { length text.old.items + CELL_BYTES ≤ RUN_BYTES }
-    ensures text { text.new.items ≡ text.old.items ++ json (cell_text size cell) }
-    ensures short { length text.new.items ≤ length text.old.items + CELL_BYTES }
+fn put_text<W: Write>(
+    row: &Row,
+    glyphs: &[u8; CELLS],
+    run: Run,
+    held: &mut ArrayVec<u8, HELD>,
+    writer: &mut Watched<W>,
+)
+    requires whole { length row.now.cells ≡ WIDE_COLUMNS }
+    requires glyphs { glyphs.now ≡ glyphs_of row.now.cells }
+    requires run { IsRun run }
+    ensures { Wrote W.contents writer.old held.old.items writer.new held.new.items
+        (json (flat_map (cell_text row.now.size) (cells_of row.now run))) }
 {
-    push_glyph(text, cell.glyph);
+    let bytes = glyphs_of_run(glyphs, run);
+    if row.size.is_single() && are_plain(bytes) {
+        put(bytes, held, writer);
+    } else {
+        put_cells(row.size, cells_of(row, run), held, writer);
+    }
+}
+
+/// Writes the characters of cells on a line of this size.
+#[tactic(auto, unfolding(crate::specs::Json::json))]
+fn put_cells<W: Write>(
+    size: Size,
+    cells: &[Cell],
+    held: &mut ArrayVec<u8, HELD>,
+    writer: &mut Watched<W>,
+)
+    ensures { Wrote W.contents writer.old held.old.items writer.new held.new.items
+        (json (flat_map (cell_text size) cells.now)) }
+{
+    for cell in cells {
+        put_cell(size, *cell, held, writer);
+    }
+}
+
+/// Writes the character of a cell, and a space behind it on the double sizes.
+#[tactic(auto, unfolding(crate::specs::Json::json))]
+fn put_cell<W: Write>(
+    size: Size,
+    cell: Cell,
+    held: &mut ArrayVec<u8, HELD>,
+    writer: &mut Watched<W>,
+)
+    ensures { Wrote W.contents writer.old held.old.items writer.new held.new.items
+        (json (cell_text size cell)) }
+{
+    put_glyph(cell.glyph, held, writer);
     if !size.is_single() {
-        text.push(b' ');
+        put_byte(b' ', held, writer);
     }
 }

@@ -16,7 +16,7 @@ use Rattle.screen_rows.specs.Runs.{runs_of}
 use Rattle.screen_page.specs.Entries.{change_of, entry_at, entry_of, first_entry, first_of, shown, shown_run}
 use Rattle.screen_page.specs.EntryText.{entry_front, entry_text, named_text, next_text, run_text}
 use Rattle.screen_page.specs.Page.{front, page_text, tail}
-use Rattle.screen_page.specs.Parts.{IsLine, chunk_text, closing, first_text, line_text, opening}
+use Rattle.screen_page.specs.Parts.{IsLine, chunk_text, closing, first_text, front_text, line_text, opening}
 
 -- ---- the parts
 
@@ -64,20 +64,12 @@ none_found p a (suc n) fails =
 
 pub entry_is : (due : ℕ) (before after : Still) (lines : List ℕ) → lines ≡ changed_lines before.rows after.rows
     → next_text (entry_of due before after)
-    ≡ (44 ∷ 10 ∷ 91 ∷ entry_front (entry_of due before after)) ++ flat_map (line_text before.rows after.rows) lines ++ 93 ∷ []
+    ≡ (((44 ∷ 10 ∷ 91 ∷ []) ++ front_text due after) ++ flat_map (line_text before.rows after.rows) lines) ++ 93 ∷ []
+unfolding front_text
 entry_is due before after lines is =
     let front = 44 ∷ 10 ∷ 91 ∷ entry_front (entry_of due before after) in
     ap (λ l. front ++ l ++ 93 ∷ [])
     (flat_map-map named_text (change_of before.rows after.rows) (changed_lines before.rows after.rows) ∙ ap (flat_map (line_text before.rows after.rows)) (sym is))
-
--- a row behind its line's number
-pub row_parts : (number size runs end : List ℕ)
-    → 44 ∷ (number ++ 44 ∷ 91 ∷ ((size ++ runs) ++ end)) ≡ (44 ∷ (number ++ 44 ∷ 91 ∷ size)) ++ runs ++ end
-row_parts number size runs end =
-    ap (λ l. 44 ∷ l) (
-    ap (λ l. number ++ 44 ∷ 91 ∷ l) (append_assoc size runs end)
-    ∙ sym (append_assoc (number ++ 44 ∷ 91 ∷ size) runs end ∙ append_assoc number (44 ∷ 91 ∷ size) (runs ++ end))
-    )
 
 pub runs_told : (row : Row) → flat_map run_text (shown row).runs ≡ flat_map (λ run. run_text (shown_run row run)) (runs_of row)
 unfolding shown

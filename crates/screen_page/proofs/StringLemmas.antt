@@ -1,5 +1,5 @@
 -- Rows that begin differently, and characters as they stand in a string.
-use Rattle.std.proofs.Common.{◌≡◌, ℕ, zero, suc, ◌<◌, ◌≤◌, Bool, true, false, List, [], ◌∷◌, ◌++◌, All, ◌&&◌, length, drop, take, get_or, subst, encode_utf8, refl, ap, sym, ◌∙◌, arith, append-nil, inl, inr}
+use Rattle.std.proofs.Common.{◌≡◌, ℕ, zero, suc, ◌<◌, ◌≤◌, Bool, true, false, List, [], ◌∷◌, ◌++◌, All, ◌&&◌, length, drop, take, get_or, nat_eq, ◌≢◌, subst, encode_utf8, refl, ap, sym, ◌∙◌, arith, append-nil, inl, inr}
 use Rattle.std.specs.Cmp.Lexicographic.{pointwise}
 use Rattle.std.specs.List.{AllPass, flat_map, list_all}
 use Rattle.std.proofs.lemmas.Bool.{cases_Bool, cases_lt}
@@ -14,10 +14,12 @@ use Rattle.vt_screen.specs.declared.cell.Row.{Row}
 use Rattle.screen_rows.specs.Glyphs.{character}
 use Rattle.screen_rows.specs.RowText.{printed}
 use Rattle.screen_rows.specs.SameRows.{same_cell, same_row}
+use Rattle.screen_rows.proofs.SameLemmas.{same_row_decides}
+use Rattle.screen_page.specs.Parts.{four_from}
 use Rattle.screen_rows.specs.declared.runs.Run.{Run}
 use Rattle.screen_rows.specs.Runs.{cells_of}
 use Rattle.screen_page.specs.EntryText.{string_byte}
-use Rattle.screen_page.specs.Plain.{glyphs_of, is_plain}
+use Rattle.screen_rows.specs.Plain.{glyphs_of, is_plain}
 
 -- ---- rows
 
@@ -44,6 +46,14 @@ fronts_apart n one other front is apart = elim (cases_Bool (same_row one other))
       let cells = (parts_true _ (pointwise same_cell one.cells other.cells) t).1 in
       absurd (grind (arith, nat_tests, fronts_same same_cell n one.cells other.cells cells, is, apart))
   | inr f ↦ apart ∙ sym f
+]
+
+-- rows of which four cells come to other numbers aren't either
+pub fours_apart : (one other : Row) (place these those : ℕ) → these ≡ four_from one.cells place → those ≡ four_from other.cells place
+    → these ≢ those → nat_eq these those ≡ same_row one other
+fours_apart one other place these those is are apart = elim (cases_Bool (same_row one other)) [
+  | inl t ↦ absurd (apart (is ∙ ap (λ (row : Row). four_from row.cells place) ((same_row_decides one other).0 t) ∙ sym are))
+  | inr f ↦ grind (arith, nat_tests, apart) ∙ sym f
 ]
 
 -- ---- strings
@@ -97,14 +107,11 @@ plain_cells (cell ∷ cells) plain =
     ∙ ap (λ l. l ++ flat_map string_byte (flat_map printed cells)) (plain_cell cell here)
     ∙ ap (λ l. cell.glyph ∷ l) (plain_cells cells rest)
 
--- so the characters of a run of such a row are its glyphs
-pub plain_run : (row : Row) (run : Run) → list_all is_plain (glyphs_of row.cells) ≡ true
+-- so the characters of a run of them are its glyphs
+pub plain_run : (row : Row) (run : Run) → list_all is_plain (take run.len (drop run.before (glyphs_of row.cells))) ≡ true
     → flat_map string_byte (flat_map printed (cells_of row run)) ≡ take run.len (drop run.before (glyphs_of row.cells))
 plain_run row run plain =
     let glyph : Cell → ℕ = λ cell. cell.glyph in
     let behind : glyphs_of (cells_of row run) ≡ take run.len (drop run.before (glyphs_of row.cells)) =
     sym (take-map glyph run.len (drop run.before row.cells)) ∙ ap (take run.len) (sym (drop-map glyph run.before row.cells)) in
-    let whole = AllPass-from_list_all is_plain (glyphs_of row.cells) plain in
-    let part =
-    All-take (λ g. is_plain g ≡ true) run.len (drop run.before (glyphs_of row.cells)) (All-drop (λ g. is_plain g ≡ true) run.before (glyphs_of row.cells) whole) in
-    plain_cells (cells_of row run) (subst (AllPass is_plain) (sym behind) part) ∙ behind
+    plain_cells (cells_of row run) (AllPass-from_list_all is_plain (glyphs_of (cells_of row run)) (ap (list_all is_plain) behind ∙ plain)) ∙ behind

@@ -4,6 +4,5 @@ pub mod Folded
 pub mod Law
 pub mod Page
 pub mod Parts
-pub mod Plain
 pub mod Reading
 pub mod Title

@@ -2,7 +2,6 @@
 #![tactic(auto)]
 
 mod entry_printer;
-mod glyphs;
 pub mod laws;
 mod page_file;
 mod player;

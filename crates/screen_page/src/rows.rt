@@ -1,51 +1,59 @@
 //! What a line is after a chunk: what another line was before it, or a row.
 
-ghost use Rattle.std.specs.Prelude.{◌≡◌, ◌≤◌, ◌++◌, ◌∷◌, ◌+◌, ◌*◌, All, decimal, encode_utf8, length, false, true};
+ghost use Rattle.std.specs.Prelude.{◌≡◌, ◌+◌, ◌<◌, ◌≤◌, ◌∷◌, encode_utf8, length, false, true};
 ghost use Rattle.std.specs.List.{flat_map};
-ghost use Rattle.tape_core.specs.Devices.{Gave};
+ghost use Rattle.held.specs.Held.{Wrote};
 ghost use Rattle.vt_screen.specs.Cells.{row_at};
 ghost use Rattle.vt_screen.specs.Picture.{SoundRow};
+ghost use Rattle.screen_rows.specs.Plain.{glyphs_of};
 ghost use Rattle.screen_rows.specs.RowText.{printed};
 ghost use Rattle.screen_rows.specs.SameRows.{same_row, size_number};
 ghost use Rattle.screen_rows.specs.Runs.{IsRun, cells_of};
 ghost use Rattle.screen_page.specs.Entries.{line_of, shown, shown_run};
 ghost use Rattle.screen_page.specs.EntryText.{comma_number, row_text, run_text, string_byte};
-ghost use Rattle.screen_page.specs.Parts.{line_text};
-ghost use Rattle.screen_page.specs.Plain.{AreGlyphs};
+ghost use Rattle.screen_page.specs.Parts.{four_from, line_text, two_from};
 
-use crate::glyphs::Glyphs;
 use arrayvec::ArrayVec;
+use held::{HELD, put, put_byte, put_number};
 use screen_print::Still;
 use screen_rows::{
-    Run, cells_of, character, push_bytes, push_number, runs_of, same_first, same_row,
+    CELLS, Run, are_plain, cells_of, character, glyphs_of, glyphs_of_run, inked, run_at,
+    same_first, same_row,
 };
 use std::io::Write;
 use tape_core::Watched;
-use tape_core::laws::gives_join;
 use vt_screen::laws::screens_are_sound;
 use vt_screen::limits::{LINES, WIDE_COLUMNS};
 use vt_screen::{Cell, Row, Screen, Size};
 
-/// How many bytes a run takes at most: a comma, its number, a comma and quotes, and six for each character.
-const RUN_BYTES: usize = 801;
-
-/// How many bytes stand at most before the runs of a line: commas, two numbers of up to five digits, a bracket.
-const LINE_BYTES: usize = 13;
-
 /// How many cells tell most rows apart.
 const FIRST_CELLS: usize = 16;
 
+/// The last place at which four cells are looked at, and how far each is from the one before it.
+const LAST_PLACE: usize = 72;
+
+const PLACES_APART: usize = 8;
+
+/// What four blank cells come to.
+const FOUR_BLANK: u64 = 0x0020_0020_0020_0020;
+
 /// Writes what a line is that a chunk changes.
-pub(crate) fn put_line<W: Write>(before: &Still, screen: &Screen, line: u8, writer: &mut Watched<W>)
+pub(crate) fn put_line<W: Write>(
+    before: &Still,
+    screen: &Screen,
+    line: u8,
+    held: &mut ArrayVec<u8, HELD>,
+    writer: &mut Watched<W>,
+)
     requires low { 1 ≤ line }
     requires high { line ≤ LINES }
-    ensures { Gave W.contents writer.old writer.new
+    ensures { Wrote W.contents writer.old held.old.items writer.new held.new.items
         (line_text before.now.rows screen.now.picture.rows line) }
 {
-    let row = screen.row(line);
+    put_comma_number(usize::from(line), held, writer);
     match line_of(before, screen, line) {
-        Some(other) => put_numbers(line, other, writer),
-        None => put_row(line, row, writer),
+        Some(other) => put_comma_number(usize::from(other), held, writer),
+        None => put_row(screen.row(line), held, writer),
     }
 }
 
@@ -59,62 +67,92 @@ fn line_of(before: &Still, screen: &Screen, line: u8) -> Option<u8>
     screens_are_sound(screen);
     let narrow = !(before.is_wide() || screen.is_wide());
     let row = screen.row(line);
+    let place = telling_place(&row.cells);
+    let four = four_from(&row.cells, place);
     for other in 1..LINES + 1 {
-        if is_same(before.row(other), row, narrow) {
+        if is_same(before.row(other), row, place, four, narrow) {
             return Some(other);
         }
     }
     None
 }
 
-/// Whether two rows are the same, of which most aren't: their first cells are compared first.
-fn is_same(one: &Row, other: &Row, narrow: bool) -> bool
+/// Whether two rows are the same, of which most aren't: four of their cells, known of the second one, are compared first.
+fn is_same(one: &Row, other: &Row, place: usize, four: u64, narrow: bool) -> bool
+    requires within { place + 4 ≤ WIDE_COLUMNS }
+    requires four { four ≡ four_from other.now.cells place }
+    requires sound { narrow ≡ true → SoundRow false one.now × SoundRow false other.now }
+    ensures { result ≡ same_row one.now other.now }
+{
+    four_from(&one.cells, place) == four && is_same_row(one, other, narrow)
+}
+
+/// Whether two rows are the same. Their first cells are compared first. It stands apart, so that the search is short.
+#[inline(never)]
+fn is_same_row(one: &Row, other: &Row, narrow: bool) -> bool
     requires { narrow ≡ true → SoundRow false one.now × SoundRow false other.now }
     ensures { result ≡ same_row one.now other.now }
 {
     same_first::<FIRST_CELLS>(&one.cells, &other.cells) && same_row(one, other, narrow)
 }
 
-/// Writes the number of a line, and of the line that it is.
-fn put_numbers<W: Write>(line: u8, other: u8, writer: &mut Watched<W>)
-    ensures { Gave W.contents writer.old writer.new
-        (comma_number line ++ comma_number other) }
+/// The last of some places at which four cells aren't blank, which tell a row from most others; or the first place.
+fn telling_place(cells: &[Cell; CELLS]) -> usize
+    ensures { result ≤ LAST_PLACE }
 {
-    let mut text = ArrayVec::<u8, LINE_BYTES>::new();
-    text.push(b',');
-    push_number(&mut text, u16::from(line));
-    text.push(b',');
-    push_number(&mut text, u16::from(other));
-    writer.give(text.as_slice());
+    let mut place = LAST_PLACE;
+    while place >= PLACES_APART && four_from(cells, place) == FOUR_BLANK {
+        place -= PLACES_APART;
+    }
+    place
 }
 
-/// Writes the number of a line, and the row that it is.
-fn put_row<W: Write>(line: u8, row: &Row, writer: &mut Watched<W>)
+/// The numbers of four cells as one. They stand side by side in memory, so that they are read at once.
+fn four_from(cells: &[Cell; CELLS], at: usize) -> u64
+    requires { at + 4 ≤ WIDE_COLUMNS }
+    ensures { result ≡ four_from cells.now at }
+{
+    let low = two_from(cells, at);
+    let high = two_from(cells, at + 2);
+    low + 4_294_967_296 * high
+}
+
+/// The numbers of two.
+fn two_from(cells: &[Cell; CELLS], at: usize) -> u64
+    requires { at + 2 ≤ WIDE_COLUMNS }
+    ensures value { result ≡ two_from cells.now at }
+    ensures within { result < 4294967296 }
+{
+    u64::from(cells[at].number()) + 65_536 * u64::from(cells[at + 1].number())
+}
+
+/// Writes a comma and a number.
+pub(crate) fn put_comma_number<W: Write>(
+    number: usize,
+    held: &mut ArrayVec<u8, HELD>,
+    writer: &mut Watched<W>,
+)
+    ensures { Wrote W.contents writer.old held.old.items writer.new held.new.items
+        (comma_number number) }
+{
+    put_byte(b',', held, writer);
+    put_number(number, held, writer);
+}
+
+/// Writes a row behind a comma.
+fn put_row<W: Write>(row: &Row, held: &mut ArrayVec<u8, HELD>, writer: &mut Watched<W>)
     requires whole { length row.now.cells ≡ WIDE_COLUMNS }
-    ensures { Gave W.contents writer.old writer.new
-        (comma_number line ++ 44 ∷ row_text (shown row.now)) }
+    ensures { Wrote W.contents writer.old held.old.items writer.new held.new.items
+        (44 ∷ row_text (shown row.now)) }
 {
-    gives_join::<W>();
-    put_size(line, row.size, writer);
-    put_runs(row, writer);
-    writer.give(b"]");
-}
-
-/// Writes the number of a line, and the size of the row that it is.
-fn put_size<W: Write>(line: u8, size: Size, writer: &mut Watched<W>)
-    ensures { Gave W.contents writer.old writer.new
-        (comma_number line ++ 44 ∷ 91 ∷ decimal (size_number size)) }
-{
-    let mut text = ArrayVec::<u8, LINE_BYTES>::new();
-    text.push(b',');
-    push_number(&mut text, u16::from(line));
-    push_bytes(&mut text, b",[");
-    push_number(&mut text, size_number(size));
-    writer.give(text.as_slice());
+    put(b",[", held, writer);
+    put_number(size_number(row.size), held, writer);
+    put_runs(row, held, writer);
+    put_byte(b']', held, writer);
 }
 
 /// A size as a number.
-fn size_number(size: Size) -> u16
+fn size_number(size: Size) -> usize
     ensures { result ≡ size_number size }
 {
     match size {
@@ -126,108 +164,95 @@ fn size_number(size: Size) -> u16
 }
 
 /// Writes the runs of a row.
-#[tactic(auto, unfolding(crate::specs::Entries::shown))]
-fn put_runs<W: Write>(row: &Row, writer: &mut Watched<W>)
+fn put_runs<W: Write>(row: &Row, held: &mut ArrayVec<u8, HELD>, writer: &mut Watched<W>)
     requires whole { length row.now.cells ≡ WIDE_COLUMNS }
-    ensures { Gave W.contents writer.old writer.new
+    ensures { Wrote W.contents writer.old held.old.items writer.new held.new.items
         (flat_map run_text (shown row.now).runs) }
 {
-    put_each(row, runs_of(row).as_slice(), writer);
-}
-
-/// Writes runs of a row.
-fn put_each<W: Write>(row: &Row, runs: &[Run], writer: &mut Watched<W>)
-    requires whole { length row.now.cells ≡ WIDE_COLUMNS }
-    requires runs { All IsRun runs.now }
-    ensures { Gave W.contents writer.old writer.new
-        (flat_map (λ run. run_text (shown_run row.now run)) runs.now) }
-{
-    gives_join::<W>();
-    let glyphs = Glyphs::of(row);
-    let mut text = ArrayVec::new();
-    for run in runs {
-        put_run(row, &glyphs, *run, &mut text, writer);
+    let glyphs = glyphs_of(row);
+    let cells = inked(&row.cells);
+    let mut before = 0;
+    while before < cells.len() {
+        let run = run_at(cells, before);
+        put_run(row, &glyphs, run, held, writer);
+        before += usize::from(run.len);
     }
 }
 
-/// Writes a run of a row. It is laid out in an array that serves all of them.
+/// Writes a run of a row, of which the glyphs are known.
 fn put_run<W: Write>(
     row: &Row,
-    glyphs: &Glyphs,
+    glyphs: &[u8; CELLS],
     run: Run,
-    text: &mut ArrayVec<u8, RUN_BYTES>,
+    held: &mut ArrayVec<u8, HELD>,
     writer: &mut Watched<W>,
 )
     requires whole { length row.now.cells ≡ WIDE_COLUMNS }
-    requires glyphs { AreGlyphs row.now.cells glyphs.now }
+    requires glyphs { glyphs.now ≡ glyphs_of row.now.cells }
     requires run { IsRun run }
-    ensures { Gave W.contents writer.old writer.new (run_text (shown_run row.now run)) }
+    ensures { Wrote W.contents writer.old held.old.items writer.new held.new.items
+        (run_text (shown_run row.now run)) }
 {
-    text.clear();
-    text.push(b',');
-    push_number(text, u16::from(run.kind.number()));
-    push_bytes(text, b",\"");
-    push_run(text, row, glyphs, run);
-    text.push(b'"');
-    writer.give(text.as_slice());
+    put_comma_number(usize::from(run.kind.number()), held, writer);
+    put(b",\"", held, writer);
+    put_text(row, glyphs, run, held, writer);
+    put_byte(b'"', held, writer);
 }
 
-/// Puts the characters of a run behind a text as they stand in a string.
-fn push_run(text: &mut ArrayVec<u8, RUN_BYTES>, row: &Row, glyphs: &Glyphs, run: Run)
+/// Writes the characters of a run as they stand in a string: at once where each stands for itself.
+fn put_text<W: Write>(
+    row: &Row,
+    glyphs: &[u8; CELLS],
+    run: Run,
+    held: &mut ArrayVec<u8, HELD>,
+    writer: &mut Watched<W>,
+)
     requires whole { length row.now.cells ≡ WIDE_COLUMNS }
-    requires glyphs { AreGlyphs row.now.cells glyphs.now }
+    requires glyphs { glyphs.now ≡ glyphs_of row.now.cells }
     requires run { IsRun run }
-    requires room { length text.old.items + 6 * run.len ≤ RUN_BYTES }
-    ensures text { text.new.items ≡ text.old.items
-        ++ flat_map string_byte (flat_map printed (cells_of row.now run)) }
-    ensures short { length text.new.items ≤ length text.old.items + 6 * run.len }
+    ensures { Wrote W.contents writer.old held.old.items writer.new held.new.items
+        (flat_map string_byte (flat_map printed (cells_of row.now run))) }
 {
-    if glyphs.are_plain {
-        push_bytes(text, glyphs.of_run(run));
+    let bytes = glyphs_of_run(glyphs, run);
+    if are_plain(bytes) {
+        put(bytes, held, writer);
     } else {
-        push_characters(text, cells_of(row, run));
+        put_characters(cells_of(row, run), held, writer);
     }
 }
 
-/// Puts the characters of cells behind a text as they stand in a string.
-fn push_characters(text: &mut ArrayVec<u8, RUN_BYTES>, cells: &[Cell])
-    requires room { length text.old.items + 6 * length cells.now ≤ RUN_BYTES }
-    ensures text { text.new.items
-        ≡ text.old.items ++ flat_map string_byte (flat_map printed cells.now) }
-    ensures short { length text.new.items ≤ length text.old.items + 6 * length cells.now }
+/// Writes the characters of cells as they stand in a string.
+fn put_characters<W: Write>(cells: &[Cell], held: &mut ArrayVec<u8, HELD>, writer: &mut Watched<W>)
+    ensures { Wrote W.contents writer.old held.old.items writer.new held.new.items
+        (flat_map string_byte (flat_map printed cells.now)) }
 {
     for cell in cells {
-        push_character(text, character(cell.glyph));
+        put_character(character(cell.glyph), held, writer);
     }
 }
 
-/// Puts a character behind a text as it stands in a string. Of those that take more than a byte none is escaped.
+/// Writes a character as it stands in a string. Of those that take more than a byte none is escaped.
 #[tactic(auto, using(crate::proofs::StringLemmas::wide_character, crate::proofs::StringLemmas::narrow_character))]
-fn push_character(text: &mut ArrayVec<u8, RUN_BYTES>, character: char)
-    requires three { length (encode_utf8 character) ≤ 3 }
-    requires room { length text.old.items + 6 ≤ RUN_BYTES }
-    ensures text { text.new.items
-        ≡ text.old.items ++ flat_map string_byte (encode_utf8 character) }
-    ensures short { length text.new.items ≤ length text.old.items + 6 }
+fn put_character<W: Write>(character: char, held: &mut ArrayVec<u8, HELD>, writer: &mut Watched<W>)
+    ensures { Wrote W.contents writer.old held.old.items writer.new held.new.items
+        (flat_map string_byte (encode_utf8 character)) }
 {
     if character.is_ascii() {
-        push_byte(text, character as u8);
+        put_escaped(character as u8, held, writer);
     } else {
-        let mut bytes = [0; 4];
-        push_bytes(text, character.encode_utf8(&mut bytes).as_bytes());
+        put(character.encode_utf8(&mut [0; 4]).as_bytes(), held, writer);
     }
 }
 
-/// Puts a byte behind a text as it stands in a string.
-fn push_byte(text: &mut ArrayVec<u8, RUN_BYTES>, byte: u8)
-    requires room { length text.old.items + 6 ≤ RUN_BYTES }
-    ensures text { text.new.items ≡ text.old.items ++ string_byte byte }
-    ensures short { length text.new.items ≤ length text.old.items + 6 }
+/// Writes a byte as it stands in a string.
+fn put_escaped<W: Write>(byte: u8, held: &mut ArrayVec<u8, HELD>, writer: &mut Watched<W>)
+    ensures { Wrote W.contents writer.old held.old.items writer.new held.new.items
+        (string_byte byte) }
 {
     match byte {
-        b'"' => push_bytes(text, b"\\\""),
-        b'\\' => push_bytes(text, b"\\\\"),
-        b'<' => push_bytes(text, b"\\u003c"),
-        _ => text.push(byte),
+        b'"' => put(b"\\\"", held, writer),
+        b'\\' => put(b"\\\\", held, writer),
+        b'<' => put(b"\\u003c", held, writer),
+        _ => put_byte(byte, held, writer),
     }
 }

@@ -1,5 +1,6 @@
+mod BlockLemmas
 mod GlyphLemmas
 pub mod RangeLemmas
 pub mod SameLemmas
 pub mod TextLemmas
-mod RunLemmas
+pub mod RunLemmas

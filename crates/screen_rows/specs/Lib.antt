@@ -5,3 +5,4 @@ pub mod Ink
 pub mod SameRows
 pub mod Outlines
 pub mod Runs
+pub mod Plain

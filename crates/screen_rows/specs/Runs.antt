@@ -1,9 +1,9 @@
 -- The runs of a row: the maximal groups of neighbours of one kind among its inked cells (ours).
-use Rattle.std.specs.Prelude.{ℕ, ◌+◌, ◌-◌, ◌*◌, ◌≤◌, Bool, List, drop, filter, length, map, not, slice_index_or, take, ◌==◌, ◌||◌}
+use Rattle.std.specs.Prelude.{◌≡◌, ℕ, ◌+◌, ◌-◌, ◌*◌, ◌≤◌, Bool, List, drop, filter, length, map, not, slice_index_or, take, ◌==◌, ◌||◌}
 use Rattle.std.specs.List.{prefix_len, range_with_len}
 use Rattle.vt_screen.specs.declared.cell.Cell.{Cell}
 use Rattle.vt_screen.specs.declared.cell.Row.{Row}
-use Rattle.vt_screen.specs.Attributes.{bit}
+use Rattle.vt_screen.specs.Attributes.{Attributes, bit}
 use Rattle.vt_screen.specs.Cells.{blank}
 use Rattle.vt_screen.specs.Limits.{wide_columns}
 use Rattle.screen_rows.specs.Ink.{inked}
@@ -58,6 +58,11 @@ runs_of row = runs_in (inked row.cells)
 -- the cells of a run
 abbrev pub cells_of : Row → Run → List Cell
 cells_of row run = take run.len (drop run.before row.cells)
+
+-- private: a cell with a character of ASCII in a rendition
+pub record IsLetter (rendition : Attributes) (cell : Cell) : Type 0 where
+  pub same : cell.rendition ≡ rendition
+  pub letter : 32 ≤ cell.glyph
 
 -- what each run of a row keeps: it has a cell, and ends within the row
 pub record IsRun (run : Run) : Type 0 where

@@ -1,7 +1,8 @@
 //! The cells of a row: to its right margin, without the spaces at their end, without the blank ones; and its text.
 
-ghost use Rattle.std.specs.Prelude.{◌≡◌, ◌+◌, ◌≤◌, length, take};
+ghost use Rattle.std.specs.Prelude.{◌≡◌, ℕ, ◌+◌, ◌<◌, ◌≤◌, length, slice_index_or, take, true};
 ghost use Rattle.std.specs.List.{suffix_len};
+ghost use Rattle.vt_screen.specs.Cells.{blank};
 ghost use Rattle.vt_screen.specs.Picture.{margin_of};
 ghost use Rattle.screen_rows.specs.Ink.{inked, is_blank};
 ghost use Rattle.screen_rows.specs.RowText.{characters, is_space, printed_line, row_text, trimmed};
@@ -13,6 +14,12 @@ use vt_screen::{Cell, Row, margin_of};
 
 /// How many bytes a printed line has at most: three for each of 132 glyphs, and LF.
 const LINE_BYTES: usize = 397;
+
+/// How many cells are looked at together.
+pub(crate) const BLOCK: usize = 16;
+
+/// The number of a blank cell.
+const BLANK: u16 = 32;
 
 /// A row as it is printed, and LF.
 pub fn printed_row(wide: bool, row: &Row) -> ArrayString<LINE_BYTES>
@@ -68,11 +75,37 @@ pub fn inked(cells: &[Cell]) -> &[Cell]
 fn inked_len(cells: &[Cell]) -> usize
     ensures { result + suffix_len is_blank cells.now ≡ length cells.now }
 {
-    let mut len = cells.len();
+    let mut len = without_blocks(cells);
     while len > 0 && is_blank(cells[len - 1]) {
         len -= 1;
     }
     len
+}
+
+/// How many are left without the blocks of blank ones at their end.
+fn without_blocks(cells: &[Cell]) -> usize
+    ensures within { result ≤ length cells.now }
+    ensures passed { result + suffix_len is_blank cells.now
+        ≡ length cells.now + suffix_len is_blank (take result cells.now) }
+{
+    let mut len = cells.len();
+    while len >= BLOCK && are_blank(cells, len - BLOCK) {
+        len -= BLOCK;
+    }
+    len
+}
+
+/// Whether the cells of the block that begins here are blank. Each is looked at, so that many are at once.
+fn are_blank(cells: &[Cell], from: usize) -> bool
+    requires { from + BLOCK ≤ length cells.now }
+    ensures { result ≡ true → (k : ℕ) → from ≤ k → k < from + BLOCK
+        → is_blank (slice_index_or cells.now k blank) ≡ true }
+{
+    let mut blank = true;
+    for at in from..from + BLOCK {
+        blank &= cells[at].number() == BLANK;
+    }
+    blank
 }
 
 /// Whether a cell is a space without rendition.

@@ -1,17 +1,26 @@
 //! The runs of a row.
 
-ghost use Rattle.std.specs.Prelude.{◌≡◌, ◌≤◌, ◌<◌, All, length};
+ghost use Rattle.std.specs.Prelude.{◌≡◌, ℕ, ◌+◌, ◌*◌, ◌≤◌, ◌<◌, All, drop, false, length, slice_index_or, true};
 ghost use Rattle.std.specs.List.{prefix_len};
-ghost use Rattle.screen_rows.specs.Runs.{cells_of, is_like, IsRun, kind_number, kind_of, run_at, runs_of};
+ghost use Rattle.vt_screen.specs.Attributes.{byte_of};
+ghost use Rattle.vt_screen.specs.Cells.{blank};
+ghost use Rattle.screen_rows.specs.Outlines.{is_drawn};
+ghost use Rattle.screen_rows.specs.Runs.{cells_of, is_like, IsLetter, IsRun, kind_number, kind_of, run_at, runs_of};
 
-use crate::cells::inked;
+use crate::cells::{BLOCK, inked};
 use crate::outlines::is_drawn;
 use arrayvec::ArrayVec;
 use vt_screen::limits::WIDE_COLUMNS;
-use vt_screen::{Cell, Row};
+use vt_screen::{Cell, Rendition, Row};
 
 /// How many cells a row has, and so how many runs at most.
 pub const CELLS: usize = WIDE_COLUMNS as usize;
+
+/// The least glyph that is a character of ASCII.
+const FIRST_LETTER: u8 = 32;
+
+/// How many others are.
+const LETTERS_MORE: u16 = 94;
 
 /// What the cells of a run have in common: the attributes of their rendition, and whether their glyphs are drawn as
 /// outlines (ours).
@@ -63,7 +72,7 @@ pub fn runs_of(row: &Row) -> ArrayVec<Run, CELLS>
 }
 
 /// The run that begins behind so many cells.
-fn run_at(cells: &[Cell], before: usize) -> Run
+pub fn run_at(cells: &[Cell], before: usize) -> Run
     requires within { before < length cells.now }
     requires few { length cells.now ≤ CELLS }
     ensures run { result ≡ run_at cells.now before }
@@ -80,10 +89,49 @@ fn run_at(cells: &[Cell], before: usize) -> Run
 fn like_len(one: &Cell, cells: &[Cell]) -> usize
     ensures { result ≡ prefix_len (is_like one.now) cells.now }
 {
-    cells
-        .iter()
-        .take_while(|cell| is_like(*one, **cell))
-        .count()
+    let mut len = like_blocks(one, cells);
+    while len < cells.len() && is_like(*one, cells[len]) {
+        len += 1;
+    }
+    len
+}
+
+/// How many of the first cells are seen to be so block by block, where the cell's glyph isn't drawn.
+fn like_blocks(one: &Cell, cells: &[Cell]) -> usize
+    ensures within { result ≤ length cells.now }
+    ensures passed { prefix_len (is_like one.now) cells.now
+        ≡ result + prefix_len (is_like one.now) (drop result cells.now) }
+{
+    let mut len = 0;
+    if is_drawn(one.glyph) {
+        return 0;
+    }
+    while cells.len() - len >= BLOCK && are_letters(one.rendition, cells, len) {
+        len += BLOCK;
+    }
+    len
+}
+
+/// Whether the cells of the block that begins here have characters of ASCII in a rendition. Each is looked at, so that many
+/// are at once.
+fn are_letters(rendition: Rendition, cells: &[Cell], from: usize) -> bool
+    requires { from + BLOCK ≤ length cells.now }
+    ensures { result ≡ true → (k : ℕ) → from ≤ k → k < from + BLOCK
+        → IsLetter rendition (slice_index_or cells.now k blank) }
+{
+    let least = numbered(rendition, FIRST_LETTER);
+    let mut letters = true;
+    for at in from..from + BLOCK {
+        letters &= cells[at].number().wrapping_sub(least) <= LETTERS_MORE;
+    }
+    letters
+}
+
+/// The number of a cell.
+fn numbered(rendition: Rendition, glyph: u8) -> u16
+    ensures { result ≡ 256 * byte_of rendition + glyph }
+{
+    Cell { glyph, rendition }.number()
 }
 
 /// Whether two cells are of one kind.

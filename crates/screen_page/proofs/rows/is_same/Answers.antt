@@ -1,6 +1,5 @@
-use Rattle.screen_page.proofs.StringLemmas.{fronts_apart}
+use Rattle.screen_page.proofs.StringLemmas.{fours_apart}
 use Rattle.screen_page.proofs.rows.is_same.Goals as goal
 
-pub returns-else-same_first : goal.returns-else-same_first
-returns-else-same_first c =
-    fronts_apart 16 c.args.one.now c.args.other.now c.same_first.result c.same_first.ensures.same c.if-same_first.false
+pub returns-else-four_from-four : goal.returns-else-four_from-four
+returns-else-four_from-four c = fours_apart c.args.one.now c.args.other.now c.args.place c.four_from.result c.args.four c.four_from.ensures c.requires.four c.if-four_from-four.false

@@ -1,19 +1,12 @@
-use Rattle.std.proofs.Common.{◌∷◌, ◌++◌, List, [], decimal, ℕ}
-use Rattle.std.specs.List.{flat_map}
-use Rattle.screen_rows.specs.SameRows.{size_number}
+use Rattle.std.proofs.Common.{decimal, ap, subst}
+use Rattle.held.specs.Held.{Wrote}
 use Rattle.screen_page.specs.Entries.{shown}
-use Rattle.screen_page.specs.EntryText.{run_text}
-use Rattle.screen_page.proofs.PageLemmas.{row_parts}
+use Rattle.held.proofs.HeldLemmas.{wrote_both}
 use Rattle.screen_page.proofs.rows.put_row.Goals as goal
 
 pub returns : goal.returns
 unfolding shown
 returns g c =
-    let row = c.args.row.now in
-    let number = decimal c.args.line in
-    let size = decimal (size_number row.size) in
-    let front = 44 ∷ (number ++ 44 ∷ 91 ∷ size) in
-    let runs = flat_map run_text (shown row).runs in
-    let end : List ℕ = 93 ∷ [] in
-    let before = c.gives_join.ensures.both _ _ _ front runs c.put_runs.ensures c.put_size.ensures in
-    rw (row_parts number size runs end) (c.gives_join.ensures.both _ _ _ (front ++ runs) end c.give.ensures before)
+    let size = subst (Wrote g.W.Write.contents c.put.new.writer c.put.new.held.items c.put_number.new.writer c.put_number.new.held.items)
+    (ap decimal c.size_number.ensures) c.put_number.ensures in
+    wrote_both c.put_byte.ensures (wrote_both c.put_runs.ensures (wrote_both size c.put.ensures))
