@@ -2,10 +2,11 @@
 """Counts instructions of each job on its worst inputs that are known, once and twice as long, so that a form that is
 worse than linear is found by itself.
 
-    tests/linear.py TYPETOOL
+    tests/linear.py TYPETOOL [JOB]
 
 An input of n parts costs what the program takes beyond one of a single part; twice as many parts may cost at most 2.2
-times as much. The last line is 'N passed, M failed'. It takes valgrind.
+times as much. Beside each `find` is told how much more it costs than `screen` at the end. With a job's name it counts
+that job alone. The last line is 'N passed, M failed'. It takes valgrind.
 """
 import concurrent.futures
 import os
@@ -86,6 +87,9 @@ RUNS = [
     (("changes", "--to", END), scrolls, 1500),
     (("find", "no such text"), zeros, 300),
     (("find", "x"), scrolls, 600),
+    (("find", "x"), cells, 12000),
+    (("find", "0"), zeros, 200),
+    (("find", "same"), equal_lines, 2000),
     (("page",), cells, 4000),
     (("page",), scrolls, 600),
     (("page",), reversals, 100),
@@ -116,24 +120,29 @@ def counted(folder, words, parts):
 
 
 def one(run):
-    """How much more twice as many parts cost."""
+    """What the parts cost, how much more twice as many do, and what is told beside it."""
     words, made, n = run
     with tempfile.TemporaryDirectory(prefix="linear-") as folder:
         start, once, twice = (counted(folder, words, made(parts)) for parts in (1, n, 2 * n))
-    return run, once - start, (twice - start) / (once - start)
+        beside = ""
+        if words[0] == "find":
+            first, last = (counted(folder, ("screen", "--at", END), made(parts)) for parts in (1, n))
+            beside = f", {(once - start) / (last - first):.1f} times `screen`"
+    return run, once - start, (twice - start) / (once - start), beside
 
 
 def main():
     if skip.lacks("valgrind", "instructions at n and 2n"):
         return skip.end(0, 0)
+    runs = [run for run in RUNS if sys.argv[2:] in ([], [run[0][0]])]
     passed = 0
     with concurrent.futures.ThreadPoolExecutor(os.cpu_count()) as pool:
-        for (words, made, n), cost, ratio in pool.map(one, RUNS):
+        for (words, made, n), cost, ratio, beside in pool.map(one, runs):
             passed += ratio <= MOST
             parts = f"{n} {made.__name__.replace('_', ' ')}"
-            told = f"{' '.join(words)}: {parts} take {cost:,} instructions, twice as many {ratio:.2f}"
+            told = f"{' '.join(words)}: {parts} take {cost:,} instructions{beside}, twice as many {ratio:.2f}"
             print(told if ratio <= MOST else f"FAILED {told}", flush=True)
-    return skip.end(passed, len(RUNS) - passed)
+    return skip.end(passed, len(runs) - passed)
 
 
 if __name__ == "__main__":

@@ -10,7 +10,7 @@ use tape_seek::Session;
 use tape_tests::once_more::read;
 
 /// Chunks without delays, divided by bars, a text, and its find lines.
-const ROWS: [(&[u8], &str, &str); 29] = [
+const ROWS: [(&[u8], &str, &str); 33] = [
     // The screen is erased.
     (
         b"ab\r\nab|\x1b[2J",
@@ -127,6 +127,29 @@ const ROWS: [(&[u8], &str, &str); 29] = [
         b"\x1b[1;40Hwi\x1b[2;1Hh|\x1b[1;1H\x1b#6",
         "wh",
         "+ 1 0.000000 1 40                                        wh\n",
+    ),
+    // Of equal places the last one goes, also where another line changed.
+    (
+        b"x\r\nx\r\nx|\x1b[1;1H\x1b[K",
+        "x",
+        "+ 0 0.000000 1 1 x\n+ 0 0.000000 2 1 x\n+ 0 0.000000 3 1 x\n- 1 0.000000 3 1 x\n",
+    ),
+    (
+        b"ab\r\nab|\x1b[1;2H\x1b[K",
+        "b",
+        "+ 0 0.000000 1 2 ab\n+ 0 0.000000 2 2 ab\n- 1 0.000000 2 2 ab\n",
+    ),
+    // One with another left part isn't equal.
+    (
+        b"ab\r\ncb|\x1b[1;2H\x1b[K",
+        "b",
+        "+ 0 0.000000 1 2 ab\n+ 0 0.000000 2 2 cb\n- 1 0.000000 1 2 ab\n",
+    ),
+    // A line stays, and the one changes into which a text ran on from it.
+    (
+        b"\x1b[1;80Hw\x1b[2;1Hh|\x1b[2;1Hx",
+        "wh",
+        "+ 0 0.000000 1 80                                                                                wh\n- 1 0.000000 1 80                                                                                wh\n",
     ),
 ];
 

@@ -4,6 +4,7 @@ mod StillLemmas
 mod FindLemmas
 mod FoundLemmas
 mod QuietLemmas
+mod ByLineLemmas
 mod ShortLemmas
 mod RunLemmas
 mod StartLemmas

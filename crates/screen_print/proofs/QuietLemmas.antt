@@ -62,7 +62,7 @@ line_is row rows = refl
 ends_in : (text : List ℕ) (d column : ℕ) → 1 ≤ length text → 1 ≤ column → column ≤ d + 1 - length text → column - 1 + length text ≤ d
 ends_in text d column some low high = omega arith
 
-front_alike : (text one other : List ℕ) (d : ℕ) (rows rows' : List (List ℕ)) (column : ℕ) → d ≤ length one → d ≤ length other
+pub front_alike : (text one other : List ℕ) (d : ℕ) (rows rows' : List (List ℕ)) (column : ℕ) → d ≤ length one → d ≤ length other
     → take d one ≡ take d other → column - 1 + length text ≤ d
     → begins text (line_text_from (one ∷ rows)) column ≡ begins text (line_text_from (other ∷ rows')) column
 front_alike text one other d rows rows' column fits fits' same within =

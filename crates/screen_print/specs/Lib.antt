@@ -11,4 +11,5 @@ pub mod Quiet
 pub mod Start
 pub mod Stops
 pub mod EachByte
+pub mod ByLine
 pub mod Skim

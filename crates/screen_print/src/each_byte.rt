@@ -40,12 +40,10 @@ ghost use Rattle.screen_print.specs.EachByte.{
   find_lines,
   from_lines,
   has_ink,
-  is_lone,
-  passed_line,
   passed_lines,
   standing_lines,
 };
-ghost use Rattle.screen_print.specs.FindLines.{found_line, left_of, place_in, standing};
+ghost use Rattle.screen_print.specs.FindLines.{found_line, standing};
 ghost use Rattle.screen_print.specs.Places.{IsPlace};
 ghost use Rattle.screen_print.specs.Skim.{AreKeysOf, IsKeyed, IsLacked, IsPart, NowhereIn, ScreenLacks};
 ghost use Rattle.screen_print.specs.Start.{IsStart};
@@ -53,7 +51,8 @@ ghost use Rattle.screen_print.specs.Stills.{still_of};
 ghost use Rattle.screen_rows.specs.SameRows.{changed_lines};
 ghost use Rattle.screen_print.specs.Stops.{StopsWalk};
 
-use crate::find_lines::{Chunk, Standing, count_left, is_less, put_found, put_less};
+use crate::by_line::{Ends, Pair, Sought, put_less};
+use crate::find_lines::{Chunk, put_found};
 use crate::key::{Key, Keys};
 use crate::laws::nowhere_means_nowhere;
 use crate::quiet::stays;
@@ -369,7 +368,7 @@ fn put_or_pass<'k, 'a, W: Write>(
         return Some(key);
     }
     terminal.copy_from(kept);
-    put_chunk(text, start, chunk, bytes, terminal, scratch, writer);
+    put_chunk(text, start, chunk, bytes, terminal, kept, scratch, writer);
     None
 }
 
@@ -444,26 +443,21 @@ fn kept_or_found<'k, 'a>(
     keys.lacked_by(text, terminal)
 }
 
-/// What stands on the screen at both ends of a chunk, and where the text stands there.
-#[derive(Drop)]
-struct Ends<'a> {
-    first: Standing<'a>,
-    last: Standing<'a>,
-}
-
 /// Plays a chunk, and writes what went, what came and went inside it, and what came. Lines of what went stand
-/// before all others, so a chunk is played twice.
+/// before all others, so a chunk is played twice, first by a terminal that is equal.
 fn put_chunk<W: Write>(
     text: &[char],
     start: &Start,
     chunk: &Chunk,
     bytes: &[u8],
     terminal: &mut Terminal,
+    equal: &mut Terminal,
     scratch: &mut Reports,
     writer: &mut Watched<W>,
 )
     requires len { chunk.now.len ≡ length text.now }
     requires start { IsStart text.now start.now }
+    requires equal { equal.old ≡ terminal.old }
     requires scratch { SCRATCH ≤ length scratch.old.bytes }
     ensures gave { (x : Term) → Shows terminal.old x → Gave W.contents writer.old writer.new
         (chunk_lines text.now chunk.now.index chunk.now.due x bytes.now) }
@@ -473,35 +467,27 @@ fn put_chunk<W: Write>(
 {
     gives_join::<W>();
     let before = Still::of(terminal);
-    let after = still_behind(terminal, bytes, scratch);
-    let firsts = standing(&before, text);
-    let lasts = standing(&after, text);
+    play_all(equal, bytes, scratch);
+    let after = Still::of(equal);
+    let changed = before.lines_unlike(&after);
+    let sought = Sought { text, start };
     let ends = Ends {
-        first: Standing {
-            still: &before,
-            places: firsts.as_slice(),
-        },
-        last: Standing {
-            still: &after,
-            places: lasts.as_slice(),
-        },
+        first: &before,
+        last: &after,
     };
-    put_less(b'-', chunk, &ends.first, &ends.last, writer);
-    put_bytes(text, start, chunk, &ends, bytes, terminal, scratch, writer);
-    put_less(b'+', chunk, &ends.last, &ends.first, writer);
-}
-
-/// What stands on the screen of a terminal, once it has taken these bytes. It stays as it is.
-fn still_behind(terminal: &Terminal, bytes: &[u8], scratch: &mut Reports) -> Still
-    requires { SCRATCH ≤ length scratch.old.bytes }
-    ensures still { (x : Term) → Shows terminal.now x
-        → result ≡ still_of (play x bytes.now).console }
-    ensures scratch { SCRATCH ≤ length scratch.new.bytes }
-{
-    let mut played = Terminal::reset();
-    played.copy_from(terminal);
-    play_all(&mut played, bytes, scratch);
-    Still::of(&played)
+    let went = Pair {
+        one: &before,
+        other: &after,
+        lines: changed.as_slice(),
+    };
+    let came = Pair {
+        one: &after,
+        other: &before,
+        lines: changed.as_slice(),
+    };
+    put_less(b'-', chunk, &sought, &went, None, writer);
+    put_bytes(&sought, chunk, &ends, bytes, terminal, scratch, writer);
+    put_less(b'+', chunk, &sought, &came, None, writer);
 }
 
 /// Plays bytes one by one.
@@ -532,8 +518,7 @@ pub(crate) fn step(terminal: &mut Terminal, byte: u8, scratch: &mut Reports)
 
 /// Plays a chunk's bytes, and writes what went inside it.
 fn put_bytes<W: Write>(
-    text: &[char],
-    start: &Start,
+    sought: &Sought<'_>,
     chunk: &Chunk,
     ends: &Ends<'_>,
     bytes: &[u8],
@@ -541,15 +526,13 @@ fn put_bytes<W: Write>(
     scratch: &mut Reports,
     writer: &mut Watched<W>,
 )
-    requires len { chunk.now.len ≡ length text.now }
-    requires start { IsStart text.now start.now }
-    requires first { All (IsPlace ends.now.first.still.now) ends.now.first.places.now }
-    requires last { All (IsPlace ends.now.last.still.now) ends.now.last.places.now }
+    requires len { chunk.now.len ≡ length sought.now.text.now }
+    requires start { IsStart sought.now.text.now sought.now.start.now }
     requires scratch { SCRATCH ≤ length scratch.old.bytes }
     ensures gave { (x : Term) → Shows terminal.old x → Gave W.contents writer.old writer.new
-        (flat_map (byte_lines text.now chunk.now.index chunk.now.due
-        ends.now.first.still.now ends.now.first.places.now
-        ends.now.last.still.now ends.now.last.places.now x bytes.now)
+        (flat_map (byte_lines sought.now.text.now chunk.now.index chunk.now.due
+        ends.now.first.now (standing sought.now.text.now ends.now.first.now)
+        ends.now.last.now (standing sought.now.text.now ends.now.last.now) x bytes.now)
         (range_with_len 0 (length bytes.now))) }
     ensures shows { (x : Term) → Shows terminal.old x
         → Shows terminal.new (play x bytes.now) }
@@ -557,169 +540,83 @@ fn put_bytes<W: Write>(
 {
     gives_join::<W>();
     plays_in_parts();
-    let mut still = Still::of(terminal);
+    let mut before = Still::of(terminal);
+    let mut after = Still::of(terminal);
     for at in 0..bytes.len() {
         step(terminal, bytes[at], scratch);
-        put_byte(text, start, chunk, ends, &mut still, terminal, writer);
+        put_byte(
+            sought,
+            chunk,
+            ends,
+            &mut before,
+            &mut after,
+            terminal,
+            writer,
+        );
     }
 }
 
-/// Writes what went at a byte, by what stood before it and on the terminal after it, which becomes what stands
+/// Writes what went at a byte, by what stood before it and on the terminal after it. Both stills become what stands
 /// before the next one.
 fn put_byte<W: Write>(
-    text: &[char],
-    start: &Start,
+    sought: &Sought<'_>,
     chunk: &Chunk,
     ends: &Ends<'_>,
-    still: &mut Still,
+    before: &mut Still,
+    after: &mut Still,
     terminal: &Terminal,
     writer: &mut Watched<W>,
 )
-    requires told { Told still.old.rows terminal.now }
-    requires start { IsStart text.now start.now }
-    requires first { All (IsPlace ends.now.first.still.now) ends.now.first.places.now }
-    requires last { All (IsPlace ends.now.last.still.now) ends.now.last.places.now }
-    ensures gave { let other = still_of terminal.now.console in
+    requires told { Told before.old.rows terminal.now }
+    requires same { before.old ≡ after.old }
+    requires start { IsStart sought.now.text.now sought.now.start.now }
+    ensures gave { let text = sought.now.text.now in
+        let other = still_of terminal.now.console in
         Gave W.contents writer.old writer.new
         (passed_lines chunk.now.index chunk.now.due chunk.now.len
-        ends.now.first.still.now ends.now.first.places.now
-        ends.now.last.still.now ends.now.last.places.now
-        still.old (standing text.now still.old) other (standing text.now other)) }
-    ensures after { still.new ≡ still_of terminal.now.console }
+        ends.now.first.now (standing text ends.now.first.now)
+        ends.now.last.now (standing text ends.now.last.now)
+        before.old (standing text before.old) other (standing text other)) }
+    ensures before { before.new ≡ still_of terminal.now.console }
+    ensures after { after.new ≡ still_of terminal.now.console }
 {
-    let changed = still.changed_lines(terminal);
+    let changed = before.changed_lines(terminal);
     let lines = changed.as_slice();
-    put_changed(text, start, chunk, ends, still, terminal, lines, writer);
-    still.catch_up(terminal, lines);
+    after.catch_up(terminal, lines);
+    put_changed(sought, chunk, ends, before, after, terminal, lines, writer);
+    before.catch_up(terminal, lines);
 }
 
 /// The same by the lines that the byte changed: where the text surely stays in them nothing went.
 fn put_changed<W: Write>(
-    text: &[char],
-    start: &Start,
+    sought: &Sought<'_>,
     chunk: &Chunk,
     ends: &Ends<'_>,
     before: &Still,
+    after: &Still,
     terminal: &Terminal,
     lines: &[u8],
     writer: &mut Watched<W>,
 )
-    requires start { IsStart text.now start.now }
+    requires start { IsStart sought.now.text.now sought.now.start.now }
     requires changed { lines.now
         ≡ changed_lines before.now.rows terminal.now.console.picture.rows }
-    requires first { All (IsPlace ends.now.first.still.now) ends.now.first.places.now }
-    requires last { All (IsPlace ends.now.last.still.now) ends.now.last.places.now }
-    ensures { let other = still_of terminal.now.console in
+    requires after { after.now ≡ still_of terminal.now.console }
+    ensures { let text = sought.now.text.now in
         Gave W.contents writer.old writer.new
         (passed_lines chunk.now.index chunk.now.due chunk.now.len
-        ends.now.first.still.now ends.now.first.places.now
-        ends.now.last.still.now ends.now.last.places.now
-        before.now (standing text.now before.now) other (standing text.now other)) }
+        ends.now.first.now (standing text ends.now.first.now)
+        ends.now.last.now (standing text ends.now.last.now)
+        before.now (standing text before.now) after.now (standing text after.now)) }
 {
     gives_join::<W>();
-    if stays(text, start, before, terminal, lines) {
+    if stays(sought.text, sought.start, before, terminal, lines) {
         return;
     }
-    put_laid_out(text, chunk, ends, before, terminal, writer);
-}
-
-/// Writes what went at a byte, by laying out both screens. Its variables are large, so it stands apart.
-#[cold]
-#[inline(never)]
-fn put_laid_out<W: Write>(
-    text: &[char],
-    chunk: &Chunk,
-    ends: &Ends<'_>,
-    before: &Still,
-    terminal: &Terminal,
-    writer: &mut Watched<W>,
-)
-    requires first { All (IsPlace ends.now.first.still.now) ends.now.first.places.now }
-    requires last { All (IsPlace ends.now.last.still.now) ends.now.last.places.now }
-    ensures { let other = still_of terminal.now.console in
-        Gave W.contents writer.old writer.new
-        (passed_lines chunk.now.index chunk.now.due chunk.now.len
-        ends.now.first.still.now ends.now.first.places.now
-        ends.now.last.still.now ends.now.last.places.now
-        before.now (standing text.now before.now) other (standing text.now other)) }
-{
-    let after = Still::of(terminal);
-    let went = standing(before, text);
-    let left = standing(&after, text);
-    let one = Standing {
-        still: before,
-        places: went.as_slice(),
+    let pair = Pair {
+        one: before,
+        other: after,
+        lines,
     };
-    let other = Standing {
-        still: &after,
-        places: left.as_slice(),
-    };
-    put_passed(chunk, ends, &one, &other, writer);
-}
-
-/// Writes the lines of what went at a byte and stood so at neither end.
-fn put_passed<W: Write>(
-    chunk: &Chunk,
-    ends: &Ends<'_>,
-    one: &Standing<'_>,
-    other: &Standing<'_>,
-    writer: &mut Watched<W>,
-)
-    requires first { All (IsPlace ends.now.first.still.now) ends.now.first.places.now }
-    requires last { All (IsPlace ends.now.last.still.now) ends.now.last.places.now }
-    requires here { All (IsPlace one.now.still.now) one.now.places.now }
-    requires there { All (IsPlace other.now.still.now) other.now.places.now }
-    ensures { Gave W.contents writer.old writer.new
-        (passed_lines chunk.now.index chunk.now.due chunk.now.len
-        ends.now.first.still.now ends.now.first.places.now
-        ends.now.last.still.now ends.now.last.places.now
-        one.now.still.now one.now.places.now other.now.still.now other.now.places.now) }
-{
-    gives_join::<W>();
-    for at in 0..one.places.len() {
-        put_if_passed(chunk, ends, one, at, other, writer);
-    }
-}
-
-/// Writes the line of one place, where it went at a byte and stood so at neither end.
-fn put_if_passed<W: Write>(
-    chunk: &Chunk,
-    ends: &Ends<'_>,
-    one: &Standing<'_>,
-    at: usize,
-    other: &Standing<'_>,
-    writer: &mut Watched<W>,
-)
-    requires within { at < length one.now.places.now }
-    requires first { All (IsPlace ends.now.first.still.now) ends.now.first.places.now }
-    requires last { All (IsPlace ends.now.last.still.now) ends.now.last.places.now }
-    requires here { All (IsPlace one.now.still.now) one.now.places.now }
-    requires there { All (IsPlace other.now.still.now) other.now.places.now }
-    ensures { Gave W.contents writer.old writer.new
-        (passed_line chunk.now.index chunk.now.due chunk.now.len
-        ends.now.first.still.now ends.now.first.places.now
-        ends.now.last.still.now ends.now.last.places.now
-        one.now.still.now one.now.places.now other.now.still.now other.now.places.now at) }
-{
-    gives_join::<W>();
-    if is_less(one, at, other) && is_lone(ends, one, at) {
-        put_found(b'~', chunk, one.still, one.places[at], writer);
-    }
-}
-
-/// Whether neither end has anything with the same to the left.
-fn is_lone(ends: &Ends<'_>, one: &Standing<'_>, at: usize) -> bool
-    requires within { at < length one.now.places.now }
-    requires first { All (IsPlace ends.now.first.still.now) ends.now.first.places.now }
-    requires last { All (IsPlace ends.now.last.still.now) ends.now.last.places.now }
-    requires here { All (IsPlace one.now.still.now) one.now.places.now }
-    ensures { let place = slice_index_or one.now.places.now at (place_in 1 1) in
-        result ≡ (is_lone ends.now.first.still.now ends.now.first.places.now
-        (left_of one.now.still.now place)
-        && is_lone ends.now.last.still.now ends.now.last.places.now
-        (left_of one.now.still.now place)) }
-{
-    let place = one.places[at];
-    count_left(ends.first.still, ends.first.places, one.still, place) == 0
-        && count_left(ends.last.still, ends.last.places, one.still, place) == 0
+    put_less(b'~', chunk, sought, &pair, Some(ends), writer);
 }

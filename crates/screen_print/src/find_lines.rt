@@ -1,4 +1,4 @@
-//! What of a text came and went between two screens, and how its lines are written.
+//! How the lines of find are written.
 
 ghost use Rattle.std.specs.Prelude.{
   ◌≡◌,
@@ -42,126 +42,12 @@ use tape_core::laws::gives_join;
 use tape_core::{Watched, seconds_text};
 use vt_screen::Cell;
 
-/// Where a text stands on a screen.
-#[derive(Drop)]
-pub(crate) struct Standing<'a> {
-    pub(crate) still: &'a Still,
-    pub(crate) places: &'a [Place],
-}
-
 /// A chunk's place, when it is due, and how long the text is that is looked for.
 #[derive(Drop)]
 pub(crate) struct Chunk {
     pub(crate) index: usize,
     pub(crate) due: u64,
     pub(crate) len: usize,
-}
-
-/// Writes the lines of what stands on one screen and is less on the other.
-pub(crate) fn put_less<W: Write>(
-    sign: u8,
-    chunk: &Chunk,
-    one: &Standing<'_>,
-    other: &Standing<'_>,
-    writer: &mut Watched<W>,
-)
-    requires here { All (IsPlace one.now.still.now) one.now.places.now }
-    requires there { All (IsPlace other.now.still.now) other.now.places.now }
-    ensures { Gave W.contents writer.old writer.new
-        (less_lines sign chunk.now.index chunk.now.due chunk.now.len
-        one.now.still.now one.now.places.now other.now.still.now other.now.places.now) }
-{
-    gives_join::<W>();
-    for at in 0..one.places.len() {
-        put_if_less(sign, chunk, one, at, other, writer);
-    }
-}
-
-/// Writes the line of one place, if it is less on the other screen.
-fn put_if_less<W: Write>(
-    sign: u8,
-    chunk: &Chunk,
-    one: &Standing<'_>,
-    at: usize,
-    other: &Standing<'_>,
-    writer: &mut Watched<W>,
-)
-    requires within { at < length one.now.places.now }
-    requires here { All (IsPlace one.now.still.now) one.now.places.now }
-    requires there { All (IsPlace other.now.still.now) other.now.places.now }
-    ensures { Gave W.contents writer.old writer.new
-        (less_line sign chunk.now.index chunk.now.due chunk.now.len
-        one.now.still.now one.now.places.now other.now.still.now other.now.places.now at) }
-{
-    gives_join::<W>();
-    if is_less(one, at, other) {
-        put_found(sign, chunk, one.still, one.places[at], writer);
-    }
-}
-
-/// Whether a place is less on the other screen.
-pub(crate) fn is_less(one: &Standing<'_>, at: usize, other: &Standing<'_>) -> bool
-    requires within { at < length one.now.places.now }
-    requires here { All (IsPlace one.now.still.now) one.now.places.now }
-    requires there { All (IsPlace other.now.still.now) other.now.places.now }
-    ensures { result ≡ is_less one.now.still.now one.now.places.now other.now.still.now
-        other.now.places.now at }
-{
-    let place = one.places[at];
-    let before = count_left(one.still, &one.places[..at], one.still, place);
-    let there = count_left(other.still, other.places, one.still, place);
-    there <= before
-}
-
-/// How many of the places have the same to the left as another place.
-pub(crate) fn count_left(still: &Still, places: &[Place], other: &Still, there: Place) -> usize
-    requires here { All (IsPlace still.now) places.now }
-    requires there { IsPlace other.now there }
-    ensures { result ≡ count_left still.now places.now (left_of other.now there) }
-{
-    let mut count = 0;
-    for place in places {
-        if same_left(still, *place, other, there) {
-            count += 1;
-        }
-    }
-    count
-}
-
-/// Whether two places have the same to the left.
-fn same_left(still: &Still, place: Place, other: &Still, there: Place) -> bool
-    requires here { IsPlace still.now place }
-    requires there { IsPlace other.now there }
-    ensures { result ≡ pointwise nat_eq (left_of still.now place) (left_of other.now there) }
-{
-    if place.column != there.column {
-        return false;
-    }
-    let left = place.column as usize - 1;
-    let one = cells_to_margin(still.is_wide(), still.row(place.line));
-    let other = cells_to_margin(other.is_wide(), other.row(there.line));
-    reads_alike(&one[..left], &other[..left])
-}
-
-/// Whether cells are read alike.
-fn reads_alike(one: &[Cell], other: &[Cell]) -> bool
-    requires { length one.now ≡ length other.now }
-    ensures { result ≡ pointwise nat_eq (characters one.now) (characters other.now) }
-{
-    for at in 0..one.len() {
-        if !read_alike(one[at].glyph, other[at].glyph) {
-            return false;
-        }
-    }
-    true
-}
-
-/// Whether two glyphs are read alike.
-fn read_alike(one: u8, other: u8) -> bool
-    ensures yes { result ≡ true → character one ≡ character other }
-    ensures no { result ≡ false → character one ≢ character other }
-{
-    one == other || character(one) == character(other)
 }
 
 /// Writes a find line.

@@ -1,6 +1,7 @@
 //! Prints what a terminal shows as text.
 #![tactic(auto)]
 
+mod by_line;
 mod change_lines;
 mod each_byte;
 mod escaped_print;

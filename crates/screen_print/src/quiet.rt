@@ -217,7 +217,7 @@ fn cells_stay(text: &[char], one: &[Cell], other: &[Cell]) -> bool
 }
 
 /// How many cells are read alike from the first on.
-fn same_len(one: &[Cell], other: &[Cell]) -> usize
+pub(crate) fn same_len(one: &[Cell], other: &[Cell]) -> usize
     ensures same { take result (characters one.now) ≡ take result (characters other.now) }
     ensures here { result ≤ length one.now }
     ensures there { result ≤ length other.now }

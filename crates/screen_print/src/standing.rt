@@ -99,7 +99,14 @@ fn push_begun(
 }
 
 /// Whether a text begins in a line at a column of its first row, which has these cells.
-fn begins(still: &Still, text: &[char], start: &Start, line: u8, cells: &[Cell], column: u8) -> bool
+pub(crate) fn begins(
+    still: &Still,
+    text: &[char],
+    start: &Start,
+    line: u8,
+    cells: &[Cell],
+    column: u8,
+) -> bool
     requires start { IsStart text.now start.now }
     requires low { 1 ≤ line }
     requires high { line ≤ LINES }

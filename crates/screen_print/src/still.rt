@@ -1,17 +1,17 @@
 //! What stands on a screen, copied, and in which lines another screen differs from it.
 
-ghost use Rattle.std.specs.Prelude.{◌≡◌, ◌≤◌, ℕ, true, false};
+ghost use Rattle.std.specs.Prelude.{◌≡◌, ◌≤◌, ℕ, length, true, false};
 ghost use Rattle.vt_screen.specs.Cells.{row_at};
 ghost use Rattle.vt_screen.specs.Picture.{SoundRow};
 ghost use Rattle.vt_screen.specs.Touched.{Told as ScreenTold};
 ghost use Rattle.screen_rows.specs.SameRows.{changed_lines, is_changed};
 
 use arrayvec::ArrayVec;
-use screen_rows::same_row;
+use screen_rows::{cells_to_margin, same_row};
 use std::marker::Model;
 use vt_screen::laws::screens_are_sound;
-use vt_screen::limits::LINES;
-use vt_screen::{Row, Screen};
+use vt_screen::limits::{LINES, WIDE_COLUMNS};
+use vt_screen::{Cell, Row, Screen};
 use vt_term::Terminal;
 
 /// How many rows a screen has.
@@ -41,7 +41,9 @@ impl Model for Still {
 
 impl Still {
     ghost use Rattle.vt_term.specs.Seen.{Told};
+    ghost use Rattle.screen_print.specs.ByLine.{DifferIn, row_on};
     ghost use Rattle.screen_print.specs.Stills.{IsStill, still_of};
+    ghost use Rattle.screen_rows.specs.RowText.{characters};
 
     /// What stands on the screen of a terminal.
     pub fn of(terminal: &Terminal) -> Self
@@ -73,6 +75,18 @@ impl Still {
         ensures sound { SoundRow self.now.wide result.now }
     {
         &self.rows[line as usize - 1]
+    }
+
+    /// The cells of a line up to the right margin.
+    pub(crate) fn cells(&self, line: u8) -> &[Cell]
+        requires low { 1 ≤ line }
+        requires high { line ≤ LINES }
+        ensures text { characters result.now ≡ row_on self.now line }
+        ensures long { length result.now ≡ length (row_on self.now line) }
+        ensures some { 1 ≤ length result.now }
+        ensures few { length result.now ≤ WIDE_COLUMNS }
+    {
+        cells_to_margin(self.wide, self.row(line))
     }
 
     /// Whether the screen is reversed.
@@ -107,6 +121,19 @@ impl Still {
         let screen = terminal.screen();
         let narrow = !(self.wide || screen.is_wide());
         changed_lines(&self.rows, screen, narrow)
+    }
+
+    /// The lines in which it differs from another.
+    pub(crate) fn lines_unlike(&self, other: &Still) -> ArrayVec<u8, ROWS>
+        ensures { DifferIn result.items self.now other.now }
+    {
+        let mut unlike = ArrayVec::new();
+        for line in 1..LINES + 1 {
+            if !same_row(self.row(line), other.row(line), !(self.wide || other.wide)) {
+                unlike.push(line);
+            }
+        }
+        unlike
     }
 
     /// Becomes what stands on the screen of a terminal, from which it differs in these lines.

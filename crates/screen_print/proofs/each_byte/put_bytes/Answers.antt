@@ -3,6 +3,7 @@ use Rattle.tape_core.specs.Devices.{Gave}
 use Rattle.vt_term.specs.Seen.{Shows, Told}
 use Rattle.vt_term.specs.Term.{Term, play}
 use Rattle.screen_print.specs.EachByte.{byte_lines}
+use Rattle.screen_print.specs.FindLines.{standing}
 use Rattle.screen_print.specs.Stills.{Still}
 use Rattle.screen_print.proofs.EachByteLemmas.{byte_is, play_more, shows_start}
 use Rattle.screen_print.proofs.FindLemmas.{first_more}
@@ -12,13 +13,14 @@ pub loop-at-init : goal.loop-at-init
 loop-at-init g c = record {
   shows = λ x h. shows_start c.args.terminal.now x h;
   scratch = c.requires.scratch;
-  still = c.of-still.ensures;
+  before = c.of-before.ensures;
+  after = c.of-after.ensures;
   gave = λ x h. c.gives_join.ensures.nothing c.args.writer.now;
 }
 
 pub put_byte-requires-clause-told : goal.put_byte-requires-clause-told
 put_byte-requires-clause-told g c =
-    subst (λ (still : Still). Told still.rows c.step.new.terminal) (sym c.loop-at.invariant.still) c.step.ensures.told
+    subst (λ (still : Still). Told still.rows c.step.new.terminal) (sym c.loop-at.invariant.before) c.step.ensures.told
 
 pub loop-at-preserved : goal.loop-at-preserved
 loop-at-preserved g c =
@@ -32,10 +34,14 @@ loop-at-preserved g c =
     record {
       shows = shows;
       scratch = c.step.ensures.scratch;
-      still = c.put_byte.ensures.after;
+      before = c.put_byte.ensures.before;
+      after = c.put_byte.ensures.after;
       gave = λ x h.
-          let f = byte_lines c.args.text.now chunk.index chunk.due ends.first.still.now ends.first.places.now ends.last.still.now ends.last.places.now x bytes in
-          let line = byte_is c.args.text.now chunk.index chunk.due chunk.len ends.first.still.now ends.last.still.now ends.first.places.now ends.last.places.now x bytes at c.loop-at.still c.loop-at.terminal c.step.new.terminal c.requires.len c.loop-at.invariant.still (c.loop-at.invariant.shows x h) (shows x h) in
+          let text = c.args.sought.now.text.now in
+          let first = ends.first.now in
+          let last = ends.last.now in
+          let f = byte_lines text chunk.index chunk.due first (standing text first) last (standing text last) x bytes in
+          let line = byte_is text chunk.index chunk.due chunk.len first last (standing text first) (standing text last) x bytes at c.loop-at.before c.loop-at.terminal c.step.new.terminal c.requires.len c.loop-at.invariant.before (c.loop-at.invariant.shows x h) (shows x h) in
           subst (λ t. Gave g.W.Write.contents c.args.writer.now c.put_byte.new.writer t) (sym (first_more f at))
           (c.gives_join.ensures.both _ _ _ _ _ (subst (λ t. Gave g.W.Write.contents c.loop-at.writer c.put_byte.new.writer t) line c.put_byte.ensures.gave) (c.loop-at.invariant.gave x h));
     }

@@ -1,6 +1,10 @@
-use Rattle.std.proofs.Common.{subst, sym}
+use Rattle.std.proofs.Common.{◌∙◌, ap, subst, sym}
 use Rattle.tape_core.specs.Devices.{Gave}
-use Rattle.screen_print.specs.Stills.{still_of}
+use Rattle.screen_print.specs.EachByte.{passed_lines}
+use Rattle.screen_print.specs.FindLines.{standing}
+use Rattle.screen_rows.specs.SameRows.{changed_lines}
+use Rattle.screen_print.specs.Stills.{Still, still_of}
+use Rattle.screen_print.proofs.ByLineLemmas.{changed_differ, passed_are}
 use Rattle.screen_print.proofs.EachByteLemmas.{nothing_passed}
 use Rattle.screen_print.proofs.each_byte.put_changed.Goals as goal
 
@@ -8,7 +12,26 @@ pub returns-then-stays : goal.returns-then-stays
 returns-then-stays g c =
     let chunk = c.args.chunk.now in
     let ends = c.args.ends.now in
-    subst (λ t. Gave g.W.Write.contents c.args.writer.now c.args.writer.now t)
-    (sym (nothing_passed c.args.text.now chunk.index chunk.due chunk.len ends.first.still.now ends.last.still.now ends.first.places.now ends.last.places.now
-    c.args.before.now (still_of c.args.terminal.now.console) (c.stays.ensures c.if-stays.true 0 0)))
-    (c.gives_join.ensures.nothing c.args.writer.now)
+    let text = c.args.sought.now.text.now in
+    let first = ends.first.now in
+    let last = ends.last.now in
+    let before = c.args.before.now in
+    subst (λ (after : Still). Gave g.W.Write.contents c.args.writer.now c.args.writer.now
+    (passed_lines chunk.index chunk.due chunk.len first (standing text first) last (standing text last) before (standing text before) after (standing text after)))
+    (sym c.requires.after)
+    (subst (λ t. Gave g.W.Write.contents c.args.writer.now c.args.writer.now t)
+    (sym (nothing_passed text chunk.index chunk.due chunk.len first last (standing text first) (standing text last)
+    before (still_of c.args.terminal.now.console) (c.stays.ensures c.if-stays.true 0 0)))
+    (c.gives_join.ensures.nothing c.args.writer.now))
+
+pub put_less-requires-clause-lines : goal.put_less-requires-clause-lines
+put_less-requires-clause-lines g c =
+    changed_differ c.args.before.now c.args.after.now c.args.lines.now (c.requires.changed ∙ ap (λ (s : Still). changed_lines c.args.before.now.rows s.rows) (sym c.requires.after))
+
+pub returns : goal.returns
+returns g c =
+    let chunk = c.args.chunk.now in
+    let ends = c.args.ends.now in
+    subst (Gave g.W.Write.contents c.args.writer.now c.put_less.new.writer)
+    (passed_are c.args.sought.now.text.now chunk.index chunk.due chunk.len ends.first.now ends.last.now c.args.before.now c.args.after.now)
+    c.put_less.ensures
