@@ -1,3 +1,4 @@
 mod RowLemmas
 mod CountLemmas
 pub mod SpanLemmas
+pub mod FrontLemmas

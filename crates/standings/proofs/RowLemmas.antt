@@ -1,5 +1,5 @@
 -- Rows, lines and places, one more at a time.
-use Rattle.std.proofs.Common.{◌≡◌, ℕ, zero, suc, ◌+◌, ◌-◌, ◌<◌, ◌≤◌, Bool, true, false, List, [], ◌∷◌, ◌++◌, length, take, drop, filter, map, nat_eq, nat_le, refl, ap, sym, ◌∙◌, arith, append_assoc, append-nil, cond, inl, inr}
+use Rattle.std.proofs.Common.{◌≡◌, ◌≢◌, ℕ, zero, suc, ◌+◌, ◌-◌, ◌<◌, ◌≤◌, Bool, true, false, List, [], ◌∷◌, ◌++◌, length, take, drop, filter, get_or, map, nat_eq, nat_le, refl, ap, sym, ◌∙◌, arith, append_assoc, append-nil, cond, inl, inr}
 use Rattle.std.specs.List.{range_with_len, starts_with}
 use Rattle.std.proofs.lemmas.Bool.{and_parts, cases_Bool, eq-eqb, eqb-true, false≢true, le-leb, lt-leb, ne_eqb, true≢false}
 use Rattle.std.proofs.lemmas.Bool.Decides.{Decides-eqb}
@@ -71,6 +71,30 @@ pub line_along : (rows : List Row) (before : ℕ) (text : List ℕ) → before <
 line_along [] before text lt none = absurd (omega arith)
 line_along (row ∷ rows) before text lt none =
     ap (λ l. starts_with nat_eq l text) (line_behind row rows before (omega arith)) ∙ none (cond row.runs_on (line_text rows) [])
+
+-- where another character stands than its first
+pub first_differs : (characters text rest : List ℕ) (before : ℕ) → 0 < length text → before < length characters
+    → get_or characters before 0 ≢ get_or text 0 0 → starts_with nat_eq (drop before characters ++ rest) text ≡ false
+first_differs characters [] rest before some lt differs = absurd (omega arith)
+first_differs characters (y ∷ text) rest before some lt differs =
+    ap (λ l. starts_with nat_eq (l ++ rest) (y ∷ text)) (drop_more characters before 0 lt)
+    ∙ rw (ne_eqb y (get_or characters before 0) (λ e. differs (sym e))) refl
+
+-- and where its first does and another than its second behind it
+pub second_differs : (characters text rest : List ℕ) (before : ℕ) → 1 < length text → before + 1 < length characters
+    → (get_or characters before 0 ≡ get_or text 0 0 → get_or characters (before + 1) 0 ≢ get_or text 1 0) → starts_with nat_eq (drop before characters ++ rest) text ≡ false
+second_differs characters [] rest before some lt differs = absurd (omega arith)
+second_differs characters (y ∷ []) rest before some lt differs = absurd (omega arith)
+second_differs characters (y ∷ z ∷ text) rest before some lt differs =
+    let x = get_or characters before 0 in
+    let x' = get_or characters (before + 1) 0 in
+    let two : drop before characters ≡ x ∷ (x' ∷ drop (before + 1 + 1) characters) =
+    drop_more characters before 0 (omega arith) ∙ ap (λ l. x ∷ l) (drop_more characters (before + 1) 0 lt) in
+    ap (λ l. starts_with nat_eq (l ++ rest) (y ∷ z ∷ text)) two
+    ∙ elim (cases_Bool (nat_eq y x)) [
+      | inr f ↦ rw f refl
+      | inl t ↦ rw (t, ne_eqb z x' (λ e. differs (sym (eqb-true y x t)) (sym e))) refl
+    ]
 
 -- a text that is no longer than what stands here
 pub within_part : (part more text : List ℕ) → length text ≤ length part → starts_with nat_eq (part ++ more) text ≡ starts_with nat_eq part text

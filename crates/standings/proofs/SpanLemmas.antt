@@ -1,13 +1,15 @@
 -- Rows of which only some differ.
-use Rattle.std.proofs.Common.{◌≡◌, ◌≢◌, ℕ, zero, suc, ◌+◌, ◌-◌, ◌<◌, ◌≤◌, false, List, [], ◌∷◌, ◌++◌, cond, drop, get_or, length, nat_le, refl, ap, sym, ◌∙◌, arith, inl, inr}
+use Rattle.std.proofs.Common.{Bool, true, take, nat_eq, ◌≡◌, ◌≢◌, ℕ, zero, suc, ◌+◌, ◌-◌, ◌<◌, ◌≤◌, false, List, [], ◌∷◌, ◌++◌, cond, drop, length, nat_le, refl, ap, sym, ◌∙◌, arith, inl, inr, subst}
 use Rattle.std.proofs.lemmas.Bool.{cases_Bool, cases_lt, leb-true}
-use Rattle.std.proofs.lemmas.List.{drop_all, ext_get_or, get_or_past}
+use Rattle.std.specs.Cmp.Lexicographic.{pointwise}
+use Rattle.std.specs.List.{starts_with}
+use Rattle.std.proofs.lemmas.List.{drop-append-le, drop-take, drop_all, ext_get_or, get_or_past}
 use Rattle.standings.specs.declared.place.Place.{Place}
 use Rattle.standings.specs.declared.span.Span.{Span}
 use Rattle.standings.specs.Rows.{Row, empty_row, row_below}
-use Rattle.standings.specs.Spans.{Stays, widened}
-use Rattle.standings.specs.Standing.{line_text, places_from, places_in, standing}
-use Rattle.standings.proofs.RowLemmas.{places_row, rows_at}
+use Rattle.standings.specs.Spans.{Stays, characters_in, joined, widened}
+use Rattle.standings.specs.Standing.{begins, line_text, place_in, places_from, places_in, standing}
+use Rattle.standings.proofs.RowLemmas.{places_more, places_row, rows_at}
 
 -- ---- rows that are the same
 
@@ -48,6 +50,23 @@ widened_end span above high = elim (cases_Bool (nat_le span.to span.from)) [
   | inr some ↦ rw some (omega arith)
 ]
 
+-- rows differ from others, and those from further ones
+pub stays_both : (span more : Span) (one other another : List Row) → Stays span one other → Stays more other another → Stays (joined span more) one another
+unfolding joined
+stays_both span more one other another stays also = elim (cases_Bool (nat_le span.to span.from)) [
+  | inl none ↦ rw none (subst (λ rows. Stays more rows another) (stays_none span one other (leb-true span.to span.from none) stays) also)
+  | inr some ↦ elim (cases_Bool (nat_le more.to more.from)) [
+    | inl none ↦
+        rw (some, none) (subst (Stays span one) (sym (stays_none more other another (leb-true more.to more.from none) also)) stays)
+    | inr many ↦
+        rw (some, many) (record {
+          count = also.count ∙ stays.count;
+          above = λ k lt. also.above k (omega arith) ∙ stays.above k (omega arith);
+          below = λ k ge. also.below k (omega arith) ∙ stays.below k (omega arith);
+        })
+  ]
+]
+
 -- where no row was changed yet, all are as they were
 pub stays_all : (rows : List Row) (span : Span) → Stays span rows rows
 stays_all rows span = record { count = refl; above = λ k lt. refl; below = λ k ge. refl }
@@ -55,7 +74,7 @@ stays_all rows span = record { count = refl; above = λ k lt. refl; below = λ k
 -- ---- lines
 
 -- the line from a row on; past the last one none
-line_at : (rows : List Row) (above : ℕ)
+pub line_at : (rows : List Row) (above : ℕ)
     → line_text (drop above rows) ≡ (row_below rows above).characters ++ cond (row_below rows above).runs_on (line_text (drop (above + 1) rows)) []
 unfolding line_text
 line_at rows above = elim (cases_lt above (length rows)) [
@@ -65,7 +84,7 @@ line_at rows above = elim (cases_lt above (length rows)) [
       ap line_text (drop_all above rows past) ∙ sym (ap (λ (row : Row). row.characters ++ cond row.runs_on (line_text (drop (above + 1) rows)) []) none)
 ]
 
-line_step : (one other : List Row) (above : ℕ) → row_below other above ≡ row_below one above
+pub line_step : (one other : List Row) (above : ℕ) → row_below other above ≡ row_below one above
     → cond (row_below one above).runs_on (line_text (drop (above + 1) other)) [] ≡ cond (row_below one above).runs_on (line_text (drop (above + 1) one)) []
     → line_text (drop above other) ≡ line_text (drop above one)
 line_step one other above same more =
@@ -84,7 +103,7 @@ line_above one other start (suc n) above is same ends =
     (ap (λ l. cond (row_below one above).runs_on l []) (line_above one other start n (above + 1) (omega arith) same ends))
 
 -- from a row on behind which all are the same
-line_below : (one other : List Row) (n above : ℕ) → length one ≤ above + n → length other ≡ length one → ((k : ℕ) → above ≤ k → row_below other k ≡ row_below one k)
+pub line_below : (one other : List Row) (n above : ℕ) → length one ≤ above + n → length other ≡ length one → ((k : ℕ) → above ≤ k → row_below other k ≡ row_below one k)
     → line_text (drop above other) ≡ line_text (drop above one)
 line_below one other zero above past count same =
     ap line_text (drop_all above other (omega arith) ∙ sym (drop_all above one (omega arith)))
@@ -92,21 +111,78 @@ line_below one other (suc n) above past count same =
     line_step one other above (same above (omega arith))
     (ap (λ l. cond (row_below one above).runs_on l []) (line_below one other n (above + 1) (omega arith) count (λ k low. same k (omega arith))))
 
+-- ---- the fronts of lines
+
+take_behind : (part one other : List ℕ) (m : ℕ) → take (m - length part) other ≡ take (m - length part) one → take m (part ++ other) ≡ take m (part ++ one)
+take_behind [] one other m same =
+    let all : m - 0 ≡ m = omega arith in
+    subst (λ n. take n other ≡ take n one) all same
+take_behind (x ∷ part) one other zero same = refl
+take_behind (x ∷ part) one other (suc m) same =
+    let rest : suc m - suc (length part) ≡ m - length part = omega arith in
+    ap (λ l. x ∷ l) (take_behind part one other m (subst (λ n. take n other ≡ take n one) rest same))
+
+cond_front : (runs : Bool) (one other : List ℕ) (m : ℕ) → take m other ≡ take m one → take m (cond runs other []) ≡ take m (cond runs one [])
+cond_front true one other m same = same
+cond_front false one other m same = refl
+
+-- as far as the rows that are the same go
+line_front : (one other : List Row) (above : ℕ) → ((i : ℕ) → i < above → row_below other i ≡ row_below one i) → (n k m : ℕ) → k + n ≡ above → m ≤ characters_in one k n
+    → take m (line_text (drop k other)) ≡ take m (line_text (drop k one))
+line_front one other above same zero k m is few =
+    let none : m ≡ 0 = omega arith in
+    ap (λ n. take n (line_text (drop k other))) none ∙ sym (ap (λ n. take n (line_text (drop k one))) none)
+line_front one other above same (suc n) k m is few =
+    let row = row_below one k in
+    ap (take m) (line_at other k ∙ ap (λ (r : Row). r.characters ++ cond r.runs_on (line_text (drop (k + 1) other)) []) (same k (omega arith)))
+    ∙ take_behind row.characters (cond row.runs_on (line_text (drop (k + 1) one)) []) (cond row.runs_on (line_text (drop (k + 1) other)) []) m
+    (cond_front row.runs_on (line_text (drop (k + 1) one)) (line_text (drop (k + 1) other)) (m - length row.characters)
+    (line_front one other above same n (k + 1) (m - length row.characters) (omega arith) (omega arith)))
+    ∙ ap (take m) (sym (line_at one k))
+
+-- where a text begins is told by as much of the line
+begins_by_front : (text one other : List ℕ) (before : ℕ) → take (before + length text) other ≡ take (before + length text) one → begins text other before ≡ begins text one before
+begins_by_front text one other before same =
+    ap (pointwise nat_eq text) (sym (drop-take before (length text) other) ∙ ap (drop before) same ∙ drop-take before (length text) one)
+
+reaches_further : (rows : List Row) (n m k : ℕ) → characters_in rows (k + m) n ≤ characters_in rows k (m + n)
+reaches_further rows n zero k =
+    let here : k + 0 ≡ k = omega arith in
+    let all : 0 + n ≡ n = omega arith in
+    rw (here, all) (omega arith)
+reaches_further rows n (suc m) k =
+    let there : k + 1 + m ≡ k + suc m = omega arith in
+    let more : suc (m + n) ≡ suc m + n = omega arith in
+    let rest = reaches_further rows n m (k + 1) in
+    rw (← there, ← more) (omega (arith, rest))
+
+-- from a row on above those whose characters are as many as the text's but one
+begins_above : (text : List ℕ) (one other : List Row) (start above k before : ℕ) → k < start → start ≤ above → ((i : ℕ) → i < above → row_below other i ≡ row_below one i)
+    → length text ≤ characters_in one start (above - start) + 1 → before < length (row_below one k).characters
+    → begins text (line_text (drop k other)) before ≡ begins text (line_text (drop k one)) before
+begins_above text one other start above k before low within same long lt =
+    let m = start - (k + 1) in
+    let n = above - start in
+    let there : k + 1 + m ≡ start = omega arith in
+    let reach = subst (λ i. characters_in one i n ≤ characters_in one (k + 1) (m + n)) there (reaches_further one n m (k + 1)) in
+    begins_by_front text (line_text (drop k one)) (line_text (drop k other)) before
+    (line_front one other above same (suc (m + n)) k (before + length text) (omega arith) (omega (arith, reach)))
+
 -- ---- places
 
 -- those of one row
 abbrev pub places_of : List ℕ → List Row → ℕ → List Place
 places_of text rows above = places_in text above (line_text (drop above rows)) (length (row_below rows above).characters)
 
-first_none : (a b : List Place) → a ++ b ≡ [] → a ≡ []
+pub first_none : (a b : List Place) → a ++ b ≡ [] → a ≡ []
 first_none [] b h = refl
 first_none (x ∷ a) b h = cc
 
-second_none : (a b : List Place) → a ++ b ≡ [] → b ≡ []
+pub second_none : (a b : List Place) → a ++ b ≡ [] → b ≡ []
 second_none [] b h = h
 second_none (x ∷ a) b h = cc
 
-all_none : (text : List ℕ) (rows : List Row) (n above : ℕ) → length rows ≤ above + n → ((k : ℕ) → above ≤ k → k < length rows → places_of text rows k ≡ [])
+pub all_none : (text : List ℕ) (rows : List Row) (n above : ℕ) → length rows ≤ above + n → ((k : ℕ) → above ≤ k → k < length rows → places_of text rows k ≡ [])
     → places_from text above (drop above rows) ≡ []
 unfolding places_from
 all_none text rows zero above past none = ap (places_from text above) (drop_all above rows (omega arith))
@@ -117,7 +193,7 @@ all_none text rows (suc n) above past none = elim (cases_lt above (length rows))
   | inr high ↦ ap (places_from text above) (drop_all above rows high)
 ]
 
-none_at : (text : List ℕ) (rows : List Row) (n above : ℕ) → above + n < length rows → places_from text above (drop above rows) ≡ [] → places_of text rows (above + n) ≡ []
+pub none_at : (text : List ℕ) (rows : List Row) (n above : ℕ) → above + n < length rows → places_from text above (drop above rows) ≡ [] → places_of text rows (above + n) ≡ []
 none_at text rows zero above lt none =
     let here : above ≡ above + 0 = omega arith in
     ap (places_of text rows) (sym here) ∙ first_none (places_of text rows above) (places_from text (above + 1) (drop (above + 1) rows)) (sym (places_row text rows above (omega arith)) ∙ none)
@@ -126,27 +202,71 @@ none_at text rows (suc n) above lt none =
     ap (places_of text rows) next
     ∙ none_at text rows n (above + 1) (omega arith) (second_none (places_of text rows above) (places_from text (above + 1) (drop (above + 1) rows)) (sym (places_row text rows above (omega arith)) ∙ none))
 
+-- where a text begins at none of so many characters
+pub none_before : (text : List ℕ) (above : ℕ) (line : List ℕ) (count i : ℕ) → places_in text above line count ≡ [] → i < count → begins text line i ≡ false
+none_before text above line zero i none lt = absurd (omega arith)
+none_before text above line (suc n) i none lt =
+    let next : n + 1 ≡ suc n = omega arith in
+    let here = begins text line n in
+    let parts = sym (places_more text above line n here refl) ∙ ap (places_in text above line) next ∙ none in
+    elim (cases_lt i n) [
+      | inl low ↦ none_before text above line n i (first_none (places_in text above line n) (cond here (place_in above n ∷ []) []) parts) low
+      | inr high ↦
+          let last : i ≡ n = omega arith in
+          elim (cases_Bool here) [
+            | inr f ↦ ap (begins text line) last ∙ f
+            | inl t ↦
+                let one = second_none (places_in text above line n) (cond here (place_in above n ∷ []) []) parts in
+                let some : place_in above n ∷ [] ≡ [] = ap (λ b. cond b (place_in above n ∷ []) []) (sym t) ∙ one in
+                cc
+          ]
+    ]
+
+pub all_before : (text : List ℕ) (above : ℕ) (line : List ℕ) (count : ℕ) → ((i : ℕ) → i < count → begins text line i ≡ false) → places_in text above line count ≡ []
+all_before text above line zero none = refl
+all_before text above line (suc n) none =
+    let next : suc n ≡ n + 1 = omega arith in
+    ap (places_in text above line) next ∙ places_more text above line n false (sym (none n (omega arith)))
+    ∙ ap (λ l. l ++ []) (all_before text above line n (λ i lt. none i (omega arith)))
+
+-- where it begins at none of a row's, whatever comes behind them
+pub none_here : (text : List ℕ) (rows : List Row) (above : ℕ)
+    → ((before : ℕ) → before < length (row_below rows above).characters → (rest : List ℕ) → starts_with nat_eq (drop before (row_below rows above).characters ++ rest) text ≡ false)
+    → places_of text rows above ≡ []
+none_here text rows above none =
+    let row = row_below rows above in
+    let more = cond row.runs_on (line_text (drop (above + 1) rows)) [] in
+    all_before text above (line_text (drop above rows)) (length row.characters) (λ i lt.
+    ap (λ l. begins text l i) (line_at rows above) ∙ ap (λ l. starts_with nat_eq l text) (drop-append-le i row.characters more (omega arith)) ∙ none i lt more)
+
 -- a row and its line give its places
-places_same : (text : List ℕ) (one other : List Row) (above : ℕ) → row_below other above ≡ row_below one above → line_text (drop above other) ≡ line_text (drop above one)
+pub places_same : (text : List ℕ) (one other : List Row) (above : ℕ) → row_below other above ≡ row_below one above → line_text (drop above other) ≡ line_text (drop above one)
     → places_of text other above ≡ places_of text one above
 places_same text one other above row line =
     ap (λ l. places_in text above l (length (row_below other above).characters)) line
     ∙ ap (λ (r : Row). places_in text above (line_text (drop above one)) (length r.characters)) row
 
--- where a text stood nowhere, and begins in none of the rows that differ and in none that runs on to them, it stands nowhere
+-- where a text stood nowhere, and begins in none of the rows that differ and in none from which it goes on in them, it stands nowhere
 pub nothing_came : (text : List ℕ) (span : Span) (start : ℕ) (one other : List Row) → Stays span one other → start ≤ span.from
-    → (0 < start → (row_below other (start - 1)).runs_on ≡ false)
+    → (0 < start → (row_below other (start - 1)).runs_on ≡ true → length text ≤ characters_in other start (span.from - start) + 1)
     → ((k : ℕ) → start ≤ k → k < span.to → k < length other → places_of text other k ≡ []) → standing text one ≡ [] → standing text other ≡ []
 nothing_came text span start one other stays low ends none was =
     all_none text other (length other) 0 (omega arith) (λ k _ lt.
     let number : 0 + k ≡ k = omega arith in
     let before : places_of text one k ≡ [] = ap (places_of text one) (sym number) ∙ none_at text one k 0 (omega (arith, stays.count)) was in
     elim (cases_lt k start) [
-      | inl above ↦
-          let same : row_below other (start - 1) ≡ row_below one (start - 1) = stays.above (start - 1) (omega arith) in
-          places_same text one other k (stays.above k (omega arith))
-          (line_above one other start (start - k - 1) k (omega arith) (λ i lt'. stays.above i (omega arith)) (ap (λ (r : Row). r.runs_on) (sym same) ∙ ends (omega arith)))
-          ∙ before
+      | inl above ↦ elim (cases_Bool (row_below other (start - 1)).runs_on) [
+        | inr broken ↦
+            let same : row_below other (start - 1) ≡ row_below one (start - 1) = stays.above (start - 1) (omega arith) in
+            places_same text one other k (stays.above k (omega arith))
+            (line_above one other start (start - k - 1) k (omega arith) (λ i lt'. stays.above i (omega arith)) (ap (λ (r : Row). r.runs_on) (sym same) ∙ broken))
+            ∙ before
+        | inl runs ↦
+            let row = stays.above k (omega arith) in
+            all_before text k (line_text (drop k other)) (length (row_below other k).characters) (λ i fits.
+            sym (begins_above text other one start span.from k i above low (λ j lt'. sym (stays.above j lt')) (ends (omega arith) runs) fits)
+            ∙ none_before text k (line_text (drop k one)) (length (row_below one k).characters) i before (subst (λ (r : Row). i < length r.characters) row fits))
+      ]
       | inr from ↦ elim (cases_lt k span.to) [
         | inl within ↦ none k from within lt
         | inr below ↦

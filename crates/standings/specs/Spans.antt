@@ -1,5 +1,5 @@
 -- Private: rows of which something is said together, by how many are above them.
-use Rattle.std.specs.Prelude.{◌≡◌, ℕ, ◌+◌, ◌<◌, ◌≤◌, List, if◌then◌else◌, length, max, min, nat_le}
+use Rattle.std.specs.Prelude.{◌≡◌, ℕ, zero, suc, ◌+◌, ◌<◌, ◌≤◌, List, if◌then◌else◌, length, max, min, nat_le}
 use Rattle.standings.specs.declared.span.Span.{Span}
 use Rattle.standings.specs.Rows.{Row, row_below}
 
@@ -16,3 +16,14 @@ span_of from to = record { from = from; to = to }
 unfoldable pub widened : Span → ℕ → Span
 widened span above =
     if nat_le span.to span.from then span_of above (above + 1) else span_of (min span.from above) (max span.to (above + 1))
+
+-- the rows of two spans, and those between
+unfoldable pub joined : Span → Span → Span
+joined one other =
+    if nat_le one.to one.from then other
+    else (if nat_le other.to other.from then one else span_of (min one.from other.from) (max one.to other.to))
+
+-- how many characters so many rows have, from the one below so many others on
+abbrev pub characters_in : List Row → ℕ → ℕ → ℕ
+characters_in rows above zero = 0
+characters_in rows above (suc n) = length (row_below rows above).characters + characters_in rows (above + 1) n

@@ -1,9 +1,9 @@
 //! Where a text stands on a screen.
 
-ghost use Rattle.std.specs.Prelude.{◌≡◌, ◌≤◌, ◌<◌, ◌++◌, ◌-◌, [], false, List, ℕ, drop, length, nat_eq, IfOk, OnOk};
+ghost use Rattle.std.specs.Prelude.{◌≡◌, ◌≢◌, ◌+◌, ◌≤◌, ◌<◌, ◌++◌, ◌-◌, [], false, true, List, ℕ, drop, length, nat_eq, slice_index_or, IfOk, OnOk};
 ghost use Rattle.std.specs.List.{starts_with};
 ghost use Rattle.standings.specs.Rows.{Row, row_below};
-ghost use Rattle.standings.specs.Spans.{Stays};
+ghost use Rattle.standings.specs.Spans.{Stays, characters_in};
 ghost use Rattle.standings.specs.Standing.{begins, line_text, places_in, standing};
 
 use crate::row::{Row, characters_below, runs_on_below};
@@ -46,7 +46,7 @@ pub(crate) fn may_come(rows: &[Row], text: &[char], span: Span) -> bool
     ensures { result ≡ false → (before : List Row) → Stays span before rows.now
         → standing text.now before ≡ [] → standing text.now rows.now ≡ [] }
 {
-    let start = run_start(rows, span.from);
+    let start = reach_start(rows, text.len(), span.from);
     for above in start..span.to.min(rows.len()) {
         if begins_in(rows, above, text) {
             return true;
@@ -55,14 +55,18 @@ pub(crate) fn may_come(rows: &[Row], text: &[char], span: Span) -> bool
     false
 }
 
-/// How many rows are above those that run on to the one below so many others.
-fn run_start(rows: &[Row], above: usize) -> usize
+/// How many rows are above those in which a text of so many characters may begin that goes on in the row below so many
+/// others.
+fn reach_start(rows: &[Row], len: usize, above: usize) -> usize
     ensures within { result ≤ above }
-    ensures ends { 0 < result → (row_below rows.now (result - 1)).runs_on ≡ false }
+    ensures ends { 0 < result → (row_below rows.now (result - 1)).runs_on ≡ true
+        → len ≤ characters_in rows.now result (above - result) + 1 }
 {
     let mut start = above;
-    while start > 0 && runs_on_below(rows, start - 1) {
+    let mut left = len.saturating_sub(1);
+    while start > 0 && left > 0 && runs_on_below(rows, start - 1) {
         start -= 1;
+        left = left.saturating_sub(characters_below(rows, start).len());
     }
     start
 }
@@ -73,6 +77,9 @@ fn begins_in(rows: &[Row], above: usize, text: &[char]) -> bool
     ensures { result ≡ false → places_in text.now above (line_text (drop above rows.now)) (length (row_below rows.now above).characters) ≡ [] }
 {
     let below = &rows[above..];
+    if !has_front(characters_below(below, 0), text) {
+        return false;
+    }
     for before in 0..characters_below(below, 0).len() {
         if begins(below, before, text) {
             return true;
@@ -92,12 +99,55 @@ fn push_places(
     ensures { OnOk result (places.new.items ≡ places.old.items
         ++ places_in text.now above (line_text (drop above rows.now)) (length (row_below rows.now above).characters)) }
 {
+    if !has_front(characters_below(rows, above), text) {
+        return Ok(());
+    }
     for before in 0..characters_below(rows, above).len() {
         if begins(&rows[above..], before, text) {
             places.push(Place { above, before })?;
         }
     }
     Ok(())
+}
+
+/// Whether a text may begin among these characters: whether its first two stand side by side, or its first one at the end.
+fn has_front(characters: &[char], text: &[char]) -> bool
+    ensures { result ≡ false → (before : ℕ) → before < length characters.now → (rest : List ℕ)
+        → starts_with nat_eq (drop before characters.now ++ rest) text.now ≡ false }
+{
+    if text.is_empty() || characters.is_empty() {
+        return true;
+    }
+    if text.len() == 1 {
+        return has(characters, text[0]);
+    }
+    characters[characters.len() - 1] == text[0] || has_pair(characters, text[0], text[1])
+}
+
+/// Whether a character is among others. It goes over all of them with no way out, since that is done many at a time.
+fn has(characters: &[char], wanted: char) -> bool
+    ensures { result ≡ false → (before : ℕ) → before < length characters.now
+        → slice_index_or characters.now before 0 ≢ wanted }
+{
+    let mut found = false;
+    for character in characters {
+        found |= *character == wanted;
+    }
+    found
+}
+
+/// Whether two characters stand side by side among others. It goes over all of them too.
+fn has_pair(characters: &[char], first: char, second: char) -> bool
+    requires { 0 < length characters.now }
+    ensures { result ≡ false → (before : ℕ) → before + 1 < length characters.now
+        → slice_index_or characters.now before 0 ≡ first
+        → slice_index_or characters.now (before + 1) 0 ≢ second }
+{
+    let mut found = false;
+    for before in 0..characters.len() - 1 {
+        found |= (characters[before] == first) & (characters[before + 1] == second);
+    }
+    found
 }
 
 /// Whether a text begins behind so many characters in the line whose rows these are from its first one on.

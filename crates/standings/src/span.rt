@@ -1,7 +1,7 @@
 //! Rows of which something is said together.
 
 ghost use Rattle.std.specs.Prelude.{◌≡◌, ◌+◌, ◌<◌, ◌≤◌, nat_le};
-ghost use Rattle.standings.specs.Spans.{widened};
+ghost use Rattle.standings.specs.Spans.{joined, widened};
 
 /// The rows from one up to and without another, by how many are above them.
 #[derive(Clone, Copy, Debug)]
@@ -40,6 +40,23 @@ impl Span {
         Span {
             from: self.from.min(above),
             to: self.to.max(above + 1),
+        }
+    }
+
+    /// These rows, those of another span, and those between.
+    #[tactic(auto, unfolding(crate::specs::Spans::joined))]
+    pub fn joined(self, other: Span) -> Self
+        ensures { result ≡ joined self other }
+    {
+        if self.is_none() {
+            return other;
+        }
+        if other.is_none() {
+            return self;
+        }
+        Span {
+            from: self.from.min(other.from),
+            to: self.to.max(other.to),
         }
     }
 }

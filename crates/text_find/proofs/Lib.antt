@@ -2,4 +2,5 @@ mod AskedLemmas
 mod BeganLemmas
 mod LineLemmas
 mod NowhereLemmas
+mod SkimLemmas
 mod StoodLemmas

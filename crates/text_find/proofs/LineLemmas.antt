@@ -122,7 +122,7 @@ not_less one places n lt =
     lt-leb (count_left one places left) (count_left one (take n places) left)
     (fewer_before (λ place. pointwise nat_eq (left_of one place) left) places n lt (pointwise_same left))
 
-none_from : (f : ℕ → List ℕ) (a n : ℕ) → ((i : ℕ) → a ≤ i → i < a + n → f i ≡ []) → flat_map f (range_with_len a n) ≡ []
+pub none_from : (f : ℕ → List ℕ) (a n : ℕ) → ((i : ℕ) → a ≤ i → i < a + n → f i ≡ []) → flat_map f (range_with_len a n) ≡ []
 none_from f a zero h = refl
 none_from f a (suc n) h = rw (h a (omega arith) (omega arith)) (none_from f (a + 1) n (λ i low high. h i (omega arith) (omega arith)))
 

@@ -1,15 +1,18 @@
 -- Private: the find lines, as they are written.
-use Rattle.std.specs.Prelude.{◌≡◌, ℕ, ◌+◌, ◌&&◌, List, [], ◌++◌, Option, Some, None, if◌then◌else◌, length}
+use Rattle.std.specs.Prelude.{◌≡◌, ℕ, ◌+◌, ◌<◌, ◌≤◌, ◌&&◌, List, [], ◌++◌, Option, Some, None, if◌then◌else◌, length, take}
 use Rattle.std.specs.List.{flat_map, range_with_len}
 use Rattle.tape_core.specs.Devices.{Gave}
 use Rattle.tape_core.specs.Due.{bytes_at, due_time, first}
 use Rattle.tape_core.specs.Tape.{Tape}
+use Rattle.tape_core.specs.declared.chunk.Chunk.{Chunk}
 use Rattle.tape_core.specs.declared.devices.Watched.{Watched}
 use Rattle.standings.specs.Found.{found_line}
 use Rattle.standings.specs.Rows.{Row}
+use Rattle.standings.specs.Spans.{Stays}
 use Rattle.standings.specs.Standing.{is_less, is_lone, left_of, place_at, standing}
 use Rattle.standings.specs.declared.left.Standing.{Standing}
 use Rattle.standings.specs.declared.place.Place.{Place}
+use Rattle.text_find.specs.declared.behind.Steps.{Steps}
 use Rattle.text_find.specs.declared.sides.Sides.{Sides}
 use Rattle.text_find.specs.FindLines.{Screens, rows_within}
 
@@ -25,10 +28,37 @@ pub record IsStill (text : List ℕ) (screen : List Row) (still : Standing) : Ty
   pub rows : still.rows.items ≡ screen
   pub places : still.places.items ≡ standing text screen
 
--- so do both of these
-pub record AreStill (text : List ℕ) (screen : List Row) (sides : Sides) : Type 0 where
-  pub before : IsStill text screen sides.before
-  pub after : IsStill text screen sides.after
+-- these tell two screens, of which only the rows that are named differ
+pub record AreBetween (text : List ℕ) (one other : List Row) (sides : Sides) : Type 0 where
+  pub before : IsStill text one sides.before
+  pub after : IsStill text other sides.after
+  pub span : Stays sides.span sides.before.rows.items sides.after.rows.items
+
+-- and these one
+abbrev pub AreStill : List ℕ → List Row → Sides → Type 0
+AreStill text screen sides = AreBetween text screen screen sides
+
+-- a text stands nowhere, before bytes and behind each of them
+abbrev pub IsNowhere : List ℕ → (List ℕ → List Row) → List ℕ → List ℕ → Type 0
+IsNowhere text screen before bytes = (count : ℕ) → count ≤ length bytes → standing text (rows_within screen before bytes count) ≡ []
+
+-- so many bytes of a chunk were played ahead; where the text stands nowhere behind them, it did behind none of them
+pub record IsSkimmed {P T : Type 0} (shows : P → T → List ℕ → Type 0) (screens : Screens P) (profile : P) (text before bytes : List ℕ)
+    (taken : ℕ) (ahead : T) (ends : Sides) : Type 0 where
+  pub played : shows profile ahead (before ++ take taken bytes)
+  pub between : AreBetween text (screens profile before) (screens profile (before ++ take taken bytes)) ends
+  pub nowhere : standing text (screens profile (before ++ take taken bytes)) ≡ []
+      → (count : ℕ) → count < taken → standing text (rows_within (screens profile) before bytes count) ≡ []
+
+-- so many chunks were played ahead, and no more behind, on a screen that has other rows than these alone
+pub record AreFound {P T : Type 0} (shows : P → T → List ℕ → Type 0) (screens : Screens P) (profile : P) (chunks : List Chunk) (index : ℕ)
+    (text : List ℕ) (ahead : T) (ends : Sides) (behind : T) (steps : Steps) : Type 0 where
+  pub played : shows profile ahead (first chunks index)
+  pub still : AreStill text (screens profile (first chunks index)) ends
+  pub count : steps.count ≤ index
+  pub lagging : shows profile behind (first chunks steps.count)
+  pub lagging_still : AreStill text (screens profile (first chunks steps.count)) steps.sides
+  pub span : Stays steps.span steps.sides.before.rows.items ends.before.rows.items
 
 -- the line of place n, where it is less on the other screen
 abbrev pub less_line : ℕ → ℕ → ℕ → ℕ → List Row → List Place → List Row → List Place → ℕ → List ℕ

@@ -1,6 +1,7 @@
 //! What a text is looked for in: a terminal that shows rows of characters.
-ghost use Rattle.std.specs.Prelude.{◌≡◌, ◌≤◌, List, ℕ, length, IfOk, IsOk, OnOk};
+ghost use Rattle.std.specs.Prelude.{◌≡◌, ◌<◌, ◌≤◌, ◌++◌, [], List, ℕ, length, take, IfOk, IsOk, OnOk};
 ghost use Rattle.standings.specs.Spans.{Stays};
+ghost use Rattle.standings.specs.Standing.{standing};
 
 use plays::{OutOfMemory, Plays};
 use standings::{Row, Span};
@@ -38,6 +39,28 @@ pub trait Finder<T: Plays> {
             → T.told profile terminal.now before → rows.old.items ≡ screens profile before
             → OnOk result (rows.new.items ≡ screens profile after) }
         ensures others { IfOk result (λ span. Stays span rows.old.items rows.new.items) };
+
+    /// Plays a beginning of the bytes: where the text stands nowhere before it and behind it, it stands nowhere between
+    /// two of its bytes either. `rows` are those that the terminal shows before.
+    fn play_some(
+        alloc: Global,
+        terminal: &mut T,
+        rows: &[Row],
+        text: &[char],
+        bytes: &[u8],
+    ) -> Result<usize, OutOfMemory>
+        requires some { 0 < length bytes.now }
+        ensures some { IfOk result (λ taken. 0 < taken) }
+        ensures within { IfOk result (λ taken. taken ≤ length bytes.now) }
+        ensures shows { (profile : T.Profile) (before : List ℕ) → T.shows profile terminal.old before
+            → IfOk result (λ taken. T.shows profile terminal.new (before ++ take taken bytes.now)) }
+        ensures told { (profile : T.Profile) (before : List ℕ) → T.shows profile terminal.old before
+            → OnOk result (T.told profile terminal.new before) }
+        ensures between { (profile : T.Profile) (before : List ℕ) → T.shows profile terminal.old before
+            → rows.now ≡ screens profile before → standing text.now rows.now ≡ []
+            → IfOk result (λ taken. standing text.now (screens profile (before ++ take taken bytes.now)) ≡ []
+            → (count : ℕ) → count < taken
+            → standing text.now (screens profile (before ++ take count bytes.now)) ≡ []) };
 
     /// Where nothing was played a text with ink stands nowhere. Nothing is done.
     fn begins_blank()

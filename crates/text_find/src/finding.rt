@@ -7,9 +7,10 @@ ghost use Rattle.tape_core.specs.Due.{first as bytes_of_first};
 ghost use Rattle.tape_seek.specs.State.{KeepsHistory};
 ghost use Rattle.chunk_walk.specs.Stops.{OnlySeeks, StopsPrint, first_asked};
 ghost use Rattle.text_find.specs.FindLines.{NowhereOn, has_ink, lines_found};
-ghost use Rattle.text_find.specs.Lines.{AreStill, Began, chunk_lines_at};
+ghost use Rattle.text_find.specs.Lines.{AreFound, Began, chunk_lines_at};
 
-use crate::each_byte::put_chunk_at;
+use crate::behind::{Steps, steps_of};
+use crate::chunk::put_chunk_at;
 use crate::finder::Finder;
 use crate::laws::nowhere_means_nowhere;
 use crate::lines::put_from;
@@ -157,11 +158,11 @@ fn put_lines<T: Plays, F: Finder<T>, W: Write>(
     due_is_below_the_count();
     gives_join::<W>();
     let end = recording.due_count(to).max(start);
-    let mut ends = sides_of::<T, F>(alloc, behind, text)?;
-    let mut steps = sides_of::<T, F>(alloc, behind, text)?;
+    let mut ends = sides_of::<T, F>(alloc, ahead, text)?;
+    let mut steps = steps_of::<T, F>(alloc, behind, start, text)?;
     put_from(alloc, from, start, text.len(), &ends.before, writer)?;
     put_between::<T, F, W>(
-        alloc, recording, start, end, text, &mut ends, &mut steps, behind, ahead, writer,
+        alloc, recording, start, end, text, &mut ends, ahead, &mut steps, behind, writer,
     )?;
     Ok(())
 }
@@ -175,24 +176,20 @@ fn put_between<T: Plays, F: Finder<T>, W: Write>(
     end: usize,
     text: &[char],
     ends: &mut Sides,
-    steps: &mut Sides,
-    behind: &mut T,
     ahead: &mut T,
+    steps: &mut Steps,
+    behind: &mut T,
     writer: &mut Watched<W>,
 ) -> Result<(), OutOfMemory>
     requires rising { start ≤ end }
     requires within { end ≤ length recording.now.chunks }
-    ensures gave { (profile : T.Profile) → T.shows profile behind.old (bytes_of_first recording.now.chunks start)
-        → T.shows profile ahead.old (bytes_of_first recording.now.chunks start)
-        → AreStill text.now (F.screens profile (bytes_of_first recording.now.chunks start)) ends.old
-        → AreStill text.now (F.screens profile (bytes_of_first recording.now.chunks start)) steps.old
+    ensures gave { (profile : T.Profile)
+        → AreFound T.shows F.screens profile recording.now.chunks start text.now ahead.old ends.old behind.old steps.old
         → OnOk result (Gave W.contents writer.old writer.new
         (flat_map (chunk_lines_at text.now F.screens profile recording.now)
         (range_with_len start (end - start)))) }
-    ensures front { (profile : T.Profile) → T.shows profile behind.old (bytes_of_first recording.now.chunks start)
-        → T.shows profile ahead.old (bytes_of_first recording.now.chunks start)
-        → AreStill text.now (F.screens profile (bytes_of_first recording.now.chunks start)) ends.old
-        → AreStill text.now (F.screens profile (bytes_of_first recording.now.chunks start)) steps.old
+    ensures front { (profile : T.Profile)
+        → AreFound T.shows F.screens profile recording.now.chunks start text.now ahead.old ends.old behind.old steps.old
         → OnErr result (Began W.contents writer.old writer.new
         (flat_map (chunk_lines_at text.now F.screens profile recording.now)
         (range_with_len start (end - start)))) }
@@ -201,7 +198,7 @@ fn put_between<T: Plays, F: Finder<T>, W: Write>(
     gives_end::<W>();
     for index in start..end {
         put_chunk_at::<T, F, W>(
-            alloc, recording, index, text, ends, steps, behind, ahead, writer,
+            alloc, recording, index, text, ends, ahead, steps, behind, writer,
         )?;
         if writer.failed() {
             return Ok(());

@@ -2,6 +2,9 @@
 //! rows of characters.
 #![tactic(auto)]
 
+mod ahead;
+mod behind;
+mod chunk;
 mod each_byte;
 mod finder;
 mod finding;

@@ -2,19 +2,20 @@
 
 ghost use Rattle.std.specs.Prelude.{◌≡◌, List, ℕ, IfOk, OnOk};
 ghost use Rattle.standings.specs.Rows.{Row};
-ghost use Rattle.standings.specs.Spans.{Stays};
-ghost use Rattle.text_find.specs.Lines.{AreStill, IsStill};
+ghost use Rattle.text_find.specs.Lines.{AreBetween, AreStill, IsStill};
 
 use crate::finder::Finder;
 use plays::{OutOfMemory, Plays};
 use standings::{Span, Standing};
 use std::alloc::Global;
 
-/// What stands on a screen before some bytes and after them. Where none were played the two are the same.
+/// What stands on a screen before some bytes and after them, and which rows may differ. Where none were played the two
+/// are the same.
 #[derive(Drop)]
 pub(crate) struct Sides {
     pub(crate) before: Standing,
     pub(crate) after: Standing,
+    pub(crate) span: Span,
 }
 
 /// What stands on the screen of a terminal.
@@ -41,33 +42,37 @@ pub(crate) fn sides_of<T: Plays, F: Finder<T>>(
 {
     let before = still_of::<T, F>(alloc, terminal, text)?;
     let after = still_of::<T, F>(alloc, terminal, text)?;
-    Ok(Sides { before, after })
+    Ok(Sides {
+        before,
+        after,
+        span: Span::none(),
+    })
 }
 
-/// What stands after is what stands on a terminal that has played more bytes. It says which rows may differ.
+/// What stands after is what stands on a terminal that has played more bytes.
 pub(crate) fn catch_up<T: Plays, F: Finder<T>>(
     sides: &mut Sides,
     terminal: &T,
     text: &[char],
-) -> Result<Span, OutOfMemory>
-    ensures before { sides.new.before ≡ sides.old.before }
-    ensures after { (profile : T.Profile) (before after : List ℕ) → T.shows profile terminal.now after
-        → T.told profile terminal.now before → AreStill text.now (F.screens profile before) sides.old
-        → OnOk result (IsStill text.now (F.screens profile after) sides.new.after) }
-    ensures others { (screen : List Row) → AreStill text.now screen sides.old
-        → IfOk result (λ span. Stays span sides.new.before.rows.items sides.new.after.rows.items) }
+) -> Result<(), OutOfMemory>
+    ensures { (profile : T.Profile) (first before after : List ℕ) → T.shows profile terminal.now after
+        → T.told profile terminal.now before
+        → AreBetween text.now (F.screens profile first) (F.screens profile before) sides.old
+        → OnOk result (AreBetween text.now (F.screens profile first) (F.screens profile after) sides.new) }
 {
     let span = F::catch_up(&mut sides.after.rows, terminal)?;
     sides.after.look_again(text, span)?;
-    Ok(span)
+    sides.span = sides.span.joined(span);
+    Ok(())
 }
 
-/// What stands before becomes what stands after, from which only these rows may differ.
-pub(crate) fn settle(sides: &mut Sides, span: Span) -> Result<(), OutOfMemory>
-    ensures { (text : List ℕ) (screen : List Row) → IsStill text screen sides.old.after
-        → Stays span sides.old.before.rows.items sides.old.after.rows.items
-        → OnOk result (AreStill text screen sides.new) }
+/// What stands before becomes what stands after.
+pub(crate) fn settle(sides: &mut Sides) -> Result<(), OutOfMemory>
+    ensures { (text : List ℕ) (one other : List Row) → AreBetween text one other sides.old
+        → OnOk result (AreStill text other sides.new) }
 {
+    let span = sides.span;
     sides.before.follow(&sides.after, span)?;
+    sides.span = Span::none();
     Ok(())
 }

@@ -10,7 +10,7 @@ use xterm_print::{find, open};
 use xterm_term::Size;
 
 /// Chunks without delays on 12 columns and 3 lines, divided by bars, a text, and its find lines.
-const ROWS: [(&str, &str, &str); 25] = [
+const ROWS: [(&str, &str, &str); 32] = [
     // The screen is erased.
     (
         "ab\r\nab|\x1b[2J",
@@ -92,6 +92,29 @@ const ROWS: [(&str, &str, &str); 25] = [
         "\x1b[?1049hmain\x1b[?1049l",
         "main",
         "~ 0 0.000000 1 1 main\n",
+    ),
+    // It comes and goes in one printed run over older letters, of two characters and of one.
+    ("abcd|\rxyz", "xb", "~ 1 0.000000 1 1 xbcd\n"),
+    ("abc|\rx\ry", "x", "~ 1 0.000000 1 1 xbc\n"),
+    // The same over the margin: the run wraps, or the row above runs on.
+    (
+        "\x1b[2;1Hold|\x1b[1;10Habcx",
+        "co",
+        "~ 1 0.000000 1 12          abcold\n",
+    ),
+    (
+        "\x1b[1;12Ha|\x1b[2;1Hbc\x1b[2;1Hx",
+        "ab",
+        "~ 1 0.000000 1 12            abc\n",
+    ),
+    // By sequences alone, and behind one that a border of chunks cuts.
+    ("axb|\x1b[1;2H\x1b[P\x1b[@", "ab", "~ 1 0.000000 1 1 ab\n"),
+    ("ab\x1b[|2Dxy", "xb", "~ 1 0.000000 1 1 xb\n"),
+    // Chunks in which it stands nowhere lie before and between those in which it comes and goes.
+    (
+        "x|\r\ny|\x1b[1;1Hab|\x1b[2;1Hcd|\x1b[1;1Hz|q|\x1b[1;1Hab",
+        "ab",
+        "+ 2 0.000000 1 1 ab\n- 4 0.000000 1 1 ab\n+ 6 0.000000 1 1 ab\n",
     ),
     // Another left part.
     (

@@ -9,6 +9,7 @@ ghost use Rattle.xterm_print.specs.FindLines.{StandsNowhere, find_lines, has_ink
 use crate::find_rows::{read_touched, rows_read};
 use crate::seeking::seek_count;
 use chunk_walk::WalkFault;
+use plays::Plays;
 use standings::{Row, Span};
 use std::alloc::Global;
 use std::io::Write;
@@ -16,7 +17,7 @@ use tape_core::Watched;
 use tape_seek::Session;
 use text_find::Finder;
 use xterm_term::laws::{size_stays, stays_safe};
-use xterm_term::{OutOfMemory, Terminal};
+use xterm_term::{OutOfMemory, Reports, Terminal};
 
 /// Writes, as `=`, where a text stands at the moment `from`, if that is given; and for each chunk that is due
 /// after it and by `to`: `-` for where it went, `~` for where it came and went between two bytes, `+` for
@@ -79,6 +80,18 @@ impl Finder<Terminal> for Sheets {
         stays_safe();
         let screen = terminal.screen();
         Ok(read_touched(rows, screen)?)
+    }
+
+    fn play_some(
+        alloc: Global,
+        terminal: &mut Terminal,
+        _rows: &[Row],
+        _text: &[char],
+        bytes: &[u8],
+    ) -> Result<usize, OutOfMemory> {
+        let mut sink = Reports::new(alloc);
+        Plays::feed(terminal, &bytes[..1], &mut sink)?;
+        Ok(1)
     }
 
     fn begins_blank() {}

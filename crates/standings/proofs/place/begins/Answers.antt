@@ -1,4 +1,4 @@
-use Rattle.std.proofs.Common.{◌∙◌, ◌++◌, ap, drop, nat_eq, subst, sym}
+use Rattle.std.proofs.Common.{◌∙◌, ◌++◌, ap, drop, nat_eq, sym}
 use Rattle.std.specs.List.{starts_with}
 use Rattle.standings.proofs.RowLemmas.{line_along}
 use Rattle.standings.proofs.place.begins.Goals as goal

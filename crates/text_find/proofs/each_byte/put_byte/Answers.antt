@@ -1,15 +1,15 @@
-use Rattle.std.proofs.Common.{◌≡◌, ◌∙◌, ◌≤◌, refl, subst, sym}
+use Rattle.std.proofs.Common.{◌∙◌, ◌≤◌, refl, subst, sym}
 use Rattle.std.proofs.lemmas.Bool.{leb-true}
 use Rattle.std.proofs.lemmas.Result.{err_from_is_err_and}
 use Rattle.tape_core.specs.Devices.{Gave}
 use Rattle.standings.specs.Standing.{standing}
-use Rattle.text_find.specs.Lines.{AreStill, Began, IsStill}
+use Rattle.text_find.specs.Lines.{Began, IsStill}
 use Rattle.text_find.proofs.BeganLemmas.{began_none, began_whole}
 use Rattle.text_find.proofs.LineLemmas.{nothing_passed, passed_by, same_screens}
 use Rattle.text_find.proofs.each_byte.put_byte.Goals as goal
 
-pub returns-in_err-span-clause-front : goal.returns-in_err-span-clause-front
-returns-in_err-span-clause-front g c = λ profile before after h told are.
+pub returns-in_err-catch_up-clause-front : goal.returns-in_err-catch_up-clause-front
+returns-in_err-catch_up-clause-front g c = λ profile before after h told are.
     let p = err_from_is_err_and c.from_residual.result c.from_residual.ensures.1 in
     rw p.1 (began_none g.W.Write.contents c.args.writer.now _)
 
@@ -19,12 +19,11 @@ returns-then-is_none-clause-gave g c = λ profile before after h told are.
     let m = c.args.moment in
     let ends = c.args.ends.now in
     let sides = c.catch_up.new.sides in
-    let span = c.in_ok-span.span in
     let one = g.F.Finder.screens profile before in
     let other = g.F.Finder.screens profile after in
-    let is = subst (IsStill text one) (sym c.in_ok-span.ensures.before) are.before in
-    let none : span.to ≤ span.from = leb-true span.to span.from (sym c.is_none.ensures ∙ c.if-is_none.true) in
-    let same = same_screens text span one other sides.before sides.after is (c.in_ok-span.ensures.after profile before after h told are) none (c.in_ok-span.ensures.others one are) in
+    let between = c.in_ok-catch_up.ensures profile before before after h told are in
+    let none : sides.span.to ≤ sides.span.from = leb-true sides.span.to sides.span.from (sym c.is_none.ensures ∙ c.if-is_none.true) in
+    let same = same_screens text sides.span one other sides.before sides.after between.before between.after none between.span in
     subst (λ t. Gave g.W.Write.contents c.args.writer.now c.args.writer.now t)
     (sym (nothing_passed text m.index m.due m.len ends.before.rows.items ends.before.places.items ends.after.rows.items ends.after.places.items one (standing text one) other (sym same) refl))
     (c.gives_join.ensures.nothing c.args.writer.now)
@@ -33,14 +32,16 @@ pub returns-then-is_none-clause-steps : goal.returns-then-is_none-clause-steps
 returns-then-is_none-clause-steps g c = λ profile before after h told are.
     let text = c.args.text.now in
     let sides = c.catch_up.new.sides in
-    let span = c.in_ok-span.span in
     let one = g.F.Finder.screens profile before in
     let other = g.F.Finder.screens profile after in
-    let is = subst (IsStill text one) (sym c.in_ok-span.ensures.before) are.before in
-    let is' = c.in_ok-span.ensures.after profile before after h told are in
-    let none : span.to ≤ span.from = leb-true span.to span.from (sym c.is_none.ensures ∙ c.if-is_none.true) in
-    let same = same_screens text span one other sides.before sides.after is is' none (c.in_ok-span.ensures.others one are) in
-    record { before = subst (λ screen. IsStill text screen sides.before) (sym same) is; after = is' }
+    let between = c.in_ok-catch_up.ensures profile before before after h told are in
+    let none : sides.span.to ≤ sides.span.from = leb-true sides.span.to sides.span.from (sym c.is_none.ensures ∙ c.if-is_none.true) in
+    let same = same_screens text sides.span one other sides.before sides.after between.before between.after none between.span in
+    record {
+      before = subst (λ screen. IsStill text screen sides.before) (sym same) between.before;
+      after = between.after;
+      span = between.span;
+    }
 
 pub returns-in_err-put_passed-clause-front : goal.returns-in_err-put_passed-clause-front
 returns-in_err-put_passed-clause-front g c = λ profile before after h told are.
@@ -51,9 +52,9 @@ returns-in_err-put_passed-clause-front g c = λ profile before after h told are.
     let sides = c.catch_up.new.sides in
     let one = g.F.Finder.screens profile before in
     let other = g.F.Finder.screens profile after in
+    let between = c.in_ok-catch_up.ensures profile before before after h told are in
     rw p.1 (subst (λ t. Began g.W.Write.contents c.args.writer.now c.put_passed.new.writer t)
-    (passed_by text m.index m.due m.len ends.before.rows.items ends.before.places.items ends.after.rows.items ends.after.places.items one other sides.before sides.after
-    (subst (IsStill text one) (sym c.in_ok-span.ensures.before) are.before) (c.in_ok-span.ensures.after profile before after h told are))
+    (passed_by text m.index m.due m.len ends.before.rows.items ends.before.places.items ends.after.rows.items ends.after.places.items one other sides.before sides.after between.before between.after)
     c.in_err-put_passed.ensures.front)
 
 pub returns-in_err-settle-clause-front : goal.returns-in_err-settle-clause-front
@@ -65,8 +66,8 @@ returns-in_err-settle-clause-front g c = λ profile before after h told are.
     let sides = c.catch_up.new.sides in
     let one = g.F.Finder.screens profile before in
     let other = g.F.Finder.screens profile after in
+    let between = c.in_ok-catch_up.ensures profile before before after h told are in
     rw p.1 (began_whole g.W.Write.contents c.args.writer.now c.put_passed.new.writer _
     (subst (λ t. Gave g.W.Write.contents c.args.writer.now c.put_passed.new.writer t)
-    (passed_by text m.index m.due m.len ends.before.rows.items ends.before.places.items ends.after.rows.items ends.after.places.items one other sides.before sides.after
-    (subst (IsStill text one) (sym c.in_ok-span.ensures.before) are.before) (c.in_ok-span.ensures.after profile before after h told are))
+    (passed_by text m.index m.due m.len ends.before.rows.items ends.before.places.items ends.after.rows.items ends.after.places.items one other sides.before sides.after between.before between.after)
     c.in_ok-put_passed.ensures.gave))

@@ -1,85 +1,48 @@
-use Rattle.std.proofs.Common.{◌++◌, subst, sym}
+use Rattle.std.proofs.Common.{subst}
 use Rattle.std.proofs.lemmas.Result.{err_from_is_err_and}
 use Rattle.tape_core.specs.Devices.{Gave}
-use Rattle.text_find.specs.Lines.{Began, IsStill}
-use Rattle.text_find.proofs.BeganLemmas.{began_first, began_none, began_second, began_whole}
+use Rattle.text_find.specs.Lines.{Began}
+use Rattle.text_find.proofs.BeganLemmas.{began_first, began_second}
 use Rattle.text_find.proofs.LineLemmas.{chunk_in_three}
 use Rattle.text_find.proofs.each_byte.put_chunk.Goals as goal
 
-pub returns-in_err-play-clause-front : goal.returns-in_err-play-clause-front
-returns-in_err-play-clause-front g c = λ profile before h h' are are'.
-    let p = err_from_is_err_and c.from_residual.result c.from_residual.ensures.1 in
-    rw p.1 (began_none g.W.Write.contents c.args.writer.now _)
-
-pub returns-in_err-span-clause-front : goal.returns-in_err-span-clause-front
-returns-in_err-span-clause-front g c = λ profile before h h' are are'.
-    let p = err_from_is_err_and c.from_residual-in_err-span.result c.from_residual-in_err-span.ensures.1 in
-    rw p.1 (began_none g.W.Write.contents c.args.writer.now _)
-
 pub returns-in_err-put_less-clause-front : goal.returns-in_err-put_less-clause-front
-returns-in_err-put_less-clause-front g c = λ profile before h h' are are'.
-    let p = err_from_is_err_and c.from_residual-in_err-put_less.result c.from_residual-in_err-put_less.ensures.1 in
+returns-in_err-put_less-clause-front g c = λ profile before h between are.
+    let p = err_from_is_err_and c.from_residual.result c.from_residual.ensures.1 in
     let m = c.args.moment in
-    let bytes = c.args.bytes.now in
-    let sides = c.catch_up.new.sides in
-    let is = subst (IsStill c.args.text.now (g.F.Finder.screens profile before)) (sym c.in_ok-span.ensures.before) are.before in
-    let is' = c.in_ok-span.ensures.after profile before (before ++ bytes) (c.in_ok-play.ensures.shows profile before h') (c.in_ok-play.ensures.told profile before h') are in
-    let all = chunk_in_three c.args.text.now m.index m.due m.len (g.F.Finder.screens profile) before bytes sides.before sides.after c.requires is is' in
+    let ends = c.args.ends.now in
+    let all = chunk_in_three c.args.text.now m.index m.due m.len (g.F.Finder.screens profile) before c.args.bytes.now ends.before ends.after c.requires between.before between.after in
     let contents = g.W.Write.contents in
     rw p.1 (subst (λ t. Began contents c.args.writer.now c.put_less.new.writer t) all
     (began_first contents c.args.writer.now c.put_less.new.writer _ _ (began_first contents c.args.writer.now c.put_less.new.writer _ _ c.in_err-put_less.ensures.front)))
 
 pub returns-in_err-put_bytes-clause-front : goal.returns-in_err-put_bytes-clause-front
-returns-in_err-put_bytes-clause-front g c = λ profile before h h' are are'.
+returns-in_err-put_bytes-clause-front g c = λ profile before h between are.
     let p = err_from_is_err_and c.from_residual-in_err-put_bytes.result c.from_residual-in_err-put_bytes.ensures.1 in
     let m = c.args.moment in
-    let bytes = c.args.bytes.now in
-    let sides = c.catch_up.new.sides in
-    let is = subst (IsStill c.args.text.now (g.F.Finder.screens profile before)) (sym c.in_ok-span.ensures.before) are.before in
-    let is' = c.in_ok-span.ensures.after profile before (before ++ bytes) (c.in_ok-play.ensures.shows profile before h') (c.in_ok-play.ensures.told profile before h') are in
-    let all = chunk_in_three c.args.text.now m.index m.due m.len (g.F.Finder.screens profile) before bytes sides.before sides.after c.requires is is' in
+    let ends = c.args.ends.now in
+    let all = chunk_in_three c.args.text.now m.index m.due m.len (g.F.Finder.screens profile) before c.args.bytes.now ends.before ends.after c.requires between.before between.after in
     let contents = g.W.Write.contents in
     rw p.1 (subst (λ t. Began contents c.args.writer.now c.put_bytes.new.writer t) all
     (began_first contents c.args.writer.now c.put_bytes.new.writer _ _
-    (began_second contents c.args.writer.now c.put_less.new.writer c.put_bytes.new.writer _ _ c.in_ok-put_less.ensures.gave (c.in_err-put_bytes.ensures.front profile before h are'))))
+    (began_second contents c.args.writer.now c.put_less.new.writer c.put_bytes.new.writer _ _ c.in_ok-put_less.ensures.gave (c.in_err-put_bytes.ensures.front profile before h are))))
 
 pub returns-in_err-put_less-2-clause-front : goal.returns-in_err-put_less-2-clause-front
-returns-in_err-put_less-2-clause-front g c = λ profile before h h' are are'.
+returns-in_err-put_less-2-clause-front g c = λ profile before h between are.
     let p = err_from_is_err_and c.from_residual-in_err-put_less-2.result c.from_residual-in_err-put_less-2.ensures.1 in
     let m = c.args.moment in
-    let bytes = c.args.bytes.now in
-    let sides = c.catch_up.new.sides in
-    let is = subst (IsStill c.args.text.now (g.F.Finder.screens profile before)) (sym c.in_ok-span.ensures.before) are.before in
-    let is' = c.in_ok-span.ensures.after profile before (before ++ bytes) (c.in_ok-play.ensures.shows profile before h') (c.in_ok-play.ensures.told profile before h') are in
-    let all = chunk_in_three c.args.text.now m.index m.due m.len (g.F.Finder.screens profile) before bytes sides.before sides.after c.requires is is' in
+    let ends = c.args.ends.now in
+    let all = chunk_in_three c.args.text.now m.index m.due m.len (g.F.Finder.screens profile) before c.args.bytes.now ends.before ends.after c.requires between.before between.after in
     let contents = g.W.Write.contents in
     rw p.1 (subst (λ t. Began contents c.args.writer.now c.put_less-2.new.writer t) all
     (began_second contents c.args.writer.now c.put_bytes.new.writer c.put_less-2.new.writer _ _
-    (c.gives_join.ensures.both _ _ _ _ _ (c.in_ok-put_bytes.ensures.gave profile before h are') c.in_ok-put_less.ensures.gave) c.in_err-put_less-2.ensures.front))
-
-pub returns-in_err-settle-clause-front : goal.returns-in_err-settle-clause-front
-returns-in_err-settle-clause-front g c = λ profile before h h' are are'.
-    let p = err_from_is_err_and c.from_residual-in_err-settle.result c.from_residual-in_err-settle.ensures.1 in
-    let m = c.args.moment in
-    let bytes = c.args.bytes.now in
-    let sides = c.catch_up.new.sides in
-    let is = subst (IsStill c.args.text.now (g.F.Finder.screens profile before)) (sym c.in_ok-span.ensures.before) are.before in
-    let is' = c.in_ok-span.ensures.after profile before (before ++ bytes) (c.in_ok-play.ensures.shows profile before h') (c.in_ok-play.ensures.told profile before h') are in
-    let all = chunk_in_three c.args.text.now m.index m.due m.len (g.F.Finder.screens profile) before bytes sides.before sides.after c.requires is is' in
-    let contents = g.W.Write.contents in
-    rw p.1 (began_whole contents c.args.writer.now c.put_less-2.new.writer _
-    (subst (λ t. Gave contents c.args.writer.now c.put_less-2.new.writer t) all
-    (c.gives_join.ensures.both _ _ _ _ _ c.in_ok-put_less-2.ensures.gave
-    (c.gives_join.ensures.both _ _ _ _ _ (c.in_ok-put_bytes.ensures.gave profile before h are') c.in_ok-put_less.ensures.gave))))
+    (c.gives_join.ensures.both _ _ _ _ _ (c.in_ok-put_bytes.ensures.gave profile before h are) c.in_ok-put_less.ensures.gave) c.in_err-put_less-2.ensures.front))
 
 pub returns-clause-gave : goal.returns-clause-gave
-returns-clause-gave g c = λ profile before h h' are are'.
+returns-clause-gave g c = λ profile before h between are.
     let m = c.args.moment in
-    let bytes = c.args.bytes.now in
-    let sides = c.catch_up.new.sides in
-    let is = subst (IsStill c.args.text.now (g.F.Finder.screens profile before)) (sym c.in_ok-span.ensures.before) are.before in
-    let is' = c.in_ok-span.ensures.after profile before (before ++ bytes) (c.in_ok-play.ensures.shows profile before h') (c.in_ok-play.ensures.told profile before h') are in
-    let all = chunk_in_three c.args.text.now m.index m.due m.len (g.F.Finder.screens profile) before bytes sides.before sides.after c.requires is is' in
+    let ends = c.args.ends.now in
+    let all = chunk_in_three c.args.text.now m.index m.due m.len (g.F.Finder.screens profile) before c.args.bytes.now ends.before ends.after c.requires between.before between.after in
     subst (λ t. Gave g.W.Write.contents c.args.writer.now c.put_less-2.new.writer t) all
     (c.gives_join.ensures.both _ _ _ _ _ c.in_ok-put_less-2.ensures.gave
-    (c.gives_join.ensures.both _ _ _ _ _ (c.in_ok-put_bytes.ensures.gave profile before h are') c.in_ok-put_less.ensures.gave))
+    (c.gives_join.ensures.both _ _ _ _ _ (c.in_ok-put_bytes.ensures.gave profile before h are) c.in_ok-put_less.ensures.gave))

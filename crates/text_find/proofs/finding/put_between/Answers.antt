@@ -7,35 +7,32 @@ use Rattle.text_find.proofs.BeganLemmas.{began_within}
 use Rattle.text_find.proofs.finding.put_between.Goals as goal
 
 pub returns-in_err-put_chunk_at-clause-front : goal.returns-in_err-put_chunk_at-clause-front
-returns-in_err-put_chunk_at-clause-front g c = λ profile h h' are are'.
+returns-in_err-put_chunk_at-clause-front g c = λ profile found.
     let p = err_from_is_err_and c.from_residual.result c.from_residual.ensures.1 in
     let index = c.loop-index.index in
     let f = chunk_lines_at c.args.text.now g.F.Finder.screens profile c.args.recording.now in
     let kept = c.loop-index.invariant in
-    rw p.1 (began_within g.W.Write.contents c.args.writer.now c.loop-index.writer c.put_chunk_at.new.writer f c.args.start c.args.end index (omega arith) (omega arith) (kept.gave profile h h' are are')
-    (c.in_err-put_chunk_at.ensures.front profile (kept.behind profile h) (kept.ahead profile h') (kept.ends profile h' are) (kept.steps profile h are')))
+    rw p.1 (began_within g.W.Write.contents c.args.writer.now c.loop-index.writer c.put_chunk_at.new.writer f c.args.start c.args.end index (omega arith) (omega arith) (kept.gave profile found)
+    (c.in_err-put_chunk_at.ensures.front profile (kept.found profile found)))
 
 pub returns-then-failed-clause-gave : goal.returns-then-failed-clause-gave
-returns-then-failed-clause-gave g c = λ profile h h' are are'.
+returns-then-failed-clause-gave g c = λ profile found.
     let index = c.loop-index.index in
     let f = chunk_lines_at c.args.text.now g.F.Finder.screens profile c.args.recording.now in
     let kept = c.loop-index.invariant in
     c.gives_end.ensures.failed _ _ _ _ _
     (texts_cut f c.args.start c.args.end index (f index) (omega arith) (omega arith) refl)
     (sym c.failed.ensures ∙ c.if-failed.true)
-    (c.gives_join.ensures.both _ _ _ _ _ (c.in_ok-put_chunk_at.ensures.gave profile (kept.behind profile h) (kept.ahead profile h') (kept.ends profile h' are) (kept.steps profile h are')) (kept.gave profile h h' are are'))
+    (c.gives_join.ensures.both _ _ _ _ _ (c.in_ok-put_chunk_at.ensures.gave profile (kept.found profile found)) (kept.gave profile found))
 
 pub loop-index-preserved : goal.loop-index-preserved
 loop-index-preserved g c =
     let index = c.loop-index.index in
     let kept = c.loop-index.invariant in
     record {
-      behind = λ profile h. c.in_ok-put_chunk_at.ensures.behind profile (kept.behind profile h);
-      ahead = λ profile h. c.in_ok-put_chunk_at.ensures.ahead profile (kept.ahead profile h);
-      ends = λ profile h are. c.in_ok-put_chunk_at.ensures.ends profile (kept.ahead profile h) (kept.ends profile h are);
-      steps = λ profile h are. c.in_ok-put_chunk_at.ensures.steps profile (kept.behind profile h) (kept.steps profile h are);
-      gave = λ profile h h' are are'.
+      found = λ profile found. c.in_ok-put_chunk_at.ensures.found profile (kept.found profile found);
+      gave = λ profile found.
           let f = chunk_lines_at c.args.text.now g.F.Finder.screens profile c.args.recording.now in
           subst (Gave g.W.Write.contents c.args.writer.now c.put_chunk_at.new.writer) (texts_more f c.args.start index (f index) (omega arith) refl)
-          (c.gives_join.ensures.both _ _ _ _ _ (c.in_ok-put_chunk_at.ensures.gave profile (kept.behind profile h) (kept.ahead profile h') (kept.ends profile h' are) (kept.steps profile h are')) (kept.gave profile h h' are are'));
+          (c.gives_join.ensures.both _ _ _ _ _ (c.in_ok-put_chunk_at.ensures.gave profile (kept.found profile found)) (kept.gave profile found));
     }

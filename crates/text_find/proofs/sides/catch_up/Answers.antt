@@ -1,0 +1,28 @@
+use Rattle.std.proofs.Common.{◌∙◌, ap, subst, sym}
+use Rattle.standings.specs.Spans.{Stays}
+use Rattle.standings.specs.Standing.{standing}
+use Rattle.standings.proofs.SpanLemmas.{stays_both}
+use Rattle.text_find.proofs.LineLemmas.{places_kept}
+use Rattle.text_find.proofs.sides.catch_up.Goals as goal
+
+pub returns : goal.returns
+returns g c = λ profile first before after shows told are.
+    let text = c.args.text.now in
+    let sides = c.args.sides.now in
+    let one = c.catch_up.new.rows.items in
+    let other = c.look_again.new.self in
+    let kept = c.in_ok-span.ensures.rows profile before after shows told are.after.rows in
+    let same = c.look_again.ensures.rows in
+    let rows = same ∙ kept in
+    let stays = c.in_ok-span.ensures.others in
+    record {
+      before = are.before;
+      after = record {
+        rows = rows;
+        places = c.in_ok-look_again.ensures.places sides.after.rows.items stays (places_kept text (g.F.Finder.screens profile before) sides.after are.after)
+            ∙ ap (standing text) rows;
+      };
+      span = subst (λ span. Stays span sides.before.rows.items other.rows.items) (sym c.joined-sides.ensures)
+          (stays_both sides.span c.in_ok-span.span sides.before.rows.items sides.after.rows.items other.rows.items are.span
+          (subst (Stays c.in_ok-span.span sides.after.rows.items) (sym same) stays));
+    }

@@ -1,0 +1,93 @@
+//! A terminal that lags where nothing stands, and what stands on its screen.
+
+ghost use Rattle.std.specs.Prelude.{◌≡◌, ◌≤◌, List, ℕ, length, IfOk, OnOk};
+ghost use Rattle.standings.specs.Rows.{Row};
+ghost use Rattle.standings.specs.Spans.{Stays};
+ghost use Rattle.standings.specs.Standing.{standing};
+ghost use Rattle.tape_core.specs.Due.{first as bytes_of_first};
+ghost use Rattle.text_find.specs.Lines.{AreStill, IsStill};
+
+use crate::ahead::play;
+use crate::finder::Finder;
+use crate::sides::{Sides, sides_of};
+use plays::{OutOfMemory, Plays};
+use standings::{Span, Standing};
+use std::alloc::Global;
+use tape_core::Recording;
+use tape_core::laws::first_grows_by_a_chunk;
+
+/// What stands on the screen of a terminal that is played byte by byte where something may stand, and else lags.
+#[derive(Drop)]
+pub(crate) struct Steps {
+    pub(crate) sides: Sides,
+    /// How many chunks it has had.
+    pub(crate) count: usize,
+    /// The rows that may have changed since.
+    pub(crate) span: Span,
+}
+
+/// What stands on the screen of a terminal that has had so many chunks.
+pub(crate) fn steps_of<T: Plays, F: Finder<T>>(
+    alloc: Global,
+    terminal: &T,
+    count: usize,
+    text: &[char],
+) -> Result<Steps, OutOfMemory>
+    ensures sides { (profile : T.Profile) (bytes : List ℕ) → T.shows profile terminal.now bytes
+        → IfOk result (λ steps. AreStill text.now (F.screens profile bytes) steps.sides) }
+    ensures count { IfOk result (λ steps. steps.count ≡ count) }
+{
+    let sides = sides_of::<T, F>(alloc, terminal, text)?;
+    Ok(Steps {
+        sides,
+        count,
+        span: Span::none(),
+    })
+}
+
+/// Brings a terminal that lags to where a chunk begins, and what stands on its screen to what stands there.
+pub(crate) fn reach<T: Plays>(
+    alloc: Global,
+    recording: &Recording,
+    index: usize,
+    still: &Standing,
+    behind: &mut T,
+    steps: &mut Steps,
+) -> Result<(), OutOfMemory>
+    requires within { index ≤ length recording.now.chunks }
+    ensures shows { (profile : T.Profile) → steps.old.count ≤ index
+        → T.shows profile behind.old (bytes_of_first recording.now.chunks steps.old.count)
+        → OnOk result (T.shows profile behind.new (bytes_of_first recording.now.chunks index)) }
+    ensures steps { (text : List ℕ) (one other : List Row) → AreStill text one steps.old.sides
+        → Stays steps.old.span steps.old.sides.before.rows.items still.now.rows.items
+        → IsStill text other still.now → OnOk result (AreStill text other steps.new.sides) }
+{
+    play_chunks(alloc, recording, steps.count, index, behind)?;
+    let span = steps.span;
+    steps.sides.before.follow(still, span)?;
+    steps.sides.after.follow(still, span)?;
+    steps.sides.span = Span::none();
+    steps.span = Span::none();
+    steps.count = index;
+    Ok(())
+}
+
+/// Plays the chunks from one place up to and without another.
+fn play_chunks<T: Plays>(
+    alloc: Global,
+    recording: &Recording,
+    start: usize,
+    end: usize,
+    terminal: &mut T,
+) -> Result<(), OutOfMemory>
+    requires within { end ≤ length recording.now.chunks }
+    ensures { (profile : T.Profile) → start ≤ end
+        → T.shows profile terminal.old (bytes_of_first recording.now.chunks start)
+        → OnOk result (T.shows profile terminal.new (bytes_of_first recording.now.chunks end)) }
+{
+    first_grows_by_a_chunk();
+    for index in start..end {
+        play(alloc, terminal, recording.chunks()[index].bytes.as_slice())?;
+    }
+    Ok(())
+}
