@@ -9,3 +9,4 @@ mod Turns
 mod Wholes
 mod First
 mod Packed
+pub mod Over

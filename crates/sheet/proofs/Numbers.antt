@@ -256,3 +256,8 @@ text_seen text style cell are seen =
 
 pub style_seen : (text style : ℕ) (cell : Cell) → AreCell text style → cell_of text style ≡ cell → style ≡ style_number cell.kind cell.rendition
 style_seen text style cell are seen = sym (style_again text style are) ∙ ap (λ (c : Cell). style_number c.kind c.rendition) seen
+
+-- a cell whose second number is small is a character of one column
+pub small_narrow : (text style : ℕ) → style < 288230376151711744 → (cell_of text style).kind ≡ Narrow
+unfolding cell_of kind_of
+small_narrow text style small = let none : style / 33554432 / 33554432 / 256 ≡ 0 = omega arith in rw none refl

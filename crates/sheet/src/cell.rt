@@ -8,6 +8,7 @@ mod alike;
 
 use crate::pen::{COLOURS, Paper, Pen, STYLES};
 use crate::rendition::{Colour, Rendition};
+pub use alike::put_letters;
 use std::marker::Model;
 
 /// What a cell holds: a character of width 1, one of width 2, or the right half of the one at its left.

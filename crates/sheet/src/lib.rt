@@ -10,7 +10,7 @@ mod row;
 mod sheet;
 mod slot;
 
-pub use cell::{Cell, Kind};
+pub use cell::{Cell, Kind, put_letters};
 pub use edit::Edit;
 pub use pen::{Paper, Pen};
 pub use rendition::{Colour, Rendition};

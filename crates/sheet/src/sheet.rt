@@ -1,6 +1,6 @@
 //! Sheets: rows of cells behind an order, so that a scroll moves no cells.
 
-ghost use Rattle.std.specs.Prelude.{◌≡◌, ◌+◌, ◌-◌, ◌*◌, ◌<◌, ◌≤◌, IfOk, List, ℕ, false, length, true};
+ghost use Rattle.std.specs.Prelude.{◌≡◌, ◌+◌, ◌-◌, ◌*◌, ◌<◌, ◌≤◌, IfOk, List, ℕ, false, length, slice_index_or, true};
 ghost use Rattle.sheet.specs.Cells.{Cell};
 ghost use Rattle.sheet.specs.Grid.{Told, aligned, blank_row, blank_rows, first_grid, is_touched, lines_erased};
 ghost use Rattle.sheet.specs.Grid.{row_at, scrolled_down, scrolled_up, touched_from, with_row};
@@ -349,6 +349,14 @@ impl Sheet {
         self.touched[line as usize - 1]
     }
 
+    /// Whether a line was touched since that was last cleared.
+    pub fn any_touched(&self) -> bool
+        ensures { result ≡ false → (line : ℕ) → 1 ≤ line → line ≤ self.now.lines
+            → is_touched self.now.touched line ≡ false }
+    {
+        is_any(self.touched.as_slice())
+    }
+
     /// From here on all lines count as touched, as where another sheet takes the place of one that was shown.
     pub fn touch_all(&mut self)
         ensures rows { self.new.rows ≡ self.old.rows }
@@ -457,4 +465,15 @@ fn touch_lines(touched: &mut [bool], first: usize, last: usize)
     for line in first..last {
         touched[line - 1] = true;
     }
+}
+
+/// Whether one of these is true. It goes over all of them with no way out, since that is done many at a time.
+fn is_any(marks: &[bool]) -> bool
+    ensures { result ≡ false → (k : ℕ) → k < length marks.now → slice_index_or marks.now k true ≡ false }
+{
+    let mut any = false;
+    for mark in marks {
+        any |= *mark;
+    }
+    any
 }

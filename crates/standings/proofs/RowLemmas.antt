@@ -156,7 +156,7 @@ nothing_left rows at from text past =
 
 -- ---- places
 
-range_more : (a n : ℕ) → range_with_len a (n + 1) ≡ range_with_len a n ++ (a + n) ∷ []
+pub range_more : (a n : ℕ) → range_with_len a (n + 1) ≡ range_with_len a n ++ (a + n) ∷ []
 range_more a zero = ap (λ k. k ∷ []) (omega arith)
 range_more a (suc n) =
     let more : suc n + 1 ≡ suc (n + 1) = omega arith in

@@ -1,6 +1,7 @@
 //! A row of characters.
 
 ghost use Rattle.std.specs.Prelude.{◌≡◌, ◌≤◌, ◌<◌, ◌∷◌, ◌++◌, [], IfOk, OnOk, length, slice_index_or, slice_set, take};
+ghost use Rattle.std.specs.List.{range_with_len};
 ghost use Rattle.standings.specs.Rows.{empty_row, row_below};
 
 use std::alloc::{AllocError, Global};
@@ -96,6 +97,22 @@ impl Row {
         self.runs_on = runs_on;
     }
 
+    /// Becomes a row of these characters, in columns from 1 on; it has as many already.
+    pub fn spell(&mut self, characters: &[char], runs_on: bool)
+        requires characters { length characters.now ≤ length self.old.characters }
+        requires columns { length characters.now ≤ length self.old.columns }
+        requires few { length characters.now ≤ u16.MAX }
+        ensures { self.new ≡ record {
+          characters = characters.now;
+          columns = range_with_len 1 (length characters.now);
+          runs_on = runs_on;
+        } }
+    {
+        self.cut(characters.len(), runs_on);
+        self.characters.as_mut_slice().copy_from_slice(characters);
+        number(self.columns.as_mut_slice());
+    }
+
     /// Becomes a copy of another row.
     pub fn copy_from(&mut self, other: &Row) -> Result<(), AllocError>
         ensures { OnOk result (self.new ≡ other.now) }
@@ -130,6 +147,16 @@ impl Row {
         ensures { result ≡ self.now.runs_on }
     {
         self.runs_on
+    }
+}
+
+/// Becomes the columns from 1 on.
+fn number(columns: &mut [u16])
+    requires { length columns.old ≤ u16.MAX }
+    ensures { columns.new ≡ range_with_len 1 (length columns.old) }
+{
+    for at in 0..columns.len() {
+        columns[at] = at as u16 + 1;
     }
 }
 

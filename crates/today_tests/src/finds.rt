@@ -122,6 +122,25 @@ const ROWS: [(&str, &str, &str); 32] = [
         "err",
         "~ 0 0.000000 1 1 err\n~ 0 0.000000 1 2  err\n+ 0 0.000000 1 2 xerr\n",
     ),
+    // A text whose end is of the old row and whose beginning of the new one, or the other way round.
+    ("bcb|\raax", "ab", "~ 1 0.000000 1 2 aab\n"),
+    ("xxb|\rxac", "ba", ""),
+    ("b|\r\x1b[4ha", "ab", "+ 1 0.000000 1 1 ab\n"),
+    // Over the left half of a wide character, whose right half goes.
+    (
+        "\u{65e5}\u{672c}|\rab",
+        "b\u{672c}",
+        "+ 1 0.000000 1 2 ab\u{672c}\n",
+    ),
+    // A control inside a sequence acts at once, a title shows nothing.
+    (
+        "ab|\x1b[\rK",
+        "ab",
+        "+ 0 0.000000 1 1 ab\n- 1 0.000000 1 1 ab\n",
+    ),
+    ("\x1b]0;err\u{7}x", "err", ""),
+    // A sequence over a border of chunks.
+    ("ab\x1b[|1;1|Hx", "xb", "+ 2 0.000000 1 1 xb\n"),
 ];
 
 /// The find lines of chunks without delays.

@@ -12,3 +12,4 @@ pub mod Written
 mod Collecting
 mod Telling
 mod Lanes
+mod Waits

@@ -1,6 +1,7 @@
 -- What many bytes do, one after another: the folds of what one byte does.
-use Rattle.std.specs.Prelude.{◌≡◌, ℕ, List, [], ◌∷◌, Option, None}
+use Rattle.std.specs.Prelude.{◌≡◌, ◌≢◌, ℕ, List, [], ◌∷◌, Option, None}
 use Rattle.vt_parser.specs.declared.commands.Mode.{Mode}
+use Rattle.vt_parser.specs.declared.commands.Mode.TheVariants.{Ansi}
 use Rattle.vt_parser.specs.declared.commands.Command.{Command}
 use Rattle.vt_parser.specs.Step.{command_of, pending_after, mode_after}
 
@@ -27,3 +28,10 @@ Gives given mode pending (byte ∷ next ∷ rest) command =
 abbrev pub Finishes : Mode → List ℕ → Option Command → Type 0
 Finishes given bytes command =
     (mode : Mode) → Gives given mode [] bytes command × (pending_after_bytes given mode [] bytes ≡ [])
+
+-- in ANSI mode none of these bytes gives a command, and behind each of them a sequence is pending
+abbrev pub Waits : List ℕ → List ℕ → Type 0
+Waits pending [] = Unit {0}
+Waits pending (byte ∷ rest) =
+    (command_of Ansi pending byte ≡ None) × (pending_after Ansi pending byte ≢ [])
+    × Waits (pending_after Ansi pending byte) rest

@@ -1,6 +1,6 @@
 -- Private: the machine on states that the code runs, one byte from a state to a state with the command that it gives.
 -- That it agrees with the raw bytes of every sequence is a lemma.
-use Rattle.std.specs.Prelude.{◌≡◌, ℕ, ◌+◌, ◌-◌, ◌*◌, min, Bool, true, false, ◌==◌, nat_lt, if◌then◌else◌, List, [], ◌∷◌, ◌++◌, length, Option, Some, None}
+use Rattle.std.specs.Prelude.{◌≡◌, ◌≢◌, ℕ, ◌+◌, ◌-◌, ◌*◌, min, Bool, true, false, not, ◌==◌, ◌||◌, nat_lt, if◌then◌else◌, List, [], ◌∷◌, ◌++◌, length, Option, Some, None}
 use Rattle.arrayvec.specs.ArrayVec.{ArrayVec}
 use Rattle.vt_parser.specs.declared.commands.Mode.{Mode}
 use Rattle.vt_parser.specs.declared.commands.Mode.TheVariants.{Ansi, Vt52 as Vt52Mode}
@@ -131,3 +131,21 @@ Passes state mode (byte ∷ next ∷ rest) =
 pub record Arrives (state : ParserState) (mode : Mode) (bytes : List ℕ) (step : Transition) : Type 0 where
   pub runs : Runs state mode bytes step
   pub passes : Passes state mode bytes
+
+-- in ANSI mode the machine gives no command for these bytes, and isn't on ground behind any of them
+abbrev pub Holds : ParserState → List ℕ → Type 0
+Holds state [] = Unit {0}
+Holds state (byte ∷ rest) =
+    ((stepped state Ansi byte).command ≡ None) × ((stepped state Ansi byte).state ≢ Ground)
+    × Holds (stepped state Ansi byte).state rest
+
+-- a control sequence is begun
+abbrev pub is_text_begun : ParserState → Bool
+is_text_begun CsiStart = true
+is_text_begun (Csi private params over) = true
+is_text_begun CsiIgnored = true
+is_text_begun _ = false
+
+-- a byte that a string skips
+abbrev pub is_skipped : ℕ → Bool
+is_skipped byte = not (byte == 7 || byte == 24 || byte == 26 || byte == 27)

@@ -21,6 +21,7 @@ mod machine;
 mod runs;
 mod states;
 mod syntax;
+mod waiting;
 
 use commands::Event;
 pub use commands::{Command, Mode, Token};
@@ -29,6 +30,7 @@ use limits::MOST_PARAMS;
 pub use runs::printable_run;
 pub use states::{Formless, ParserState};
 use std::marker::Model;
+pub use waiting::waiting_run;
 
 /// Where a reader of terminal output stands in the control syntax.
 #[derive(Debug, Drop)]

@@ -1,7 +1,7 @@
 -- Rows that are read, a row, a cell and a character more.
 use Rattle.std.proofs.Common.{◌≡◌, ℕ, suc, ◌+◌, ◌-◌, ◌<◌, ◌≤◌, true, false, List, [], ◌∷◌, ◌++◌, append_assoc, append-nil, get_or, length, map, set, take, ap, sym, ◌∙◌, add-one, arith, refl}
 use Rattle.std.specs.List.{flat_map, range_with_len}
-use Rattle.std.proofs.lemmas.List.{get_or_past, length-take, map-append, take_all, take_more, take_more_set}
+use Rattle.std.proofs.lemmas.List.{get_or_default, get_or_past, length-take, map-append, same_lists, take_all, take_more, take_more_set}
 use Rattle.std.proofs.lemmas.List.Concat.{flat_map-append}
 use Rattle.std.proofs.lemmas.List.FromFn.{get_or-map-range_with_len, length-map-range_with_len}
 use Rattle.sheet.specs.Cells.{Cell, is_covered}
@@ -99,3 +99,11 @@ unfolding row_read kept_cells leaves_last
 read_alike row one other heeds =
     let left : (next : List Cell) → leaves_last row next ≡ false = λ next. rw heeds refl in
     rw (left one, left other) refl
+
+-- where no row was touched all are the same
+pub rows_untouched : (before now_ : List (List Cell)) → length before ≡ length now_ → ((line : ℕ) → 1 ≤ line → line ≤ length now_ → row_at now_ line ≡ row_at before line)
+    → before ≡ now_
+unfolding nth
+rows_untouched before now_ long same = same_lists before now_ long (λ k d lt.
+    let within : k < length now_ = omega (arith, long, lt) in
+    get_or_default before k d [] lt ∙ sym (same (suc k) (omega arith) (omega (arith, within))) ∙ sym (get_or_default now_ k d [] within))

@@ -4,3 +4,5 @@ pub mod SameLemmas
 pub mod ShownLemmas
 mod FindRowLemmas
 mod BlankLemmas
+mod OverLemmas
+mod PieceLemmas

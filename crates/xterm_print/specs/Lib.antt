@@ -5,5 +5,6 @@ pub mod Lending
 pub mod ChangeLines
 pub mod Kept
 pub mod FindRows
+pub mod Pieces
 pub mod FindLines
 pub mod Same

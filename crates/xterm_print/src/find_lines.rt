@@ -7,6 +7,7 @@ ghost use Rattle.chunk_walk.specs.Stops.{OnlySeeks, StopsPrint};
 ghost use Rattle.xterm_print.specs.FindLines.{StandsNowhere, find_lines, has_ink};
 
 use crate::find_rows::{read_touched, rows_read};
+use crate::pieces::piece;
 use crate::seeking::seek_count;
 use chunk_walk::WalkFault;
 use plays::Plays;
@@ -16,7 +17,7 @@ use std::io::Write;
 use tape_core::Watched;
 use tape_seek::Session;
 use text_find::Finder;
-use xterm_term::laws::{size_stays, stays_safe};
+use xterm_term::laws::{plays_in_parts, size_stays, stays_safe};
 use xterm_term::{OutOfMemory, Reports, Terminal};
 
 /// Writes, as `=`, where a text stands at the moment `from`, if that is given; and for each chunk that is due
@@ -86,12 +87,15 @@ impl Finder<Terminal> for Sheets {
         alloc: Global,
         terminal: &mut Terminal,
         _rows: &[Row],
-        _text: &[char],
+        text: &[char],
         bytes: &[u8],
     ) -> Result<usize, OutOfMemory> {
+        size_stays();
+        plays_in_parts();
+        let taken = piece(terminal, text, bytes);
         let mut sink = Reports::new(alloc);
-        Plays::feed(terminal, &bytes[..1], &mut sink)?;
-        Ok(1)
+        Plays::feed(terminal, &bytes[..taken], &mut sink)?;
+        Ok(taken)
     }
 
     fn begins_blank() {}

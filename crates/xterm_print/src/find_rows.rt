@@ -9,12 +9,15 @@ ghost use Rattle.xterm_screen.specs.Picture.{Told};
 ghost use Rattle.xterm_rows.specs.RowText.{characters, is_space};
 ghost use Rattle.xterm_print.specs.FindRows.{columns_from, ends_in_space, heeds_next, kept_cells, leaves_last, row_read, rows_read};
 
-use sheet::Cell;
 use sheet::limits::MOST_COLUMNS;
+use sheet::{Cell, put_letters};
 use standings::{Row, Span};
 use std::alloc::{AllocError, Global};
 use xterm_rows::cell_behind;
 use xterm_screen::Screen;
+
+// The rows of screens of up to so many columns are read at once.
+const AT_ONCE: usize = 160;
 
 /// The rows of the sheet that is shown.
 #[tactic(auto, unfolding(crate::specs::FindRows::rows_read))]
@@ -42,6 +45,9 @@ pub fn read_touched(rows: &mut Vec<Row>, screen: &Screen) -> Result<Span, AllocE
     let _cursor = screen.cursor();
     let mut span = Span::none();
     if rows.len() != screen.lines() as usize {
+        return Ok(span);
+    }
+    if !screen.any_touched() {
         return Ok(span);
     }
     for line in 1..screen.lines() + 1 {
@@ -115,9 +121,34 @@ fn read_again(row: &mut Row, cells: &[Cell], next: &[Cell]) -> Result<(), AllocE
 {
     let runs_on = !ends_in_space(cells) || leaves_last(cells, next);
     let kept = kept_cells(cells, next);
+    if spell(row, kept, runs_on) {
+        return Ok(());
+    }
     let plain = write_over(row, kept);
     row.cut(plain, runs_on);
     push_cells(row, kept, plain)
+}
+
+/// Becomes a row of cells that are characters of one column without marks, if all are, and if it has as many; says whether
+/// it did. Most rows are read so.
+fn spell(row: &mut Row, cells: &[Cell], runs_on: bool) -> bool
+    ensures { result ≡ true → row.new ≡ record {
+      characters = flat_map characters cells.now;
+      columns = columns_from 1 cells.now;
+      runs_on = runs_on;
+    } }
+{
+    let count = cells.len();
+    if count > AT_ONCE || count > row.count() {
+        return false;
+    }
+    let mut letters = [' '; AT_ONCE];
+    let letters = &mut letters[..count];
+    if !put_letters(cells, letters) {
+        return false;
+    }
+    row.spell(letters, runs_on);
+    true
 }
 
 /// Writes the characters of the first cells, each one character wide and without marks, over those of a row, as far as
@@ -130,7 +161,7 @@ fn write_over(row: &mut Row, cells: &[Cell]) -> usize
 {
     let end = row.count().min(cells.len());
     let mut at = 0;
-    while at < end && is_plain(cells[at]) {
+    while at < end && is_alone(cells[at]) {
         row.set(at, cells[at].character(), at as u16 + 1);
         at += 1;
     }
@@ -139,7 +170,7 @@ fn write_over(row: &mut Row, cells: &[Cell]) -> usize
 
 /// Whether a cell holds a character without marks.
 #[tactic(auto, unfolding(xterm_rows::specs::RowText::characters))]
-fn is_plain(cell: Cell) -> bool
+fn is_alone(cell: Cell) -> bool
     ensures { result ≡ true → characters cell ≡ cell.character ∷ [] }
 {
     !cell.is_covered() && cell.mark_count() == 0

@@ -6,6 +6,7 @@ mod find_lines;
 mod find_rows;
 mod kept;
 pub mod laws;
+mod pieces;
 mod plain_print;
 mod rows;
 mod same;

@@ -2,5 +2,5 @@ mod Tables
 mod Soundness
 mod Regions
 mod Stops
-mod Runs
+pub mod Runs
 mod Screens

@@ -196,6 +196,14 @@ impl Screen {
         self.shown.is_touched(line)
     }
 
+    /// Whether a line of the sheet that is shown was touched since that was last cleared.
+    pub fn any_touched(&self) -> bool
+        ensures { result ≡ false → (line : ℕ) → 1 ≤ line → line ≤ self.now.picture.lines
+            → is_touched self.now.touched line ≡ false }
+    {
+        self.shown.any_touched()
+    }
+
     /// From here on lines are told against the rows of now.
     pub fn clear_touched(&mut self)
         ensures picture { self.new.picture ≡ self.old.picture }

@@ -66,13 +66,13 @@ module _ (given : ControlIsGiven) where
 
 -- ---- a character
 
-abbrev halfway : Console → List ℕ → List ℕ → Term
+abbrev pub halfway : Console → List ℕ → List ℕ → Term
 halfway s character reports = record { console = s; sequence = []; character = character; reports = reports }
 
 upper_byte : (byte : ℕ) → begins byte ≡ true → nat_le 128 byte ≡ true
 upper_byte byte is = grind (arith, nat_tests)
 
-begun : (s : Console) (byte : ℕ) → s.title ≡ false → begins byte ≡ true → outcome_of s [] [] byte ≡ outcome s [] (byte ∷ []) []
+pub begun : (s : Console) (byte : ℕ) → s.title ≡ false → begins byte ≡ true → outcome_of s [] [] byte ≡ outcome s [] (byte ∷ []) []
 unfolding outcome_of read
 begun s byte title is = let upper = upper_byte byte is in simp (title, upper, is)
 

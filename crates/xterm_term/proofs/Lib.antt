@@ -15,3 +15,4 @@ pub mod Taken
 pub mod Idle
 pub mod Sizes
 pub mod Rowless
+pub mod Ahead

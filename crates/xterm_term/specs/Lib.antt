@@ -18,3 +18,4 @@ pub mod Seen
 pub mod Packed
 pub mod Reading
 pub mod Law
+pub mod Ahead

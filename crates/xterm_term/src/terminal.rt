@@ -5,6 +5,7 @@ ghost use Rattle.vt_parser.specs.Syntax.{is_graphic, is_within};
 ghost use Rattle.characters.specs.Utf8.{Spells, bytes_of};
 ghost use Rattle.xterm_term.specs.Reading.{GoesOn};
 
+mod ahead;
 mod packed;
 
 use crate::below::laws_below;

@@ -1,5 +1,6 @@
-use Rattle.std.proofs.Common.{◌≡◌, ◌≢◌, ℕ, ◌+◌, ◌-◌, ◌<◌, ◌≤◌, ◌∙◌, List, ap, arith, get_or-set_other, get_or-set_same, inl, inr, length, set, subst, sym}
+use Rattle.std.proofs.Common.{◌≡◌, ◌≢◌, ℕ, ◌+◌, ◌-◌, ◌<◌, ◌≤◌, ◌∙◌, List, false, ap, arith, get_or-set_other, get_or-set_same, inl, inr, length, set, subst, sym}
 use Rattle.std.proofs.lemmas.Bool.{cases_eq}
+use Rattle.std.proofs.lemmas.Bool.Decides.{nat_tests}
 use Rattle.std.proofs.lemmas.List.{length-set}
 use Rattle.sheet.specs.Cells.{Cell}
 use Rattle.sheet.specs.Grid.{row_at}
@@ -9,13 +10,21 @@ use Rattle.standings.specs.Spans.{Stays, widened}
 use Rattle.standings.proofs.SpanLemmas.{same_rows, stays_all, stays_more, widened_end}
 use Rattle.xterm_screen.specs.Picture.{Told}
 use Rattle.xterm_print.specs.FindRows.{row_read, rows_read}
-use Rattle.xterm_print.proofs.FindRowLemmas.{count_read, read_at}
+use Rattle.xterm_print.proofs.FindRowLemmas.{count_read, read_at, rows_untouched}
 use Rattle.xterm_print.proofs.find_rows.read_touched.Goals as goal
 use Rattle.xterm_print.proofs.find_rows.read_touched.Goals.{then-may_differ+in_ok-read_again, else-may_differ}
 
 pub returns-then-len-lines-clause-rows : goal.returns-then-len-lines-clause-rows
 returns-then-len-lines-clause-rows c = λ before told long is.
     absurd (omega (arith, c.if-len-lines.true, c.len.ensures, c.args.rows.now.ok.0, c.lines.ensures.value, ap length is, count_read c.args.screen.now.picture.lines before))
+
+pub returns-then-not-any_touched-clause-rows : goal.returns-then-not-any_touched-clause-rows
+returns-then-not-any_touched-clause-rows c = λ before told long is.
+    let now_ = c.args.screen.now.picture.rows in
+    let sound = c.cursor-cursor.ensures.sound in
+    let none : c.any_touched.result ≡ false = grind (arith, nat_tests) in
+    is ∙ ap (rows_read c.args.screen.now.picture.lines)
+    (rows_untouched before now_ (long ∙ sym sound.rows) (λ line low high. told line (c.any_touched.ensures none line low (omega (arith, high, sound.rows)))))
 
 pub loop-line-preserved : goal.loop-line-preserved
 loop-line-preserved c = elim c.if-may_differ.branch [

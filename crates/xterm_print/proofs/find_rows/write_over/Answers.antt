@@ -17,7 +17,7 @@ loop-at-preserved c =
     let lt : at < length cells = omega (arith, kept.within, c.loop-at-test.true) in
     let here : at < length row.characters = omega (arith, kept.count, c.loop-at-test.true, c.min-end.ensures, c.count.ensures.characters) in
     let there : at < length row.columns = omega (arith, kept.places, c.loop-at-test.true, c.min-end.ensures, c.count.ensures.columns) in
-    let plain = subst (λ x. characters x ≡ x.character ∷ []) (c.index-cells-at.is ∙ get_or_default cells at one cell lt) (c.is_plain.ensures c.if-is_plain.true) in
+    let plain = subst (λ x. characters x ≡ x.character ∷ []) (c.index-cells-at.is ∙ get_or_default cells at one cell lt) (c.is_alone.ensures c.if-is_alone.true) in
     record {
       high = omega (arith, c.loop-at-test.true);
       within = kept.within;

@@ -1,0 +1,270 @@
+-- Where a text stands nowhere before some bytes and behind them, it stands nowhere in between.
+use Rattle.std.proofs.Common.{◌≡◌, ◌≢◌, ℕ, zero, suc, ◌+◌, ◌-◌, ◌<◌, ◌≤◌, Bool, true, List, [], ◌∷◌, ◌++◌, drop, get_or, length, take, refl, ap, ap₂, subst, sym, ◌∙◌, arith, inl, inr}
+use Rattle.std.specs.Prelude.{◌==◌, ◌&&◌, if◌then◌else◌}
+use Rattle.std.specs.List.{list_all}
+use Rattle.std.proofs.Math.Seq.{sets}
+use Rattle.std.proofs.lemmas.Bool.{and_parts, cases_eq, cases_lt}
+use Rattle.std.proofs.lemmas.Bool.Decides.{nat_tests}
+use Rattle.std.proofs.lemmas.List.{append-nil, drop_all, get_or-drop, get_or-map, get_or-take, get_or_past, length-take-le, take-take, take_all}
+use Rattle.std.proofs.lemmas.List.FromFn.{get_or-map-range_with_len, length-map-range_with_len}
+use Rattle.sheet.specs.declared.rendition.Colour.TheVariants.{Default}
+use Rattle.sheet.specs.declared.rendition.Rendition.{Rendition}
+use Rattle.sheet.specs.Cells.{Cell, blank, cell_at}
+use Rattle.sheet.specs.Edits.{run_put}
+use Rattle.sheet.specs.Grid.{row_at, with_row}
+use Rattle.sheet.specs.Halves.{Whole}
+use Rattle.sheet.specs.Table.{nth, table}
+use Rattle.sheet.proofs.Over.{run_over}
+use Rattle.standings.specs.Rows.{Row, empty_row, row_below}
+use Rattle.standings.specs.Standing.{standing}
+use Rattle.standings.proofs.FrontLemmas.{IsRewritten, NoNeighbours, nowhere_between}
+use Rattle.vt_parser.specs.Syntax.{is_graphic}
+use Rattle.xterm_screen.specs.Picture.{Picture, Sound}
+use Rattle.xterm_term.specs.Ahead.{WritesOn}
+use Rattle.xterm_term.specs.Law.{PlaysInParts, SizeStays}
+use Rattle.xterm_term.specs.Term.{Term, play}
+use Rattle.xterm_term.specs.declared.measure.Size.{Size}
+use Rattle.xterm_rows.specs.Runs.{cell_behind}
+use Rattle.xterm_print.specs.FindRows.{row_read, rows_read, rows_shown}
+use Rattle.xterm_print.specs.Moments.{reset_as}
+use Rattle.xterm_print.specs.Pieces.{AreApart, IsPlain, NoneBetween, rows_behind}
+use Rattle.xterm_print.proofs.FindRowLemmas.{count_read, read_at}
+use Rattle.xterm_print.proofs.OverLemmas.{IsOver, kept, left, letters, old, old_length, read_above, read_characters, read_running, replaced, replaced_at, replaced_length, right, written}
+use Rattle.xterm_term.proofs.Taken.{nothing_played}
+
+-- ---- one row in place of another
+
+row_with : (at : ℕ) (row : List Cell) (rows : List (List Cell)) (line : ℕ) → 1 ≤ line → line ≤ length rows
+    → row_at (with_row at row rows) line ≡ (if line == at then row else row_at rows line)
+unfolding nth table
+row_with at row rows zero low high = absurd (omega (arith, low))
+row_with at row rows (suc k) low high =
+    get_or-map-range_with_len (λ line. if line == at then row else row_at rows line) 1 (length rows) k (suc k) [] (omega arith) (omega arith)
+
+row_past : (at : ℕ) (row : List Cell) (rows : List (List Cell)) (line : ℕ) → length rows < line → row_at (with_row at row rows) line ≡ row_at rows line
+unfolding nth table
+row_past at row rows zero past = refl
+row_past at row rows (suc k) past =
+    get_or_past (with_row at row rows) k [] (omega (arith, length-map-range_with_len (λ line. if line == at then row else row_at rows line) 1 (length rows)))
+    ∙ sym (get_or_past rows k [] (omega arith))
+
+row_there : (at : ℕ) (row : List Cell) (rows : List (List Cell)) → 1 ≤ at → at ≤ length rows → row_at (with_row at row rows) at ≡ row
+row_there at row rows low high = row_with at row rows at low high ∙ itself at row (row_at rows at)
+  where
+    itself : (k : ℕ) (x y : List Cell) → (if k == k then x else y) ≡ x
+    itself k x y = grind (arith, nat_tests)
+
+row_other : (at : ℕ) (row : List Cell) (rows : List (List Cell)) (line : ℕ) → 1 ≤ line → line ≢ at → row_at (with_row at row rows) line ≡ row_at rows line
+row_other at row rows line low apart = elim (cases_lt (length rows) line) [
+  | inl past ↦ row_past at row rows line past
+  | inr within ↦ row_with at row rows line low within ∙ grind (arith, nat_tests)
+]
+
+-- the rows that are read then: all but one are the same, where the row above reads both alike
+read_with : (lines at : ℕ) (row : List Cell) (rows : List (List Cell)) → length rows ≡ lines → 1 ≤ at → at ≤ lines
+    → ((other : List Cell) → row_read other row ≡ row_read other (row_at rows at))
+    → ((next : List Cell) → (row_read row next).runs_on ≡ (row_read (row_at rows at) next).runs_on)
+    → IsRewritten (at - 1) (rows_read lines rows) (rows_read lines (with_row at row rows))
+read_with lines at row rows count low high above running =
+    let new = with_row at row rows in
+    record {
+      count = count_read lines new ∙ sym (count_read lines rows);
+      others = λ k apart. elim (cases_lt k lines) [
+        | inr past ↦
+            get_or_past (rows_read lines new) k empty_row (omega (arith, count_read lines new, past))
+            ∙ sym (get_or_past (rows_read lines rows) k empty_row (omega (arith, count_read lines rows, past)))
+        | inl within ↦
+            let place : k + 1 - 1 ≡ k = omega arith in
+            let line_apart : k + 1 ≢ at = λ e. apart (omega arith) in
+            ap (row_below (rows_read lines new)) (sym place) ∙ read_at lines new (k + 1) (omega arith) (omega arith)
+            ∙ ap (λ r. row_read r (row_at new (k + 1 + 1))) (row_other at row rows (k + 1) (omega arith) line_apart)
+            ∙ elim (cases_eq (k + 1 + 1) at) [
+              | inl e ↦
+                  ap (λ l. row_read (row_at rows (k + 1)) (row_at new l)) e
+                  ∙ ap (row_read (row_at rows (k + 1))) (row_there at row rows low (omega arith)) ∙ above (row_at rows (k + 1))
+                  ∙ ap (λ l. row_read (row_at rows (k + 1)) (row_at rows l)) (sym e)
+              | inr ne ↦ ap (row_read (row_at rows (k + 1))) (row_other at row rows (k + 1 + 1) (omega arith) ne)
+            ]
+            ∙ sym (read_at lines rows (k + 1) (omega arith) (omega arith)) ∙ ap (row_below (rows_read lines rows)) place
+      ];
+      runs =
+          ap (λ (r : Row). r.runs_on) (read_at lines new at low high)
+          ∙ ap (λ r. (row_read r (row_at new (at + 1))).runs_on) (row_there at row rows low (omega arith))
+          ∙ running (row_at new (at + 1))
+          ∙ ap (λ l. (row_read (row_at rows at) l).runs_on) (row_other at row rows (at + 1) (omega arith) (λ e. omega arith))
+          ∙ sym (ap (λ (r : Row). r.runs_on) (read_at lines rows at low high));
+    }
+
+-- ---- characters over plain cells
+
+module _ (rendition : Rendition) (rows : List (List Cell)) (lines at before : ℕ) (new : List ℕ)
+    (count : length rows ≡ lines) (low : 1 ≤ at) (high : at ≤ lines) (over : IsOver (row_at rows at) before new) where
+  abbrev here : List Cell
+  here = row_at rows at
+
+  abbrev below : List Cell
+  below = row_at rows (at + 1)
+
+  abbrev with_first : ℕ → List (List Cell)
+  with_first k = with_row at (written rendition here before new over k) rows
+
+  rewritten : (k : ℕ) → k ≤ length new → IsRewritten (at - 1) (rows_read lines rows) (rows_read lines (with_first k))
+  rewritten k le =
+      read_with lines at (written rendition here before new over k) rows count low high
+      (λ other. read_above rendition here before new over k other le) (λ next. read_running rendition here before new over k next le)
+
+  characters_there : (k : ℕ) → k ≤ length new
+      → (row_below (rows_read lines (with_first k)) (at - 1)).characters ≡ (row_read (written rendition here before new over k) below).characters
+  characters_there k le =
+      let w = written rendition here before new over k in
+      ap (λ (r : Row). r.characters) (read_at lines (with_first k) at low high)
+      ∙ ap (λ r. (row_read r (row_at (with_first k) (at + 1))).characters) (row_there at w rows low (omega arith))
+      ∙ ap (λ l. (row_read w l).characters) (row_other at w rows (at + 1) (omega arith) (λ e. omega arith))
+
+  pub over_between : (text : List ℕ) (k : ℕ) → k ≤ length new
+      → (0 < k → k < length new → NoNeighbours text (get_or new (k - 1) 0) (get_or (old rendition here before new over) k 0))
+      → standing text (rows_read lines rows) ≡ [] → standing text (rows_read lines (with_first (length new))) ≡ []
+      → standing text (rows_read lines (with_first k)) ≡ []
+  over_between text k le apart none none' =
+      let n = length new in
+      let was = old rendition here before new over in
+      let all = read_characters rendition here before new over n below (omega arith) in
+      let all_new : take n new ++ drop n was ≡ new =
+      ap₂ (λ a b. a ++ b) (take_all n new (omega arith)) (drop_all n was (omega (arith, old_length rendition here before new over))) ∙ append-nil new in
+      nowhere_between text (at - 1) k (left rendition here before new over) was new _ (rows_read lines rows) (rows_read lines (with_first k)) (rows_read lines (with_first n))
+      (rewritten k le) (rewritten n (omega arith))
+      (ap (λ (r : Row). r.characters) (read_at lines rows at low high) ∙ read_characters rendition here before new over 0 below (omega arith))
+      (characters_there k le ∙ read_characters rendition here before new over k below le)
+      (characters_there n (omega arith) ∙ all ∙ ap (λ t. left rendition here before new over ++ t ++ right rendition here before new over (kept rendition here before new over below)) all_new)
+      (sym (old_length rendition here before new over)) le apart none none'
+
+-- ---- bytes that are characters over plain cells
+
+all_front : (p : ℕ → Bool) (xs : List ℕ) (k : ℕ) → list_all p xs ≡ true → list_all p (take k xs) ≡ true
+all_front p xs zero all = refl
+all_front p [] (suc k) all = refl
+all_front p (x ∷ xs) (suc k) all =
+    let parts = and_parts (p x) (list_all p xs) all in
+    let more = all_front p xs k parts.1 in
+    let first = parts.0 in
+    simp (first, more)
+
+-- the cell of a row at a column
+cell_is : (row : List Cell) (column : ℕ) → 1 ≤ column → cell_at row column ≡ get_or row (column - 1) (blank Default)
+unfolding nth
+cell_is row zero low = absurd (omega (arith, low))
+cell_is row (suc j) low = let same : j ≡ suc j - 1 = omega arith in ap (λ m. get_or row m (blank Default)) same
+
+-- so many bytes are graphic, and go over plain cells of the cursor's row, left of its last two
+pub record IsRun (p : Picture) (row : List Cell) (before : ℕ) (text bytes : List ℕ) (n : ℕ) : Type 0 where
+  pub is : row ≡ row_at p.rows p.line
+  pub at : before ≡ p.column - 1
+  pub sound : Sound p
+  pub whole : Whole row
+  pub columns : length row ≡ p.columns
+  pub within : n ≤ length bytes
+  pub room : before + n + 2 ≤ length row
+  pub graphic : list_all is_graphic (take n bytes) ≡ true
+  pub plain : (k : ℕ) → k < n → IsPlain (get_or row (before + k) (blank Default))
+  pub apart : (k : ℕ) → 0 < k → k < n → AreApart text (get_or bytes (k - 1) 0) (get_or row (before + k) (blank Default)).character
+
+abbrev cursor_row : Term → List Cell
+cursor_row x = row_at x.console.picture.rows x.console.picture.line
+
+module _ (x : Term) (before : ℕ) (text bytes : List ℕ) (n : ℕ) (writes : WritesOn x) (run : IsRun x.console.picture (cursor_row x) before text bytes n) where
+  abbrev p : Picture
+  p = x.console.picture
+
+  abbrev first : List ℕ
+  first = take n bytes
+
+  first_length : length first ≡ n
+  first_length = length-take-le n bytes run.within
+
+  over : IsOver (cursor_row x) before first
+  over = record {
+    room = omega (arith, run.room, first_length);
+    plain = λ k lt. run.plain k (omega (arith, first_length));
+  }
+
+  abbrev row_with_first : ℕ → List Cell
+  row_with_first k = written x.console.rendition (cursor_row x) before first over k
+
+  taken : (k : ℕ) → k ≤ n → take k first ≡ take k bytes
+  taken k le = take-take k n bytes le
+
+  row_put : (k : ℕ) → k ≤ n → run_put p.column (take k bytes) x.console.rendition (cursor_row x) ≡ row_with_first k
+  row_put k le =
+      let rendition = x.console.rendition in
+      let some : length (take k bytes) ≡ k = length-take-le k bytes (omega (arith, run.within)) in
+      run_over rendition (take k bytes) p.column (cursor_row x) run.whole run.sound.column_low (omega (arith, some, run.room, run.at, run.sound.column_low))
+      (λ column from to.
+      let here : column - 1 ≡ before + (column - p.column) = omega (arith, from, run.at, run.sound.column_low) in
+      ap (λ (cell : Cell). cell.kind) (cell_is (cursor_row x) column (omega (arith, from, run.sound.column_low)) ∙ ap (λ j. get_or (cursor_row x) j (blank Default)) here)
+      ∙ (run.plain (column - p.column) (omega (arith, from, to, some, le))).kind)
+      ∙ ap₂ (λ m cs. sets (cursor_row x) m (letters rendition cs)) (sym run.at) (sym (taken k le))
+
+  rows_there : (k : ℕ) → k ≤ n → rows_behind x bytes k ≡ rows_read p.lines (with_row p.line (row_with_first k) p.rows)
+  rows_there k le =
+      let some : length (take k bytes) ≡ k = length-take-le k bytes (omega (arith, run.within)) in
+      let graphic : list_all is_graphic (take k bytes) ≡ true = ap (list_all is_graphic) (sym (taken k le)) ∙ all_front is_graphic first k run.graphic in
+      ap (λ (q : Picture). rows_read p.lines q.rows) (writes (take k bytes) graphic (omega (arith, some, run.room, run.at, run.columns, run.sound.column_low)))
+      ∙ ap (λ row. rows_read p.lines (with_row p.line row p.rows)) (row_put k le)
+
+  old_at : (k : ℕ) → k < length first → get_or (old x.console.rendition (cursor_row x) before first over) k 0 ≡ (get_or (cursor_row x) (before + k) (blank Default)).character
+  old_at k lt =
+      get_or-map (λ (cell : Cell). cell.character) (replaced x.console.rendition (cursor_row x) before first over) k (blank Default) 0
+      (omega (arith, lt, replaced_length x.console.rendition (cursor_row x) before first over))
+      ∙ ap (λ (cell : Cell). cell.character) (replaced_at x.console.rendition (cursor_row x) before first over k lt)
+
+  between_here : NoneBetween text x bytes n
+  between_here none none' k lt =
+      let rendition = x.console.rendition in
+      let le : k ≤ n = omega (arith, lt) in
+      let start : rows_behind x bytes 0 ≡ rows_read p.lines p.rows = ap (λ (y : Term). rows_read p.lines y.console.picture.rows) (nothing_played x bytes 0 refl) in
+      let last : rows_behind x bytes n ≡ rows_read p.lines (with_row p.line (row_with_first (length first)) p.rows) =
+      rows_there n (omega arith) ∙ ap (λ m. rows_read p.lines (with_row p.line (row_with_first m) p.rows)) (sym first_length) in
+      ap (standing text) (rows_there k le)
+      ∙ over_between rendition p.rows p.lines p.line before first run.sound.rows run.sound.line_low run.sound.line_high over text k (omega (arith, le, first_length))
+      (λ some inside j low one other.
+      run.apart k some (omega (arith, inside, first_length)) j low
+      (one ∙ get_or-take n bytes (k - 1) 0 (omega (arith, some, lt))) (other ∙ old_at k (omega (arith, inside))))
+      (ap (standing text) (sym start) ∙ none) (ap (standing text) (sym last) ∙ none')
+
+pub run_between : (x : Term) (p : Picture) (row : List Cell) (before : ℕ) (text bytes : List ℕ) (n : ℕ) → p ≡ x.console.picture → WritesOn x
+    → IsRun p row before text bytes n → NoneBetween text x bytes n
+run_between x p row before text bytes n same writes run =
+    let here : row ≡ cursor_row x = run.is ∙ ap (λ (q : Picture). row_at q.rows q.line) same in
+    between_here x before text bytes n writes
+    (subst (λ r. IsRun x.console.picture r before text bytes n) here (subst (λ (q : Picture). IsRun q row before text bytes n) same run))
+
+-- a cell of those that are looked at
+pub cell_within : (row : List Cell) (before m k : ℕ) → k < m → cell_behind (take m (drop before row)) k ≡ get_or row (before + k) (blank Default)
+cell_within row before m k lt = get_or-take m (drop before row) k (blank Default) lt ∙ get_or-drop before row k (blank Default)
+
+-- one byte, and bytes that show nothing but maybe the last
+pub none_before_one : (x : Term) (text bytes : List ℕ) → NoneBetween text x bytes 1
+none_before_one x text bytes none none' zero lt = none
+none_before_one x text bytes none none' (suc k) lt = absurd (omega (arith, lt))
+
+pub unshown_between : (x : Term) (text bytes : List ℕ) (unshown n : ℕ) → n ≤ unshown + 1
+    → ((count : ℕ) → count ≤ unshown → (play x (take count bytes)).console.picture ≡ x.console.picture) → NoneBetween text x bytes n
+unshown_between x text bytes unshown n few same none none' k lt =
+    let rows = λ (q : Picture). rows_read x.console.picture.lines q.rows in
+    ap (λ (q : Picture). standing text (rows q)) (same k (omega (arith, lt, few)) ∙ sym (same 0 (omega arith))) ∙ none
+
+-- ---- the rows that a finder tells of
+
+pub behind_is : SizeStays → PlaysInParts → (size : Size) (before bytes : List ℕ) (count : ℕ)
+    → rows_shown size (before ++ take count bytes) ≡ rows_behind (play (reset_as size) before) bytes count
+behind_is size_law parts size before bytes count =
+    ap (λ (y : Term). rows_read size.lines y.console.picture.rows) (parts (reset_as size) before (take count bytes))
+    ∙ ap (λ n. rows_read n (play (play (reset_as size) before) (take count bytes)).console.picture.rows) (sym (size_law (reset_as size) before).lines)
+
+pub none_told : SizeStays → PlaysInParts → (size : Size) (text before bytes : List ℕ) (rows : List Row) (taken : ℕ) → NoneBetween text (play (reset_as size) before) bytes taken
+    → rows ≡ rows_shown size before → standing text rows ≡ [] → standing text (rows_shown size (before ++ take taken bytes)) ≡ []
+    → (count : ℕ) → count < taken → standing text (rows_shown size (before ++ take count bytes)) ≡ []
+none_told size_law parts size text before bytes rows taken between are none none' count lt =
+    let at = behind_is size_law parts size before bytes in
+    ap (standing text) (at count)
+    ∙ between (ap (standing text) (sym (at 0) ∙ ap (rows_shown size) (append-nil before) ∙ sym are) ∙ none) (ap (standing text) (sym (at taken)) ∙ none') count lt

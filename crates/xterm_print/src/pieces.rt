@@ -1,0 +1,97 @@
+//! How much of a chunk is played before a text is looked for again.
+
+ghost use Rattle.std.specs.Prelude.{◌≡◌, ◌-◌, ◌<◌, ◌≤◌, ℕ, length, slice_index, slice_index_or, take, true, false};
+ghost use Rattle.std.specs.List.{list_all};
+ghost use Rattle.sheet.specs.Cells.{blank};
+ghost use Rattle.sheet.specs.declared.rendition.Colour.TheVariants.{Default};
+ghost use Rattle.vt_parser.specs.Syntax.{is_graphic};
+ghost use Rattle.xterm_rows.specs.Runs.{cell_behind};
+ghost use Rattle.xterm_term.specs.Seen.{Shows};
+ghost use Rattle.xterm_term.specs.Term.{Term};
+ghost use Rattle.xterm_print.specs.Pieces.{AreApart, IsPlain, NoneBetween};
+
+use sheet::Cell;
+use xterm_term::Terminal;
+
+/// How many of the bytes to play at once: where the text stands nowhere before them and behind them, it stands nowhere in
+/// between.
+pub(crate) fn piece(terminal: &Terminal, text: &[char], bytes: &[u8]) -> usize
+    requires { 0 < length bytes.now }
+    ensures some { 0 < result }
+    ensures within { result ≤ length bytes.now }
+    ensures between { (x : Term) → Shows terminal.now x → NoneBetween text.now x bytes.now result }
+{
+    let unshown = terminal.unshown(bytes);
+    if unshown > 0 {
+        return bytes.len().min(unshown + 1);
+    }
+    let over = run_over(terminal, text, bytes);
+    if over > 0 {
+        return over;
+    }
+    1
+}
+
+/// How many of the bytes go over plain cells of the cursor's row, left of its last two, so that no two neighbours of the
+/// text come to stand on both sides of a border between new characters and old ones.
+fn run_over(terminal: &Terminal, text: &[char], bytes: &[u8]) -> usize
+    ensures within { result ≤ length bytes.now }
+    ensures between { (x : Term) → Shows terminal.now x → NoneBetween text.now x bytes.now result }
+{
+    if !terminal.writes_on() {
+        return 0;
+    }
+    let screen = terminal.screen();
+    let (line, column) = screen.cursor();
+    let cells = screen.row(line);
+    let (from, end) = (column as usize - 1, cells.len() - 2);
+    if end < from {
+        return 0;
+    }
+    run_on(&cells[from..end], text, bytes)
+}
+
+/// How many of the bytes are graphic characters, to be put over plain cells, before two neighbours of the text are the
+/// last one put and the first one left.
+fn run_on(cells: &[Cell], text: &[char], bytes: &[u8]) -> usize
+    ensures within { result ≤ length bytes.now }
+    ensures room { result ≤ length cells.now }
+    ensures graphic { list_all is_graphic (take result bytes.now) ≡ true }
+    ensures plain { (k : ℕ) → k < result → IsPlain (cell_behind cells.now k) }
+    ensures apart { (k : ℕ) → 0 < k → k < result → AreApart text.now
+        (slice_index_or bytes.now (k - 1) 0) (cell_behind cells.now k).character }
+{
+    let end = bytes.len().min(cells.len());
+    let mut at = 0;
+    while at < end && may_go_on(cells, text, bytes, at) {
+        at += 1;
+    }
+    at
+}
+
+/// Whether a byte more may be put.
+#[inline]
+fn may_go_on(cells: &[Cell], text: &[char], bytes: &[u8], at: usize) -> bool
+    requires bytes { at < length bytes.now }
+    requires cells { at < length cells.now }
+    ensures graphic { result ≡ true → is_graphic (slice_index bytes.now at) ≡ true }
+    ensures plain { result ≡ true → IsPlain (cell_behind cells.now at) }
+    ensures apart { result ≡ true → 0 < at → AreApart text.now
+        (slice_index bytes.now (at - 1)) (cell_behind cells.now at).character }
+{
+    matches!(bytes[at], 32..=126)
+        && cells[at].is_plain()
+        && (at == 0 || !are_neighbours(text, bytes[at - 1] as char, cells[at].character()))
+}
+
+/// Whether two neighbours of the text are these.
+fn are_neighbours(text: &[char], one: char, other: char) -> bool
+    ensures { result ≡ false → AreApart text.now one other }
+{
+    for at in 1..text.len() {
+        if text[at - 1] == one && text[at] == other {
+            return true;
+        }
+    }
+    false
+}

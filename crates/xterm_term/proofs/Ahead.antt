@@ -1,0 +1,168 @@
+-- What bytes will show, told before they are played.
+use Rattle.std.proofs.Common.{◌≡◌, ◌≢◌, ℕ, zero, suc, ◌+◌, ◌-◌, ◌<◌, ◌≤◌, Bool, true, false, List, [], ◌∷◌, ◌++◌, length, map, take, refl, sym, ap, subst, inl, inr, ◌∙◌, ◌&&◌, nat_le, arith}
+use Rattle.std.specs.Prelude.{Option, None, Some}
+use Rattle.std.specs.List.{list_all}
+use Rattle.std.proofs.lemmas.Bool.{cases_Bool}
+use Rattle.std.proofs.lemmas.Bool.Decides.{nat_tests}
+use Rattle.std.proofs.lemmas.List.{append-nil, length-append, length-take}
+use Rattle.characters.specs.declared.utf8.Reading.TheVariants.{More}
+use Rattle.characters.specs.Law.{AsciiIsNarrow}
+use Rattle.characters.specs.Utf8.{Spells, SpellsOn}
+use Rattle.vt_parser.specs.declared.commands.Command.{Command}
+use Rattle.vt_parser.specs.declared.commands.Mode.TheVariants.{Ansi}
+use Rattle.vt_parser.specs.declared.states.ParserState.{ParserState}
+use Rattle.vt_parser.specs.declared.states.ParserState.TheVariants.{Ground}
+use Rattle.vt_parser.specs.Fold.{Waits}
+use Rattle.vt_parser.specs.Step.{command_of, context_of, pending_after}
+use Rattle.vt_parser.specs.Syntax.{is_graphic}
+use Rattle.vt_parser.specs.View.{parser_view}
+use Rattle.xterm_screen.specs.Puts.{run_shown}
+use Rattle.xterm_screen.proofs.Runs.{run_within}
+use Rattle.xterm_term.specs.declared.sets.CharacterSet.{CharacterSet}
+use Rattle.xterm_term.specs.declared.sets.CharacterSet.TheVariants.{Ascii}
+use Rattle.xterm_term.specs.Ahead.{WritesOn, run_at_cursor}
+use Rattle.xterm_term.specs.Console.{Console}
+use Rattle.xterm_term.specs.Effect.{effect}
+use Rattle.xterm_term.specs.Law.{LawsBelow}
+use Rattle.xterm_term.specs.Puts.{all_put}
+use Rattle.xterm_term.specs.Reading.{is_ground_state}
+use Rattle.xterm_term.specs.Rows.{effect_of}
+use Rattle.xterm_term.specs.Seen.{IsTerminal, Seen, Shows}
+use Rattle.xterm_term.specs.Sets.{character_of, set_in_use}
+use Rattle.xterm_term.specs.Term.{Outcome, Term, ends_last, forgotten_if, is_ground, outcome_of, play, step, syntax_read}
+use Rattle.xterm_term.proofs.ByteKinds.{first, next, other}
+use Rattle.xterm_term.proofs.Idle.{begun, halfway}
+use Rattle.xterm_term.proofs.Ran.{at_ground}
+use Rattle.xterm_term.proofs.Runs.{ascii_map, ascii_put, on_ground, run_played, stepped}
+use Rattle.xterm_term.proofs.Taken.{front_within, nothing_played}
+
+-- nothing is pending, no title is read, the wrap isn't pending, none is inserted, and ASCII is in use
+pub record IsPlain (seen : Seen) : Type 0 where
+  pub title : seen.console.title ≡ false
+  pub state : seen.state ≡ Ground
+  pub character : seen.character ≡ []
+  pub wrap : seen.console.picture.wrap ≡ false
+  pub insert : seen.console.modes.insert ≡ false
+  pub set : set_in_use seen.console.sets ≡ Ascii
+
+module _ (laws : LawsBelow) (narrow : AsciiIsNarrow) where
+  pub writes_on : (seen : Seen) (x : Term) → IsTerminal seen → IsPlain seen → Shows seen x → WritesOn x
+  writes_on seen x is plain shows bytes graphic room =
+      let s : Console = seen.console in
+      let sound = is.safe.sound in
+      let same = shows.console in
+      let as_they_are : map (character_of (set_in_use s.sets)) bytes ≡ bytes =
+      ap (λ (set : CharacterSet). map (character_of set) bytes) plain.set ∙ ascii_map bytes in
+      let fits : s.picture.column + length bytes ≤ s.picture.columns =
+      subst (λ (t : Console). t.picture.column + length bytes ≤ t.picture.columns) same room in
+      subst (λ (t : Console). (play x bytes).console.picture ≡ run_at_cursor bytes t.rendition t.picture) (sym same)
+      (ap (λ (y : Term). (play y bytes).console.picture) (at_ground laws seen x shows plain.state plain.character)
+      ∙ ap (λ (y : Term). y.console.picture) (run_played laws.graphic_is_shown s x.reports bytes graphic plain.title).0
+      ∙ ap (λ (l : List ℕ). (all_put l s).picture) as_they_are
+      ∙ ap (λ (t : Console). t.picture) (ascii_put narrow bytes s graphic)
+      ∙ ap (λ b. run_shown bytes s.rendition s.modes.autowrap b s.picture) plain.insert
+      ∙ run_within s.rendition s.modes.autowrap bytes s.picture plain.wrap sound.line_low (omega (arith, sound.line_high, sound.rows)) fits)
+
+-- ---- bytes that show nothing
+
+forgotten_picture : (b : Bool) (s : Console) → ((forgotten_if b s).picture ≡ s.picture) × ((forgotten_if b s).title ≡ s.title)
+forgotten_picture true s = (refl, refl)
+forgotten_picture false s = (refl, refl)
+
+-- a byte from 128 on isn't waited behind on ground
+low_where_waited : (sequence : List ℕ) (byte : ℕ) → pending_after Ansi sequence byte ≢ [] → (is_ground sequence && nat_le 128 byte) ≡ false
+unfolding pending_after context_of
+low_where_waited [] byte some = elim (cases_Bool (nat_le 128 byte)) [
+  | inl t ↦ absurd (some (grind (arith, nat_tests)))
+  | inr f ↦ f
+]
+low_where_waited (b ∷ sequence) byte some = refl
+
+-- a byte that gives no command, and behind which a sequence is pending
+record Stepped (x y : Term) (sequence : List ℕ) : Type 0 where
+  picture : y.console.picture ≡ x.console.picture
+  title : y.console.title ≡ false
+  pending : y.sequence ≡ sequence
+  character : y.character ≡ []
+
+waited : (x : Term) (byte : ℕ) → x.console.title ≡ false → x.character ≡ [] → command_of Ansi x.sequence byte ≡ None → pending_after Ansi x.sequence byte ≢ []
+    → Stepped x (step x byte) (pending_after Ansi x.sequence byte)
+waited x byte title character none some =
+    let s : Console = x.console in
+    let here : syntax_read s x.sequence byte ≡ outcome_of s x.sequence x.character byte =
+    other s x.sequence byte title (low_where_waited x.sequence byte some) ∙ first s x.sequence x.character byte character in
+    let ends = ends_last x.sequence byte in
+    let quiet : (syntax_read s x.sequence byte).console ≡ forgotten_if ends s = ap (λ (c : Option Command). forgotten_if ends (effect_of effect c s)) none in
+    let console : (step x byte).console ≡ forgotten_if ends s = ap (λ (o : Outcome). o.console) (sym here) ∙ quiet in
+    record {
+      picture = ap (λ (t : Console). t.picture) console ∙ (forgotten_picture ends s).0;
+      title = ap (λ (t : Console). t.title) console ∙ (forgotten_picture ends s).1 ∙ title;
+      pending = ap (λ (o : Outcome). o.sequence) (sym here);
+      character = ap (λ (o : Outcome). o.character) (sym here);
+    }
+
+pub waits_unshown : (bytes : List ℕ) (count : ℕ) (x : Term) → x.console.title ≡ false → x.character ≡ [] → Waits x.sequence bytes
+    → (play x (take count bytes)).console.picture ≡ x.console.picture
+unfolding play
+waits_unshown bytes zero x title character waits = refl
+waits_unshown [] (suc count) x title character waits = refl
+waits_unshown (byte ∷ rest) (suc count) x title character waits =
+    let here = waited x byte title character waits.0 waits.1 in
+    waits_unshown rest count (step x byte) here.title here.character (subst (λ (l : List ℕ). Waits l rest) (sym here.pending) waits.2) ∙ here.picture
+
+-- the bytes of a character but the last
+spelled_on : (bytes : List ℕ) (s : Console) (character reports : List ℕ) (c count : ℕ) → 0 < length character → SpellsOn character bytes c → count < length bytes
+    → (play (halfway s character reports) (take count bytes)).console ≡ s
+unfolding play
+spelled_on bytes s character reports c zero some spells before = refl
+spelled_on [] s character reports c (suc count) some spells before = absurd spells
+spelled_on (byte ∷ []) s character reports c (suc count) some spells before = absurd (omega arith)
+spelled_on (byte ∷ more ∷ rest) s character reports c (suc count) some spells before =
+    let here = next s [] character byte More some (sym spells.0) in
+    let moved : step (halfway s character reports) byte ≡ halfway s (character ++ byte ∷ []) reports
+    = ap (λ (o : Outcome). stepped reports o) (sym here) ∙ ap (halfway s (character ++ byte ∷ [])) (append-nil reports) in
+    let longer = length-append character (byte ∷ []) in
+    ap (λ (x : Term). (play x (take count (more ∷ rest))).console) moved
+    ∙ spelled_on (more ∷ rest) s (character ++ byte ∷ []) reports c count (omega arith) spells.1 (omega arith)
+
+pub character_unshown : (s : Console) (reports bytes : List ℕ) (c count : ℕ) → s.title ≡ false → Spells bytes c → count < length bytes
+    → (play (on_ground s reports) (take count bytes)).console ≡ s
+unfolding play
+character_unshown s reports bytes c zero title spells before = refl
+character_unshown s reports [] c (suc count) title spells before = absurd spells
+character_unshown s reports (byte ∷ rest) c (suc count) title spells before =
+    let here = begun s byte title spells.0 in
+    let moved : step (on_ground s reports) byte ≡ halfway s (byte ∷ []) reports
+    = ap (λ (o : Outcome). stepped reports o) here ∙ ap (halfway s (byte ∷ [])) (append-nil reports) in
+    ap (λ (x : Term). (play x (take count rest)).console) moved ∙ spelled_on rest s (byte ∷ []) reports c count (omega arith) spells.1 (omega arith)
+
+pub nothing_unshown : (x : Term) (bytes : List ℕ) (count : ℕ) → count ≤ 0 → (play x (take count bytes)).console.picture ≡ x.console.picture
+nothing_unshown x bytes count none = ap (λ (y : Term). y.console.picture) (nothing_played x bytes count (omega arith))
+
+pub on_ground_alone : (state : ParserState) → is_ground_state state ≡ true → state ≡ Ground
+on_ground_alone Ground is = refl
+on_ground_alone _ is = absurd cc
+
+-- what is seen of a terminal with nothing pending but maybe a sequence
+pub record IsOpen (seen : Seen) : Type 0 where
+  pub title : seen.console.title ≡ false
+  pub character : seen.character ≡ []
+
+pub sequence_unshown : (seen : Seen) (x : Term) (bytes : List ℕ) (n count : ℕ) → IsOpen seen → Shows seen x
+    → ((pending : List ℕ) → parser_view Ansi pending ≡ Some seen.state → Waits pending (take n bytes)) → n ≤ length bytes → count ≤ n
+    → (play x (take count bytes)).console.picture ≡ x.console.picture
+sequence_unshown seen x bytes n count open_ shows waits within le =
+    let len = length-take n bytes in
+    ap (λ (l : List ℕ). (play x l).console.picture) (sym (front_within bytes count n (omega arith)))
+    ∙ waits_unshown (take n bytes) count x (ap (λ (s : Console). s.title) shows.console ∙ open_.title) (shows.character ∙ open_.character) (waits x.sequence shows.state)
+
+pub spelled_unshown : LawsBelow → (seen : Seen) (x : Term) (bytes : List ℕ) (c len count : ℕ) → IsOpen seen → seen.state ≡ Ground → Shows seen x
+    → Spells (take len bytes) c → 0 < len → len ≤ length bytes → count ≤ len - 1
+    → (play x (take count bytes)).console.picture ≡ x.console.picture
+spelled_unshown laws seen x bytes c len count open_ ground shows spells some within le =
+    let long = length-take len bytes in
+    let here = at_ground laws seen x shows ground open_.character in
+    ap (λ (l : List ℕ). (play x l).console.picture) (sym (front_within bytes count len (omega arith)))
+    ∙ ap (λ (y : Term). (play y (take count (take len bytes))).console.picture) here
+    ∙ ap (λ (s : Console). s.picture) (character_unshown seen.console x.reports (take len bytes) c count open_.title spells (omega arith))
+    ∙ ap (λ (s : Console). s.picture) (sym shows.console)
