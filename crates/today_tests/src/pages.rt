@@ -16,7 +16,7 @@ use xterm_term::Size;
 
 /// Chunks on 12 columns and 3 lines, each half a second behind the one before it, divided by bars, and the entries of
 /// their page behind its first two.
-const ROWS: [(&str, &str); 5] = [
+const ROWS: [(&str, &str); 8] = [
     ("", "[0.500000,0,1,1]"),
     // Bright, faint, reversed, drawn, with a mark, of width 2, of a colour of its own, crossed out.
     (
@@ -32,6 +32,21 @@ const ROWS: [(&str, &str); 5] = [
     (
         "a\r\na|\x1b[3;1Ha|\x1b[2J\x1b[?5h|\x1b[?25l",
         "[0.500000,0,2,2,1,[0,\"a\"],2,[0,\"a\"]],\n[1.000000,0,3,2,3,1],\n[1.500000,2,3,2,1,[0],2,[0],3,[0]],\n[2.000000,6,3,2]",
+    ),
+    // Rows that move by one line, of which a line above was the second one too.
+    (
+        "c\r\nb\r\nc|\n",
+        "[0.500000,0,3,2,1,[0,\"c\"],2,[0,\"b\"],3,[0,\"c\"]],\n[1.000000,0,3,2,1,2,2,1,3,[0]]",
+    ),
+    // The end of a row is erased.
+    (
+        "abc|\x1b[2G\x1b[K",
+        "[0.500000,0,1,4,1,[0,\"abc\"]],\n[1.000000,0,1,2,1,[0,\"a\"]]",
+    ),
+    // Drawn cells among letters, one of which is escaped.
+    (
+        "a\u{2500}\u{2500}\"b",
+        "[0.500000,0,1,6,1,[0,\"a\",16,\"\u{2500}\u{2500}\",\"\\\"b\"]]",
     ),
     // Rows that move, and what a string escapes.
     (

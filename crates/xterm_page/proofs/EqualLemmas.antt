@@ -14,7 +14,7 @@ use Rattle.xterm_rows.specs.Ink.{attribute_number}
 use Rattle.xterm_rows.proofs.BitLemmas.{SameBits, both, same_bits}
 use Rattle.xterm_print.specs.ChangeLines.{same_row as same_numbers}
 use Rattle.xterm_print.proofs.SameLemmas.{equal_same}
-use Rattle.xterm_page.specs.Same.{row_mixed, same_at, same_cell, same_colour, same_kind, same_mark, same_marks, same_rendition, same_row}
+use Rattle.xterm_page.specs.Same.{row_number, same_at, same_cell, same_colour, same_kind, same_mark, same_marks, same_rendition, same_row}
 use Rattle.xterm_page.proofs.SameLemmas.{one_fails, row_itself}
 
 -- ---- truth values and lists
@@ -132,9 +132,9 @@ rows_equal one other h =
     (λ k below. cells_equal (get_or one k (blank Default)) (get_or other k (blank Default)) (each_passes (same_at one other) (length one) k parts.1 below))
 
 -- rows with other numbers aren't the same
-pub other_sums : (one other : List Cell) → row_mixed 0 one ≢ row_mixed 0 other → same_row one other ≡ false
-other_sums one other apart = elim (cases_Bool (same_row one other)) [
-  | inl t ↦ absurd (apart (ap (row_mixed 0) (rows_equal one other t)))
+pub other_numbers : (one other : List Cell) → row_number one ≢ row_number other → same_row one other ≡ false
+other_numbers one other apart = elim (cases_Bool (same_row one other)) [
+  | inl t ↦ absurd (apart (ap row_number (rows_equal one other t)))
   | inr f ↦ f
 ]
 

@@ -1,5 +1,5 @@
 -- What is written behind a writer, through bytes that are held back.
-use Rattle.std.proofs.Common.{◌≡◌, ℕ, true, List, [], ◌++◌, Option, Result, Ok, Err, ap, sym, subst, ◌∙◌, append-nil, append_assoc}
+use Rattle.std.proofs.Common.{◌≡◌, ℕ, true, List, [], ◌++◌, Option, Result, Ok, Err, refl, ap, sym, subst, ◌∙◌, append-nil, append_assoc}
 use Rattle.std.specs.Prelude.{OnErr, is_err}
 use Rattle.std.proofs.lemmas.Bool.{false≢true}
 use Rattle.tape_core.specs.declared.devices.Watched.{Watched}
@@ -28,6 +28,15 @@ module _ {W : Type 0} {contents : W → Option (List ℕ)} where
     sent = holds.sent;
     gave = holds.gave;
     all = ap (λ l. l ++ more) holds.all ∙ append_assoc holds.sent x more ∙ ap (λ l. holds.sent ++ l) (sym is);
+  }
+
+  -- what is held goes out, and nothing behind it
+  pub wrote_all : ((a b c : Watched W) (x y : List ℕ) → Gave contents b c y → Gave contents a b x → Gave contents a c (x ++ y))
+      → (a b : Watched W) (x : List ℕ) → Gave contents a b x → Wrote contents a x b [] []
+  wrote_all joins a b x out start text holds = record {
+    sent = text;
+    gave = subst (Gave contents start b) (sym holds.all) (joins start a b holds.sent x out holds.gave);
+    all = refl;
   }
 
   -- what is held goes out, and a text behind it

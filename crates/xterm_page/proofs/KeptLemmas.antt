@@ -1,6 +1,10 @@
 -- Rows that are kept of a terminal, as it plays on.
-use Rattle.std.proofs.Common.{◌≡◌, ℕ, suc, ◌+◌, ◌-◌, ◌<◌, ◌≤◌, Bool, true, false, not, if◌then◌else◌, List, [], Option, Some, None, inl, inr, length, get_or, set, refl, ap, sym, ◌∙◌, subst, arith, get_or-set_same}
+use Rattle.std.proofs.Common.{◌≡◌, ℕ, suc, ◌+◌, ◌-◌, ◌<◌, ◌≤◌, Bool, true, false, not, if◌then◌else◌, List, [], ◌∷◌, ◌++◌, cond, filter, Option, Some, None, inl, inr, length, get_or, set, refl, ap, ap₂, sym, ◌∙◌, subst, arith, get_or-set_same}
 use Rattle.std.specs.Prelude.{◌&&◌}
+use Rattle.std.specs.List.{range_with_len}
+use Rattle.std.proofs.lemmas.List.Elements.{filter-append}
+use Rattle.screen_page.specs.Entries.{first_of}
+use Rattle.xterm_rows.proofs.RangeLemmas.{range_first, range_split}
 use Rattle.sheet.specs.Cells.{Cell}
 use Rattle.std.proofs.lemmas.Bool.{cases_Bool, not-false}
 use Rattle.std.proofs.lemmas.Option.{cond_some, none-some}
@@ -15,8 +19,11 @@ use Rattle.xterm_term.specs.Seen.{Seen, Shows}
 use Rattle.xterm_term.specs.Term.{play}
 use Rattle.xterm_print.specs.Moments.{reset_as}
 use Rattle.xterm_print.proofs.KeptLemmas.{row_read}
-use Rattle.xterm_page.specs.Parts.{AreKept, AreTold, AreWide, KeptAll, changed_text, differing, differing_row, is_renewed, line_text}
-use Rattle.xterm_page.specs.Same.{row_mixed, same_row}
+use Rattle.xterm_page.specs.Entries.{change_by, line_of}
+use Rattle.xterm_page.specs.EntryText.{named_text}
+use Rattle.xterm_page.specs.Parts.{AreKept, AreTold, AreWide, KeptAll, changed_text, is_renewed, line_text}
+use Rattle.xterm_page.specs.declared.kept.Renewed.{Renewed}
+use Rattle.xterm_page.specs.Same.{row_number, same_row}
 use Rattle.xterm_page.proofs.EqualLemmas.{lists_equal, rows_equal}
 
 -- a row that is written
@@ -63,36 +70,6 @@ lines_by law terminal size bytes shows = ap (λ s. s.picture.lines) (sym shows.c
 
 -- ---- lines that differ
 
--- what is told of a line
-pub flag_told : (touched : List Bool) (lines line : ℕ) (before after : List (List Cell)) (changed : List (Option ℕ)) (d : Option ℕ)
-    → changed ≡ differing touched lines before after → 1 ≤ line → line ≤ lines
-    → get_or changed (line - 1) d ≡ differing_row touched (row_at before line) (row_at after line) line
-flag_told touched lines line before after changed d is low high =
-    let below : line - 1 < lines = omega arith in
-    let there : 1 + (line - 1) ≡ line = omega arith in
-    ap (λ l. get_or l (line - 1) d) is
-    ∙ get_or-map-range_with_len (λ k. differing_row touched (row_at before k) (row_at after k) k) 1 lines (line - 1) line d below there
-
-pub flags_long : (touched : List Bool) (lines : ℕ) (before after : List (List Cell)) (changed : List (Option ℕ))
-    → changed ≡ differing touched lines before after → length changed ≡ lines
-flags_long touched lines before after changed is =
-    ap length is ∙ length-map-range_with_len (λ k. differing_row touched (row_at before k) (row_at after k) k) 1 lines
-
--- a line with a number is renewed, and that is its row's; another one isn't
-pub number_is : (touched : List Bool) (was row : List Cell) (line number : ℕ) → differing_row touched was row line ≡ Some number
-    → (is_renewed touched was row line ≡ true) × (number ≡ row_mixed 0 row)
-number_is touched was row line number is =
-    let both = cond_some (is_renewed touched was row line) (row_mixed 0 row) number is in
-    (both.0, sym both.1)
-
-unnumbered : (b : Bool) (n : ℕ) → (if b then Some n else None) ≡ None → b ≡ false
-unnumbered true n is = absurd (none-some n (sym is))
-unnumbered false n is = refl
-
-pub no_number : (touched : List Bool) (was row : List Cell) (line : ℕ) → differing_row touched was row line ≡ None
-    → is_renewed touched was row line ≡ false
-no_number touched was row line is = unnumbered (is_renewed touched was row line) (row_mixed 0 row) is
-
 -- where the others are told, a line that isn't renewed has the row of before
 pub stays : (touched : List Bool) (line : ℕ) (before after : List (List Cell)) → AreTold before touched after
     → is_renewed touched (row_at before line) (row_at after line) line ≡ false → row_at before line ≡ row_at after line
@@ -102,15 +79,34 @@ stays touched line before after told same = elim (cases_Bool (is_touched touched
   | inr f ↦ sym (told line f)
 ]
 
--- what is written of a line that is renewed, and of another one
-pub line_changed : (touched : List Bool) (lines line : ℕ) (before : List (List Cell)) (row : List Cell)
-    → is_renewed touched (row_at before line) row line ≡ true → changed_text lines before row line ≡ line_text touched lines before row line
-unfolding line_text
-line_changed touched lines line before row renewed =
-    sym (ap (λ b. if b then changed_text lines before row line else []) renewed)
+-- a line that was a row, where an earlier one may have been it
+abbrev pub or_line : Option ℕ → ℕ → ℕ
+or_line (Some line) other = line
+or_line None other = other
 
-pub line_stays : (touched : List Bool) (lines line : ℕ) (before : List (List Cell)) (row : List Cell)
-    → is_renewed touched (row_at before line) row line ≡ false → [] ≡ line_text touched lines before row line
-unfolding line_text
-line_stays touched lines line before row same =
-    sym (ap (λ b. if b then changed_text lines before row line else []) same)
+first_or : (xs : List ℕ) (x : ℕ) (ys : List ℕ) → first_of (xs ++ x ∷ ys) ≡ Some (or_line (first_of xs) x)
+first_or [] x ys = refl
+first_or (y ∷ xs) x ys = refl
+
+pub line_or : (rows : List (List Cell)) (row : List Cell) (place : ℕ) → place < length rows → same_row (row_at rows (place + 1)) row ≡ true
+    → line_of (length rows) rows row ≡ Some (or_line (line_of place rows row) (place + 1))
+line_or rows row place within same =
+    let p : ℕ → Bool = λ line. same_row (row_at rows line) row in
+    let more = length rows - (place + 1) in
+    let all : length rows ≡ place + (more + 1) = omega (arith, within) in
+    let next : 1 + place ≡ place + 1 = omega arith in
+    let here : p (1 + place) ≡ true = ap p next ∙ same in
+    ap (λ n. first_of (filter p (range_with_len 1 n))) all
+    ∙ ap (λ l. first_of (filter p l)) (range_split 1 place (more + 1) ∙ ap (λ l. range_with_len 1 place ++ l) (range_first (1 + place) (more + 1) more refl))
+    ∙ ap first_of (filter-append p (range_with_len 1 place) ((1 + place) ∷ range_with_len (1 + place + 1) more))
+    ∙ ap (λ b. first_of (filter p (range_with_len 1 place) ++ cond b ((1 + place) ∷ filter p (range_with_len (1 + place + 1) more)) (filter p (range_with_len (1 + place + 1) more)))) here
+    ∙ first_or (filter p (range_with_len 1 place)) (1 + place) (filter p (range_with_len (1 + place + 1) more))
+    ∙ ap (λ n. Some (or_line (line_of place rows row) n)) next
+
+-- the number of a row that a line was
+pub line_number : (rows : List (List Cell)) (row d : List Cell) (place number : ℕ) → place < length rows → d ≡ get_or rows place d
+    → number ≡ row_number d → same_row (row_at rows (place + 1)) row ≡ true → number ≡ row_number row
+line_number rows row d place number within is told same =
+    let there : place + 1 - 1 ≡ place = omega arith in
+    told ∙ ap row_number (is ∙ sym (row_read rows (place + 1) d (omega arith) (omega (arith, within)) ∙ ap (λ n. get_or rows n d) there)
+    ∙ rows_equal (row_at rows (place + 1)) row same)

@@ -2,6 +2,8 @@ pub mod SameLemmas
 pub mod EqualLemmas
 pub mod KeptLemmas
 pub mod StringLemmas
+pub mod UsedLemmas
+pub mod RenewedLemmas
 mod HeldLemmas
 pub mod PageLemmas
 pub mod Replays

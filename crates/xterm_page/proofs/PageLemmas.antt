@@ -15,8 +15,9 @@ use Rattle.xterm_term.specs.Console.{Console}
 use Rattle.xterm_page.specs.Entries.{change_of, changed_lines, changes, entry_at, entry_of, first_entry, is_changed}
 use Rattle.xterm_page.specs.EntryText.{data_text, entry_front, entry_text, named_text, next_text, size_text}
 use Rattle.xterm_page.specs.Page.{page_text}
-use Rattle.xterm_page.specs.Parts.{AreTold, changed_text, chunk_text, closing, first_text, front_text, is_renewed, line_text, lines_text, opening}
+use Rattle.xterm_page.specs.Parts.{AreTold, changed_text, chunk_text, closing, first_text, front_text, is_renewed, line_text, lines_text, opening, renewed, renewed_text}
 use Rattle.xterm_page.specs.Same.{same_row}
+use Rattle.xterm_page.proofs.RenewedLemmas.{told_of}
 use Rattle.xterm_page.proofs.SameLemmas.{row_itself}
 
 -- ---- the lines that an entry names
@@ -52,6 +53,15 @@ lines_told touched lines before after told =
     (λ line. if is_renewed touched (row_at before line) (row_at after line) line then text line else [])
     (λ line. ap (λ b. if b then text line else []) (sym (renewed_is touched before after line told)))
     (range_with_len 1 lines)
+
+-- the lines that are told as changed are these
+pub lines_renewed : (touched : List Bool) (lines : ℕ) (before after : List (List Cell))
+    → flat_map (renewed_text after) (renewed touched lines before after) ≡ lines_text touched lines before after
+unfolding lines_text line_text changed_text
+lines_renewed touched lines before after =
+    let p : ℕ → Bool = λ line. is_renewed touched (row_at before line) (row_at after line) line in
+    flat_map-map (renewed_text after) (told_of lines before after) (filter p (range_with_len 1 lines))
+    ∙ passing (λ line. renewed_text after (told_of lines before after line)) p (range_with_len 1 lines)
 
 -- an entry: what opens it, its front, its lines, and what closes it
 pub entry_is : (touched : List Bool) (due : ℕ) (before : List (List Cell)) (after : Console) → AreTold before touched after.picture.rows

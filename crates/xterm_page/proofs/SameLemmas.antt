@@ -11,22 +11,15 @@ use Rattle.sheet.specs.declared.rendition.Rendition.{Rendition}
 use Rattle.sheet.specs.declared.cell.Kind.{Kind}
 use Rattle.sheet.specs.declared.cell.Kind.TheVariants.{Narrow, Wide, Covered}
 use Rattle.sheet.specs.Cells.{Cell}
-use Rattle.sheet.specs.Mixed.{mixed}
 use Rattle.xterm_rows.specs.Ink.{attribute_number}
 use Rattle.xterm_rows.specs.Runs.{cell_behind}
-use Rattle.xterm_page.specs.Same.{row_mixed, same_at, same_cell, same_colour, same_kind, same_mark, same_marks, same_rendition, same_row}
+use Rattle.xterm_page.specs.Same.{same_at, same_cell, same_colour, same_kind, same_mark, same_marks, same_rendition, same_row}
 
 -- where one number fails, not all pass
 pub one_fails : (p : ℕ → Bool) (n k : ℕ) → k < n → p k ≡ false → list_all p (range_with_len 0 n) ≡ false
 one_fails p n k below fails =
     let there : 0 + k ≡ k = omega arith in
     list_all_at p (range_with_len 0 n) k 0 (omega (arith, length-range_with_len 0 n)) (ap p (get_or-range_with_len 0 n k 0 below ∙ there) ∙ fails)
-
--- a cell more is mixed in
-pub mixed_more : (sum : ℕ) (cells : List Cell) (cell : Cell)
-    → row_mixed sum (cells ++ cell ∷ []) ≡ mixed (row_mixed sum cells) cell
-mixed_more sum [] cell = refl
-mixed_more sum (first ∷ cells) cell = mixed_more (mixed sum first) cells cell
 
 -- ---- each cell and row is the same as itself
 

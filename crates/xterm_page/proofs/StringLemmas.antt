@@ -1,15 +1,20 @@
 -- Characters as they stand in a string, and a cell character by character.
-use Rattle.std.proofs.Common.{◌≡◌, ◌≢◌, ℕ, ◌+◌, ◌<◌, ◌≤◌, List, [], ◌∷◌, ◌++◌, encode_utf8, length, get_or, take, drop, ap, sym, ◌∙◌, arith, append-nil, append_assoc, inl, inr}
+use Rattle.std.proofs.Common.{◌≡◌, ◌≢◌, ℕ, ◌+◌, ◌-◌, ◌<◌, ◌≤◌, List, [], ◌∷◌, ◌++◌, encode_utf8, length, get_or, take, drop, ap, sym, ◌∙◌, arith, append-nil, append_assoc, subst, false, inl, inr}
 use Rattle.std.specs.List.{flat_map}
 use Rattle.std.proofs.lemmas.Bool.{cases_lt}
 use Rattle.std.proofs.lemmas.Bool.Decides.{nat_tests}
-use Rattle.std.proofs.lemmas.List.{take_more}
+use Rattle.std.proofs.lemmas.List.{drop-drop, get_or-drop, take_more}
 use Rattle.std.proofs.lemmas.List.Concat.{flat_map-append}
 use Rattle.std.proofs.lemmas.Str.{encode_ascii}
 use Rattle.std.proofs.Math.Seq.{take-add}
 use Rattle.sheet.specs.declared.cell.Kind.TheVariants.{Narrow}
-use Rattle.sheet.specs.Cells.{Cell, covered_kind, is_covered}
+use Rattle.sheet.specs.declared.rendition.Colour.TheVariants.{Default}
+use Rattle.sheet.specs.declared.rendition.Rendition.{Rendition}
+use Rattle.sheet.specs.Cells.{Cell, blank, covered_kind, is_covered}
 use Rattle.xterm_rows.specs.RowText.{printed}
+use Rattle.xterm_rows.specs.Letters.{AreLetters, IsLetter}
+use Rattle.xterm_rows.specs.Runs.{begins, cell_behind}
+use Rattle.xterm_rows.proofs.LetterLemmas.{none_begin}
 use Rattle.xterm_print.proofs.PlainLemmas.{printed_open}
 use Rattle.screen_page.specs.EntryText.{comma_number, string_byte}
 use Rattle.screen_page.proofs.StringLemmas.{narrow_character, wide_character}
@@ -45,6 +50,24 @@ string_split cells n m =
     ap string_of (take-add n m cells)
     ∙ ap (flat_map string_byte) (flat_map-append printed (take n cells) (take m (drop n cells)))
     ∙ flat_map-append string_byte (flat_map printed (take n cells)) (flat_map printed (take m (drop n cells)))
+
+-- the same of those from a place on
+pub string_on : (cells : List Cell) (at end count : ℕ) → at ≤ end
+    → string_of (take (end + count - at) (drop at cells)) ≡ string_of (take (end - at) (drop at cells)) ++ string_of (take count (drop end cells))
+string_on cells at end count low =
+    let parts : end + count - at ≡ end - at + count = omega (arith, low) in
+    let there : at + (end - at) ≡ end = omega (arith, low) in
+    ap (λ n. string_of (take n (drop at cells))) parts
+    ∙ string_split (drop at cells) (end - at) count
+    ∙ ap (λ l. string_of (take (end - at) (drop at cells)) ++ string_of (take count l)) (drop-drop (end - at) at cells ∙ ap (λ n. drop n cells) there)
+
+-- among letters from a place on no run begins
+pub letters_go_on : (r : Rendition) (cells : List Cell) (at count : ℕ) → AreLetters r (drop at cells) 0 count
+    → (k : ℕ) → at < k → k < at + count → begins cells k ≡ false
+letters_go_on r cells at count are =
+    none_begin r cells at (at + count) (λ k low high.
+    let there : at + (k - at) ≡ k = omega (arith, low) in
+    subst (IsLetter r) (get_or-drop at cells (k - at) (blank Default) ∙ ap (cell_behind cells) there) (are (k - at) (omega arith) (omega (arith, low, high))))
 
 -- one element more, as a string has it
 pub text_more : {X : Type 0} (f : X → List ℕ) (xs : List X) (n : ℕ) (d : X) → n < length xs

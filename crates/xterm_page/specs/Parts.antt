@@ -1,14 +1,15 @@
 -- Private: the parts of a page in the order in which they are written.
-use Rattle.std.specs.Prelude.{◌≡◌, ℕ, ◌≤◌, Bool, false, not, List, [], ◌∷◌, ◌++◌, ◌&&◌, Option, Some, None, length, map, if◌then◌else◌}
+use Rattle.std.specs.Prelude.{◌≡◌, ℕ, ◌≤◌, Bool, false, not, All, List, [], ◌∷◌, ◌++◌, ◌&&◌, filter, length, map, if◌then◌else◌}
 use Rattle.std.specs.List.{flat_map, range_with_len}
 use Rattle.sheet.specs.Cells.{Cell}
 use Rattle.sheet.specs.Grid.{is_touched, row_at}
 use Rattle.screen_page.specs.Page.{front, tail}
 use Rattle.xterm_term.specs.declared.measure.Size.{Size}
 use Rattle.xterm_term.specs.Console.{Console}
-use Rattle.xterm_page.specs.Entries.{change_of, console_by, entry_by, entry_of, first_entry}
+use Rattle.xterm_page.specs.Entries.{change_by, change_of, console_by, entry_by, entry_of, first_entry, line_of}
+use Rattle.xterm_page.specs.declared.kept.Renewed.{Renewed}
 use Rattle.xterm_page.specs.EntryText.{entry_front, named_text, next_text, size_text}
-use Rattle.xterm_page.specs.Same.{row_mixed, same_row}
+use Rattle.xterm_page.specs.Same.{row_number, same_row}
 
 -- what stands before the chunks' entries ..
 unfoldable pub first_text : List ℕ
@@ -33,14 +34,30 @@ changed_text lines before row line = named_text (change_of lines before row line
 abbrev pub is_renewed : List Bool → List Cell → List Cell → ℕ → Bool
 is_renewed touched was row line = is_touched touched line && not (same_row was row)
 
--- its number then
-abbrev pub differing_row : List Bool → List Cell → List Cell → ℕ → Option ℕ
-differing_row touched was row line = if is_renewed touched was row line then Some (row_mixed 0 row) else None
+-- what is known of a row: its number, and the first of so many lines that was this row before
+abbrev pub renewed_of : ℕ → List (List Cell) → List Cell → Renewed
+renewed_of lines before row = record { number = row_number row; was = line_of lines before row }
 
--- that of each line, of so many
-abbrev pub differing : List Bool → ℕ → List (List Cell) → List (List Cell) → List (Option ℕ)
-differing touched lines before after =
-    map (λ line. differing_row touched (row_at before line) (row_at after line) line) (range_with_len 1 lines)
+-- the lines that are told as changed, up to one
+abbrev pub renewed_lines : ℕ → List Bool → List (List Cell) → List (List Cell) → List ℕ
+renewed_lines to touched before after =
+    filter (λ line. is_renewed touched (row_at before line) (row_at after line) line) (range_with_len 1 to)
+
+-- what is known of each of them, up to one of so many and of all
+abbrev pub renewed_to : ℕ → List Bool → ℕ → List (List Cell) → List (List Cell) → List (ℕ × Renewed)
+renewed_to to touched lines before after =
+    map (λ line. (line, renewed_of lines before (row_at after line))) (renewed_lines to touched before after)
+
+abbrev pub renewed : List Bool → ℕ → List (List Cell) → List (List Cell) → List (ℕ × Renewed)
+renewed touched lines before after = renewed_to lines touched lines before after
+
+-- these are lines of so many
+abbrev pub AreLines : ℕ → List (ℕ × Renewed) → Type 0
+AreLines lines changed = All (λ one. (1 ≤ one.0) × (one.0 ≤ lines)) changed
+
+-- what is written of a line by what is known of it
+abbrev pub renewed_text : List (List Cell) → ℕ × Renewed → List ℕ
+renewed_text after (line, renewed) = named_text (line, change_by renewed.was (row_at after line))
 
 -- what is written of a line
 unfoldable pub line_text : List Bool → ℕ → List (List Cell) → List Cell → ℕ → List ℕ

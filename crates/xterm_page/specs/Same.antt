@@ -54,7 +54,7 @@ same_row one other =
 
 -- ---- private: a number that most rows don't share
 
--- all cells of a row are mixed into a number
-abbrev pub row_mixed : ℕ → List Cell → ℕ
-row_mixed sum [] = sum
-row_mixed sum (cell ∷ cells) = row_mixed (mixed sum cell) cells
+-- the cells of a row are mixed into a number from the last one on, from one on to which blank cells add nothing
+abbrev pub row_number : List Cell → ℕ
+row_number [] = 3316033757095235816
+row_number (cell ∷ cells) = mixed (row_number cells) cell

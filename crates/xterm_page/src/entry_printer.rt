@@ -1,15 +1,17 @@
 //! The entry of a chunk.
 
-ghost use Rattle.std.specs.Prelude.{◌≡◌, length};
+ghost use Rattle.std.specs.Prelude.{◌≡◌, List};
+ghost use Rattle.std.specs.List.{flat_map};
+ghost use Rattle.sheet.specs.Cells.{Cell};
 ghost use Rattle.tape_core.specs.Devices.{Gave};
 ghost use Rattle.xterm_page.specs.Entries.{entry_of};
 ghost use Rattle.xterm_page.specs.EntryText.{next_text};
 ghost use Rattle.xterm_page.specs.Held.{Wrote};
-ghost use Rattle.xterm_page.specs.Parts.{differing, front_text, lines_text};
+ghost use Rattle.xterm_page.specs.Parts.{AreLines, front_text, renewed, renewed_text};
 ghost use Rattle.xterm_term.specs.Seen.{Told};
 
 use crate::held::{HELD, let_out, put, put_byte, put_comma_number};
-use crate::kept::{KeptRow, catch_up, changed_rows, kept_rows};
+use crate::kept::{KeptRow, Renewed, catch_up, changed_rows, kept_rows};
 use crate::rows::put_changed;
 use arrayvec::ArrayVec;
 use chunk_walk::Visitor;
@@ -62,32 +64,31 @@ impl Visitor<Terminal> for EntryPrinter {
         let screen = terminal.screen();
         if kept.len() == screen.lines() as usize {
             let changed = changed_rows(self.alloc, kept.as_slice(), screen)?;
-            put_entry(due, kept.as_slice(), changed.as_slice(), terminal, writer);
+            put_entry(due, changed.as_slice(), terminal, writer);
             catch_up(kept.as_mut_slice(), changed.as_slice(), screen);
         }
         Ok(())
     }
 }
 
-/// Writes an entry behind another one.
+/// Writes an entry behind another one, whatever stood before it, by the lines that have changed.
 fn put_entry<W: Write>(
     due: u64,
-    before: &[KeptRow],
-    changed: &[Option<u64>],
+    changed: &[(u16, Renewed)],
     after: &Terminal,
     writer: &mut Watched<W>,
 )
-    requires lines { length before.now ≡ after.now.console.picture.lines }
-    requires changed { changed.now ≡ differing after.now.touched after.now.console.picture.lines
-        before.now after.now.console.picture.rows }
-    ensures { Told before.now after.now → Gave W.contents writer.old writer.new
-        (next_text (entry_of due before.now after.now.console)) }
+    requires { AreLines after.now.console.picture.lines changed.now }
+    ensures { (before : List (List Cell)) → Told before after.now
+        → changed.now ≡ renewed after.now.touched after.now.console.picture.lines before
+        after.now.console.picture.rows → Gave W.contents writer.old writer.new
+        (next_text (entry_of due before after.now.console)) }
 {
     gives_join::<W>();
     let mut held = ArrayVec::new();
     put(b",\n[", &mut held, writer);
     put_front(due, after, &mut held, writer);
-    put_lines(before, changed, after.screen(), &mut held, writer);
+    put_lines(changed, after.screen(), &mut held, writer);
     put_byte(b']', &mut held, writer);
     let_out(&mut held, writer);
 }
@@ -113,29 +114,24 @@ fn put_front<W: Write>(
 
 /// Writes what the lines are that a chunk changes.
 fn put_lines<W: Write>(
-    before: &[KeptRow],
-    changed: &[Option<u64>],
+    changed: &[(u16, Renewed)],
     screen: &Screen,
     held: &mut ArrayVec<u8, HELD>,
     writer: &mut Watched<W>,
 )
-    requires lines { length before.now ≡ screen.now.picture.lines }
-    requires changed { changed.now ≡ differing screen.now.touched screen.now.picture.lines
-        before.now screen.now.picture.rows }
+    requires { AreLines screen.now.picture.lines changed.now }
     ensures { Wrote W.contents writer.old held.old.items writer.new held.new.items
-        (lines_text screen.now.touched screen.now.picture.lines before.now
-        screen.now.picture.rows) }
+        (flat_map (renewed_text screen.now.picture.rows) changed.now) }
 {
-    for line in 1..screen.lines() + 1 {
-        if let Some(number) = changed[line as usize - 1] {
-            put_changed(
-                before,
-                screen.row(line),
-                number,
-                line as usize,
-                held,
-                writer,
-            );
-        }
+    for at in 0..changed.len() {
+        let (line, renewed) = changed[at];
+        put_changed(
+            line as usize,
+            renewed.was,
+            screen.row(line),
+            screen.used(line),
+            held,
+            writer,
+        );
     }
 }

@@ -1,6 +1,6 @@
 //! Bytes that are held back, so that many go out at once.
 
-ghost use Rattle.std.specs.Prelude.{◌≡◌, [], ◌∷◌, decimal};
+ghost use Rattle.std.specs.Prelude.{◌≡◌, ◌<◌, [], ◌∷◌, decimal, length};
 ghost use Rattle.tape_core.specs.Devices.{Gave};
 ghost use Rattle.screen_page.specs.EntryText.{comma_number};
 ghost use Rattle.xterm_page.specs.Held.{Wrote};
@@ -26,18 +26,29 @@ pub(crate) fn put<W: Write>(bytes: &[u8], held: &mut ArrayVec<u8, HELD>, writer:
 }
 
 /// Writes a byte.
+#[inline(always)]
 pub(crate) fn put_byte<W: Write>(byte: u8, held: &mut ArrayVec<u8, HELD>, writer: &mut Watched<W>)
     ensures { Wrote W.contents writer.old held.old.items writer.new held.new.items
         (byte ∷ []) }
 {
+    make_room(held, writer);
+    held.push(byte);
+}
+
+/// Sees to it that a byte more can be held.
+#[inline(always)]
+fn make_room<W: Write>(held: &mut ArrayVec<u8, HELD>, writer: &mut Watched<W>)
+    ensures room { length held.new.items < HELD }
+    ensures wrote { Wrote W.contents writer.old held.old.items writer.new held.new.items [] }
+{
     gives_join::<W>();
-    if held.try_push(byte).is_err() {
+    if held.is_full() {
         let_out(held, writer);
-        writer.give(&[byte]);
     }
 }
 
 /// Gives the writer what is held.
+#[inline(never)]
 pub(crate) fn let_out<W: Write>(held: &mut ArrayVec<u8, HELD>, writer: &mut Watched<W>)
     ensures gave { Gave W.contents writer.old writer.new held.old.items }
     ensures none { held.new.items ≡ [] }
@@ -46,7 +57,7 @@ pub(crate) fn let_out<W: Write>(held: &mut ArrayVec<u8, HELD>, writer: &mut Watc
     held.clear();
 }
 
-/// Writes a number. Most have a digit alone.
+/// Writes a number. Most have a digit or two.
 #[tactic(auto, using(std::proofs::lemmas::Fmt::decimal_digit))]
 fn put_number<W: Write>(number: usize, held: &mut ArrayVec<u8, HELD>, writer: &mut Watched<W>)
     ensures { Wrote W.contents writer.old held.old.items writer.new held.new.items
@@ -54,6 +65,9 @@ fn put_number<W: Write>(number: usize, held: &mut ArrayVec<u8, HELD>, writer: &m
 {
     if number < 10 {
         put_byte(b'0' + number as u8, held, writer);
+    } else if number < 100 {
+        put_byte(b'0' + (number / 10) as u8, held, writer);
+        put_byte(b'0' + (number % 10) as u8, held, writer);
     } else {
         put(Buffer::new().format(number).as_bytes(), held, writer);
     }

@@ -9,7 +9,7 @@ pub both : (s t : Bool) → (s && t) ≡ true → (s ≡ true) × (t ≡ true)
 both true t h = (refl, h)
 both false t h = absurd (false≢true h)
 
-bit_low : (b : Bool) → bit b ≤ 1
+pub bit_low : (b : Bool) → bit b ≤ 1
 bit_low true = omega arith
 bit_low false = omega arith
 

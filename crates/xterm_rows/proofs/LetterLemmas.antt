@@ -1,5 +1,5 @@
 -- Cells that are blank, and neighbours in one run.
-use Rattle.std.proofs.Common.{◌≡◌, ◌≢◌, ℕ, ◌+◌, ◌*◌, ◌-◌, ◌/◌, ◌<◌, ◌≤◌, get_or, inl, inr, subst, true, false, not, List, [], length, refl, ap, ap₂, ◌∙◌, sym, if◌then◌else◌, arith}
+use Rattle.std.proofs.Common.{◌≡◌, ◌≢◌, Bool, ℕ, ◌+◌, ◌*◌, ◌-◌, ◌/◌, ◌<◌, ◌≤◌, get_or, inl, inr, subst, true, false, not, List, [], length, refl, ap, ap₂, ◌∙◌, sym, if◌then◌else◌, arith}
 use Rattle.std.specs.Prelude.{◌&&◌, ◌||◌, ◌==◌, nat_eq, nat_lt}
 use Rattle.std.proofs.lemmas.Bool.{cases_Bool, cases_eq, eqb-true}
 use Rattle.std.proofs.lemmas.Bool.Decides.{nat_tests}
@@ -12,13 +12,13 @@ use Rattle.sheet.specs.Cells.{Cell, blank, covered_kind, is_covered, is_wide, wi
 use Rattle.sheet.specs.Mixed.{AreAlike}
 use Rattle.sheet.specs.Numbers.{attribute_number as sheet_attributes, colour_number as sheet_colour}
 use Rattle.xterm_rows.specs.Ink.{attribute_number, bit, colour_number, is_blank}
-use Rattle.xterm_rows.specs.Letters.{AreJoined, AreParted, IsLetter}
+use Rattle.xterm_rows.specs.Letters.{AreJoined, AreLetters, AreParted, AreUnlike, IsLetter}
 use Rattle.xterm_rows.specs.Outlines.{is_braille, is_outlined, outline, outline_in}
 use Rattle.xterm_rows.specs.OutlineTable.{block}
 use Rattle.xterm_rows.specs.RowText.{is_space}
 use Rattle.xterm_rows.specs.Runs.{begins, cell_behind, goes_on, is_marked, kind_number, kind_of, owner}
 use Rattle.xterm_rows.specs.declared.runs.Kind.{Kind}
-use Rattle.xterm_rows.proofs.BitLemmas.{SameBits, both, same_bits}
+use Rattle.xterm_rows.proofs.BitLemmas.{SameBits, bit_low, both, same_bits}
 
 blank_itself : is_blank (blank Default) ≡ true
 unfolding is_space is_covered blank attribute_number colour_number
@@ -124,6 +124,94 @@ kind_is r cell letter =
     let rendition = letter.rendition_is in
     cc
 
+-- a blank cell is a letter, and one in its rendition has no numbers
+pub blank_letter : IsLetter (blank Default).rendition (blank Default)
+unfolding blank
+blank_letter = record { kind = refl; rendition_is = refl; alone = refl; low = omega arith }
+
+pub plain_kind : (cell : Cell) → IsLetter (blank Default).rendition cell → 0 ≡ kind_number (kind_of cell)
+unfolding kind_number attribute_number blank
+plain_kind cell letter = ap kind_number (sym (kind_is (blank Default).rendition cell letter))
+
+pub plain_ink : (cell : Cell) → IsLetter (blank Default).rendition cell → 0 ≡ colour_number cell.rendition.ink
+unfolding colour_number blank
+plain_ink cell letter = ap (λ (r : Rendition). colour_number r.ink) (sym letter.rendition_is)
+
+pub plain_paper : (cell : Cell) → IsLetter (blank Default).rendition cell → 0 ≡ colour_number cell.rendition.paper
+unfolding colour_number blank
+plain_paper cell letter = ap (λ (r : Rendition). colour_number r.paper) (sym letter.rendition_is)
+
+-- ---- neighbours of which one is drawn
+
+-- a kind without marks
+abbrev bare : Rendition → Bool → Bool → Kind
+bare r drawn wide = record { rendition = r; drawn = drawn; wide = wide; marked = false }
+
+and_true : (b : Bool) → (b && true) ≡ b
+and_true true = refl
+and_true false = refl
+
+bare_is : (cell : Cell) → length cell.marks ≡ 0 → kind_of cell ≡ bare cell.rendition (is_outlined cell.character) (is_wide cell)
+unfolding kind_of
+bare_is cell alone =
+    let marked = unmarked cell alone in
+    let drawn : (is_outlined cell.character && not (is_marked cell)) ≡ is_outlined cell.character =
+    ap (λ m. is_outlined cell.character && not m) marked ∙ and_true (is_outlined cell.character) in
+    cc
+
+other_number : (n m : ℕ) → n ≢ m → (n == m) ≡ false
+other_number n m apart = grind (arith, nat_tests)
+
+-- 16 stands in the number of one that is drawn alone
+sixteen : (x y z w : ℕ) → x ≤ 15 → z ≤ 15 → x + 16 + 32 * y ≢ z + 32 * w
+sixteen x y z w low low' same = omega (arith, low, low', same)
+
+low_bits : Rendition → ℕ
+low_bits r = bit r.bold + 2 * bit r.underscore + 4 * bit r.blink + 8 * bit r.reverse
+
+high_bits : Rendition → Bool → ℕ
+high_bits r wide = bit r.faint + 2 * bit r.italic + 4 * bit r.concealed + 8 * bit r.crossed_out + 16 * bit wide
+
+low_few : (r : Rendition) → low_bits r ≤ 15
+unfolding low_bits
+low_few r = omega (arith, bit_low r.bold, bit_low r.underscore, bit_low r.blink, bit_low r.reverse)
+
+bare_number : (r : Rendition) (drawn wide : Bool) → kind_number (bare r drawn wide) ≡ low_bits r + 16 * bit drawn + 32 * high_bits r wide
+unfolding kind_number attribute_number low_bits high_bits
+bare_number r drawn wide = omega arith
+
+drawn_apart : (r s : Rendition) (d e v w : Bool) → d ≢ e → kind_number (bare r d v) ≢ kind_number (bare s e w)
+drawn_apart r s true true v w apart same = absurd (apart refl)
+drawn_apart r s true false v w apart same =
+    sixteen (low_bits r) (high_bits r v) (low_bits s) (high_bits s w) (low_few r) (low_few s)
+    (omega (arith, same, bare_number r true v, bare_number s false w))
+drawn_apart r s false true v w apart same =
+    sixteen (low_bits s) (high_bits s w) (low_bits r) (high_bits r v) (low_few s) (low_few r)
+    (omega (arith, same, bare_number r false v, bare_number s true w))
+drawn_apart r s false false v w apart same = absurd (apart refl)
+
+-- at one that is drawn behind one that isn't, or the other way round, a run begins
+pub unlike_begin : (cells : List Cell) (at : ℕ) → at ≢ 0 → AreUnlike (cell_behind cells (at - 1)) (cell_behind cells at)
+    → begins cells at ≡ true
+unfolding begins
+unlike_begin cells at some are =
+    let before = cell_behind cells (at - 1) in
+    let cell = cell_behind cells at in
+    let kind = kind_of (owner cells (at - 1)) in
+    let is : kind ≡ bare before.rendition (is_outlined before.character) (is_wide before) =
+    ap kind_of (owns_itself cells (at - 1) are.uncovered) ∙ bare_is before are.alone in
+    let one = bare before.rendition (is_outlined before.character) (is_wide before) in
+    let other = bare cell.rendition (is_outlined cell.character) (is_wide cell) in
+    let apart = other_number (kind_number one) (kind_number other)
+    (drawn_apart before.rendition cell.rendition (is_outlined before.character) (is_outlined cell.character) (is_wide before) (is_wide cell) are.drawn) in
+    let stops : goes_on one other ≡ false =
+    ap (λ b. ((b && (colour_number one.rendition.ink == colour_number other.rendition.ink))
+    && (colour_number one.rendition.paper == colour_number other.rendition.paper)) && not one.marked) apart in
+    ap (λ b. b || (not (is_covered cell) && not (goes_on kind (kind_of cell)))) (is_some at some)
+    ∙ ap (λ b. not b && not (goes_on kind (kind_of cell))) are.uncovered_too
+    ∙ ap₂ (λ (p q : Kind). not (goes_on p q)) is (bare_is cell are.alone_too)
+    ∙ ap not stops
+
 -- the numbers of the sheet follow from those of a run
 colour_as : (c : Colour) → sheet_colour c ≡ colour_number c
 unfolding sheet_colour colour_number
@@ -175,10 +263,6 @@ parted_begin cells at some are =
     ∙ ap not stops
 
 -- ---- letters in a row
-
--- the letters so far
-abbrev pub AreLetters : Rendition → List Cell → ℕ → ℕ → Type 0
-AreLetters r cells from end = (k : ℕ) → from ≤ k → k < end → IsLetter r (cell_behind cells k)
 
 -- what is read at a place
 pub letter_read : (cells : List Cell) (at : ℕ) (cell : Cell) (r : Rendition) → at < length cells → cell ≡ get_or cells at cell

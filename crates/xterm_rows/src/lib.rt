@@ -10,4 +10,4 @@ mod runs;
 pub use cells::{cell_behind, inked, owner, trimmed};
 pub use outlines::{is_braille, outline};
 pub use renditions::{attribute_number, colour_number};
-pub use runs::{Kind, Run, run_at};
+pub use runs::{Kind, Run, begins, is_letter, is_letter_like, kind_numbers, run_at};

@@ -40,10 +40,13 @@ pub fn is_braille(character: char) -> bool
     0x2800 <= code && code < 0x2900
 }
 
-/// Whether a character is drawn.
-#[tactic(auto, unfolding(crate::specs::Outlines::is_outlined))]
+/// Whether a character is drawn. None of ASCII is.
+#[tactic(auto, using(crate::proofs::LetterLemmas::not_drawn), unfolding(crate::specs::Outlines::is_outlined))]
 pub(crate) fn is_outlined(character: char) -> bool
     ensures { result ≡ is_outlined character }
 {
+    if (character as u32) < 128 {
+        return false;
+    }
     is_braille(character) || !outline(character).is_empty()
 }

@@ -2,7 +2,8 @@
 
 ghost use Rattle.std.specs.Prelude.{◌≡◌, ◌≤◌, ◌<◌, ℕ, false, IsTrue, length};
 ghost use Rattle.xterm_rows.specs.Groups.{group_end};
-ghost use Rattle.xterm_rows.specs.Letters.{AreJoined, AreParted, IsLetter};
+ghost use Rattle.xterm_rows.specs.Ink.{colour_number};
+ghost use Rattle.xterm_rows.specs.Letters.{AreJoined, AreParted, AreUnlike, IsLetter};
 ghost use Rattle.xterm_rows.specs.Runs.{begins, goes_on, kind_number, kind_of, run_at};
 
 use crate::cells::{cell_behind, owner};
@@ -30,6 +31,7 @@ pub struct Run {
 
 impl Kind {
     /// The kind of a cell's character.
+    #[inline(always)]
     #[tactic(auto, unfolding(crate::specs::Runs::kind_of))]
     fn of(cell: Cell) -> Self
         ensures { result ≡ kind_of cell }
@@ -112,15 +114,30 @@ fn letters_end(cells: &[Cell], at: usize) -> usize
     end
 }
 
+/// The number of a character's kind but for its colours, and those of its ink and its paper. Of most letters all are 0.
+#[tactic(auto, using(crate::proofs::LetterLemmas::plain_kind, crate::proofs::LetterLemmas::plain_ink, crate::proofs::LetterLemmas::plain_paper))]
+pub fn kind_numbers(cell: Cell) -> (u16, u32, u32)
+    ensures kind { result.0 ≡ kind_number (kind_of cell) }
+    ensures ink { result.1 ≡ colour_number cell.rendition.ink }
+    ensures paper { result.2 ≡ colour_number cell.rendition.paper }
+{
+    if is_letter_like(Cell::empty(), cell) {
+        return (0, 0, 0);
+    }
+    let kind = Kind::of(cell);
+    let (ink, paper) = (kind.rendition.ink, kind.rendition.paper);
+    (kind.number(), colour_number(ink), colour_number(paper))
+}
+
 /// Whether a cell is a letter: a character of ASCII alone.
-fn is_letter(cell: Cell) -> bool
+pub fn is_letter(cell: Cell) -> bool
     ensures { IsTrue result → IsLetter cell.rendition cell }
 {
     cell.is_narrow() && cell.is_ascii()
 }
 
 /// Whether another cell is a letter in the rendition of one that is a letter.
-fn is_letter_like(letter: Cell, cell: Cell) -> bool
+pub fn is_letter_like(letter: Cell, cell: Cell) -> bool
     requires { IsLetter letter.rendition letter }
     ensures { IsTrue result → IsLetter letter.rendition cell }
 {
@@ -128,13 +145,16 @@ fn is_letter_like(letter: Cell, cell: Cell) -> bool
 }
 
 /// Whether a run begins at a place.
-fn begins(cells: &[Cell], at: usize) -> bool
+pub fn begins(cells: &[Cell], at: usize) -> bool
     ensures { result ≡ begins cells.now at }
 {
     if at > 0 && are_joined(cell_behind(cells, at - 1), cell_behind(cells, at)) {
         return false;
     }
     if at > 0 && are_parted(cell_behind(cells, at - 1), cell_behind(cells, at)) {
+        return true;
+    }
+    if at > 0 && is_one_drawn(cell_behind(cells, at - 1), cell_behind(cells, at)) {
         return true;
     }
     begins_by_kind(cells, at)
@@ -150,12 +170,25 @@ fn are_parted(one: Cell, other: Cell) -> bool
     false
 }
 
+/// Whether of two neighbours without marks one is drawn, and the other isn't.
+fn is_one_drawn(one: Cell, other: Cell) -> bool
+    ensures { IsTrue result → AreUnlike one other }
+{
+    if one.is_covered() || other.is_covered() || one.mark_count() + other.mark_count() > 0 {
+        return false;
+    }
+    is_outlined(one.character()) != is_outlined(other.character())
+}
+
 /// Whether two neighbours are in one run, as far as that is told without a look at each part.
 fn are_joined(one: Cell, other: Cell) -> bool
     ensures { IsTrue result → AreJoined one other }
 {
     if !one.same_style(other) || one.is_covered() || one.mark_count() + other.mark_count() > 0 {
         return false;
+    }
+    if one == other {
+        return true;
     }
     is_outlined(one.character()) == is_outlined(other.character())
 }

@@ -1,26 +1,24 @@
-use Rattle.std.proofs.Common.{◌∷◌, ◌++◌, List, [], ℕ, Bool, ap, ap₂, subst, sym, ◌∙◌}
+use Rattle.std.proofs.Common.{◌∷◌, ◌++◌, List, [], ℕ, ap, subst, sym, ◌∙◌}
+use Rattle.std.specs.List.{flat_map}
 use Rattle.tape_core.specs.Devices.{Gave}
 use Rattle.xterm_screen.specs.Picture.{Picture}
 use Rattle.xterm_page.specs.Held.{Wrote}
-use Rattle.xterm_page.specs.Parts.{differing, front_text, lines_text}
+use Rattle.xterm_page.specs.Parts.{AreLines, front_text, lines_text, renewed_text}
 use Rattle.xterm_page.proofs.HeldLemmas.{gave_all, wrote_both}
-use Rattle.xterm_page.proofs.PageLemmas.{entry_is}
+use Rattle.xterm_page.proofs.PageLemmas.{entry_is, lines_renewed}
 use Rattle.xterm_page.proofs.entry_printer.put_entry.Goals as goal
 
 pub put_lines-requires : goal.put_lines-requires
-put_lines-requires g c = record {
-  lines = c.requires.lines ∙ ap (λ (p : Picture). p.lines) (sym c.screen.ensures.value);
-  changed = c.requires.changed ∙ ap₂ (λ (t : List Bool) (p : Picture). differing t p.lines c.args.before.now p.rows) (sym c.screen.ensures.touched) (sym c.screen.ensures.value);
-}
+put_lines-requires g c = subst (λ (p : Picture). AreLines p.lines c.args.changed.now) (sym c.screen.ensures.value) c.requires
 
 pub returns : goal.returns
-returns g c = λ tells.
+returns g c = λ before tells is.
     let seen = c.args.after.now in
     let after = seen.console in
-    let before = c.args.before.now in
     let joins = c.gives_join.ensures in
     let told = subst (Wrote g.W.Write.contents c.put_front.new.writer c.put_front.new.held.items c.put_lines.new.writer c.put_lines.new.held.items)
-    (ap₂ (λ (t : List Bool) (p : Picture). lines_text t p.lines before p.rows) c.screen.ensures.touched c.screen.ensures.value) c.put_lines.ensures in
+    (ap (λ (p : Picture). flat_map (renewed_text p.rows) c.args.changed.now) c.screen.ensures.value
+    ∙ ap (flat_map (renewed_text after.picture.rows)) is ∙ lines_renewed seen.touched after.picture.lines before after.picture.rows) c.put_lines.ensures in
     let all = wrote_both c.put_byte.ensures (wrote_both told (wrote_both c.put_front.ensures c.put.ensures)) in
     let text = (((44 ∷ 10 ∷ 91 ∷ []) ++ front_text c.args.due after) ++ lines_text seen.touched after.picture.lines before after.picture.rows) ++ 93 ∷ [] in
     let opened = subst (λ (x : List ℕ). Wrote g.W.Write.contents c.args.writer.now x c.put_byte.new.writer c.put_byte.new.held.items text) c.new-held.ensures all in

@@ -1,12 +1,5 @@
-use Rattle.std.proofs.Common.{◌∷◌, [], ℕ, List, ap, subst, sym, ◌∙◌}
-use Rattle.tape_core.specs.Devices.{Gave}
-use Rattle.xterm_page.specs.Held.{Wrote}
-use Rattle.xterm_page.proofs.HeldLemmas.{at_error, wrote_out}
+use Rattle.xterm_page.proofs.HeldLemmas.{wrote_both, wrote_held}
 use Rattle.xterm_page.proofs.held.put_byte.Goals as goal
 
-pub returns-then-is_err : goal.returns-then-is_err
-returns-then-is_err g c =
-    let same = at_error c.try_push.result (sym c.is_err.ensures.value ∙ c.if-is_err.true) c.try_push.ensures.err in
-    let out = subst (Gave g.W.Write.contents c.args.writer.now c.let_out.new.writer) (ap (λ v. v.items) same) c.let_out.ensures.gave in
-    subst (λ (held : List ℕ). Wrote g.W.Write.contents c.args.writer.now c.args.held.now.items c.give.new.self held (c.args.byte ∷ [])) (sym c.let_out.ensures.none)
-    (wrote_out c.gives_join.ensures.both c.args.writer.now c.let_out.new.writer c.give.new.self c.args.held.now.items (c.args.byte ∷ []) out c.give.ensures)
+pub returns : goal.returns
+returns g c = wrote_both (wrote_held c.make_room.new.writer c.make_room.new.held.items c.push.new.self.items _ c.push.ensures.items) c.make_room.ensures.wrote

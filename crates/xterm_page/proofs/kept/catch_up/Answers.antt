@@ -1,89 +1,80 @@
-use Rattle.std.proofs.Common.{◌≡◌, ◌-◌, ◌<◌, ◌≤◌, length, get_or, set, ap, sym, ◌∙◌, arith, refl, inl, inr}
-use Rattle.std.proofs.lemmas.Bool.{cases_eq}
-use Rattle.std.proofs.lemmas.List.{length-set}
-use Rattle.sheet.specs.Grid.{row_at}
+use Rattle.std.proofs.Common.{◌≡◌, ◌-◌, ◌+◌, ◌<◌, ◌≤◌, ◌∷◌, ◌++◌, [], ℕ, Bool, List, cond, length, get_or, set, take, ap, sym, ◌∙◌, arith, refl, subst, true, false, inl, inr}
+use Rattle.std.proofs.lemmas.List.{length-set, take_all}
+use Rattle.std.proofs.lemmas.List.Elements.{All-get_or}
+use Rattle.sheet.specs.Cells.{Cell}
+use Rattle.sheet.specs.Grid.{IsUsed, row_at}
 use Rattle.xterm_print.proofs.KeptLemmas.{row_read, row_set_other}
-use Rattle.xterm_page.specs.Same.{row_mixed}
-use Rattle.xterm_page.proofs.KeptLemmas.{flag_told, flags_long, no_number, number_is, row_written, rows_by_line, stays}
+use Rattle.xterm_page.specs.Parts.{is_renewed, renewed_lines}
+use Rattle.xterm_page.specs.Same.{row_number}
+use Rattle.xterm_page.specs.declared.kept.Renewed.{Renewed}
+use Rattle.xterm_page.proofs.KeptLemmas.{rows_by_line}
+use Rattle.xterm_page.proofs.RenewedLemmas.{holds, holds_filtered, no_line, renewed_long, renewed_read, told_or_stays, written_told}
 use Rattle.xterm_page.proofs.kept.catch_up.Goals as goal
-use Rattle.xterm_page.proofs.kept.catch_up.Goals.{in-Some, in_default}
-
-pub bounds : goal.bounds
-bounds c =
-    let long = flags_long c.args.screen.now.touched c.args.screen.now.picture.lines c.args.rows.now c.args.screen.now.picture.rows c.args.changed.now c.requires.changed in
-    omega (arith, long, c.lines-line-end.ensures.value, c.loop-line.auto.line, c.loop-line-test.true)
 
 pub copy_from-requires : goal.copy_from-requires
 copy_from-requires c =
-    let line = c.loop-line.line in
     let touched = c.args.screen.now.touched in
+    let lines = c.args.screen.now.picture.lines in
     let before = c.args.rows.now in
     let after = c.args.screen.now.picture.rows in
-    let flag = flag_told touched c.args.screen.now.picture.lines line before after c.args.changed.now _ c.requires.changed c.loop-line.auto.line
-    (omega (arith, c.lines-line-end.ensures.value, c.loop-line-test.true)) in
-    (number_is touched (row_at before line) (row_at after line) line c.in-Some.sum (sym flag ∙ c.in-Some.is)).1
-    ∙ ap (row_mixed 0) (sym c.row.ensures.value)
+    let one = get_or c.args.changed.now c.loop-at.at no_line in
+    let told = renewed_read touched lines before after c.loop-at.at no_line c.args.changed.now c.requires.changed c.loop-at-test.true in
+    record {
+      number = ap (λ (o : ℕ × Renewed). o.1.number) told ∙ ap (λ (o : ℕ × Renewed). row_number (row_at after o.0)) (sym told) ∙ ap row_number (sym c.row.ensures.value);
+      used = subst (λ (r : List Cell). IsUsed r c.used.result) (sym c.row.ensures.value) c.used.ensures;
+    }
 
-pub loop-line-init : goal.loop-line-init
-loop-line-init c = record {
-  whole = c.requires.lines;
-  later = λ k low. refl;
-  caught = λ told k low high. absurd (omega (arith, low, high));
-}
+pub loop-at-init : goal.loop-at-init
+loop-at-init c = record { whole = c.requires.rows; told = λ wide k low high. (refl, wide k low high) }
 
-pub loop-line-preserved : goal.loop-line-preserved
-loop-line-preserved c =
-    let line = c.loop-line.line in
-    let before = c.args.rows.now in
-    let after = c.args.screen.now.picture.rows in
+pub loop-at-preserved : goal.loop-at-preserved
+loop-at-preserved c =
+    let touched = c.args.screen.now.touched in
+    let lines = c.args.screen.now.picture.lines in
     let columns = c.args.screen.now.picture.columns in
-    let rows = c.loop-line.rows in
-    let kept = c.loop-line.invariant in
-    let low : 1 ≤ line = c.loop-line.auto.line in
-    let high : line ≤ length rows = omega (arith, kept.whole, c.lines-line-end.ensures.value, c.loop-line-test.true) in
-    elim c.match-changed-line.branch [
-      | in-Some w ↦
-          let row = w.copy_from.new.self in
-          let old = get_or rows (line - 1) w.index-rows-line.result in
-          let was : old ≡ row_at before line = sym (row_read rows line w.index-rows-line.result low high) ∙ kept.later line (omega arith) in
-          rw w.rows-is (record {
-            whole = length-set rows (line - 1) row ∙ kept.whole;
-            later = λ k from. row_set_other rows line k row low (omega arith) (omega arith) ∙ kept.later k (omega arith);
-            caught = λ told k here below long. elim (cases_eq k line) [
-              | inl e ↦
-                  let fits : length old ≡ length w.row.result.now = ap length was ∙ ap (λ m. length (row_at before m)) (sym e) ∙ long ∙ sym w.row.ensures.columns in
-                  let now : row_at (set rows (line - 1) row) k ≡ w.row.result.now = ap (row_at (set rows (line - 1) row)) e ∙ row_written rows line row low high ∙ w.copy_from.ensures fits in
-                  (now ∙ w.row.ensures.value ∙ ap (row_at after) (sym e), ap length now ∙ w.row.ensures.columns)
-              | inr ne ↦
-                  let other = row_set_other rows line k row low here ne in
-                  let so_far = kept.caught told k here (omega arith) long in
-                  (other ∙ so_far.0, ap length other ∙ so_far.1)
-            ];
-          })
-      | in_default w ↦
-          let flag = flag_told c.args.screen.now.touched c.args.screen.now.picture.lines line before after c.args.changed.now _ c.requires.changed low (omega (arith, high, kept.whole)) in
-          rw w.rows-is (record {
-            whole = kept.whole;
-            later = λ k from. kept.later k (omega arith);
-            caught = λ told k here below long. elim (cases_eq k line) [
-              | inl e ↦
-                  let same : row_at rows k ≡ row_at before k = kept.later k (omega arith) in
-                  (same ∙ ap (row_at before) e ∙ stays c.args.screen.now.touched line before after told (no_number c.args.screen.now.touched (row_at before line) (row_at after line) line (sym flag ∙ w.in_default.is)) ∙ ap (row_at after) (sym e), ap length same ∙ long)
-              | inr ne ↦ kept.caught told k here (omega arith) long
-            ];
-          })
-    ]
+    let before = c.args.rows.now in
+    let after = c.args.screen.now.picture.rows in
+    let at = c.loop-at.at in
+    let rows = c.loop-at.rows in
+    let one = get_or c.args.changed.now c.loop-at.at no_line in
+    let line = one.0 in
+    let row = c.copy_from.new.self in
+    let old = get_or rows (line - 1) c.index-rows-line.result in
+    let names = renewed_lines lines touched before after in
+    let kept = c.loop-at.invariant in
+    let within : at < length names = omega (arith, c.loop-at-test.true, renewed_long touched lines before after c.args.changed.now c.requires.changed) in
+    let told = renewed_read touched lines before after at no_line c.args.changed.now c.requires.changed c.loop-at-test.true in
+    let named : line ≡ get_or names at 0 = ap (λ (o : ℕ × Renewed). o.0) told in
+    let line_in = All-get_or (λ (o : ℕ × Renewed). (1 ≤ o.0) × (o.0 ≤ lines)) c.args.changed.now at no_line c.loop-at-test.true c.requires.lines in
+    let bounded : (1 ≤ line) × (line ≤ lines) = line_in in
+    let high : line ≤ length rows = omega (arith, bounded.1, kept.whole) in
+    record {
+      whole = length-set rows (line - 1) row ∙ kept.whole;
+      told = λ wide k low below.
+          let was : old ≡ row_at rows line = sym (row_read rows line c.index-rows-line.result bounded.0 high) in
+          let fits : length old ≡ length c.row.result.now = ap length was ∙ (kept.told wide line bounded.0 bounded.1).1 ∙ sym c.row.ensures.columns in
+          let now = c.copy_from.ensures fits in
+          written_told names at line k rows before after row columns within named bounded.0 high low (now ∙ c.row.ensures.value) (ap length now ∙ c.row.ensures.columns)
+          (kept.told wide k low below);
+    }
 
 pub returns : goal.returns
-returns c = λ wide told.
+returns c = λ wide tells.
+    let touched = c.args.screen.now.touched in
     let lines = c.args.screen.now.picture.lines in
-    let rows = c.loop-line.rows in
-    let kept = c.loop-line.invariant in
-    let all : lines < c.loop-line.line = omega (arith, c.lines-line-end.ensures.value, c.loop-line-test.false) in
-    let same = rows_by_line lines rows c.args.screen.now.picture.rows kept.whole c.screens_are_sound.ensures.rows
-    (λ line low high. (kept.caught told line low (omega (arith, high, all)) (wide line low high)).0) in
+    let before = c.args.rows.now in
+    let after = c.args.screen.now.picture.rows in
+    let rows = c.loop-at.rows in
+    let names = renewed_lines lines touched before after in
+    let p : ℕ → Bool = λ k. is_renewed touched (row_at before k) (row_at after k) k in
+    let kept = c.loop-at.invariant in
+    let long : length names ≤ c.loop-at.at = omega (arith, c.loop-at-test.false, renewed_long touched lines before after c.args.changed.now c.requires.changed) in
+    let same : (k : ℕ) → 1 ≤ k → k ≤ lines → row_at rows k ≡ row_at after k = λ k low high.
+    (kept.told wide k low high).0 ∙ ap (λ (l : List ℕ). cond (holds k l) (row_at after k) (row_at before k)) (take_all c.loop-at.at names long)
+    ∙ ap (λ (b : Bool). cond b (row_at after k) (row_at before k)) (holds_filtered p k 1 lines low (omega (arith, high)))
+    ∙ told_or_stays touched k before after tells in
     record {
       lines = kept.whole;
-      rows = same;
-      columns = λ line low high. (kept.caught told line low (omega (arith, high, all)) (wide line low high)).1;
+      rows = rows_by_line lines rows after kept.whole c.screens_are_sound.ensures.rows same;
+      columns = λ k low high. (kept.told wide k low high).1;
     }

@@ -1,23 +1,22 @@
-use Rattle.std.proofs.Common.{ℕ, Option, subst}
+use Rattle.std.proofs.Common.{ℕ, Option, subst, sym}
 use Rattle.xterm_page.specs.Held.{Wrote}
 use Rattle.xterm_page.specs.Entries.{change_by}
 use Rattle.xterm_page.specs.EntryText.{change_text, named_text}
-use Rattle.xterm_page.specs.Parts.{changed_text}
 use Rattle.xterm_page.proofs.HeldLemmas.{wrote_both}
 use Rattle.xterm_page.proofs.rows.put_changed.Goals as goal
 
 pub returns-in-Some : goal.returns-in-Some
-unfolding changed_text named_text change_text
+unfolding named_text change_text
 returns-in-Some g c =
     let line = c.args.line in
     let row = c.args.cells.now in
     subst (λ (o : Option ℕ). Wrote g.W.Write.contents c.args.writer.now c.args.held.now.items c.put_comma_number-in-Some.new.writer c.put_comma_number-in-Some.new.held.items (named_text (line, change_by o row)))
-    c.in-Some.ensures (wrote_both c.put_comma_number-in-Some.ensures c.put_comma_number.ensures)
+    (sym c.in-Some.is) (wrote_both c.put_comma_number-in-Some.ensures c.put_comma_number.ensures)
 
 pub returns-in-None : goal.returns-in-None
-unfolding changed_text named_text change_text
+unfolding named_text change_text
 returns-in-None g c =
     let line = c.args.line in
     let row = c.args.cells.now in
     subst (λ (o : Option ℕ). Wrote g.W.Write.contents c.args.writer.now c.args.held.now.items c.put_row.new.writer c.put_row.new.held.items (named_text (line, change_by o row)))
-    c.in-None.ensures (wrote_both c.put_row.ensures c.put_comma_number.ensures)
+    (sym c.in-None.is) (wrote_both c.put_row.ensures c.put_comma_number.ensures)

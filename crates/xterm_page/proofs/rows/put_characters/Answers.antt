@@ -1,27 +1,42 @@
-use Rattle.std.proofs.Common.{◌≡◌, ◌-◌, ap, sym, subst, arith, drop, length, take}
-use Rattle.std.proofs.lemmas.List.{length-drop, take_all}
+use Rattle.std.proofs.Common.{◌≡◌, ◌+◌, ◌-◌, ◌∙◌, add-zero, ap, sym, subst, arith, drop, length, take}
 use Rattle.xterm_page.specs.Held.{Wrote}
 use Rattle.xterm_page.specs.Plain.{string_of}
-use Rattle.xterm_page.proofs.StringLemmas.{string_split}
+use Rattle.xterm_rows.specs.Runs.{begins}
+use Rattle.xterm_rows.proofs.GroupLemmas.{reach_ends, reach_more, reach_none, reach_to}
+use Rattle.xterm_page.proofs.StringLemmas.{string_on}
 use Rattle.xterm_page.proofs.HeldLemmas.{wrote_both}
 use Rattle.xterm_page.proofs.rows.put_characters.Goals as goal
 
-pub loop-at-preserved : goal.loop-at-preserved
-loop-at-preserved g c =
+pub loop-end-init : goal.loop-end-init
+loop-end-init g c =
     let cells = c.args.cells.now in
-    let at = c.loop-at.at in
-    let count = c.put_some-at.result in
-    let rest : take (length cells - at) (drop at cells) ≡ drop at cells =
-    take_all (length cells - at) (drop at cells) (omega (arith, length-drop at cells)) in
+    let at = c.args.at in
+    let some = c.put_some.ensures in
+    let count : at + c.put_some.result - at ≡ c.put_some.result = omega arith in
     record {
-      high = omega (arith, c.put_some-at.ensures.few, ap length rest, length-drop at cells, c.loop-at.invariant.high);
-      gave = subst (Wrote g.W.Write.contents c.args.writer.now c.args.held.now.items c.put_some-at.new.writer c.put_some-at.new.held.items) (sym (string_split cells at count))
-          (wrote_both
-          (subst (λ l. Wrote g.W.Write.contents c.loop-at.writer c.loop-at.held.items c.put_some-at.new.writer c.put_some-at.new.held.items (string_of (take count l))) rest c.put_some-at.ensures.wrote)
-          c.loop-at.invariant.gave);
+      low = omega (arith, some.some);
+      high = some.within;
+      passed = reach_to (begins cells) (at + 1) (at + c.put_some.result) (length cells) (omega (arith, some.some)) some.within
+          (λ k low high. some.none k (omega (arith, low)) high);
+      gave = subst (λ n. Wrote g.W.Write.contents c.args.writer.now c.args.held.now.items c.put_some.new.writer c.put_some.new.held.items (string_of (take n (drop at cells))))
+          (sym count) some.wrote;
     }
 
-pub returns : goal.returns
-returns g c =
-    subst (λ l. Wrote g.W.Write.contents c.args.writer.now c.args.held.now.items c.loop-at.writer c.loop-at.held.items (string_of l))
-    (take_all c.loop-at.at c.args.cells.now c.loop-at-test.false) c.loop-at.invariant.gave
+pub loop-end-preserved : goal.loop-end-preserved
+loop-end-preserved g c =
+    let cells = c.args.cells.now in
+    let at = c.args.at in
+    let end = c.loop-end.end in
+    let some = c.put_some-end.ensures in
+    let count = c.put_some-end.result in
+    let kept = c.loop-end.invariant in
+    record {
+      low = omega (arith, kept.low);
+      high = some.within;
+      passed = kept.passed
+          ∙ reach_more (begins cells) end (length cells) c.loop-end-test.true (sym c.begins.ensures ∙ c.if-not-begins.true)
+          ∙ reach_to (begins cells) (end + 1) (end + count) (length cells) (omega (arith, some.some)) some.within
+          (λ k low high. some.none k (omega (arith, low)) high);
+      gave = subst (Wrote g.W.Write.contents c.args.writer.now c.args.held.now.items c.put_some-end.new.writer c.put_some-end.new.held.items)
+          (sym (string_on cells at end count (omega (arith, kept.low)))) (wrote_both some.wrote kept.gave);
+    }

@@ -5,7 +5,7 @@ use Rattle.xterm_rows.specs.Groups.{starts}
 use Rattle.xterm_rows.specs.Runs.{begins}
 use Rattle.xterm_rows.proofs.GroupLemmas.{groups_more, groups_to, next_begins}
 use Rattle.xterm_rows.proofs.RunLemmas.{first_begins}
-use Rattle.xterm_page.specs.Entries.{cells_shown, shown_at, shown_run}
+use Rattle.xterm_page.specs.Entries.{cells_shown, shown_at}
 use Rattle.xterm_page.specs.EntryText.{run_text}
 use Rattle.xterm_page.proofs.HeldLemmas.{wrote_both, wrote_none}
 use Rattle.xterm_page.proofs.rows.put_runs.Goals as goal
@@ -23,16 +23,15 @@ loop-at-preserved g c =
     let at = c.loop-at.at in
     let within = c.loop-at-test.true in
     let text : ℕ → List ℕ = λ n. run_text (shown_at cells n) in
-    let end = c.run_at-run.ensures.end in
+    let end = c.put_run-at.ensures.end in
     let more = groups_more text (begins cells) 0 at (length cells) (omega arith) within (c.loop-at.invariant.here within) in
     record {
-      gave = subst (Wrote g.W.Write.contents c.args.writer.now c.args.held.now.items c.put_run.new.writer c.put_run.new.held.items)
-          (ap (λ run. groups_to text (begins cells) 0 at ++ run_text (shown_run cells run)) c.run_at-run.ensures.run
-          ∙ sym more ∙ ap (groups_to text (begins cells) 0) (sym end))
-          (wrote_both c.put_run.ensures c.loop-at.invariant.gave);
+      gave = subst (Wrote g.W.Write.contents c.args.writer.now c.args.held.now.items c.put_run-at.new.writer c.put_run-at.new.held.items)
+          (sym more ∙ ap (groups_to text (begins cells) 0) (sym end))
+          (wrote_both c.put_run-at.ensures.wrote c.loop-at.invariant.gave);
       here = λ more. subst (λ n. begins cells n ≡ true) (sym end)
           (next_begins (begins cells) at (length cells) within (subst (λ n. n < length cells) end more));
-      high = c.run_at-run.ensures.within;
+      high = c.put_run-at.ensures.within;
     }
 
 pub returns : goal.returns

@@ -6,42 +6,39 @@ use Rattle.xterm_term.specs.Console.{Console}
 use Rattle.xterm_print.proofs.ShownLemmas.{written_back}
 use Rattle.xterm_page.specs.Entries.{console_by, entry_of}
 use Rattle.xterm_page.specs.EntryText.{next_text}
-use Rattle.xterm_page.specs.Parts.{AreKept, AreTold, AreWide, differing}
+use Rattle.xterm_page.specs.Parts.{AreKept, AreLines, AreTold, AreWide, renewed}
 use Rattle.xterm_page.proofs.KeptLemmas.{kept_by, wide_by}
 use Rattle.xterm_page.proofs.entry_printer.EntryPrinterVisitorTerminal.visit.Goals as goal
 
+pub changed_rows-requires : goal.changed_rows-requires
+changed_rows-requires g c = omega (arith, c.as_slice.ensures.len, c.len.ensures, c.if-len-lines.true, c.lines.ensures.value)
+
 pub put_entry-requires : goal.put_entry-requires
 put_entry-requires g c =
-    let p = c.screen-screen.result.now.picture in
-    let is : p ≡ c.args.terminal.now.console.picture = c.screen-screen.ensures.value in
-    let before = c.as_slice-then-len-lines.result.now in
-    let same : c.as_slice.result.now ≡ before = c.as_slice.ensures.value ∙ sym c.as_slice-then-len-lines.ensures.value in
-    let long : length before ≡ p.lines =
-    omega (arith, c.as_slice-then-len-lines.ensures.len, c.len.ensures, c.if-len-lines.true, c.lines.ensures.value) in
-    record {
-      lines = long ∙ ap (λ (q : Picture). q.lines) is;
-      changed = c.as_slice-then-len-lines-2.ensures.value ∙ c.in_ok-changed.ensures
-          ∙ ap (λ (rows : List (List Cell)). differing c.screen-screen.result.now.touched p.lines rows p.rows) same
-          ∙ ap₂ (λ (t : List Bool) (q : Picture). differing t q.lines before q.rows) c.screen-screen.ensures.touched is;
-    }
+    subst (λ (p : Picture). AreLines p.lines c.as_slice-then-len-lines.result.now) c.screen-screen.ensures.value
+    (subst (AreLines c.screen-screen.result.now.picture.lines) (sym c.as_slice-then-len-lines.ensures.value) c.in_ok-changed.ensures.lines)
 
 pub catch_up-requires : goal.catch_up-requires
 catch_up-requires g c =
     let p = c.screen-screen.result.now.picture in
     record {
-      lines = omega (arith, c.as_mut_slice.ensures.len, c.len.ensures, c.if-len-lines.true, c.lines.ensures.value);
-      changed = c.as_slice-then-len-lines-3.ensures.value ∙ c.in_ok-changed.ensures
-          ∙ ap (λ (rows : List (List Cell)). differing c.screen-screen.result.now.touched p.lines rows p.rows) (c.as_slice.ensures.value ∙ sym c.as_mut_slice.ensures.value);
+      rows = omega (arith, c.as_mut_slice.ensures.len, c.len.ensures, c.if-len-lines.true, c.lines.ensures.value);
+      lines = subst (AreLines p.lines) (sym c.as_slice-then-len-lines-2.ensures.value) c.in_ok-changed.ensures.lines;
+      changed = c.as_slice-then-len-lines-2.ensures.value ∙ c.in_ok-changed.ensures.changed
+          ∙ ap (λ (rows : List (List Cell)). renewed c.screen-screen.result.now.touched p.lines rows p.rows) (c.as_slice.ensures.value ∙ sym c.as_mut_slice.ensures.value);
     }
 
 pub returns-in_ok-changed-clause-gave : goal.returns-in_ok-changed-clause-gave
 returns-in_ok-changed-clause-gave g c = λ profile before after are shows tells.
-    let was = c.as_slice-then-len-lines.ensures.value ∙ are.rows in
-    let told = subst (λ (rows : List (List Cell)). AreTold rows c.args.terminal.now.touched c.args.terminal.now.console.picture.rows) (sym was) tells in
+    let p = c.screen-screen.result.now.picture in
+    let was = c.as_slice.ensures.value ∙ are.rows in
+    let old_rows = (console_by profile.columns profile.lines before).picture.rows in
+    let changed = c.as_slice-then-len-lines.ensures.value ∙ c.in_ok-changed.ensures.changed
+    ∙ ap (λ (rows : List (List Cell)). renewed c.screen-screen.result.now.touched p.lines rows p.rows) was
+    ∙ ap₂ (λ (t : List Bool) (q : Picture). renewed t q.lines old_rows q.rows) c.screen-screen.ensures.touched c.screen-screen.ensures.value in
     subst (Gave g.W.Write.contents c.args.writer.now c.put_entry.new.writer)
-    (ap (λ (rows : List (List Cell)). next_text (entry_of c.args.due rows c.args.terminal.now.console)) was
-    ∙ ap (λ (s : Console). next_text (entry_of c.args.due (console_by profile.columns profile.lines before).picture.rows s)) (sym shows.console))
-    (c.put_entry.ensures told)
+    (ap (λ (s : Console). next_text (entry_of c.args.due old_rows s)) (sym shows.console))
+    (c.put_entry.ensures old_rows tells changed)
 
 pub returns-in_ok-changed-clause-keeps : goal.returns-in_ok-changed-clause-keeps
 returns-in_ok-changed-clause-keeps g c = λ profile before after are shows tells.

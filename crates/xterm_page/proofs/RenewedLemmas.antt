@@ -1,0 +1,172 @@
+-- The lines that are told as changed, in a list.
+use Rattle.std.proofs.Common.{◌≡◌, ◌≢◌, ℕ, zero, suc, ◌+◌, ◌-◌, ◌<◌, ◌≤◌, All, Bool, true, false, not, cond, List, None, [], ◌∷◌, ◌++◌, filter, length, map, get_or, set, take, refl, ap, sym, ◌∙◌, arith, append-nil, inl, inr}
+use Rattle.std.specs.Prelude.{◌||◌, ◌==◌, nat_eq}
+use Rattle.std.specs.List.{flat_map, range_with_len}
+use Rattle.std.proofs.lemmas.Bool.{cases_Bool, cases_eq}
+use Rattle.std.proofs.lemmas.Bool.Decides.{nat_tests}
+use Rattle.std.proofs.lemmas.List.{get_or-map, length-map, map-append, take_more}
+use Rattle.std.proofs.lemmas.List.Concat.{flat_map-append}
+use Rattle.std.proofs.lemmas.List.Elements.{All-filter, All-from_get_or, All-map}
+use Rattle.std.proofs.lemmas.List.FromFn.{get_or-range_with_len, length-range_with_len}
+use Rattle.sheet.specs.Cells.{Cell}
+use Rattle.sheet.specs.Grid.{row_at}
+use Rattle.xterm_print.proofs.KeptLemmas.{passing_more, row_set_other}
+use Rattle.xterm_page.specs.Parts.{AreLines, AreTold, is_renewed, renewed, renewed_lines, renewed_of, renewed_to}
+use Rattle.xterm_page.specs.declared.kept.Renewed.{Renewed}
+use Rattle.xterm_page.proofs.KeptLemmas.{row_written, stays}
+
+-- ---- how they are told
+
+-- what is told of a line
+abbrev pub told_of : ℕ → List (List Cell) → List (List Cell) → ℕ → ℕ × Renewed
+told_of lines before after line = (line, renewed_of lines before (row_at after line))
+
+mapped_if : (f : ℕ → ℕ × Renewed) (line : ℕ) (here : Bool) → cond here (f line ∷ []) [] ≡ map f (cond here (line ∷ []) [])
+mapped_if f line true = refl
+mapped_if f line false = refl
+
+-- one line more
+pub renewed_more : (touched : List Bool) (lines : ℕ) (before after : List (List Cell)) (line : ℕ) (here : Bool) (old new : List (ℕ × Renewed))
+    → 1 ≤ line → here ≡ is_renewed touched (row_at before line) (row_at after line) line
+    → old ≡ renewed_to (line - 1) touched lines before after → new ≡ old ++ cond here (told_of lines before after line ∷ []) []
+    → new ≡ renewed_to (line + 1 - 1) touched lines before after
+renewed_more touched lines before after line here old new low is so_far more =
+    let f = told_of lines before after in
+    let p : ℕ → Bool = λ k. is_renewed touched (row_at before k) (row_at after k) k in
+    let was = filter p (range_with_len 1 (line - 1)) in
+    let now = passing_more p line here was (was ++ cond here (line ∷ []) []) low is refl refl in
+    more ∙ ap (λ l. l ++ cond here (f line ∷ []) []) so_far
+    ∙ ap (λ l. map f was ++ l) (mapped_if f line here)
+    ∙ sym (map-append f was (cond here (line ∷ []) []))
+    ∙ ap (map f) now
+
+in_range : (lines : ℕ) → All (λ n. (1 ≤ n) × (n ≤ lines)) (range_with_len 1 lines)
+in_range lines = All-from_get_or (λ n. (1 ≤ n) × (n ≤ lines)) (range_with_len 1 lines) 0 (λ i below.
+    let few : i < lines = omega (arith, below, length-range_with_len 1 lines) in
+    let at = get_or-range_with_len 1 lines i 0 few in
+    (omega (arith, at), omega (arith, at, few)))
+
+pub are_lines : (touched : List Bool) (lines : ℕ) (before after : List (List Cell)) → AreLines lines (renewed touched lines before after)
+are_lines touched lines before after =
+    let p : ℕ → Bool = λ k. is_renewed touched (row_at before k) (row_at after k) k in
+    All-map (λ (one : ℕ × Renewed). (1 ≤ one.0) × (one.0 ≤ lines)) (told_of lines before after) (filter p (range_with_len 1 lines))
+    (All-filter p (λ n. (1 ≤ n) × (n ≤ lines)) (range_with_len 1 lines) (in_range lines))
+
+-- one of them
+pub renewed_read : (touched : List Bool) (lines : ℕ) (before after : List (List Cell)) (at : ℕ) (d : ℕ × Renewed) (changed : List (ℕ × Renewed))
+    → changed ≡ renewed touched lines before after → at < length changed
+    → get_or changed at d ≡ told_of lines before after (get_or (renewed_lines lines touched before after) at 0)
+renewed_read touched lines before after at d changed is within =
+    let f = told_of lines before after in
+    let names = renewed_lines lines touched before after in
+    let below : at < length names = omega (arith, within, ap length is, length-map names f) in
+    ap (λ l. get_or l at d) is ∙ get_or-map f names at 0 d below
+
+pub renewed_long : (touched : List Bool) (lines : ℕ) (before after : List (List Cell)) (changed : List (ℕ × Renewed))
+    → changed ≡ renewed touched lines before after → length changed ≡ length (renewed_lines lines touched before after)
+renewed_long touched lines before after changed is =
+    ap length is ∙ length-map (renewed_lines lines touched before after) (told_of lines before after)
+
+-- texts of elements, and of one more
+pub texts_taken : {X : Type 0} (text : X → List ℕ) (xs : List X) (at : ℕ) (d : X) → at < length xs
+    → flat_map text (take (at + 1) xs) ≡ flat_map text (take at xs) ++ text (get_or xs at d)
+texts_taken text xs at d within =
+    ap (flat_map text) (take_more xs at d within) ∙ flat_map-append text (take at xs) (get_or xs at d ∷ [])
+    ∙ ap (λ t. flat_map text (take at xs) ++ t) (append-nil (text (get_or xs at d)))
+
+-- no line, of which nothing is known
+abbrev pub no_line : ℕ × Renewed
+no_line = (0, record { number = 0; was = None })
+
+-- ---- which they are
+
+-- a number is among others
+abbrev pub holds : ℕ → List ℕ → Bool
+holds k [] = false
+holds k (x ∷ xs) = (x == k) || holds k xs
+
+pub holds_more : (k : ℕ) (xs : List ℕ) (x : ℕ) → holds k (xs ++ x ∷ []) ≡ (holds k xs || (x == k))
+holds_more k [] x = elim (cases_Bool (x == k)) [
+  | inl t ↦ rw t refl
+  | inr f ↦ rw f refl
+]
+holds_more k (y ∷ xs) x = elim (cases_Bool (y == k)) [
+  | inl t ↦ rw t refl
+  | inr f ↦ rw f (holds_more k xs x)
+]
+
+pub itself_is : (k : ℕ) → (k == k) ≡ true
+itself_is k = grind (arith, nat_tests)
+
+pub other_is : (x k : ℕ) → x ≢ k → (x == k) ≡ false
+other_is x k apart = grind (arith, nat_tests)
+
+-- none that is filtered stands before the first
+none_before : (p : ℕ → Bool) (k a n : ℕ) → k < a → holds k (filter p (range_with_len a n)) ≡ false
+none_before p k a zero low = refl
+none_before p k a (suc n) low =
+    let rest = none_before p k (a + 1) n (omega (arith, low)) in
+    elim (cases_Bool (p a)) [
+      | inl t ↦ rw t (ap (λ b. b || holds k (filter p (range_with_len (a + 1) n))) (other_is a k (omega (arith, low))) ∙ rest)
+      | inr f ↦ rw f rest
+    ]
+
+-- among those that are filtered stand those that pass
+pub holds_filtered : (p : ℕ → Bool) (k a n : ℕ) → a ≤ k → k < a + n → holds k (filter p (range_with_len a n)) ≡ p k
+holds_filtered p k a zero low high = absurd (omega (arith, low, high))
+holds_filtered p k a (suc n) low high = elim (cases_eq a k) [
+  | inl e ↦ elim (cases_Bool (p a)) [
+    | inl t ↦ rw t (ap (λ b. b || holds k (filter p (range_with_len (a + 1) n))) (ap (λ m. a == m) (sym e) ∙ itself_is a) ∙ sym t ∙ ap p e)
+    | inr f ↦ rw f (none_before p k (a + 1) n (omega (arith, e)) ∙ sym f ∙ ap p e)
+  ]
+  | inr ne ↦
+      let rest = holds_filtered p k (a + 1) n (omega (arith, low, ne)) (omega (arith, high)) in
+      elim (cases_Bool (p a)) [
+        | inl t ↦ rw t (ap (λ b. b || holds k (filter p (range_with_len (a + 1) n))) (other_is a k ne) ∙ rest)
+        | inr f ↦ rw f rest
+      ]
+]
+
+-- with one more of them
+pub holds_taken : (k at : ℕ) (xs : List ℕ) (x : ℕ) → at < length xs → x ≡ get_or xs at 0
+    → holds k (take (at + 1) xs) ≡ (holds k (take at xs) || (x == k))
+holds_taken k at xs x within is =
+    ap (holds k) (take_more xs at 0 within ∙ ap (λ n. take at xs ++ n ∷ []) (sym is)) ∙ holds_more k (take at xs) x
+
+-- where the others are told, a line has its row of after, renewed or not
+pub told_or_stays : (touched : List Bool) (line : ℕ) (before after : List (List Cell)) → AreTold before touched after
+    → cond (is_renewed touched (row_at before line) (row_at after line) line) (row_at after line) (row_at before line) ≡ row_at after line
+told_or_stays touched line before after told =
+    elim (cases_Bool (is_renewed touched (row_at before line) (row_at after line) line)) [
+      | inl t ↦ ap (λ b. cond b (row_at after line) (row_at before line)) t
+      | inr f ↦ ap (λ b. cond b (row_at after line) (row_at before line)) f ∙ stays touched line before after told f
+    ]
+
+or_false : (b : Bool) → (b || false) ≡ b
+or_false true = refl
+or_false false = refl
+
+or_true : (b : Bool) → (b || true) ≡ true
+or_true true = refl
+or_true false = refl
+
+-- what a line has where a row was written: that row in its line, and its own in the others
+pub written_told : (names : List ℕ) (at line k : ℕ) (rows before after : List (List Cell)) (row : List Cell) (columns : ℕ)
+    → at < length names → line ≡ get_or names at 0 → 1 ≤ line → line ≤ length rows → 1 ≤ k → row ≡ row_at after line → length row ≡ columns
+    → (row_at rows k ≡ cond (holds k (take at names)) (row_at after k) (row_at before k)) × (length (row_at rows k) ≡ columns)
+    → (row_at (set rows (line - 1) row) k ≡ cond (holds k (take (at + 1) names)) (row_at after k) (row_at before k))
+    × (length (row_at (set rows (line - 1) row) k) ≡ columns)
+written_told names at line k rows before after row columns within named low high here is long told =
+    let more = holds_taken k at names line within named in
+    elim (cases_eq line k) [
+      | inl e ↦
+          let now : row_at (set rows (line - 1) row) k ≡ row = ap (row_at (set rows (line - 1) row)) (sym e) ∙ row_written rows line row low high in
+          let hit : holds k (take (at + 1) names) ≡ true =
+          more ∙ ap (λ n. holds k (take at names) || (line == n)) (sym e) ∙ ap (λ b. holds k (take at names) || b) (itself_is line) ∙ or_true (holds k (take at names)) in
+          (now ∙ is ∙ ap (row_at after) e ∙ sym (ap (λ b. cond b (row_at after k) (row_at before k)) hit), ap length now ∙ long)
+      | inr ne ↦
+          let other = row_set_other rows line k row low here (λ same. ne (sym same)) in
+          let miss : holds k (take (at + 1) names) ≡ holds k (take at names) =
+          more ∙ ap (λ b. holds k (take at names) || b) (other_is line k ne) ∙ or_false (holds k (take at names)) in
+          (other ∙ told.0 ∙ sym (ap (λ b. cond b (row_at after k) (row_at before k)) miss), ap length other ∙ told.1)
+    ]
