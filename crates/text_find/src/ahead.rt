@@ -71,8 +71,7 @@ fn skim<T: Plays, F: Finder<T>>(
         if !ends.after.places.is_empty() {
             return Ok(taken);
         }
-        let rows = ends.after.rows.as_slice();
-        taken += F::play_some(alloc, ahead, rows, text, &bytes[taken..])?;
+        taken += F::play_some(alloc, ahead, text, &bytes[taken..])?;
         catch_up::<T, F>(ends, ahead, text)?;
     }
     Ok(taken)

@@ -41,11 +41,10 @@ pub trait Finder<T: Plays> {
         ensures others { IfOk result (λ span. Stays span rows.old.items rows.new.items) };
 
     /// Plays a beginning of the bytes: where the text stands nowhere before it and behind it, it stands nowhere between
-    /// two of its bytes either. `rows` are those that the terminal shows before.
+    /// two of its bytes either.
     fn play_some(
         alloc: Global,
         terminal: &mut T,
-        rows: &[Row],
         text: &[char],
         bytes: &[u8],
     ) -> Result<usize, OutOfMemory>
@@ -57,7 +56,7 @@ pub trait Finder<T: Plays> {
         ensures told { (profile : T.Profile) (before : List ℕ) → T.shows profile terminal.old before
             → OnOk result (T.told profile terminal.new before) }
         ensures between { (profile : T.Profile) (before : List ℕ) → T.shows profile terminal.old before
-            → rows.now ≡ screens profile before → standing text.now rows.now ≡ []
+            → standing text.now (screens profile before) ≡ []
             → IfOk result (λ taken. standing text.now (screens profile (before ++ take taken bytes.now)) ≡ []
             → (count : ℕ) → count < taken
             → standing text.now (screens profile (before ++ take count bytes.now)) ≡ []) };

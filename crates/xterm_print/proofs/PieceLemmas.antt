@@ -261,10 +261,10 @@ behind_is size_law parts size before bytes count =
     ap (λ (y : Term). rows_read size.lines y.console.picture.rows) (parts (reset_as size) before (take count bytes))
     ∙ ap (λ n. rows_read n (play (play (reset_as size) before) (take count bytes)).console.picture.rows) (sym (size_law (reset_as size) before).lines)
 
-pub none_told : SizeStays → PlaysInParts → (size : Size) (text before bytes : List ℕ) (rows : List Row) (taken : ℕ) → NoneBetween text (play (reset_as size) before) bytes taken
-    → rows ≡ rows_shown size before → standing text rows ≡ [] → standing text (rows_shown size (before ++ take taken bytes)) ≡ []
+pub none_told : SizeStays → PlaysInParts → (size : Size) (text before bytes : List ℕ) (taken : ℕ) → NoneBetween text (play (reset_as size) before) bytes taken
+    → standing text (rows_shown size before) ≡ [] → standing text (rows_shown size (before ++ take taken bytes)) ≡ []
     → (count : ℕ) → count < taken → standing text (rows_shown size (before ++ take count bytes)) ≡ []
-none_told size_law parts size text before bytes rows taken between are none none' count lt =
+none_told size_law parts size text before bytes taken between none none' count lt =
     let at = behind_is size_law parts size before bytes in
     ap (standing text) (at count)
-    ∙ between (ap (standing text) (sym (at 0) ∙ ap (rows_shown size) (append-nil before) ∙ sym are) ∙ none) (ap (standing text) (sym (at taken)) ∙ none') count lt
+    ∙ between (ap (standing text) (sym (at 0) ∙ ap (rows_shown size) (append-nil before)) ∙ none) (ap (standing text) (sym (at taken)) ∙ none') count lt

@@ -86,7 +86,6 @@ impl Finder<Terminal> for Sheets {
     fn play_some(
         alloc: Global,
         terminal: &mut Terminal,
-        _rows: &[Row],
         text: &[char],
         bytes: &[u8],
     ) -> Result<usize, OutOfMemory> {

@@ -27,5 +27,5 @@ loop-taken-preserved g c =
           skimmed_more g.T.Plays.shows g.F.Finder.screens profile text before bytes taken piece c.loop-taken.ahead c.play_some.new.terminal c.loop-taken.ends c.catch_up.new.sides sk none played
           (c.in_ok-catch_up.ensures profile before so_far (so_far ++ take piece (drop taken bytes)) played (c.in_ok-taken.ensures.told profile so_far sk.played) sk.between)
           (subst (λ b. standing text (screen (so_far ++ take piece b)) ≡ [] → (count : ℕ) → count < piece → standing text (screen (so_far ++ take count b)) ≡ []) rest
-          (c.in_ok-taken.ensures.between profile so_far sk.played (c.as_slice-rows.ensures.value ∙ sk.between.after.rows) (ap (standing text) (c.as_slice-rows.ensures.value ∙ sk.between.after.rows) ∙ none)));
+          (c.in_ok-taken.ensures.between profile so_far sk.played none));
     }
