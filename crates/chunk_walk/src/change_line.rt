@@ -6,10 +6,10 @@ ghost use Rattle.std.specs.List.{flat_map};
 ghost use Rattle.tape_core.specs.Devices.{Gave};
 ghost use Rattle.tape_core.specs.Written.{seconds_form};
 ghost use Rattle.chunk_walk.specs.ChangeLine.{change_line, spaced_number};
-ghost use Rattle.chunk_walk.specs.Held.{Wrote};
+ghost use Rattle.held.specs.Held.{Wrote};
 
-use crate::held::{HELD, let_out, put, put_byte};
 use arrayvec::ArrayVec;
+use held::{HELD, let_out, put, put_byte};
 use itoa::{Buffer, Integer, write_digits};
 use std::io::Write;
 use tape_core::laws::gives_join;

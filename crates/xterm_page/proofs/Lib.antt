@@ -4,7 +4,6 @@ pub mod KeptLemmas
 pub mod StringLemmas
 pub mod UsedLemmas
 pub mod RenewedLemmas
-mod HeldLemmas
 pub mod PageLemmas
 pub mod Replays
 mod ReadLemmas

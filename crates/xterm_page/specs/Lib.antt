@@ -1,5 +1,4 @@
 pub mod Same
-pub mod Held
 pub mod Entries
 pub mod EntryText
 pub mod Folded

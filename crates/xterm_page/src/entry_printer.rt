@@ -6,15 +6,16 @@ ghost use Rattle.sheet.specs.Cells.{Cell};
 ghost use Rattle.tape_core.specs.Devices.{Gave};
 ghost use Rattle.xterm_page.specs.Entries.{entry_of};
 ghost use Rattle.xterm_page.specs.EntryText.{next_text};
-ghost use Rattle.xterm_page.specs.Held.{Wrote};
+ghost use Rattle.held.specs.Held.{Wrote};
 ghost use Rattle.xterm_page.specs.Parts.{AreLines, front_text, renewed, renewed_text};
 ghost use Rattle.xterm_term.specs.Seen.{Told};
 
-use crate::held::{HELD, let_out, put, put_byte, put_comma_number};
 use crate::kept::{KeptRow, Renewed, catch_up, changed_rows, kept_rows};
+use crate::numbers::put_comma_number;
 use crate::rows::put_changed;
 use arrayvec::ArrayVec;
 use chunk_walk::Visitor;
+use held::{HELD, let_out, put, put_byte};
 use std::alloc::Global;
 use std::io::Write;
 use tape_core::laws::gives_join;

@@ -2,9 +2,9 @@
 #![tactic(auto)]
 
 mod entry_printer;
-mod held;
 mod kept;
 pub mod laws;
+mod numbers;
 mod page_file;
 mod rows;
 mod same;

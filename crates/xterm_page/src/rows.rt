@@ -10,11 +10,12 @@ ghost use Rattle.xterm_rows.specs.RowText.{printed};
 ghost use Rattle.xterm_rows.specs.Runs.{begins, cell_behind};
 ghost use Rattle.xterm_page.specs.Entries.{cells_shown, change_by, shown, shown_at};
 ghost use Rattle.xterm_page.specs.EntryText.{named_text, numbers_text, row_text, run_text};
-ghost use Rattle.xterm_page.specs.Held.{Wrote};
+ghost use Rattle.held.specs.Held.{Wrote};
 ghost use Rattle.xterm_page.specs.Plain.{IsPlain, string_of};
 
-use crate::held::{HELD, put, put_byte, put_comma_number};
+use crate::numbers::put_comma_number;
 use arrayvec::ArrayVec;
+use held::{HELD, put, put_byte};
 use sheet::Cell;
 use std::io::Write;
 use tape_core::Watched;

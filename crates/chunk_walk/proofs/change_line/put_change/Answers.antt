@@ -5,9 +5,9 @@ use Rattle.std.specs.List.{flat_map}
 use Rattle.tape_core.specs.Devices.{Gave}
 use Rattle.tape_core.specs.Written.{seconds_form}
 use Rattle.chunk_walk.specs.ChangeLine.{spaced_number}
-use Rattle.chunk_walk.specs.Held.{Wrote}
+use Rattle.held.specs.Held.{Wrote}
 use Rattle.chunk_walk.proofs.ChangeLemmas.{change_line_some}
-use Rattle.chunk_walk.proofs.HeldLemmas.{gave_all, wrote_both}
+use Rattle.held.proofs.HeldLemmas.{gave_all, wrote_both}
 use Rattle.chunk_walk.proofs.change_line.put_change.Goals as goal
 
 pub returns : goal.returns

@@ -1,7 +1,7 @@
 use Rattle.std.proofs.Common.{◌+◌, arith, subst, sym}
-use Rattle.chunk_walk.specs.Held.{Wrote}
+use Rattle.held.specs.Held.{Wrote}
 use Rattle.chunk_walk.proofs.ChangeLemmas.{numbers_split}
-use Rattle.chunk_walk.proofs.HeldLemmas.{wrote_both}
+use Rattle.held.proofs.HeldLemmas.{wrote_both}
 use Rattle.chunk_walk.proofs.change_line.put_numbers.Goals as goal
 
 pub loop-at-preserved : goal.loop-at-preserved

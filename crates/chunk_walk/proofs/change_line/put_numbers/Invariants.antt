@@ -1,7 +1,7 @@
 use Rattle.std.proofs.Common.{◌-◌, ◌≤◌, length, take}
 use Rattle.std.specs.List.{flat_map}
 use Rattle.chunk_walk.specs.ChangeLine.{spaced_number}
-use Rattle.chunk_walk.specs.Held.{Wrote}
+use Rattle.held.specs.Held.{Wrote}
 use Rattle.chunk_walk.proofs.change_line.put_numbers.Given as goal
 
 -- the numbers so far have gone out

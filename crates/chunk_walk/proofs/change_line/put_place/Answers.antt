@@ -1,8 +1,8 @@
 use Rattle.std.proofs.Common.{◌≡◌, ℕ, List, [], ◌∷◌, ◌++◌, ap₂, append_assoc, subst, ◌∙◌}
 use Rattle.std.specs.Fmt.{decimal}
 use Rattle.tape_core.specs.Written.{seconds_form}
-use Rattle.chunk_walk.specs.Held.{Wrote}
-use Rattle.chunk_walk.proofs.HeldLemmas.{wrote_both}
+use Rattle.held.specs.Held.{Wrote}
+use Rattle.held.proofs.HeldLemmas.{wrote_both}
 use Rattle.chunk_walk.proofs.change_line.put_place.Goals as goal
 
 pub returns : goal.returns

@@ -2,9 +2,9 @@ use Rattle.std.proofs.Common.{◌∷◌, ◌++◌, List, [], ℕ, ap, subst, sym
 use Rattle.std.specs.List.{flat_map}
 use Rattle.tape_core.specs.Devices.{Gave}
 use Rattle.xterm_screen.specs.Picture.{Picture}
-use Rattle.xterm_page.specs.Held.{Wrote}
+use Rattle.held.specs.Held.{Wrote}
 use Rattle.xterm_page.specs.Parts.{AreLines, front_text, lines_text, renewed_text}
-use Rattle.xterm_page.proofs.HeldLemmas.{gave_all, wrote_both}
+use Rattle.held.proofs.HeldLemmas.{gave_all, wrote_both}
 use Rattle.xterm_page.proofs.PageLemmas.{entry_is, lines_renewed}
 use Rattle.xterm_page.proofs.entry_printer.put_entry.Goals as goal
 

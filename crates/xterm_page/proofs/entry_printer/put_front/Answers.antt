@@ -6,9 +6,9 @@ use Rattle.xterm_screen.specs.Picture.{Picture}
 use Rattle.xterm_term.specs.declared.modes.Modes.{Modes}
 use Rattle.xterm_page.specs.Entries.{entry_of}
 use Rattle.xterm_page.specs.EntryText.{entry_front, flags}
-use Rattle.xterm_page.specs.Held.{Wrote}
+use Rattle.held.specs.Held.{Wrote}
 use Rattle.xterm_page.specs.Parts.{front_text}
-use Rattle.xterm_page.proofs.HeldLemmas.{wrote_both}
+use Rattle.held.proofs.HeldLemmas.{wrote_both}
 use Rattle.xterm_page.proofs.entry_printer.put_front.Goals as goal
 
 as_bit : (b : Bool) → bool_byte b ≡ bit b

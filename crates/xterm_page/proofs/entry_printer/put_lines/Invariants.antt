@@ -1,6 +1,6 @@
 use Rattle.std.proofs.Common.{take}
 use Rattle.std.specs.List.{flat_map}
-use Rattle.xterm_page.specs.Held.{Wrote}
+use Rattle.held.specs.Held.{Wrote}
 use Rattle.xterm_page.specs.Parts.{renewed_text}
 use Rattle.xterm_page.proofs.entry_printer.put_lines.Given as goal
 

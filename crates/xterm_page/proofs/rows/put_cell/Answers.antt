@@ -1,12 +1,12 @@
 use Rattle.std.proofs.Common.{◌≡◌, ◌≤◌, ◌++◌, ◌∙◌, ap, sym, subst, arith, true, false, encode_utf8, length, take, get_or, append-nil, append_assoc}
 use Rattle.std.specs.List.{flat_map}
 use Rattle.std.proofs.lemmas.List.Concat.{flat_map-append}
-use Rattle.xterm_page.specs.Held.{Wrote}
+use Rattle.held.specs.Held.{Wrote}
 use Rattle.sheet.specs.Cells.{is_covered}
 use Rattle.screen_page.specs.EntryText.{string_byte}
 use Rattle.xterm_print.proofs.PlainLemmas.{printed_covered, printed_open}
 use Rattle.xterm_page.proofs.StringLemmas.{text_more}
-use Rattle.xterm_page.proofs.HeldLemmas.{wrote_both, wrote_none}
+use Rattle.held.proofs.HeldLemmas.{wrote_both, wrote_none}
 use Rattle.xterm_page.proofs.rows.put_cell.Goals as goal
 
 pub returns-then-is_covered : goal.returns-then-is_covered

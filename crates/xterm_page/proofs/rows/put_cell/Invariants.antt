@@ -1,6 +1,6 @@
 use Rattle.std.proofs.Common.{take, ◌++◌, encode_utf8}
 use Rattle.std.specs.List.{flat_map}
-use Rattle.xterm_page.specs.Held.{Wrote}
+use Rattle.held.specs.Held.{Wrote}
 use Rattle.screen_page.specs.EntryText.{string_byte}
 use Rattle.xterm_page.proofs.rows.put_cell.Given as goal
 

@@ -1,8 +1,8 @@
 use Rattle.std.proofs.Common.{ℕ, Option, subst, sym}
-use Rattle.xterm_page.specs.Held.{Wrote}
+use Rattle.held.specs.Held.{Wrote}
 use Rattle.xterm_page.specs.Entries.{change_by}
 use Rattle.xterm_page.specs.EntryText.{change_text, named_text}
-use Rattle.xterm_page.proofs.HeldLemmas.{wrote_both}
+use Rattle.held.proofs.HeldLemmas.{wrote_both}
 use Rattle.xterm_page.proofs.rows.put_changed.Goals as goal
 
 pub returns-in-Some : goal.returns-in-Some

@@ -1,5 +1,5 @@
 use Rattle.std.proofs.Common.{◌≡◌, ◌+◌, ◌-◌, ◌≤◌, ◌<◌, drop, length, take}
-use Rattle.xterm_page.specs.Held.{Wrote}
+use Rattle.held.specs.Held.{Wrote}
 use Rattle.xterm_page.specs.Plain.{string_of}
 use Rattle.xterm_rows.specs.Groups.{group_end}
 use Rattle.xterm_rows.specs.Runs.{begins}

@@ -1,7 +1,7 @@
 use Rattle.std.proofs.Common.{sym, subst}
-use Rattle.xterm_page.specs.Held.{Wrote}
+use Rattle.held.specs.Held.{Wrote}
 use Rattle.xterm_page.proofs.StringLemmas.{one_number, no_numbers, three_numbers, two_numbers}
-use Rattle.xterm_page.proofs.HeldLemmas.{wrote_both, wrote_none}
+use Rattle.held.proofs.HeldLemmas.{wrote_both, wrote_none}
 use Rattle.xterm_page.proofs.rows.put_numbers.Goals as goal
 
 pub returns-then-paper-ne0 : goal.returns-then-paper-ne0

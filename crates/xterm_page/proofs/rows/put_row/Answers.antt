@@ -1,10 +1,10 @@
 use Rattle.std.proofs.Common.{◌∙◌, subst}
 use Rattle.std.specs.List.{flat_map}
-use Rattle.xterm_page.specs.Held.{Wrote}
+use Rattle.held.specs.Held.{Wrote}
 use Rattle.xterm_page.specs.Entries.{cells_shown, shown}
 use Rattle.xterm_page.specs.EntryText.{row_text, run_text}
 use Rattle.xterm_page.proofs.UsedLemmas.{inked_used}
-use Rattle.xterm_page.proofs.HeldLemmas.{wrote_both}
+use Rattle.held.proofs.HeldLemmas.{wrote_both}
 use Rattle.xterm_page.proofs.rows.put_row.Goals as goal
 
 pub returns : goal.returns

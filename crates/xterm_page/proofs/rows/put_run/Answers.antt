@@ -3,7 +3,7 @@ use Rattle.std.specs.List.{flat_map}
 use Rattle.std.proofs.lemmas.List.{get_or_default}
 use Rattle.sheet.specs.declared.rendition.Colour.TheVariants.{Default}
 use Rattle.sheet.specs.Cells.{Cell, blank}
-use Rattle.xterm_page.specs.Held.{Wrote}
+use Rattle.held.specs.Held.{Wrote}
 use Rattle.screen_page.specs.EntryText.{string_byte}
 use Rattle.xterm_rows.specs.Groups.{group_end}
 use Rattle.xterm_rows.specs.Ink.{colour_number}
@@ -12,7 +12,7 @@ use Rattle.xterm_rows.specs.Runs.{begins, cell_behind, kind_number, kind_of, run
 use Rattle.xterm_page.specs.Entries.{shown_run}
 use Rattle.xterm_page.specs.EntryText.{numbers_text, run_text}
 use Rattle.xterm_page.proofs.StringLemmas.{run_parts}
-use Rattle.xterm_page.proofs.HeldLemmas.{wrote_both}
+use Rattle.held.proofs.HeldLemmas.{wrote_both}
 use Rattle.xterm_page.proofs.rows.put_run.Goals as goal
 
 pub returns-clause-wrote : goal.returns-clause-wrote

@@ -1,13 +1,13 @@
 use Rattle.std.proofs.Common.{◌≡◌, ℕ, ◌<◌, List, ◌++◌, ◌∙◌, length, true, ap, sym, subst, arith}
 use Rattle.std.proofs.lemmas.List.Folds.{flat_map-map}
-use Rattle.xterm_page.specs.Held.{Wrote}
+use Rattle.held.specs.Held.{Wrote}
 use Rattle.xterm_rows.specs.Groups.{starts}
 use Rattle.xterm_rows.specs.Runs.{begins}
 use Rattle.xterm_rows.proofs.GroupLemmas.{groups_more, groups_to, next_begins}
 use Rattle.xterm_rows.proofs.RunLemmas.{first_begins}
 use Rattle.xterm_page.specs.Entries.{cells_shown, shown_at}
 use Rattle.xterm_page.specs.EntryText.{run_text}
-use Rattle.xterm_page.proofs.HeldLemmas.{wrote_both, wrote_none}
+use Rattle.held.proofs.HeldLemmas.{wrote_both, wrote_none}
 use Rattle.xterm_page.proofs.rows.put_runs.Goals as goal
 
 pub loop-at-init : goal.loop-at-init

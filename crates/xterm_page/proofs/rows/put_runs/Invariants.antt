@@ -1,5 +1,5 @@
 use Rattle.std.proofs.Common.{◌≡◌, ◌-◌, ◌<◌, ◌≤◌, length, true}
-use Rattle.xterm_page.specs.Held.{Wrote}
+use Rattle.held.specs.Held.{Wrote}
 use Rattle.xterm_rows.specs.Runs.{begins}
 use Rattle.xterm_rows.proofs.GroupLemmas.{groups_to}
 use Rattle.xterm_page.specs.Entries.{shown_at}

@@ -6,10 +6,10 @@ use Rattle.screen_page.specs.EntryText.{string_byte}
 use Rattle.xterm_rows.specs.Letters.{AreLetters}
 use Rattle.xterm_rows.specs.RowText.{printed}
 use Rattle.xterm_rows.specs.Runs.{cell_behind}
-use Rattle.xterm_page.specs.Held.{Wrote}
+use Rattle.held.specs.Held.{Wrote}
 use Rattle.xterm_page.specs.Plain.{string_of}
 use Rattle.xterm_page.proofs.StringLemmas.{letters_go_on}
-use Rattle.xterm_page.proofs.HeldLemmas.{wrote_held}
+use Rattle.held.proofs.HeldLemmas.{wrote_held}
 use Rattle.xterm_page.proofs.rows.put_some.Goals as goal
 
 pub returns-then-count-gt0 : goal.returns-then-count-gt0
