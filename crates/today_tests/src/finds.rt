@@ -10,7 +10,7 @@ use xterm_print::{find, open};
 use xterm_term::Size;
 
 /// Chunks without delays on 12 columns and 3 lines, divided by bars, a text, and its find lines.
-const ROWS: [(&str, &str, &str); 32] = [
+const ROWS: [(&str, &str, &str); 39] = [
     // The screen is erased.
     (
         "ab\r\nab|\x1b[2J",
