@@ -73,7 +73,7 @@ COMMANDS = [
     (["check", "s", "t"], b""),
     (["changes", "--to", "99", "s", "t"], b""),
     (["find", "line 5", "s", "t"], b""),
-    # Only what is short: each byte costs a look at all cells.
+    # Only what is short: where the text stands, each byte costs a look at the rows that it touched.
     (["find", "--profile", "xterm", "--to", "0.3", "line 5", "s", "t"], b""),
     (["reports", "--at", "99", "s", "t"], b""),
     (["page", "s", "t"], b""),
