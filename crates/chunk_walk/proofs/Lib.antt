@@ -2,3 +2,4 @@ pub mod TextLemmas
 pub mod SeekLemmas
 mod AskedLemmas
 mod ChangeLemmas
+pub mod HeldLemmas

@@ -2,10 +2,11 @@
 #![tactic(auto)]
 
 mod change_line;
+mod held;
 pub mod laws;
 mod stop;
 mod walk;
 
-pub use change_line::put_change;
+pub use change_line::{LineNumber, put_change};
 pub use stop::WalkFault;
 pub use walk::{Visitor, visit_all_chunks, visit_chunks};
