@@ -9,9 +9,9 @@ use Rattle.sheet.specs.Table.{table}
 use Rattle.sheet.specs.Cells.{Cell, blank, cell_at}
 use Rattle.sheet.specs.Edits.{erased, filled}
 use Rattle.sheet.specs.Halves.{Whole}
-use Rattle.sheet.specs.Grid.{Grid, all_touched, blank_row, row_at, row_of}
+use Rattle.sheet.specs.Grid.{Grid, IsUsed, all_touched, blank_row, row_at, row_of}
 use Rattle.sheet.specs.Held.{Held, Sound, grid_of, row_in}
-use Rattle.sheet.specs.Packed.{IsPacked, IsUsed, packed_grid, unpacked}
+use Rattle.sheet.specs.Packed.{IsPacked, packed_grid, unpacked}
 use Rattle.sheet.proofs.Tables.{is_table, length-table, nth-table, nth_is, nth_past, table_ext, table_is}
 use Rattle.sheet.specs.declared.rendition.Colour.{Colour}
 use Rattle.sheet.proofs.Rows.{blank_narrow, blank_open, filled_there, length_erased, mended_there}

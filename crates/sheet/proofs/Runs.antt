@@ -11,7 +11,7 @@ use Rattle.sheet.specs.Table.{table}
 use Rattle.sheet.specs.Cells.{blank, covering, lettered, is_wide, is_covered, cell_at}
 use Rattle.sheet.specs.Halves.{Whole, mended, border_mended}
 use Rattle.sheet.specs.Edits.{written, put, run_written, run_put}
-use Rattle.sheet.specs.Packed.{IsUsed}
+use Rattle.sheet.specs.Grid.{IsUsed}
 use Rattle.sheet.proofs.Tables.{length-table, table_ext}
 use Rattle.sheet.proofs.Rows.{Intact, at_mended, blank_narrow, still_blank, lettered_wide, lettered_open, written_there, narrow_put, two_mended, mended_same, mended_whole, whole_mended}
 

@@ -1,9 +1,9 @@
 -- A sheet as its users see it: rows of cells, and which of them were touched.
-use Rattle.std.specs.Prelude.{◌≡◌, ℕ, ◌+◌, ◌-◌, Bool, true, false, List, [], length, nat_le, nat_lt, ◌&&◌, ◌==◌, if◌then◌else◌}
+use Rattle.std.specs.Prelude.{◌≡◌, ℕ, ◌+◌, ◌-◌, ◌<◌, ◌≤◌, Bool, true, false, List, [], length, nat_le, nat_lt, ◌&&◌, ◌==◌, if◌then◌else◌}
 use Rattle.sheet.specs.declared.rendition.Colour.{Colour}
 use Rattle.sheet.specs.declared.rendition.Colour.TheVariants.{Default}
 use Rattle.sheet.specs.Table.{table, nth}
-use Rattle.sheet.specs.Cells.{Cell, alignment, blank}
+use Rattle.sheet.specs.Cells.{Cell, alignment, blank, cell_at}
 
 -- the size, the rows from line 1 on, and for each line whether it was touched since that was last cleared (ours)
 pub record Grid : Type 0 where
@@ -23,6 +23,11 @@ blank_row columns paper = row_of columns (blank paper)
 -- the row of a line, with none outside the sheet (ours)
 abbrev pub row_at : List (List Cell) → ℕ → List Cell
 row_at rows line = nth [] rows line
+
+-- behind so many cells all of a row are blank (ours)
+pub record IsUsed (row : List Cell) (used : ℕ) : Type 0 where
+  pub within : used ≤ length row
+  pub tail : (column : ℕ) → used < column → cell_at row column ≡ blank Default
 
 -- one row is another, and the others stay (ours)
 abbrev pub with_row : ℕ → List Cell → List (List Cell) → List (List Cell)

@@ -1,8 +1,7 @@
 -- Private: rows that are kept up to their last cell that isn't blank.
-use Rattle.std.specs.Prelude.{◌≡◌, ℕ, ◌-◌, ◌<◌, ◌≤◌, true, List, length}
-use Rattle.sheet.specs.declared.rendition.Colour.TheVariants.{Default}
+use Rattle.std.specs.Prelude.{ℕ, ◌-◌, ◌≤◌, true, List, length}
 use Rattle.sheet.specs.Table.{table}
-use Rattle.sheet.specs.Cells.{Cell, blank, cell_at}
+use Rattle.sheet.specs.Cells.{Cell, cell_at}
 use Rattle.sheet.specs.Halves.{Whole}
 use Rattle.sheet.specs.Grid.{Grid}
 use Rattle.sheet.specs.Held.{row_in}
@@ -10,11 +9,6 @@ use Rattle.sheet.specs.Held.{row_in}
 -- a row of which these are the first cells; behind them all are blank
 abbrev pub unpacked : ℕ → List Cell → List Cell
 unpacked columns kept = table columns (λ column. cell_at kept column)
-
--- behind so many cells all of a row are blank
-pub record IsUsed (row : List Cell) (used : ℕ) : Type 0 where
-  pub within : used ≤ length row
-  pub tail : (column : ℕ) → used < column → cell_at row column ≡ blank Default
 
 -- the sheet of these rows, all of it touched
 abbrev pub packed_grid : ℕ → List (List Cell) → Grid

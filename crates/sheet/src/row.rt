@@ -2,8 +2,9 @@
 
 ghost use Rattle.std.specs.Prelude.{◌≡◌, ◌+◌, ◌-◌, ◌<◌, ◌≤◌, IsTrue, false, length, true};
 ghost use Rattle.sheet.specs.Cells.{cell_at, is_covered, is_wide};
+ghost use Rattle.sheet.specs.Grid.{IsUsed};
 ghost use Rattle.sheet.specs.Halves.{Whole, border_mended, parted};
-ghost use Rattle.sheet.specs.Packed.{IsUsed, unpacked};
+ghost use Rattle.sheet.specs.Packed.{unpacked};
 ghost use Rattle.sheet.specs.Edits.{character_column, deleted, erased, filled, inserted, mark_added};
 ghost use Rattle.sheet.specs.Edits.{put, run_put};
 

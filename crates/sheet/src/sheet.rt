@@ -2,7 +2,7 @@
 
 ghost use Rattle.std.specs.Prelude.{◌≡◌, ◌+◌, ◌-◌, ◌*◌, ◌<◌, ◌≤◌, IfOk, List, ℕ, false, length, true};
 ghost use Rattle.sheet.specs.Cells.{Cell};
-ghost use Rattle.sheet.specs.Grid.{Told, aligned, blank_row, blank_rows, first_grid, is_touched, lines_erased};
+ghost use Rattle.sheet.specs.Grid.{IsUsed, Told, aligned, blank_row, blank_rows, first_grid, is_touched, lines_erased};
 ghost use Rattle.sheet.specs.Grid.{row_at, scrolled_down, scrolled_up, touched_from, with_row};
 ghost use Rattle.sheet.specs.EditOf.{Fits, edited};
 ghost use Rattle.sheet.specs.Halves.{Whole};
@@ -327,6 +327,19 @@ impl Sheet {
         self.order.len() as u16
     }
 
+    /// The slot of a line.
+    #[inline]
+    fn slot(&self, line: u16) -> &Slot
+        requires low { 1 ≤ line }
+        requires high { line ≤ self.now.lines }
+        ensures value { result.now ≡ row_at self.now.rows line }
+        ensures columns { length result.now ≡ self.now.columns }
+        ensures whole { Whole result.now }
+    {
+        let slot = self.order[line as usize - 1] as usize;
+        &self.slots[slot]
+    }
+
     /// The cells of a line.
     pub fn row(&self, line: u16) -> &[Cell]
         requires low { 1 ≤ line }
@@ -335,9 +348,16 @@ impl Sheet {
         ensures columns { length result.now ≡ self.now.columns }
         ensures whole { Whole result.now }
     {
-        let slot = self.order[line as usize - 1] as usize;
-        let row = &self.slots[slot];
-        row.cells()
+        self.slot(line).cells()
+    }
+
+    /// How many of a line's first cells may be in use: behind them all are blank.
+    pub fn used(&self, line: u16) -> usize
+        requires low { 1 ≤ line }
+        requires high { line ≤ self.now.lines }
+        ensures { IsUsed (row_at self.now.rows line) result }
+    {
+        self.slot(line).used()
     }
 
     /// Whether a line was touched since that was last cleared.

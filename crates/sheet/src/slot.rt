@@ -3,7 +3,7 @@
 ghost use Rattle.std.specs.Prelude.{◌≡◌, ◌+◌, ◌-◌, ◌<◌, ◌≤◌, IfOk, false, length, true};
 ghost use Rattle.sheet.specs.Edits.{deleted, erased, inserted, mark_added, put, run_put};
 ghost use Rattle.sheet.specs.EditOf.{Fits, edited};
-ghost use Rattle.sheet.specs.Grid.{blank_row, row_of};
+ghost use Rattle.sheet.specs.Grid.{IsUsed, blank_row, row_of};
 ghost use Rattle.sheet.specs.Halves.{Whole};
 ghost use Rattle.sheet.specs.Packed.{unpacked};
 ghost use Rattle.sheet.specs.declared.rendition.Colour.{Colour};
@@ -31,7 +31,7 @@ impl Model for Slot {
 
     ghost view = { λ s. s.cells.items };
 
-    ghost use Rattle.sheet.specs.Packed.{IsUsed};
+    ghost use Rattle.sheet.specs.Grid.{IsUsed};
 
     ghost invariant = { λ s. IsUsed s.cells.items s.used };
 }
@@ -79,6 +79,13 @@ impl Slot {
         ensures { result.now ≡ self.now }
     {
         self.cells.as_slice()
+    }
+
+    /// How many of the first cells may be in use: behind them all are blank.
+    pub fn used(&self) -> usize
+        ensures { IsUsed self.now result }
+    {
+        self.used
     }
 
     /// Makes all cells the same.

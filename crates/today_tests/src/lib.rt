@@ -4,6 +4,8 @@
 #![tactic(auto)]
 
 #[cfg(test)]
+mod change_lines;
+#[cfg(test)]
 mod colours;
 #[cfg(test)]
 mod escaped;

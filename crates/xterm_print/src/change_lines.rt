@@ -6,7 +6,7 @@ ghost use Rattle.tape_seek.specs.State.{KeepsHistory};
 ghost use Rattle.chunk_walk.specs.Stops.{OnlySeeks, StopsPrint};
 ghost use Rattle.xterm_print.specs.ChangeLines.{change_lines};
 
-use crate::kept::{KeptRow, catch_up, kept_rows};
+use crate::kept::{KeptRows, catch_up};
 use crate::seeking::seek_count;
 use chunk_walk::laws::walks_end_sound;
 use chunk_walk::{Visitor, WalkFault, put_change, visit_chunks};
@@ -56,11 +56,11 @@ impl Visitor<Terminal> for ChangedRows {
     ghost use Rattle.xterm_print.specs.ChangeLines.{change_text};
     ghost use Rattle.xterm_print.specs.Kept.{AreKept};
 
-    type Kept = Vec<KeptRow>;
+    type Kept = KeptRows;
 
     ghost text = { λ _. change_text };
 
-    ghost keeps = { λ size rows bytes. AreKept size rows.items bytes };
+    ghost keeps = { λ size kept bytes. AreKept size kept.rows.items bytes };
 
     ghost takes_none = { ⊥ };
 
@@ -69,24 +69,24 @@ impl Visitor<Terminal> for ChangedRows {
         Ok(())
     }
 
-    fn keep(&self, terminal: &Terminal) -> Result<Vec<KeptRow>, OutOfMemory> {
+    fn keep(&self, terminal: &Terminal) -> Result<KeptRows, OutOfMemory> {
         size_stays();
-        Ok(kept_rows(self.alloc, terminal.screen())?)
+        Ok(KeptRows::of(self.alloc, terminal.screen())?)
     }
 
     fn visit<W: Write>(
         &self,
         index: usize,
         due: u64,
-        kept: &mut Vec<KeptRow>,
+        kept: &mut KeptRows,
         terminal: &Terminal,
         writer: &mut Watched<W>,
     ) -> Result<(), OutOfMemory> {
         size_stays();
         let screen = terminal.screen();
-        if kept.len() == screen.lines() as usize {
-            let lines = catch_up(kept.as_mut_slice(), screen);
-            put_change(index, due, lines.as_slice(), writer);
+        if kept.rows.len() == screen.lines() as usize {
+            catch_up(kept.rows.as_mut_slice(), screen, &mut kept.changed);
+            put_change(index, due, kept.changed.as_slice(), writer);
         }
         Ok(())
     }

@@ -2,12 +2,13 @@
 
 ghost use Rattle.std.specs.Prelude.{◌≡◌, ◌≢◌, ◌≤◌, ℕ, IfOk, List, length, not};
 ghost use Rattle.sheet.specs.Cells.{Cell};
-ghost use Rattle.sheet.specs.Grid.{row_at};
+ghost use Rattle.sheet.specs.Grid.{IsUsed, row_at};
 ghost use Rattle.xterm_screen.specs.Picture.{Told};
 ghost use Rattle.xterm_print.specs.ChangeLines.{changed_lines, is_changed, same_row};
 ghost use Rattle.xterm_print.specs.Kept.{FollowAll, Follows};
+ghost use Rattle.xterm_print.specs.Same.{Agree};
 
-use crate::same::same_row;
+use crate::same::{TOGETHER, same_up_to};
 use arrayvec::ArrayVec;
 use sheet::Cell;
 use sheet::limits::MOST_LINES;
@@ -18,91 +19,129 @@ use xterm_screen::Screen;
 /// How many rows a sheet has at most.
 const ROWS: usize = MOST_LINES as usize;
 
-/// A copy of the cells of a row.
+/// A copy of the rows of a sheet, and room for the numbers of those that a chunk changes.
+#[derive(Drop)]
+pub struct KeptRows {
+    pub rows: Vec<KeptRow>,
+    pub changed: ArrayVec<u16, ROWS>,
+}
+
+/// A copy of the cells of a row. Behind so many all are blank.
 #[derive(Drop)]
 pub struct KeptRow {
     cells: Vec<Cell>,
+    used: usize,
 }
 
 impl Model for KeptRow {
     ghost use Rattle.std.specs.Prelude.{List};
     ghost use Rattle.sheet.specs.Cells.{Cell};
+    ghost use Rattle.sheet.specs.Grid.{IsUsed};
 
     ghost Value = { List Cell };
 
     ghost view = { λ row. row.cells.items };
+
+    ghost invariant = { λ row. IsUsed row.cells.items row.used };
+}
+
+impl KeptRows {
+    /// A copy of the rows of the sheet that is shown.
+    pub fn of(alloc: Global, screen: &Screen) -> Result<Self, AllocError>
+        ensures { IfOk result (λ kept. FollowAll screen.now.picture.lines
+            screen.now.picture.columns kept.rows.items screen.now.picture.rows) }
+    {
+        let rows = kept_rows(alloc, screen)?;
+        Ok(KeptRows {
+            rows,
+            changed: ArrayVec::new(),
+        })
+    }
 }
 
 impl KeptRow {
-    /// A copy of these cells.
-    fn of(alloc: Global, cells: &[Cell]) -> Result<Self, AllocError>
+    /// A copy of these cells, behind so many of which all are blank.
+    fn of(alloc: Global, cells: &[Cell], used: usize) -> Result<Self, AllocError>
+        requires { IsUsed cells.now used }
         ensures { IfOk result (λ row. row ≡ cells.now) }
     {
         let cells = cells.to_vec(alloc)?;
-        Ok(KeptRow { cells })
+        Ok(KeptRow { cells, used })
     }
 
-    /// Whether its cells are the same as these.
-    fn is_same(&self, cells: &[Cell]) -> bool
-        ensures { result ≡ same_row self.now cells.now }
-    {
-        same_row(self.cells.as_slice(), cells)
-    }
-
-    /// Becomes a copy of these cells, if they are as many as its own.
-    fn copy_from(&mut self, cells: &[Cell])
-        ensures { length self.old ≡ length cells.now → self.new ≡ cells.now }
-    {
-        if self.cells.len() == cells.len() {
-            self.cells.as_mut_slice().copy_from_slice(cells);
-        }
-    }
-
-    /// Becomes the same as these cells, and tells whether it wasn't.
-    fn catch_up(&mut self, cells: &[Cell]) -> bool
+    /// Becomes the same as these cells, behind so many of which all are blank, and tells whether it wasn't.
+    fn catch_up(&mut self, cells: &[Cell], used: usize) -> bool
+        requires { IsUsed cells.now used }
         ensures changed { result ≡ not (same_row self.old cells.now) }
         ensures caught { length self.old ≡ length cells.now
             → Follows (length cells.now) self.new cells.now }
     {
-        if self.is_same(cells) {
+        if self.cells.len() != cells.len() {
+            return true;
+        }
+        let end = end_of(self.used.max(used), cells.len());
+        let from = same_up_to(self.cells.as_slice(), cells, end);
+        if from == end {
             return false;
         }
-        self.copy_from(cells);
+        copy_between(self.cells.as_mut_slice(), cells, from, end);
+        self.used = used;
         true
     }
 }
 
+/// Where the cells end that are compared, of which so many are in use: they are compared together.
+fn end_of(used: usize, columns: usize) -> usize
+    requires { used ≤ columns }
+    ensures low { used ≤ result }
+    ensures high { result ≤ columns }
+{
+    let more = (TOGETHER - used % TOGETHER) % TOGETHER;
+    used + more.min(columns - used)
+}
+
+/// Makes cells the same as others, from which they differ between two places alone.
+fn copy_between(cells: &mut [Cell], others: &[Cell], from: usize, to: usize)
+    requires long { length cells.old ≡ length others.now }
+    requires apart { from ≤ to }
+    requires within { to ≤ length cells.old }
+    requires before { Agree cells.old others.now 0 from }
+    requires behind { Agree cells.old others.now to (length others.now) }
+    ensures { cells.new ≡ others.now }
+{
+    cells[from..to].copy_from_slice(&others[from..to]);
+}
+
 /// A copy of the rows of the sheet that is shown.
-pub fn kept_rows(alloc: Global, screen: &Screen) -> Result<Vec<KeptRow>, AllocError>
+fn kept_rows(alloc: Global, screen: &Screen) -> Result<Vec<KeptRow>, AllocError>
     ensures { IfOk result (λ rows. FollowAll screen.now.picture.lines screen.now.picture.columns
         rows.items screen.now.picture.rows) }
 {
     let mut rows = Vec::with_capacity(alloc, screen.lines() as usize)?;
     for line in 1..screen.lines() + 1 {
-        rows.push(KeptRow::of(alloc, screen.row(line))?)?;
+        rows.push(KeptRow::of(alloc, screen.row(line), screen.used(line))?)?;
     }
     Ok(rows)
 }
 
 /// The lines whose rows differ from those of the sheet that is shown, which they then follow. Only touched lines are
 /// looked at: the sheet tells that the others are as before.
-pub fn catch_up(rows: &mut [KeptRow], screen: &Screen) -> ArrayVec<u16, ROWS>
+pub fn catch_up(rows: &mut [KeptRow], screen: &Screen, changed: &mut ArrayVec<u16, ROWS>)
     requires { length rows.old ≡ screen.now.picture.lines }
     ensures changed { (before : List (List Cell)) → Told before screen.now
         → FollowAll screen.now.picture.lines screen.now.picture.columns rows.old before
-        → result.items ≡ changed_lines screen.now.picture.lines before screen.now.picture.rows }
+        → changed.new.items ≡ changed_lines screen.now.picture.lines before screen.now.picture.rows }
     ensures caught { (before : List (List Cell)) → Told before screen.now
         → FollowAll screen.now.picture.lines screen.now.picture.columns rows.old before
         → FollowAll screen.now.picture.lines screen.now.picture.columns rows.new
         screen.now.picture.rows }
 {
-    let mut changed = ArrayVec::new();
+    changed.clear();
     for line in 1..screen.lines() + 1 {
         if catch_up_line(rows, screen, line) {
             changed.push(line);
         }
     }
-    changed
 }
 
 /// Whether the row of a line differs from that of the sheet that is shown, which it then follows.
@@ -124,5 +163,5 @@ fn catch_up_line(rows: &mut [KeptRow], screen: &Screen, line: u16) -> bool
         return false;
     }
     let row = &mut rows[line as usize - 1];
-    row.catch_up(screen.row(line))
+    row.catch_up(screen.row(line), screen.used(line))
 }

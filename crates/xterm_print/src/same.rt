@@ -1,13 +1,13 @@
 //! When rows are the same.
 
-ghost use Rattle.std.specs.Prelude.{◌≡◌, ◌+◌, ◌≤◌, IsTrue, false, length};
+ghost use Rattle.std.specs.Prelude.{◌≡◌, ◌+◌, ◌<◌, ◌≤◌, IsTrue, false, length};
 ghost use Rattle.xterm_print.specs.ChangeLines.{same_cell, same_row};
 ghost use Rattle.xterm_print.specs.Same.{Agree};
 
 use sheet::Cell;
 
 /// How many cells are compared at a time.
-const TOGETHER: usize = 8;
+pub(crate) const TOGETHER: usize = 8;
 
 /// Whether two cells are the same.
 fn same_cell(one: Cell, other: Cell) -> bool
@@ -21,7 +21,8 @@ fn same_cell(one: Cell, other: Cell) -> bool
 fn agree_together(one: &[Cell], other: &[Cell], from: usize) -> bool
     requires long { length one.now ≡ length other.now }
     requires within { from + TOGETHER ≤ length one.now }
-    ensures { IsTrue result → Agree one.now other.now from (from + TOGETHER) }
+    ensures agree { IsTrue result → Agree one.now other.now from (from + TOGETHER) }
+    ensures differ { result ≡ false → same_row one.now other.now ≡ false }
 {
     let mut same = true;
     for at in from..from + TOGETHER {
@@ -30,18 +31,40 @@ fn agree_together(one: &[Cell], other: &[Cell], from: usize) -> bool
     same
 }
 
-/// Whether all cells from one place on are the same.
-fn agree_from(one: &[Cell], other: &[Cell], from: usize) -> bool
+/// A place from another one on, up to which all cells are the same; where it lies before the end, some differ.
+fn place_from(one: &[Cell], other: &[Cell], from: usize, end: usize) -> usize
     requires long { length one.now ≡ length other.now }
-    ensures agree { IsTrue result → Agree one.now other.now from (length one.now) }
-    ensures differ { result ≡ false → same_row one.now other.now ≡ false }
+    requires apart { from ≤ end }
+    requires within { end ≤ length one.now }
+    ensures agree { Agree one.now other.now from result }
+    ensures low { from ≤ result }
+    ensures high { result ≤ end }
+    ensures differ { result < end → same_row one.now other.now ≡ false }
 {
-    for at in from..one.len() {
+    for at in from..end {
         if !same_cell(one[at], other[at]) {
-            return false;
+            return at;
         }
     }
-    true
+    end
+}
+
+/// A place up to which all cells are the same; where it lies before the end, some differ.
+pub(crate) fn same_up_to(one: &[Cell], other: &[Cell], end: usize) -> usize
+    requires long { length one.now ≡ length other.now }
+    requires within { end ≤ length one.now }
+    ensures agree { Agree one.now other.now 0 result }
+    ensures high { result ≤ end }
+    ensures differ { result < end → same_row one.now other.now ≡ false }
+{
+    let mut at = 0;
+    while TOGETHER <= end - at {
+        if !agree_together(one, other, at) {
+            return at;
+        }
+        at += TOGETHER;
+    }
+    place_from(one, other, at, end)
 }
 
 /// Whether two rows are the same; then they are equal.
@@ -52,9 +75,5 @@ pub fn same_row(one: &[Cell], other: &[Cell]) -> bool
     if one.len() != other.len() {
         return false;
     }
-    let mut at = 0;
-    while TOGETHER <= one.len() - at && agree_together(one, other, at) {
-        at += TOGETHER;
-    }
-    agree_from(one, other, at)
+    same_up_to(one, other, one.len()) == one.len()
 }

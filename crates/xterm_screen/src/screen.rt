@@ -2,7 +2,7 @@
 
 ghost use Rattle.std.specs.Prelude.{◌≡◌, ℕ, ◌≤◌, Bool, IfOk, List, false, length};
 ghost use Rattle.sheet.specs.Cells.{Cell};
-ghost use Rattle.sheet.specs.Grid.{is_touched, row_at};
+ghost use Rattle.sheet.specs.Grid.{IsUsed, is_touched, row_at};
 ghost use Rattle.sheet.specs.Halves.{Whole};
 ghost use Rattle.xterm_screen.specs.Picture.{KeepsTold, Sound, Told, first_tabs, reset};
 ghost use Rattle.xterm_screen.specs.Tabs.{stop_at};
@@ -144,6 +144,15 @@ impl Screen {
         ensures whole { Whole result.now }
     {
         self.shown.row(line)
+    }
+
+    /// How many of a line's first cells may be in use: behind them all are blank.
+    pub fn used(&self, line: u16) -> usize
+        requires low { 1 ≤ line }
+        requires high { line ≤ self.now.picture.lines }
+        ensures { IsUsed (row_at self.now.picture.rows line) result }
+    {
+        self.shown.used(line)
     }
 
     /// The cursor's line and column.

@@ -12,8 +12,8 @@ use Rattle.xterm_print.proofs.kept.catch_up.Goals.{then-catch_up_line, else-catc
 pub loop-line-init : goal.loop-line-init
 loop-line-init c = record {
   whole = c.requires;
-  changed = λ before told follow. c.new-changed.ensures;
-  few = omega (arith, ap length c.new-changed.ensures);
+  changed = λ before told follow. c.clear.ensures;
+  few = omega (arith, ap length c.clear.ensures);
   later = λ k here low. refl;
   caught = λ before told follow k low high. absurd (omega (arith, low, high));
 }

@@ -2,7 +2,7 @@ use Rattle.std.proofs.Common.{List, length, ◌∙◌, ap, sym, subst, arith, ta
 use Rattle.std.specs.Vec.{with_items}
 use Rattle.sheet.specs.Cells.{Cell}
 use Rattle.sheet.specs.Edits.{erased}
-use Rattle.sheet.specs.Packed.{IsUsed}
+use Rattle.sheet.specs.Grid.{IsUsed}
 use Rattle.sheet.proofs.Packed.{all_used, erased_used}
 use Rattle.sheet.proofs.slot.Slot.erase.Goals as goal
 

@@ -2,8 +2,7 @@ use Rattle.std.proofs.Common.{◌≡◌, ℕ, ◌∙◌, List, length, ap, ap₂
 use Rattle.std.specs.Vec.{with_items}
 use Rattle.sheet.specs.Cells.{Cell}
 use Rattle.sheet.specs.Edits.{filled}
-use Rattle.sheet.specs.Grid.{row_of}
-use Rattle.sheet.specs.Packed.{IsUsed}
+use Rattle.sheet.specs.Grid.{IsUsed, row_of}
 use Rattle.sheet.proofs.Packed.{all_used, filled_used, none_used}
 use Rattle.sheet.proofs.Rows.{all_filled}
 use Rattle.sheet.proofs.slot.Slot.fill.Goals as goal

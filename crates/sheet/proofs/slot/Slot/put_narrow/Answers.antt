@@ -2,7 +2,7 @@ use Rattle.std.proofs.Common.{List, [], ◌∷◌, false, length, ◌∙◌, ap,
 use Rattle.sheet.specs.Cells.{Cell}
 use Rattle.sheet.specs.Edits.{put}
 use Rattle.sheet.specs.Halves.{Whole}
-use Rattle.sheet.specs.Packed.{IsUsed}
+use Rattle.sheet.specs.Grid.{IsUsed}
 use Rattle.sheet.proofs.Runs.{run_used}
 use Rattle.sheet.proofs.slot.Slot.put_narrow.Goals as goal
 

@@ -16,7 +16,7 @@ returns-then-len-lines-clause-gave g c = λ profile before after are shows told.
     subst (λ lines. Gave g.W.Write.contents c.args.writer.now c.put_change.new.writer (change_line decimal c.args.index c.args.due lines))
     (lines_told c.size_stays.ensures s.picture terminal profile before after c.as_mut_slice.result.now c.as_slice.result.now c.screen-screen.ensures.value
     (subst (λ rows. AreKept profile rows before) (sym c.as_mut_slice.ensures.value) are) shows
-    (λ follow. c.as_slice.ensures.value ∙ c.catch_up-lines.ensures.changed rows here follow))
+    (λ follow. c.as_slice.ensures.value ∙ c.catch_up.ensures.changed rows here follow))
     c.put_change.ensures
 
 pub returns-then-len-lines-clause-keeps : goal.returns-then-len-lines-clause-keeps
@@ -25,10 +25,10 @@ returns-then-len-lines-clause-keeps g c = λ profile before after are shows told
     let terminal = c.args.terminal.now in
     let rows = rows_by profile before in
     let here = screen_told s terminal rows c.screen-screen.ensures.value c.screen-screen.ensures.touched told in
-    let new = c.catch_up-lines.new.rows in
+    let new = c.catch_up.new.rows in
     let follows = kept_on c.size_stays.ensures s.picture terminal profile before after c.as_mut_slice.result.now new c.screen-screen.ensures.value
-    (subst (λ rows. AreKept profile rows before) (sym c.as_mut_slice.ensures.value) are) shows (c.catch_up-lines.ensures.caught rows here) in
+    (subst (λ rows. AreKept profile rows before) (sym c.as_mut_slice.ensures.value) are) shows (c.catch_up.ensures.caught rows here) in
     let long = c.as_mut_slice.ensures.len in
-    let old : length c.args.kept.now.items ≡ c.args.kept.now.len = sym (ap length c.as_mut_slice.ensures.value) ∙ long in
+    let old : length c.args.kept.now.rows.items ≡ c.args.kept.now.rows.len = sym (ap length c.as_mut_slice.ensures.value) ∙ long in
     let same = follows.lines ∙ sym are.lines ∙ old in
-    subst (λ rows. AreKept profile rows after) (written_back c.args.kept.now.len new c.args.kept.now.items same old) follows
+    subst (λ rows. AreKept profile rows after) (written_back c.args.kept.now.rows.len new c.args.kept.now.rows.items same old) follows

@@ -1,5 +1,5 @@
 use Rattle.xterm_print.specs.Same.{Agree}
-use Rattle.xterm_print.proofs.same.agree_from.Given as goal
+use Rattle.xterm_print.proofs.same.place_from.Given as goal
 
 -- those so far are equal
 abbrev pub invariant-loop-at : goal.invariant-loop-at
