@@ -1,5 +1,4 @@
 pub mod TextLemmas
 pub mod SeekLemmas
 mod AskedLemmas
-mod ChangeLemmas
-pub mod HeldLemmas
+pub mod ChangeLemmas

@@ -1,5 +1,5 @@
 -- How the lines of a screen that a chunk changes are written (ours).
-use Rattle.std.specs.Prelude.{ℕ, List, [], ◌∷◌, ◌++◌}
+use Rattle.std.specs.Prelude.{ℕ, Bool, true, false, List, [], ◌∷◌, ◌++◌}
 use Rattle.std.specs.Fmt.{decimal}
 use Rattle.std.specs.List.{flat_map}
 use Rattle.tape_core.specs.Written.{seconds_form}
@@ -14,3 +14,8 @@ abbrev pub change_line : {N : Type 0} → (N → List ℕ) → ℕ → ℕ → L
 change_line written index due [] = []
 change_line written index due (line ∷ more) =
     (decimal index ++ 32 ∷ seconds_form due) ++ flat_map (spaced_number written) (line ∷ more) ++ 10 ∷ []
+
+-- what ends a line, where it is to end
+abbrev pub ending : Bool → List ℕ
+ending true = 10 ∷ []
+ending false = []

@@ -1,4 +1,3 @@
 pub mod ChangeLine
 pub mod Walk
 pub mod Stops
-pub mod Held

@@ -5,21 +5,21 @@ ghost use Rattle.std.specs.Fmt.{decimal};
 ghost use Rattle.std.specs.List.{flat_map};
 ghost use Rattle.tape_core.specs.Devices.{Gave};
 ghost use Rattle.tape_core.specs.Written.{seconds_form};
-ghost use Rattle.chunk_walk.specs.ChangeLine.{change_line, spaced_number};
-ghost use Rattle.chunk_walk.specs.Held.{Wrote};
+ghost use Rattle.chunk_walk.specs.ChangeLine.{change_line, ending, spaced_number};
 
-use crate::held::{HELD, let_out, put, put_byte};
-use arrayvec::ArrayVec;
-use itoa::{Buffer, Integer, write_digits};
+use itoa::{Integer, write_digits};
 use std::io::Write;
 use tape_core::laws::gives_join;
 use tape_core::{Watched, seconds_text};
 
 /// How many numbers are put together at a time.
-const TOGETHER: usize = 8;
+const TOGETHER: usize = 24;
 
-/// How many bytes these take at most, each of five digits.
-const ROOM: usize = 48;
+/// How many bytes stand before them at most: the 20 digits of a place, a space, and the 21 bytes of seconds.
+const PLACE: usize = 42;
+
+/// How many bytes are put together at most: those, 24 numbers of five digits, a space before each, and LF.
+const ROOM: usize = 187;
 
 /// The number of a line, of at most five digits.
 pub trait LineNumber: Integer {
@@ -54,67 +54,81 @@ pub fn put_change<N: LineNumber, W: Write>(
     if lines.is_empty() {
         return;
     }
-    let mut held = ArrayVec::new();
-    put_place(index, due, &mut held, writer);
-    put_numbers(lines, &mut held, writer);
-    put_byte(b'\n', &mut held, writer);
-    let_out(&mut held, writer);
+    if lines.len() <= TOGETHER {
+        put_first(index, due, lines, true, writer);
+        return;
+    }
+    put_first(index, due, &lines[..TOGETHER], false, writer);
+    put_numbers(&lines[TOGETHER..], writer);
+    writer.give(b"\n");
 }
 
-/// Writes a chunk's place and when it is due.
-fn put_place<W: Write>(
+/// Writes a chunk's place, when it is due, and some numbers, a space before each; and LF, if they are the last.
+fn put_first<N: LineNumber, W: Write>(
     index: usize,
     due: u64,
-    held: &mut ArrayVec<u8, HELD>,
+    numbers: &[N],
+    last: bool,
     writer: &mut Watched<W>,
 )
-    ensures { Wrote W.contents writer.old held.old.items writer.new held.new.items
-        (decimal index ++ 32 ∷ seconds_form due) }
+    requires { length numbers.now ≤ TOGETHER }
+    ensures { Gave W.contents writer.old writer.new ((decimal index ++ 32 ∷ seconds_form due)
+        ++ (flat_map (spaced_number N.text) numbers.now ++ ending last)) }
 {
-    put(Buffer::new().format(index).as_bytes(), held, writer);
-    put_byte(b' ', held, writer);
-    put(seconds_text(due).as_bytes(), held, writer);
+    let mut text = [0; ROOM];
+    let end = write_end(last, &mut text);
+    let place = write_numbers(numbers, &mut text, end);
+    let start = write_place(index, due, &mut text, place);
+    writer.give(&text[start..]);
 }
 
 /// Writes numbers, a space before each.
-fn put_numbers<N: LineNumber, W: Write>(
-    numbers: &[N],
-    held: &mut ArrayVec<u8, HELD>,
-    writer: &mut Watched<W>,
-)
-    ensures { Wrote W.contents writer.old held.old.items writer.new held.new.items
-        (flat_map (spaced_number N.text) numbers.now) }
+fn put_numbers<N: LineNumber, W: Write>(numbers: &[N], writer: &mut Watched<W>)
+    ensures { Gave W.contents writer.old writer.new (flat_map (spaced_number N.text) numbers.now) }
 {
+    gives_join::<W>();
     let mut at = 0;
     while at < numbers.len() {
         let count = TOGETHER.min(numbers.len() - at);
-        put_some(&numbers[at..at + count], held, writer);
+        put_some(&numbers[at..at + count], writer);
         at += count;
     }
 }
 
-/// Writes some numbers, a space before each, which are put together from the last digit on.
-fn put_some<N: LineNumber, W: Write>(
-    numbers: &[N],
-    held: &mut ArrayVec<u8, HELD>,
-    writer: &mut Watched<W>,
-)
+/// Writes some numbers, a space before each.
+fn put_some<N: LineNumber, W: Write>(numbers: &[N], writer: &mut Watched<W>)
     requires { length numbers.now ≤ TOGETHER }
-    ensures { Wrote W.contents writer.old held.old.items writer.new held.new.items
-        (flat_map (spaced_number N.text) numbers.now) }
+    ensures { Gave W.contents writer.old writer.new (flat_map (spaced_number N.text) numbers.now) }
 {
     let mut text = [0; ROOM];
-    let start = write_numbers(numbers, &mut text);
-    put(&text[start..], held, writer);
+    let start = write_numbers(numbers, &mut text, ROOM);
+    writer.give(&text[start..]);
 }
 
-/// Writes some numbers, a space before each, so that they end with the text, and returns where they start.
-fn write_numbers<N: LineNumber>(numbers: &[N], text: &mut [u8; ROOM]) -> usize
-    requires { length numbers.now ≤ TOGETHER }
-    ensures within { result ≤ ROOM }
-    ensures written { drop result text.new ≡ flat_map (spaced_number N.text) numbers.now }
+/// Puts LF at the end of a text, if it is to end there, and returns where what was put starts.
+fn write_end(last: bool, text: &mut [u8; ROOM]) -> usize
+    ensures low { ROOM - 1 ≤ result }
+    ensures high { result ≤ ROOM }
+    ensures written { drop result text.new ≡ ending last }
 {
-    let mut start = ROOM;
+    if last {
+        text[ROOM - 1] = b'\n';
+        return ROOM - 1;
+    }
+    ROOM
+}
+
+/// Puts some numbers, a space before each, before what starts at a place, and returns where they start.
+fn write_numbers<N: LineNumber>(numbers: &[N], text: &mut [u8; ROOM], end: usize) -> usize
+    requires few { length numbers.now ≤ TOGETHER }
+    requires room { ROOM - 1 ≤ end }
+    requires within { end ≤ ROOM }
+    ensures room { PLACE ≤ result }
+    ensures within { result ≤ ROOM }
+    ensures written { drop result text.new
+        ≡ flat_map (spaced_number N.text) numbers.now ++ drop end text.old }
+{
+    let mut start = end;
     let mut left = numbers.len();
     while left > 0 {
         left -= 1;
@@ -122,4 +136,21 @@ fn write_numbers<N: LineNumber>(numbers: &[N], text: &mut [u8; ROOM]) -> usize
         text[start] = b' ';
     }
     start
+}
+
+/// Puts a chunk's place and when it is due before what starts at a place, and returns where they start.
+#[tactic(auto, using(crate::proofs::ChangeLemmas::short_seconds))]
+fn write_place(index: usize, due: u64, text: &mut [u8; ROOM], end: usize) -> usize
+    requires room { PLACE ≤ end }
+    requires within { end ≤ ROOM }
+    ensures within { result ≤ ROOM }
+    ensures written { drop result text.new
+        ≡ (decimal index ++ 32 ∷ seconds_form due) ++ drop end text.old }
+{
+    let seconds = seconds_text(due);
+    let seconds = seconds.as_bytes();
+    let start = end - seconds.len();
+    text[start..end].copy_from_slice(seconds);
+    text[start - 1] = b' ';
+    write_digits(index as u64, text, start - 1)
 }

@@ -2,7 +2,6 @@
 #![tactic(auto)]
 
 mod change_line;
-mod held;
 pub mod laws;
 mod stop;
 mod walk;

@@ -11,9 +11,9 @@ loop-left-init g c =
     let numbers = c.args.numbers.now in
     record {
       high = omega arith;
-      room = omega arith;
-      within = omega arith;
-      written = drop_all 48 c.args.text.now (omega arith) ∙ ap (flat_map (spaced_number g.N.Integer.text)) (sym (drop_all (length numbers) numbers (omega arith)));
+      room = omega (arith, c.requires.few, c.requires.room);
+      within = c.requires.within;
+      written = ap (λ l. flat_map (spaced_number g.N.Integer.text) l ++ drop c.args.end c.args.text.now) (sym (drop_all (length numbers) numbers (omega arith)));
     }
 
 pub write_digits-start-requires : goal.write_digits-start-requires
@@ -32,12 +32,13 @@ loop-left-preserved g c =
     let numbers = c.args.numbers.now in
     let left = c.loop-left.left - 1 in
     let next : left + 1 ≡ c.loop-left.left = omega arith in
-    let number = c.index-numbers-left.result in
+    let rest = drop c.args.end c.args.text.now in
     record {
       high = omega arith;
       room = omega arith;
       within = omega arith;
-      written = number_before g.N.Integer.text numbers left number c.write_digits-start.new.buf c.write_digits-start.result (omega arith) c.index-numbers-left.is (omega arith) (omega arith)
+      written = number_before g.N.Integer.text numbers left c.index-numbers-left.result c.write_digits-start.new.buf rest c.write_digits-start.result
+          (omega arith) c.index-numbers-left.is (omega arith) (omega arith)
           (c.write_digits-start.ensures.written ∙ ap₂ (λ l m. l ++ m) (sym c.number.ensures.text)
-          (c.loop-left.invariant.written ∙ ap (λ n. flat_map (spaced_number g.N.Integer.text) (drop n numbers)) (sym next)));
+          (c.loop-left.invariant.written ∙ ap (λ n. flat_map (spaced_number g.N.Integer.text) (drop n numbers) ++ rest) (sym next)));
     }
