@@ -10,7 +10,7 @@ use xterm_print::{find, open};
 use xterm_term::Size;
 
 /// Chunks without delays on 12 columns and 3 lines, divided by bars, a text, and its find lines.
-const ROWS: [(&str, &str, &str); 39] = [
+const ROWS: &[(&str, &str, &str)] = &[
     // The screen is erased.
     (
         "ab\r\nab|\x1b[2J",
@@ -177,14 +177,21 @@ fn found(
     Ok(writer.into_inner())
 }
 
-#[test]
-fn tells_where_a_text_comes_and_goes(rt: HostRuntime) -> Result<(), Fail> {
-    for (chunks, text, lines) in ROWS {
-        let got = found(&rt, chunks, None, text)?;
+fn assert_found(
+    rt: &(impl Runtime<A = Global> + Abort),
+    rows: &[(&str, &str, &str)],
+) -> Result<(), Fail> {
+    for (chunks, text, lines) in rows {
+        let got = found(rt, chunks, None, text)?;
         let got = std::str::from_utf8(got.as_slice()).unwrap_or("");
-        assert_eq!(&rt; got, lines, "{chunks}");
+        assert_eq!(rt; got, *lines, "{chunks}");
     }
     Ok(())
+}
+
+#[test]
+fn tells_where_a_text_comes_and_goes(rt: HostRuntime) -> Result<(), Fail> {
+    assert_found(&rt, ROWS)
 }
 
 #[test]
