@@ -43,7 +43,7 @@ const WIDE_STARTS: usize = WIDE_COLUMNS as usize - 2;
 const SHORT: usize = NARROW_COLUMNS as usize / 2 + 1;
 
 /// Whether a chunk that changes these lines surely leaves a text where it stands: in what it changes the
-/// text begins nowhere. It answers in a fraction of the time in which screens are laid out.
+/// text begins nowhere. It answers in a fraction of the time in which lines are compared.
 pub(crate) fn stays(
     text: &[char],
     start: &Start,
