@@ -41,7 +41,7 @@ drop_past front rest n past =
     ∙ ap (drop (n - length front)) (drop_at front rest (length front) refl)
 
 -- a text that ends in the front begins there whatever comes behind it
-begins_before : (front rest other text : List ℕ) (at : ℕ) → at + length text ≤ length front → begins text (front ++ rest) at ≡ begins text (front ++ other) at
+pub begins_before : (front rest other text : List ℕ) (at : ℕ) → at + length text ≤ length front → begins text (front ++ rest) at ≡ begins text (front ++ other) at
 begins_before front rest other text at ends =
     let short : length text ≤ length (drop at front) = omega (arith, length-drop at front) in
     ap (λ l. starts_with nat_eq l text) (drop-append-le at front rest (omega arith))
@@ -50,13 +50,13 @@ begins_before front rest other text at ends =
     ∙ ap (λ l. starts_with nat_eq l text) (sym (drop-append-le at front other (omega arith)))
 
 -- and one that begins in the rest whatever comes before it
-begins_behind : (front other rest text : List ℕ) (at : ℕ) → length other ≡ length front → length front ≤ at → begins text (front ++ rest) at ≡ begins text (other ++ rest) at
+pub begins_behind : (front other rest text : List ℕ) (at : ℕ) → length other ≡ length front → length front ≤ at → begins text (front ++ rest) at ≡ begins text (other ++ rest) at
 begins_behind front other rest text at same past =
     ap (λ l. starts_with nat_eq l text)
     (drop_past front rest at past ∙ ap (λ n. drop (at - n) rest) (sym same) ∙ sym (drop_past other rest at (omega arith)))
 
 -- one that begins in the front and ends in the rest has neighbours there
-begins_across : (front rest text : List ℕ) (at : ℕ) → at < length front → length front < at + length text
+pub begins_across : (front rest text : List ℕ) (at : ℕ) → at < length front → length front < at + length text
     → (0 < length rest → NoNeighbours text (get_or front (length front - 1) 0) (get_or rest 0 0)) → begins text (front ++ rest) at ≡ false
 begins_across front rest text at low high none = elim (cases_Bool (begins text (front ++ rest) at)) [
   | inr f ↦ f
@@ -85,11 +85,12 @@ begins_between front old rest new text at same none before after = elim (cases_l
 -- ---- lines that lead to the row
 
 -- the line from one row on leads to another, by the same characters on three screens
-record Leads (k above : ℕ) (one two three : List Row) : Type 0 where
-  front : List ℕ
-  first : line_text (drop k one) ≡ front ++ line_text (drop above one)
-  second : line_text (drop k two) ≡ front ++ line_text (drop above two)
-  third : line_text (drop k three) ≡ front ++ line_text (drop above three)
+pub record Leads (k above : ℕ) (one two three : List Row) : Type 0 where
+  pub front : List ℕ
+  pub long : k < above → length (row_below one k).characters ≤ length front
+  pub first : line_text (drop k one) ≡ front ++ line_text (drop above one)
+  pub second : line_text (drop k two) ≡ front ++ line_text (drop above two)
+  pub third : line_text (drop k three) ≡ front ++ line_text (drop above three)
 
 -- the row before what leads
 leads_step : (one other : List Row) (k above : ℕ) (front : List ℕ) → row_below other k ≡ row_below one k → (row_below one k).runs_on ≡ true
@@ -101,12 +102,13 @@ leads_step one other k above front same runs more =
     ∙ ap (λ l. (row_below one k).characters ++ l) more
     ∙ sym (append_assoc (row_below one k).characters front (line_text (drop above other)))
 
-leads : (one two three : List Row) (above n k : ℕ) → k + n ≡ above → IsRewritten above one two → IsRewritten above one three
+pub leads : (one two three : List Row) (above n k : ℕ) → k + n ≡ above → IsRewritten above one two → IsRewritten above one three
     → Leads k above one two three ⊎ ((k < above) × (line_text (drop k two) ≡ line_text (drop k one)))
 leads one two three above zero k is second third =
     let here : k ≡ above = omega arith in
     inl (record {
       front = [];
+      long = λ low. absurd (omega (arith, low, here));
       first = ap (λ i. line_text (drop i one)) here;
       second = ap (λ i. line_text (drop i two)) here;
       third = ap (λ i. line_text (drop i three)) here;
@@ -122,6 +124,7 @@ leads one two three above (suc n) k is second third =
         | inl lead ↦
             inl (record {
               front = row.characters ++ lead.front;
+              long = λ _. omega (arith, length-append row.characters lead.front);
               first = leads_step one one k above lead.front refl runs lead.first;
               second = leads_step one two k above lead.front second_row runs lead.second;
               third = leads_step one three k above lead.front third_row runs lead.third;
@@ -132,7 +135,7 @@ leads one two three above (suc n) k is second third =
 -- ---- the row that is rewritten
 
 -- the line from it on, by its characters
-line_here : (one other : List Row) (above : ℕ) (characters : List ℕ) → IsRewritten above one other → (row_below other above).characters ≡ characters
+pub line_here : (one other : List Row) (above : ℕ) (characters : List ℕ) → IsRewritten above one other → (row_below other above).characters ≡ characters
     → line_text (drop above other) ≡ characters ++ cond (row_below one above).runs_on (line_text (drop (above + 1) one)) []
 line_here one other above characters same is =
     line_at other above ∙ ap (λ l. l ++ cond (row_below other above).runs_on (line_text (drop (above + 1) other)) []) is
@@ -141,11 +144,11 @@ line_here one other above characters same is =
     (line_below one other (length one) (above + 1) (omega arith) same.count (λ k low. same.others k (λ e. omega arith)))
 
 -- what stands before it, in it and behind it, in two parts
-in_two : (line front pre written kept post more : List ℕ) → line ≡ (pre ++ (written ++ kept) ++ post) ++ more
+pub in_two : (line front pre written kept post more : List ℕ) → line ≡ (pre ++ (written ++ kept) ++ post) ++ more
     → front ++ line ≡ (front ++ pre ++ written) ++ (kept ++ post ++ more)
 in_two line front pre written kept post more is = ap (λ l. front ++ l) is ∙ simp append_assoc
 
-rewritten : (one : List Row) (above : ℕ) → IsRewritten above one one
+pub rewritten : (one : List Row) (above : ℕ) → IsRewritten above one one
 rewritten one above = record { count = refl; others = λ k _. refl; runs = refl }
 
 none_of : (text : List ℕ) (rows : List Row) (k : ℕ) → k < length rows → standing text rows ≡ [] → places_of text rows k ≡ []
@@ -153,14 +156,14 @@ none_of text rows k lt none =
     let number : 0 + k ≡ k = omega arith in
     ap (places_of text rows) (sym number) ∙ none_at text rows k 0 (omega arith) none
 
-last_written : (front pre new : List ℕ) (n : ℕ) → 0 < n → n ≤ length new
+pub last_written : (front pre new : List ℕ) (n : ℕ) → 0 < n → n ≤ length new
     → get_or (front ++ pre ++ take n new) (length (front ++ pre ++ take n new) - 1) 0 ≡ get_or new (n - 1) 0
 last_written front pre new n some within =
     let at : length (front ++ pre ++ take n new) - 1 ≡ length (front ++ pre) + (n - 1) =
     omega (arith, length-append (front ++ pre) (take n new), length-take-le n new within) in
     ap (λ m. get_or (front ++ pre ++ take n new) m 0) at ∙ get_or-append-add (front ++ pre) (take n new) (n - 1) 0 ∙ get_or-take n new (n - 1) 0 (omega arith)
 
-first_left : (old post more : List ℕ) (n : ℕ) → n < length old → get_or (drop n old ++ post ++ more) 0 0 ≡ get_or old n 0
+pub first_left : (old post more : List ℕ) (n : ℕ) → n < length old → get_or (drop n old ++ post ++ more) 0 0 ≡ get_or old n 0
 first_left old post more n lt =
     let some : 0 < length (drop n old) = omega (arith, length-drop n old) in
     let here : n + 0 ≡ n = omega arith in
@@ -196,14 +199,14 @@ line_between text n pre old new post front more at same within none before after
     ]
 
 -- each row has as many characters, if the one has
-as_many : (above k : ℕ) (one other : List Row) → IsRewritten above one other → length (row_below other above).characters ≡ length (row_below one above).characters
+pub as_many : (above k : ℕ) (one other : List Row) → IsRewritten above one other → length (row_below other above).characters ≡ length (row_below one above).characters
     → length (row_below other k).characters ≡ length (row_below one k).characters
 as_many above k one other same count = elim (cases_eq k above) [
   | inl e ↦ ap (λ i. length (row_below other i).characters) e ∙ count ∙ ap (λ i. length (row_below one i).characters) (sym e)
   | inr apart ↦ ap (λ (r : Row). length r.characters) (same.others k apart)
 ]
 
-in_three : (pre written post : List ℕ) → length (pre ++ written ++ post) ≡ length pre + length written + length post
+pub in_three : (pre written post : List ℕ) → length (pre ++ written ++ post) ≡ length pre + length written + length post
 in_three pre written post = omega (arith, length-append (pre ++ written) post, length-append pre written)
 
 -- where so many of the characters that were written over others are in their place, a text stands nowhere, if it stood nowhere

@@ -2,3 +2,5 @@ mod RowLemmas
 mod CountLemmas
 pub mod SpanLemmas
 pub mod FrontLemmas
+mod PlaceLemmas
+pub mod KeptLemmas

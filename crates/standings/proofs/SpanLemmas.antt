@@ -1,5 +1,5 @@
 -- Rows of which only some differ.
-use Rattle.std.proofs.Common.{Bool, true, take, nat_eq, ◌≡◌, ◌≢◌, ℕ, zero, suc, ◌+◌, ◌-◌, ◌<◌, ◌≤◌, false, List, [], ◌∷◌, ◌++◌, cond, drop, length, nat_le, refl, ap, sym, ◌∙◌, arith, inl, inr, subst}
+use Rattle.std.proofs.Common.{Bool, true, take, nat_eq, ◌≡◌, ◌≢◌, ◌⊎◌, ℕ, zero, suc, ◌+◌, ◌-◌, ◌<◌, ◌≤◌, false, List, [], ◌∷◌, ◌++◌, cond, drop, length, nat_le, refl, ap, sym, ◌∙◌, arith, inl, inr, subst}
 use Rattle.std.proofs.lemmas.Bool.{cases_Bool, cases_lt, leb-true}
 use Rattle.std.specs.Cmp.Lexicographic.{pointwise}
 use Rattle.std.specs.List.{starts_with}
@@ -246,6 +246,34 @@ places_same text one other above row line =
     ap (λ l. places_in text above l (length (row_below other above).characters)) line
     ∙ ap (λ (r : Row). places_in text above (line_text (drop above one)) (length r.characters)) row
 
+-- where a text begins in a row, by where it begins in a line
+places_alike : (text : List ℕ) (above : ℕ) (line other : List ℕ) (n : ℕ) → ((i : ℕ) → i < n → begins text other i ≡ begins text line i) → places_in text above other n ≡ places_in text above line n
+places_alike text above line other zero same = refl
+places_alike text above line other (suc n) same =
+    let next : suc n ≡ n + 1 = omega arith in
+    ap (places_in text above other) next ∙ places_more text above other n (begins text line n) (sym (same n (omega arith)))
+    ∙ ap (λ l. l ++ cond (begins text line n) (place_in above n ∷ []) []) (places_alike text above line other n (λ i lt. same i (omega arith)))
+    ∙ sym (places_more text above line n (begins text line n) refl) ∙ sym (ap (places_in text above line) next)
+
+-- the places of a row stay that is above those that differ and from which no text reaches them, or below them
+pub places_stay : (text : List ℕ) (span : Span) (start : ℕ) (one other : List Row) (k : ℕ) → Stays span one other → start ≤ span.from
+    → (0 < start → (row_below other (start - 1)).runs_on ≡ true → length text ≤ characters_in other start (span.from - start) + 1)
+    → k < length other → (k < start) ⊎ (span.to ≤ k) → places_of text other k ≡ places_of text one k
+places_stay text span start one other k stays low ends lt (inr below) =
+    places_same text one other k (stays.below k below)
+    (line_below one other (length one) k (omega arith) stays.count (λ i high. stays.below i (omega arith)))
+places_stay text span start one other k stays low ends lt (inl above) = elim (cases_Bool (row_below other (start - 1)).runs_on) [
+  | inr broken ↦
+      let same : row_below other (start - 1) ≡ row_below one (start - 1) = stays.above (start - 1) (omega arith) in
+      places_same text one other k (stays.above k (omega arith))
+      (line_above one other start (start - k - 1) k (omega arith) (λ i lt'. stays.above i (omega arith)) (ap (λ (r : Row). r.runs_on) (sym same) ∙ broken))
+  | inl runs ↦
+      let row = stays.above k (omega arith) in
+      places_alike text k (line_text (drop k one)) (line_text (drop k other)) (length (row_below other k).characters)
+      (λ i fits. sym (begins_above text other one start span.from k i above low (λ j lt'. sym (stays.above j lt')) (ends (omega arith) runs) fits))
+      ∙ ap (λ (r : Row). places_in text k (line_text (drop k one)) (length r.characters)) row
+]
+
 -- where a text stood nowhere, and begins in none of the rows that differ and in none from which it goes on in them, it stands nowhere
 pub nothing_came : (text : List ℕ) (span : Span) (start : ℕ) (one other : List Row) → Stays span one other → start ≤ span.from
     → (0 < start → (row_below other (start - 1)).runs_on ≡ true → length text ≤ characters_in other start (span.from - start) + 1)
@@ -255,22 +283,9 @@ nothing_came text span start one other stays low ends none was =
     let number : 0 + k ≡ k = omega arith in
     let before : places_of text one k ≡ [] = ap (places_of text one) (sym number) ∙ none_at text one k 0 (omega (arith, stays.count)) was in
     elim (cases_lt k start) [
-      | inl above ↦ elim (cases_Bool (row_below other (start - 1)).runs_on) [
-        | inr broken ↦
-            let same : row_below other (start - 1) ≡ row_below one (start - 1) = stays.above (start - 1) (omega arith) in
-            places_same text one other k (stays.above k (omega arith))
-            (line_above one other start (start - k - 1) k (omega arith) (λ i lt'. stays.above i (omega arith)) (ap (λ (r : Row). r.runs_on) (sym same) ∙ broken))
-            ∙ before
-        | inl runs ↦
-            let row = stays.above k (omega arith) in
-            all_before text k (line_text (drop k other)) (length (row_below other k).characters) (λ i fits.
-            sym (begins_above text other one start span.from k i above low (λ j lt'. sym (stays.above j lt')) (ends (omega arith) runs) fits)
-            ∙ none_before text k (line_text (drop k one)) (length (row_below one k).characters) i before (subst (λ (r : Row). i < length r.characters) row fits))
-      ]
+      | inl above ↦ places_stay text span start one other k stays low ends lt (inl above) ∙ before
       | inr from ↦ elim (cases_lt k span.to) [
         | inl within ↦ none k from within lt
-        | inr below ↦
-            places_same text one other k (stays.below k below)
-            (line_below one other (length one) k (omega arith) stays.count (λ i high. stays.below i (omega arith))) ∙ before
+        | inr below ↦ places_stay text span start one other k stays low ends lt (inr below) ∙ before
       ]
     ])

@@ -2,3 +2,4 @@ pub mod Rows
 pub mod Standing
 pub mod Found
 pub mod Spans
+pub mod Kept

@@ -1,7 +1,9 @@
 -- Private: rows of which something is said together, by how many are above them.
-use Rattle.std.specs.Prelude.{◌≡◌, ℕ, zero, suc, ◌+◌, ◌<◌, ◌≤◌, List, if◌then◌else◌, length, max, min, nat_le}
+use Rattle.std.specs.Prelude.{◌≡◌, ℕ, zero, suc, ◌+◌, ◌<◌, ◌≤◌, List, [], ◌++◌, drop, if◌then◌else◌, length, max, min, nat_le}
+use Rattle.standings.specs.declared.place.Place.{Place}
 use Rattle.standings.specs.declared.span.Span.{Span}
 use Rattle.standings.specs.Rows.{Row, row_below}
+use Rattle.standings.specs.Standing.{line_text, places_in}
 
 -- as many rows, and all but these are the same
 pub record Stays (span : Span) (one other : List Row) : Type 0 where
@@ -27,3 +29,9 @@ joined one other =
 abbrev pub characters_in : List Row → ℕ → ℕ → ℕ
 characters_in rows above zero = 0
 characters_in rows above (suc n) = length (row_below rows above).characters + characters_in rows (above + 1) n
+
+-- the places of so many rows at which a text begins, from the one below so many others on
+abbrev pub places_along : List ℕ → List Row → ℕ → ℕ → List Place
+places_along text rows above zero = []
+places_along text rows above (suc n) =
+    places_in text above (line_text (drop above rows)) (length (row_below rows above).characters) ++ places_along text rows (above + 1) n

@@ -2,11 +2,12 @@
 
 ghost use Rattle.std.specs.Prelude.{◌≡◌, ◌+◌, ◌<◌, ◌≤◌, true, List, ℕ, length, nat_eq, take, IfOk, OnOk};
 ghost use Rattle.std.specs.Cmp.Lexicographic.{pointwise};
+ghost use Rattle.standings.specs.Kept.{EndBy, room_in};
 ghost use Rattle.standings.specs.Rows.{Row};
 ghost use Rattle.standings.specs.Spans.{Stays};
 ghost use Rattle.standings.specs.Standing.{count_left, is_less, is_lone, left_of, place_at, standing};
 
-use crate::place::{Place, may_come, push_standing, standing};
+use crate::place::{Place, look_between, may_come, standing};
 use crate::row::{Row, characters_below};
 use crate::span::Span;
 use std::alloc::{AllocError, Global};
@@ -41,8 +42,7 @@ impl Standing {
         if self.places.is_empty() && !may_come(self.rows.as_slice(), text, span) {
             return Ok(());
         }
-        self.places.clear();
-        push_standing(self.rows.as_slice(), text, &mut self.places)
+        look_between(self.rows.as_slice(), text, span, &mut self.places)
     }
 
     /// Becomes another one, from which only these of its rows may differ.
@@ -104,6 +104,35 @@ pub fn keeps_all(one: &Standing, other: &Standing) -> bool
         kept = kept_behind(one, kept, other, at);
     }
     kept == one.places.len()
+}
+
+/// Whether a text of so many characters ends, at each place at which it stands, before what is written behind so many
+/// characters of a row: it ends there, or inside a row above, or stands in a row below.
+pub fn ends_before(still: &Standing, len: usize, above: usize, before: usize) -> bool
+    ensures { result ≡ true → EndBy len still.now.rows.items still.now.places.items above before }
+{
+    for place in &still.places {
+        if !ends_by(still.rows.as_slice(), *place, len, above, before) {
+            return false;
+        }
+    }
+    true
+}
+
+/// The same of one place.
+fn ends_by(rows: &[Row], place: Place, len: usize, above: usize, before: usize) -> bool
+    ensures { result ≡ true → place.above ≤ above
+        → place.before + len ≤ room_in rows.now above before place.above }
+{
+    if place.above > above {
+        return true;
+    }
+    let room = if place.above == above {
+        before
+    } else {
+        characters_below(rows, place.above).len()
+    };
+    len <= room && place.before <= room - len
 }
 
 /// How many places of a screen were kept behind one more of the other.

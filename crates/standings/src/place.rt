@@ -1,10 +1,10 @@
 //! Where a text stands on a screen.
 
-ghost use Rattle.std.specs.Prelude.{◌≡◌, ◌≢◌, ◌+◌, ◌≤◌, ◌<◌, ◌++◌, ◌-◌, [], false, true, List, ℕ, drop, length, nat_eq, slice_index_or, IfOk, OnOk};
+ghost use Rattle.std.specs.Prelude.{◌≡◌, ◌≢◌, ◌+◌, ◌≤◌, ◌<◌, ◌++◌, ◌-◌, [], false, true, List, ℕ, drop, length, nat_eq, slice_index_or, take, IfOk, OnOk};
 ghost use Rattle.std.specs.List.{starts_with};
 ghost use Rattle.standings.specs.Rows.{Row, row_below};
-ghost use Rattle.standings.specs.Spans.{Stays, characters_in};
-ghost use Rattle.standings.specs.Standing.{begins, line_text, places_in, standing};
+ghost use Rattle.standings.specs.Spans.{Stays, characters_in, places_along};
+ghost use Rattle.standings.specs.Standing.{begins, line_text, place_at, places_in, standing};
 
 use crate::row::{Row, characters_below, runs_on_below};
 use crate::span::Span;
@@ -27,17 +27,87 @@ pub fn standing(alloc: Global, rows: &[Row], text: &[char]) -> Result<Vec<Place>
 }
 
 /// Puts the places at which a text stands behind others.
-pub(crate) fn push_standing(
+fn push_standing(rows: &[Row], text: &[char], places: &mut Vec<Place>) -> Result<(), AllocError>
+    ensures { OnOk result (places.new.items ≡ places.old.items ++ standing text.now rows.now) }
+{
+    push_between(rows, 0, rows.len(), text, places)
+}
+
+/// Puts the places of the rows from one up to and without another behind others.
+fn push_between(
     rows: &[Row],
+    start: usize,
+    end: usize,
     text: &[char],
     places: &mut Vec<Place>,
 ) -> Result<(), AllocError>
-    ensures { OnOk result (places.new.items ≡ places.old.items ++ standing text.now rows.now) }
+    requires order { start ≤ end }
+    requires within { end ≤ length rows.now }
+    ensures items { OnOk result (places.new.items
+        ≡ places.old.items ++ places_along text.now rows.now start (end - start)) }
+    ensures more { OnOk result (length places.old.items ≤ length places.new.items) }
 {
-    for above in 0..rows.len() {
+    for above in start..end {
         push_places(rows, above, text, places)?;
     }
     Ok(())
+}
+
+/// Looks again where a text stands that stood at these places, where only these rows may have changed: in them, and in
+/// those above from which the text may go on in them.
+pub(crate) fn look_between(
+    rows: &[Row],
+    text: &[char],
+    span: Span,
+    places: &mut Vec<Place>,
+) -> Result<(), AllocError>
+    ensures { (before : List Row) → Stays span before rows.now
+        → places.old.items ≡ standing text.now before
+        → OnOk result (places.new.items ≡ standing text.now rows.now) }
+{
+    let end = span.to.min(rows.len());
+    let start = reach_start(rows, text.len(), span.from).min(end);
+    let kept = count_above(places.as_slice(), start);
+    let behind = count_above(places.as_slice(), end).max(kept);
+    forget(places, kept, behind);
+    let count = places.len() - kept;
+    push_between(rows, start, end, text, places)?;
+    turn(places, kept, count);
+    Ok(())
+}
+
+/// How many places in reading order stand in rows above one.
+fn count_above(places: &[Place], above: usize) -> usize
+    ensures within { result ≤ length places.now }
+    ensures below { (k : ℕ) → k < result → (place_at places.now k).above < above }
+    ensures ends { result < length places.now → above ≤ (place_at places.now result).above }
+{
+    let mut count = 0;
+    while count < places.len() && places[count].above < above {
+        count += 1;
+    }
+    count
+}
+
+/// Takes the places from one up to and without another out.
+fn forget(places: &mut Vec<Place>, from: usize, to: usize)
+    requires order { from ≤ to }
+    requires within { to ≤ length places.old.items }
+    ensures items { places.new.items ≡ take from places.old.items ++ drop to places.old.items }
+    ensures count { length places.new.items ≡ from + (length places.old.items - to) }
+{
+    drop(places.drain(from..to));
+}
+
+/// The first so many places behind others come last.
+fn turn(places: &mut Vec<Place>, from: usize, count: usize)
+    requires { from + count ≤ length places.old.items }
+    ensures { places.new.items ≡ take from places.old.items
+        ++ (drop count (drop from places.old.items) ++ take count (drop from places.old.items)) }
+{
+    if count > 0 {
+        places.as_mut_slice()[from..].rotate_left(count);
+    }
 }
 
 /// Whether a text may have come to stand, where it stood nowhere, by a change of these rows: whether it begins in one of

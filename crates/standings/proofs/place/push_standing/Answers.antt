@@ -1,13 +1,13 @@
-use Rattle.std.proofs.Common.{◌++◌, arith}
-use Rattle.standings.specs.Standing.{standing}
-use Rattle.standings.proofs.RowLemmas.{standing_all, standing_more}
+use Rattle.std.proofs.Common.{◌≡◌, ◌-◌, ◌∙◌, ◌++◌, ap, arith, length, subst, sym}
+use Rattle.std.specs.Prelude.{OnOk}
+use Rattle.standings.specs.Spans.{places_along}
+use Rattle.standings.proofs.PlaceLemmas.{standing_along}
 use Rattle.standings.proofs.place.push_standing.Goals as goal
-
-pub loop-above-preserved : goal.loop-above-preserved
-loop-above-preserved c = record {
-  placed = standing_more c.args.text.now c.args.rows.now c.loop-above.above c.loop-above.places.items c.push_places.new.places.items (c.args.places.now.items ++ standing c.args.text.now c.args.rows.now) (omega arith) c.in_ok-push_places.ensures c.loop-above.invariant.placed;
-}
 
 pub returns : goal.returns
 returns c =
-    standing_all c.args.text.now c.args.rows.now c.loop-above.above c.loop-above.places.items (c.args.places.now.items ++ standing c.args.text.now c.args.rows.now) (omega (arith, c.loop-above-test.false)) c.loop-above.invariant.placed
+    let text = c.args.text.now in
+    let rows = c.args.rows.now in
+    let all : length rows - 0 ≡ length rows = omega arith in
+    subst (λ l. OnOk c.push_between.result (c.push_between.new.places.items ≡ c.args.places.now.items ++ l))
+    (ap (places_along text rows 0) all ∙ sym (standing_along text rows)) c.push_between.ensures.items
