@@ -2,5 +2,6 @@ mod AskedLemmas
 mod BeganLemmas
 mod LineLemmas
 mod NowhereLemmas
+mod QuietLemmas
 mod SkimLemmas
 mod StoodLemmas

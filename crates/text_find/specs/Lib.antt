@@ -1,2 +1,3 @@
 pub mod FindLines
 pub mod Lines
+pub mod Pieces

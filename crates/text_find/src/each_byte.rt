@@ -6,7 +6,6 @@ ghost use Rattle.standings.specs.Standing.{standing};
 ghost use Rattle.tape_core.specs.Devices.{Gave};
 ghost use Rattle.text_find.specs.Lines.{AreBetween, AreStill, Began, byte_lines, chunk_lines, passed_lines};
 
-use crate::ahead::play;
 use crate::finder::Finder;
 use crate::lines::{put_less, put_passed};
 use crate::sides::{Sides, catch_up, settle};
@@ -16,16 +15,6 @@ use std::alloc::Global;
 use std::io::Write;
 use tape_core::Watched;
 use tape_core::laws::gives_join;
-
-/// Plays one byte.
-fn play_byte<T: Plays>(alloc: Global, terminal: &mut T, byte: u8) -> Result<(), OutOfMemory>
-    ensures shows { (profile : T.Profile) (before : List ℕ) → T.shows profile terminal.old before
-        → OnOk result (T.shows profile terminal.new (before ++ byte ∷ [])) }
-    ensures told { (profile : T.Profile) (before : List ℕ) → T.shows profile terminal.old before
-        → OnOk result (T.told profile terminal.new before) }
-{
-    play(alloc, terminal, &[byte])
-}
 
 /// Plays a chunk byte by byte, and writes what went, what came and went inside it, and what came, by what stands at its
 /// ends.
@@ -63,7 +52,7 @@ pub(crate) fn put_chunk<T: Plays, F: Finder<T>, W: Write>(
     Ok(())
 }
 
-/// Plays a chunk's bytes one by one, and writes what went inside it.
+/// Plays a chunk's bytes, as many at once as take nothing of the text away, and writes what went inside it.
 fn put_bytes<T: Plays, F: Finder<T>, W: Write>(
     alloc: Global,
     text: &[char],
@@ -96,15 +85,17 @@ fn put_bytes<T: Plays, F: Finder<T>, W: Write>(
         → OnOk result (AreStill text.now (F.screens profile (before ++ bytes.now)) steps.new) }
 {
     gives_join::<W>();
-    for at in 0..bytes.len() {
-        play_byte(alloc, behind, bytes[at])?;
+    let mut at = 0;
+    while at < bytes.len() {
+        let taken = F::play_quietly(alloc, behind, text, &steps.before, &bytes[at..])?;
         put_byte::<T, F, W>(alloc, text, moment, ends, steps, behind, writer)?;
+        at += taken;
     }
     Ok(())
 }
 
-/// Writes what went at a byte, by what stood before it and by the terminal after it. Mostly no row was touched, or
-/// the text stood nowhere.
+/// Writes what went at bytes that were played at once, by what stood before them and by the terminal after them. Mostly no
+/// row was touched, or the text stood nowhere.
 fn put_byte<T: Plays, F: Finder<T>, W: Write>(
     alloc: Global,
     text: &[char],

@@ -3,8 +3,9 @@ ghost use Rattle.std.specs.Prelude.{◌≡◌, ◌<◌, ◌≤◌, ◌++◌, [],
 ghost use Rattle.standings.specs.Spans.{Stays};
 ghost use Rattle.standings.specs.Standing.{standing};
 
+use crate::ahead::play;
 use plays::{OutOfMemory, Plays};
-use standings::{Row, Span};
+use standings::{Row, Span, Standing};
 use std::alloc::Global;
 use tape_seek::Session;
 
@@ -12,6 +13,7 @@ use tape_seek::Session;
 pub trait Finder<T: Plays> {
     ghost use Rattle.tape_seek.specs.State.{Leaves};
     ghost use Rattle.text_find.specs.FindLines.{BeginsBlank, Screens};
+    ghost use Rattle.text_find.specs.Pieces.{AreQuiet};
 
     /// The rows that the terminal shows.
     ghost screens: { Screens T.Profile };
@@ -60,6 +62,32 @@ pub trait Finder<T: Plays> {
             → IfOk result (λ taken. standing text.now (screens profile (before ++ take taken bytes.now)) ≡ []
             → (count : ℕ) → count < taken
             → standing text.now (screens profile (before ++ take count bytes.now)) ≡ []) };
+
+    /// Plays a beginning of the bytes on a terminal that shows these rows, on which the text stands there: nothing of it
+    /// goes at them but maybe at the last one, up to which the rows are the same then.
+    fn play_quietly(
+        alloc: Global,
+        terminal: &mut T,
+        text: &[char],
+        still: &Standing,
+        bytes: &[u8],
+    ) -> Result<usize, OutOfMemory>
+        requires some { 0 < length bytes.now }
+        ensures some { IfOk result (λ taken. 0 < taken) }
+        ensures within { IfOk result (λ taken. taken ≤ length bytes.now) }
+        ensures shows { (profile : T.Profile) (before : List ℕ) → T.shows profile terminal.old before
+            → IfOk result (λ taken. T.shows profile terminal.new (before ++ take taken bytes.now)) }
+        ensures told { (profile : T.Profile) (before : List ℕ) → T.shows profile terminal.old before
+            → OnOk result (T.told profile terminal.new before) }
+        ensures quiet { (profile : T.Profile) (before : List ℕ) → T.shows profile terminal.old before
+            → still.now.rows.items ≡ screens profile before
+            → still.now.places.items ≡ standing text.now (screens profile before)
+            → IfOk result (λ taken. AreQuiet text.now (screens profile) before bytes.now taken) }
+    {
+        let _unread = (text.len(), still.rows.len());
+        play(alloc, terminal, &bytes[..1])?;
+        Ok(1)
+    }
 
     /// Where nothing was played a text with ink stands nowhere. Nothing is done.
     fn begins_blank()

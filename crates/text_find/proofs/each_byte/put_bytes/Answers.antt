@@ -1,21 +1,25 @@
-use Rattle.std.proofs.Common.{ℕ, ◌+◌, ◌<◌, List, ◌++◌, append-nil, arith, length, subst, sym, take}
+use Rattle.std.proofs.Common.{◌≡◌, ℕ, ◌+◌, ◌-◌, ◌<◌, ◌∙◌, List, ◌++◌, ap, append-nil, arith, drop, length, subst, sym, take}
+use Rattle.std.proofs.lemmas.List.{length-drop, take_all, take_rest}
 use Rattle.std.proofs.lemmas.Result.{err_from_is_err_and}
 use Rattle.tape_core.specs.Devices.{Gave}
 use Rattle.standings.specs.Standing.{standing}
 use Rattle.text_find.specs.Lines.{AreStill, Began, byte_lines, passed_lines}
+use Rattle.text_find.specs.Pieces.{AreQuiet}
 use Rattle.text_find.proofs.BeganLemmas.{began_at, began_none, first_more}
-use Rattle.text_find.proofs.LineLemmas.{bytes_more}
+use Rattle.text_find.proofs.QuietLemmas.{lines_at_last, lines_more, none_inside}
+use Rattle.text_find.proofs.SkimLemmas.{pieces}
 use Rattle.text_find.proofs.each_byte.put_bytes.Goals as goal
 
 pub loop-at-init : goal.loop-at-init
 loop-at-init g c = record {
+  within = omega arith;
   shows = λ profile before h. subst (g.T.Plays.shows profile c.args.behind.now) (sym (append-nil before)) h;
   still = λ profile before h are. subst (λ b. AreStill c.args.text.now (g.F.Finder.screens profile b) c.args.steps.now) (sym (append-nil before)) are;
   gave = λ profile before h are. c.gives_join.ensures.nothing c.args.writer.now;
 }
 
-pub returns-in_err-play_byte-clause-front : goal.returns-in_err-play_byte-clause-front
-returns-in_err-play_byte-clause-front g c = λ profile before h are.
+pub returns-in_err-taken-clause-front : goal.returns-in_err-taken-clause-front
+returns-in_err-taken-clause-front g c = λ profile before h are.
     let p = err_from_is_err_and c.from_residual.result c.from_residual.ensures.1 in
     let bytes = c.args.bytes.now in
     let m = c.args.moment in
@@ -30,45 +34,61 @@ returns-in_err-put_byte-clause-front g c = λ profile before h are.
     let text = c.args.text.now in
     let bytes = c.args.bytes.now in
     let at = c.loop-at.at in
+    let taken = c.in_ok-taken.taken in
     let m = c.args.moment in
     let ends = c.args.ends.now in
     let screen = g.F.Finder.screens profile in
-    let within : at < length bytes = omega arith in
+    let rest = take_rest bytes at in
+    let some : 0 < taken = c.in_ok-taken.ensures.some in
     let f = byte_lines text m.index m.due ends.before.rows.items ends.before.places.items ends.after.rows.items ends.after.places.items screen before bytes in
     let one = before ++ take at bytes in
-    let other = before ++ take (at + 1) bytes in
+    let other = before ++ take (at + taken) bytes in
     let kept = c.loop-at.invariant in
-    let shows = subst (g.T.Plays.shows profile c.play_byte.new.terminal) (bytes_more before bytes at within) (c.in_ok-play_byte.ensures.shows profile one (kept.shows profile before h)) in
-    rw p.1 (began_at g.W.Write.contents c.args.writer.now c.loop-at.writer c.put_byte.new.writer f at (length bytes) within (kept.gave profile before h are)
+    let still = kept.still profile before h are in
+    let told = c.in_ok-taken.ensures.told profile one (kept.shows profile before h) in
+    let shows = subst (g.T.Plays.shows profile c.play_quietly.new.terminal) (ap (λ b. one ++ take taken b) rest ∙ pieces before bytes at taken) (c.in_ok-taken.ensures.shows profile one (kept.shows profile before h)) in
+    let quiet = subst (λ b. AreQuiet text screen one b taken) rest (c.in_ok-taken.ensures.quiet profile one (kept.shows profile before h) still.before.rows still.before.places) in
+    let last : at + (taken - 1) < length bytes = omega (arith, some, c.in_ok-taken.ensures.within, ap length rest, length-drop at bytes) in
+    let so_far = subst (λ t. Gave g.W.Write.contents c.args.writer.now c.loop-at.writer t)
+    (sym (none_inside text m.index m.due ends.before.rows.items ends.before.places.items ends.after.rows.items ends.after.places.items screen before bytes at taken some quiet)) (kept.gave profile before h are) in
+    rw p.1 (began_at g.W.Write.contents c.args.writer.now c.loop-at.writer c.put_byte.new.writer f (at + (taken - 1)) (length bytes) last so_far
+    (subst (λ t. Began g.W.Write.contents c.loop-at.writer c.put_byte.new.writer t)
+    (sym (lines_at_last text m.index m.due ends.before.rows.items ends.before.places.items ends.after.rows.items ends.after.places.items screen before bytes at taken some quiet))
     (subst (λ n. Began g.W.Write.contents c.loop-at.writer c.put_byte.new.writer (passed_lines m.index m.due n ends.before.rows.items ends.before.places.items ends.after.rows.items ends.after.places.items
     (screen one) (standing text (screen one)) (screen other) (standing text (screen other)))) c.requires
-    (c.in_err-put_byte.ensures.front profile one other shows (c.in_ok-play_byte.ensures.told profile one (kept.shows profile before h)) (kept.still profile before h are))))
+    (c.in_err-put_byte.ensures.front profile one other shows told still))))
 
 pub loop-at-preserved : goal.loop-at-preserved
 loop-at-preserved g c =
     let text = c.args.text.now in
     let bytes = c.args.bytes.now in
     let at = c.loop-at.at in
+    let taken = c.in_ok-taken.taken in
     let m = c.args.moment in
     let ends = c.args.ends.now in
     let kept = c.loop-at.invariant in
-    let within : at < length bytes = omega arith in
-    let shows : (profile : g.row.T-Profile.Denot) (before : List ℕ) → g.T.Plays.shows profile c.args.behind.now before → g.T.Plays.shows profile c.play_byte.new.terminal (before ++ take (at + 1) bytes) =
-    λ profile before h. subst (g.T.Plays.shows profile c.play_byte.new.terminal) (bytes_more before bytes at within) (c.in_ok-play_byte.ensures.shows profile (before ++ take at bytes) (kept.shows profile before h)) in
+    let rest = take_rest bytes at in
+    let some : 0 < taken = c.in_ok-taken.ensures.some in
+    let shows : (profile : g.row.T-Profile.Denot) (before : List ℕ) → g.T.Plays.shows profile c.args.behind.now before → g.T.Plays.shows profile c.play_quietly.new.terminal (before ++ take (at + taken) bytes) =
+    λ profile before h. subst (g.T.Plays.shows profile c.play_quietly.new.terminal) (ap (λ b. (before ++ take at bytes) ++ take taken b) rest ∙ pieces before bytes at taken)
+    (c.in_ok-taken.ensures.shows profile (before ++ take at bytes) (kept.shows profile before h)) in
     record {
+      within = omega (arith, c.in_ok-taken.ensures.within, ap length rest, length-drop at bytes);
       shows = shows;
       still = λ profile before h are.
-          c.in_ok-put_byte.ensures.steps profile (before ++ take at bytes) (before ++ take (at + 1) bytes) (shows profile before h)
-          (c.in_ok-play_byte.ensures.told profile (before ++ take at bytes) (kept.shows profile before h)) (kept.still profile before h are);
+          c.in_ok-put_byte.ensures.steps profile (before ++ take at bytes) (before ++ take (at + taken) bytes) (shows profile before h)
+          (c.in_ok-taken.ensures.told profile (before ++ take at bytes) (kept.shows profile before h)) (kept.still profile before h are);
       gave = λ profile before h are.
           let screen = g.F.Finder.screens profile in
-          let f = byte_lines text m.index m.due ends.before.rows.items ends.before.places.items ends.after.rows.items ends.after.places.items screen before bytes in
           let one = before ++ take at bytes in
-          let other = before ++ take (at + 1) bytes in
-          subst (λ t. Gave g.W.Write.contents c.args.writer.now c.put_byte.new.writer t) (sym (first_more f at))
+          let other = before ++ take (at + taken) bytes in
+          let still = kept.still profile before h are in
+          let quiet = subst (λ b. AreQuiet text screen one b taken) rest (c.in_ok-taken.ensures.quiet profile one (kept.shows profile before h) still.before.rows still.before.places) in
+          subst (λ t. Gave g.W.Write.contents c.args.writer.now c.put_byte.new.writer t)
+          (sym (lines_more text m.index m.due ends.before.rows.items ends.before.places.items ends.after.rows.items ends.after.places.items screen before bytes at taken some quiet))
           (c.gives_join.ensures.both _ _ _ _ _
           (subst (λ n. Gave g.W.Write.contents c.loop-at.writer c.put_byte.new.writer (passed_lines m.index m.due n ends.before.rows.items ends.before.places.items ends.after.rows.items ends.after.places.items
           (screen one) (standing text (screen one)) (screen other) (standing text (screen other)))) c.requires
-          (c.in_ok-put_byte.ensures.gave profile one other (shows profile before h) (c.in_ok-play_byte.ensures.told profile one (kept.shows profile before h)) (kept.still profile before h are)))
+          (c.in_ok-put_byte.ensures.gave profile one other (shows profile before h) (c.in_ok-taken.ensures.told profile one (kept.shows profile before h)) still))
           (kept.gave profile before h are));
     }
