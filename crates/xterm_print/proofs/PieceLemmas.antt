@@ -1,7 +1,7 @@
 -- Where a text stands nowhere before some bytes and behind them, it stands nowhere in between.
 use Rattle.std.proofs.Common.{◌≡◌, ◌≢◌, ℕ, zero, suc, ◌+◌, ◌-◌, ◌<◌, ◌≤◌, Bool, true, List, [], ◌∷◌, ◌++◌, drop, get_or, length, take, refl, ap, ap₂, subst, sym, ◌∙◌, arith, inl, inr}
 use Rattle.std.specs.Prelude.{◌==◌, ◌&&◌, if◌then◌else◌}
-use Rattle.std.specs.List.{list_all}
+use Rattle.std.specs.List.{flat_map, list_all}
 use Rattle.std.proofs.Math.Seq.{sets}
 use Rattle.std.proofs.lemmas.Bool.{and_parts, cases_eq, cases_lt}
 use Rattle.std.proofs.lemmas.Bool.Decides.{nat_tests}
@@ -15,9 +15,13 @@ use Rattle.sheet.specs.Grid.{row_at, with_row}
 use Rattle.sheet.specs.Halves.{Whole}
 use Rattle.sheet.specs.Table.{nth, table}
 use Rattle.sheet.proofs.Over.{run_over}
+use Rattle.standings.specs.Kept.{Keeps, room_in}
 use Rattle.standings.specs.Rows.{Row, empty_row, row_below}
-use Rattle.standings.specs.Standing.{standing}
+use Rattle.standings.specs.Standing.{begins, line_text, standing}
 use Rattle.standings.proofs.FrontLemmas.{IsRewritten, NoNeighbours, nowhere_between}
+use Rattle.standings.proofs.KeptLemmas.{keeps_more, keeps_same}
+use Rattle.text_find.specs.Pieces.{AreQuiet}
+use Rattle.xterm_rows.specs.RowText.{characters}
 use Rattle.vt_parser.specs.Syntax.{is_graphic}
 use Rattle.xterm_screen.specs.Picture.{Picture, Sound}
 use Rattle.xterm_term.specs.Ahead.{WritesOn}
@@ -27,7 +31,7 @@ use Rattle.xterm_term.specs.declared.measure.Size.{Size}
 use Rattle.xterm_rows.specs.Runs.{cell_behind}
 use Rattle.xterm_print.specs.FindRows.{row_read, rows_read, rows_shown}
 use Rattle.xterm_print.specs.Moments.{reset_as}
-use Rattle.xterm_print.specs.Pieces.{AreApart, IsPlain, NoneBetween, rows_behind}
+use Rattle.xterm_print.specs.Pieces.{AreApart, EndsLeft, IsPlain, IsQuiet, NoneBetween, StaysOn, left_of_cursor, rows_behind}
 use Rattle.xterm_print.proofs.FindRowLemmas.{count_read, read_at}
 use Rattle.xterm_print.proofs.OverLemmas.{IsOver, kept, left, letters, old, old_length, read_above, read_characters, read_running, replaced, replaced_at, replaced_length, right, written}
 use Rattle.xterm_term.proofs.Taken.{nothing_played}
@@ -138,6 +142,23 @@ module _ (rendition : Rendition) (rows : List (List Cell)) (lines at before : �
       (characters_there n (omega arith) ∙ all ∙ ap (λ t. left rendition here before new over ++ t ++ right rendition here before new over (kept rendition here before new over below)) all_new)
       (sym (old_length rendition here before new over)) le apart none none'
 
+  -- and each place of a text that ended left of them stays, a character more
+  pub over_keeps : (text : List ℕ) (k : ℕ) → k < length new → 0 < length text
+      → (0 < k → NoNeighbours text (get_or new (k - 1) 0) (get_or (old rendition here before new over) k 0))
+      → ((j i : ℕ) → j ≤ at - 1 → j < length (rows_read lines rows) → i < length (row_below (rows_read lines rows) j).characters
+      → begins text (line_text (drop j (rows_read lines rows))) i ≡ true
+      → i + length text ≤ room_in (rows_read lines rows) (at - 1) (length (left rendition here before new over)) j)
+      → Keeps text (rows_read lines (with_first k)) (rows_read lines (with_first (k + 1)))
+  over_keeps text k lt some apart ends =
+      let was = old rendition here before new over in
+      keeps_more text (at - 1) k (left rendition here before new over) was new _ (rows_read lines rows) (rows_read lines (with_first k)) (rows_read lines (with_first (k + 1)))
+      (omega (arith, count_read lines rows, low, high))
+      (rewritten k (omega arith)) (rewritten (k + 1) (omega arith))
+      (ap (λ (r : Row). r.characters) (read_at lines rows at low high) ∙ read_characters rendition here before new over 0 below (omega arith))
+      (characters_there k (omega arith) ∙ read_characters rendition here before new over k below (omega arith))
+      (characters_there (k + 1) (omega arith) ∙ read_characters rendition here before new over (k + 1) below (omega arith))
+      (sym (old_length rendition here before new over)) lt some apart ends
+
 -- ---- bytes that are characters over plain cells
 
 all_front : (p : ℕ → Bool) (xs : List ℕ) (k : ℕ) → list_all p xs ≡ true → list_all p (take k xs) ≡ true
@@ -231,6 +252,29 @@ module _ (x : Term) (before : ℕ) (text bytes : List ℕ) (n : ℕ) (writes : W
       (one ∙ get_or-take n bytes (k - 1) 0 (omega (arith, some, lt))) (other ∙ old_at k (omega (arith, inside))))
       (ap (standing text) (sym start) ∙ none) (ap (standing text) (sym last) ∙ none')
 
+  stays_here : 0 < length text → EndsLeft text x → StaysOn text x bytes n
+  stays_here some ends k lt =
+      let rendition = x.console.rendition in
+      let start : rows_behind x [] 0 ≡ rows_read p.lines p.rows = ap (λ (y : Term). rows_read p.lines y.console.picture.rows) (nothing_played x [] 0 refl) in
+      let fore : left_of_cursor x ≡ left rendition (cursor_row x) before first over = ap (λ m. flat_map characters (take m (cursor_row x))) (sym run.at) in
+      subst (λ r. Keeps text r (rows_behind x bytes (k + 1))) (sym (rows_there k (omega (arith, lt))))
+      (subst (λ r. Keeps text (rows_read p.lines (with_row p.line (row_with_first k) p.rows)) r) (sym (rows_there (k + 1) (omega (arith, lt))))
+      (over_keeps rendition p.rows p.lines p.line before first run.sound.rows run.sound.line_low run.sound.line_high over text k (omega (arith, lt, first_length)) some
+      (λ begun j low one other.
+      run.apart k begun lt j low
+      (one ∙ get_or-take n bytes (k - 1) 0 (omega (arith, begun, lt))) (other ∙ old_at k (omega (arith, lt, first_length))))
+      (subst (λ r. (j i : ℕ) → j ≤ p.line - 1 → j < length r → i < length (row_below r j).characters → begins text (line_text (drop j r)) i ≡ true
+      → i + length text ≤ room_in r (p.line - 1) (length (left rendition (cursor_row x) before first over)) j) start
+      (subst (λ l. (j i : ℕ) → j ≤ p.line - 1 → j < length (rows_behind x [] 0) → i < length (row_below (rows_behind x [] 0) j).characters → begins text (line_text (drop j (rows_behind x [] 0))) i ≡ true
+      → i + length text ≤ room_in (rows_behind x [] 0) (p.line - 1) (length l) j) fore ends))))
+
+pub run_stays : (x : Term) (p : Picture) (row : List Cell) (before : ℕ) (text bytes : List ℕ) (n : ℕ) → p ≡ x.console.picture → WritesOn x
+    → IsRun p row before text bytes n → 0 < length text → EndsLeft text x → StaysOn text x bytes n
+run_stays x p row before text bytes n same writes run =
+    let here : row ≡ cursor_row x = run.is ∙ ap (λ (q : Picture). row_at q.rows q.line) same in
+    stays_here x before text bytes n writes
+    (subst (λ r. IsRun x.console.picture r before text bytes n) here (subst (λ (q : Picture). IsRun q row before text bytes n) same run))
+
 pub run_between : (x : Term) (p : Picture) (row : List Cell) (before : ℕ) (text bytes : List ℕ) (n : ℕ) → p ≡ x.console.picture → WritesOn x
     → IsRun p row before text bytes n → NoneBetween text x bytes n
 run_between x p row before text bytes n same writes run =
@@ -253,6 +297,31 @@ unshown_between x text bytes unshown n few same none none' k lt =
     let rows = λ (q : Picture). rows_read x.console.picture.lines q.rows in
     ap (λ (q : Picture). standing text (rows q)) (same k (omega (arith, lt, few)) ∙ sym (same 0 (omega arith))) ∙ none
 
+pub one_quiet : (x : Term) (text bytes : List ℕ) → IsQuiet text x bytes 1
+one_quiet x text bytes = record {
+  inside = λ count lt. absurd (omega (arith, lt));
+  last = inl refl;
+}
+
+pub unshown_quiet : (x : Term) (text bytes : List ℕ) (unshown n : ℕ) → n ≤ unshown + 1
+    → ((count : ℕ) → count ≤ unshown → (play x (take count bytes)).console.picture ≡ x.console.picture) → IsQuiet text x bytes n
+unshown_quiet x text bytes unshown n few same =
+    let rows = λ (q : Picture). rows_read x.console.picture.lines q.rows in
+    let start = λ (k : ℕ) (le : k ≤ unshown). ap rows (same k le ∙ sym (same 0 (omega arith))) in
+    record {
+      inside = λ count lt. keeps_same text (rows_behind x bytes count) (rows_behind x bytes (count + 1))
+          (start count (omega (arith, lt, few)) ∙ sym (start (count + 1) (omega (arith, lt, few))));
+      last = inl (start (n - 1) (omega (arith, few)));
+    }
+
+pub stays_quiet : (x : Term) (text bytes : List ℕ) (n : ℕ) → 0 < n → StaysOn text x bytes n → IsQuiet text x bytes n
+stays_quiet x text bytes n some stays =
+    let all : n - 1 + 1 ≡ n = omega (arith, some) in
+    record {
+      inside = λ count lt. stays count (omega (arith, lt));
+      last = inr (subst (λ m. Keeps text (rows_behind x bytes (n - 1)) (rows_behind x bytes m)) all (stays (n - 1) (omega (arith, some))));
+    }
+
 -- ---- the rows that a finder tells of
 
 pub behind_is : SizeStays → PlaysInParts → (size : Size) (before bytes : List ℕ) (count : ℕ)
@@ -268,3 +337,22 @@ none_told size_law parts size text before bytes taken between none none' count l
     let at = behind_is size_law parts size before bytes in
     ap (standing text) (at count)
     ∙ between (ap (standing text) (sym (at 0) ∙ ap (rows_shown size) (append-nil before)) ∙ none) (ap (standing text) (sym (at taken)) ∙ none') count lt
+
+pub quiet_told : SizeStays → PlaysInParts → (size : Size) (text before bytes : List ℕ) (taken : ℕ) → IsQuiet text (play (reset_as size) before) bytes taken
+    → AreQuiet text (rows_shown size) before bytes taken
+quiet_told size_law parts size text before bytes taken quiet =
+    let x = play (reset_as size) before in
+    let at = behind_is size_law parts size before bytes in
+    let kept = λ (one other : ℕ) (keeps : Keeps text (rows_behind x bytes one) (rows_behind x bytes other)).
+    subst (λ r. Keeps text r (rows_shown size (before ++ take other bytes))) (sym (at one)) (subst (Keeps text (rows_behind x bytes one)) (sym (at other)) keeps) in
+    record {
+      inside = λ count lt. kept count (count + 1) (quiet.inside count lt);
+      last = elim quiet.last [
+        | inl same ↦ inl (at (taken - 1) ∙ same ∙ sym (at 0))
+        | inr keeps ↦ inr (kept (taken - 1) taken keeps)
+      ];
+    }
+
+-- those before any byte
+pub start_is : SizeStays → PlaysInParts → (size : Size) (before : List ℕ) → rows_shown size before ≡ rows_behind (play (reset_as size) before) [] 0
+start_is size_law parts size before = ap (rows_shown size) (sym (append-nil before)) ∙ behind_is size_law parts size before [] 0

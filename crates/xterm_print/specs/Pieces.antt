@@ -1,9 +1,13 @@
 -- Private: how much of a chunk is played before a text is looked for again.
-use Rattle.std.specs.Prelude.{◌≡◌, ℕ, ◌+◌, ◌<◌, List, [], length, slice_index_or, take}
+use Rattle.std.specs.Prelude.{◌≡◌, ◌⊎◌, true, ℕ, ◌+◌, ◌-◌, ◌<◌, ◌≤◌, List, [], drop, length, slice_index_or, take}
+use Rattle.std.specs.List.{flat_map}
 use Rattle.sheet.specs.declared.cell.Kind.TheVariants.{Narrow}
 use Rattle.sheet.specs.Cells.{Cell}
-use Rattle.standings.specs.Rows.{Row}
-use Rattle.standings.specs.Standing.{standing}
+use Rattle.sheet.specs.Grid.{row_at}
+use Rattle.standings.specs.Kept.{Keeps, room_in}
+use Rattle.standings.specs.Rows.{Row, row_below}
+use Rattle.standings.specs.Standing.{begins, line_text, standing}
+use Rattle.xterm_rows.specs.RowText.{characters}
 use Rattle.xterm_term.specs.Term.{Term, play}
 use Rattle.xterm_print.specs.FindRows.{rows_read}
 
@@ -25,3 +29,23 @@ abbrev pub NoneBetween : List ℕ → Term → List ℕ → ℕ → Type 0
 NoneBetween text x bytes taken =
     standing text (rows_behind x bytes 0) ≡ [] → standing text (rows_behind x bytes taken) ≡ []
     → (count : ℕ) → count < taken → standing text (rows_behind x bytes count) ≡ []
+
+-- each place of a text stays at so many bytes ..
+abbrev pub StaysOn : List ℕ → Term → List ℕ → ℕ → Type 0
+StaysOn text x bytes taken = (count : ℕ) → count < taken → Keeps text (rows_behind x bytes count) (rows_behind x bytes (count + 1))
+
+-- .. or at all but the last, up to which the rows are the same then
+pub record IsQuiet (text : List ℕ) (x : Term) (bytes : List ℕ) (taken : ℕ) : Type 0 where
+  pub inside : (count : ℕ) → count + 1 < taken → Keeps text (rows_behind x bytes count) (rows_behind x bytes (count + 1))
+  pub last : (rows_behind x bytes (taken - 1) ≡ rows_behind x bytes 0) ⊎ Keeps text (rows_behind x bytes (taken - 1)) (rows_behind x bytes taken)
+
+-- the characters of the cells left of the cursor
+abbrev pub left_of_cursor : Term → List ℕ
+left_of_cursor x = flat_map characters (take (x.console.picture.column - 1) (row_at x.console.picture.rows x.console.picture.line))
+
+-- wherever a text begins, but in the rows below the cursor's, it ends left of the cursor, or in its own row
+abbrev pub EndsLeft : List ℕ → Term → Type 0
+EndsLeft text x =
+    (k i : ℕ) → k ≤ x.console.picture.line - 1 → k < length (rows_behind x [] 0) → i < length (row_below (rows_behind x [] 0) k).characters
+    → begins text (line_text (drop k (rows_behind x [] 0))) i ≡ true
+    → i + length text ≤ room_in (rows_behind x [] 0) (x.console.picture.line - 1) (length (left_of_cursor x)) k

@@ -7,11 +7,11 @@ ghost use Rattle.chunk_walk.specs.Stops.{OnlySeeks, StopsPrint};
 ghost use Rattle.xterm_print.specs.FindLines.{StandsNowhere, find_lines, has_ink};
 
 use crate::find_rows::{read_touched, rows_read};
-use crate::pieces::piece;
+use crate::pieces::{piece, quiet_piece};
 use crate::seeking::seek_count;
 use chunk_walk::WalkFault;
 use plays::Plays;
-use standings::{Row, Span};
+use standings::{Row, Span, Standing};
 use std::alloc::Global;
 use std::io::Write;
 use tape_core::Watched;
@@ -92,6 +92,21 @@ impl Finder<Terminal> for Sheets {
         size_stays();
         plays_in_parts();
         let taken = piece(terminal, text, bytes);
+        let mut sink = Reports::new(alloc);
+        Plays::feed(terminal, &bytes[..taken], &mut sink)?;
+        Ok(taken)
+    }
+
+    fn play_quietly(
+        alloc: Global,
+        terminal: &mut Terminal,
+        text: &[char],
+        still: &Standing,
+        bytes: &[u8],
+    ) -> Result<usize, OutOfMemory> {
+        size_stays();
+        plays_in_parts();
+        let taken = quiet_piece(terminal, text, still, bytes);
         let mut sink = Reports::new(alloc);
         Plays::feed(terminal, &bytes[..taken], &mut sink)?;
         Ok(taken)

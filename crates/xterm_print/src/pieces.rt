@@ -1,16 +1,21 @@
 //! How much of a chunk is played before a text is looked for again.
 
-ghost use Rattle.std.specs.Prelude.{◌≡◌, ◌-◌, ◌<◌, ◌≤◌, ℕ, length, slice_index, slice_index_or, take, true, false};
-ghost use Rattle.std.specs.List.{list_all};
+ghost use Rattle.std.specs.Prelude.{◌≡◌, ◌-◌, ◌<◌, ◌≤◌, [], ℕ, length, slice_index, slice_index_or, take, true, false};
+ghost use Rattle.std.specs.List.{flat_map, list_all};
 ghost use Rattle.sheet.specs.Cells.{blank};
 ghost use Rattle.sheet.specs.declared.rendition.Colour.TheVariants.{Default};
+ghost use Rattle.standings.specs.Kept.{EndBy};
+ghost use Rattle.standings.specs.Standing.{standing};
 ghost use Rattle.vt_parser.specs.Syntax.{is_graphic};
+ghost use Rattle.xterm_rows.specs.RowText.{characters};
 ghost use Rattle.xterm_rows.specs.Runs.{cell_behind};
 ghost use Rattle.xterm_term.specs.Seen.{Shows};
 ghost use Rattle.xterm_term.specs.Term.{Term};
-ghost use Rattle.xterm_print.specs.Pieces.{AreApart, IsPlain, NoneBetween};
+ghost use Rattle.xterm_print.specs.Pieces.{AreApart, EndsLeft, IsPlain, IsQuiet, NoneBetween, StaysOn, left_of_cursor, rows_behind};
 
 use sheet::Cell;
+use sheet::limits::MOST_COLUMNS;
+use standings::{Standing, ends_before};
 use xterm_term::Terminal;
 
 /// How many of the bytes to play at once: where the text stands nowhere before them and behind them, it stands nowhere in
@@ -32,11 +37,100 @@ pub(crate) fn piece(terminal: &Terminal, text: &[char], bytes: &[u8]) -> usize
     1
 }
 
+/// How many of the bytes to play at once on a terminal that shows these rows, on which the text stands there: nothing of it
+/// goes at them but maybe at the last one, up to which the rows are the same then.
+pub(crate) fn quiet_piece(
+    terminal: &Terminal,
+    text: &[char],
+    still: &Standing,
+    bytes: &[u8],
+) -> usize
+    requires { 0 < length bytes.now }
+    ensures some { 0 < result }
+    ensures within { result ≤ length bytes.now }
+    ensures quiet { (x : Term) → Shows terminal.now x
+        → still.now.rows.items ≡ rows_behind x [] 0
+        → still.now.places.items ≡ standing text.now (rows_behind x [] 0)
+        → IsQuiet text.now x bytes.now result }
+{
+    let unshown = terminal.unshown(bytes);
+    if unshown > 0 {
+        return (unshown + 1).min(bytes.len());
+    }
+    let over = quiet_run(terminal, text, still, bytes);
+    if over > 0 {
+        return over;
+    }
+    1
+}
+
+/// How many of the bytes go over plain cells, and take nothing of the text away.
+fn quiet_run(terminal: &Terminal, text: &[char], still: &Standing, bytes: &[u8]) -> usize
+    ensures within { result ≤ length bytes.now }
+    ensures quiet { (x : Term) → Shows terminal.now x
+        → still.now.rows.items ≡ rows_behind x [] 0
+        → still.now.places.items ≡ standing text.now (rows_behind x [] 0)
+        → StaysOn text.now x bytes.now result }
+{
+    if text.is_empty() {
+        return 0;
+    }
+    let over = run_over(terminal, text, bytes);
+    if over < 2 {
+        return 0;
+    }
+    if !ends_left(terminal, text.len(), still) {
+        return 0;
+    }
+    over
+}
+
+/// Whether a text of so many characters ends left of the cursor, or in a row above, wherever it stands but in the rows
+/// below.
+fn ends_left(terminal: &Terminal, len: usize, still: &Standing) -> bool
+    ensures { result ≡ true → (x : Term) → Shows terminal.now x
+        → EndBy len still.now.rows.items still.now.places.items
+        (x.console.picture.line - 1) (length (left_of_cursor x)) }
+{
+    let screen = terminal.screen();
+    let (line, column) = screen.cursor();
+    let cells = screen.row(line);
+    let before = character_count(&cells[..column as usize - 1]);
+    ends_before(still, len, line as usize - 1, before)
+}
+
+/// How many characters cells have, with their marks.
+fn character_count(cells: &[Cell]) -> usize
+    requires { length cells.now ≤ MOST_COLUMNS }
+    ensures { result ≡ length (flat_map characters cells.now) }
+{
+    let mut count = 0;
+    for cell in cells {
+        count += own_count(*cell);
+    }
+    count
+}
+
+/// How many a cell has.
+#[tactic(auto, unfolding(xterm_rows::specs::RowText::characters))]
+fn own_count(cell: Cell) -> usize
+    ensures value { result ≡ length (characters cell) }
+    ensures few { result ≤ 3 }
+{
+    if cell.is_covered() {
+        0
+    } else {
+        1 + cell.mark_count() as usize
+    }
+}
+
 /// How many of the bytes go over plain cells of the cursor's row, left of its last two, so that no two neighbours of the
 /// text come to stand on both sides of a border between new characters and old ones.
 fn run_over(terminal: &Terminal, text: &[char], bytes: &[u8]) -> usize
     ensures within { result ≤ length bytes.now }
     ensures between { (x : Term) → Shows terminal.now x → NoneBetween text.now x bytes.now result }
+    ensures stays { (x : Term) → Shows terminal.now x → 0 < length text.now → EndsLeft text.now x
+        → StaysOn text.now x bytes.now result }
 {
     if !terminal.writes_on() {
         return 0;

@@ -5,20 +5,22 @@ use Rattle.sheet.specs.Cells.{Cell}
 use Rattle.sheet.specs.Grid.{row_at}
 use Rattle.xterm_term.specs.Console.{Console}
 use Rattle.xterm_print.specs.Pieces.{AreApart, IsPlain}
-use Rattle.xterm_print.proofs.PieceLemmas.{cell_within, run_between}
+use Rattle.xterm_term.specs.Ahead.{WritesOn}
+use Rattle.xterm_term.specs.Term.{Term}
+use Rattle.xterm_term.specs.Seen.{Shows}
+use Rattle.xterm_print.proofs.PieceLemmas.{IsRun, cell_within, run_between, run_stays}
 use Rattle.xterm_print.proofs.pieces.run_over.Goals as goal
 
-pub returns-clause-between : goal.returns-clause-between
-returns-clause-between c = λ x shows.
+-- the bytes are a run
+is_run : (c : goal.After-run_on) → IsRun c.screen-screen.result.now.picture c.row-cells.result.now (c.cursor-line.result.1 - 1) c.args.text.now c.args.bytes.now c.run_on.result
+is_run c =
     let p = c.screen-screen.result.now.picture in
     let row = c.row-cells.result.now in
     let before = c.cursor-line.result.1 - 1 in
     let m = length row - 2 - before in
-    let writes : c.writes_on.result ≡ true = grind (arith, nat_tests) in
     let cells = length-take m (drop before row) in
     let rest = length-drop before row in
-    run_between x p row before c.args.text.now c.args.bytes.now c.run_on.result (c.screen-screen.ensures.value ∙ sym (ap (λ (s : Console). s.picture) shows.console)) (c.writes_on.ensures writes x shows)
-    (record {
+    record {
       is = c.row-cells.ensures.value ∙ ap (row_at p.rows) c.cursor-line.ensures.line;
       at = ap (λ n. n - 1) c.cursor-line.ensures.column;
       sound = c.cursor-line.ensures.sound;
@@ -29,4 +31,17 @@ returns-clause-between c = λ x shows.
       graphic = c.run_on.ensures.graphic;
       plain = λ k lt. subst IsPlain (cell_within row before m k (omega (arith, lt, c.run_on.ensures.room, cells))) (c.run_on.ensures.plain k lt);
       apart = λ k some lt. subst (λ (cell : Cell). AreApart c.args.text.now (get_or c.args.bytes.now (k - 1) 0) cell.character) (cell_within row before m k (omega (arith, lt, c.run_on.ensures.room, cells))) (c.run_on.ensures.apart k some lt);
-    })
+    }
+
+writes : (c : goal.After-run_on) (x : Term) → Shows c.args.terminal.now x → WritesOn x
+writes c x shows = let on : c.writes_on.result ≡ true = grind (arith, nat_tests) in c.writes_on.ensures on x shows
+
+pub returns-clause-between : goal.returns-clause-between
+returns-clause-between c = λ x shows.
+    run_between x c.screen-screen.result.now.picture c.row-cells.result.now (c.cursor-line.result.1 - 1) c.args.text.now c.args.bytes.now c.run_on.result
+    (c.screen-screen.ensures.value ∙ sym (ap (λ (s : Console). s.picture) shows.console)) (writes c x shows) (is_run c)
+
+pub returns-clause-stays : goal.returns-clause-stays
+returns-clause-stays c = λ x shows.
+    run_stays x c.screen-screen.result.now.picture c.row-cells.result.now (c.cursor-line.result.1 - 1) c.args.text.now c.args.bytes.now c.run_on.result
+    (c.screen-screen.ensures.value ∙ sym (ap (λ (s : Console). s.picture) shows.console)) (writes c x shows) (is_run c)

@@ -1,0 +1,11 @@
+use Rattle.std.proofs.Common.{arith}
+use Rattle.xterm_print.proofs.PieceLemmas.{stays_quiet, unshown_quiet}
+use Rattle.xterm_print.proofs.pieces.quiet_piece.Goals as goal
+
+pub returns-then-unshown-gt0-clause-quiet : goal.returns-then-unshown-gt0-clause-quiet
+returns-then-unshown-gt0-clause-quiet c = λ x shows _ _.
+    unshown_quiet x c.args.text.now c.args.bytes.now c.unshown-unshown.result _ (omega (arith, c.min.ensures)) (c.unshown-unshown.ensures.shows x shows)
+
+pub returns-then-over-gt0-clause-quiet : goal.returns-then-over-gt0-clause-quiet
+returns-then-over-gt0-clause-quiet c = λ x shows rows places.
+    stays_quiet x c.args.text.now c.args.bytes.now c.quiet_run-over.result (omega arith) (c.quiet_run-over.ensures.quiet x shows rows places)
