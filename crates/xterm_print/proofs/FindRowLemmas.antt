@@ -1,15 +1,18 @@
 -- Rows that are read, a row, a cell and a character more.
-use Rattle.std.proofs.Common.{◌≡◌, ℕ, suc, ◌+◌, ◌-◌, ◌<◌, ◌≤◌, true, false, List, [], ◌∷◌, ◌++◌, append_assoc, append-nil, get_or, length, map, set, take, ap, sym, ◌∙◌, add-one, arith, refl}
+use Rattle.std.proofs.Common.{◌≡◌, ℕ, suc, ◌+◌, ◌-◌, ◌<◌, ◌≤◌, true, false, List, [], ◌∷◌, ◌++◌, append_assoc, append-nil, drop, get_or, inl, inr, length, map, min, set, subst, take, ap, sym, ◌∙◌, add-one, arith, refl}
 use Rattle.std.specs.List.{flat_map, range_with_len}
-use Rattle.std.proofs.lemmas.List.{get_or_default, get_or_past, length-take, map-append, same_lists, take_all, take_more, take_more_set}
+use Rattle.std.proofs.lemmas.Bool.{cases_Bool, cases_lt}
+use Rattle.std.proofs.lemmas.List.{ext_get_or, get_or-append-add, get_or-drop, get_or-map, get_or-take, get_or_append_left, get_or_default, get_or_past, length-append, length-drop, length-map, length-take, length-take-le, map-append, same_lists, take_all, take_more, take_more_set}
+use Rattle.sheet.specs.declared.rendition.Colour.TheVariants.{Default}
 use Rattle.std.proofs.lemmas.List.Concat.{flat_map-append}
 use Rattle.std.proofs.lemmas.List.FromFn.{get_or-map-range_with_len, length-map-range_with_len}
-use Rattle.sheet.specs.Cells.{Cell, is_covered}
-use Rattle.sheet.specs.Grid.{row_at}
+use Rattle.sheet.specs.Cells.{Cell, blank, is_covered}
+use Rattle.sheet.specs.Grid.{IsUsed, row_at}
 use Rattle.sheet.specs.Table.{nth, table}
 use Rattle.xterm_rows.specs.RowText.{characters}
 use Rattle.xterm_rows.proofs.RangeLemmas.{range_split}
 use Rattle.standings.specs.Rows.{empty_row, row_below}
+use Rattle.xterm_print.specs.Pieces.{BlankFrom, IsPlain}
 use Rattle.xterm_print.specs.FindRows.{columns_from, heeds_next, kept_cells, leaves_last, row_read, rows_read}
 
 -- a row more
@@ -107,3 +110,55 @@ unfolding nth
 rows_untouched before now_ long same = same_lists before now_ long (λ k d lt.
     let within : k < length now_ = omega (arith, long, lt) in
     get_or_default before k d [] lt ∙ sym (same (suc k) (omega arith) (omega (arith, within))) ∙ sym (get_or_default now_ k d [] within))
+
+-- ---- rows of which only some cells are in use
+
+-- what is blank behind so many cells is so without the last one too
+pub blank_kept : (row next : List Cell) (used : ℕ) → IsUsed row used → BlankFrom (kept_cells row next) (min used (length (kept_cells row next)))
+unfolding kept_cells nth
+blank_kept row next used is = elim (cases_Bool (leaves_last row next)) [
+  | inr f ↦ rw f (λ k past. is.tail (suc k) (omega (arith, past, is.within)))
+  | inl t ↦ rw t (λ k past. elim (cases_lt k (length row - 1)) [
+    | inl low ↦
+        get_or-take (length row - 1) row k (blank Default) low
+        ∙ is.tail (suc k) (omega (arith, past, low, length-take (length row - 1) row))
+    | inr high ↦ get_or_past (take (length row - 1) row) k (blank Default) (omega (arith, high, length-take (length row - 1) row))
+  ])
+]
+
+-- the characters of those in use, and spaces
+pub letters_used : (cells : List Cell) (letters spaces : List ℕ) (used : ℕ) → used ≤ length cells → BlankFrom cells used → length spaces ≡ length cells
+    → ((k : ℕ) → k < length spaces → get_or spaces k 0 ≡ 32) → letters ≡ map (λ (cell : Cell). cell.character) (take used cells)
+    → letters ++ drop used spaces ≡ map (λ (cell : Cell). cell.character) cells
+unfolding blank
+letters_used cells letters spaces used within tail count blanks are =
+    let own = λ (cell : Cell). cell.character in
+    let long : length letters ≡ used = ap length are ∙ length-map (take used cells) own ∙ length-take-le used cells within in
+    ext_get_or 0 (letters ++ drop used spaces) (map own cells)
+    (omega (arith, length-append letters (drop used spaces), length-drop used spaces, long, count, within, length-map cells own))
+    (λ k lt.
+    let inside : k < length cells = omega (arith, lt, length-append letters (drop used spaces), length-drop used spaces, long, count, within) in
+    elim (cases_lt k used) [
+      | inl low ↦
+          get_or_append_left letters (drop used spaces) 0 k (omega (arith, low, long)) ∙ ap (λ l. get_or l k 0) are
+          ∙ get_or-map own (take used cells) k (blank Default) 0 (omega (arith, low, length-take-le used cells within))
+          ∙ ap own (get_or-take used cells k (blank Default) low)
+          ∙ sym (get_or-map own cells k (blank Default) 0 inside)
+      | inr high ↦
+          let parts : length letters + (k - used) ≡ k = omega (arith, long, high) in
+          let there : used + (k - used) ≡ k = omega (arith, high) in
+          ap (λ m. get_or (letters ++ drop used spaces) m 0) (sym parts)
+          ∙ get_or-append-add letters (drop used spaces) (k - used) 0
+          ∙ get_or-drop used spaces (k - used) 0 ∙ ap (λ m. get_or spaces m 0) there
+          ∙ blanks k (omega (arith, inside, count))
+          ∙ sym (get_or-map own cells k (blank Default) 0 inside ∙ ap own (tail k high))
+    ])
+
+-- and each cell is plain, where those in use are
+pub plain_used : (cells : List Cell) (used : ℕ) → BlankFrom cells used → ((k : ℕ) → k < used → IsPlain (get_or cells k (blank Default)))
+    → (k : ℕ) → IsPlain (get_or cells k (blank Default))
+unfolding blank
+plain_used cells used tail plain k = elim (cases_lt k used) [
+  | inl low ↦ plain k low
+  | inr high ↦ subst IsPlain (sym (tail k high)) (record { kind = refl; alone = refl })
+]

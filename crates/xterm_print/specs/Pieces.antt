@@ -2,7 +2,8 @@
 use Rattle.std.specs.Prelude.{◌≡◌, ◌⊎◌, true, ℕ, ◌+◌, ◌-◌, ◌<◌, ◌≤◌, List, [], drop, length, slice_index_or, take}
 use Rattle.std.specs.List.{flat_map}
 use Rattle.sheet.specs.declared.cell.Kind.TheVariants.{Narrow}
-use Rattle.sheet.specs.Cells.{Cell}
+use Rattle.sheet.specs.declared.rendition.Colour.TheVariants.{Default}
+use Rattle.sheet.specs.Cells.{Cell, blank}
 use Rattle.sheet.specs.Grid.{row_at}
 use Rattle.standings.specs.Kept.{Keeps, room_in}
 use Rattle.standings.specs.Rows.{Row, row_below}
@@ -15,6 +16,10 @@ use Rattle.xterm_print.specs.FindRows.{rows_read}
 pub record IsPlain (cell : Cell) : Type 0 where
   pub kind : cell.kind ≡ Narrow
   pub alone : cell.marks ≡ []
+
+-- behind so many cells all are blank
+abbrev pub BlankFrom : List Cell → ℕ → Type 0
+BlankFrom cells used = (k : ℕ) → used ≤ k → slice_index_or cells k (blank Default) ≡ blank Default
 
 -- no two neighbours of a text are these
 abbrev pub AreApart : List ℕ → ℕ → ℕ → Type 0

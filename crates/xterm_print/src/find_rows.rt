@@ -1,16 +1,17 @@
 //! The rows of the sheet that is shown, as a text is looked for in them.
 
-ghost use Rattle.std.specs.Prelude.{◌≡◌, ◌+◌, ◌≤◌, ◌++◌, ◌∷◌, [], List, false, true, length, map, take, IfOk, OnOk};
+ghost use Rattle.std.specs.Prelude.{◌≡◌, ◌+◌, ◌≤◌, ◌<◌, ◌++◌, ◌∷◌, [], List, ℕ, false, true, length, map, slice_index_or, take, IfOk, OnOk};
 ghost use Rattle.std.specs.List.{flat_map};
-ghost use Rattle.sheet.specs.Cells.{Cell};
-ghost use Rattle.sheet.specs.Grid.{row_at};
+ghost use Rattle.sheet.specs.Cells.{Cell, blank};
+ghost use Rattle.sheet.specs.Grid.{IsUsed, row_at};
 ghost use Rattle.standings.specs.Spans.{Stays};
 ghost use Rattle.xterm_screen.specs.Picture.{Told};
 ghost use Rattle.xterm_rows.specs.RowText.{characters, is_space};
+ghost use Rattle.xterm_print.specs.Pieces.{BlankFrom, IsPlain};
 ghost use Rattle.xterm_print.specs.FindRows.{columns_from, ends_in_space, heeds_next, kept_cells, leaves_last, row_read, rows_read};
 
 use sheet::limits::MOST_COLUMNS;
-use sheet::{Cell, put_letters};
+use sheet::{Cell, Colour, put_letters};
 use standings::{Row, Span};
 use std::alloc::{AllocError, Global};
 use xterm_rows::cell_behind;
@@ -28,7 +29,12 @@ pub fn rows_read(alloc: Global, screen: &Screen) -> Result<Vec<Row>, AllocError>
     let _cursor = screen.cursor();
     let mut rows = Vec::new(alloc);
     for line in 1..screen.lines() + 1 {
-        rows.push(row_read(alloc, screen.row(line), next_row(screen, line))?)?;
+        rows.push(row_read(
+            alloc,
+            screen.row(line),
+            screen.used(line),
+            next_row(screen, line),
+        )?)?;
     }
     Ok(rows)
 }
@@ -53,7 +59,12 @@ pub fn read_touched(rows: &mut Vec<Row>, screen: &Screen) -> Result<Span, AllocE
     for line in 1..screen.lines() + 1 {
         if may_differ(screen, line) {
             let row = &mut rows[line as usize - 1];
-            read_again(row, screen.row(line), next_row(screen, line))?;
+            read_again(
+                row,
+                screen.row(line),
+                screen.used(line),
+                next_row(screen, line),
+            )?;
             span = span.widened(line as usize - 1);
         }
     }
@@ -101,27 +112,29 @@ fn next_row(screen: &Screen, line: u16) -> &[Cell]
     }
 }
 
-/// A row, by its cells and by those of the row below it.
-fn row_read(alloc: Global, cells: &[Cell], next: &[Cell]) -> Result<Row, AllocError>
+/// A row, by its cells, of which so many may be in use, and by those of the row below it.
+fn row_read(alloc: Global, cells: &[Cell], used: usize, next: &[Cell]) -> Result<Row, AllocError>
     requires some { 1 ≤ length cells.now }
     requires few { length cells.now ≤ MOST_COLUMNS }
+    requires used { IsUsed cells.now used }
     ensures { IfOk result (λ row. row ≡ row_read cells.now next.now) }
 {
     let mut row = Row::with_room(alloc, cells.len(), false)?;
-    read_again(&mut row, cells, next)?;
+    read_again(&mut row, cells, used, next)?;
     Ok(row)
 }
 
-/// Becomes a row, by its cells and by those of the row below it.
+/// Becomes a row, by its cells, of which so many may be in use, and by those of the row below it.
 #[tactic(auto, unfolding(crate::specs::FindRows::row_read))]
-fn read_again(row: &mut Row, cells: &[Cell], next: &[Cell]) -> Result<(), AllocError>
+fn read_again(row: &mut Row, cells: &[Cell], used: usize, next: &[Cell]) -> Result<(), AllocError>
     requires some { 1 ≤ length cells.now }
     requires few { length cells.now ≤ MOST_COLUMNS }
+    requires used { IsUsed cells.now used }
     ensures { OnOk result (row.new ≡ row_read cells.now next.now) }
 {
     let runs_on = !ends_in_space(cells) || leaves_last(cells, next);
     let kept = kept_cells(cells, next);
-    if spell(row, kept, runs_on) {
+    if spell(row, kept, used.min(kept.len()), runs_on) {
         return Ok(());
     }
     let plain = write_over(row, kept);
@@ -130,8 +143,10 @@ fn read_again(row: &mut Row, cells: &[Cell], next: &[Cell]) -> Result<(), AllocE
 }
 
 /// Becomes a row of cells that are characters of one column without marks, if all are, and if it has as many; says whether
-/// it did. Most rows are read so.
-fn spell(row: &mut Row, cells: &[Cell], runs_on: bool) -> bool
+/// it did. Behind so many all are blank. Most rows are read so.
+fn spell(row: &mut Row, cells: &[Cell], used: usize, runs_on: bool) -> bool
+    requires within { used ≤ length cells.now }
+    requires tail { BlankFrom cells.now used }
     ensures { result ≡ true → row.new ≡ record {
       characters = flat_map characters cells.now;
       columns = columns_from 1 cells.now;
@@ -144,11 +159,35 @@ fn spell(row: &mut Row, cells: &[Cell], runs_on: bool) -> bool
     }
     let mut letters = [' '; AT_ONCE];
     let letters = &mut letters[..count];
-    if !put_letters(cells, letters) {
+    if !put_used(cells, used, letters) {
         return false;
     }
     row.spell(letters, runs_on);
     true
+}
+
+/// Puts the characters of cells, of which all are blank behind so many, into a list, and says whether each cell is one of one
+/// column without marks.
+fn put_used(cells: &[Cell], used: usize, letters: &mut [char]) -> bool
+    requires within { used ≤ length cells.now }
+    requires tail { BlankFrom cells.now used }
+    requires count { length letters.old ≡ length cells.now }
+    ensures letters { letters.new ≡ map (λ (cell : Cell). cell.character) cells.now }
+    ensures plain { result ≡ true → (k : ℕ) → k < length cells.now
+        → IsPlain (slice_index_or cells.now k (blank Colour.Default)) }
+{
+    put_spaces(letters);
+    put_letters(&cells[..used], &mut letters[..used])
+}
+
+/// All become spaces.
+fn put_spaces(letters: &mut [char])
+    ensures count { length letters.new ≡ length letters.old }
+    ensures spaces { (k : ℕ) → k < length letters.old → slice_index_or letters.new k 0 ≡ 32 }
+{
+    for letter in letters.iter_mut() {
+        *letter = ' ';
+    }
 }
 
 /// Writes the characters of the first cells, each one character wide and without marks, over those of a row, as far as
