@@ -15,11 +15,11 @@ use Rattle.screen_rows.specs.RowText.{characters}
 use Rattle.screen_print.specs.declared.standing.Place.{Place}
 use Rattle.screen_print.specs.ByLine.{AreCommon, AreKept, AreLost, DifferIn, IsApart, IsCommon, IsKept, IsOnScreen, begins_on, count_above, lines_by, place_line, places_above, places_to, row_on, stands_so}
 use Rattle.screen_print.specs.EachByte.{is_lone, passed_lines}
-use Rattle.screen_print.specs.FindLines.{begins, count_left, found_line, left_of, less_lines, line_text_from, place_in, places_from, row_texts, standing}
+use Rattle.screen_print.specs.FindLines.{begins, count_left, ends_line, found_line, left_of, less_lines, line_text_from, place_in, places_from, row_texts, standing}
 use Rattle.screen_print.specs.Stills.{Still}
 use Rattle.screen_print.proofs.FindLemmas.{first_more, places_more, standing_all, standing_more, texts_at}
 use Rattle.chunk_walk.proofs.TextLemmas.{texts_from}
-use Rattle.screen_print.proofs.QuietLemmas.{front_alike, itself}
+use Rattle.screen_print.proofs.QuietLemmas.{front_alike, itself, line_is}
 use Rattle.screen_print.proofs.StillLemmas.{IsIn, differs_or_same}
 use Rattle.screen_rows.specs.SameRows.{changed_lines}
 use Rattle.vt_screen.specs.Cells.{row_at}
@@ -468,6 +468,23 @@ front_kept text one other line there same column whole whole' low high low' high
           ∙ begins;
       left = sym (take-take (column - 1) same row short) ∙ ap (take (column - 1)) alike ∙ take-take (column - 1) same row' short;
     }
+
+-- where a text begins nowhere in a row, whatever stands behind it, it begins nowhere in the line
+pub none_begun : (text : List ℕ) (still : Still) (line column : ℕ) → length still.rows ≡ 24 → 1 ≤ line → line ≤ 24
+    → ((rest : List ℕ) → begins text (row_on still line ++ rest) column ≡ false) → begins_on text still line column ≡ false
+none_begun text still line column whole low high none =
+    let row = row_on still line in
+    let rows = drop line (row_texts still) in
+    ap (λ l. begins text (line_text_from l) column) (texts_at still line whole low high)
+    ∙ ap (λ l. begins text l column) (line_is row rows)
+    ∙ none (cond (ends_line row) [] (line_text_from rows))
+
+-- so it keeps all its places
+pub none_are_kept : (text : List ℕ) (one : Still) (line : ℕ) (other : Still) (there end : ℕ)
+    → ((column : ℕ) → 1 ≤ column → column ≤ length (row_on one line) → begins_on text one line column ≡ false)
+    → AreKept text one line other there end
+none_are_kept text one line other there end none column low high within begins =
+    elim (false≢true (sym (none column low within) ∙ begins)) [ ]
 
 -- a column more
 pub kept_more : (text : List ℕ) (one : Still) (line : ℕ) (other : Still) (there end : ℕ) → AreKept text one line other there end

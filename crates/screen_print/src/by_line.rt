@@ -50,7 +50,7 @@ ghost use Rattle.screen_rows.specs.Glyphs.{character};
 ghost use Rattle.screen_rows.specs.RowText.{characters};
 
 use crate::find_lines::{Chunk, put_found};
-use crate::quiet::same_len;
+use crate::quiet::{may_begin, same_len};
 use crate::standing::{Place, begins};
 use crate::start::Start;
 use crate::still::{ROWS, Still};
@@ -260,6 +260,9 @@ fn first_lost(sought: &Sought<'_>, pair: &Pair<'_>, line: u8, there: u8) -> u8
     pair.one.sound();
     pair.other.sound();
     let cells = pair.one.cells(line);
+    if is_bare(sought, pair, line) {
+        return cells.len() as u8 + 1;
+    }
     let same = shared_len(pair, line, there);
     let behind = (same + 1).saturating_sub(sought.text.len().max(1));
     for at in behind..cells.len() {
@@ -269,6 +272,24 @@ fn first_lost(sought: &Sought<'_>, pair: &Pair<'_>, line: u8, there: u8) -> u8
         }
     }
     cells.len() as u8 + 1
+}
+
+/// Whether a line that differs surely shows nothing of the text.
+fn is_bare(sought: &Sought<'_>, pair: &Pair<'_>, line: u8) -> bool
+    requires start { IsStart sought.now.text.now sought.now.start.now }
+    requires low { 1 ≤ line }
+    requires high { line ≤ LINES }
+    ensures { result ≡ true → (column : ℕ) → 1 ≤ column → column ≤ length (row_on pair.now.one.now line)
+        → begins_on sought.now.text.now pair.now.one.now line column ≡ false }
+{
+    pair.one.sound();
+    if !pair.lines.contains(&line) {
+        return false;
+    }
+    if may_begin(sought.start, pair.one.is_wide(), pair.one.row(line)) {
+        return false;
+    }
+    true
 }
 
 /// So many characters of a line are surely the same as those of a line of the other screen.
@@ -365,7 +386,8 @@ fn put_line<W: Write>(
 {
     gives_join::<W>();
     pair.other.sound();
-    let (first, last) = reach(pair.one, line, lost.places.as_slice());
+    let (near, last) = reach(pair.one, line, lost.places.as_slice());
+    let first = first_standing(sought, pair.one, line, near, last);
     if first > last {
         return;
     }
@@ -375,6 +397,28 @@ fn put_line<W: Write>(
             sign, chunk, sought, pair, &fronts, line, column, ends, writer,
         );
     }
+}
+
+/// The first of these columns of a line at which the text stands. Where there is none it's one behind them.
+fn first_standing(sought: &Sought<'_>, still: &Still, line: u8, near: u8, last: u8) -> u8
+    requires start { IsStart sought.now.text.now sought.now.start.now }
+    requires low { 1 ≤ line }
+    requires high { line ≤ LINES }
+    requires left { 1 ≤ near }
+    requires near { near ≤ length (row_on still.now line) + 1 }
+    requires right { last ≤ length (row_on still.now line) }
+    ensures from { near ≤ result }
+    ensures within { result ≤ length (row_on still.now line) + 1 }
+    ensures before { (column : ℕ) → near ≤ column → column < result
+        → begins_on sought.now.text.now still.now line column ≡ false }
+{
+    let _cells = still.cells(line);
+    for column in near..last + 1 {
+        if stands(sought, still, line, column) {
+            return column;
+        }
+    }
+    near.max(last + 1)
 }
 
 /// Between which columns a line has the same to the left as a place that may have gone, from its column on.

@@ -1,5 +1,5 @@
-use Rattle.std.proofs.Common.{◌-◌, ◌+◌, arith, inl, inr, length, subst, sym}
-use Rattle.std.proofs.lemmas.Bool.{cases_lt}
+use Rattle.std.proofs.Common.{◌-◌, ◌+◌, ◌∙◌, arith, inl, inr, length, subst, sym}
+use Rattle.std.proofs.lemmas.Bool.{cases_lt, false≢true}
 use Rattle.tape_core.specs.Devices.{Gave}
 use Rattle.screen_print.specs.ByLine.{AreLost, place_line, places_above, row_on, stands_at_no_end}
 use Rattle.screen_print.specs.FindLines.{found_line}
@@ -16,8 +16,8 @@ returns-then-first-last g c =
     let write = found_line c.args.sign chunk.index chunk.due chunk.len one in
     let keep = stands_at_no_end text c.args.ends in
     let f = place_line text one other write keep (places_above text one line) in
-    let reach = c.reach-first.ensures in
-    let first = c.reach-first.result.0 in
+    let reach = c.reach-near.ensures in
+    let first = c.reach-near.result.0 in
     let lost = subst (AreLost text one (line + 1) other c.args.lost.now.next) (sym c.as_slice.ensures.value) c.requires.lost in
     subst (Gave g.W.Write.contents c.args.writer.now c.args.writer.now)
     (sym (quiet_behind text one line 0 (length (row_on one line)) f (omega arith)
@@ -25,7 +25,10 @@ returns-then-first-last g c =
     apart_is_no_less text one other write keep line c.args.lost.now.next column c.as_slice.result.now c.sound.ensures.whole c.requires.low c.requires.lost.there_low c.requires.lost.there_high (omega arith) high begins
     lost (elim (cases_lt column first) [
       | inl lt ↦ reach.before column (omega arith) lt high
-      | inr ge ↦ reach.behind column (omega arith) high
+      | inr ge ↦ elim (cases_lt column c.first_standing-first.result) [
+        | inl lt ↦ elim (false≢true (sym (c.first_standing-first.ensures.before column ge lt) ∙ begins)) [ ]
+        | inr behind ↦ reach.behind column (omega arith) high
+      ]
     ]))))
     (c.gives_join.ensures.nothing c.args.writer.now)
 
@@ -39,15 +42,18 @@ loop-column-init g c =
     let write = found_line c.args.sign chunk.index chunk.due chunk.len one in
     let keep = stands_at_no_end text c.args.ends in
     let f = place_line text one other write keep (places_above text one line) in
-    let reach = c.reach-first.ensures in
+    let reach = c.reach-near.ensures in
     let lost = subst (AreLost text one (line + 1) other c.args.lost.now.next) (sym c.as_slice.ensures.value) c.requires.lost in
     record {
       within = omega arith;
       gave = subst (Gave g.W.Write.contents c.args.writer.now c.args.writer.now)
-          (sym (quiet_behind text one line 0 (c.reach-first.result.0 - 1) f (omega arith)
+          (sym (quiet_behind text one line 0 (c.first_standing-first.result - 1) f (omega arith)
           (λ column low high begins.
           apart_is_no_less text one other write keep line c.args.lost.now.next column c.as_slice.result.now c.sound.ensures.whole c.requires.low c.requires.lost.there_low c.requires.lost.there_high (omega arith) (omega arith) begins
-          lost (reach.before column (omega arith) (omega arith) (omega arith)))))
+          lost (elim (cases_lt column c.reach-near.result.0) [
+            | inl lt ↦ reach.before column (omega arith) lt (omega arith)
+            | inr ge ↦ elim (false≢true (sym (c.first_standing-first.ensures.before column ge (omega arith)) ∙ begins)) [ ]
+          ]))))
           (c.gives_join.ensures.nothing c.args.writer.now);
     }
 
@@ -78,7 +84,7 @@ returns g c =
     let write = found_line c.args.sign chunk.index chunk.due chunk.len one in
     let keep = stands_at_no_end text c.args.ends in
     let f = place_line text one other write keep (places_above text one line) in
-    let reach = c.reach-first.ensures in
+    let reach = c.reach-near.ensures in
     let lost = subst (AreLost text one (line + 1) other c.args.lost.now.next) (sym c.as_slice.ensures.value) c.requires.lost in
     subst (Gave g.W.Write.contents c.args.writer.now c.loop-column.writer)
     (sym (quiet_behind text one line (c.loop-column.column - 1) (length (row_on one line)) f (omega arith)
