@@ -96,6 +96,16 @@ nothing_passed text index due len first last firsts lasts one other h =
     (range_with_len 0 (length places))
     (append_none (less_lines 45 0 0 (length text) one places other others) (less_lines 43 0 0 (length text) other others one places) h).0
 
+-- where nothing is found between two screens nothing is less on either
+pub nothing_less : (text : List ℕ) (index due len : ℕ) (one other : Still) → len ≡ length text → find_text text index due one other ≡ []
+    → (less_lines 45 index due len one (standing text one) other (standing text other) ≡ [])
+    × (less_lines 43 index due len other (standing text other) one (standing text one) ≡ [])
+unfolding find_text
+nothing_less text index due len one other is h =
+    let both = append_none (less_lines 45 index due (length text) one (standing text one) other (standing text other))
+    (less_lines 43 index due (length text) other (standing text other) one (standing text one)) h in
+    rw is both
+
 pub bytes_are : (text : List ℕ) (index due : ℕ) (x : Term) (bytes : List ℕ) (n : ℕ) (first first' last last' : Still) (firsts lasts : List Place)
     → first ≡ first' → firsts ≡ standing text first → last ≡ last' → lasts ≡ standing text last
     → flat_map (byte_lines text index due first firsts last lasts x bytes) (range_with_len 0 n)

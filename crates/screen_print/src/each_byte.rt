@@ -43,7 +43,8 @@ ghost use Rattle.screen_print.specs.EachByte.{
   passed_lines,
   standing_lines,
 };
-ghost use Rattle.screen_print.specs.FindLines.{found_line, standing};
+ghost use Rattle.screen_print.specs.ByLine.{DifferIn};
+ghost use Rattle.screen_print.specs.FindLines.{found_line, less_lines, standing};
 ghost use Rattle.screen_print.specs.Places.{IsPlace};
 ghost use Rattle.screen_print.specs.Skim.{AreKeysOf, IsKeyed, IsLacked, IsPart, NowhereIn, ScreenLacks};
 ghost use Rattle.screen_print.specs.Start.{IsStart};
@@ -470,6 +471,7 @@ fn put_chunk<W: Write>(
     play_all(equal, bytes, scratch);
     let after = Still::of(equal);
     let changed = before.lines_unlike(&after);
+    let lines = changed.as_slice();
     let sought = Sought { text, start };
     let ends = Ends {
         first: &before,
@@ -478,16 +480,44 @@ fn put_chunk<W: Write>(
     let went = Pair {
         one: &before,
         other: &after,
-        lines: changed.as_slice(),
+        lines,
     };
     let came = Pair {
         one: &after,
         other: &before,
-        lines: changed.as_slice(),
+        lines,
     };
-    put_less(b'-', chunk, &sought, &went, None, writer);
+    let quiet = stays(text, start, &before, equal, lines);
+    put_end(b'-', chunk, &sought, &went, quiet, writer);
     put_bytes(&sought, chunk, &ends, bytes, terminal, scratch, writer);
-    put_less(b'+', chunk, &sought, &came, None, writer);
+    put_end(b'+', chunk, &sought, &came, quiet, writer);
+}
+
+/// Writes what is less at the other end of a chunk, where it isn't known that nothing is.
+fn put_end<W: Write>(
+    sign: u8,
+    chunk: &Chunk,
+    sought: &Sought<'_>,
+    pair: &Pair<'_>,
+    quiet: bool,
+    writer: &mut Watched<W>,
+)
+    requires start { IsStart sought.now.text.now sought.now.start.now }
+    requires lines { DifferIn pair.now.lines.now pair.now.one.now pair.now.other.now }
+    requires quiet { quiet ≡ true
+        → less_lines sign chunk.now.index chunk.now.due chunk.now.len
+        pair.now.one.now (standing sought.now.text.now pair.now.one.now)
+        pair.now.other.now (standing sought.now.text.now pair.now.other.now) ≡ [] }
+    ensures { Gave W.contents writer.old writer.new
+        (less_lines sign chunk.now.index chunk.now.due chunk.now.len
+        pair.now.one.now (standing sought.now.text.now pair.now.one.now)
+        pair.now.other.now (standing sought.now.text.now pair.now.other.now)) }
+{
+    gives_join::<W>();
+    if quiet {
+        return;
+    }
+    put_less(sign, chunk, sought, pair, None, writer);
 }
 
 /// Plays bytes one by one.

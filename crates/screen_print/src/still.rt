@@ -41,7 +41,7 @@ impl Model for Still {
 
 impl Still {
     ghost use Rattle.vt_term.specs.Seen.{Told};
-    ghost use Rattle.screen_print.specs.ByLine.{DifferIn, row_on};
+    ghost use Rattle.screen_print.specs.ByLine.{row_on};
     ghost use Rattle.screen_print.specs.Stills.{IsStill, still_of};
     ghost use Rattle.screen_rows.specs.RowText.{characters};
 
@@ -125,15 +125,24 @@ impl Still {
 
     /// The lines in which it differs from another.
     pub(crate) fn lines_unlike(&self, other: &Still) -> ArrayVec<u8, ROWS>
-        ensures { DifferIn result.items self.now other.now }
+        ensures { result.items ≡ changed_lines self.now.rows other.now.rows }
     {
         let mut unlike = ArrayVec::new();
         for line in 1..LINES + 1 {
-            if !same_row(self.row(line), other.row(line), !(self.wide || other.wide)) {
+            if self.is_unlike(other, line) {
                 unlike.push(line);
             }
         }
         unlike
+    }
+
+    /// Whether it differs from another in a line.
+    fn is_unlike(&self, other: &Still, line: u8) -> bool
+        requires low { 1 ≤ line }
+        requires high { line ≤ LINES }
+        ensures { result ≡ is_changed self.now.rows other.now.rows line }
+    {
+        !same_row(self.row(line), other.row(line), !(self.wide || other.wide))
     }
 
     /// Becomes what stands on the screen of a terminal, from which it differs in these lines.
