@@ -6,3 +6,4 @@ mod FindRowLemmas
 mod BlankLemmas
 mod OverLemmas
 mod PieceLemmas
+mod TrimmedLemmas

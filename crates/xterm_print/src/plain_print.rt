@@ -30,6 +30,6 @@ fn put_lines<W: Write>(screen: &Screen, writer: &mut Watched<W>)
     gives_join::<W>();
     let _cursor = screen.cursor();
     for line in 1..screen.lines() + 1 {
-        put_row(screen.row(line), writer);
+        put_row(screen.row(line), screen.used(line), writer);
     }
 }

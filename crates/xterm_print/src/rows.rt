@@ -2,6 +2,7 @@
 
 ghost use Rattle.std.specs.Prelude.{◌≡◌, encode_utf8};
 ghost use Rattle.std.specs.List.{flat_map};
+ghost use Rattle.sheet.specs.Grid.{IsUsed};
 ghost use Rattle.tape_core.specs.Devices.{Gave};
 ghost use Rattle.xterm_rows.specs.RowText.{printed, printed_line};
 
@@ -11,13 +12,14 @@ use tape_core::Watched;
 use tape_core::laws::gives_join;
 use xterm_rows::trimmed;
 
-/// Prints a row in UTF-8 without the spaces at its end, and LF.
-#[tactic(auto, unfolding(xterm_rows::specs::RowText::printed_line))]
-pub fn put_row<W: Write>(cells: &[Cell], writer: &mut Watched<W>)
+/// Prints a row in UTF-8 without the spaces at its end, and LF. Behind so many cells all are blank, so they are spaces.
+#[tactic(auto, using(crate::proofs::TrimmedLemmas::trimmed_used), unfolding(xterm_rows::specs::RowText::printed_line))]
+pub fn put_row<W: Write>(cells: &[Cell], used: usize, writer: &mut Watched<W>)
+    requires { IsUsed cells.now used }
     ensures { Gave W.contents writer.old writer.new (printed_line cells.now) }
 {
     gives_join::<W>();
-    put_cells(trimmed(cells), writer);
+    put_cells(trimmed(&cells[..used]), writer);
     writer.give(b"\n");
 }
 
