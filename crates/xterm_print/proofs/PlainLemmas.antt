@@ -1,11 +1,15 @@
 -- The plain print line by line, and a cell character by character.
-use Rattle.std.proofs.Common.{◌≡◌, ℕ, zero, suc, ◌+◌, ◌-◌, ◌≤◌, ◌<◌, List, [], ◌∷◌, ◌++◌, length, take, get_or, sym, ◌∙◌, ap, append-nil, arith, encode_utf8, true, false, if◌then◌else◌}
+use Rattle.std.proofs.Common.{◌≡◌, ℕ, zero, suc, ◌+◌, ◌-◌, ◌≤◌, ◌<◌, List, [], ◌∷◌, ◌++◌, length, take, drop, get_or, sym, ◌∙◌, ap, append-nil, arith, encode_utf8, true, false, if◌then◌else◌}
 use Rattle.std.specs.List.{flat_map}
-use Rattle.std.proofs.lemmas.List.{take_more, take_all}
+use Rattle.std.proofs.lemmas.List.{length-drop, take_more, take_all}
 use Rattle.std.proofs.lemmas.Grind.{flat_map-append}
-use Rattle.sheet.specs.Cells.{Cell, is_covered}
+use Rattle.std.proofs.lemmas.Str.{encode_ascii}
+use Rattle.std.proofs.Math.Seq.{take-add}
+use Rattle.sheet.specs.declared.rendition.Rendition.{Rendition}
+use Rattle.sheet.specs.Cells.{Cell, covered_kind, is_covered}
 use Rattle.sheet.specs.Grid.{row_at}
 use Rattle.sheet.specs.Table.{nth}
+use Rattle.xterm_rows.specs.Letters.{IsLetter}
 use Rattle.xterm_rows.specs.RowText.{characters, printed, printed_line}
 
 -- the text of the first elements of a list
@@ -50,3 +54,30 @@ unfolding printed characters
 printed_open cell n e all =
     ap (λ t. encode_utf8 cell.character ++ t) (first_all encode_utf8 cell.marks n all)
     ∙ sym (ap (λ b. flat_map encode_utf8 (if b then [] else cell.character ∷ cell.marks)) e)
+
+-- a letter has its one byte
+pub letter_printed : (rendition : Rendition) (cell : Cell) → IsLetter rendition cell → printed cell ≡ cell.character ∷ []
+unfolding is_covered
+letter_printed rendition cell is =
+    let c = cell.character in
+    let few : length cell.marks ≤ 0 = omega (arith, ap (λ (marks : List ℕ). length marks) is.alone) in
+    sym (printed_open cell 0 (ap covered_kind is.kind) few) ∙ append-nil (encode_utf8 c) ∙ encode_ascii c is.low
+
+-- so the letters so far and one more
+pub letters_more : (cells : List Cell) (n : ℕ) (cell : Cell) → n < length cells → cell ≡ get_or cells n cell → IsLetter cell.rendition cell
+    → flat_map printed (take (n + 1) cells) ≡ flat_map printed (take n cells) ++ cell.character ∷ []
+letters_more cells n cell below here is =
+    first_more printed cells n cell below
+    ∙ ap (λ (x : Cell). flat_map printed (take n cells) ++ printed x) (sym here)
+    ∙ ap (λ t. flat_map printed (take n cells) ++ t) (letter_printed cell.rendition cell is)
+
+-- what is left of a list, as a slice is
+pub rest_whole : {X : Type 0} (xs : List X) (n : ℕ) → take (length xs - n) (drop n xs) ≡ drop n xs
+rest_whole xs n = take_all (length xs - n) (drop n xs) (omega (arith, length-drop n xs))
+
+-- elements in two parts
+pub first_on : {X : Type 0} (f : X → List ℕ) (xs : List X) (n m : ℕ)
+    → flat_map f (take n xs) ++ flat_map f (take m (take (length xs - n) (drop n xs))) ≡ flat_map f (take (n + m) xs)
+first_on f xs n m =
+    ap (λ rest. flat_map f (take n xs) ++ flat_map f (take m rest)) (rest_whole xs n)
+    ∙ sym (ap (flat_map f) (take-add n m xs) ∙ flat_map-append f (take n xs) (take m (drop n xs)))

@@ -4,7 +4,7 @@ use Rattle.std.specs.List.{suffix_len}
 use Rattle.std.proofs.lemmas.List.{length-take-le, take_all, take-take}
 use Rattle.std.proofs.lemmas.List.Sums.{suffix_len-le-length, suffix_len-take_yes}
 use Rattle.sheet.specs.declared.rendition.Colour.TheVariants.{Default}
-use Rattle.sheet.specs.Cells.{Cell, blank, cell_at, is_covered}
+use Rattle.sheet.specs.Cells.{Cell, blank, is_covered}
 use Rattle.sheet.specs.Grid.{IsUsed}
 use Rattle.sheet.specs.Table.{nth}
 use Rattle.xterm_rows.specs.RowText.{is_space, trimmed}
