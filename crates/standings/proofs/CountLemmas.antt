@@ -1,12 +1,12 @@
 -- How many places have the same to the left, a place more.
-use Rattle.std.proofs.Common.{◌≡◌, ℕ, ◌+◌, ◌<◌, ◌≤◌, true, List, length, nat_eq, take, cond, refl, ap, ◌∙◌, arith, inl, inr}
+use Rattle.std.proofs.Common.{◌≡◌, ℕ, ◌+◌, ◌<◌, ◌≤◌, false, true, List, length, nat_eq, take, cond, refl, ap, ◌∙◌, arith, inl, inr}
 use Rattle.std.specs.Cmp.Lexicographic.{pointwise}
-use Rattle.std.proofs.lemmas.Bool.{cases_Bool}
+use Rattle.std.proofs.lemmas.Bool.{cases_Bool, ne_eqb}
 use Rattle.std.proofs.lemmas.Bool.Decides.{Decides-eqb}
 use Rattle.std.proofs.lemmas.Slice.Eq.{slice_eq-Decides}
-use Rattle.std.proofs.lemmas.List.Sums.{count_by_more_no, count_by_more_yes}
+use Rattle.std.proofs.lemmas.List.Sums.{count_by_more_no, count_by_more_yes, sum_by-take-drop}
 use Rattle.standings.specs.Rows.{Row}
-use Rattle.standings.specs.Standing.{count_left, left_of, place_at, place_in}
+use Rattle.standings.specs.Standing.{count_left, is_lone, left_of, place_at, place_in}
 use Rattle.standings.specs.declared.place.Place.{Place}
 
 counted : (rows : List Row) (places : List Place) (n : ℕ) (left : List ℕ) → n < length places
@@ -36,3 +36,11 @@ pub kept_past : (one other : List Row) (places others : List Place) (n m : ℕ) 
     → count_left one (take n places) left ≤ count_left other (take m others) left
     → count_left one (take n places) left ≤ count_left other (take (m + 1) others) left
 kept_past one other places others n m left lt le = omega (arith, counted other others m left lt, le)
+
+-- where one has it, it isn't lone
+pub one_is_there : (rows : List Row) (places : List Place) (n : ℕ) (left : List ℕ) → n < length places
+    → pointwise nat_eq (left_of rows (place_at places n)) left ≡ true → is_lone rows places left ≡ false
+one_is_there rows places n left lt same =
+    let test = λ (place : Place). pointwise nat_eq (left_of rows place) left in
+    ne_eqb (count_left rows places left) 0
+    (λ none. absurd (omega (arith, none, count_by_more_yes test places n (place_in 0 0) lt same, sum_by-take-drop (λ place. cond (test place) 1 0) places (n + 1))))

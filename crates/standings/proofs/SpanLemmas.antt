@@ -71,6 +71,14 @@ stays_both span more one other another stays also = elim (cases_Bool (nat_le spa
 pub stays_all : (rows : List Row) (span : Span) → Stays span rows rows
 stays_all rows span = record { count = refl; above = λ k lt. refl; below = λ k ge. refl }
 
+-- what differs from others, they differ from
+pub stays_back : (span : Span) (one other : List Row) → Stays span one other → Stays span other one
+stays_back span one other stays = record {
+  count = sym stays.count;
+  above = λ k lt. sym (stays.above k lt);
+  below = λ k ge. sym (stays.below k ge);
+}
+
 -- ---- lines
 
 -- the line from a row on; past the last one none

@@ -1,6 +1,6 @@
 //! What of a text went between two screens, told by what stands left of it.
 
-ghost use Rattle.std.specs.Prelude.{◌≡◌, ◌+◌, ◌<◌, ◌≤◌, true, List, ℕ, length, nat_eq, take, IfOk, OnOk};
+ghost use Rattle.std.specs.Prelude.{◌≡◌, ◌+◌, ◌<◌, ◌≤◌, false, true, List, ℕ, length, nat_eq, take, IfOk, OnOk};
 ghost use Rattle.std.specs.Cmp.Lexicographic.{pointwise};
 ghost use Rattle.standings.specs.Kept.{EndBy, room_in};
 ghost use Rattle.standings.specs.Rows.{Row};
@@ -164,6 +164,16 @@ fn has_same_left(one: &Standing, at: usize, other: &Standing, there: usize) -> b
 {
     left_of(one.rows.as_slice(), one.places[at])
         == left_of(other.rows.as_slice(), other.places[there])
+}
+
+/// Whether surely some place on another screen, the one behind as many others, has the same to the left.
+#[tactic(auto, using(crate::proofs::CountLemmas::one_is_there))]
+pub fn has_twin(one: &Standing, at: usize, other: &Standing) -> bool
+    requires { at < length one.now.places.items }
+    ensures { result ≡ true → is_lone other.now.rows.items other.now.places.items
+        (left_of one.now.rows.items (place_at one.now.places.items at)) ≡ false }
+{
+    at < other.places.len() && has_same_left(other, at, one, at)
 }
 
 /// How many of the places have this to the left.

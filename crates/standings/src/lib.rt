@@ -7,7 +7,7 @@ mod place;
 mod row;
 mod span;
 
-pub use left::{Standing, ends_before, is_less, is_lone, keeps_all};
+pub use left::{Standing, ends_before, has_twin, is_less, is_lone, keeps_all};
 pub use line::{Moment, put_found};
 pub use place::{Place, standing};
 pub use row::Row;

@@ -1,7 +1,8 @@
 mod AskedLemmas
 mod BeganLemmas
+mod CalmLemmas
 mod LineLemmas
 mod NowhereLemmas
+mod PieceLemmas
 mod QuietLemmas
-mod SkimLemmas
 mod StoodLemmas

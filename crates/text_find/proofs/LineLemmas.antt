@@ -1,5 +1,5 @@
 -- What is written of a chunk that is played byte by byte.
-use Rattle.std.proofs.Common.{◌≡◌, ℕ, zero, suc, true, false, ◌+◌, ◌-◌, ◌<◌, ◌≤◌, Bool, ◌&&◌, cond, max, List, [], ◌∷◌, ◌++◌, append_assoc, append-nil, filter, length, get_or, map, nat_eq, take, Option, None, Some, refl, ap, subst, sym, ◌∙◌, arith, inl, inr}
+use Rattle.std.proofs.Common.{◌≡◌, ◌⊎◌, ℕ, zero, suc, true, false, ◌+◌, ◌-◌, ◌<◌, ◌≤◌, Bool, ◌&&◌, cond, max, List, [], ◌∷◌, ◌++◌, append_assoc, append-nil, filter, length, get_or, map, nat_eq, take, Option, None, Some, refl, ap, subst, sym, ◌∙◌, arith, inl, inr}
 use Rattle.std.specs.List.{count_by, flat_map, range_with_len}
 use Rattle.std.proofs.lemmas.Bool.{cases_Bool, eq-eqb, lt-leb}
 use Rattle.std.proofs.lemmas.List.{drop_more, take_more}
@@ -22,7 +22,7 @@ use Rattle.standings.specs.Found.{Found, found, found_line, found_text}
 use Rattle.standings.specs.Rows.{Row}
 use Rattle.standings.specs.Standing.{count_left, gone, is_less, is_lone, left_of, passed, place_at, place_in, standing}
 use Rattle.text_find.specs.FindLines.{Screens, all_found, all_passed, found_from, found_in, found_of, lines_found, passed_at, rows_from, rows_within}
-use Rattle.text_find.specs.Lines.{IsStill, byte_lines, chunk_lines, chunk_lines_at, from_lines, less_lines, passed_line, passed_lines}
+use Rattle.text_find.specs.Lines.{IsStill, byte_lines, chunk_lines, chunk_lines_at, from_lines, less_line, less_lines, passed_line, passed_lines}
 use Rattle.text_find.proofs.AskedLemmas.{asked, early, past_due}
 use Rattle.text_find.proofs.NowhereLemmas.{within_start, within_whole}
 
@@ -151,6 +151,30 @@ pub none_passed : (index due len : ℕ) (first : List Row) (firsts : List Place)
 none_passed index due len first firsts last lasts one places other others kept =
     none_from (passed_line index due len first firsts last lasts one places other others) 0 (length places)
     (λ n low high. rw (less_kept one places other others kept n (omega arith)) refl)
+
+-- and nothing is less
+pub none_less : (sign index due len : ℕ) (one : List Row) (places : List Place) (other : List Row) (others : List Place)
+    → ((left : List ℕ) → count_left one places left ≤ count_left other others left)
+    → less_lines sign index due len one places other others ≡ []
+none_less sign index due len one places other others kept =
+    none_from (less_line sign index due len one places other others) 0 (length places)
+    (λ n low high. rw (less_kept one places other others kept n (omega arith)) refl)
+
+-- nor where each place is kept, or has a left part that stands at the chunk's start
+pub none_at : (index due len : ℕ) (first : List Row) (firsts : List Place) (last : List Row) (lasts : List Place) (one : List Row) (places : List Place) (other : List Row) (others : List Place) (n : ℕ)
+    → (is_lone first firsts (left_of one (place_at places n)) ≡ false) ⊎ (is_less one places other others n ≡ false)
+    → passed_line index due len first firsts last lasts one places other others n ≡ []
+none_at index due len first firsts last lasts one places other others n (inr kept) = rw kept refl
+none_at index due len first firsts last lasts one places other others n (inl known) = rw known (elim (cases_Bool (is_less one places other others n)) [
+  | inl t ↦ rw t refl
+  | inr f ↦ rw f refl
+])
+
+pub none_of_all : (index due len : ℕ) (first : List Row) (firsts : List Place) (last : List Row) (lasts : List Place) (one : List Row) (places : List Place) (other : List Row) (others : List Place)
+    → ((n : ℕ) → n < length places → passed_line index due len first firsts last lasts one places other others n ≡ [])
+    → passed_lines index due len first firsts last lasts one places other others ≡ []
+none_of_all index due len first firsts last lasts one places other others none =
+    none_from (passed_line index due len first firsts last lasts one places other others) 0 (length places) (λ n low high. none n (omega arith))
 
 -- ---- the same lines, by what is kept of the screens
 

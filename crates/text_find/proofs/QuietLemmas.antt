@@ -11,7 +11,7 @@ use Rattle.text_find.specs.Lines.{byte_lines, passed_lines}
 use Rattle.text_find.specs.Pieces.{AreQuiet}
 use Rattle.text_find.proofs.BeganLemmas.{first_more}
 use Rattle.text_find.proofs.LineLemmas.{none_passed}
-use Rattle.text_find.proofs.SkimLemmas.{pieces}
+use Rattle.text_find.proofs.PieceLemmas.{pieces}
 
 -- a byte alone
 pub one_quiet : (text : List ℕ) (screen : List ℕ → List Row) (before bytes : List ℕ) → AreQuiet text screen before bytes 1

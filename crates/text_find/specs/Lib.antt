@@ -1,3 +1,4 @@
+pub mod Calm
 pub mod FindLines
 pub mod Lines
 pub mod Pieces

@@ -1,5 +1,5 @@
 -- Private: the find lines, as they are written.
-use Rattle.std.specs.Prelude.{◌≡◌, ℕ, ◌+◌, ◌<◌, ◌≤◌, ◌&&◌, List, [], ◌++◌, Option, Some, None, if◌then◌else◌, length, take}
+use Rattle.std.specs.Prelude.{◌≡◌, ℕ, ◌+◌, ◌≤◌, ◌&&◌, List, [], ◌++◌, Option, Some, None, if◌then◌else◌, length}
 use Rattle.std.specs.List.{flat_map, range_with_len}
 use Rattle.tape_core.specs.Devices.{Gave}
 use Rattle.tape_core.specs.Due.{bytes_at, due_time, first}
@@ -38,27 +38,19 @@ pub record AreBetween (text : List ℕ) (one other : List Row) (sides : Sides) :
 abbrev pub AreStill : List ℕ → List Row → Sides → Type 0
 AreStill text screen sides = AreBetween text screen screen sides
 
--- a text stands nowhere, before bytes and behind each of them
-abbrev pub IsNowhere : List ℕ → (List ℕ → List Row) → List ℕ → List ℕ → Type 0
-IsNowhere text screen before bytes = (count : ℕ) → count ≤ length bytes → standing text (rows_within screen before bytes count) ≡ []
+-- what stood before a piece and after it trails what is played ahead by these rows alone
+pub record IsTrailing (ends : Sides) (steps : Steps) : Type 0 where
+  pub before : Stays steps.span steps.sides.before.rows.items ends.after.rows.items
+  pub after : Stays steps.sides.span steps.sides.before.rows.items steps.sides.after.rows.items
 
--- so many bytes of a chunk were played ahead; where the text stands nowhere behind them, it did behind none of them
-pub record IsSkimmed {P T : Type 0} (shows : P → T → List ℕ → Type 0) (screens : Screens P) (profile : P) (text before bytes : List ℕ)
-    (taken : ℕ) (ahead : T) (ends : Sides) : Type 0 where
-  pub played : shows profile ahead (before ++ take taken bytes)
-  pub between : AreBetween text (screens profile before) (screens profile (before ++ take taken bytes)) ends
-  pub nowhere : standing text (screens profile (before ++ take taken bytes)) ≡ []
-      → (count : ℕ) → count < taken → standing text (rows_within (screens profile) before bytes count) ≡ []
-
--- so many chunks were played ahead, and no more behind, on a screen that has other rows than these alone
+-- so many chunks were played ahead, and no more behind
 pub record AreFound {P T : Type 0} (shows : P → T → List ℕ → Type 0) (screens : Screens P) (profile : P) (chunks : List Chunk) (index : ℕ)
     (text : List ℕ) (ahead : T) (ends : Sides) (behind : T) (steps : Steps) : Type 0 where
   pub played : shows profile ahead (first chunks index)
   pub still : AreStill text (screens profile (first chunks index)) ends
   pub count : steps.count ≤ index
   pub lagging : shows profile behind (first chunks steps.count)
-  pub lagging_still : AreStill text (screens profile (first chunks steps.count)) steps.sides
-  pub span : Stays steps.span steps.sides.before.rows.items ends.before.rows.items
+  pub trails : IsTrailing ends steps
 
 -- the line of place n, where it is less on the other screen
 abbrev pub less_line : ℕ → ℕ → ℕ → ℕ → List Row → List Place → List Row → List Place → ℕ → List ℕ
@@ -87,6 +79,10 @@ byte_lines text index due first firsts last lasts screen before bytes count =
     let one = rows_within screen before bytes count in
     let other = rows_within screen before bytes (count + 1) in
     passed_lines index due (length text) first firsts last lasts one (standing text one) other (standing text other)
+
+-- those of a chunk's ends
+abbrev pub end_lines : ℕ → ℕ → ℕ → List Row → List Place → List Row → List Place → List ℕ
+end_lines index due len first firsts last lasts = less_lines 45 index due len first firsts last lasts ++ less_lines 43 index due len last lasts first firsts
 
 -- those of a chunk
 abbrev pub chunk_lines : List ℕ → ℕ → ℕ → (List ℕ → List Row) → List ℕ → List ℕ → List ℕ

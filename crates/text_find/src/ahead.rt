@@ -1,11 +1,19 @@
-//! A chunk that is played ahead: in pieces, so long as a text stands behind none.
+//! A chunk that is played ahead, in pieces, so long as nothing of a text passes inside it.
 
-ghost use Rattle.std.specs.Prelude.{◌≡◌, ◌++◌, ◌≤◌, [], true, List, ℕ, length, IfOk, OnOk};
-ghost use Rattle.text_find.specs.Lines.{AreBetween, AreStill, IsNowhere, IsSkimmed};
+ghost use Rattle.std.specs.Prelude.{◌≡◌, ◌++◌, ◌<◌, ◌≤◌, [], false, true, List, ℕ, length, take, IfOk, OnOk};
+ghost use Rattle.standings.specs.Rows.{Row};
+ghost use Rattle.standings.specs.Spans.{Stays};
+ghost use Rattle.standings.specs.Standing.{standing};
+ghost use Rattle.text_find.specs.Calm.{IsAhead, IsCalm, NonePass};
+ghost use Rattle.text_find.specs.Lines.{AreBetween, AreStill, IsStill, IsTrailing};
+ghost use Rattle.text_find.specs.Pieces.{AreQuiet};
 
+use crate::behind::{Steps, trail};
 use crate::finder::Finder;
+use crate::lines::none_passes;
 use crate::sides::{Sides, catch_up};
 use plays::{OutOfMemory, Plays, Reports};
+use standings::Span;
 use std::alloc::Global;
 
 /// Plays bytes on a terminal, and drops the replies.
@@ -23,14 +31,17 @@ pub(crate) fn play<T: Plays>(
     terminal.feed(bytes, &mut sink)
 }
 
-/// Plays a chunk's bytes; says whether a text surely stood nowhere all along.
+/// Plays a chunk's bytes; says whether surely nothing of the text passes inside it.
 pub(crate) fn play_ahead<T: Plays, F: Finder<T>>(
     alloc: Global,
     text: &[char],
     bytes: &[u8],
     ends: &mut Sides,
+    steps: &mut Steps,
     ahead: &mut T,
 ) -> Result<bool, OutOfMemory>
+    ensures count { steps.new.count ≡ steps.old.count }
+    ensures trails { IsTrailing ends.old steps.old → OnOk result (IsTrailing ends.new steps.new) }
     ensures shows { (profile : T.Profile) (before : List ℕ) → T.shows profile ahead.old before
         → AreStill text.now (F.screens profile before) ends.old
         → OnOk result (T.shows profile ahead.new (before ++ bytes.now)) }
@@ -38,41 +49,105 @@ pub(crate) fn play_ahead<T: Plays, F: Finder<T>>(
         → AreStill text.now (F.screens profile before) ends.old
         → OnOk result (AreBetween text.now
         (F.screens profile before) (F.screens profile (before ++ bytes.now)) ends.new) }
-    ensures nowhere { (profile : T.Profile) (before : List ℕ) → T.shows profile ahead.old before
-        → AreStill text.now (F.screens profile before) ends.old
-        → IfOk result (λ nowhere. nowhere ≡ true → IsNowhere text.now (F.screens profile) before bytes.now) }
+    ensures calm { (profile : T.Profile) (before : List ℕ) → T.shows profile ahead.old before
+        → AreStill text.now (F.screens profile before) ends.old → IsTrailing ends.old steps.old
+        → IfOk result (λ calm. calm ≡ true
+        → IsCalm text.now (F.screens profile) before bytes.now (length bytes.now)) }
 {
-    let taken = skim::<T, F>(alloc, text, bytes, ends, ahead)?;
-    if ends.after.places.is_empty() {
+    let (taken, calm) = play_pieces::<T, F>(alloc, text, bytes, ends, steps, ahead)?;
+    if calm {
         return Ok(true);
     }
     play(alloc, ahead, &bytes[taken..])?;
-    catch_up::<T, F>(ends, ahead, text)?;
+    steps.span = steps.span.joined(catch_up::<T, F>(ends, ahead, text)?);
     Ok(false)
 }
 
-/// Plays a beginning of a chunk, piece by piece: all of it, or up to where the text stands. Says how many bytes.
-fn skim<T: Plays, F: Finder<T>>(
+/// Plays a beginning of a chunk, piece by piece: all of it, or up to where something of the text may pass. Says how many
+/// bytes, and whether surely nothing passes at them.
+fn play_pieces<T: Plays, F: Finder<T>>(
     alloc: Global,
     text: &[char],
     bytes: &[u8],
     ends: &mut Sides,
+    steps: &mut Steps,
     ahead: &mut T,
-) -> Result<usize, OutOfMemory>
-    ensures within { IfOk result (λ taken. taken ≤ length bytes.now) }
-    ensures all { IfOk result (λ taken. ends.new.after.places.items ≡ [] → taken ≡ length bytes.now) }
-    ensures skimmed { (profile : T.Profile) (before : List ℕ) → T.shows profile ahead.old before
+) -> Result<(usize, bool), OutOfMemory>
+    ensures count { steps.new.count ≡ steps.old.count }
+    ensures within { IfOk result (λ played. played.0 ≤ length bytes.now) }
+    ensures all { IfOk result (λ played. played.1 ≡ true → played.0 ≡ length bytes.now) }
+    ensures trails { IsTrailing ends.old steps.old → OnOk result (IsTrailing ends.new steps.new) }
+    ensures ahead { (profile : T.Profile) (before : List ℕ) → T.shows profile ahead.old before
         → AreStill text.now (F.screens profile before) ends.old
-        → IfOk result (λ taken.
-        IsSkimmed T.shows F.screens profile text.now before bytes.now taken ahead.new ends.new) }
+        → IfOk result (λ played. IsAhead T.shows F.screens profile text.now before bytes.now
+        played.0 ahead.new ends.new) }
+    ensures calm { (profile : T.Profile) (before : List ℕ) → T.shows profile ahead.old before
+        → AreStill text.now (F.screens profile before) ends.old → IsTrailing ends.old steps.old
+        → IfOk result (λ played. played.1 ≡ true
+        → IsCalm text.now (F.screens profile) before bytes.now played.0) }
 {
     let mut taken = 0;
     while taken < bytes.len() {
-        if !ends.after.places.is_empty() {
-            return Ok(taken);
+        let (more, calm) =
+            play_piece::<T, F>(alloc, text, &bytes[taken..], ends, steps, ahead)?;
+        taken += more;
+        if !calm {
+            return Ok((taken, false));
         }
-        taken += F::play_some(alloc, ahead, text, &bytes[taken..])?;
-        catch_up::<T, F>(ends, ahead, text)?;
     }
-    Ok(taken)
+    Ok((taken, true))
+}
+
+/// Plays a piece of a chunk: a beginning of the bytes. Says how many, and whether surely nothing of the text passes at
+/// them.
+fn play_piece<T: Plays, F: Finder<T>>(
+    alloc: Global,
+    text: &[char],
+    bytes: &[u8],
+    ends: &mut Sides,
+    steps: &mut Steps,
+    ahead: &mut T,
+) -> Result<(usize, bool), OutOfMemory>
+    requires some { 0 < length bytes.now }
+    ensures some { IfOk result (λ played. 0 < played.0) }
+    ensures within { IfOk result (λ played. played.0 ≤ length bytes.now) }
+    ensures count { steps.new.count ≡ steps.old.count }
+    ensures trails { IsTrailing ends.old steps.old → OnOk result (IsTrailing ends.new steps.new) }
+    ensures shows { (profile : T.Profile) (before : List ℕ) → T.shows profile ahead.old before
+        → IfOk result (λ played. T.shows profile ahead.new (before ++ take played.0 bytes.now)) }
+    ensures ends { (profile : T.Profile) (first before : List ℕ) → T.shows profile ahead.old before
+        → AreBetween text.now (F.screens profile first) (F.screens profile before) ends.old
+        → IfOk result (λ played. AreBetween text.now
+        (F.screens profile first) (F.screens profile (before ++ take played.0 bytes.now)) ends.new) }
+    ensures quiet { (profile : T.Profile) (first before : List ℕ) → T.shows profile ahead.old before
+        → AreBetween text.now (F.screens profile first) (F.screens profile before) ends.old
+        → IfOk result (λ played. AreQuiet text.now (F.screens profile) before bytes.now played.0) }
+    ensures calm { (profile : T.Profile) (first before : List ℕ) → T.shows profile ahead.old before
+        → AreBetween text.now (F.screens profile first) (F.screens profile before) ends.old
+        → IsTrailing ends.old steps.old
+        → IfOk result (λ played. played.1 ≡ true → NonePass text.now (F.screens profile first)
+        (F.screens profile before) (F.screens profile (before ++ take played.0 bytes.now))) }
+{
+    let stood = trail(steps, ends)?;
+    let taken = F::play_quietly(alloc, ahead, text, &ends.after, bytes)?;
+    let span = catch_up::<T, F>(ends, ahead, text)?;
+    steps.span = steps.span.joined(span);
+    Ok((taken, is_calm(stood, span, ends, steps)))
+}
+
+/// Whether surely nothing of a text passed at a piece, which changed these rows alone, by whether it stood before it, and
+/// by what stood at the chunk's start, before the piece and after it.
+fn is_calm(stood: bool, span: Span, ends: &Sides, steps: &Steps) -> bool
+    ensures { result ≡ true → (text : List ℕ) (first one other : List Row)
+        → IsStill text first ends.now.before → IsStill text other ends.now.after
+        → Stays span one ends.now.after.rows.items → (stood ≡ false → standing text one ≡ [])
+        → (stood ≡ true → IsStill text one steps.now.sides.before) → NonePass text first one other }
+{
+    if !stood {
+        return true;
+    }
+    if span.is_none() {
+        return true;
+    }
+    none_passes(&ends.before, &steps.sides.before, &ends.after)
 }

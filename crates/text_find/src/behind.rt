@@ -1,28 +1,28 @@
-//! A terminal that lags where nothing stands, and what stands on its screen.
+//! A terminal that lags where nothing passes, and what stands on a screen that trails another one.
 
-ghost use Rattle.std.specs.Prelude.{◌≡◌, ◌≤◌, List, ℕ, length, IfOk, OnOk};
+ghost use Rattle.std.specs.Prelude.{◌≡◌, ◌≤◌, [], false, true, List, ℕ, length, IfOk, OnOk};
 ghost use Rattle.standings.specs.Rows.{Row};
-ghost use Rattle.standings.specs.Spans.{Stays};
 ghost use Rattle.standings.specs.Standing.{standing};
 ghost use Rattle.tape_core.specs.Due.{first as bytes_of_first};
-ghost use Rattle.text_find.specs.Lines.{AreStill, IsStill};
+ghost use Rattle.text_find.specs.Lines.{AreBetween, AreStill, IsStill, IsTrailing};
 
 use crate::ahead::play;
 use crate::finder::Finder;
 use crate::sides::{Sides, sides_of};
 use plays::{OutOfMemory, Plays};
-use standings::{Span, Standing};
+use standings::Span;
 use std::alloc::Global;
 use tape_core::Recording;
 use tape_core::laws::first_grows_by_a_chunk;
 
-/// What stands on the screen of a terminal that is played byte by byte where something may stand, and else lags.
+/// What stood on a screen before a piece of a chunk, and a terminal's count: it is played in pieces too where something
+/// of the text may have passed inside a chunk, and else lags.
 #[derive(Drop)]
 pub(crate) struct Steps {
     pub(crate) sides: Sides,
-    /// How many chunks it has had.
+    /// How many chunks the terminal has had.
     pub(crate) count: usize,
-    /// The rows that may have changed since.
+    /// The rows that may have changed since on the screen that is played ahead.
     pub(crate) span: Span,
 }
 
@@ -45,12 +45,33 @@ pub(crate) fn steps_of<T: Plays, F: Finder<T>>(
     })
 }
 
-/// Brings a terminal that lags to where a chunk begins, and what stands on its screen to what stands there.
+/// Where the text stands on the screen that is played ahead, what stood before becomes what stands there. Says whether it
+/// does.
+pub(crate) fn trail(steps: &mut Steps, ends: &Sides) -> Result<bool, OutOfMemory>
+    ensures count { steps.new.count ≡ steps.old.count }
+    ensures trails { IsTrailing ends.now steps.old → OnOk result (IsTrailing ends.now steps.new) }
+    ensures none { (text : List ℕ) (screen : List Row) → IsStill text screen ends.now.after
+        → IfOk result (λ stands. stands ≡ false → standing text screen ≡ []) }
+    ensures still { (text : List ℕ) (screen : List Row) → IsTrailing ends.now steps.old
+        → IsStill text screen ends.now.after
+        → IfOk result (λ stands. stands ≡ true → IsStill text screen steps.new.sides.before) }
+{
+    if ends.after.places.is_empty() {
+        return Ok(false);
+    }
+    let span = steps.span;
+    steps.sides.before.follow(&ends.after, span)?;
+    steps.sides.span = steps.sides.span.joined(span);
+    steps.span = Span::none();
+    Ok(true)
+}
+
+/// Brings a terminal that lags to where a chunk begins, and what stands before and after a piece to what stands there.
 pub(crate) fn reach<T: Plays>(
     alloc: Global,
     recording: &Recording,
     index: usize,
-    still: &Standing,
+    ends: &Sides,
     behind: &mut T,
     steps: &mut Steps,
 ) -> Result<(), OutOfMemory>
@@ -58,14 +79,14 @@ pub(crate) fn reach<T: Plays>(
     ensures shows { (profile : T.Profile) → steps.old.count ≤ index
         → T.shows profile behind.old (bytes_of_first recording.now.chunks steps.old.count)
         → OnOk result (T.shows profile behind.new (bytes_of_first recording.now.chunks index)) }
-    ensures steps { (text : List ℕ) (one other : List Row) → AreStill text one steps.old.sides
-        → Stays steps.old.span steps.old.sides.before.rows.items still.now.rows.items
-        → IsStill text other still.now → OnOk result (AreStill text other steps.new.sides) }
+    ensures steps { (text : List ℕ) (one other : List Row) → AreBetween text one other ends.now
+        → IsTrailing ends.now steps.old → OnOk result (AreStill text one steps.new.sides) }
 {
     play_chunks(alloc, recording, steps.count, index, behind)?;
-    let span = steps.span;
-    steps.sides.before.follow(still, span)?;
-    steps.sides.after.follow(still, span)?;
+    let span = steps.span.joined(ends.span);
+    let more = steps.sides.span.joined(span);
+    steps.sides.before.follow(&ends.before, span)?;
+    steps.sides.after.follow(&ends.before, more)?;
     steps.sides.span = Span::none();
     steps.span = Span::none();
     steps.count = index;

@@ -8,6 +8,7 @@ use crate::ahead::play_ahead;
 use crate::behind::{Steps, reach};
 use crate::each_byte::put_chunk;
 use crate::finder::Finder;
+use crate::lines::put_ends;
 use crate::sides::{Sides, settle};
 use plays::{OutOfMemory, Plays};
 use standings::Moment;
@@ -16,8 +17,8 @@ use std::io::Write;
 use tape_core::laws::{first_grows_by_a_chunk, gives_join};
 use tape_core::{Recording, Watched};
 
-/// Plays a chunk of a recording, and writes its lines. Where the text surely stood nowhere it has none, and the
-/// terminal that is played byte by byte lags.
+/// Plays a chunk of a recording, and writes its lines. Where surely nothing of the text passes inside it they tell of its
+/// ends alone, and the terminal that is played again in pieces lags.
 pub(crate) fn put_chunk_at<T: Plays, F: Finder<T>, W: Write>(
     alloc: Global,
     recording: &Recording,
@@ -46,17 +47,17 @@ pub(crate) fn put_chunk_at<T: Plays, F: Finder<T>, W: Write>(
     first_grows_by_a_chunk();
     gives_join::<W>();
     let bytes = recording.chunks()[index].bytes.as_slice();
-    if play_ahead::<T, F>(alloc, text, bytes, ends, ahead)? {
-        steps.span = steps.span.joined(ends.span);
-        settle(ends)?;
-        return Ok(());
-    }
-    reach(alloc, recording, index, &ends.before, behind, steps)?;
     let moment = Moment {
         index,
         due: recording.due_time(index),
         len: text.len(),
     };
+    if play_ahead::<T, F>(alloc, text, bytes, ends, steps, ahead)? {
+        put_ends(alloc, moment, ends, writer)?;
+        settle(ends)?;
+        return Ok(());
+    }
+    reach(alloc, recording, index, ends, behind, steps)?;
     put_chunk::<T, F, W>(
         alloc,
         text,

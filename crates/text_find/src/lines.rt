@@ -1,14 +1,16 @@
 //! The lines of what stands on a screen, of what is less on another, and of what passed inside a chunk.
 
-ghost use Rattle.std.specs.Prelude.{◌≡◌, ◌<◌, ◌&&◌, length, OnErr, OnOk};
+ghost use Rattle.std.specs.Prelude.{◌≡◌, ◌<◌, ◌&&◌, ◌++◌, [], List, ℕ, false, length, true, OnErr, OnOk};
 ghost use Rattle.standings.specs.Found.{found_line};
+ghost use Rattle.standings.specs.Rows.{Row};
 ghost use Rattle.standings.specs.Standing.{is_lone, left_of, place_at};
+ghost use Rattle.standings.specs.declared.place.Place.{Place};
 ghost use Rattle.tape_core.specs.Devices.{Gave};
-ghost use Rattle.text_find.specs.Lines.{Began, from_lines, less_line, less_lines, passed_line, passed_lines, standing_lines};
+ghost use Rattle.text_find.specs.Lines.{Began, end_lines, from_lines, less_line, less_lines, passed_line, passed_lines, standing_lines};
 
 use crate::sides::Sides;
 use plays::OutOfMemory;
-use standings::{Moment, Standing, is_less, is_lone, keeps_all, put_found};
+use standings::{Moment, Standing, has_twin, is_less, is_lone, keeps_all, put_found};
 use std::alloc::Global;
 use std::io::Write;
 use tape_core::Watched;
@@ -85,7 +87,7 @@ fn put_at<W: Write>(
     Ok(())
 }
 
-/// Writes the lines of what stands on one screen and is less on the other.
+/// Writes the lines of what stands on one screen and is less on the other. Mostly nothing is, which is seen at once.
 pub(crate) fn put_less<W: Write>(
     alloc: Global,
     sign: u8,
@@ -102,6 +104,9 @@ pub(crate) fn put_less<W: Write>(
         one.now.rows.items one.now.places.items other.now.rows.items other.now.places.items)) }
 {
     gives_join::<W>();
+    if keeps_all(one, other) {
+        return Ok(());
+    }
     for at in 0..one.places.len() {
         put_if_less(alloc, sign, moment, one, at, other, writer)?;
     }
@@ -128,6 +133,24 @@ fn put_if_less<W: Write>(
     if is_less(one, at, other) {
         put_at(alloc, sign, moment, one, at, writer)?;
     }
+    Ok(())
+}
+
+/// Writes what went in a chunk and what came, by what stands at its ends, where nothing passes inside it.
+pub(crate) fn put_ends<W: Write>(
+    alloc: Global,
+    moment: Moment,
+    ends: &Sides,
+    writer: &mut Watched<W>,
+) -> Result<(), OutOfMemory>
+    ensures gave { OnOk result (Gave W.contents writer.old writer.new (end_lines moment.index moment.due moment.len
+        ends.now.before.rows.items ends.now.before.places.items ends.now.after.rows.items ends.now.after.places.items)) }
+    ensures front { OnErr result (Began W.contents writer.old writer.new (end_lines moment.index moment.due moment.len
+        ends.now.before.rows.items ends.now.before.places.items ends.now.after.rows.items ends.now.after.places.items)) }
+{
+    gives_join::<W>();
+    put_less(alloc, b'-', moment, &ends.before, &ends.after, writer)?;
+    put_less(alloc, b'+', moment, &ends.after, &ends.before, writer)?;
     Ok(())
 }
 
@@ -195,4 +218,35 @@ fn stood_at_neither(ends: &Sides, one: &Standing, at: usize) -> bool
         && is_lone ends.now.after.rows.items ends.now.after.places.items left) }
 {
     is_lone(&ends.before, one, at) && is_lone(&ends.after, one, at)
+}
+
+/// Whether surely no line tells of what went between two screens inside a chunk that begins with a third one, whatever its
+/// end is.
+pub(crate) fn none_passes(first: &Standing, one: &Standing, other: &Standing) -> bool
+    ensures { result ≡ true → (index due len : ℕ) (last : List Row) (lasts : List Place)
+        → passed_lines index due len first.now.rows.items first.now.places.items last lasts
+        one.now.rows.items one.now.places.items other.now.rows.items other.now.places.items ≡ [] }
+{
+    if keeps_all(one, other) {
+        return true;
+    }
+    for at in 0..one.places.len() {
+        if may_pass(first, one, at, other) {
+            return false;
+        }
+    }
+    true
+}
+
+/// Whether a place went, and has nothing with the same to the left on a third screen.
+fn may_pass(first: &Standing, one: &Standing, at: usize, other: &Standing) -> bool
+    requires { at < length one.now.places.items }
+    ensures { result ≡ false → (index due len : ℕ) (last : List Row) (lasts : List Place)
+        → passed_line index due len first.now.rows.items first.now.places.items last lasts
+        one.now.rows.items one.now.places.items other.now.rows.items other.now.places.items at ≡ [] }
+{
+    if has_twin(one, at, first) {
+        return false;
+    }
+    is_lone(first, one, at) && is_less(one, at, other)
 }

@@ -2,6 +2,7 @@
 
 ghost use Rattle.std.specs.Prelude.{◌≡◌, List, ℕ, IfOk, OnOk};
 ghost use Rattle.standings.specs.Rows.{Row};
+ghost use Rattle.standings.specs.Spans.{Stays};
 ghost use Rattle.text_find.specs.Lines.{AreBetween, AreStill, IsStill};
 
 use crate::finder::Finder;
@@ -49,13 +50,16 @@ pub(crate) fn sides_of<T: Plays, F: Finder<T>>(
     })
 }
 
-/// What stands after is what stands on a terminal that has played more bytes.
+/// What stands after is what stands on a terminal that has played more bytes. Says which rows may differ from those that
+/// stood after before.
 pub(crate) fn catch_up<T: Plays, F: Finder<T>>(
     sides: &mut Sides,
     terminal: &T,
     text: &[char],
-) -> Result<(), OutOfMemory>
-    ensures { (profile : T.Profile) (first before after : List ℕ) → T.shows profile terminal.now after
+) -> Result<Span, OutOfMemory>
+    ensures others { IfOk result (λ span.
+        Stays span sides.old.after.rows.items sides.new.after.rows.items) }
+    ensures sides { (profile : T.Profile) (first before after : List ℕ) → T.shows profile terminal.now after
         → T.told profile terminal.now before
         → AreBetween text.now (F.screens profile first) (F.screens profile before) sides.old
         → OnOk result (AreBetween text.now (F.screens profile first) (F.screens profile after) sides.new) }
@@ -63,7 +67,7 @@ pub(crate) fn catch_up<T: Plays, F: Finder<T>>(
     let span = F::catch_up(&mut sides.after.rows, terminal)?;
     sides.after.look_again(text, span)?;
     sides.span = sides.span.joined(span);
-    Ok(())
+    Ok(span)
 }
 
 /// What stands before becomes what stands after.

@@ -92,6 +92,9 @@ fn ends_left(terminal: &Terminal, len: usize, still: &Standing) -> bool
         → EndBy len still.now.rows.items still.now.places.items
         (x.console.picture.line - 1) (length (left_of_cursor x)) }
 {
+    if still.places.is_empty() {
+        return true;
+    }
     let screen = terminal.screen();
     let (line, column) = screen.cursor();
     let cells = screen.row(line);

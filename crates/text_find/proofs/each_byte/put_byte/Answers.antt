@@ -21,7 +21,7 @@ returns-then-is_none-clause-gave g c = λ profile before after h told are.
     let sides = c.catch_up.new.sides in
     let one = g.F.Finder.screens profile before in
     let other = g.F.Finder.screens profile after in
-    let between = c.in_ok-catch_up.ensures profile before before after h told are in
+    let between = c.in_ok-catch_up.ensures.sides profile before before after h told are in
     let none : sides.span.to ≤ sides.span.from = leb-true sides.span.to sides.span.from (sym c.is_none.ensures ∙ c.if-is_none.true) in
     let same = same_screens text sides.span one other sides.before sides.after between.before between.after none between.span in
     subst (λ t. Gave g.W.Write.contents c.args.writer.now c.args.writer.now t)
@@ -34,7 +34,7 @@ returns-then-is_none-clause-steps g c = λ profile before after h told are.
     let sides = c.catch_up.new.sides in
     let one = g.F.Finder.screens profile before in
     let other = g.F.Finder.screens profile after in
-    let between = c.in_ok-catch_up.ensures profile before before after h told are in
+    let between = c.in_ok-catch_up.ensures.sides profile before before after h told are in
     let none : sides.span.to ≤ sides.span.from = leb-true sides.span.to sides.span.from (sym c.is_none.ensures ∙ c.if-is_none.true) in
     let same = same_screens text sides.span one other sides.before sides.after between.before between.after none between.span in
     record {
@@ -52,7 +52,7 @@ returns-in_err-put_passed-clause-front g c = λ profile before after h told are.
     let sides = c.catch_up.new.sides in
     let one = g.F.Finder.screens profile before in
     let other = g.F.Finder.screens profile after in
-    let between = c.in_ok-catch_up.ensures profile before before after h told are in
+    let between = c.in_ok-catch_up.ensures.sides profile before before after h told are in
     rw p.1 (subst (λ t. Began g.W.Write.contents c.args.writer.now c.put_passed.new.writer t)
     (passed_by text m.index m.due m.len ends.before.rows.items ends.before.places.items ends.after.rows.items ends.after.places.items one other sides.before sides.after between.before between.after)
     c.in_err-put_passed.ensures.front)
@@ -66,7 +66,7 @@ returns-in_err-settle-clause-front g c = λ profile before after h told are.
     let sides = c.catch_up.new.sides in
     let one = g.F.Finder.screens profile before in
     let other = g.F.Finder.screens profile after in
-    let between = c.in_ok-catch_up.ensures profile before before after h told are in
+    let between = c.in_ok-catch_up.ensures.sides profile before before after h told are in
     rw p.1 (began_whole g.W.Write.contents c.args.writer.now c.put_passed.new.writer _
     (subst (λ t. Gave g.W.Write.contents c.args.writer.now c.put_passed.new.writer t)
     (passed_by text m.index m.due m.len ends.before.rows.items ends.before.places.items ends.after.rows.items ends.after.places.items one other sides.before sides.after between.before between.after)

@@ -1,13 +1,13 @@
-use Rattle.std.proofs.Common.{◌≡◌, ℕ, ◌+◌, ◌-◌, ◌<◌, ◌∙◌, List, ◌++◌, ap, append-nil, arith, drop, length, subst, sym, take}
-use Rattle.std.proofs.lemmas.List.{length-drop, take_all, take_rest}
+use Rattle.std.proofs.Common.{ℕ, ◌+◌, ◌-◌, ◌<◌, ◌∙◌, List, ◌++◌, ap, append-nil, arith, drop, length, subst, sym, take}
+use Rattle.std.proofs.lemmas.List.{length-drop, take_rest}
 use Rattle.std.proofs.lemmas.Result.{err_from_is_err_and}
 use Rattle.tape_core.specs.Devices.{Gave}
 use Rattle.standings.specs.Standing.{standing}
 use Rattle.text_find.specs.Lines.{AreStill, Began, byte_lines, passed_lines}
 use Rattle.text_find.specs.Pieces.{AreQuiet}
-use Rattle.text_find.proofs.BeganLemmas.{began_at, began_none, first_more}
+use Rattle.text_find.proofs.BeganLemmas.{began_at, began_none}
 use Rattle.text_find.proofs.QuietLemmas.{lines_at_last, lines_more, none_inside}
-use Rattle.text_find.proofs.SkimLemmas.{pieces}
+use Rattle.text_find.proofs.PieceLemmas.{pieces}
 use Rattle.text_find.proofs.each_byte.put_bytes.Goals as goal
 
 pub loop-at-init : goal.loop-at-init

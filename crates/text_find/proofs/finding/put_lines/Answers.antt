@@ -5,7 +5,7 @@ use Rattle.tape_core.specs.Due.{first}
 use Rattle.text_find.specs.Lines.{Began}
 use Rattle.text_find.proofs.BeganLemmas.{began_first, began_none, began_second}
 use Rattle.text_find.proofs.LineLemmas.{lines_in_two, places_kept}
-use Rattle.text_find.proofs.SkimLemmas.{found_both}
+use Rattle.text_find.proofs.CalmLemmas.{found_both}
 use Rattle.text_find.proofs.finding.put_lines.Goals as goal
 
 pub returns-in_err-ends-clause-front : goal.returns-in_err-ends-clause-front

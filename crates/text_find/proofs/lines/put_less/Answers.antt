@@ -3,7 +3,17 @@ use Rattle.std.proofs.lemmas.Result.{err_from_is_err_and}
 use Rattle.tape_core.specs.Devices.{Gave}
 use Rattle.text_find.specs.Lines.{less_line}
 use Rattle.text_find.proofs.BeganLemmas.{began_at, began_stays, first_more}
+use Rattle.text_find.proofs.LineLemmas.{none_less}
 use Rattle.text_find.proofs.lines.put_less.Goals as goal
+
+pub returns-then-keeps_all-clause-gave : goal.returns-then-keeps_all-clause-gave
+returns-then-keeps_all-clause-gave g c =
+    let one = c.args.one.now in
+    let other = c.args.other.now in
+    let m = c.args.moment in
+    subst (λ t. Gave g.W.Write.contents c.args.writer.now c.args.writer.now t)
+    (sym (none_less c.args.sign m.index m.due m.len one.rows.items one.places.items other.rows.items other.places.items (c.keeps_all.ensures c.if-keeps_all.true)))
+    (c.gives_join.ensures.nothing c.args.writer.now)
 
 pub returns-in_err-put_if_less-clause-front : goal.returns-in_err-put_if_less-clause-front
 returns-in_err-put_if_less-clause-front g c =

@@ -5,8 +5,8 @@ use Rattle.standings.proofs.SpanLemmas.{stays_both}
 use Rattle.text_find.proofs.LineLemmas.{places_kept}
 use Rattle.text_find.proofs.sides.catch_up.Goals as goal
 
-pub returns : goal.returns
-returns g c = λ profile first before after shows told are.
+pub returns-clause-sides : goal.returns-clause-sides
+returns-clause-sides g c = λ profile first before after shows told are.
     let text = c.args.text.now in
     let sides = c.args.sides.now in
     let one = c.catch_up.new.rows.items in
