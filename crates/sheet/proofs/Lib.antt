@@ -9,4 +9,5 @@ mod Turns
 mod Wholes
 mod First
 mod Packed
+mod Used
 pub mod Over

@@ -7,14 +7,13 @@ use Rattle.std.proofs.lemmas.List.{get_or-take, get_or_push, get_or_append_left,
 use Rattle.sheet.specs.declared.rendition.Colour.TheVariants.{Default}
 use Rattle.sheet.specs.Table.{table}
 use Rattle.sheet.specs.Cells.{Cell, blank, cell_at}
-use Rattle.sheet.specs.Edits.{erased, filled}
+use Rattle.sheet.specs.Edits.{filled}
 use Rattle.sheet.specs.Halves.{Whole}
 use Rattle.sheet.specs.Grid.{Grid, IsUsed, all_touched, blank_row, row_at, row_of}
 use Rattle.sheet.specs.Held.{Held, Sound, grid_of, row_in}
 use Rattle.sheet.specs.Packed.{IsPacked, packed_grid, unpacked}
 use Rattle.sheet.proofs.Tables.{is_table, length-table, nth-table, nth_is, nth_past, table_ext, table_is}
-use Rattle.sheet.specs.declared.rendition.Colour.{Colour}
-use Rattle.sheet.proofs.Rows.{blank_narrow, blank_open, filled_there, length_erased, mended_there}
+use Rattle.sheet.proofs.Rows.{blank_narrow, blank_open}
 use Rattle.sheet.proofs.Turns.{row_of_whole}
 use Rattle.sheet.proofs.First.{first_is, first_sound}
 
@@ -28,15 +27,18 @@ kept_row row used is =
     ])
     ∙ sym (table_is (blank Default) (length row) row refl)
 
--- the cells in front, and blank ones behind them
-pub restored : (kept after : List Cell) (columns : ℕ) (cell : Cell) → length after ≡ columns → cell ≡ blank Default
+-- the cells in front, and blank ones behind them, where behind a place all were blank
+pub restored : (kept after : List Cell) (columns end : ℕ) (cell : Cell) → length after ≡ columns → cell ≡ blank Default
     → ((k : ℕ) → 1 ≤ k → k ≤ length kept → cell_at after k ≡ cell_at kept k)
-    → filled (length kept + 1) columns cell after ≡ unpacked columns kept
-restored kept after columns cell len is_blank front =
-    ap (λ (n : ℕ). table n (λ (k : ℕ). if nat_le (length kept + 1) k && nat_le k columns then cell else cell_at after k)) len
+    → ((k : ℕ) → length kept < k → end < k → cell_at after k ≡ blank Default)
+    → filled (length kept + 1) end cell after ≡ unpacked columns kept
+restored kept after columns end cell len is_blank front tail =
+    ap (λ (n : ℕ). table n (λ (k : ℕ). if nat_le (length kept + 1) k && nat_le k end then cell else cell_at after k)) len
     ∙ table_ext columns _ (cell_at kept) (λ k low high.
     elim (cases_lt (length kept) k) [
-      | inl past ↦ (let e = nth_past (blank Default) kept k past in grind (arith, nat_tests))
+      | inl past ↦
+          let e = nth_past (blank Default) kept k past in
+          elim (cases_lt end k) [ inl beyond ↦ (let was = tail k past beyond in grind (arith, nat_tests)) | inr within ↦ grind (arith, nat_tests) ]
       | inr within ↦ (let e = front k low within in grind (arith, nat_tests))
     ])
 
@@ -174,17 +176,3 @@ none_used n cell is_blank = record {
         | inr within ↦ nth-table (blank Default) n (λ (k : ℕ). cell) column past within ∙ is_blank
       ];
 }
-
--- cells that become blank need no more
-pub erased_used : (row : List Cell) (used from to : ℕ) (paper : Colour) → IsUsed row used → blank paper ≡ blank Default → 1 ≤ from → to ≤ length row
-    → IsUsed (erased from to paper row) used
-erased_used row used from to paper is is_blank low high =
-    let x = filled from to (blank paper) row in
-    record {
-      within = omega (arith, is.within, length_erased from to paper row);
-      tail = λ k past.
-          let here = filled_there row from to (blank paper) k low high in
-          let was = is.tail k past in
-          let same : cell_at x k ≡ blank Default = here ∙ grind (arith, nat_tests) in
-          mended_there paper x k ∙ grind (arith, nat_tests);
-    }

@@ -1,10 +1,10 @@
 -- Rows of cells, and the halves in them.
-use Rattle.std.proofs.Common.{◌≡◌, ℕ, ◌+◌, ◌-◌, ◌<◌, ◌≤◌, ◌≢◌, Bool, true, false, List, length, get_or, set, refl, sym, ap, inl, inr, ◌∙◌, arith}
-use Rattle.std.specs.Prelude.{if◌then◌else◌, ◌==◌, ◌&&◌, ◌||◌, not, nat_le}
+use Rattle.std.proofs.Common.{◌≡◌, ℕ, ◌+◌, ◌-◌, ◌<◌, ◌≤◌, ◌≢◌, Bool, true, false, List, length, drop, get_or, set, refl, sym, ap, inl, inr, ◌∙◌, arith}
+use Rattle.std.specs.Prelude.{if◌then◌else◌, ◌==◌, ◌&&◌, ◌||◌, ◌++◌, not, nat_le}
 use Rattle.std.proofs.lemmas.Bool.{cases_eq, cases_lt}
 use Rattle.std.proofs.lemmas.Bool.Decides.{nat_tests}
 use Rattle.std.specs.Prelude.{replicate}
-use Rattle.std.proofs.lemmas.List.{length-set, length-replicate, get_or-replicate, get_or_default}
+use Rattle.std.proofs.lemmas.List.{length-set, length-replicate, get_or-append_right, get_or-drop, get_or-replicate, get_or_append_left, get_or_default}
 use Rattle.sheet.specs.Cells.{Cell}
 use Rattle.sheet.specs.declared.rendition.Colour.{Colour}
 use Rattle.sheet.specs.declared.rendition.Colour.TheVariants.{Default}
@@ -189,6 +189,18 @@ whole_mended paper row k =
 -- a cell as the code reads it
 pub cell_read : (row : List Cell) (d : Cell) (k : ℕ) → 1 ≤ k → k ≤ length row → get_or row (k - 1) d ≡ cell_at row k
 cell_read row d k low high = get_or_default row (k - 1) d (blank Default) (omega arith) ∙ sym (nth_is (blank Default) row k low)
+
+-- cells that take the place of a row's first ones
+module _ (front row : List Cell) (n : ℕ) (len : length front ≡ n) (k : ℕ) (low : 1 ≤ k) where
+  pub front_there : k ≤ n → cell_at (front ++ drop n row) k ≡ cell_at front k
+  front_there within =
+      nth_is (blank Default) (front ++ drop n row) k low ∙ get_or_append_left front (drop n row) (blank Default) (k - 1) (omega arith)
+      ∙ sym (nth_is (blank Default) front k low)
+
+  pub behind_there : n < k → cell_at (front ++ drop n row) k ≡ cell_at row k
+  behind_there past =
+      nth_is (blank Default) (front ++ drop n row) k low ∙ get_or-append_right front (drop n row) n (k - 1) (blank Default) len (omega arith)
+      ∙ get_or-drop n row (k - 1 - n) (blank Default) ∙ ap (λ (i : ℕ). get_or row i (blank Default)) (omega arith) ∙ sym (nth_is (blank Default) row k low)
 
 -- outside the row stands a blank cell
 pub cell_outside : (row : List Cell) (k : ℕ) → (0 < k → length row < k) → cell_at row k ≡ blank Default

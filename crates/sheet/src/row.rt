@@ -1,6 +1,6 @@
 //! Rows: what is done in one, with the halves of wide characters mended.
 
-ghost use Rattle.std.specs.Prelude.{◌≡◌, ◌+◌, ◌-◌, ◌<◌, ◌≤◌, IsTrue, false, length, true};
+ghost use Rattle.std.specs.Prelude.{◌≡◌, ◌+◌, ◌-◌, ◌<◌, ◌≤◌, IsTrue, false, length, true, ℕ};
 ghost use Rattle.sheet.specs.Cells.{cell_at, is_covered, is_wide};
 ghost use Rattle.sheet.specs.Grid.{IsUsed};
 ghost use Rattle.sheet.specs.Halves.{Whole, border_mended, parted};
@@ -128,14 +128,25 @@ pub(crate) fn used(cells: &[Cell]) -> usize
     used
 }
 
-/// Puts these cells first, and blank ones behind them.
-pub(crate) fn restore(cells: &mut [Cell], kept: &[Cell])
-    requires { length kept.now ≤ length cells.old }
+/// Becomes the other row, where behind `used` cells both are blank.
+pub(crate) fn copy_used(cells: &mut [Cell], others: &[Cell], used: usize)
+    requires length { length others.now ≡ length cells.old }
+    requires within { used ≤ length cells.old }
+    requires same { (column : ℕ) → used < column → cell_at cells.old column ≡ cell_at others.now column }
+    ensures { cells.new ≡ others.now }
+{
+    cells[..used].copy_from_slice(&others[..used]);
+}
+
+/// Puts these cells first, and blank ones behind them, where behind `used` cells all are blank.
+pub(crate) fn restore(cells: &mut [Cell], kept: &[Cell], used: usize)
+    requires short { length kept.now ≤ length cells.old }
+    requires used { IsUsed cells.old used }
     ensures { cells.new ≡ unpacked (length cells.old) kept.now }
 {
-    let columns = cells.len();
     cells[..kept.len()].copy_from_slice(kept);
-    fill(cells, kept.len() + 1, columns, Cell::empty());
+    let end = used.max(kept.len());
+    fill(cells, kept.len() + 1, end, Cell::empty());
 }
 
 /// Blanks the cells from one column to another.

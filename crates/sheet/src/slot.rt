@@ -42,8 +42,7 @@ impl Slot {
         ensures { IfOk result (λ s. s ≡ blank_row columns Colour.Default) }
     {
         let cells = vec![in alloc; Cell::empty(); columns as usize]?;
-        let used = cells.len();
-        Ok(Slot { cells, used })
+        Ok(Slot { cells, used: 0 })
     }
 
     /// The cells of a row up to the last one that isn't blank.
@@ -62,8 +61,8 @@ impl Slot {
         requires { length kept.now ≤ length self.old }
         ensures { self.new ≡ unpacked (length self.old) kept.now }
     {
-        row::restore(self.cells.as_mut_slice(), kept.cells());
-        self.used = self.cells.len();
+        row::restore(self.cells.as_mut_slice(), kept.cells(), self.used);
+        self.used = kept.used;
     }
 
     /// Becomes the other row.
@@ -71,8 +70,9 @@ impl Slot {
         requires { length other.now ≡ length self.old }
         ensures { self.new ≡ other.now }
     {
-        self.cells.as_mut_slice().copy_from_slice(other.cells());
-        self.used = self.cells.len();
+        let used = self.used.max(other.used);
+        row::copy_used(self.cells.as_mut_slice(), other.cells(), used);
+        self.used = other.used;
     }
 
     pub fn cells(&self) -> &[Cell]
@@ -112,6 +112,8 @@ impl Slot {
         row::erase(self.cells.as_mut_slice(), from, to, paper);
         if !Cell::blank(paper).is_blank() {
             self.used = self.cells.len();
+        } else if to >= self.used {
+            self.used = self.used.min(from - 1);
         }
     }
 
@@ -132,7 +134,7 @@ impl Slot {
         ensures { self.new ≡ put column character true rendition self.old }
     {
         row::put_wide(self.cells.as_mut_slice(), column, character, rendition);
-        self.used = self.cells.len();
+        self.used = self.used.max(column + 1);
     }
 
     pub fn put_run(&mut self, column: usize, characters: &[u8], rendition: Pen)
@@ -152,7 +154,7 @@ impl Slot {
         ensures { self.new ≡ mark_added column mark self.old }
     {
         row::add_mark(self.cells.as_mut_slice(), column, mark);
-        self.used = self.cells.len();
+        self.used = self.used.max(column);
     }
 
     pub fn insert(&mut self, n: usize, from: usize, paper: Paper)
@@ -163,7 +165,7 @@ impl Slot {
         ensures { self.new ≡ inserted n from paper self.old }
     {
         row::insert(self.cells.as_mut_slice(), n, from, paper);
-        self.used = self.cells.len();
+        self.used = self.cells.len().min(self.used.max(from - 1) + n);
     }
 
     pub fn delete(&mut self, n: usize, from: usize, paper: Paper)
@@ -174,7 +176,9 @@ impl Slot {
         ensures { self.new ≡ deleted n from paper self.old }
     {
         row::delete(self.cells.as_mut_slice(), n, from, paper);
-        self.used = self.cells.len();
+        if !Cell::blank(paper).is_blank() {
+            self.used = self.cells.len();
+        }
     }
 
     #[inline(always)]

@@ -1,9 +1,8 @@
-use Rattle.std.proofs.Common.{◌≡◌, ◌++◌, ◌∙◌, ◌-◌, List, length, drop, get_or, sym, ap, arith}
-use Rattle.std.proofs.lemmas.List.{get_or_append_left, length-append, length-drop}
-use Rattle.sheet.specs.declared.rendition.Colour.TheVariants.{Default}
-use Rattle.sheet.specs.Cells.{Cell, blank}
+use Rattle.std.proofs.Common.{◌≡◌, ◌++◌, ◌∙◌, List, length, drop, ap, arith}
+use Rattle.std.proofs.lemmas.List.{length-append, length-drop}
+use Rattle.sheet.specs.Cells.{Cell, cell_at}
 use Rattle.sheet.proofs.Packed.{restored}
-use Rattle.sheet.proofs.Tables.{nth_is}
+use Rattle.sheet.proofs.Rows.{behind_there, front_there}
 use Rattle.sheet.proofs.row.restore.Goals as goal
 
 pub returns : goal.returns
@@ -13,7 +12,8 @@ returns c =
     let front = c.copy_from_slice.new.self in
     let after = front ++ drop (length kept) row in
     let is : front ≡ kept = c.copy_from_slice.ensures.after in
-    let len : length after ≡ length row = omega (arith, length-append front (drop (length kept) row), ap length is, length-drop (length kept) row, c.requires) in
-    c.fill.ensures ∙ restored kept after (length row) c.empty.result len c.empty.ensures (λ k low high.
-    nth_is (blank Default) after k low ∙ get_or_append_left front (drop (length kept) row) (blank Default) (k - 1) (omega (arith, ap length is))
-    ∙ ap (λ (xs : List Cell). get_or xs (k - 1) (blank Default)) is ∙ sym (nth_is (blank Default) kept k low))
+    let long = ap length is in
+    let len : length after ≡ length row = omega (arith, length-append front (drop (length kept) row), long, length-drop (length kept) row, c.requires.short) in
+    c.fill.ensures ∙ restored kept after (length row) c.max-end.result c.empty.result len c.empty.ensures
+    (λ k low high. front_there front row (length kept) long k low high ∙ ap (λ (xs : List Cell). cell_at xs k) is)
+    (λ k past beyond. behind_there front row (length kept) long k (omega arith) past ∙ c.requires.used.tail k (omega (arith, c.max-end.ensures)))
