@@ -178,7 +178,9 @@ impl Cell {
     pub fn character(self) -> char
         ensures { result ≡ self.character }
     {
-        char::from_u32((self.text % CHARACTERS) as u32).unwrap_or(' ')
+        let code = (self.text % CHARACTERS) as u32;
+        // The invariant says that it is a character.
+        unsafe { char::from_u32_unchecked(code) }
     }
 
     /// How it is written.
