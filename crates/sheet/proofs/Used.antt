@@ -1,5 +1,5 @@
 -- How many of a row's first cells may be in use, after what is done in it.
-use Rattle.std.proofs.Common.{◌≡◌, ℕ, ◌+◌, ◌-◌, ◌<◌, ◌≤◌, true, false, List, length, ap, inl, inr, ◌∙◌, arith}
+use Rattle.std.proofs.Common.{◌≡◌, ℕ, ◌+◌, ◌-◌, ◌<◌, ◌≤◌, true, false, List, length, sym, ap, inl, inr, ◌∙◌, arith}
 use Rattle.std.specs.Prelude.{if◌then◌else◌, ◌==◌, nat_le}
 use Rattle.std.proofs.lemmas.Bool.{cases_lt}
 use Rattle.std.proofs.lemmas.Bool.Decides.{nat_tests}
@@ -11,8 +11,8 @@ use Rattle.sheet.specs.Edits.{character_column, deleted, erased, filled, inserte
 use Rattle.sheet.specs.Halves.{Whole, mended, parted}
 use Rattle.sheet.specs.Grid.{IsUsed}
 use Rattle.sheet.specs.Packed.{unpacked}
-use Rattle.sheet.proofs.Tables.{length-table}
-use Rattle.sheet.proofs.Rows.{blank_narrow, blank_open, filled_there, length_erased, mended_there, written_there}
+use Rattle.sheet.proofs.Tables.{length-table, table_ext}
+use Rattle.sheet.proofs.Rows.{blank_narrow, blank_open, filled_none, filled_there, length_erased, mended_there, mended_whole, written_there}
 use Rattle.sheet.proofs.Shifts.{parted_there, parted_whole, there}
 use Rattle.sheet.proofs.Marks.{length_marked}
 use Rattle.sheet.proofs.Wholes.{length_deleted, length_inserted, length_put}
@@ -65,7 +65,24 @@ module _ (row : List Cell) (used : ℕ) (is : IsUsed row used) where
   }
 
   module _ (paper : Colour) (is_blank : blank paper ≡ blank Default) where
-    -- cells that become blank need no more, and none from the first of them on where they are the last
+    -- cells behind them that become blank stay as they are
+    pub erased_short : (from to end : ℕ) → (end < to → used ≤ end) → end ≤ to → erased from end paper row ≡ erased from to paper row
+    erased_short from to end beyond less =
+        ap (mended paper) (table_ext (length row) _ _ (λ k low high.
+        elim (cases_lt end k) [
+          | inl past ↦ elim (cases_lt to k) [
+            | inl out ↦ grind (arith, nat_tests)
+            | inr within ↦ (let was = is.tail k (omega (arith, beyond (omega arith))) in grind (arith, nat_tests))
+          ]
+          | inr inside ↦ grind (arith, nat_tests)
+        ]))
+
+    pub erased_beyond : (from to : ℕ) → Whole row → used < from → from ≤ to → row ≡ erased from to paper row
+    erased_beyond from to whole past apart =
+        sym (ap (mended paper) (sym (filled_none row from (from - 1) (blank paper) (omega arith))) ∙ mended_whole paper row whole)
+        ∙ erased_short from to (from - 1) (λ less. omega arith) (omega arith)
+
+    -- those that become blank need no more, and none from the first of them on where they are the last
     pub erased_used : (from to most : ℕ) → 1 ≤ from → to ≤ length row → most ≤ used → (most < used → from ≤ most + 1) → (most < used → used ≤ to)
         → IsUsed (erased from to paper row) most
     erased_used from to most low high fewer start end = record {

@@ -1,6 +1,7 @@
 //! A row that owns its cells.
 
 ghost use Rattle.std.specs.Prelude.{◌≡◌, ◌+◌, ◌-◌, ◌<◌, ◌≤◌, IfOk, false, length, true};
+ghost use Rattle.sheet.specs.Cells.{blank};
 ghost use Rattle.sheet.specs.Edits.{deleted, erased, inserted, mark_added, put, run_put};
 ghost use Rattle.sheet.specs.EditOf.{Fits, edited};
 ghost use Rattle.sheet.specs.Grid.{IsUsed, blank_row, row_of};
@@ -109,11 +110,30 @@ impl Slot {
         requires high { to ≤ length self.old }
         ensures { self.new ≡ erased from to paper self.old }
     {
-        row::erase(self.cells.as_mut_slice(), from, to, paper);
-        if !Cell::blank(paper).is_blank() {
+        if Cell::blank(paper).is_blank() {
+            self.erase_used(from, to, paper);
+        } else {
+            row::erase(self.cells.as_mut_slice(), from, to, paper);
             self.used = self.cells.len();
-        } else if to >= self.used {
-            self.used = self.used.min(from - 1);
+        }
+    }
+
+    /// Erases in a paper in which cells are blank: those behind the ones in use are so already.
+    fn erase_used(&mut self, from: usize, to: usize, paper: Paper)
+        requires blank { blank paper ≡ blank Colour.Default }
+        requires whole { Whole self.old }
+        requires low { 1 ≤ from }
+        requires apart { from ≤ to }
+        requires high { to ≤ length self.old }
+        ensures { self.new ≡ erased from to paper self.old }
+    {
+        if from > self.used {
+            return;
+        }
+        let end = to.min(self.used);
+        row::erase(self.cells.as_mut_slice(), from, end, paper);
+        if end == self.used {
+            self.used = from - 1;
         }
     }
 
