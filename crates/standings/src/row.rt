@@ -1,6 +1,6 @@
 //! A row of characters.
 
-ghost use Rattle.std.specs.Prelude.{◌≡◌, ◌≤◌, ◌<◌, ◌∷◌, ◌++◌, [], IfOk, OnOk, length, slice_index_or, slice_set, take};
+ghost use Rattle.std.specs.Prelude.{◌≡◌, ◌+◌, ◌-◌, ◌≤◌, ◌<◌, ◌∷◌, ◌++◌, [], IfOk, OnOk, length, replicate, slice_index_or, slice_set, take};
 ghost use Rattle.std.specs.List.{range_with_len};
 ghost use Rattle.standings.specs.Rows.{empty_row, row_below};
 
@@ -50,6 +50,41 @@ impl Row {
     {
         self.characters.push(character)?;
         self.columns.push(column)?;
+        Ok(())
+    }
+
+    /// Puts characters at its end, which stand in these columns.
+    pub fn push_run(&mut self, characters: &[char], columns: &[u16]) -> Result<(), AllocError>
+        ensures { OnOk result (self.new ≡ record {
+          characters = self.old.characters ++ characters.now;
+          columns = self.old.columns ++ columns.now;
+          runs_on = self.old.runs_on;
+        }) }
+    {
+        self.characters.extend_from_slice(characters)?;
+        self.columns.extend_from_slice(columns)?;
+        Ok(())
+    }
+
+    /// Puts a character at its end so many times, in columns from this one on.
+    pub fn push_many(
+        &mut self,
+        character: char,
+        count: usize,
+        column: u16,
+    ) -> Result<(), AllocError>
+        requires { column + count ≤ u16.MAX }
+        ensures { OnOk result (self.new ≡ record {
+          characters = self.old.characters ++ replicate count character;
+          columns = self.old.columns ++ range_with_len column count;
+          runs_on = self.old.runs_on;
+        }) }
+    {
+        let before = self.characters.len();
+        self.characters.resize(before + count, character)?;
+        let from = self.columns.len();
+        self.columns.resize(from + count, 0)?;
+        number(self.columns.as_mut_slice(), from, column);
         Ok(())
     }
 
@@ -110,7 +145,24 @@ impl Row {
     {
         self.cut(characters.len(), runs_on);
         self.characters.as_mut_slice().copy_from_slice(characters);
-        number(self.columns.as_mut_slice());
+        number(self.columns.as_mut_slice(), 0, 1);
+    }
+
+    /// Becomes a row of these characters, in columns from 1 on, and asks for room where it has too little.
+    pub fn respell(&mut self, characters: &[char], runs_on: bool) -> Result<(), AllocError>
+        requires { length characters.now ≤ u16.MAX }
+        ensures { OnOk result (self.new ≡ record {
+          characters = characters.now;
+          columns = range_with_len 1 (length characters.now);
+          runs_on = runs_on;
+        }) }
+    {
+        self.characters.clear();
+        self.characters.extend_from_slice(characters)?;
+        self.columns.resize(characters.len(), 0)?;
+        number(self.columns.as_mut_slice(), 0, 1);
+        self.runs_on = runs_on;
+        Ok(())
     }
 
     /// Becomes a copy of another row.
@@ -150,13 +202,14 @@ impl Row {
     }
 }
 
-/// Becomes the columns from 1 on.
-fn number(columns: &mut [u16])
-    requires { length columns.old ≤ u16.MAX }
-    ensures { columns.new ≡ range_with_len 1 (length columns.old) }
+/// Those behind so many become the columns from one on.
+fn number(columns: &mut [u16], from: usize, column: u16)
+    requires within { from ≤ length columns.old }
+    requires few { column + (length columns.old - from) ≤ u16.MAX + 1 }
+    ensures { columns.new ≡ take from columns.old ++ range_with_len column (length columns.old - from) }
 {
-    for at in 0..columns.len() {
-        columns[at] = at as u16 + 1;
+    for at in from..columns.len() {
+        columns[at] = column + (at - from) as u16;
     }
 }
 

@@ -1,9 +1,10 @@
 -- Rows that are read, a row, a cell and a character more.
-use Rattle.std.proofs.Common.{◌≡◌, ℕ, suc, ◌+◌, ◌-◌, ◌<◌, ◌≤◌, true, false, List, [], ◌∷◌, ◌++◌, append_assoc, append-nil, drop, get_or, inl, inr, length, map, min, set, subst, take, ap, sym, ◌∙◌, add-one, arith, refl}
+use Rattle.std.proofs.Common.{◌≡◌, ℕ, suc, ◌+◌, ◌-◌, ◌<◌, ◌≤◌, true, false, List, [], ◌∷◌, ◌++◌, append_assoc, append-nil, drop, get_or, inl, inr, length, map, min, subst, take, ap, ap₂, sym, ◌∙◌, add-one, arith, refl, replicate}
 use Rattle.std.specs.List.{flat_map, range_with_len}
 use Rattle.std.proofs.lemmas.Bool.{cases_Bool, cases_lt}
-use Rattle.std.proofs.lemmas.List.{ext_get_or, get_or-append-add, get_or-drop, get_or-map, get_or-take, get_or_append_left, get_or_default, get_or_past, length-append, length-drop, length-map, length-take, length-take-le, map-append, same_lists, take_all, take_more, take_more_set}
+use Rattle.std.proofs.lemmas.List.{ext_get_or, get_or-append-add, get_or-drop, get_or-map, get_or-take, get_or_append_left, get_or_default, get_or_past, length-append, length-drop, length-map, length-take, length-take-le, map-append, same_lists, take-append-drop, take_all, take_more}
 use Rattle.sheet.specs.declared.rendition.Colour.TheVariants.{Default}
+use Rattle.std.proofs.Math.Seq.{take-add}
 use Rattle.std.proofs.lemmas.List.Concat.{flat_map-append}
 use Rattle.std.proofs.lemmas.List.FromFn.{get_or-map-range_with_len, length-map-range_with_len}
 use Rattle.sheet.specs.Cells.{Cell, blank, is_covered}
@@ -12,6 +13,7 @@ use Rattle.sheet.specs.Table.{nth, table}
 use Rattle.xterm_rows.specs.RowText.{characters}
 use Rattle.xterm_rows.proofs.RangeLemmas.{range_split}
 use Rattle.standings.specs.Rows.{empty_row, row_below}
+use Rattle.xterm_print.proofs.PlainLemmas.{rest_whole}
 use Rattle.xterm_print.specs.Pieces.{BlankFrom, IsPlain}
 use Rattle.xterm_print.specs.FindRows.{columns_from, heeds_next, kept_cells, leaves_last, row_read, rows_read}
 
@@ -43,13 +45,13 @@ columns_append column (cell ∷ cells) more =
     ∙ ap (λ n. (here ++ columns_from (column + 1) cells) ++ columns_from n more) there
 
 -- a cell more
-pub columns_more : (cells : List Cell) (at : ℕ) (d : Cell) → at < length cells
-    → columns_from 1 (take (at + 1) cells) ≡ columns_from 1 (take at cells) ++ map (λ _. at + 1) (characters (get_or cells at d))
-columns_more cells at d lt =
-    let here : 1 + length (take at cells) ≡ at + 1 = omega (arith, length-take at cells) in
-    ap (columns_from 1) (take_more cells at d lt) ∙ columns_append 1 (take at cells) (get_or cells at d ∷ [])
-    ∙ ap (λ n. columns_from 1 (take at cells) ++ (map (λ _. n) (characters (get_or cells at d)) ++ [])) here
-    ∙ ap (λ l. columns_from 1 (take at cells) ++ l) (append-nil (map (λ _. at + 1) (characters (get_or cells at d))))
+pub columns_more : (column : ℕ) (cells : List Cell) (at : ℕ) (d : Cell) → at < length cells
+    → columns_from column (take (at + 1) cells) ≡ columns_from column (take at cells) ++ map (λ _. column + at) (characters (get_or cells at d))
+columns_more column cells at d lt =
+    let here : column + length (take at cells) ≡ column + at = omega (arith, length-take at cells) in
+    ap (columns_from column) (take_more cells at d lt) ∙ columns_append column (take at cells) (get_or cells at d ∷ [])
+    ∙ ap (λ n. columns_from column (take at cells) ++ (map (λ _. n) (characters (get_or cells at d)) ++ [])) here
+    ∙ ap (λ l. columns_from column (take at cells) ++ l) (append-nil (map (λ _. column + at) (characters (get_or cells at d))))
 
 pub characters_more : (cells : List Cell) (at : ℕ) (d : Cell) → at < length cells
     → flat_map characters (take (at + 1) cells) ≡ flat_map characters (take at cells) ++ characters (get_or cells at d)
@@ -57,20 +59,46 @@ characters_more cells at d lt =
     ap (flat_map characters) (take_more cells at d lt) ∙ flat_map-append characters (take at cells) (get_or cells at d ∷ [])
     ∙ ap (λ l. flat_map characters (take at cells) ++ l) (append-nil (characters (get_or cells at d)))
 
--- a cell more without marks, whose character is written over another one
-pub characters_over : (row : List ℕ) (cells : List Cell) (at : ℕ) (d : Cell) → at < length row → at < length cells → take at row ≡ flat_map characters (take at cells)
-    → characters (get_or cells at d) ≡ (get_or cells at d).character ∷ []
-    → take (at + 1) (set row at (get_or cells at d).character) ≡ flat_map characters (take (at + 1) cells)
-characters_over row cells at d lt lt' so_far plain =
-    let character = (get_or cells at d).character in
-    take_more_set row at character lt ∙ ap (λ l. l ++ character ∷ []) so_far
-    ∙ ap (λ l. flat_map characters (take at cells) ++ l) (sym plain) ∙ sym (characters_more cells at d lt')
+-- some cells more
+pub columns_on : (cells : List Cell) (n m : ℕ) → n ≤ length cells
+    → columns_from 1 (take n cells) ++ columns_from (n + 1) (take m (take (length cells - n) (drop n cells))) ≡ columns_from 1 (take (n + m) cells)
+columns_on cells n m within =
+    let here : n + 1 ≡ 1 + length (take n cells) = omega (arith, within, length-take-le n cells within) in
+    ap (λ rest. columns_from 1 (take n cells) ++ columns_from (n + 1) (take m rest)) (rest_whole cells n)
+    ∙ ap (λ k. columns_from 1 (take n cells) ++ columns_from k (take m (drop n cells))) here
+    ∙ sym (ap (columns_from 1) (take-add n m cells) ∙ columns_append 1 (take n cells) (take m (drop n cells)))
 
-pub columns_over : (row : List ℕ) (cells : List Cell) (at : ℕ) (d : Cell) → at < length row → at < length cells → take at row ≡ columns_from 1 (take at cells)
-    → characters (get_or cells at d) ≡ (get_or cells at d).character ∷ [] → take (at + 1) (set row at (at + 1)) ≡ columns_from 1 (take (at + 1) cells)
-columns_over row cells at d lt lt' so_far plain =
-    take_more_set row at (at + 1) lt ∙ ap (λ l. l ++ (at + 1) ∷ []) so_far
-    ∙ ap (λ l. columns_from 1 (take at cells) ++ map (λ _. at + 1) l) (sym plain) ∙ sym (columns_more cells at d lt')
+-- ---- blank cells behind others
+
+characters_blank : (cells : List Cell) → ((k : ℕ) → get_or cells k (blank Default) ≡ blank Default) → flat_map characters cells ≡ replicate (length cells) 32
+unfolding characters is_covered blank
+characters_blank [] blanks = refl
+characters_blank (cell ∷ cells) blanks = ap₂ (λ a b. a ++ b) (ap characters (blanks 0)) (characters_blank cells (λ k. blanks (suc k)))
+
+columns_blank : (column : ℕ) (cells : List Cell) → ((k : ℕ) → get_or cells k (blank Default) ≡ blank Default) → columns_from column cells ≡ range_with_len column (length cells)
+unfolding characters is_covered blank
+columns_blank column [] blanks = refl
+columns_blank column (cell ∷ cells) blanks =
+    ap₂ (λ a b. map (λ _. column) a ++ b) (ap characters (blanks 0)) (columns_blank (column + 1) cells (λ k. blanks (suc k)))
+
+tail_blank : (cells : List Cell) (used : ℕ) → BlankFrom cells used → (k : ℕ) → get_or (drop used cells) k (blank Default) ≡ blank Default
+tail_blank cells used tail k = get_or-drop used cells k (blank Default) ∙ tail (used + k) (omega arith)
+
+pub characters_tail : (cells : List Cell) (used : ℕ) → BlankFrom cells used
+    → flat_map characters (take used cells) ++ replicate (length cells - used) 32 ≡ flat_map characters cells
+characters_tail cells used tail =
+    ap (λ n. flat_map characters (take used cells) ++ replicate n 32) (sym (length-drop used cells))
+    ∙ ap (λ l. flat_map characters (take used cells) ++ l) (sym (characters_blank (drop used cells) (tail_blank cells used tail)))
+    ∙ sym (flat_map-append characters (take used cells) (drop used cells)) ∙ ap (flat_map characters) (take-append-drop used cells)
+
+pub columns_tail : (cells : List Cell) (used : ℕ) → used ≤ length cells → BlankFrom cells used
+    → columns_from 1 (take used cells) ++ range_with_len (used + 1) (length cells - used) ≡ columns_from 1 cells
+columns_tail cells used within tail =
+    let here : used + 1 ≡ 1 + length (take used cells) = omega (arith, within, length-take-le used cells within) in
+    ap (λ n. columns_from 1 (take used cells) ++ range_with_len (used + 1) n) (sym (length-drop used cells))
+    ∙ ap (λ l. columns_from 1 (take used cells) ++ l) (sym (columns_blank (used + 1) (drop used cells) (tail_blank cells used tail)))
+    ∙ ap (λ k. columns_from 1 (take used cells) ++ columns_from k (drop used cells)) here
+    ∙ sym (columns_append 1 (take used cells) (drop used cells)) ∙ ap (columns_from 1) (take-append-drop used cells)
 
 -- the characters of a right half, and of another cell, once so many marks were taken
 pub half_bare : (cell : Cell) → is_covered cell ≡ true → [] ≡ characters cell

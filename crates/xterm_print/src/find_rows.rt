@@ -10,6 +10,7 @@ ghost use Rattle.xterm_rows.specs.RowText.{characters, is_space};
 ghost use Rattle.xterm_print.specs.Pieces.{BlankFrom, IsPlain};
 ghost use Rattle.xterm_print.specs.FindRows.{columns_from, ends_in_space, heeds_next, kept_cells, leaves_last, row_read, rows_read};
 
+use arrayvec::ArrayVec;
 use sheet::limits::MOST_COLUMNS;
 use sheet::{Cell, Colour, put_letters};
 use standings::{Row, Span};
@@ -19,6 +20,12 @@ use xterm_screen::Screen;
 
 // The rows of screens of up to so many columns are read at once.
 const AT_ONCE: usize = 160;
+
+// Cells are held by so many, each with at most two marks ..
+const HELD_CELLS: usize = 64;
+
+// .. and so with up to so many characters.
+const HELD: usize = 192;
 
 /// The rows of the sheet that is shown.
 #[tactic(auto, unfolding(crate::specs::FindRows::rows_read))]
@@ -134,36 +141,37 @@ fn read_again(row: &mut Row, cells: &[Cell], used: usize, next: &[Cell]) -> Resu
 {
     let runs_on = !ends_in_space(cells) || leaves_last(cells, next);
     let kept = kept_cells(cells, next);
-    if spell(row, kept, used.min(kept.len()), runs_on) {
+    let used = used.min(kept.len());
+    if spell(row, kept, used, runs_on)? {
         return Ok(());
     }
-    let plain = write_over(row, kept);
-    row.cut(plain, runs_on);
-    push_cells(row, kept, plain)
+    row.restart(runs_on);
+    push_cells(row, &kept[..used])?;
+    push_blanks(row, kept, used)
 }
 
-/// Becomes a row of cells that are characters of one column without marks, if all are, and if it has as many; says whether
-/// it did. Behind so many all are blank. Most rows are read so.
-fn spell(row: &mut Row, cells: &[Cell], used: usize, runs_on: bool) -> bool
+/// Becomes a row of cells that are characters of one column without marks, if all are; says whether it did. Behind so many
+/// all are blank. Most rows are read so.
+fn spell(row: &mut Row, cells: &[Cell], used: usize, runs_on: bool) -> Result<bool, AllocError>
     requires within { used ≤ length cells.now }
     requires tail { BlankFrom cells.now used }
-    ensures { result ≡ true → row.new ≡ record {
+    ensures { IfOk result (λ done. done ≡ true → row.new ≡ record {
       characters = flat_map characters cells.now;
       columns = columns_from 1 cells.now;
       runs_on = runs_on;
-    } }
+    }) }
 {
     let count = cells.len();
-    if count > AT_ONCE || count > row.count() {
-        return false;
+    if count > AT_ONCE {
+        return Ok(false);
     }
     let mut letters = [' '; AT_ONCE];
     let letters = &mut letters[..count];
     if !put_used(cells, used, letters) {
-        return false;
+        return Ok(false);
     }
-    row.spell(letters, runs_on);
-    true
+    row.respell(letters, runs_on)?;
+    Ok(true)
 }
 
 /// Puts the characters of cells, of which all are blank behind so many, into a list, and says whether each cell is one of one
@@ -188,31 +196,6 @@ fn put_spaces(letters: &mut [char])
     for letter in letters.iter_mut() {
         *letter = ' ';
     }
-}
-
-/// Writes the characters of the first cells, each one character wide and without marks, over those of a row, as far as
-/// it has so many; says of how many.
-fn write_over(row: &mut Row, cells: &[Cell]) -> usize
-    requires few { length cells.now ≤ MOST_COLUMNS }
-    ensures within { result ≤ length cells.now }
-    ensures characters { take result row.new.characters ≡ flat_map characters (take result cells.now) }
-    ensures columns { take result row.new.columns ≡ columns_from 1 (take result cells.now) }
-{
-    let end = row.count().min(cells.len());
-    let mut at = 0;
-    while at < end && is_alone(cells[at]) {
-        row.set(at, cells[at].character(), at as u16 + 1);
-        at += 1;
-    }
-    at
-}
-
-/// Whether a cell holds a character without marks.
-#[tactic(auto, unfolding(xterm_rows::specs::RowText::characters))]
-fn is_alone(cell: Cell) -> bool
-    ensures { result ≡ true → characters cell ≡ cell.character ∷ [] }
-{
-    !cell.is_covered() && cell.mark_count() == 0
 }
 
 /// The cells without the last one, where that is left out.
@@ -254,38 +237,98 @@ fn is_space(cell: Cell) -> bool
     !cell.is_covered() && cell.character() == ' ' && cell.mark_count() == 0
 }
 
-/// Puts the characters of cells behind those of the first so many.
-fn push_cells(row: &mut Row, cells: &[Cell], from: usize) -> Result<(), AllocError>
+/// Puts the characters of cells at the end of a row that has none.
+fn push_cells(row: &mut Row, cells: &[Cell]) -> Result<(), AllocError>
     requires few { length cells.now ≤ MOST_COLUMNS }
-    requires within { from ≤ length cells.now }
-    requires characters { row.old.characters ≡ flat_map characters (take from cells.now) }
-    requires columns { row.old.columns ≡ columns_from 1 (take from cells.now) }
+    requires characters { row.old.characters ≡ [] }
+    requires columns { row.old.columns ≡ [] }
     ensures characters { OnOk result (row.new.characters ≡ flat_map characters cells.now) }
     ensures columns { OnOk result (row.new.columns ≡ columns_from 1 cells.now) }
     ensures runs_on { OnOk result (row.new.runs_on ≡ row.old.runs_on) }
 {
-    for at in from..cells.len() {
-        push_cell(row, cells[at], at as u16 + 1)?;
+    let mut at = 0;
+    while at < cells.len() {
+        at += push_some(row, &cells[at..], at as u16 + 1)?;
     }
     Ok(())
 }
 
-/// Puts the characters of a cell in this column behind those of a row: its character and its marks, or nothing of a right
-/// half.
+/// Puts the characters of some of the first cells, which begin in this column, at the end of a row; says of how many.
+fn push_some(row: &mut Row, cells: &[Cell], column: u16) -> Result<usize, AllocError>
+    requires some { 1 ≤ length cells.now }
+    requires few { column + length cells.now ≤ u16.MAX }
+    ensures some { IfOk result (λ count. 1 ≤ count) }
+    ensures few { IfOk result (λ count. count ≤ length cells.now) }
+    ensures characters { IfOk result (λ count.
+        row.new.characters ≡ row.old.characters ++ flat_map characters (take count cells.now)) }
+    ensures columns { IfOk result (λ count.
+        row.new.columns ≡ row.old.columns ++ columns_from column (take count cells.now)) }
+    ensures runs_on { IfOk result (λ _. row.new.runs_on ≡ row.old.runs_on) }
+{
+    let count = cells.len().min(HELD_CELLS);
+    let mut letters = ArrayVec::new();
+    let mut columns = ArrayVec::new();
+    hold_cells(&cells[..count], column, &mut letters, &mut columns);
+    row.push_run(letters.as_slice(), columns.as_slice())?;
+    Ok(count)
+}
+
+/// Holds the characters of cells, which begin in this column, and the columns in which they stand.
+fn hold_cells(
+    cells: &[Cell],
+    column: u16,
+    letters: &mut ArrayVec<char, HELD>,
+    columns: &mut ArrayVec<u16, HELD>,
+)
+    requires few { length cells.now ≤ HELD_CELLS }
+    requires column { column + length cells.now ≤ u16.MAX }
+    requires letters { letters.old.items ≡ [] }
+    requires columns { columns.old.items ≡ [] }
+    ensures letters { letters.new.items ≡ flat_map characters cells.now }
+    ensures columns { columns.new.items ≡ columns_from column cells.now }
+{
+    for at in 0..cells.len() {
+        hold_cell(cells[at], column + at as u16, letters, columns);
+    }
+}
+
+/// Holds the characters of a cell, its character and its marks, or nothing of a right half, and for each its column.
 #[tactic(auto, unfolding(xterm_rows::specs::RowText::characters))]
-fn push_cell(row: &mut Row, cell: Cell, column: u16) -> Result<(), AllocError>
-    ensures characters { OnOk result
-        (row.new.characters ≡ row.old.characters ++ characters cell) }
-    ensures columns { OnOk result
-        (row.new.columns ≡ row.old.columns ++ map (λ _. column) (characters cell)) }
-    ensures runs_on { OnOk result (row.new.runs_on ≡ row.old.runs_on) }
+fn hold_cell(
+    cell: Cell,
+    column: u16,
+    letters: &mut ArrayVec<char, HELD>,
+    columns: &mut ArrayVec<u16, HELD>,
+)
+    requires letters { length letters.old.items + 3 ≤ HELD }
+    requires columns { length columns.old.items + 3 ≤ HELD }
+    ensures letters { letters.new.items ≡ letters.old.items ++ characters cell }
+    ensures columns { columns.new.items ≡ columns.old.items ++ map (λ _. column) (characters cell) }
+    ensures few_letters { length letters.new.items ≤ length letters.old.items + 3 }
+    ensures few_columns { length columns.new.items ≤ length columns.old.items + 3 }
 {
     if cell.is_covered() {
-        return Ok(());
+        return;
     }
-    row.push(cell.character(), column)?;
+    letters.push(cell.character());
+    columns.push(column);
     for n in 0..cell.mark_count() {
-        row.push(cell.mark(n), column)?;
+        letters.push(cell.mark(n));
+        columns.push(column);
     }
+}
+
+/// Puts spaces behind the characters of the first so many cells: behind these all are blank.
+fn push_blanks(row: &mut Row, cells: &[Cell], used: usize) -> Result<(), AllocError>
+    requires few { length cells.now ≤ MOST_COLUMNS }
+    requires within { used ≤ length cells.now }
+    requires tail { BlankFrom cells.now used }
+    requires characters { row.old.characters ≡ flat_map characters (take used cells.now) }
+    requires columns { row.old.columns ≡ columns_from 1 (take used cells.now) }
+    ensures characters { OnOk result (row.new.characters ≡ flat_map characters cells.now) }
+    ensures columns { OnOk result (row.new.columns ≡ columns_from 1 cells.now) }
+    ensures runs_on { OnOk result (row.new.runs_on ≡ row.old.runs_on) }
+{
+    row.push_many(' ', cells.len() - used, used as u16 + 1)?;
     Ok(())
 }

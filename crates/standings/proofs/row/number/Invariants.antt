@@ -1,4 +1,4 @@
-use Rattle.std.proofs.Common.{◌≡◌, length, take}
+use Rattle.std.proofs.Common.{◌≡◌, ◌-◌, ◌++◌, length, take}
 use Rattle.std.specs.List.{range_with_len}
 use Rattle.standings.proofs.row.number.Given as goal
 
@@ -6,5 +6,5 @@ use Rattle.standings.proofs.row.number.Given as goal
 abbrev pub invariant-loop-at : goal.invariant-loop-at
 invariant-loop-at l = record {
   long : length l.columns ≡ length l.initial.columns;
-  so_far : take l.at l.columns ≡ range_with_len 1 l.at;
+  so_far : take l.at l.columns ≡ take l.from l.initial.columns ++ range_with_len l.column (l.at - l.from);
 }

@@ -1,25 +1,28 @@
-use Rattle.std.proofs.Common.{◌+◌, ◌++◌, ◌∙◌, ap, arith, map, sym, take}
+use Rattle.std.proofs.Common.{◌+◌, ◌-◌, ◌++◌, ◌∙◌, List, ap, arith, drop, length, take}
 use Rattle.std.specs.List.{flat_map}
-use Rattle.std.proofs.lemmas.List.{take_all}
+use Rattle.std.proofs.lemmas.List.{length-drop, take_all}
+use Rattle.sheet.specs.Cells.{Cell}
 use Rattle.xterm_rows.specs.RowText.{characters}
 use Rattle.xterm_print.specs.FindRows.{columns_from}
-use Rattle.xterm_print.proofs.FindRowLemmas.{characters_more, columns_more}
+use Rattle.xterm_print.proofs.FindRowLemmas.{columns_on}
+use Rattle.xterm_print.proofs.PlainLemmas.{first_on, rest_whole}
 use Rattle.xterm_print.proofs.find_rows.push_cells.Goals as goal
 
 pub loop-at-preserved : goal.loop-at-preserved
 loop-at-preserved c =
     let cells = c.args.cells.now in
     let at = c.loop-at.at in
-    let cell = c.index-cells-at.result in
     let kept = c.loop-at.invariant in
+    let count = c.in_ok-at.field-0 in
     record {
-      characters = c.in_ok-push_cell.ensures.characters ∙ ap (λ l. l ++ characters cell) kept.characters
-          ∙ ap (λ x. flat_map characters (take at cells) ++ characters x) c.index-cells-at.is
-          ∙ sym (characters_more cells at cell (omega arith));
-      columns = c.in_ok-push_cell.ensures.columns ∙ ap (λ l. l ++ map (λ _. at + 1) (characters cell)) kept.columns
-          ∙ ap (λ x. columns_from 1 (take at cells) ++ map (λ _. at + 1) (characters x)) c.index-cells-at.is
-          ∙ sym (columns_more cells at cell (omega arith));
-      runs_on = c.in_ok-push_cell.ensures.runs_on ∙ kept.runs_on;
+      high = omega (arith, c.in_ok-at.ensures.few, ap (λ (l : List Cell). length l) (rest_whole cells at), length-drop at cells, c.loop-at-test.true);
+      characters = c.in_ok-at.ensures.characters
+          ∙ ap (λ l. l ++ flat_map characters (take count (take (length cells - at) (drop at cells)))) kept.characters
+          ∙ first_on characters cells at count;
+      columns = c.in_ok-at.ensures.columns
+          ∙ ap (λ l. l ++ columns_from (at + 1) (take count (take (length cells - at) (drop at cells)))) kept.columns
+          ∙ columns_on cells at count kept.high;
+      runs_on = c.in_ok-at.ensures.runs_on ∙ kept.runs_on;
     }
 
 pub returns-clause-characters : goal.returns-clause-characters

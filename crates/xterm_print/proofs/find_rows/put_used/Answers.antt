@@ -1,4 +1,4 @@
-use Rattle.std.proofs.Common.{◌≡◌, ◌<◌, ◌∙◌, ap, arith, get_or, length, subst, sym, take}
+use Rattle.std.proofs.Common.{◌<◌, ◌∙◌, arith, length, subst, take}
 use Rattle.std.proofs.lemmas.List.{get_or-take, length-take-le}
 use Rattle.sheet.specs.declared.rendition.Colour.TheVariants.{Default}
 use Rattle.sheet.specs.Cells.{blank}

@@ -1,14 +1,12 @@
-use Rattle.std.proofs.Common.{◌≡◌, ◌≢◌, ℕ, ◌+◌, ◌-◌, ◌<◌, ◌≤◌, ◌∙◌, List, false, ap, arith, get_or-set_other, get_or-set_same, inl, inr, length, set, subst, sym}
+use Rattle.std.proofs.Common.{◌≡◌, ◌≢◌, ◌+◌, ◌-◌, ◌<◌, ◌≤◌, ◌∙◌, false, ap, arith, get_or-set_other, get_or-set_same, inl, inr, length, set, subst, sym}
 use Rattle.std.proofs.lemmas.Bool.{cases_eq}
 use Rattle.std.proofs.lemmas.Bool.Decides.{nat_tests}
 use Rattle.std.proofs.lemmas.List.{length-set}
-use Rattle.sheet.specs.Cells.{Cell}
 use Rattle.sheet.specs.Grid.{row_at}
 use Rattle.standings.specs.declared.span.Span.{Span}
 use Rattle.standings.specs.Rows.{empty_row, row_below}
-use Rattle.standings.specs.Spans.{Stays, widened}
-use Rattle.standings.proofs.SpanLemmas.{same_rows, stays_all, stays_more, widened_end}
-use Rattle.xterm_screen.specs.Picture.{Told}
+use Rattle.standings.specs.Spans.{Stays}
+use Rattle.standings.proofs.SpanLemmas.{same_rows, stays_more, widened_end}
 use Rattle.xterm_print.specs.FindRows.{row_read, rows_read}
 use Rattle.xterm_print.proofs.FindRowLemmas.{count_read, read_at, rows_untouched}
 use Rattle.xterm_print.proofs.find_rows.read_touched.Goals as goal
