@@ -157,14 +157,14 @@ read : Cell → ℕ
 read cell = character cell.glyph
 
 -- the character at a place of a row
-row_char : (wide : Bool) (row : Row) (k : ℕ) → length row.cells ≡ 132 → k < length (row_text wide row) → get_or (row_text wide row) k 0 ≡ character (cell_at row (k + 1)).glyph
+pub row_char : (wide : Bool) (row : Row) (k : ℕ) → length row.cells ≡ 132 → k < length (row_text wide row) → get_or (row_text wide row) k 0 ≡ character (cell_at row (k + 1)).glyph
 row_char wide row k whole lt =
     let m = margin_of wide row.size in
     let long : k < length (take m row.cells) = omega (arith, length-map (take m row.cells) (λ cell. character cell.glyph)) in
     get_or-map (λ (cell : Cell). character cell.glyph) (take m row.cells) k blank 0 long
     ∙ ap (λ (cell : Cell). character cell.glyph) (get_or-take m row.cells k blank (omega (arith, length-take m row.cells)) ∙ sym (nth_next blank row.cells k))
 
-row_long : (wide : Bool) (row : Row) → length row.cells ≡ 132 → margin_of wide row.size ≤ 132 → length (row_text wide row) ≡ margin_of wide row.size
+pub row_long : (wide : Bool) (row : Row) → length row.cells ≡ 132 → margin_of wide row.size ≤ 132 → length (row_text wide row) ≡ margin_of wide row.size
 row_long wide row whole high =
     length-map (take (margin_of wide row.size) row.cells) (λ cell. character cell.glyph) ∙ omega (arith, length-take (margin_of wide row.size) row.cells)
 
@@ -173,7 +173,7 @@ told_cell : (row : Row) (f : ℕ → Cell) (k : ℕ) → k < 132 → cell_at (ro
 told_cell row f k lt = nth_next blank (table 132 f) k ∙ get_or-table 132 f k blank lt
 
 -- the text of a row in which a cell is another
-cell_text : (wide : Bool) (row : Row) (at : ℕ) (cell : Cell) → length row.cells ≡ 132 → margin_of wide row.size ≤ 132 → at < margin_of wide row.size
+pub cell_text : (wide : Bool) (row : Row) (at : ℕ) (cell : Cell) → length row.cells ≡ 132 → margin_of wide row.size ≤ 132 → at < margin_of wide row.size
     → row_text wide (with_cell (at + 1) cell row) ≡ set (row_text wide row) at (character cell.glyph)
 cell_text wide row at cell whole high lt =
     let f : ℕ → Cell = λ column. if column == at + 1 then cell else cell_at row column in
@@ -199,13 +199,13 @@ cell_text wide row at cell whole high lt =
 -- ---- screens
 
 -- the row of a line that is another
-row_here : (at : ℕ) (row : Row) (rows : List Row) → 1 ≤ at → at ≤ 24 → row_at (with_row at row rows) at ≡ row
+pub row_here : (at : ℕ) (row : Row) (rows : List Row) → 1 ≤ at → at ≤ 24 → row_at (with_row at row rows) at ≡ row
 row_here at row rows low high =
     let f : ℕ → Row = λ line. if line == at then row else row_at rows line in
     row_told f at (omega arith) ∙ rw (eq-eqb (at - 1 + 1) at (omega arith)) refl
 
 -- a cell of a row in which one is another
-other_cell : (row : Row) (at column : ℕ) (cell : Cell) → 1 ≤ column → column ≤ 132 → column ≢ at → cell_at (with_cell at cell row) column ≡ cell_at row column
+pub other_cell : (row : Row) (at column : ℕ) (cell : Cell) → 1 ≤ column → column ≤ 132 → column ≢ at → cell_at (with_cell at cell row) column ≡ cell_at row column
 other_cell row at column cell low high apart =
     let f : ℕ → Cell = λ k. if k == at then cell else cell_at row k in
     let is : column - 1 + 1 ≡ column = omega arith in
@@ -330,7 +330,7 @@ module _ (key : List ℕ) (good : IsKey key) (near last : ℕ) (ends : EndsIn ke
 
 -- ---- bytes
 
-prefix_all : (p : ℕ → Bool) (xs : List ℕ) (n : ℕ) → n ≤ prefix_len p xs → list_all p (take n xs) ≡ true
+pub prefix_all : (p : ℕ → Bool) (xs : List ℕ) (n : ℕ) → n ≤ prefix_len p xs → list_all p (take n xs) ≡ true
 prefix_all p xs zero few = refl
 prefix_all p [] (suc n) few = refl
 prefix_all p (x ∷ xs) (suc n) few = elim (cases_Bool (p x)) [

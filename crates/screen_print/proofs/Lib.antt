@@ -21,3 +21,5 @@ mod SkimEffects
 mod SkimLemmas
 mod MuteLemmas
 mod FreeLemmas
+mod KeptLemmas
+mod FreshLemmas

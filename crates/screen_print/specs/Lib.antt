@@ -13,3 +13,4 @@ pub mod Stops
 pub mod EachByte
 pub mod ByLine
 pub mod Skim
+pub mod Fresh

@@ -54,6 +54,7 @@ ghost use Rattle.screen_print.specs.Stops.{StopsWalk};
 
 use crate::by_line::{Ends, Pair, Sought, put_less};
 use crate::find_lines::{Chunk, put_found};
+use crate::fresh::play_fresh;
 use crate::key::{Key, Keys};
 use crate::laws::nowhere_means_nowhere;
 use crate::quiet::stays;
@@ -546,7 +547,7 @@ pub(crate) fn step(terminal: &mut Terminal, byte: u8, scratch: &mut Reports)
     let _done = terminal.feed_in_place(&[byte], scratch);
 }
 
-/// Plays a chunk's bytes, and writes what went inside it.
+/// Plays a chunk's bytes, and writes what went inside it. Those that take nothing of the text away are played at once.
 fn put_bytes<W: Write>(
     sought: &Sought<'_>,
     chunk: &Chunk,
@@ -572,17 +573,29 @@ fn put_bytes<W: Write>(
     plays_in_parts();
     let mut before = Still::of(terminal);
     let mut after = Still::of(terminal);
-    for at in 0..bytes.len() {
-        step(terminal, bytes[at], scratch);
-        put_byte(
-            sought,
-            chunk,
-            ends,
+    let mut at = 0;
+    while at < bytes.len() {
+        at += play_fresh(
+            sought.text,
+            &bytes[at..],
             &mut before,
             &mut after,
             terminal,
-            writer,
+            scratch,
         );
+        if at < bytes.len() {
+            step(terminal, bytes[at], scratch);
+            put_byte(
+                sought,
+                chunk,
+                ends,
+                &mut before,
+                &mut after,
+                terminal,
+                writer,
+            );
+            at += 1;
+        }
     }
 }
 

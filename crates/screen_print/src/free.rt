@@ -13,7 +13,7 @@ use vt_screen::limits::WIDE_COLUMNS;
 use vt_screen::{Row, Screen};
 
 /// How many cells are looked at together, and how many pairs of bytes.
-const CELLS: usize = 16;
+pub(crate) const CELLS: usize = 16;
 
 const PAIRS: usize = 32;
 
@@ -42,7 +42,7 @@ pub(crate) fn free_len(ending: Ending, bytes: &[u8], screen: &Screen) -> usize
 }
 
 /// More than so many, by whole groups.
-fn rounded_up(len: usize, group: usize) -> usize
+pub(crate) fn rounded_up(len: usize, group: usize) -> usize
     requires few { len ≤ ROW }
     requires some { 0 < group }
     requires small { group ≤ PAIRS }

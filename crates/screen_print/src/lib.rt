@@ -7,6 +7,7 @@ mod each_byte;
 mod escaped_print;
 mod find_lines;
 mod free;
+mod fresh;
 mod key;
 pub mod laws;
 mod plain_print;

@@ -4,7 +4,7 @@
 ghost use Rattle.std.specs.Prelude.{◌≡◌, ◌≢◌, ◌+◌, ◌-◌, ◌<◌, ◌≤◌, ◌∷◌, [], All, ℕ, false, length, take, true};
 ghost use Rattle.vt_parser.specs.declared.states.ParserState.TheVariants.{EscapeOne, Ground};
 ghost use Rattle.vt_term.specs.declared.profile.Profile.TheVariants.{Vt100};
-ghost use Rattle.vt_term.specs.Seen.{Shows};
+ghost use Rattle.vt_term.specs.Seen.{Shows, Told};
 ghost use Rattle.vt_term.specs.Term.{Term, play, sent};
 ghost use Rattle.screen_print.specs.Skim.{IsCalm, IsKeyed, IsMute, IsPlain, IsRunning, LacksUpTo, ScreenLacks, is_text};
 
@@ -184,11 +184,13 @@ fn steps(key: &Key<'_>, byte: u8, terminal: &mut Terminal, scratch: &mut Reports
 }
 
 /// Plays bytes that aren't replied to.
-fn run(bytes: &[u8], terminal: &mut Terminal, scratch: &mut Reports)
+pub(crate) fn run(bytes: &[u8], terminal: &mut Terminal, scratch: &mut Reports)
     requires { (x : Term) → Shows terminal.old x → sent x bytes.now ≡ [] }
     ensures shows { (x : Term) → Shows terminal.old x → Shows terminal.new (play x bytes.now) }
+    ensures told { Told terminal.old.console.picture.rows terminal.new }
     ensures scratch { length scratch.old.bytes ≤ length scratch.new.bytes }
 {
+    let _screen = terminal.screen();
     scratch.set_place(0);
     let _done = terminal.feed_in_place(bytes, scratch);
 }
@@ -238,7 +240,7 @@ fn is_vt100(profile: Profile) -> bool
 }
 
 /// Whether nothing is pending.
-fn is_ground(state: &ParserState) -> bool
+pub(crate) fn is_ground(state: &ParserState) -> bool
     ensures { result ≡ true → state.now ≡ Ground }
 {
     matches!(state, ParserState::Ground)

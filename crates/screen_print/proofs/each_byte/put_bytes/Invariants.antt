@@ -1,4 +1,4 @@
-use Rattle.std.proofs.Common.{◌≡◌, ◌≤◌, length, take}
+use Rattle.std.proofs.Common.{◌≡◌, ◌-◌, ◌≤◌, length, take}
 use Rattle.tape_core.specs.Devices.{Gave}
 use Rattle.vt_term.specs.Seen.{Shows}
 use Rattle.vt_term.specs.Term.{Term, play}
@@ -11,6 +11,7 @@ use Rattle.screen_print.proofs.each_byte.put_bytes.Given as goal
 -- the bytes so far were played, and their lines have gone out
 abbrev pub invariant-loop-at : goal.invariant-loop-at
 invariant-loop-at g l = record {
+  within : l.at ≤ length l.bytes;
   shows : (x : Term) → Shows l.fn.terminal x → Shows l.terminal (play x (take l.at l.bytes));
   scratch : 20 ≤ length l.scratch.bytes;
   before : l.before ≡ still_of l.terminal.console;
@@ -19,3 +20,6 @@ invariant-loop-at g l = record {
       (texts_from (byte_lines l.sought.text.now l.chunk.index l.chunk.due l.ends.first.now (standing l.sought.text.now l.ends.first.now)
       l.ends.last.now (standing l.sought.text.now l.ends.last.now) x l.bytes) 0 l.at);
 }
+
+abbrev pub decreases-loop-at : goal.decreases-loop-at
+decreases-loop-at g l = length l.bytes - l.at
