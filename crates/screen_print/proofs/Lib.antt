@@ -23,3 +23,4 @@ mod MuteLemmas
 mod FreeLemmas
 mod KeptLemmas
 mod FreshLemmas
+mod WaitingLemmas

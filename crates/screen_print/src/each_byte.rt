@@ -54,7 +54,7 @@ ghost use Rattle.screen_print.specs.Stops.{StopsWalk};
 
 use crate::by_line::{Ends, Pair, Sought, put_less};
 use crate::find_lines::{Chunk, put_found};
-use crate::fresh::play_fresh;
+use crate::fresh::play_quietly;
 use crate::key::{Key, Keys};
 use crate::laws::nowhere_means_nowhere;
 use crate::quiet::stays;
@@ -575,7 +575,7 @@ fn put_bytes<W: Write>(
     let mut after = Still::of(terminal);
     let mut at = 0;
     while at < bytes.len() {
-        at += play_fresh(
+        at += play_quietly(
             sought.text,
             &bytes[at..],
             &mut before,
