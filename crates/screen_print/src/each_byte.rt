@@ -58,6 +58,7 @@ use crate::fresh::play_quietly;
 use crate::key::{Key, Keys};
 use crate::laws::nowhere_means_nowhere;
 use crate::quiet::stays;
+use crate::silent::play_all;
 use crate::skim::skim_some;
 use crate::standing::{Place, standing};
 use crate::start::Start;
@@ -521,18 +522,6 @@ fn put_end<W: Write>(
     put_less(sign, chunk, sought, pair, None, writer);
 }
 
-/// Plays bytes one by one.
-fn play_all(terminal: &mut Terminal, bytes: &[u8], scratch: &mut Reports)
-    requires { SCRATCH ≤ length scratch.old.bytes }
-    ensures shows { (x : Term) → Shows terminal.old x → Shows terminal.new (play x bytes.now) }
-    ensures scratch { SCRATCH ≤ length scratch.new.bytes }
-{
-    plays_in_parts();
-    for at in 0..bytes.len() {
-        step(terminal, bytes[at], scratch);
-    }
-}
-
 /// Plays one byte, and never wants memory: the reply to it goes over what the scratch list holds.
 pub(crate) fn step(terminal: &mut Terminal, byte: u8, scratch: &mut Reports)
     requires { SCRATCH ≤ length scratch.old.bytes }
@@ -559,6 +548,7 @@ fn put_bytes<W: Write>(
 )
     requires len { chunk.now.len ≡ length sought.now.text.now }
     requires start { IsStart sought.now.text.now sought.now.start.now }
+    requires first { ends.now.first.now ≡ still_of terminal.old.console }
     requires scratch { SCRATCH ≤ length scratch.old.bytes }
     ensures gave { (x : Term) → Shows terminal.old x → Gave W.contents writer.old writer.new
         (flat_map (byte_lines sought.now.text.now chunk.now.index chunk.now.due
@@ -571,8 +561,8 @@ fn put_bytes<W: Write>(
 {
     gives_join::<W>();
     plays_in_parts();
-    let mut before = Still::of(terminal);
-    let mut after = Still::of(terminal);
+    let mut before = ends.first.again();
+    let mut after = ends.first.again();
     let mut at = 0;
     while at < bytes.len() {
         at += play_quietly(

@@ -80,7 +80,7 @@ fn play_waiting(
 }
 
 /// How many of the bytes come before the end of a sequence.
-fn waiting_len(bytes: &[u8], terminal: &Terminal) -> usize
+pub(crate) fn waiting_len(bytes: &[u8], terminal: &Terminal) -> usize
     ensures within { result ≤ length bytes.now }
     ensures waiting { 0 < result → (x : Term) → Shows terminal.now x
         → IsWaiting x (take result bytes.now) }

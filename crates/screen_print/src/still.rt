@@ -60,6 +60,19 @@ impl Still {
         }
     }
 
+    /// The same again.
+    pub(crate) fn again(&self) -> Self
+        ensures { result ≡ self.now }
+    {
+        Still {
+            rows: same_rows(&self.rows),
+            wide: self.wide,
+            reversed: self.reversed,
+            line: self.line,
+            column: self.column,
+        }
+    }
+
     /// Whether it has 132 columns.
     pub fn is_wide(&self) -> bool
         ensures { result ≡ self.now.wide }
@@ -157,6 +170,15 @@ impl Still {
         self.reversed = terminal.modes().reverse_screen;
         (self.line, self.column) = screen.cursor();
     }
+}
+
+/// The same rows.
+fn same_rows(rows: &[Row; ROWS]) -> [Row; ROWS]
+    ensures { result ≡ rows.now }
+{
+    let mut same = [Row::blank(); ROWS];
+    same.copy_from_slice(rows);
+    same
 }
 
 /// A copy of the screen's rows.
