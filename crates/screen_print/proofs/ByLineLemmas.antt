@@ -420,29 +420,57 @@ lost_more text one other line next there end lost low high some low' level under
           (are.counts left (λ k d lt. subst (IsApart one left) (get_or_append_left lost (place ∷ []) d k lt) (apart k d (omega (arith, length_push lost place)))));
     }
 
--- a line that no line of the other screen is taken for
-pub lost_alone : (text : List ℕ) (one other : Still) (line next : ℕ) (lost : List Place) → 1 ≤ line → line ≤ 24
-    → AreLost text one line other next lost → AreLost text one (line + 1) other next (lost ++ place_in line 1 ∷ [])
+-- a line that no line of the other screen is taken for, by a column before which nothing stands in it
+pub lost_alone : (text : List ℕ) (one other : Still) (line next column : ℕ) (lost : List Place) → 1 ≤ line → line ≤ 24 → 1 ≤ column
+    → ((k : ℕ) → 1 ≤ k → k < column → begins_on text one line k ≡ false)
+    → AreLost text one line other next lost → AreLost text one (line + 1) other next (lost ++ place_in line column ∷ [])
 unfolding stands_so
-lost_alone text one other line next lost low high are =
-    let place = place_in line 1 in
+lost_alone text one other line next column lost low high some none are =
+    let place = place_in line column in
     let row = row_on one line in
     record {
       few = omega (arith, are.few, length_push lost place);
       there_low = are.there_low;
       there_high = are.there_high;
-      lines = All-push IsOnScreen lost place are.lines (low, high, omega arith);
+      lines = All-push IsOnScreen lost place are.lines (low, high, some);
       counts = λ left apart.
           let n = length left in
           let same = pointwise nat_eq (take n row) left in
           let here : IsApart one left place =
           subst (IsApart one left) (get_or_push lost place place (length lost) refl) (apart (length lost) place (omega (arith, length_push lost place))) in
-          let none : stands_so text one line left ≡ false =
+          let absent : stands_so text one line left ≡ false =
           false_from_ne_true (stands_so text one line left) (λ stood.
-          here (omega arith) (sym ((slice_eq-Decides Decides-eqb (take n row) left same refl).0
-          (and_parts same (begins_on text one line (n + 1)) (and_parts (nat_lt n (length row)) (same && begins_on text one line (n + 1)) stood).1).0))) in
+          let inner = and_parts same (begins_on text one line (n + 1)) (and_parts (nat_lt n (length row)) (same && begins_on text one line (n + 1)) stood).1 in
+          elim (cases_lt (n + 1) column) [
+            | inl before ↦ false≢true (sym (none (n + 1) (omega arith) before) ∙ inner.1)
+            | inr behind ↦ here behind (sym ((slice_eq-Decides Decides-eqb (take n row) left same refl).0 inner.0))
+          ]) in
           let before = are.counts left (λ k d lt. subst (IsApart one left) (get_or_append_left lost (place ∷ []) d k lt) (apart k d (omega (arith, length_push lost place)))) in
-          omega (arith, before, count_more text one line left low, counted (stands_so text one line left) false none);
+          omega (arith, before, count_more text one line left low, counted (stands_so text one line left) false absent);
+    }
+
+-- a line in which the text doesn't stand
+pub lost_nothing : (text : List ℕ) (one other : Still) (line next : ℕ) (lost : List Place) → 1 ≤ line
+    → ((k : ℕ) → 1 ≤ k → k ≤ length (row_on one line) → begins_on text one line k ≡ false)
+    → AreLost text one line other next lost → AreLost text one (line + 1) other next lost
+unfolding stands_so
+lost_nothing text one other line next lost low none are =
+    let row = row_on one line in
+    record {
+      few = omega (arith, are.few);
+      there_low = are.there_low;
+      there_high = are.there_high;
+      lines = are.lines;
+      counts = λ left apart.
+          let n = length left in
+          let same = pointwise nat_eq (take n row) left in
+          let absent : stands_so text one line left ≡ false =
+          false_from_ne_true (stands_so text one line left) (λ stood.
+          let parts = and_parts (nat_lt n (length row)) (same && begins_on text one line (n + 1)) stood in
+          let inner = and_parts same (begins_on text one line (n + 1)) parts.1 in
+          let within : n < length row = ltb-true n (length row) parts.0 in
+          false≢true (sym (none (n + 1) (omega arith) (omega (arith, within))) ∙ inner.1)) in
+          omega (arith, are.counts left apart, count_more text one line left low, counted (stands_so text one line left) false absent);
     }
 
 -- ---- columns

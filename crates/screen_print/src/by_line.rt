@@ -48,6 +48,7 @@ ghost use Rattle.screen_print.specs.Places.{IsPlace};
 ghost use Rattle.screen_print.specs.Start.{IsStart};
 ghost use Rattle.screen_rows.specs.Glyphs.{character};
 ghost use Rattle.screen_rows.specs.RowText.{characters};
+ghost use Rattle.vt_screen.specs.Cells.{row_at};
 
 use crate::find_lines::{Chunk, put_found};
 use crate::quiet::{may_begin, same_len};
@@ -55,6 +56,7 @@ use crate::standing::{Place, begins};
 use crate::start::Start;
 use crate::still::{ROWS, Still};
 use arrayvec::ArrayVec;
+use screen_rows::laws::same_rows_are_equal;
 use screen_rows::{character, same_row};
 use std::io::Write;
 use tape_core::Watched;
@@ -173,45 +175,85 @@ fn push_lost(sought: &Sought<'_>, pair: &Pair<'_>, line: u8, lost: &mut Lost)
         pair.now.other.now lost.new.next lost.new.places.items }
 {
     match partner(pair, line, lost.next) {
-        Some(there) => push_changed(sought, pair, line, there, lost),
-        None => lost.places.push(Place { line, column: 1 }),
+        Some(found) => push_changed(sought, pair, line, found.there, found.same, lost),
+        None => push_alone(sought, pair, line, lost),
     }
+}
+
+/// Puts the first place of a line that no line of the other screen is taken for.
+fn push_alone(sought: &Sought<'_>, pair: &Pair<'_>, line: u8, lost: &mut Lost)
+    requires start { IsStart sought.now.text.now sought.now.start.now }
+    requires low { 1 ≤ line }
+    requires high { line ≤ LINES }
+    requires before { AreLost sought.now.text.now pair.now.one.now line
+        pair.now.other.now lost.old.next lost.old.places.items }
+    ensures { AreLost sought.now.text.now pair.now.one.now (line + 1)
+        pair.now.other.now lost.new.next lost.new.places.items }
+{
+    if is_bare(sought, pair, line) {
+        return;
+    }
+    let columns = pair.one.cells(line).len() as u8;
+    let column = first_standing(sought, pair.one, line, 1, columns);
+    if column <= columns {
+        lost.places.push(Place { line, column });
+    }
+}
+
+/// A line of the other screen, and whether it surely has the same row.
+#[derive(Clone, Copy)]
+struct Counterpart {
+    there: u8,
+    same: bool,
 }
 
 /// The line of the other screen, from one on, where the row of a line came to stand, or else the line itself. It has
 /// none where that line is taken by the row below, which moved up.
-fn partner(pair: &Pair<'_>, line: u8, next: u8) -> Option<u8>
+fn partner(pair: &Pair<'_>, line: u8, next: u8) -> Option<Counterpart>
+    requires lines { DifferIn pair.now.lines.now pair.now.one.now pair.now.other.now }
     requires low { 1 ≤ line }
     requires high { line ≤ LINES }
     requires next { 1 ≤ next }
-    ensures low { IfSome result (λ there. next ≤ there) }
-    ensures high { IfSome result (λ there. there ≤ LINES) }
+    ensures low { IfSome result (λ found. next ≤ found.there) }
+    ensures high { IfSome result (λ found. found.there ≤ LINES) }
+    ensures same { IfSome result (λ found. found.same ≡ true
+        → row_at pair.now.one.now.rows line ≡ row_at pair.now.other.now.rows found.there) }
 {
-    if pair.lines.len() < 2 || !pair.lines.contains(&line) {
-        return at_least(line, next);
+    if !pair.lines.contains(&line) {
+        return at_least(line, next, true);
+    }
+    if pair.lines.len() < 2 {
+        return at_least(line, next, false);
     }
     if line > next && is_same(pair, line, line - 1) {
-        return Some(line - 1);
+        return Some(Counterpart {
+            there: line - 1,
+            same: true,
+        });
     }
     if line < LINES && line >= next {
         if is_same(pair, line, line + 1) {
-            return Some(line + 1);
+            return Some(Counterpart {
+                there: line + 1,
+                same: true,
+            });
         }
         if is_same(pair, line + 1, line) {
             return None;
         }
     }
-    at_least(line, next)
+    at_least(line, next, false)
 }
 
 /// A line, if it isn't above another one.
-fn at_least(line: u8, next: u8) -> Option<u8>
-    ensures { IfSome result (λ there. (there ≡ line) × (next ≤ there)) }
+fn at_least(line: u8, next: u8, same: bool) -> Option<Counterpart>
+    ensures { IfSome result (λ found.
+        (found.there ≡ line) × (next ≤ found.there) × (found.same ≡ same)) }
 {
     if line < next {
         return None;
     }
-    Some(line)
+    Some(Counterpart { there: line, same })
 }
 
 /// Whether a line of one screen has the row of a line of the other.
@@ -220,25 +262,36 @@ fn is_same(pair: &Pair<'_>, line: u8, there: u8) -> bool
     requires high { line ≤ LINES }
     requires there_low { 1 ≤ there }
     requires there_high { there ≤ LINES }
+    ensures { result ≡ true
+        → row_at pair.now.one.now.rows line ≡ row_at pair.now.other.now.rows there }
 {
+    same_rows_are_equal();
     same_row(pair.one.row(line), pair.other.row(there), false)
 }
 
 /// The same by the line of the other screen.
-fn push_changed(sought: &Sought<'_>, pair: &Pair<'_>, line: u8, there: u8, lost: &mut Lost)
+fn push_changed(
+    sought: &Sought<'_>,
+    pair: &Pair<'_>,
+    line: u8,
+    there: u8,
+    same: bool,
+    lost: &mut Lost,
+)
     requires start { IsStart sought.now.text.now sought.now.start.now }
-    requires lines { DifferIn pair.now.lines.now pair.now.one.now pair.now.other.now }
     requires low { 1 ≤ line }
     requires high { line ≤ LINES }
     requires next { lost.old.next ≤ there }
     requires there { there ≤ LINES }
+    requires same { same ≡ true
+        → row_at pair.now.one.now.rows line ≡ row_at pair.now.other.now.rows there }
     requires before { AreLost sought.now.text.now pair.now.one.now line
         pair.now.other.now lost.old.next lost.old.places.items }
     ensures { AreLost sought.now.text.now pair.now.one.now (line + 1)
         pair.now.other.now lost.new.next lost.new.places.items }
 {
     let columns = pair.one.cells(line).len();
-    let column = first_lost(sought, pair, line, there);
+    let column = first_lost(sought, pair, line, there, same);
     lost.next = there + 1;
     if column as usize <= columns {
         lost.places.push(Place { line, column });
@@ -247,23 +300,24 @@ fn push_changed(sought: &Sought<'_>, pair: &Pair<'_>, line: u8, there: u8, lost:
 
 /// The first column of a line at which the text stands but maybe not in a line of the other screen, with the same to
 /// the left. Where there is none it's the one behind the last.
-fn first_lost(sought: &Sought<'_>, pair: &Pair<'_>, line: u8, there: u8) -> u8
+fn first_lost(sought: &Sought<'_>, pair: &Pair<'_>, line: u8, there: u8, same: bool) -> u8
     requires start { IsStart sought.now.text.now sought.now.start.now }
-    requires lines { DifferIn pair.now.lines.now pair.now.one.now pair.now.other.now }
     requires low { 1 ≤ line }
     requires high { line ≤ LINES }
     requires there_low { 1 ≤ there }
     requires there_high { there ≤ LINES }
+    requires same { same ≡ true
+        → row_at pair.now.one.now.rows line ≡ row_at pair.now.other.now.rows there }
     ensures kept { AreKept sought.now.text.now pair.now.one.now line pair.now.other.now there result }
     ensures some { 1 ≤ result }
 {
     pair.one.sound();
     pair.other.sound();
     let cells = pair.one.cells(line);
-    if is_bare(sought, pair, line) {
+    if !same && is_bare(sought, pair, line) {
         return cells.len() as u8 + 1;
     }
-    let same = shared_len(pair, line, there);
+    let same = shared_len(pair, line, there, same);
     let behind = (same + 1).saturating_sub(sought.text.len().max(1));
     for at in behind..cells.len() {
         let column = at as u8 + 1;
@@ -274,7 +328,7 @@ fn first_lost(sought: &Sought<'_>, pair: &Pair<'_>, line: u8, there: u8) -> u8
     cells.len() as u8 + 1
 }
 
-/// Whether a line that differs surely shows nothing of the text.
+/// Whether a line surely shows nothing of the text.
 fn is_bare(sought: &Sought<'_>, pair: &Pair<'_>, line: u8) -> bool
     requires start { IsStart sought.now.text.now sought.now.start.now }
     requires low { 1 ≤ line }
@@ -283,9 +337,6 @@ fn is_bare(sought: &Sought<'_>, pair: &Pair<'_>, line: u8) -> bool
         → begins_on sought.now.text.now pair.now.one.now line column ≡ false }
 {
     pair.one.sound();
-    if !pair.lines.contains(&line) {
-        return false;
-    }
     if may_begin(sought.start, pair.one.is_wide(), pair.one.row(line)) {
         return false;
     }
@@ -293,19 +344,19 @@ fn is_bare(sought: &Sought<'_>, pair: &Pair<'_>, line: u8) -> bool
 }
 
 /// So many characters of a line are surely the same as those of a line of the other screen.
-fn shared_len(pair: &Pair<'_>, line: u8, there: u8) -> usize
-    requires lines { DifferIn pair.now.lines.now pair.now.one.now pair.now.other.now }
+fn shared_len(pair: &Pair<'_>, line: u8, there: u8, same: bool) -> usize
     requires low { 1 ≤ line }
     requires high { line ≤ LINES }
     requires there_low { 1 ≤ there }
     requires there_high { there ≤ LINES }
+    requires same { same ≡ true
+        → row_at pair.now.one.now.rows line ≡ row_at pair.now.other.now.rows there }
     ensures same { take result (row_on pair.now.one.now line) ≡ take result (row_on pair.now.other.now there) }
     ensures here { result ≤ length (row_on pair.now.one.now line) }
     ensures there { result ≤ length (row_on pair.now.other.now there) }
 {
     let cells = pair.one.cells(line);
-    let is_wide = pair.one.is_wide();
-    if line == there && is_wide == pair.other.is_wide() && !pair.lines.contains(&line) {
+    if same && pair.one.is_wide() == pair.other.is_wide() {
         return cells.len();
     }
     same_len(cells, pair.other.cells(there))
