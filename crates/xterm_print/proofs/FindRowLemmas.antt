@@ -1,8 +1,8 @@
 -- Rows that are read, a row, a cell and a character more.
-use Rattle.std.proofs.Common.{◌≡◌, ℕ, suc, ◌+◌, ◌-◌, ◌<◌, ◌≤◌, true, false, List, [], ◌∷◌, ◌++◌, append_assoc, append-nil, drop, get_or, inl, inr, length, map, min, subst, take, ap, ap₂, sym, ◌∙◌, add-one, arith, refl, replicate}
+use Rattle.std.proofs.Common.{◌≡◌, ℕ, suc, ◌+◌, ◌-◌, ◌<◌, ◌≤◌, false, List, [], ◌∷◌, ◌++◌, append_assoc, append-nil, drop, get_or, inl, inr, length, map, min, subst, take, ap, ap₂, sym, ◌∙◌, add-one, arith, refl, replicate}
 use Rattle.std.specs.List.{flat_map, range_with_len}
 use Rattle.std.proofs.lemmas.Bool.{cases_Bool, cases_lt}
-use Rattle.std.proofs.lemmas.List.{ext_get_or, get_or-append-add, get_or-drop, get_or-map, get_or-take, get_or_append_left, get_or_default, get_or_past, length-append, length-drop, length-map, length-take, length-take-le, map-append, same_lists, take-append-drop, take_all, take_more}
+use Rattle.std.proofs.lemmas.List.{ext_get_or, get_or-append-add, get_or-drop, get_or-map, get_or-take, get_or_append_left, get_or_default, get_or_past, length-append, length-drop, length-map, length-take, length-take-le, map-append, same_lists, take-append-drop, take_more}
 use Rattle.sheet.specs.declared.rendition.Colour.TheVariants.{Default}
 use Rattle.std.proofs.Math.Seq.{take-add}
 use Rattle.std.proofs.lemmas.List.Concat.{flat_map-append}
@@ -99,15 +99,6 @@ columns_tail cells used within tail =
     ∙ ap (λ l. columns_from 1 (take used cells) ++ l) (sym (columns_blank (used + 1) (drop used cells) (tail_blank cells used tail)))
     ∙ ap (λ k. columns_from 1 (take used cells) ++ columns_from k (drop used cells)) here
     ∙ sym (columns_append 1 (take used cells) (drop used cells)) ∙ ap (columns_from 1) (take-append-drop used cells)
-
--- the characters of a right half, and of another cell, once so many marks were taken
-pub half_bare : (cell : Cell) → is_covered cell ≡ true → [] ≡ characters cell
-unfolding characters
-half_bare cell covered = rw covered refl
-
-pub cell_whole : (cell : Cell) (n : ℕ) → is_covered cell ≡ false → length cell.marks ≤ n → cell.character ∷ take n cell.marks ≡ characters cell
-unfolding characters
-cell_whole cell n bare all = rw (bare, take_all n cell.marks all) refl
 
 -- ---- rows that are read again
 

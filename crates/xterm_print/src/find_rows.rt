@@ -1,6 +1,6 @@
 //! The rows of the sheet that is shown, as a text is looked for in them.
 
-ghost use Rattle.std.specs.Prelude.{◌≡◌, ◌+◌, ◌≤◌, ◌<◌, ◌++◌, ◌∷◌, [], List, ℕ, false, true, length, map, slice_index_or, take, IfOk, OnOk};
+ghost use Rattle.std.specs.Prelude.{◌≡◌, ◌+◌, ◌-◌, ◌≤◌, ◌<◌, ◌++◌, [], List, ℕ, false, true, if◌then◌else◌, length, map, slice_index_or, take, IfOk, OnOk};
 ghost use Rattle.std.specs.List.{flat_map};
 ghost use Rattle.sheet.specs.Cells.{Cell, blank};
 ghost use Rattle.sheet.specs.Grid.{IsUsed, row_at};
@@ -8,7 +8,7 @@ ghost use Rattle.standings.specs.Spans.{Stays};
 ghost use Rattle.xterm_screen.specs.Picture.{Told};
 ghost use Rattle.xterm_rows.specs.RowText.{characters, is_space};
 ghost use Rattle.xterm_print.specs.Pieces.{BlankFrom, IsPlain};
-ghost use Rattle.xterm_print.specs.FindRows.{columns_from, ends_in_space, heeds_next, kept_cells, leaves_last, row_read, rows_read};
+ghost use Rattle.xterm_print.specs.FindRows.{columns_from, ends_in_space, heeds_next, leaves_last, row_read, rows_read};
 
 use arrayvec::ArrayVec;
 use sheet::limits::MOST_COLUMNS;
@@ -139,15 +139,30 @@ fn read_again(row: &mut Row, cells: &[Cell], used: usize, next: &[Cell]) -> Resu
     requires used { IsUsed cells.now used }
     ensures { OnOk result (row.new ≡ row_read cells.now next.now) }
 {
-    let runs_on = !ends_in_space(cells) || leaves_last(cells, next);
-    let kept = kept_cells(cells, next);
-    let used = used.min(kept.len());
-    if spell(row, kept, used, runs_on)? {
+    let ends = ends_in_space(cells);
+    let leaves = leaves_last(cells, next, ends);
+    let kept = kept_cells(cells, leaves);
+    read_kept(row, kept, used.min(kept.len()), !ends || leaves)?;
+    Ok(())
+}
+
+/// Becomes a row of these cells. Behind so many all are blank.
+fn read_kept(row: &mut Row, cells: &[Cell], used: usize, runs_on: bool) -> Result<(), AllocError>
+    requires few { length cells.now ≤ MOST_COLUMNS }
+    requires within { used ≤ length cells.now }
+    requires tail { BlankFrom cells.now used }
+    ensures { OnOk result (row.new ≡ record {
+      characters = flat_map characters cells.now;
+      columns = columns_from 1 cells.now;
+      runs_on = runs_on;
+    }) }
+{
+    if spell(row, cells, used, runs_on)? {
         return Ok(());
     }
     row.restart(runs_on);
-    push_cells(row, &kept[..used])?;
-    push_blanks(row, kept, used)
+    push_cells(row, &cells[..used])?;
+    push_blanks(row, cells, used)
 }
 
 /// Becomes a row of cells that are characters of one column without marks, if all are; says whether it did. Behind so many
@@ -162,7 +177,8 @@ fn spell(row: &mut Row, cells: &[Cell], used: usize, runs_on: bool) -> Result<bo
     }) }
 {
     let count = cells.len();
-    if count > AT_ONCE {
+    // Where wide characters stood others often follow, and to look for one costs less than to put all in vain.
+    if count > AT_ONCE || (count > row.count() && !are_plain(&cells[..used])) {
         return Ok(false);
     }
     let mut letters = [' '; AT_ONCE];
@@ -174,38 +190,32 @@ fn spell(row: &mut Row, cells: &[Cell], used: usize, runs_on: bool) -> Result<bo
     Ok(true)
 }
 
-/// Puts the characters of cells, of which all are blank behind so many, into a list, and says whether each cell is one of one
-/// column without marks.
+/// Whether each cell is one of one column without marks.
+fn are_plain(cells: &[Cell]) -> bool {
+    cells.iter().all(|cell| cell.is_plain())
+}
+
+/// Puts the characters of cells, of which all are blank behind so many, into a list of spaces, and says whether each cell is
+/// one of one column without marks.
 fn put_used(cells: &[Cell], used: usize, letters: &mut [char]) -> bool
     requires within { used ≤ length cells.now }
     requires tail { BlankFrom cells.now used }
     requires count { length letters.old ≡ length cells.now }
+    requires spaces { (k : ℕ) → k < length letters.old → slice_index_or letters.old k 0 ≡ 32 }
     ensures letters { letters.new ≡ map (λ (cell : Cell). cell.character) cells.now }
     ensures plain { result ≡ true → (k : ℕ) → k < length cells.now
         → IsPlain (slice_index_or cells.now k (blank Colour.Default)) }
 {
-    put_spaces(letters);
     put_letters(&cells[..used], &mut letters[..used])
 }
 
-/// All become spaces.
-fn put_spaces(letters: &mut [char])
-    ensures count { length letters.new ≡ length letters.old }
-    ensures spaces { (k : ℕ) → k < length letters.old → slice_index_or letters.new k 0 ≡ 32 }
-{
-    for letter in letters.iter_mut() {
-        *letter = ' ';
-    }
-}
-
 /// The cells without the last one, where that is left out.
-#[tactic(auto, unfolding(crate::specs::FindRows::kept_cells))]
-fn kept_cells<'a>(cells: &'a [Cell], next: &[Cell]) -> &'a [Cell]
+fn kept_cells(cells: &[Cell], leaves: bool) -> &[Cell]
     requires some { 1 ≤ length cells.now }
-    ensures kept { result.now ≡ kept_cells cells.now next.now }
+    ensures kept { result.now ≡ (if leaves then take (length cells.now - 1) cells.now else cells.now) }
     ensures few { length result.now ≤ length cells.now }
 {
-    if leaves_last(cells, next) {
+    if leaves {
         &cells[..cells.len() - 1]
     } else {
         cells
@@ -219,13 +229,14 @@ fn ends_in_space(cells: &[Cell]) -> bool
     is_space(cell_behind(cells, cells.len().saturating_sub(1)))
 }
 
-/// Whether the last cell is left out, since the next row's first character may not have fit.
+/// Whether the last cell is left out, since the next row's first character may not have fit; it is told whether that cell is
+/// a space alone.
 #[tactic(auto, unfolding(crate::specs::FindRows::leaves_last))]
-fn leaves_last(cells: &[Cell], next: &[Cell]) -> bool
+fn leaves_last(cells: &[Cell], next: &[Cell], ends: bool) -> bool
+    requires { ends ≡ ends_in_space cells.now }
     ensures { result ≡ leaves_last cells.now next.now }
 {
-    ends_in_space(cells)
-        && !is_space(cell_behind(cells, cells.len().saturating_sub(2)))
+    ends && !is_space(cell_behind(cells, cells.len().saturating_sub(2)))
         && cell_behind(next, 0).is_wide()
 }
 

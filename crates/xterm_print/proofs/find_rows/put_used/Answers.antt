@@ -1,4 +1,4 @@
-use Rattle.std.proofs.Common.{◌<◌, ◌∙◌, arith, length, subst, take}
+use Rattle.std.proofs.Common.{◌<◌, arith, length, subst, take}
 use Rattle.std.proofs.lemmas.List.{get_or-take, length-take-le}
 use Rattle.sheet.specs.declared.rendition.Colour.TheVariants.{Default}
 use Rattle.sheet.specs.Cells.{blank}
@@ -8,8 +8,7 @@ use Rattle.xterm_print.proofs.find_rows.put_used.Goals as goal
 
 pub returns-clause-letters : goal.returns-clause-letters
 returns-clause-letters c =
-    letters_used c.args.cells.now c.put_letters.new.letters c.put_spaces.new.letters c.args.used c.requires.within c.requires.tail (c.put_spaces.ensures.count ∙ c.requires.count)
-    (λ k lt. c.put_spaces.ensures.spaces k (omega (arith, lt, c.put_spaces.ensures.count))) c.put_letters.ensures.letters
+    letters_used c.args.cells.now c.put_letters.new.letters c.args.letters.now c.args.used c.requires.within c.requires.tail c.requires.count c.requires.spaces c.put_letters.ensures.letters
 
 pub returns-clause-plain : goal.returns-clause-plain
 returns-clause-plain c = λ told k lt.
