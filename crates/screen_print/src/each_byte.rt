@@ -263,6 +263,13 @@ fn put_between<W: Write>(
     );
 }
 
+/// Two stills that become what stands before a byte and behind it.
+#[derive(Drop)]
+struct Work {
+    before: Still,
+    after: Still,
+}
+
 /// The same by how the text begins, and by its keys.
 fn put_each<W: Write>(
     recording: &Recording,
@@ -288,10 +295,15 @@ fn put_each<W: Write>(
     gives_join::<W>();
     gives_end::<W>();
     let mut kept = Terminal::reset();
+    let mut work = Work {
+        before: Still::of(terminal),
+        after: Still::of(terminal),
+    };
     let mut known = None;
     for index in start..end {
         known = put_chunk_at(
-            recording, index, text, begins, keys, known, terminal, &mut kept, scratch, writer,
+            recording, index, text, begins, keys, known, terminal, &mut kept, &mut work, scratch,
+            writer,
         );
         if writer.failed() {
             return;
@@ -310,6 +322,7 @@ fn put_chunk_at<'k, 'a, W: Write>(
     known: Option<&'k Key<'a>>,
     terminal: &mut Terminal,
     kept: &mut Terminal,
+    work: &mut Work,
     scratch: &mut Reports,
     writer: &mut Watched<W>,
 ) -> Option<&'k Key<'a>>
@@ -335,7 +348,7 @@ fn put_chunk_at<'k, 'a, W: Write>(
     };
     let bytes = recording.chunks()[index].bytes.as_slice();
     put_or_pass(
-        text, start, &chunk, bytes, keys, known, terminal, kept, scratch, writer,
+        text, start, &chunk, bytes, keys, known, terminal, kept, work, scratch, writer,
     )
 }
 
@@ -350,6 +363,7 @@ fn put_or_pass<'k, 'a, W: Write>(
     known: Option<&'k Key<'a>>,
     terminal: &mut Terminal,
     kept: &mut Terminal,
+    work: &mut Work,
     scratch: &mut Reports,
     writer: &mut Watched<W>,
 ) -> Option<&'k Key<'a>>
@@ -371,7 +385,9 @@ fn put_or_pass<'k, 'a, W: Write>(
         return Some(key);
     }
     terminal.copy_from(kept);
-    put_chunk(text, start, chunk, bytes, terminal, kept, scratch, writer);
+    put_chunk(
+        text, start, chunk, bytes, terminal, kept, work, scratch, writer,
+    );
     None
 }
 
@@ -455,6 +471,7 @@ fn put_chunk<W: Write>(
     bytes: &[u8],
     terminal: &mut Terminal,
     equal: &mut Terminal,
+    work: &mut Work,
     scratch: &mut Reports,
     writer: &mut Watched<W>,
 )
@@ -491,7 +508,17 @@ fn put_chunk<W: Write>(
     };
     let quiet = stays(text, start, &before, equal, lines);
     put_end(b'-', chunk, &sought, &went, quiet, writer);
-    put_bytes(&sought, chunk, &ends, bytes, terminal, scratch, writer);
+    put_bytes(
+        &sought,
+        chunk,
+        &ends,
+        bytes,
+        &mut work.before,
+        &mut work.after,
+        terminal,
+        scratch,
+        writer,
+    );
     put_end(b'+', chunk, &sought, &came, quiet, writer);
 }
 
@@ -542,6 +569,8 @@ fn put_bytes<W: Write>(
     chunk: &Chunk,
     ends: &Ends<'_>,
     bytes: &[u8],
+    before: &mut Still,
+    after: &mut Still,
     terminal: &mut Terminal,
     scratch: &mut Reports,
     writer: &mut Watched<W>,
@@ -561,29 +590,14 @@ fn put_bytes<W: Write>(
 {
     gives_join::<W>();
     plays_in_parts();
-    let mut before = ends.first.again();
-    let mut after = ends.first.again();
+    before.copy_from(ends.first);
+    after.copy_from(ends.first);
     let mut at = 0;
     while at < bytes.len() {
-        at += play_quietly(
-            sought.text,
-            &bytes[at..],
-            &mut before,
-            &mut after,
-            terminal,
-            scratch,
-        );
+        at += play_quietly(sought.text, &bytes[at..], before, after, terminal, scratch);
         if at < bytes.len() {
             step(terminal, bytes[at], scratch);
-            put_byte(
-                sought,
-                chunk,
-                ends,
-                &mut before,
-                &mut after,
-                terminal,
-                writer,
-            );
+            put_byte(sought, chunk, ends, before, after, terminal, writer);
             at += 1;
         }
     }

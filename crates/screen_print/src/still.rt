@@ -60,17 +60,15 @@ impl Still {
         }
     }
 
-    /// The same again.
-    pub(crate) fn again(&self) -> Self
-        ensures { result ≡ self.now }
+    /// Becomes another.
+    pub(crate) fn copy_from(&mut self, other: &Still)
+        ensures { self.new ≡ other.now }
     {
-        Still {
-            rows: same_rows(&self.rows),
-            wide: self.wide,
-            reversed: self.reversed,
-            line: self.line,
-            column: self.column,
-        }
+        self.rows.copy_from_slice(&other.rows);
+        self.wide = other.wide;
+        self.reversed = other.reversed;
+        self.line = other.line;
+        self.column = other.column;
     }
 
     /// Whether it has 132 columns.
@@ -170,15 +168,6 @@ impl Still {
         self.reversed = terminal.modes().reverse_screen;
         (self.line, self.column) = screen.cursor();
     }
-}
-
-/// The same rows.
-fn same_rows(rows: &[Row; ROWS]) -> [Row; ROWS]
-    ensures { result ≡ rows.now }
-{
-    let mut same = [Row::blank(); ROWS];
-    same.copy_from_slice(rows);
-    same
 }
 
 /// A copy of the screen's rows.

@@ -17,8 +17,8 @@ loop-at-init g c = record {
   within = omega arith;
   shows = λ x h. shows_start c.args.terminal.now x h;
   scratch = c.requires.scratch;
-  before = c.again-before.ensures ∙ c.requires.first;
-  after = c.again-after.ensures ∙ c.requires.first;
+  before = c.copy_from.ensures ∙ c.requires.first;
+  after = c.copy_from-2.ensures ∙ c.requires.first;
   gave = λ x h. c.gives_join.ensures.nothing c.args.writer.now;
 }
 
