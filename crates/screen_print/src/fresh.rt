@@ -175,10 +175,13 @@ fn blank_len(bytes: &[u8], screen: &Screen) -> usize
     let (line, column) = screen.cursor();
     let cells = cells_to_margin(screen.is_wide(), screen.row(line));
     let at = column as usize - 1;
+    if screen.wrap() || cells[at].glyph != b' ' {
+        return 0;
+    }
     let room = cells.len() - 1 - at;
     let run = printable_run(&bytes[..bytes.len().min(rounded_up(room, CELLS))]);
     let len = run.min(room);
-    if len == 0 || screen.wrap() || cells[at].glyph != b' ' {
+    if len == 0 {
         return 0;
     }
     if !are_spaces(&cells[at..]) {
