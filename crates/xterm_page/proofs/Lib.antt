@@ -4,6 +4,7 @@ pub mod KeptLemmas
 pub mod StringLemmas
 pub mod UsedLemmas
 pub mod RenewedLemmas
+pub mod CaughtLemmas
 pub mod PageLemmas
 pub mod Replays
 mod ReadLemmas

@@ -1,5 +1,5 @@
 -- Private: the parts of a page in the order in which they are written.
-use Rattle.std.specs.Prelude.{◌≡◌, ℕ, ◌≤◌, Bool, false, not, All, List, [], ◌∷◌, ◌++◌, ◌&&◌, filter, length, map, if◌then◌else◌}
+use Rattle.std.specs.Prelude.{◌≡◌, ℕ, ◌<◌, ◌≤◌, Bool, false, not, All, List, [], ◌∷◌, ◌++◌, ◌&&◌, Option, Some, None, filter, length, map, if◌then◌else◌, slice_index_or}
 use Rattle.std.specs.List.{flat_map, range_with_len}
 use Rattle.sheet.specs.Cells.{Cell}
 use Rattle.sheet.specs.Grid.{is_touched, row_at}
@@ -54,6 +54,17 @@ renewed touched lines before after = renewed_to lines touched lines before after
 -- these are lines of so many
 abbrev pub AreLines : ℕ → List (ℕ × Renewed) → Type 0
 AreLines lines changed = All (λ one. (1 ≤ one.0) × (one.0 ≤ lines)) changed
+
+-- no line, of which nothing is known
+abbrev pub no_line : ℕ × Renewed
+no_line = (0, record { number = 0; was = None })
+
+-- a line that differs was another one, below it and behind the last that was written, which differs too
+pub record MovedUp (changed : List (ℕ × Renewed)) (at last from : ℕ) : Type 0 where
+  pub was : (slice_index_or changed at no_line).1.was ≡ Some from
+  pub below : (slice_index_or changed at no_line).0 < from
+  pub behind : last < from
+  pub differs : (to : ℕ) × (to < length changed) × ((slice_index_or changed to no_line).0 ≡ from)
 
 -- what is written of a line by what is known of it
 abbrev pub renewed_text : List (List Cell) → ℕ × Renewed → List ℕ

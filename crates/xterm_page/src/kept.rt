@@ -1,9 +1,9 @@
 //! Rows that are kept of a sheet while the next chunk is played.
 
-ghost use Rattle.std.specs.Prelude.{◌≡◌, ◌+◌, ◌<◌, ◌≤◌, IfOk, drop, length, true};
+ghost use Rattle.std.specs.Prelude.{◌≡◌, ◌+◌, ◌<◌, ◌≤◌, IfOk, IfSome, drop, length, true};
 ghost use Rattle.sheet.specs.Grid.{IsUsed, row_at};
 ghost use Rattle.xterm_page.specs.Entries.{line_of};
-ghost use Rattle.xterm_page.specs.Parts.{AreLines, AreTold, AreWide, KeptAll, is_renewed, renewed, renewed_of};
+ghost use Rattle.xterm_page.specs.Parts.{AreLines, AreTold, AreWide, KeptAll, MovedUp, is_renewed, renewed, renewed_of};
 ghost use Rattle.xterm_page.specs.Same.{row_number, same_row};
 
 use crate::same::row_number;
@@ -231,7 +231,28 @@ fn is_renewed(row: &KeptRow, screen: &Screen, line: u16) -> bool
     screen.is_touched(line) && !row.is_same(screen.row(line), screen.used(line))
 }
 
-/// The rows become those of the sheet that is shown, of the same size, where it is known which lines differ.
+/// The line that a row was before, where its cells are kept still and are needed for no other line: it lies behind the
+/// last one that was written, and is itself among those that become another row. Rows that scroll up are all such.
+fn source_of(changed: &[(u16, Renewed)], at: usize, last: usize) -> Option<usize>
+    requires { at < length changed.now }
+    ensures { IfSome result (λ from. MovedUp changed.now at last from) }
+{
+    let (line, renewed) = changed[at];
+    let line = line as usize;
+    let from = renewed.was?;
+    if from <= line || from <= last {
+        return None;
+    }
+    let steps = from - line;
+    if steps < changed.len() - at && changed[at + steps].0 as usize == from {
+        Some(from)
+    } else {
+        None
+    }
+}
+
+/// The rows become those of the sheet that is shown, of the same size, where it is known which lines differ. A row that
+/// moved up changes places with the one that is kept of its line, so that no cells are copied.
 pub(crate) fn catch_up(rows: &mut [KeptRow], changed: &[(u16, Renewed)], screen: &Screen)
     requires rows { length rows.old ≡ screen.now.picture.lines }
     requires lines { AreLines screen.now.picture.lines changed.now }
@@ -243,9 +264,20 @@ pub(crate) fn catch_up(rows: &mut [KeptRow], changed: &[(u16, Renewed)], screen:
         screen.now.picture.rows }
 {
     screens_are_sound(screen);
+    // Behind this line each row is the one that was kept.
+    let mut last = 0;
     for at in 0..changed.len() {
         let (line, renewed) = changed[at];
-        let row = &mut rows[line as usize - 1];
-        row.copy_from(screen.row(line), screen.used(line), renewed.number);
+        let place = line as usize - 1;
+        match source_of(changed, at, last) {
+            Some(from) => {
+                rows.swap(place, from - 1);
+                last = from;
+            }
+            None => {
+                rows[place].copy_from(screen.row(line), screen.used(line), renewed.number);
+                last = last.max(line as usize);
+            }
+        }
     }
 }

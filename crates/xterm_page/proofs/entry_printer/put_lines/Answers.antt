@@ -7,9 +7,9 @@ use Rattle.sheet.specs.Grid.{IsUsed}
 use Rattle.xterm_page.specs.Entries.{change_by}
 use Rattle.xterm_page.specs.EntryText.{named_text}
 use Rattle.held.specs.Held.{Wrote}
-use Rattle.xterm_page.specs.Parts.{renewed_text}
+use Rattle.xterm_page.specs.Parts.{no_line, renewed_text}
 use Rattle.xterm_page.specs.declared.kept.Renewed.{Renewed}
-use Rattle.xterm_page.proofs.RenewedLemmas.{no_line, texts_taken}
+use Rattle.xterm_page.proofs.RenewedLemmas.{texts_taken}
 use Rattle.held.proofs.HeldLemmas.{wrote_both, wrote_none}
 use Rattle.xterm_page.proofs.entry_printer.put_lines.Goals as goal
 

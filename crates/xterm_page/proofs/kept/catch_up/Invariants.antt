@@ -1,7 +1,6 @@
-use Rattle.std.proofs.Common.{◌≡◌, ℕ, ◌≤◌, cond, length, take}
-use Rattle.sheet.specs.Grid.{row_at}
+use Rattle.std.proofs.Common.{◌≡◌, ℕ, ◌≤◌, length}
 use Rattle.xterm_page.specs.Parts.{AreWide, renewed_lines}
-use Rattle.xterm_page.proofs.RenewedLemmas.{holds}
+use Rattle.xterm_page.proofs.CaughtLemmas.{Caught}
 use Rattle.xterm_page.proofs.kept.catch_up.Given as goal
 
 -- those so far are the sheet's, and the others are as they were
@@ -9,6 +8,6 @@ abbrev pub invariant-loop-at : goal.invariant-loop-at
 invariant-loop-at l = record {
   whole : length l.rows ≡ l.fn.screen.picture.lines;
   told : AreWide l.fn.screen.picture.lines l.fn.screen.picture.columns l.fn.rows → (k : ℕ) → 1 ≤ k → k ≤ l.fn.screen.picture.lines
-      → (row_at l.rows k ≡ cond (holds k (take l.at (renewed_lines l.fn.screen.picture.lines l.fn.screen.touched l.fn.rows l.fn.screen.picture.rows)))
-      (row_at l.fn.screen.picture.rows k) (row_at l.fn.rows k)) × (length (row_at l.rows k) ≡ l.fn.screen.picture.columns);
+      → Caught (renewed_lines l.fn.screen.picture.lines l.fn.screen.touched l.fn.rows l.fn.screen.picture.rows) l.at l.last l.fn.screen.picture.columns
+      l.fn.rows l.fn.screen.picture.rows l.rows k;
 }
