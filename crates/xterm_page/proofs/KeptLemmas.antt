@@ -1,5 +1,5 @@
 -- Rows that are kept of a terminal, as it plays on.
-use Rattle.std.proofs.Common.{◌≡◌, ℕ, suc, ◌+◌, ◌-◌, ◌<◌, ◌≤◌, Bool, true, false, not, if◌then◌else◌, List, [], ◌∷◌, ◌++◌, cond, filter, Option, Some, None, inl, inr, length, get_or, set, refl, ap, ap₂, sym, ◌∙◌, subst, arith, get_or-set_same}
+use Rattle.std.proofs.Common.{◌≡◌, ℕ, suc, ◌+◌, ◌-◌, ◌<◌, ◌≤◌, Bool, true, false, not, List, [], ◌∷◌, ◌++◌, cond, filter, Option, Some, None, inl, inr, length, get_or, set, refl, ap, sym, ◌∙◌, subst, arith, get_or-set_same}
 use Rattle.std.specs.Prelude.{◌&&◌}
 use Rattle.std.specs.List.{range_with_len}
 use Rattle.std.proofs.lemmas.List.Elements.{filter-append}
@@ -7,9 +7,7 @@ use Rattle.screen_page.specs.Entries.{first_of}
 use Rattle.xterm_rows.proofs.RangeLemmas.{range_first, range_split}
 use Rattle.sheet.specs.Cells.{Cell}
 use Rattle.std.proofs.lemmas.Bool.{cases_Bool, not-false}
-use Rattle.std.proofs.lemmas.Option.{cond_some, none-some}
 use Rattle.std.proofs.lemmas.List.{length-set}
-use Rattle.std.proofs.lemmas.List.FromFn.{get_or-map-range_with_len, length-map-range_with_len}
 use Rattle.sheet.specs.Grid.{is_touched, row_at}
 use Rattle.sheet.specs.Table.{nth}
 use Rattle.xterm_screen.specs.Picture.{Picture}
@@ -19,10 +17,8 @@ use Rattle.xterm_term.specs.Seen.{Seen, Shows}
 use Rattle.xterm_term.specs.Term.{play}
 use Rattle.xterm_print.specs.Moments.{reset_as}
 use Rattle.xterm_print.proofs.KeptLemmas.{row_read}
-use Rattle.xterm_page.specs.Entries.{change_by, line_of}
-use Rattle.xterm_page.specs.EntryText.{named_text}
-use Rattle.xterm_page.specs.Parts.{AreKept, AreTold, AreWide, KeptAll, changed_text, is_renewed, line_text}
-use Rattle.xterm_page.specs.declared.kept.Renewed.{Renewed}
+use Rattle.xterm_page.specs.Entries.{line_of}
+use Rattle.xterm_page.specs.Parts.{AreKept, AreTold, AreWide, KeptAll, is_renewed}
 use Rattle.xterm_page.specs.Same.{row_number, same_row}
 use Rattle.xterm_page.proofs.EqualLemmas.{lists_equal, rows_equal}
 

@@ -1,5 +1,5 @@
 -- Private: the parts of a page in the order in which they are written.
-use Rattle.std.specs.Prelude.{◌≡◌, ℕ, ◌<◌, ◌≤◌, Bool, false, not, All, List, [], ◌∷◌, ◌++◌, ◌&&◌, Option, Some, None, filter, length, map, if◌then◌else◌, slice_index_or}
+use Rattle.std.specs.Prelude.{◌≡◌, ℕ, ◌%◌, ◌<◌, ◌≤◌, Bool, true, false, not, All, List, [], ◌∷◌, ◌++◌, ◌&&◌, Some, None, filter, length, map, if◌then◌else◌, slice_index_or}
 use Rattle.std.specs.List.{flat_map, range_with_len}
 use Rattle.sheet.specs.Cells.{Cell}
 use Rattle.sheet.specs.Grid.{is_touched, row_at}
@@ -54,6 +54,11 @@ renewed touched lines before after = renewed_to lines touched lines before after
 -- these are lines of so many
 abbrev pub AreLines : ℕ → List (ℕ × Renewed) → Type 0
 AreLines lines changed = All (λ one. (1 ≤ one.0) × (one.0 ≤ lines)) changed
+
+-- the number of each of the first rows has a mark
+abbrev pub AreMarked : List (List Cell) → ℕ → List Bool → Type 0
+AreMarked rows count marks =
+    (line : ℕ) → 1 ≤ line → line ≤ count → slice_index_or marks (row_number (row_at rows line) % 256) false ≡ true
 
 -- no line, of which nothing is known
 abbrev pub no_line : ℕ × Renewed

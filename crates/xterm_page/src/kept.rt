@@ -1,9 +1,9 @@
 //! Rows that are kept of a sheet while the next chunk is played.
 
-ghost use Rattle.std.specs.Prelude.{◌≡◌, ◌+◌, ◌<◌, ◌≤◌, IfOk, IfSome, drop, length, true};
+ghost use Rattle.std.specs.Prelude.{◌≡◌, ◌+◌, ◌%◌, ◌<◌, ◌≤◌, IfOk, IfSome, None, Some, drop, if◌then◌else◌, length, true};
 ghost use Rattle.sheet.specs.Grid.{IsUsed, row_at};
 ghost use Rattle.xterm_page.specs.Entries.{line_of};
-ghost use Rattle.xterm_page.specs.Parts.{AreLines, AreTold, AreWide, KeptAll, MovedUp, is_renewed, renewed, renewed_of};
+ghost use Rattle.xterm_page.specs.Parts.{AreLines, AreMarked, AreTold, AreWide, KeptAll, MovedUp, is_renewed, renewed, renewed_of};
 ghost use Rattle.xterm_page.specs.Same.{row_number, same_row};
 
 use crate::same::row_number;
@@ -152,28 +152,114 @@ fn line_of(
     None
 }
 
-/// What is known of a row, by a guess behind how many lines it was: where that is right, its number is known.
-fn renewed_by(rows: &[KeptRow], cells: &[Cell], used: usize, guess: usize) -> Renewed
+/// How many marks there are for the numbers of rows.
+const MARKS: usize = 256;
+
+/// The mark of a number.
+fn mark_of(number: u64) -> usize
+    ensures value { result ≡ number % 256 }
+    ensures below { result < 256 }
+{
+    (number % MARKS as u64) as usize
+}
+
+/// Marks the numbers of the rows before a place, where those of the first rows are marked; tells how many are then.
+fn mark_to(rows: &[KeptRow], marked: usize, place: usize, marks: &mut [bool; MARKS]) -> usize
+    requires { AreMarked rows.now marked marks.old }
+    ensures { AreMarked rows.now result marks.new }
+{
+    if rows.len() < place || place < marked {
+        return marked;
+    }
+    for at in marked..place {
+        let row = &rows[at];
+        marks[mark_of(row.number)] = true;
+    }
+    place
+}
+
+/// What is known of a line if it was touched and differs from the row that was kept of it, by a guess behind how many
+/// lines its row was. The numbers of the first rows are marked.
+fn renewed_line(
+    rows: &[KeptRow],
+    screen: &Screen,
+    line: u16,
+    guess: usize,
+    marked: usize,
+    marks: &[bool; MARKS],
+) -> Option<Renewed>
+    requires low { 1 ≤ line }
+    requires high { line ≤ screen.now.picture.lines }
+    requires rows { length rows.now ≡ screen.now.picture.lines }
+    requires marked { AreMarked rows.now marked marks.now }
+    ensures { result ≡ (if is_renewed screen.now.touched (row_at rows.now line)
+        (row_at screen.now.picture.rows line) line
+        then Some (renewed_of screen.now.picture.lines rows.now (row_at screen.now.picture.rows line))
+        else None) }
+{
+    let (cells, used) = (screen.row(line), screen.used(line));
+    if has_moved(rows, screen, line, guess) {
+        return Some(renewed_as(rows, cells, used, guess, marked, marks));
+    }
+    if is_renewed(&rows[line as usize - 1], screen, line) {
+        return Some(renewed_of(rows, cells, used));
+    }
+    None
+}
+
+/// Whether a line was touched, and its row was behind so many lines, while the one that was kept of it has another number:
+/// then it differs, without a look at its cells.
+fn has_moved(rows: &[KeptRow], screen: &Screen, line: u16, guess: usize) -> bool
+    requires low { 1 ≤ line }
+    requires high { line ≤ screen.now.picture.lines }
+    requires rows { length rows.now ≡ screen.now.picture.lines }
+    ensures within { result ≡ true → guess < length rows.now }
+    ensures same { result ≡ true → same_row (row_at rows.now (guess + 1))
+        (row_at screen.now.picture.rows line) ≡ true }
+    ensures renewed { result ≡ true → is_renewed screen.now.touched (row_at rows.now line)
+        (row_at screen.now.picture.rows line) line ≡ true }
+{
+    if rows.len() <= guess || !screen.is_touched(line) {
+        return false;
+    }
+    let (was, own) = (&rows[guess], &rows[line as usize - 1]);
+    was.number != own.number && was.is_same(screen.row(line), screen.used(line))
+}
+
+/// What is known of a row.
+fn renewed_of(rows: &[KeptRow], cells: &[Cell], used: usize) -> Renewed
     requires { IsUsed cells.now used }
     ensures { result ≡ renewed_of (length rows.now) rows.now cells.now }
 {
-    if guess < rows.len() && rows[guess].is_same(cells, used) {
-        return renewed_as(rows, cells, used, guess);
-    }
     let number = row_number(cells, used);
     let was = line_of(rows, rows.len(), cells, used, number);
     Renewed { number, was }
 }
 
-/// The same of a row that was behind so many lines.
-fn renewed_as(rows: &[KeptRow], cells: &[Cell], used: usize, place: usize) -> Renewed
+/// The same of a row that was behind so many lines, so that its number is known. Where that has no mark, none of the
+/// first rows is the same.
+fn renewed_as(
+    rows: &[KeptRow],
+    cells: &[Cell],
+    used: usize,
+    place: usize,
+    marked: usize,
+    marks: &[bool; MARKS],
+) -> Renewed
     requires within { place < length rows.now }
     requires used { IsUsed cells.now used }
     requires same { same_row (row_at rows.now (place + 1)) cells.now ≡ true }
+    requires marked { AreMarked rows.now marked marks.now }
     ensures { result ≡ renewed_of (length rows.now) rows.now cells.now }
 {
     let row = &rows[place];
     let number = row.number;
+    if place <= marked && !marks[mark_of(number)] {
+        return Renewed {
+            number,
+            was: Some(place + 1),
+        };
+    }
     match line_of(rows, place, cells, used, number) {
         Some(line) => Renewed {
             number,
@@ -201,21 +287,33 @@ pub(crate) fn changed_rows(
     let mut changed = Vec::with_capacity(alloc, screen.lines() as usize)?;
     // No row has moved yet: the guess lies outside the sheet.
     let mut shift = rows.len();
+    let mut marked = 0;
+    let mut marks = [false; MARKS];
     for line in 1..screen.lines() + 1 {
         let place = line as usize - 1;
-        if is_renewed(&rows[place], screen, line) {
-            let guess = place.wrapping_add(shift);
-            let renewed = renewed_by(rows, screen.row(line), screen.used(line), guess);
-            shift = shift_by(renewed.was, line, shift);
+        let guess = place.wrapping_add(shift);
+        if let Some(renewed) = renewed_line(rows, screen, line, guess, marked, &marks) {
+            shift = shift_by(rows, renewed, line, shift);
+            // Behind as many lines the next row is looked for.
+            let next = (line as usize).wrapping_add(shift);
+            marked = mark_to(rows, marked, next, &mut marks);
             changed.push((line, renewed))?;
         }
     }
     Ok(changed)
 }
 
-/// By how many lines a row has moved, if that is known; else as many as before.
-fn shift_by(was: Option<usize>, line: u16, shift: usize) -> usize {
-    match was {
+/// By how many lines the rows from a line on have moved: as many as those before it, if its row did; else as many as it,
+/// where that is known.
+fn shift_by(rows: &[KeptRow], renewed: Renewed, line: u16, shift: usize) -> usize {
+    let guess = (line as usize).wrapping_add(shift).wrapping_sub(1);
+    if guess < rows.len() {
+        let row = &rows[guess];
+        if row.number == renewed.number {
+            return shift;
+        }
+    }
+    match renewed.was {
         Some(other) => other.wrapping_sub(line as usize),
         None => shift,
     }

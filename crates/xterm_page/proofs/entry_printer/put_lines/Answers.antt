@@ -1,14 +1,12 @@
-use Rattle.std.proofs.Common.{◌≡◌, ◌≤◌, ℕ, List, ap, subst, sym, ◌∙◌, arith, get_or, length, take}
+use Rattle.std.proofs.Common.{List, subst, sym, get_or}
 use Rattle.std.specs.List.{flat_map}
 use Rattle.std.proofs.lemmas.List.{take_all}
-use Rattle.std.proofs.lemmas.List.Elements.{All-get_or}
 use Rattle.sheet.specs.Cells.{Cell}
 use Rattle.sheet.specs.Grid.{IsUsed}
 use Rattle.xterm_page.specs.Entries.{change_by}
 use Rattle.xterm_page.specs.EntryText.{named_text}
 use Rattle.held.specs.Held.{Wrote}
 use Rattle.xterm_page.specs.Parts.{no_line, renewed_text}
-use Rattle.xterm_page.specs.declared.kept.Renewed.{Renewed}
 use Rattle.xterm_page.proofs.RenewedLemmas.{texts_taken}
 use Rattle.held.proofs.HeldLemmas.{wrote_both, wrote_none}
 use Rattle.xterm_page.proofs.entry_printer.put_lines.Goals as goal

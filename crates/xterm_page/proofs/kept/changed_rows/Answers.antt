@@ -1,15 +1,16 @@
-use Rattle.std.proofs.Common.{◌≡◌, ℕ, ◌+◌, ◌-◌, ◌≤◌, ◌<◌, [], ◌∷◌, ◌++◌, Bool, List, length, cond, ap, ap₂, sym, subst, ◌∙◌, arith, append-nil}
-use Rattle.sheet.specs.Cells.{Cell}
+use Rattle.std.proofs.Common.{◌≡◌, ◌-◌, ◌≤◌, [], ◌∷◌, ◌++◌, false, true, ap, sym, subst, ◌∙◌, inl, inr, arith, Bool, Option, Some, None, cond, append-nil}
+use Rattle.std.proofs.lemmas.Bool.{cases_Bool}
+use Rattle.std.proofs.lemmas.List.{length-replicate}
+use Rattle.std.proofs.lemmas.Option.{cond_some}
 use Rattle.sheet.specs.Grid.{row_at}
-use Rattle.xterm_print.proofs.KeptLemmas.{row_read}
 use Rattle.xterm_page.specs.Parts.{AreLines, is_renewed, renewed_of, renewed_to}
 use Rattle.xterm_page.specs.declared.kept.Renewed.{Renewed}
 use Rattle.xterm_page.proofs.RenewedLemmas.{are_lines, renewed_more}
 use Rattle.xterm_page.proofs.kept.changed_rows.Goals as goal
-use Rattle.xterm_page.proofs.kept.changed_rows.Goals.{then-is_renewed+in_ok-push, else-is_renewed}
+use Rattle.xterm_page.proofs.kept.changed_rows.Goals.{in-Some+in_ok-push, in_default}
 
 pub loop-line-init : goal.loop-line-init
-loop-line-init c = c.in_ok-changed.ensures.items
+loop-line-init c = record { told = c.in_ok-changed.ensures.items; long = length-replicate 256 false; marked = λ line low high. absurd (omega (arith, low, high)) }
 
 pub loop-line-preserved : goal.loop-line-preserved
 loop-line-preserved c =
@@ -19,16 +20,34 @@ loop-line-preserved c =
     let touched = c.args.screen.now.touched in
     let lines = c.args.screen.now.picture.lines in
     let low : 1 ≤ line = omega arith in
-    let high : line ≤ length rows = omega (arith, c.requires, c.lines-line-end.ensures.value, c.loop-line-test.true) in
-    let was = c.index-rows-place.is ∙ sym (row_read rows line c.index-rows-place.result low high) in
-    let here = c.is_renewed.ensures ∙ ap (λ (r : List Cell). is_renewed touched r (row_at after line) line) was in
-    renewed_more touched lines rows after line c.is_renewed.result c.loop-line.changed.items c.if-is_renewed.changed.items low here c.loop-line.invariant
-    (elim c.if-is_renewed.branch [
-      | then-is_renewed+in_ok-push w ↦ rw (w.changed-is, w.if-is_renewed.true) (w.in_ok-push.ensures.items
-          ∙ ap (λ (r : Renewed). c.loop-line.changed.items ++ (line, r) ∷ [])
-          (w.renewed_by-renewed.ensures ∙ ap₂ (λ (n : ℕ) (r : List Cell). renewed_of n rows r) c.requires w.row.ensures.value))
-      | else-is_renewed w ↦ rw (w.changed-is, w.if-is_renewed.false) (sym (append-nil c.loop-line.changed.items))
-    ])
+    let kept = c.loop-line.invariant in
+    let here = is_renewed touched (row_at rows line) (row_at after line) line in
+    let old = c.loop-line.changed.items in
+    let known = renewed_of lines rows (row_at after line) in
+    let none : Option Renewed = None in
+    record {
+      told = elim c.match-renewed_line.branch [
+        | in-Some+in_ok-push w ↦
+            let told = cond_some here known w.in-Some.renewed (sym c.renewed_line.ensures ∙ w.in-Some.is) in
+            renewed_more touched lines rows after line true old c.match-renewed_line.changed.items low (sym told.0) kept.told
+            (rw w.changed-is (w.in_ok-push.ensures.items ∙ ap (λ (r : Renewed). old ++ (line, r) ∷ []) (sym told.1)))
+        | in_default w ↦
+            let not_here : here ≡ false = elim (cases_Bool here) [
+              | inl t ↦ absurd (w.in_default.not-Some known (c.renewed_line.ensures ∙ ap (λ (b : Bool). cond b (Some known) none) t))
+              | inr f ↦ f
+            ] in
+            renewed_more touched lines rows after line false old c.match-renewed_line.changed.items low (sym not_here) kept.told
+            (rw w.changed-is (sym (append-nil old)))
+      ];
+      long = elim c.match-renewed_line.branch [
+        | in-Some+in_ok-push w ↦ rw w.marks-is w.mark_to-marked.array_long
+        | in_default w ↦ rw w.marks-is kept.long
+      ];
+      marked = elim c.match-renewed_line.branch [
+        | in-Some+in_ok-push w ↦ rw (w.marked-is, w.marks-is) w.mark_to-marked.ensures
+        | in_default w ↦ rw (w.marked-is, w.marks-is) kept.marked
+      ];
+    }
 
 pub returns : goal.returns
 returns c =
@@ -38,5 +57,5 @@ returns c =
     let after = c.args.screen.now.picture.rows in
     let all : c.loop-line.line - 1 ≡ lines =
     omega (arith, c.lines-line-end.ensures.value, c.loop-line.auto.line, c.loop-line.auto.line-end, c.loop-line-test.false) in
-    let told = c.loop-line.invariant ∙ ap (λ n. renewed_to n touched lines rows after) all in
+    let told = c.loop-line.invariant.told ∙ ap (λ n. renewed_to n touched lines rows after) all in
     record { changed = told; lines = subst (AreLines lines) (sym told) (are_lines touched lines rows after) }

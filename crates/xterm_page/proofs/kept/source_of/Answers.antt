@@ -1,4 +1,4 @@
-use Rattle.std.proofs.Common.{◌≡◌, ℕ, ◌+◌, ◌-◌, ◌<◌, arith, get_or}
+use Rattle.std.proofs.Common.{◌+◌, ◌-◌, arith, get_or}
 use Rattle.xterm_page.specs.Parts.{no_line}
 use Rattle.xterm_page.proofs.kept.source_of.Goals as goal
 
