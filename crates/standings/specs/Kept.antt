@@ -1,4 +1,4 @@
--- Private: what of a text stays between two screens.
+-- What of a text stays between two screens.
 use Rattle.std.specs.Prelude.{ℕ, ◌+◌, ◌<◌, ◌≤◌, ◌==◌, List, if◌then◌else◌, length}
 use Rattle.standings.specs.Rows.{Row, row_below}
 use Rattle.standings.specs.Standing.{count_left, place_at, standing}

@@ -92,6 +92,16 @@ pub fn is_lone(here: &Standing, one: &Standing, at: usize) -> bool
     count_left(here.rows.as_slice(), here.places.as_slice(), left) == 0
 }
 
+/// Whether surely some place on another screen, the one behind as many others, has the same to the left.
+#[tactic(auto, using(crate::proofs::CountLemmas::one_is_there))]
+pub fn has_twin(one: &Standing, at: usize, other: &Standing) -> bool
+    requires { at < length one.now.places.items }
+    ensures { result ≡ true → is_lone other.now.rows.items other.now.places.items
+        (left_of one.now.rows.items (place_at one.now.places.items at)) ≡ false }
+{
+    at < other.places.len() && has_same_left(other, at, one, at)
+}
+
 /// Whether each place of a screen surely has one on the other with the same to the left, so that none is less there. It
 /// goes over both in reading order, once.
 pub fn keeps_all(one: &Standing, other: &Standing) -> bool
@@ -164,16 +174,6 @@ fn has_same_left(one: &Standing, at: usize, other: &Standing, there: usize) -> b
 {
     left_of(one.rows.as_slice(), one.places[at])
         == left_of(other.rows.as_slice(), other.places[there])
-}
-
-/// Whether surely some place on another screen, the one behind as many others, has the same to the left.
-#[tactic(auto, using(crate::proofs::CountLemmas::one_is_there))]
-pub fn has_twin(one: &Standing, at: usize, other: &Standing) -> bool
-    requires { at < length one.now.places.items }
-    ensures { result ≡ true → is_lone other.now.rows.items other.now.places.items
-        (left_of one.now.rows.items (place_at one.now.places.items at)) ≡ false }
-{
-    at < other.places.len() && has_same_left(other, at, one, at)
 }
 
 /// How many of the places have this to the left.

@@ -1,57 +1,100 @@
 -- Chunks inside which nothing of a text passes, and screens that trail.
-use Rattle.std.proofs.Common.{◌≡◌, ℕ, ◌+◌, ◌<◌, ◌≤◌, List, [], ◌++◌, append-nil, drop, length, take, refl, ap, ap₂, subst, sym, ◌∙◌, arith}
+use Rattle.std.proofs.Common.{◌≡◌, ◌⊎◌, ℕ, ◌+◌, ◌-◌, ◌<◌, ◌≤◌, List, [], ◌++◌, append-nil, drop, length, take, refl, ap, ap₂, subst, sym, ◌∙◌, arith, inl, inr}
 use Rattle.std.specs.List.{flat_map, range_with_len}
+use Rattle.std.proofs.lemmas.Bool.{cases_lt}
 use Rattle.tape_core.specs.declared.chunk.Chunk.{Chunk}
 use Rattle.tape_core.specs.Due.{first}
+use Rattle.standings.specs.Kept.{Keeps}
 use Rattle.standings.specs.Rows.{Row}
 use Rattle.standings.specs.Spans.{Stays, joined}
 use Rattle.standings.specs.Standing.{standing}
 use Rattle.standings.specs.declared.left.Standing.{Standing}
 use Rattle.standings.specs.declared.place.Place.{Place}
 use Rattle.standings.specs.declared.span.Span.{Span}
-use Rattle.standings.proofs.SpanLemmas.{stays_all, stays_back, stays_both, stays_none}
+use Rattle.standings.proofs.SpanLemmas.{stays_all, stays_back, stays_both}
 use Rattle.text_find.specs.declared.behind.Steps.{Steps}
 use Rattle.text_find.specs.declared.sides.Sides.{Sides}
 use Rattle.text_find.specs.Calm.{IsAhead, IsCalm, NonePass}
-use Rattle.text_find.specs.FindLines.{Screens}
-use Rattle.text_find.specs.Lines.{AreBetween, AreFound, AreStill, IsStill, IsTrailing, byte_lines, chunk_lines, end_lines, less_lines, passed_lines}
+use Rattle.text_find.specs.FindLines.{Screens, rows_within}
+use Rattle.text_find.specs.Lines.{AreBetween, AreFound, AreStill, IsLagging, IsStill, IsTrailing, byte_lines, chunk_lines, end_lines, less_lines, passed_lines}
 use Rattle.text_find.specs.Pieces.{AreQuiet}
-use Rattle.text_find.proofs.LineLemmas.{chunk_in_three, nothing_passed, passed_by}
+use Rattle.text_find.proofs.LineLemmas.{chunk_in_three, none_passed, nothing_passed, passed_by}
+use Rattle.text_find.proofs.NowhereLemmas.{within_start}
 use Rattle.text_find.proofs.PieceLemmas.{pieces}
-use Rattle.text_find.proofs.QuietLemmas.{lines_more}
+use Rattle.text_find.proofs.QuietLemmas.{texts_none}
 
 -- ---- nothing passes
 
--- where the text stood nowhere
-pub none_stood : (text : List ℕ) (first one other : List Row) → standing text one ≡ [] → NonePass text first one other
-none_stood text first one other none = λ index due last lasts.
-    ap (λ ps. passed_lines index due (length text) first (standing text first) last lasts one ps other (standing text other)) none
+-- the screens behind so many of the bytes behind others
+there : (screen : List ℕ → List Row) (before bytes : List ℕ) (at n : ℕ) → rows_within screen (before ++ take at bytes) (drop at bytes) n ≡ rows_within screen before bytes (at + n)
+there screen before bytes at n = ap screen (pieces before bytes at n)
 
--- where the screen stayed
-pub none_changed : (text : List ℕ) (first one other : List Row) (span : Span) (after : Standing) → IsStill text other after → Stays span one after.rows.items
-    → span.to ≤ span.from → NonePass text first one other
-none_changed text first one other span after is stays none = λ index due last lasts.
-    let same : one ≡ other = sym (stays_none span one after.rows.items none stays) ∙ is.rows in
-    nothing_passed text index due (length text) first (standing text first) last lasts one (standing text one) other same refl
+module _ (text : List ℕ) (index due : ℕ) (first : List Row) (firsts : List Place) (last : List Row) (lasts : List Place) where
+  abbrev passing : List Row → List Row → List ℕ
+  passing one other = passed_lines index due (length text) first firsts last lasts one (standing text one) other (standing text other)
 
--- by what is kept of the screens
-pub none_by : (text : List ℕ) (first one other : List Row) (start before after : Standing) → IsStill text first start → IsStill text one before → IsStill text other after
+  -- where the text stood nowhere
+  pub none_stood : (one other : List Row) → standing text one ≡ [] → passing one other ≡ []
+  none_stood one other none = ap (λ ps. passed_lines index due (length text) first firsts last lasts one ps other (standing text other)) none
+
+  none_kept : (one other : List Row) → Keeps text one other → passing one other ≡ []
+  none_kept one other kept = none_passed index due (length text) first firsts last lasts one (standing text one) other (standing text other) kept
+
+  -- at quiet bytes, where nothing does between the screens around all of them
+  quiet_none : (screen : List ℕ → List Row) (before bytes : List ℕ) (taken count : ℕ) → AreQuiet text screen before bytes taken → count < taken
+      → passing (screen before) (screen (before ++ take taken bytes)) ≡ [] → byte_lines text index due first firsts last lasts screen before bytes count ≡ []
+  quiet_none screen before bytes taken count quiet lt none =
+      let rows = rows_within screen before bytes in
+      elim (cases_lt (count + 1) taken) [
+        | inl inside ↦ none_kept (rows count) (rows (count + 1)) (quiet.inside count inside)
+        | inr high ↦
+            let here : count ≡ taken - 1 = omega (arith, lt, high) in
+            let next : count + 1 ≡ taken = omega (arith, lt, high) in
+            ap (λ n. passing (rows count) (rows n)) next ∙ ap (λ n. passing (rows n) (rows taken)) here ∙ elim quiet.last [
+              | inl same ↦ ap (λ r. passing r (rows taken)) (same ∙ within_start screen before bytes) ∙ none
+              | inr kept ↦ none_kept (rows (taken - 1)) (rows taken) kept
+            ]
+      ]
+
+-- so at a piece at which nothing shows
+pub stays_calm : (text : List ℕ) (first : List Row) (screen : List ℕ → List Row) (before bytes : List ℕ) (taken : ℕ) → AreQuiet text screen before bytes taken
+    → screen before ≡ screen (before ++ take taken bytes) → NonePass text first screen before bytes taken
+stays_calm text first screen before bytes taken quiet same = λ index due last lasts count lt.
+    quiet_none text index due first (standing text first) last lasts screen before bytes taken count quiet lt
+    (nothing_passed text index due (length text) first (standing text first) last lasts (screen before) (standing text (screen before)) (screen (before ++ take taken bytes)) same refl)
+
+-- and at one of which this is told by what is kept of the screens
+pub quiet_calm : (text : List ℕ) (first : List Row) (screen : List ℕ → List Row) (before bytes : List ℕ) (taken : ℕ) (start one other : Standing) → AreQuiet text screen before bytes taken
+    → IsStill text first start → IsStill text (screen before) one → IsStill text (screen (before ++ take taken bytes)) other
     → ((index due len : ℕ) (last : List Row) (lasts : List Place)
-    → passed_lines index due len start.rows.items start.places.items last lasts before.rows.items before.places.items after.rows.items after.places.items ≡ [])
-    → NonePass text first one other
-none_by text first one other start before after starts is is' none = λ index due last lasts.
-    sym (passed_by text index due (length text) first (standing text first) last lasts one other before after is is')
-    ∙ ap (λ r. passed_lines index due (length text) r (standing text first) last lasts before.rows.items before.places.items after.rows.items after.places.items) (sym starts.rows)
-    ∙ ap (λ ps. passed_lines index due (length text) start.rows.items ps last lasts before.rows.items before.places.items after.rows.items after.places.items) (sym starts.places)
-    ∙ none index due (length text) last lasts
+    → passed_lines index due len start.rows.items start.places.items last lasts one.rows.items one.places.items other.rows.items other.places.items ≡ [])
+    → NonePass text first screen before bytes taken
+quiet_calm text first screen before bytes taken start one other quiet starts is is' none = λ index due last lasts count lt.
+    quiet_none text index due first (standing text first) last lasts screen before bytes taken count quiet lt
+    (sym (passed_by text index due (length text) first (standing text first) last lasts (screen before) (screen (before ++ take taken bytes)) one other is is')
+    ∙ ap (λ r. passed_lines index due (length text) r (standing text first) last lasts one.rows.items one.places.items other.rows.items other.places.items) (sym starts.rows)
+    ∙ ap (λ ps. passed_lines index due (length text) start.rows.items ps last lasts one.rows.items one.places.items other.rows.items other.places.items) (sym starts.places)
+    ∙ none index due (length text) last lasts)
+
+-- and where the text stood nowhere all along
+pub nowhere_calm : (text : List ℕ) (first : List Row) (screen : List ℕ → List Row) (before bytes : List ℕ) (taken : ℕ)
+    → ((count : ℕ) → count < taken → standing text (rows_within screen before bytes count) ≡ []) → NonePass text first screen before bytes taken
+nowhere_calm text first screen before bytes taken none = λ index due last lasts count lt.
+    none_stood text index due first (standing text first) last lasts (rows_within screen before bytes count) (rows_within screen before bytes (count + 1)) (none count lt)
 
 -- nor at a piece more
-pub calm_more : (text : List ℕ) (screen : List ℕ → List Row) (before bytes : List ℕ) (at taken : ℕ) → 0 < taken → AreQuiet text screen (before ++ take at bytes) (drop at bytes) taken
-    → IsCalm text screen before bytes at → NonePass text (screen before) (screen (before ++ take at bytes)) (screen (before ++ take (at + taken) bytes))
-    → IsCalm text screen before bytes (at + taken)
-calm_more text screen before bytes at taken some quiet calm none = λ index due last lasts.
-    lines_more text index due (screen before) (standing text (screen before)) last lasts screen before bytes at taken some quiet
-    ∙ ap₂ (λ a b. a ++ b) (calm index due last lasts) (none index due last lasts)
+pub calm_more : (text : List ℕ) (screen : List ℕ → List Row) (before bytes : List ℕ) (at taken : ℕ) → IsCalm text screen before bytes at
+    → NonePass text (screen before) screen (before ++ take at bytes) (drop at bytes) taken → IsCalm text screen before bytes (at + taken)
+calm_more text screen before bytes at taken calm none = λ index due last lasts.
+    let lines = byte_lines text index due (screen before) (standing text (screen before)) last lasts in
+    texts_none (lines screen before bytes) at taken (λ k low high.
+    let n = k - at in
+    let here : at + n ≡ k = omega (arith, low) in
+    let next : at + (n + 1) ≡ k + 1 = omega (arith, low) in
+    ap₂ (passing text index due (screen before) (standing text (screen before)) last lasts)
+    (ap (rows_within screen before bytes) (sym here) ∙ sym (there screen before bytes at n)) (ap (rows_within screen before bytes) (sym next) ∙ sym (there screen before bytes at (n + 1)))
+    ∙ none index due last lasts n (omega (arith, low, high)))
+    ∙ calm index due last lasts
 
 -- a piece more was played
 pub ahead_more : {P T : Type 0} (shows : P → T → List ℕ → Type 0) (screens : Screens P) (profile : P) (text before bytes : List ℕ) (taken piece : ℕ) (ahead : T) (ends : Sides)
@@ -84,53 +127,74 @@ calm_lines text index due len screen before bytes one other l is is' calm =
 pub stays_same : (span : Span) (screen one other : List Row) → one ≡ screen → other ≡ screen → Stays span one other
 stays_same span screen one other is is' = subst (Stays span one) (is ∙ sym is') (stays_all one span)
 
--- what is looked at again trails no more
-pub trails_no_more : (ends : Sides) (steps : Steps) (before : Standing) (span : Span) → IsTrailing ends steps → before.rows.items ≡ ends.after.rows.items
-    → span ≡ joined steps.sides.span steps.span
-    → Stays span before.rows.items steps.sides.after.rows.items
-trails_no_more ends steps before span trails same wider =
+-- what is brought there lags in no row, and is the same
+pub trails_there : (ends : Sides) (steps : Steps) (before : Standing) (none wider : Span) → IsLagging ends steps → before.rows.items ≡ ends.after.rows.items
+    → before.places.items ≡ ends.after.places.items → wider ≡ joined steps.sides.span steps.span
+    → IsTrailing ends (record { sides = record { before = before; after = steps.sides.after; span = wider }; count = steps.count; span = none })
+trails_there ends steps before none wider lags rows places is =
     let here = steps.sides.before.rows.items in
     let after = steps.sides.after.rows.items in
-    let there = subst (Stays steps.span here) (sym same) trails.before in
-    subst (λ s. Stays s before.rows.items after) (sym wider)
-    (stays_back (joined steps.sides.span steps.span) after before.rows.items
-    (stays_both steps.sides.span steps.span after here before.rows.items (stays_back steps.sides.span here after trails.after) there))
+    let back = subst (Stays steps.span here) (sym rows) lags.before in
+    record {
+      lags = record {
+        before = stays_same none ends.after.rows.items before.rows.items ends.after.rows.items rows refl;
+        after = subst (λ s. Stays s before.rows.items after) (sym is)
+            (stays_back (joined steps.sides.span steps.span) after before.rows.items
+            (stays_both steps.sides.span steps.span after here before.rows.items (stays_back steps.sides.span here after lags.after) back));
+      };
+      same = inr (rows, places);
+    }
 
 -- what is played ahead goes on
-pub trails_more : (ends others : Sides) (steps : Steps) (span wider : Span) → IsTrailing ends steps → Stays span ends.after.rows.items others.after.rows.items
-    → wider ≡ joined steps.span span → IsTrailing others (record { sides = steps.sides; count = steps.count; span = wider })
-trails_more ends others steps span wider trails stays is = record {
+pub lags_more : (ends others : Sides) (steps : Steps) (span wider : Span) → IsLagging ends steps → Stays span ends.after.rows.items others.after.rows.items
+    → wider ≡ joined steps.span span → IsLagging others (record { sides = steps.sides; count = steps.count; span = wider })
+lags_more ends others steps span wider lags stays is = record {
   before = subst (λ s. Stays s steps.sides.before.rows.items others.after.rows.items) (sym is)
-      (stays_both steps.span span steps.sides.before.rows.items ends.after.rows.items others.after.rows.items trails.before stays);
-  after = trails.after;
+      (stays_both steps.span span steps.sides.before.rows.items ends.after.rows.items others.after.rows.items lags.before stays);
+  after = lags.after;
 }
+
+-- or stays
+pub lags_on : (ends others : Sides) (steps : Steps) → others.after.rows.items ≡ ends.after.rows.items → IsLagging ends steps → IsLagging others steps
+lags_on ends others steps rows lags = record {
+  before = subst (Stays steps.span steps.sides.before.rows.items) (sym rows) lags.before;
+  after = lags.after;
+}
+
+pub trails_on : (text : List ℕ) (screen : List Row) (ends others : Sides) (steps : Steps) → IsStill text screen ends.after → IsStill text screen others.after
+    → IsTrailing ends steps → IsTrailing others steps
+trails_on text screen ends others steps is is' trails =
+    let rows = is'.rows ∙ sym is.rows in
+    let places = is'.places ∙ sym is.places in
+    record {
+      lags = lags_on ends others steps rows trails.lags;
+      same = elim trails.same [
+        | inl none ↦ inl (places ∙ none)
+        | inr both ↦ inr (both.0 ∙ sym rows, both.1 ∙ sym places)
+      ];
+    }
 
 -- what stood at a chunk's start, from which the screen that is played ahead differs in some rows
-pub start_differs : (ends : Sides) (steps : Steps) → Stays ends.span ends.before.rows.items ends.after.rows.items → IsTrailing ends steps
+pub start_differs : (ends : Sides) (steps : Steps) → Stays ends.span ends.before.rows.items ends.after.rows.items → IsLagging ends steps
     → Stays (joined steps.span ends.span) steps.sides.before.rows.items ends.before.rows.items
-start_differs ends steps stays trails =
-    stays_both steps.span ends.span steps.sides.before.rows.items ends.after.rows.items ends.before.rows.items trails.before
+start_differs ends steps stays lags =
+    stays_both steps.span ends.span steps.sides.before.rows.items ends.after.rows.items ends.before.rows.items lags.before
     (stays_back ends.span ends.before.rows.items ends.after.rows.items stays)
 
-pub start_differs_more : (ends : Sides) (steps : Steps) → Stays ends.span ends.before.rows.items ends.after.rows.items → IsTrailing ends steps
+pub start_differs_more : (ends : Sides) (steps : Steps) → Stays ends.span ends.before.rows.items ends.after.rows.items → IsLagging ends steps
     → Stays (joined steps.sides.span (joined steps.span ends.span)) steps.sides.after.rows.items ends.before.rows.items
-start_differs_more ends steps stays trails =
+start_differs_more ends steps stays lags =
     stays_both steps.sides.span (joined steps.span ends.span) steps.sides.after.rows.items steps.sides.before.rows.items ends.before.rows.items
-    (stays_back steps.sides.span steps.sides.before.rows.items steps.sides.after.rows.items trails.after) (start_differs ends steps stays trails)
+    (stays_back steps.sides.span steps.sides.before.rows.items steps.sides.after.rows.items lags.after) (start_differs ends steps stays lags)
 
--- two screens that are the same trail each other
+-- where both are the same
 pub trails_same : (text : List ℕ) (screen : List Row) (ends : Sides) (steps : Steps) → AreStill text screen ends → AreStill text screen steps.sides → IsTrailing ends steps
 trails_same text screen ends steps still also = record {
-  before = stays_same steps.span screen steps.sides.before.rows.items ends.after.rows.items also.before.rows still.after.rows;
-  after = also.span;
-}
-
--- and trail what is the same
-pub trails_on : (text : List ℕ) (one screen : List Row) (ends others : Sides) (steps : Steps) → AreBetween text one screen ends → AreStill text screen others
-    → IsTrailing ends steps → IsTrailing others steps
-trails_on text one screen ends others steps are still trails = record {
-  before = subst (Stays steps.span steps.sides.before.rows.items) (are.after.rows ∙ sym still.after.rows) trails.before;
-  after = trails.after;
+  lags = record {
+    before = stays_same steps.span screen steps.sides.before.rows.items ends.after.rows.items also.before.rows still.after.rows;
+    after = also.span;
+  };
+  same = inr (also.before.rows ∙ sym still.after.rows, also.before.places ∙ sym still.after.places);
 }
 
 module _ {P T : Type 0} (shows : P → T → List ℕ → Type 0) (screens : Screens P) (profile : P) (chunks : List Chunk) (text : List ℕ) where
@@ -157,5 +221,5 @@ module _ {P T : Type 0} (shows : P → T → List ℕ → Type 0) (screens : Scr
     still = still;
     count = omega (arith, found.count, same);
     lagging = subst (λ n. shows profile behind (first chunks n)) (sym same) found.lagging;
-    trails = trails_on text (screens profile (first chunks index)) (screens profile (first chunks (index + 1))) between others more are still trails;
+    trails = trails_on text (screens profile (first chunks (index + 1))) between others more are.after still.after trails;
   }

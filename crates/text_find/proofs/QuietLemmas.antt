@@ -20,7 +20,7 @@ one_quiet text screen before bytes = record {
   last = inl refl;
 }
 
-texts_none : (f : ℕ → List ℕ) (start n : ℕ) → ((k : ℕ) → start ≤ k → k < start + n → f k ≡ []) → texts_from f 0 (start + n) ≡ texts_from f 0 start
+pub texts_none : (f : ℕ → List ℕ) (start n : ℕ) → ((k : ℕ) → start ≤ k → k < start + n → f k ≡ []) → texts_from f 0 (start + n) ≡ texts_from f 0 start
 texts_none f start zero none = let all : start + 0 ≡ start = omega arith in ap (texts_from f 0) all
 texts_none f start (suc n) none =
     let next : start + suc n ≡ start + n + 1 = omega arith in

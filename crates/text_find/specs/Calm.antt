@@ -1,17 +1,17 @@
 -- Private: bytes at which nothing of a text passes inside a chunk.
-use Rattle.std.specs.Prelude.{◌≡◌, ℕ, List, [], ◌++◌, length, take}
+use Rattle.std.specs.Prelude.{◌≡◌, ℕ, ◌<◌, List, [], ◌++◌, take}
 use Rattle.std.specs.List.{flat_map, range_with_len}
 use Rattle.standings.specs.Rows.{Row}
 use Rattle.standings.specs.Standing.{standing}
 use Rattle.standings.specs.declared.place.Place.{Place}
 use Rattle.text_find.specs.declared.sides.Sides.{Sides}
 use Rattle.text_find.specs.FindLines.{Screens}
-use Rattle.text_find.specs.Lines.{AreBetween, byte_lines, passed_lines}
+use Rattle.text_find.specs.Lines.{AreBetween, byte_lines}
 
--- no line tells of what went between two screens inside a chunk that begins with a third one, whatever its end is
-abbrev pub NonePass : List ℕ → List Row → List Row → List Row → Type 0
-NonePass text first one other = (index due : ℕ) (last : List Row) (lasts : List Place)
-    → passed_lines index due (length text) first (standing text first) last lasts one (standing text one) other (standing text other) ≡ []
+-- no line tells of what went at each of so many bytes, inside a chunk that begins with such a screen, whatever its end is
+abbrev pub NonePass : List ℕ → List Row → (List ℕ → List Row) → List ℕ → List ℕ → ℕ → Type 0
+NonePass text first screen before bytes taken = (index due : ℕ) (last : List Row) (lasts : List Place) (count : ℕ) → count < taken
+    → byte_lines text index due first (standing text first) last lasts screen before bytes count ≡ []
 
 -- no line tells of what went at so many bytes of a chunk, whatever its end is
 abbrev pub IsCalm : List ℕ → (List ℕ → List Row) → List ℕ → List ℕ → ℕ → Type 0

@@ -1,5 +1,5 @@
 -- Private: the find lines, as they are written.
-use Rattle.std.specs.Prelude.{◌≡◌, ℕ, ◌+◌, ◌≤◌, ◌&&◌, List, [], ◌++◌, Option, Some, None, if◌then◌else◌, length}
+use Rattle.std.specs.Prelude.{◌≡◌, ◌⊎◌, ℕ, ◌+◌, ◌≤◌, ◌&&◌, List, [], ◌++◌, Option, Some, None, if◌then◌else◌, length}
 use Rattle.std.specs.List.{flat_map, range_with_len}
 use Rattle.tape_core.specs.Devices.{Gave}
 use Rattle.tape_core.specs.Due.{bytes_at, due_time, first}
@@ -38,10 +38,15 @@ pub record AreBetween (text : List ℕ) (one other : List Row) (sides : Sides) :
 abbrev pub AreStill : List ℕ → List Row → Sides → Type 0
 AreStill text screen sides = AreBetween text screen screen sides
 
--- what stood before a piece and after it trails what is played ahead by these rows alone
-pub record IsTrailing (ends : Sides) (steps : Steps) : Type 0 where
+-- what stood before a piece and after it differs from what is played ahead in these rows alone
+pub record IsLagging (ends : Sides) (steps : Steps) : Type 0 where
   pub before : Stays steps.span steps.sides.before.rows.items ends.after.rows.items
   pub after : Stays steps.sides.span steps.sides.before.rows.items steps.sides.after.rows.items
+
+-- and where a text stands on what is played ahead, what stood before is the same
+pub record IsTrailing (ends : Sides) (steps : Steps) : Type 0 where
+  pub lags : IsLagging ends steps
+  pub same : (ends.after.places.items ≡ []) ⊎ ((steps.sides.before.rows.items ≡ ends.after.rows.items) × (steps.sides.before.places.items ≡ ends.after.places.items))
 
 -- so many chunks were played ahead, and no more behind
 pub record AreFound {P T : Type 0} (shows : P → T → List ℕ → Type 0) (screens : Screens P) (profile : P) (chunks : List Chunk) (index : ℕ)

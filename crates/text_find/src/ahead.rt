@@ -1,19 +1,14 @@
 //! A chunk that is played ahead, in pieces, so long as nothing of a text passes inside it.
 
-ghost use Rattle.std.specs.Prelude.{◌≡◌, ◌++◌, ◌<◌, ◌≤◌, [], false, true, List, ℕ, length, take, IfOk, OnOk};
-ghost use Rattle.standings.specs.Rows.{Row};
-ghost use Rattle.standings.specs.Spans.{Stays};
-ghost use Rattle.standings.specs.Standing.{standing};
+ghost use Rattle.std.specs.Prelude.{◌≡◌, ◌≢◌, ◌++◌, ◌<◌, ◌≤◌, [], true, List, ℕ, length, take, IfOk, OnOk};
 ghost use Rattle.text_find.specs.Calm.{IsAhead, IsCalm, NonePass};
-ghost use Rattle.text_find.specs.Lines.{AreBetween, AreStill, IsStill, IsTrailing};
-ghost use Rattle.text_find.specs.Pieces.{AreQuiet};
+ghost use Rattle.text_find.specs.Lines.{AreBetween, AreStill, IsLagging, IsTrailing};
 
 use crate::behind::{Steps, trail};
 use crate::finder::Finder;
 use crate::lines::none_passes;
 use crate::sides::{Sides, catch_up};
 use plays::{OutOfMemory, Plays, Reports};
-use standings::Span;
 use std::alloc::Global;
 
 /// Plays bytes on a terminal, and drops the replies.
@@ -41,7 +36,7 @@ pub(crate) fn play_ahead<T: Plays, F: Finder<T>>(
     ahead: &mut T,
 ) -> Result<bool, OutOfMemory>
     ensures count { steps.new.count ≡ steps.old.count }
-    ensures trails { IsTrailing ends.old steps.old → OnOk result (IsTrailing ends.new steps.new) }
+    ensures lags { IsLagging ends.old steps.old → OnOk result (IsLagging ends.new steps.new) }
     ensures shows { (profile : T.Profile) (before : List ℕ) → T.shows profile ahead.old before
         → AreStill text.now (F.screens profile before) ends.old
         → OnOk result (T.shows profile ahead.new (before ++ bytes.now)) }
@@ -49,6 +44,9 @@ pub(crate) fn play_ahead<T: Plays, F: Finder<T>>(
         → AreStill text.now (F.screens profile before) ends.old
         → OnOk result (AreBetween text.now
         (F.screens profile before) (F.screens profile (before ++ bytes.now)) ends.new) }
+    ensures trails { (profile : T.Profile) (before : List ℕ) → T.shows profile ahead.old before
+        → AreStill text.now (F.screens profile before) ends.old → IsTrailing ends.old steps.old
+        → IfOk result (λ calm. calm ≡ true → IsTrailing ends.new steps.new) }
     ensures calm { (profile : T.Profile) (before : List ℕ) → T.shows profile ahead.old before
         → AreStill text.now (F.screens profile before) ends.old → IsTrailing ends.old steps.old
         → IfOk result (λ calm. calm ≡ true
@@ -76,11 +74,14 @@ fn play_pieces<T: Plays, F: Finder<T>>(
     ensures count { steps.new.count ≡ steps.old.count }
     ensures within { IfOk result (λ played. played.0 ≤ length bytes.now) }
     ensures all { IfOk result (λ played. played.1 ≡ true → played.0 ≡ length bytes.now) }
-    ensures trails { IsTrailing ends.old steps.old → OnOk result (IsTrailing ends.new steps.new) }
+    ensures lags { IsLagging ends.old steps.old → OnOk result (IsLagging ends.new steps.new) }
     ensures ahead { (profile : T.Profile) (before : List ℕ) → T.shows profile ahead.old before
         → AreStill text.now (F.screens profile before) ends.old
         → IfOk result (λ played. IsAhead T.shows F.screens profile text.now before bytes.now
         played.0 ahead.new ends.new) }
+    ensures trails { (profile : T.Profile) (before : List ℕ) → T.shows profile ahead.old before
+        → AreStill text.now (F.screens profile before) ends.old → IsTrailing ends.old steps.old
+        → IfOk result (λ played. played.1 ≡ true → IsTrailing ends.new steps.new) }
     ensures calm { (profile : T.Profile) (before : List ℕ) → T.shows profile ahead.old before
         → AreStill text.now (F.screens profile before) ends.old → IsTrailing ends.old steps.old
         → IfOk result (λ played. played.1 ≡ true
@@ -112,42 +113,105 @@ fn play_piece<T: Plays, F: Finder<T>>(
     ensures some { IfOk result (λ played. 0 < played.0) }
     ensures within { IfOk result (λ played. played.0 ≤ length bytes.now) }
     ensures count { steps.new.count ≡ steps.old.count }
-    ensures trails { IsTrailing ends.old steps.old → OnOk result (IsTrailing ends.new steps.new) }
+    ensures lags { IsLagging ends.old steps.old → OnOk result (IsLagging ends.new steps.new) }
     ensures shows { (profile : T.Profile) (before : List ℕ) → T.shows profile ahead.old before
         → IfOk result (λ played. T.shows profile ahead.new (before ++ take played.0 bytes.now)) }
     ensures ends { (profile : T.Profile) (first before : List ℕ) → T.shows profile ahead.old before
         → AreBetween text.now (F.screens profile first) (F.screens profile before) ends.old
         → IfOk result (λ played. AreBetween text.now
         (F.screens profile first) (F.screens profile (before ++ take played.0 bytes.now)) ends.new) }
-    ensures quiet { (profile : T.Profile) (first before : List ℕ) → T.shows profile ahead.old before
+    ensures trails { (profile : T.Profile) (first before : List ℕ) → T.shows profile ahead.old before
         → AreBetween text.now (F.screens profile first) (F.screens profile before) ends.old
-        → IfOk result (λ played. AreQuiet text.now (F.screens profile) before bytes.now played.0) }
+        → IsTrailing ends.old steps.old
+        → IfOk result (λ played. played.1 ≡ true → IsTrailing ends.new steps.new) }
     ensures calm { (profile : T.Profile) (first before : List ℕ) → T.shows profile ahead.old before
         → AreBetween text.now (F.screens profile first) (F.screens profile before) ends.old
         → IsTrailing ends.old steps.old
         → IfOk result (λ played. played.1 ≡ true → NonePass text.now (F.screens profile first)
-        (F.screens profile before) (F.screens profile (before ++ take played.0 bytes.now))) }
+        (F.screens profile) before bytes.now played.0) }
 {
-    let stood = trail(steps, ends)?;
-    let taken = F::play_quietly(alloc, ahead, text, &ends.after, bytes)?;
-    let span = catch_up::<T, F>(ends, ahead, text)?;
-    steps.span = steps.span.joined(span);
-    Ok((taken, is_calm(stood, span, ends, steps)))
+    if ends.after.places.is_empty() {
+        play_where_none_stands::<T, F>(alloc, text, bytes, ends, steps, ahead)
+    } else {
+        play_where_it_stands::<T, F>(alloc, text, bytes, ends, steps, ahead)
+    }
 }
 
-/// Whether surely nothing of a text passed at a piece, which changed these rows alone, by whether it stood before it, and
-/// by what stood at the chunk's start, before the piece and after it.
-fn is_calm(stood: bool, span: Span, ends: &Sides, steps: &Steps) -> bool
-    ensures { result ≡ true → (text : List ℕ) (first one other : List Row)
-        → IsStill text first ends.now.before → IsStill text other ends.now.after
-        → Stays span one ends.now.after.rows.items → (stood ≡ false → standing text one ≡ [])
-        → (stood ≡ true → IsStill text one steps.now.sides.before) → NonePass text first one other }
+/// The same where the text stands nowhere: it surely doesn't pass where it stands nowhere behind the piece either.
+fn play_where_none_stands<T: Plays, F: Finder<T>>(
+    alloc: Global,
+    text: &[char],
+    bytes: &[u8],
+    ends: &mut Sides,
+    steps: &mut Steps,
+    ahead: &mut T,
+) -> Result<(usize, bool), OutOfMemory>
+    requires some { 0 < length bytes.now }
+    requires none { ends.old.after.places.items ≡ [] }
+    ensures some { IfOk result (λ played. 0 < played.0) }
+    ensures within { IfOk result (λ played. played.0 ≤ length bytes.now) }
+    ensures count { steps.new.count ≡ steps.old.count }
+    ensures lags { IsLagging ends.old steps.old → OnOk result (IsLagging ends.new steps.new) }
+    ensures shows { (profile : T.Profile) (before : List ℕ) → T.shows profile ahead.old before
+        → IfOk result (λ played. T.shows profile ahead.new (before ++ take played.0 bytes.now)) }
+    ensures ends { (profile : T.Profile) (first before : List ℕ) → T.shows profile ahead.old before
+        → AreBetween text.now (F.screens profile first) (F.screens profile before) ends.old
+        → IfOk result (λ played. AreBetween text.now
+        (F.screens profile first) (F.screens profile (before ++ take played.0 bytes.now)) ends.new) }
+    ensures trails { (profile : T.Profile) (first before : List ℕ) → T.shows profile ahead.old before
+        → AreBetween text.now (F.screens profile first) (F.screens profile before) ends.old
+        → IsTrailing ends.old steps.old
+        → IfOk result (λ played. played.1 ≡ true → IsTrailing ends.new steps.new) }
+    ensures calm { (profile : T.Profile) (first before : List ℕ) → T.shows profile ahead.old before
+        → AreBetween text.now (F.screens profile first) (F.screens profile before) ends.old
+        → IsTrailing ends.old steps.old
+        → IfOk result (λ played. played.1 ≡ true → NonePass text.now (F.screens profile first)
+        (F.screens profile) before bytes.now played.0) }
 {
-    if !stood {
-        return true;
-    }
+    let taken = F::play_some(alloc, ahead, text, bytes)?;
+    let span = catch_up::<T, F>(ends, ahead, text)?;
+    steps.span = steps.span.joined(span);
+    Ok((taken, ends.after.places.is_empty()))
+}
+
+/// The same where the text stands. What stood before the piece is kept up only where rows changed.
+fn play_where_it_stands<T: Plays, F: Finder<T>>(
+    alloc: Global,
+    text: &[char],
+    bytes: &[u8],
+    ends: &mut Sides,
+    steps: &mut Steps,
+    ahead: &mut T,
+) -> Result<(usize, bool), OutOfMemory>
+    requires some { 0 < length bytes.now }
+    requires stands { ends.old.after.places.items ≢ [] }
+    ensures some { IfOk result (λ played. 0 < played.0) }
+    ensures within { IfOk result (λ played. played.0 ≤ length bytes.now) }
+    ensures count { steps.new.count ≡ steps.old.count }
+    ensures lags { IsLagging ends.old steps.old → OnOk result (IsLagging ends.new steps.new) }
+    ensures shows { (profile : T.Profile) (before : List ℕ) → T.shows profile ahead.old before
+        → IfOk result (λ played. T.shows profile ahead.new (before ++ take played.0 bytes.now)) }
+    ensures ends { (profile : T.Profile) (first before : List ℕ) → T.shows profile ahead.old before
+        → AreBetween text.now (F.screens profile first) (F.screens profile before) ends.old
+        → IfOk result (λ played. AreBetween text.now
+        (F.screens profile first) (F.screens profile (before ++ take played.0 bytes.now)) ends.new) }
+    ensures trails { (profile : T.Profile) (first before : List ℕ) → T.shows profile ahead.old before
+        → AreBetween text.now (F.screens profile first) (F.screens profile before) ends.old
+        → IsTrailing ends.old steps.old
+        → IfOk result (λ played. played.1 ≡ true → IsTrailing ends.new steps.new) }
+    ensures calm { (profile : T.Profile) (first before : List ℕ) → T.shows profile ahead.old before
+        → AreBetween text.now (F.screens profile first) (F.screens profile before) ends.old
+        → IsTrailing ends.old steps.old
+        → IfOk result (λ played. played.1 ≡ true → NonePass text.now (F.screens profile first)
+        (F.screens profile) before bytes.now played.0) }
+{
+    let taken = F::play_quietly(alloc, ahead, text, &ends.after, bytes)?;
+    let span = catch_up::<T, F>(ends, ahead, text)?;
     if span.is_none() {
-        return true;
+        return Ok((taken, true));
     }
-    none_passes(&ends.before, &steps.sides.before, &ends.after)
+    let calm = none_passes(&ends.before, &steps.sides.before, &ends.after);
+    steps.span = steps.span.joined(span);
+    trail(steps, ends)?;
+    Ok((taken, calm))
 }

@@ -1,10 +1,9 @@
 //! A terminal that lags where nothing passes, and what stands on a screen that trails another one.
 
-ghost use Rattle.std.specs.Prelude.{◌≡◌, ◌≤◌, [], false, true, List, ℕ, length, IfOk, OnOk};
+ghost use Rattle.std.specs.Prelude.{◌≡◌, ◌≤◌, List, ℕ, length, IfOk, OnOk};
 ghost use Rattle.standings.specs.Rows.{Row};
-ghost use Rattle.standings.specs.Standing.{standing};
 ghost use Rattle.tape_core.specs.Due.{first as bytes_of_first};
-ghost use Rattle.text_find.specs.Lines.{AreBetween, AreStill, IsStill, IsTrailing};
+ghost use Rattle.text_find.specs.Lines.{AreBetween, AreStill, IsLagging, IsTrailing};
 
 use crate::ahead::play;
 use crate::finder::Finder;
@@ -45,25 +44,19 @@ pub(crate) fn steps_of<T: Plays, F: Finder<T>>(
     })
 }
 
-/// Where the text stands on the screen that is played ahead, what stood before becomes what stands there. Says whether it
-/// does.
-pub(crate) fn trail(steps: &mut Steps, ends: &Sides) -> Result<bool, OutOfMemory>
+/// Where the text stands on the screen that is played ahead, what stood before becomes what stands there.
+pub(crate) fn trail(steps: &mut Steps, ends: &Sides) -> Result<(), OutOfMemory>
     ensures count { steps.new.count ≡ steps.old.count }
-    ensures trails { IsTrailing ends.now steps.old → OnOk result (IsTrailing ends.now steps.new) }
-    ensures none { (text : List ℕ) (screen : List Row) → IsStill text screen ends.now.after
-        → IfOk result (λ stands. stands ≡ false → standing text screen ≡ []) }
-    ensures still { (text : List ℕ) (screen : List Row) → IsTrailing ends.now steps.old
-        → IsStill text screen ends.now.after
-        → IfOk result (λ stands. stands ≡ true → IsStill text screen steps.new.sides.before) }
+    ensures trails { IsLagging ends.now steps.old → OnOk result (IsTrailing ends.now steps.new) }
 {
     if ends.after.places.is_empty() {
-        return Ok(false);
+        return Ok(());
     }
     let span = steps.span;
     steps.sides.before.follow(&ends.after, span)?;
     steps.sides.span = steps.sides.span.joined(span);
     steps.span = Span::none();
-    Ok(true)
+    Ok(())
 }
 
 /// Brings a terminal that lags to where a chunk begins, and what stands before and after a piece to what stands there.
@@ -80,7 +73,7 @@ pub(crate) fn reach<T: Plays>(
         → T.shows profile behind.old (bytes_of_first recording.now.chunks steps.old.count)
         → OnOk result (T.shows profile behind.new (bytes_of_first recording.now.chunks index)) }
     ensures steps { (text : List ℕ) (one other : List Row) → AreBetween text one other ends.now
-        → IsTrailing ends.now steps.old → OnOk result (AreStill text one steps.new.sides) }
+        → IsLagging ends.now steps.old → OnOk result (AreStill text one steps.new.sides) }
 {
     play_chunks(alloc, recording, steps.count, index, behind)?;
     let span = steps.span.joined(ends.span);

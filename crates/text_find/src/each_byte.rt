@@ -1,4 +1,4 @@
-//! A chunk that is looked at byte by byte.
+//! A chunk of which it is told what came and went inside it.
 
 ghost use Rattle.std.specs.Prelude.{◌≡◌, ◌++◌, ◌∷◌, [], List, ℕ, length, OnErr, OnOk};
 ghost use Rattle.std.specs.List.{flat_map, range_with_len};
@@ -16,8 +16,7 @@ use std::io::Write;
 use tape_core::Watched;
 use tape_core::laws::gives_join;
 
-/// Plays a chunk byte by byte, and writes what went, what came and went inside it, and what came, by what stands at its
-/// ends.
+/// Plays a chunk in pieces, and writes what went, what came and went inside it, and what came, by what stands at its ends.
 pub(crate) fn put_chunk<T: Plays, F: Finder<T>, W: Write>(
     alloc: Global,
     text: &[char],

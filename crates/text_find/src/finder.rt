@@ -84,6 +84,7 @@ pub trait Finder<T: Plays> {
             → still.now.places.items ≡ standing text.now (screens profile before)
             → IfOk result (λ taken. AreQuiet text.now (screens profile) before bytes.now taken) }
     {
+        // Where the text stands makes no difference for a byte.
         let _unread = (text.len(), still.rows.len());
         play(alloc, terminal, &bytes[..1])?;
         Ok(1)

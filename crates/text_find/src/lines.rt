@@ -238,7 +238,7 @@ pub(crate) fn none_passes(first: &Standing, one: &Standing, other: &Standing) ->
     true
 }
 
-/// Whether a place went, and has nothing with the same to the left on a third screen.
+/// Whether a place may have gone, and have nothing with the same to the left on a third screen.
 fn may_pass(first: &Standing, one: &Standing, at: usize, other: &Standing) -> bool
     requires { at < length one.now.places.items }
     ensures { result ≡ false → (index due len : ℕ) (last : List Row) (lasts : List Place)

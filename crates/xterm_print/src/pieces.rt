@@ -75,14 +75,21 @@ fn quiet_run(terminal: &Terminal, text: &[char], still: &Standing, bytes: &[u8])
     if text.is_empty() {
         return 0;
     }
-    let over = run_over(terminal, text, bytes);
-    if over < 2 {
+    if !may_run(terminal, bytes) {
         return 0;
     }
     if !ends_left(terminal, text.len(), still) {
         return 0;
     }
-    over
+    run_over(terminal, text, bytes)
+}
+
+/// Whether more than one of the bytes may be put as graphic characters: else it isn't worth to look at all places.
+fn may_run(terminal: &Terminal, bytes: &[u8]) -> bool {
+    bytes.len() > 1
+        && matches!(bytes[0], 32..=126)
+        && matches!(bytes[1], 32..=126)
+        && terminal.writes_on()
 }
 
 /// Whether a text of so many characters ends left of the cursor, or in a row above, wherever it stands but in the rows

@@ -2,20 +2,19 @@ use Rattle.std.proofs.Common.{◌∙◌, ◌++◌, ap, append-nil, arith, length
 use Rattle.std.proofs.lemmas.List.{length-drop, take_rest}
 use Rattle.text_find.specs.Calm.{NonePass}
 use Rattle.text_find.specs.Lines.{AreBetween}
-use Rattle.text_find.specs.Pieces.{AreQuiet}
 use Rattle.text_find.proofs.CalmLemmas.{ahead_more, calm_more}
-use Rattle.text_find.proofs.PieceLemmas.{pieces}
 use Rattle.text_find.proofs.ahead.play_pieces.Goals as goal
 
 pub loop-taken-init : goal.loop-taken-init
 loop-taken-init g c = record {
   within = omega arith;
   count = refl;
-  trails = λ trails. trails;
+  lags = λ lags. lags;
   ahead = λ profile before h are. record {
     played = subst (g.T.Plays.shows profile c.args.ahead.now) (sym (append-nil before)) h;
     between = subst (λ b. AreBetween c.args.text.now (g.F.Finder.screens profile before) (g.F.Finder.screens profile b) c.args.ends.now) (sym (append-nil before)) are;
   };
+  trails = λ profile before h are trails. trails;
   calm = λ profile before h are trails index due last lasts. refl;
 }
 
@@ -47,7 +46,7 @@ loop-taken-preserved g c =
     record {
       within = omega (arith, c.in_ok-more.ensures.within, ap length rest, length-drop at bytes);
       count = c.play_piece.ensures.count ∙ kept.count;
-      trails = λ trails. c.in_ok-more.ensures.trails (kept.trails trails);
+      lags = λ lags. c.in_ok-more.ensures.lags (kept.lags lags);
       ahead = λ profile before h are.
           let screen = g.F.Finder.screens profile in
           let so_far = before ++ take at bytes in
@@ -55,12 +54,14 @@ loop-taken-preserved g c =
           ahead_more g.T.Plays.shows g.F.Finder.screens profile text before bytes at taken c.play_piece.new.ahead ends
           (subst (λ b. g.T.Plays.shows profile c.play_piece.new.ahead (so_far ++ take taken b)) rest (c.in_ok-more.ensures.shows profile so_far there.played))
           (subst (λ b. AreBetween text (screen before) (screen (so_far ++ take taken b)) ends) rest (c.in_ok-more.ensures.ends profile before so_far there.played there.between));
+      trails = λ profile before h are trails.
+          let there = kept.ahead profile before h are in
+          c.in_ok-more.ensures.trails profile before (before ++ take at bytes) there.played there.between (kept.trails profile before h are trails) c.if-not-calm.false;
       calm = λ profile before h are trails.
           let screen = g.F.Finder.screens profile in
           let so_far = before ++ take at bytes in
           let there = kept.ahead profile before h are in
-          let quiet = subst (λ b. AreQuiet text screen so_far b taken) rest (c.in_ok-more.ensures.quiet profile before so_far there.played there.between) in
-          let none = subst (λ b. NonePass text (screen before) (screen so_far) (screen b)) (ap (λ b. so_far ++ take taken b) rest ∙ pieces before bytes at taken)
-          (c.in_ok-more.ensures.calm profile before so_far there.played there.between (kept.trails trails) c.if-not-calm.false) in
-          calm_more text screen before bytes at taken c.in_ok-more.ensures.some quiet (kept.calm profile before h are trails) none;
+          calm_more text screen before bytes at taken (kept.calm profile before h are trails)
+          (subst (λ b. NonePass text (screen before) screen so_far b taken) rest
+          (c.in_ok-more.ensures.calm profile before so_far there.played there.between (kept.trails profile before h are trails) c.if-not-calm.false));
     }

@@ -81,7 +81,7 @@ returns-then-branch-clause-found g c = λ profile found.
     let are = subst (λ b. AreBetween text (screen here) (screen b) c.play_ahead.new.ends) next (c.in_ok-play_ahead.ensures.ends profile here found.played found.still) in
     found_calm g.T.Plays.shows g.F.Finder.screens profile chunks text index c.args.ahead.now c.play_ahead.new.ahead c.args.ends.now c.play_ahead.new.ends c.settle.new.sides c.args.behind.now c.args.steps.now c.play_ahead.new.steps found
     (subst (g.T.Plays.shows profile c.play_ahead.new.ahead) next (c.in_ok-play_ahead.ensures.shows profile here found.played found.still)) are
-    (c.in_ok-settle.ensures text (screen here) (screen (first chunks (index + 1))) are) (c.in_ok-play_ahead.ensures.trails found.trails) c.play_ahead.ensures.count
+    (c.in_ok-settle.ensures text (screen here) (screen (first chunks (index + 1))) are) (c.in_ok-play_ahead.ensures.trails profile here found.played found.still found.trails c.if-branch.true) c.play_ahead.ensures.count
 
 pub returns-in_err-reach-clause-front : goal.returns-in_err-reach-clause-front
 returns-in_err-reach-clause-front g c = λ profile found.
@@ -104,7 +104,7 @@ returns-in_err-put_chunk-clause-front g c = λ profile found.
     let same = c.play_ahead.ensures.count in
     let lagging = subst (λ n. g.T.Plays.shows profile c.args.behind.now (first chunks n)) (sym same) found.lagging in
     let shows = c.in_ok-reach.ensures.shows profile (omega (arith, found.count, same)) lagging in
-    let still = c.in_ok-reach.ensures.steps text (screen here) (screen (here ++ chunk)) are (c.in_ok-play_ahead.ensures.trails found.trails) in
+    let still = c.in_ok-reach.ensures.steps text (screen here) (screen (here ++ chunk)) are (c.in_ok-play_ahead.ensures.lags found.trails.lags) in
     rw p.1 (subst (λ t. Began g.W.Write.contents c.args.writer.now c.put_chunk.new.writer t) lines (c.in_err-put_chunk.ensures.front profile here shows are still))
 
 pub returns-in_err-settle-2-clause-front : goal.returns-in_err-settle-2-clause-front
@@ -123,7 +123,7 @@ returns-in_err-settle-2-clause-front g c = λ profile found.
     let same = c.play_ahead.ensures.count in
     let lagging = subst (λ n. g.T.Plays.shows profile c.args.behind.now (first chunks n)) (sym same) found.lagging in
     let shows = c.in_ok-reach.ensures.shows profile (omega (arith, found.count, same)) lagging in
-    let still = c.in_ok-reach.ensures.steps text (screen here) (screen (here ++ chunk)) are (c.in_ok-play_ahead.ensures.trails found.trails) in
+    let still = c.in_ok-reach.ensures.steps text (screen here) (screen (here ++ chunk)) are (c.in_ok-play_ahead.ensures.lags found.trails.lags) in
     rw p.1 (began_whole g.W.Write.contents c.args.writer.now c.put_chunk.new.writer _
     (subst (λ t. Gave g.W.Write.contents c.args.writer.now c.put_chunk.new.writer t) lines (c.in_ok-put_chunk.ensures.gave profile here shows are still)))
 
@@ -142,7 +142,7 @@ returns-clause-gave g c = λ profile found.
     let same = c.play_ahead.ensures.count in
     let lagging = subst (λ n. g.T.Plays.shows profile c.args.behind.now (first chunks n)) (sym same) found.lagging in
     let shows = c.in_ok-reach.ensures.shows profile (omega (arith, found.count, same)) lagging in
-    let still = c.in_ok-reach.ensures.steps text (screen here) (screen (here ++ chunk)) are (c.in_ok-play_ahead.ensures.trails found.trails) in
+    let still = c.in_ok-reach.ensures.steps text (screen here) (screen (here ++ chunk)) are (c.in_ok-play_ahead.ensures.lags found.trails.lags) in
     subst (λ t. Gave g.W.Write.contents c.args.writer.now c.put_chunk.new.writer t) lines (c.in_ok-put_chunk.ensures.gave profile here shows are still)
 
 pub returns-clause-found : goal.returns-clause-found
@@ -159,7 +159,7 @@ returns-clause-found g c = λ profile found.
     let same = c.play_ahead.ensures.count in
     let lagging = subst (λ n. g.T.Plays.shows profile c.args.behind.now (first chunks n)) (sym same) found.lagging in
     let shows = c.in_ok-reach.ensures.shows profile (omega (arith, found.count, same)) lagging in
-    let still = c.in_ok-reach.ensures.steps text (screen here) (screen (here ++ chunk)) are (c.in_ok-play_ahead.ensures.trails found.trails) in
+    let still = c.in_ok-reach.ensures.steps text (screen here) (screen (here ++ chunk)) are (c.in_ok-play_ahead.ensures.lags found.trails.lags) in
     let next : here ++ chunk ≡ first chunks (index + 1) = ap (λ l. here ++ l) bytes ∙ sym (c.first_grows_by_a_chunk.ensures.at chunks index) in
     let between = subst (λ b. AreBetween text (screen here) (screen b) c.play_ahead.new.ends) next are in
     found_both g.T.Plays.shows g.F.Finder.screens profile chunks text (index + 1) c.play_ahead.new.ahead c.settle-2.new.sides c.put_chunk.new.behind (record { sides = c.put_chunk.new.steps; count = index + 1; span = c.reach.new.steps.span })
