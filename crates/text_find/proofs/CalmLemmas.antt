@@ -116,9 +116,9 @@ calm_lines text index due len screen before bytes one other l is is' calm =
     let went = less_lines 45 index due len one.rows.items one.places.items other.rows.items other.places.items in
     let came = less_lines 43 index due len other.rows.items other.places.items one.rows.items one.places.items in
     let inside = λ (first : List Row) (firsts : List Place).
-        flat_map (byte_lines text index due first firsts other.rows.items other.places.items screen before bytes) (range_with_len 0 (length bytes)) in
+    flat_map (byte_lines text index due first firsts other.rows.items other.places.items screen before bytes) (range_with_len 0 (length bytes)) in
     let none : inside one.rows.items one.places.items ≡ [] =
-        ap (inside one.rows.items) is.places ∙ ap (λ r. inside r (standing text (screen before))) is.rows ∙ calm index due other.rows.items other.places.items in
+    ap (inside one.rows.items) is.places ∙ ap (λ r. inside r (standing text (screen before))) is.rows ∙ calm index due other.rows.items other.places.items in
     sym (ap (λ l. (went ++ l) ++ came) none ∙ ap (λ l. l ++ came) (append-nil went))
     ∙ chunk_in_three text index due len screen before bytes one other l is is'
 

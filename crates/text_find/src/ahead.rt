@@ -89,8 +89,7 @@ fn play_pieces<T: Plays, F: Finder<T>>(
 {
     let mut taken = 0;
     while taken < bytes.len() {
-        let (more, calm) =
-            play_piece::<T, F>(alloc, text, &bytes[taken..], ends, steps, ahead)?;
+        let (more, calm) = play_piece::<T, F>(alloc, text, &bytes[taken..], ends, steps, ahead)?;
         taken += more;
         if !calm {
             return Ok((taken, false));
