@@ -197,6 +197,9 @@ fn renewed_line(
         then Some (renewed_of screen.now.picture.lines rows.now (row_at screen.now.picture.rows line))
         else None) }
 {
+    if !screen.is_touched(line) {
+        return None;
+    }
     let (cells, used) = (screen.row(line), screen.used(line));
     if has_moved(rows, screen, line, guess) {
         return Some(renewed_as(rows, cells, used, guess, marked, marks));
