@@ -317,11 +317,11 @@ fn first_lost(sought: &Sought<'_>, pair: &Pair<'_>, line: u8, there: u8, same: b
     if !same && is_bare(sought, pair, line) {
         return cells.len() as u8 + 1;
     }
-    let same = shared_len(pair, line, there, same);
-    let behind = (same + 1).saturating_sub(sought.text.len().max(1));
+    let shared = shared_len(pair, line, there, same);
+    let behind = (shared + 1).saturating_sub(sought.text.len().max(1));
     for at in behind..cells.len() {
         let column = at as u8 + 1;
-        if !is_kept(sought, pair, line, there, same, column) {
+        if !is_kept(sought, pair, line, there, shared, column) {
             return column;
         }
     }

@@ -265,7 +265,7 @@ fn put_between<W: Write>(
 
 /// Two stills that become what stands before a byte and behind it.
 #[derive(Drop)]
-struct Work {
+struct Stills {
     before: Still,
     after: Still,
 }
@@ -295,14 +295,23 @@ fn put_each<W: Write>(
     gives_join::<W>();
     gives_end::<W>();
     let mut kept = Terminal::reset();
-    let mut work = Work {
+    let mut stills = Stills {
         before: Still::of(terminal),
         after: Still::of(terminal),
     };
     let mut known = None;
     for index in start..end {
         known = put_chunk_at(
-            recording, index, text, begins, keys, known, terminal, &mut kept, &mut work, scratch,
+            recording,
+            index,
+            text,
+            begins,
+            keys,
+            known,
+            terminal,
+            &mut kept,
+            &mut stills,
+            scratch,
             writer,
         );
         if writer.failed() {
@@ -322,7 +331,7 @@ fn put_chunk_at<'k, 'a, W: Write>(
     known: Option<&'k Key<'a>>,
     terminal: &mut Terminal,
     kept: &mut Terminal,
-    work: &mut Work,
+    stills: &mut Stills,
     scratch: &mut Reports,
     writer: &mut Watched<W>,
 ) -> Option<&'k Key<'a>>
@@ -348,7 +357,7 @@ fn put_chunk_at<'k, 'a, W: Write>(
     };
     let bytes = recording.chunks()[index].bytes.as_slice();
     put_or_pass(
-        text, start, &chunk, bytes, keys, known, terminal, kept, work, scratch, writer,
+        text, start, &chunk, bytes, keys, known, terminal, kept, stills, scratch, writer,
     )
 }
 
@@ -363,7 +372,7 @@ fn put_or_pass<'k, 'a, W: Write>(
     known: Option<&'k Key<'a>>,
     terminal: &mut Terminal,
     kept: &mut Terminal,
-    work: &mut Work,
+    stills: &mut Stills,
     scratch: &mut Reports,
     writer: &mut Watched<W>,
 ) -> Option<&'k Key<'a>>
@@ -386,7 +395,7 @@ fn put_or_pass<'k, 'a, W: Write>(
     }
     terminal.copy_from(kept);
     put_chunk(
-        text, start, chunk, bytes, terminal, kept, work, scratch, writer,
+        text, start, chunk, bytes, terminal, kept, stills, scratch, writer,
     );
     None
 }
@@ -471,7 +480,7 @@ fn put_chunk<W: Write>(
     bytes: &[u8],
     terminal: &mut Terminal,
     equal: &mut Terminal,
-    work: &mut Work,
+    stills: &mut Stills,
     scratch: &mut Reports,
     writer: &mut Watched<W>,
 )
@@ -513,8 +522,8 @@ fn put_chunk<W: Write>(
         chunk,
         &ends,
         bytes,
-        &mut work.before,
-        &mut work.after,
+        &mut stills.before,
+        &mut stills.after,
         terminal,
         scratch,
         writer,

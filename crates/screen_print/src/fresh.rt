@@ -69,6 +69,7 @@ fn play_waiting(
     ensures same { terminal.new.console ≡ terminal.old.console }
     ensures scratch { 20 ≤ length scratch.new.bytes }
 {
+    // Whatever the text is, nothing of it goes.
     let _text = text;
     let _screen = terminal.screen();
     let len = waiting_len(bytes, terminal);
