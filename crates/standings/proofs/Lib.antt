@@ -4,3 +4,4 @@ pub mod SpanLemmas
 pub mod FrontLemmas
 mod PlaceLemmas
 pub mod KeptLemmas
+mod MovedLemmas

@@ -24,7 +24,7 @@ along_more text rows above (suc n) =
     ∙ ap (λ l. places_of text rows above ++ l) (along_more text rows (above + 1) n ∙ ap (λ k. places_along text rows (above + 1) n ++ places_of text rows k) there)
     ∙ sym (append_assoc (places_of text rows above) (places_along text rows (above + 1) n) (places_of text rows (above + suc n)))
 
-from_along : (text : List ℕ) (rows : List Row) (n above : ℕ) → above + n ≡ length rows → places_from text above (drop above rows) ≡ places_along text rows above n
+pub from_along : (text : List ℕ) (rows : List Row) (n above : ℕ) → above + n ≡ length rows → places_from text above (drop above rows) ≡ places_along text rows above n
 unfolding places_from
 from_along text rows zero above all = ap (places_from text above) (drop_all above rows (omega arith))
 from_along text rows (suc n) above all =
@@ -89,7 +89,7 @@ within_more places low high low' high' lower higher is = record {
   to = λ j lt. omega (arith, higher, is.to j lt);
 }
 
-along_within : (text : List ℕ) (rows : List Row) (n above : ℕ) → IsWithin (places_along text rows above n) above (above + n)
+pub along_within : (text : List ℕ) (rows : List Row) (n above : ℕ) → IsWithin (places_along text rows above n) above (above + n)
 along_within text rows zero above = record { from = λ j lt. absurd (omega (arith, lt)); to = λ j lt. absurd (omega (arith, lt)) }
 along_within text rows (suc n) above =
     let here = places_of text rows above in
@@ -101,7 +101,7 @@ along_within text rows (suc n) above =
     (within_more (places_along text rows (above + 1) n) (above + 1) (above + 1 + n) above (above + suc n) (omega arith) (omega arith) (along_within text rows n (above + 1)))
 
 -- so many of them stand above a row
-count_is : (a b : List Place) (n c low high : ℕ) → IsWithin a low n → IsWithin b n high → c ≤ length (a ++ b)
+pub count_is : (a b : List Place) (n c low high : ℕ) → IsWithin a low n → IsWithin b n high → c ≤ length (a ++ b)
     → ((k : ℕ) → k < c → (place_at (a ++ b) k).above < n) → (c < length (a ++ b) → n ≤ (place_at (a ++ b) c).above) → c ≡ length a
 count_is a b n c low high first second within below ends = elim (cases_lt c (length a)) [
   | inl few ↦

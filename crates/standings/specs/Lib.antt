@@ -3,3 +3,4 @@ pub mod Standing
 pub mod Found
 pub mod Spans
 pub mod Kept
+pub mod Moved

@@ -3,12 +3,13 @@
 ghost use Rattle.std.specs.Prelude.{◌≡◌, ◌+◌, ◌<◌, ◌≤◌, false, true, List, ℕ, length, nat_eq, take, IfOk, OnOk};
 ghost use Rattle.std.specs.Cmp.Lexicographic.{pointwise};
 ghost use Rattle.standings.specs.Kept.{EndBy, room_in};
+ghost use Rattle.standings.specs.Moved.{moved_up};
 ghost use Rattle.standings.specs.Rows.{Row};
 ghost use Rattle.standings.specs.Spans.{Stays};
 ghost use Rattle.standings.specs.Standing.{count_left, is_less, is_lone, left_of, place_at, standing};
 
-use crate::place::{Place, look_between, may_come, standing};
-use crate::row::{Row, characters_below};
+use crate::place::{Place, look_between, may_come, move_places_up, standing};
+use crate::row::{Row, characters_below, move_rows_up};
 use crate::span::Span;
 use std::alloc::{AllocError, Global};
 
@@ -43,6 +44,31 @@ impl Standing {
             return Ok(());
         }
         look_between(self.rows.as_slice(), text, span, &mut self.places)
+    }
+
+    /// All rows move up by one, and a row of so many spaces comes in below; looks where the text stands then. Says which
+    /// rows may differ. Nothing is done where there is no row.
+    pub fn move_up(&mut self, columns: usize, text: &[char]) -> Result<Span, AllocError>
+        requires { columns < u16.MAX }
+        ensures rows { 0 < length self.old.rows.items
+            → OnOk result (self.new.rows.items ≡ moved_up columns self.old.rows.items) }
+        ensures places { 0 < length self.old.rows.items
+            → self.old.places.items ≡ standing text.now self.old.rows.items
+            → OnOk result (self.new.places.items ≡ standing text.now self.new.rows.items) }
+        ensures others { IfOk result (λ span. Stays span self.old.rows.items self.new.rows.items) }
+    {
+        let count = self.rows.len();
+        if count == 0 {
+            return Ok(Span::none());
+        }
+        move_rows_up(self.rows.as_mut_slice(), columns)?;
+        move_places_up(&mut self.places);
+        let last = Span {
+            from: count - 1,
+            to: count,
+        };
+        look_between(self.rows.as_slice(), text, last, &mut self.places)?;
+        Ok(Span { from: 0, to: count })
     }
 
     /// Becomes another one, from which only these of its rows may differ.

@@ -1,7 +1,8 @@
 //! Where a text stands on a screen.
 
-ghost use Rattle.std.specs.Prelude.{◌≡◌, ◌≢◌, ◌+◌, ◌≤◌, ◌<◌, ◌++◌, ◌-◌, [], false, true, List, ℕ, drop, length, nat_eq, slice_index_or, take, IfOk, OnOk};
+ghost use Rattle.std.specs.Prelude.{◌≡◌, ◌≢◌, ◌+◌, ◌≤◌, ◌<◌, ◌++◌, ◌-◌, [], false, true, List, ℕ, drop, length, map, nat_eq, slice_index_or, take, IfOk, OnOk};
 ghost use Rattle.std.specs.List.{starts_with};
+ghost use Rattle.standings.specs.Moved.{place_up};
 ghost use Rattle.standings.specs.Rows.{Row, row_below};
 ghost use Rattle.standings.specs.Spans.{Stays, characters_in, places_along};
 ghost use Rattle.standings.specs.Standing.{begins, line_text, place_at, places_in, standing};
@@ -74,6 +75,25 @@ pub(crate) fn look_between(
     push_between(rows, start, end, text, places)?;
     turn(places, kept, count);
     Ok(())
+}
+
+/// The places of the first row are taken out, and each other one moves up by a row.
+pub(crate) fn move_places_up(places: &mut Vec<Place>)
+    ensures { (text : List ℕ) (rows : List Row) → places.old.items ≡ standing text rows
+        → places.new.items ≡ standing text (drop 1 rows) }
+{
+    let gone = count_above(places.as_slice(), 1);
+    forget(places, 0, gone);
+    lift(places.as_mut_slice());
+}
+
+/// Each place moves up by a row.
+fn lift(places: &mut [Place])
+    ensures { places.new ≡ map place_up places.old }
+{
+    for place in places.iter_mut() {
+        place.above = place.above.saturating_sub(1);
+    }
 }
 
 /// How many places in reading order stand in rows above one.

@@ -2,6 +2,7 @@
 
 ghost use Rattle.std.specs.Prelude.{◌≡◌, ◌+◌, ◌-◌, ◌≤◌, ◌<◌, ◌∷◌, ◌++◌, [], IfOk, OnOk, length, replicate, slice_index_or, slice_set, take};
 ghost use Rattle.std.specs.List.{range_with_len};
+ghost use Rattle.standings.specs.Moved.{moved_up, spaces_row};
 ghost use Rattle.standings.specs.Rows.{empty_row, row_below};
 
 use std::alloc::{AllocError, Global};
@@ -176,6 +177,15 @@ impl Row {
         Ok(())
     }
 
+    /// Becomes a row of so many spaces, and asks for room where it has too little.
+    pub(crate) fn blank(&mut self, columns: usize) -> Result<(), AllocError>
+        requires { columns < u16.MAX }
+        ensures { OnOk result (self.new ≡ spaces_row columns) }
+    {
+        self.restart(false);
+        self.push_many(' ', columns, 1)
+    }
+
     /// Its characters.
     pub fn characters(&self) -> &[char]
         ensures { result.now ≡ self.now.characters }
@@ -211,6 +221,18 @@ fn number(columns: &mut [u16], from: usize, column: u16)
     for at in from..columns.len() {
         columns[at] = column + (at - from) as u16;
     }
+}
+
+/// All rows move up by one, and the first one becomes a row of so many spaces below the others.
+pub(crate) fn move_rows_up(rows: &mut [Row], columns: usize) -> Result<(), AllocError>
+    requires some { 0 < length rows.old }
+    requires few { columns < u16.MAX }
+    ensures { OnOk result (rows.new ≡ moved_up columns rows.old) }
+{
+    rows.rotate_left(1);
+    let last = rows.len() - 1;
+    let row = &mut rows[last];
+    row.blank(columns)
 }
 
 /// The characters of the row below so many others; none below the last.

@@ -1,0 +1,93 @@
+-- Rows that move up by one, the places in them, and the row that comes in below.
+use Rattle.std.proofs.Common.{◌≡◌, ℕ, ◌+◌, ◌-◌, ◌<◌, ◌≤◌, List, [], ◌∷◌, ◌++◌, cond, drop, filter, length, map, set, take, refl, ap, ap₂, subst, sym, ◌∙◌, arith}
+use Rattle.std.specs.List.{range_with_len}
+use Rattle.std.proofs.Math.Seq.{set-append_seam}
+use Rattle.std.proofs.lemmas.List.{drop_all, drop_at, get_or_append_left, get_or_past, length-append, length-drop, map-append}
+use Rattle.standings.specs.Moved.{moved_up, place_up, spaces_row}
+use Rattle.standings.specs.Rows.{Row, empty_row}
+use Rattle.standings.specs.Spans.{Stays, places_along, span_of}
+use Rattle.standings.specs.Standing.{begins, line_text, place_at, place_in, places_from, places_in, standing}
+use Rattle.standings.specs.declared.place.Place.{Place}
+use Rattle.standings.proofs.PlaceLemmas.{along_parts, along_within, count_is, from_along, standing_along}
+
+-- ---- the places of all rows but the first, a row further up
+
+up_in : (above : ℕ) (starts : List ℕ) → map place_up (map (place_in (above + 1)) starts) ≡ map (place_in above) starts
+up_in above [] = refl
+up_in above (before ∷ starts) =
+    let here : above + 1 - 1 ≡ above = omega arith in
+    ap₂ (λ k l. place_in k before ∷ l) here (up_in above starts)
+
+up_from : (text : List ℕ) (rows : List Row) (above : ℕ) → map place_up (places_from text (above + 1) rows) ≡ places_from text above rows
+unfolding places_from
+up_from text [] above = refl
+up_from text (row ∷ rows) above =
+    let line = line_text (row ∷ rows) in
+    let n = length row.characters in
+    map-append place_up (places_in text (above + 1) line n) (places_from text (above + 1 + 1) rows)
+    ∙ ap₂ (λ a b. a ++ b) (up_in above (filter (begins text line) (range_with_len 0 n))) (up_from text rows (above + 1))
+
+-- those of the first row are as many as stand above the second
+below_first : (text : List ℕ) (rows : List Row) (places : List Place) (c : ℕ) → 0 < length rows → places ≡ standing text rows → c ≤ length places
+    → ((k : ℕ) → k < c → (place_at places k).above < 1) → (c < length places → 1 ≤ (place_at places c).above) → drop c places ≡ places_from text 1 (drop 1 rows)
+below_first text rows places c some was within below ends =
+    let m = length rows - 1 in
+    let all : 1 + m ≡ length rows = omega arith in
+    let front = places_along text rows 0 1 in
+    let rest = places_along text rows 1 m in
+    let split : places ≡ front ++ rest = was ∙ standing_along text rows ∙ ap (places_along text rows 0) (sym all) ∙ along_parts text rows 1 m 0 in
+    let cut : c ≡ length front =
+    count_is front rest 1 c 0 (1 + m) (along_within text rows 1 0) (along_within text rows m 1)
+    (subst (λ l. c ≤ length l) split within) (subst (λ l. (k : ℕ) → k < c → (place_at l k).above < 1) split below)
+    (subst (λ l. c < length l → 1 ≤ (place_at l c).above) split ends) in
+    ap (drop c) split ∙ drop_at front rest c (sym cut) ∙ sym (from_along text rows m 1 all)
+
+pub places_up : (text : List ℕ) (rows : List Row) (places left : List Place) (c : ℕ) → places ≡ standing text rows → c ≤ length places
+    → ((k : ℕ) → k < c → (place_at places k).above < 1) → (c < length places → 1 ≤ (place_at places c).above)
+    → left ≡ drop c places → map place_up left ≡ standing text (drop 1 rows)
+unfolding places_from
+places_up text [] places left c was within below ends leaves =
+    ap (map place_up) (leaves ∙ ap (drop c) was ∙ drop_all c [] (omega arith))
+places_up text (row ∷ rows) places left c was within below ends leaves =
+    ap (map place_up) (leaves ∙ below_first text (row ∷ rows) places c (omega arith) was within below ends) ∙ up_from text rows 0
+
+-- ---- a row without a character below the others
+
+line_more : (rows : List Row) → line_text (rows ++ empty_row ∷ []) ≡ line_text rows
+unfolding line_text
+line_more [] = refl
+line_more (row ∷ rows) = ap (λ l. row.characters ++ cond row.runs_on l []) (line_more rows)
+
+from_more : (text : List ℕ) (rows : List Row) (above : ℕ) → places_from text above (rows ++ empty_row ∷ []) ≡ places_from text above rows
+unfolding places_from
+from_more text [] above = refl
+from_more text (row ∷ rows) above =
+    ap₂ (λ line more. places_in text above line (length row.characters) ++ more) (line_more (row ∷ rows)) (from_more text rows (above + 1))
+
+pub standing_below : (text : List ℕ) (rows : List Row) → standing text (rows ++ empty_row ∷ []) ≡ standing text rows
+standing_below text rows = from_more text rows 0
+
+-- ---- the rows
+
+-- the first one comes last, and becomes another
+pub put_last : (rows turned : List Row) (row : Row) → 0 < length rows → turned ≡ drop 1 rows ++ take 1 rows → set turned (length turned - 1) row ≡ drop 1 rows ++ row ∷ []
+put_last [] turned row some turns = absurd (omega (arith, some))
+put_last (first ∷ rows) turned row some turns =
+    let last : length turned - 1 ≡ length rows = omega (arith, ap length turns, length-append rows (first ∷ [])) in
+    ap₂ (λ l k. set l k row) turns last ∙ set-append_seam rows first [] row
+
+last_differs : (rows : List Row) (one other : Row) (from to : ℕ) → from ≡ length rows → to ≡ length rows + 1
+    → Stays (span_of from to) (rows ++ one ∷ []) (rows ++ other ∷ [])
+last_differs rows one other from to first last = record {
+  count = length-append rows (other ∷ []) ∙ sym (length-append rows (one ∷ []));
+  above = λ k lt.
+      get_or_append_left rows (other ∷ []) empty_row k (omega (arith, lt)) ∙ sym (get_or_append_left rows (one ∷ []) empty_row k (omega (arith, lt)));
+  below = λ k ge.
+      get_or_past (rows ++ other ∷ []) k empty_row (omega (arith, ge, length-append rows (other ∷ [])))
+      ∙ sym (get_or_past (rows ++ one ∷ []) k empty_row (omega (arith, ge, length-append rows (one ∷ []))));
+}
+
+-- from the rows that moved up with one without a character below them, only the one that came in
+pub came_in : (columns count : ℕ) (rows : List Row) → 0 < length rows → count ≡ length rows → Stays (span_of (count - 1) count) (drop 1 rows ++ empty_row ∷ []) (moved_up columns rows)
+came_in columns count rows some is =
+    last_differs (drop 1 rows) empty_row (spaces_row columns) (count - 1) count (omega (arith, length-drop 1 rows)) (omega (arith, length-drop 1 rows))

@@ -1,0 +1,18 @@
+-- Rows that move up by one.
+use Rattle.std.specs.Prelude.{ℕ, ◌-◌, false, List, [], ◌∷◌, ◌++◌, drop, replicate}
+use Rattle.std.specs.List.{range_with_len}
+use Rattle.standings.specs.Rows.{Row}
+use Rattle.standings.specs.Standing.{place_in}
+use Rattle.standings.specs.declared.place.Place.{Place}
+
+-- a row of so many spaces, in columns from 1 on, that doesn't run on (ours)
+abbrev pub spaces_row : ℕ → Row
+spaces_row columns = record { characters = replicate columns 32; columns = range_with_len 1 columns; runs_on = false }
+
+-- all rows move up by one, and a row of so many spaces comes in below (ours)
+abbrev pub moved_up : ℕ → List Row → List Row
+moved_up columns rows = drop 1 rows ++ spaces_row columns ∷ []
+
+-- private: a place, in the row above its own
+abbrev pub place_up : Place → Place
+place_up place = place_in (place.above - 1) place.before
