@@ -1,7 +1,6 @@
 -- What bytes will show, told before they are played.
-use Rattle.std.proofs.Common.{◌≡◌, ◌≢◌, ℕ, zero, suc, ◌+◌, ◌-◌, ◌<◌, ◌≤◌, Bool, true, false, List, [], ◌∷◌, ◌++◌, length, map, take, refl, sym, ap, subst, inl, inr, ◌∙◌, ◌&&◌, nat_le, arith}
+use Rattle.std.proofs.Common.{◌≡◌, ◌≢◌, ℕ, zero, suc, ◌+◌, ◌-◌, ◌<◌, ◌≤◌, Bool, true, false, List, [], ◌∷◌, ◌++◌, length, map, take, refl, sym, ap, ap₂, subst, inl, inr, ◌∙◌, ◌&&◌, nat_eq, nat_le, arith}
 use Rattle.std.specs.Prelude.{Option, None, Some}
-use Rattle.std.specs.List.{list_all}
 use Rattle.std.proofs.lemmas.Bool.{cases_Bool}
 use Rattle.std.proofs.lemmas.Bool.Decides.{nat_tests}
 use Rattle.std.proofs.lemmas.List.{append-nil, length-append, length-take}
@@ -13,25 +12,32 @@ use Rattle.vt_parser.specs.declared.commands.Mode.TheVariants.{Ansi}
 use Rattle.vt_parser.specs.declared.states.ParserState.{ParserState}
 use Rattle.vt_parser.specs.declared.states.ParserState.TheVariants.{Ground}
 use Rattle.vt_parser.specs.Fold.{Waits}
+use Rattle.vt_parser.specs.Law.{ControlIsGiven}
 use Rattle.vt_parser.specs.Step.{command_of, context_of, pending_after}
-use Rattle.vt_parser.specs.Syntax.{is_graphic}
+use Rattle.vt_parser.specs.Syntax.{is_within}
 use Rattle.vt_parser.specs.View.{parser_view}
+use Rattle.sheet.specs.declared.rendition.Colour.{Colour}
+use Rattle.sheet.specs.Grid.{blank_row, scrolled_up}
+use Rattle.xterm_screen.specs.Picture.{Picture}
+use Rattle.xterm_screen.specs.Moves.{moved_to_left}
+use Rattle.xterm_screen.specs.Scrolls.{indexed}
 use Rattle.xterm_screen.specs.Puts.{run_shown}
 use Rattle.xterm_screen.proofs.Runs.{run_within}
 use Rattle.xterm_term.specs.declared.sets.CharacterSet.{CharacterSet}
 use Rattle.xterm_term.specs.declared.sets.CharacterSet.TheVariants.{Ascii}
-use Rattle.xterm_term.specs.Ahead.{WritesOn, run_at_cursor}
-use Rattle.xterm_term.specs.Console.{Console}
+use Rattle.xterm_term.specs.Ahead.{MovesUp, WritesOn, run_at_cursor}
+use Rattle.xterm_term.specs.Console.{Console, forgotten}
+use Rattle.xterm_term.specs.Controls.{Control, Lf, controls, control_effect, line_fed}
 use Rattle.xterm_term.specs.Effect.{effect}
 use Rattle.xterm_term.specs.Law.{LawsBelow}
 use Rattle.xterm_term.specs.Puts.{all_put}
 use Rattle.xterm_term.specs.Reading.{is_ground_state}
-use Rattle.xterm_term.specs.Rows.{effect_of}
+use Rattle.xterm_term.specs.Rows.{effect_of, named}
 use Rattle.xterm_term.specs.Seen.{IsTerminal, Seen, Shows}
 use Rattle.xterm_term.specs.Sets.{character_of, set_in_use}
 use Rattle.xterm_term.specs.Term.{Outcome, Term, ends_last, forgotten_if, is_ground, outcome_of, play, step, syntax_read}
 use Rattle.xterm_term.proofs.ByteKinds.{first, next, other}
-use Rattle.xterm_term.proofs.Idle.{begun, halfway}
+use Rattle.xterm_term.proofs.Idle.{begun, control_brings, halfway}
 use Rattle.xterm_term.proofs.Ran.{at_ground}
 use Rattle.xterm_term.proofs.Runs.{ascii_map, ascii_put, on_ground, run_played, stepped}
 use Rattle.xterm_term.proofs.Taken.{front_within, nothing_played}
@@ -62,6 +68,49 @@ module _ (laws : LawsBelow) (narrow : AsciiIsNarrow) where
       ∙ ap (λ (t : Console). t.picture) (ascii_put narrow bytes s graphic)
       ∙ ap (λ b. run_shown bytes s.rendition s.modes.autowrap b s.picture) plain.insert
       ∙ run_within s.rendition s.modes.autowrap bytes s.picture plain.wrap sound.line_low (omega (arith, sound.line_high, sound.rows)) fits)
+
+-- ---- a line feed at the last line
+
+-- nothing is pending, no title is read, the margins are the first line and the last, and the cursor is on the last
+pub record IsAtFoot (seen : Seen) : Type 0 where
+  pub title : seen.console.title ≡ false
+  pub state : seen.state ≡ Ground
+  pub character : seen.character ≡ []
+  pub top : seen.console.picture.top ≡ 1
+  pub bottom : seen.console.picture.bottom ≡ seen.console.picture.lines
+  pub line : seen.console.picture.line ≡ seen.console.picture.lines
+
+-- LF, VT and FF are line feeds, and controls that have an effect
+line_feed_named : (byte : ℕ) → is_within 10 12 byte ≡ true → named controls byte ≡ Some Lf
+line_feed_named byte is = grind (arith, nat_tests)
+
+line_feed_within : (byte : ℕ) → is_within 10 12 byte ≡ true → is_within 8 15 byte ≡ true
+line_feed_within byte is = grind (arith, nat_tests)
+
+-- at the bottom margin an index moves the region up
+index_raises : (paper : Colour) (p : Picture) → p.line ≡ p.bottom
+    → (indexed paper p).rows ≡ scrolled_up 1 p.top p.bottom (blank_row p.columns paper) p.rows
+index_raises paper p same = let is : nat_eq p.line p.bottom ≡ true = grind (arith, nat_tests) in simp is
+
+-- so does a line feed, which goes to column 1 first or not
+feed_raises : (newline : Bool) (paper : Colour) (p : Picture) → p.line ≡ p.bottom
+    → (line_fed newline paper p).rows ≡ scrolled_up 1 p.top p.bottom (blank_row p.columns paper) p.rows
+feed_raises true paper p same = index_raises paper (moved_to_left p) same
+feed_raises false paper p same = index_raises paper p same
+
+pub moves_up : LawsBelow → ControlIsGiven → (seen : Seen) (x : Term) (byte : ℕ) → IsAtFoot seen → is_within 10 12 byte ≡ true → Shows seen x → MovesUp x byte
+moves_up laws given seen x byte foot feed shows =
+    let s : Console = seen.console in
+    let p : Picture = s.picture in
+    let paper : Colour = s.rendition.paper in
+    let played = (control_brings given s byte (line_feed_within byte feed) foot.title).played x.reports in
+    subst (λ (t : Console). (play x (byte ∷ [])).console.picture.rows
+    ≡ scrolled_up 1 1 t.picture.lines (blank_row t.picture.columns t.rendition.paper) t.picture.rows) (sym shows.console)
+    (ap (λ (y : Term). (play y (byte ∷ [])).console.picture.rows) (at_ground laws seen x shows foot.state foot.character)
+    ∙ ap (λ (y : Term). y.console.picture.rows) played
+    ∙ ap (λ (row : Option Control). (forgotten (effect_of control_effect row s)).picture.rows) (line_feed_named byte feed)
+    ∙ feed_raises s.modes.newline paper p (foot.line ∙ sym foot.bottom)
+    ∙ ap₂ (λ (top bottom : ℕ). scrolled_up 1 top bottom (blank_row p.columns paper) p.rows) foot.top foot.bottom)
 
 -- ---- bytes that show nothing
 

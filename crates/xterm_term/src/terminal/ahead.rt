@@ -1,6 +1,7 @@
 //! What bytes will show, told before they are played.
 ghost use Rattle.std.specs.Prelude.{◌≡◌, ℕ, ◌≤◌, length, take, true};
-ghost use Rattle.xterm_term.specs.Ahead.{WritesOn};
+ghost use Rattle.vt_parser.specs.Syntax.{is_within};
+ghost use Rattle.xterm_term.specs.Ahead.{MovesUp, WritesOn};
 
 use crate::below::laws_below;
 use crate::reading::is_ground_state;
@@ -8,7 +9,16 @@ use crate::sets::CharacterSet;
 use crate::terminal::Terminal;
 use characters::character_at;
 use characters::laws::widths_are_small;
+use vt_parser::laws::control_is_given;
 use vt_parser::waiting_run;
+
+// A line feed: LF, VT or FF.
+#[inline]
+fn is_line_feed(byte: u8) -> bool
+    ensures { result ≡ is_within 10 12 byte }
+{
+    matches!(byte, 10..=12)
+}
 
 impl Terminal {
     ghost use Rattle.xterm_term.specs.Seen.{Shows};
@@ -25,6 +35,35 @@ impl Terminal {
             return false;
         }
         matches!(self.console.sets.in_use(), CharacterSet::Ascii)
+    }
+
+    /// Whether a byte is a line feed at the last line that moves all lines up by one: nothing is pending, and the margins are
+    /// the first line and the last.
+    #[inline]
+    pub fn moves_up(&self, byte: u8) -> bool
+        ensures { result ≡ true → (x : Term) → Shows self.now x → MovesUp x byte }
+    {
+        if !is_line_feed(byte) {
+            return false;
+        }
+        laws_below();
+        control_is_given();
+        self.is_idle(byte) && self.is_at_foot()
+    }
+
+    // Whether the margins are the first line and the last, and the cursor is on the last.
+    #[inline]
+    fn is_at_foot(&self) -> bool
+        ensures top { result ≡ true → self.now.console.picture.top ≡ 1 }
+        ensures bottom { result ≡ true
+            → self.now.console.picture.bottom ≡ self.now.console.picture.lines }
+        ensures line { result ≡ true
+            → self.now.console.picture.line ≡ self.now.console.picture.lines }
+    {
+        let screen = &self.console.screen;
+        let lines = screen.lines();
+        let (top, bottom) = screen.margins();
+        top == 1 && bottom == lines && screen.cursor().0 == lines
     }
 
     /// How many of the bytes at least show nothing: those of a sequence or a character without its last one.
