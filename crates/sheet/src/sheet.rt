@@ -22,6 +22,9 @@ pub use packed::PackedSheet;
 use std::alloc::{AllocError, Global};
 use std::marker::Model;
 
+// How many lines are looked at at once for a touched one.
+const BLOCK: usize = 16;
+
 /// Rows of cells, a size that never changes, and the lines touched since that was last cleared.
 #[derive(Debug, Drop)]
 pub struct Sheet {
@@ -377,6 +380,18 @@ impl Sheet {
         is_any(self.touched.as_slice())
     }
 
+    /// The first line from one on that was touched since that was last cleared; one behind the last where none was.
+    pub fn next_touched(&self, line: u16) -> u16
+        requires low { 1 ≤ line }
+        requires high { line ≤ self.now.lines + 1 }
+        ensures low { line ≤ result }
+        ensures high { result ≤ self.now.lines + 1 }
+        ensures between { (k : ℕ) → line ≤ k → k < result → is_touched self.now.touched k ≡ false }
+        ensures touched { result ≤ self.now.lines → is_touched self.now.touched result ≡ true }
+    {
+        next_mark(self.touched.as_slice(), line as usize - 1) as u16 + 1
+    }
+
     /// From here on all lines count as touched, as where another sheet takes the place of one that was shown.
     pub fn touch_all(&mut self)
         ensures rows { self.new.rows ≡ self.old.rows }
@@ -496,4 +511,38 @@ fn is_any(marks: &[bool]) -> bool
         any |= *mark;
     }
     any
+}
+
+/// From one on, the start of the first block with a true one, or of what is less than a block.
+fn empty_blocks_end(marks: &[bool], from: usize) -> usize
+    requires { from ≤ length marks.now }
+    ensures low { from ≤ result }
+    ensures high { result ≤ length marks.now }
+    ensures between { (k : ℕ) → from ≤ k → k < result → slice_index_or marks.now k true ≡ false }
+{
+    let mut at = from;
+    while marks.len() - at >= BLOCK {
+        if is_any(&marks[at..at + BLOCK]) {
+            return at;
+        }
+        at += BLOCK;
+    }
+    at
+}
+
+/// The first true one from one on, or how many there are where none is.
+fn next_mark(marks: &[bool], from: usize) -> usize
+    requires { from ≤ length marks.now }
+    ensures low { from ≤ result }
+    ensures high { result ≤ length marks.now }
+    ensures between { (k : ℕ) → from ≤ k → k < result → slice_index_or marks.now k true ≡ false }
+    ensures found { result < length marks.now → slice_index_or marks.now result true ≡ true }
+{
+    let start = empty_blocks_end(marks, from);
+    for at in start..marks.len() {
+        if marks[at] {
+            return at;
+        }
+    }
+    marks.len()
 }

@@ -1,6 +1,6 @@
 //! The screen, how it is made, and what is read of it. Lines and columns are counted from 1.
 
-ghost use Rattle.std.specs.Prelude.{◌≡◌, ℕ, ◌≤◌, Bool, IfOk, List, false, length};
+ghost use Rattle.std.specs.Prelude.{◌≡◌, ℕ, ◌+◌, ◌<◌, ◌≤◌, Bool, IfOk, List, false, length, true};
 ghost use Rattle.sheet.specs.Cells.{Cell};
 ghost use Rattle.sheet.specs.Grid.{IsUsed, is_touched, row_at};
 ghost use Rattle.sheet.specs.Halves.{Whole};
@@ -211,6 +211,19 @@ impl Screen {
             → is_touched self.now.touched line ≡ false }
     {
         self.shown.any_touched()
+    }
+
+    /// The first line from one on of the sheet that is shown that was touched since that was last cleared; one behind
+    /// the last where none was.
+    pub fn next_touched(&self, line: u16) -> u16
+        requires low { 1 ≤ line }
+        requires high { line ≤ self.now.picture.lines + 1 }
+        ensures low { line ≤ result }
+        ensures high { result ≤ self.now.picture.lines + 1 }
+        ensures between { (k : ℕ) → line ≤ k → k < result → is_touched self.now.touched k ≡ false }
+        ensures touched { result ≤ self.now.picture.lines → is_touched self.now.touched result ≡ true }
+    {
+        self.shown.next_touched(line)
     }
 
     /// From here on lines are told against the rows of now.

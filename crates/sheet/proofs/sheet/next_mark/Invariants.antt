@@ -1,0 +1,7 @@
+use Rattle.std.proofs.Common.{◌≡◌, ◌<◌, ◌≤◌, ℕ, false, true}
+use Rattle.std.specs.Prelude.{slice_index_or}
+use Rattle.sheet.proofs.sheet.next_mark.Given as goal
+
+-- none so far is true
+abbrev pub invariant-loop-at : goal.invariant-loop-at
+invariant-loop-at l = (k : ℕ) → l.from ≤ k → k < l.at → slice_index_or l.marks k true ≡ false
