@@ -91,6 +91,30 @@ fn touched(rt: HostRuntime) -> Result<(), Fail> {
     assert_touched(&rt, ROWS)
 }
 
+fn assert_next(
+    rt: &(impl Abort + AllocGlobal),
+    terminal: &Terminal,
+    from: u16,
+    want: u16,
+) -> Result<(), Fail> {
+    let screen = terminal.screen();
+    if from == 0 || from > screen.lines() + 1 {
+        return Err(Fail::new("no line"));
+    }
+    assert_eq!(rt; screen.next_touched(from), want, "from {}", from);
+    Ok(())
+}
+
+#[test]
+fn next_touched(rt: HostRuntime) -> Result<(), Fail> {
+    let mut left = reset_as(rt.alloc(), (80, 24))?;
+    left.feed(&[b"\x1b[3;1Hx\x1b[20;1Hy"])?;
+    for (from, want) in [(1, 3), (3, 3), (4, 20), (20, 20), (21, 25), (25, 25)] {
+        assert_next(&rt, &left.terminal, from, want)?;
+    }
+    Ok(())
+}
+
 #[test]
 fn all_is_touched_at_first(rt: HostRuntime) -> Result<(), Fail> {
     let first = reset_as(rt.alloc(), SIZE)?;
