@@ -82,6 +82,12 @@ pub nowhere_calm : (text : List ℕ) (first : List Row) (screen : List ℕ → L
 nowhere_calm text first screen before bytes taken none = λ index due last lasts count lt.
     none_stood text index due first (standing text first) last lasts (rows_within screen before bytes count) (rows_within screen before bytes (count + 1)) (none count lt)
 
+-- nor at one byte where it stood nowhere before that
+pub one_calm : (text : List ℕ) (first : List Row) (screen : List ℕ → List Row) (before bytes : List ℕ) → standing text (screen before) ≡ [] → NonePass text first screen before bytes 1
+one_calm text first screen before bytes none = nowhere_calm text first screen before bytes 1 (λ count lt.
+    let start : count ≡ 0 = omega (arith, lt) in
+    ap (λ n. standing text (rows_within screen before bytes n)) start ∙ ap (standing text) (within_start screen before bytes) ∙ none)
+
 -- nor at a piece more
 pub calm_more : (text : List ℕ) (screen : List ℕ → List Row) (before bytes : List ℕ) (at taken : ℕ) → IsCalm text screen before bytes at
     → NonePass text (screen before) screen (before ++ take at bytes) (drop at bytes) taken → IsCalm text screen before bytes (at + taken)
@@ -173,6 +179,14 @@ trails_on text screen ends others steps is is' trails =
         | inr both ↦ inr (both.0 ∙ sym rows, both.1 ∙ sym places)
       ];
     }
+
+-- where the text stands, what stood before is told
+pub stood_before : (text : List ℕ) (screen : List Row) (ends : Sides) (steps : Steps) → (ends.after.places.items ≡ [] → ⊥) → IsStill text screen ends.after → IsTrailing ends steps
+    → IsStill text screen steps.sides.before
+stood_before text screen ends steps stands is trails = elim trails.same [
+  | inl none ↦ absurd (stands none)
+  | inr both ↦ record { rows = both.0 ∙ is.rows; places = both.1 ∙ is.places }
+]
 
 -- what stood at a chunk's start, from which the screen that is played ahead differs in some rows
 pub start_differs : (ends : Sides) (steps : Steps) → Stays ends.span ends.before.rows.items ends.after.rows.items → IsLagging ends steps

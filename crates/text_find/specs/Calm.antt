@@ -1,12 +1,13 @@
 -- Private: bytes at which nothing of a text passes inside a chunk.
-use Rattle.std.specs.Prelude.{◌≡◌, ℕ, ◌<◌, List, [], ◌++◌, take}
+use Rattle.std.specs.Prelude.{◌≡◌, ℕ, ◌<◌, ◌≤◌, Bool, true, List, [], ◌++◌, length, take}
 use Rattle.std.specs.List.{flat_map, range_with_len}
 use Rattle.standings.specs.Rows.{Row}
 use Rattle.standings.specs.Standing.{standing}
 use Rattle.standings.specs.declared.place.Place.{Place}
+use Rattle.text_find.specs.declared.behind.Steps.{Steps}
 use Rattle.text_find.specs.declared.sides.Sides.{Sides}
 use Rattle.text_find.specs.FindLines.{Screens}
-use Rattle.text_find.specs.Lines.{AreBetween, byte_lines}
+use Rattle.text_find.specs.Lines.{AreBetween, IsLagging, IsTrailing, byte_lines}
 
 -- no line tells of what went at each of so many bytes, inside a chunk that begins with such a screen, whatever its end is
 abbrev pub NonePass : List ℕ → List Row → (List ℕ → List Row) → List ℕ → List ℕ → ℕ → Type 0
@@ -23,3 +24,17 @@ pub record IsAhead {P T : Type 0} (shows : P → T → List ℕ → Type 0) (scr
     (taken : ℕ) (ahead : T) (ends : Sides) : Type 0 where
   pub played : shows profile ahead (before ++ take taken bytes)
   pub between : AreBetween text (screens profile before) (screens profile (before ++ take taken bytes)) ends
+
+-- a piece of a chunk was played ahead, so many of the bytes, and where that is said surely no line tells of them
+pub record IsPiece {P T : Type 0} (shows : P → T → List ℕ → Type 0) (screens : Screens P) (text bytes : List ℕ) (ends ends' : Sides) (steps steps' : Steps)
+    (ahead ahead' : T) (taken : ℕ) (surely : Bool) : Type 0 where
+  pub some : 0 < taken
+  pub within : taken ≤ length bytes
+  pub lags : IsLagging ends steps → IsLagging ends' steps'
+  pub played : (profile : P) (before : List ℕ) → shows profile ahead before → shows profile ahead' (before ++ take taken bytes)
+  pub between : (profile : P) (first before : List ℕ) → shows profile ahead before → AreBetween text (screens profile first) (screens profile before) ends
+      → AreBetween text (screens profile first) (screens profile (before ++ take taken bytes)) ends'
+  pub trails : (profile : P) (first before : List ℕ) → shows profile ahead before → AreBetween text (screens profile first) (screens profile before) ends
+      → IsTrailing ends steps → surely ≡ true → IsTrailing ends' steps'
+  pub calm : (profile : P) (first before : List ℕ) → shows profile ahead before → AreBetween text (screens profile first) (screens profile before) ends
+      → IsTrailing ends steps → surely ≡ true → NonePass text (screens profile first) (screens profile) before bytes taken

@@ -1,12 +1,13 @@
 //! A chunk that is played ahead, in pieces, so long as nothing of a text passes inside it.
 
 ghost use Rattle.std.specs.Prelude.{◌≡◌, ◌≢◌, ◌++◌, ◌<◌, ◌≤◌, [], true, List, ℕ, length, take, IfOk, OnOk};
-ghost use Rattle.text_find.specs.Calm.{IsAhead, IsCalm, NonePass};
+ghost use Rattle.text_find.specs.Calm.{IsAhead, IsCalm, IsPiece};
 ghost use Rattle.text_find.specs.Lines.{AreBetween, AreStill, IsLagging, IsTrailing};
 
 use crate::behind::{Steps, trail};
 use crate::finder::Finder;
 use crate::lines::none_passes;
+use crate::moved::play_up;
 use crate::sides::{Sides, catch_up};
 use plays::{OutOfMemory, Plays, Reports};
 use std::alloc::Global;
@@ -109,26 +110,13 @@ fn play_piece<T: Plays, F: Finder<T>>(
     ahead: &mut T,
 ) -> Result<(usize, bool), OutOfMemory>
     requires some { 0 < length bytes.now }
-    ensures some { IfOk result (λ played. 0 < played.0) }
-    ensures within { IfOk result (λ played. played.0 ≤ length bytes.now) }
     ensures count { steps.new.count ≡ steps.old.count }
-    ensures lags { IsLagging ends.old steps.old → OnOk result (IsLagging ends.new steps.new) }
-    ensures shows { (profile : T.Profile) (before : List ℕ) → T.shows profile ahead.old before
-        → IfOk result (λ played. T.shows profile ahead.new (before ++ take played.0 bytes.now)) }
-    ensures ends { (profile : T.Profile) (first before : List ℕ) → T.shows profile ahead.old before
-        → AreBetween text.now (F.screens profile first) (F.screens profile before) ends.old
-        → IfOk result (λ played. AreBetween text.now
-        (F.screens profile first) (F.screens profile (before ++ take played.0 bytes.now)) ends.new) }
-    ensures trails { (profile : T.Profile) (first before : List ℕ) → T.shows profile ahead.old before
-        → AreBetween text.now (F.screens profile first) (F.screens profile before) ends.old
-        → IsTrailing ends.old steps.old
-        → IfOk result (λ played. played.1 ≡ true → IsTrailing ends.new steps.new) }
-    ensures calm { (profile : T.Profile) (first before : List ℕ) → T.shows profile ahead.old before
-        → AreBetween text.now (F.screens profile first) (F.screens profile before) ends.old
-        → IsTrailing ends.old steps.old
-        → IfOk result (λ played. played.1 ≡ true → NonePass text.now (F.screens profile first)
-        (F.screens profile) before bytes.now played.0) }
+    ensures piece { IfOk result (λ played. IsPiece T.shows F.screens text.now bytes.now
+        ends.old ends.new steps.old steps.new ahead.old ahead.new played.0 played.1) }
 {
+    if let Some(columns) = F::moves_up(ahead, bytes) {
+        return play_up::<T, F>(alloc, text, bytes, columns, ends, steps, ahead);
+    }
     if ends.after.places.is_empty() {
         play_where_none_stands::<T, F>(alloc, text, bytes, ends, steps, ahead)
     } else {
@@ -147,25 +135,9 @@ fn play_where_none_stands<T: Plays, F: Finder<T>>(
 ) -> Result<(usize, bool), OutOfMemory>
     requires some { 0 < length bytes.now }
     requires none { ends.old.after.places.items ≡ [] }
-    ensures some { IfOk result (λ played. 0 < played.0) }
-    ensures within { IfOk result (λ played. played.0 ≤ length bytes.now) }
     ensures count { steps.new.count ≡ steps.old.count }
-    ensures lags { IsLagging ends.old steps.old → OnOk result (IsLagging ends.new steps.new) }
-    ensures shows { (profile : T.Profile) (before : List ℕ) → T.shows profile ahead.old before
-        → IfOk result (λ played. T.shows profile ahead.new (before ++ take played.0 bytes.now)) }
-    ensures ends { (profile : T.Profile) (first before : List ℕ) → T.shows profile ahead.old before
-        → AreBetween text.now (F.screens profile first) (F.screens profile before) ends.old
-        → IfOk result (λ played. AreBetween text.now
-        (F.screens profile first) (F.screens profile (before ++ take played.0 bytes.now)) ends.new) }
-    ensures trails { (profile : T.Profile) (first before : List ℕ) → T.shows profile ahead.old before
-        → AreBetween text.now (F.screens profile first) (F.screens profile before) ends.old
-        → IsTrailing ends.old steps.old
-        → IfOk result (λ played. played.1 ≡ true → IsTrailing ends.new steps.new) }
-    ensures calm { (profile : T.Profile) (first before : List ℕ) → T.shows profile ahead.old before
-        → AreBetween text.now (F.screens profile first) (F.screens profile before) ends.old
-        → IsTrailing ends.old steps.old
-        → IfOk result (λ played. played.1 ≡ true → NonePass text.now (F.screens profile first)
-        (F.screens profile) before bytes.now played.0) }
+    ensures piece { IfOk result (λ played. IsPiece T.shows F.screens text.now bytes.now
+        ends.old ends.new steps.old steps.new ahead.old ahead.new played.0 played.1) }
 {
     let taken = F::play_some(alloc, ahead, text, bytes)?;
     let span = catch_up::<T, F>(ends, ahead, text)?;
@@ -184,25 +156,9 @@ fn play_where_it_stands<T: Plays, F: Finder<T>>(
 ) -> Result<(usize, bool), OutOfMemory>
     requires some { 0 < length bytes.now }
     requires stands { ends.old.after.places.items ≢ [] }
-    ensures some { IfOk result (λ played. 0 < played.0) }
-    ensures within { IfOk result (λ played. played.0 ≤ length bytes.now) }
     ensures count { steps.new.count ≡ steps.old.count }
-    ensures lags { IsLagging ends.old steps.old → OnOk result (IsLagging ends.new steps.new) }
-    ensures shows { (profile : T.Profile) (before : List ℕ) → T.shows profile ahead.old before
-        → IfOk result (λ played. T.shows profile ahead.new (before ++ take played.0 bytes.now)) }
-    ensures ends { (profile : T.Profile) (first before : List ℕ) → T.shows profile ahead.old before
-        → AreBetween text.now (F.screens profile first) (F.screens profile before) ends.old
-        → IfOk result (λ played. AreBetween text.now
-        (F.screens profile first) (F.screens profile (before ++ take played.0 bytes.now)) ends.new) }
-    ensures trails { (profile : T.Profile) (first before : List ℕ) → T.shows profile ahead.old before
-        → AreBetween text.now (F.screens profile first) (F.screens profile before) ends.old
-        → IsTrailing ends.old steps.old
-        → IfOk result (λ played. played.1 ≡ true → IsTrailing ends.new steps.new) }
-    ensures calm { (profile : T.Profile) (first before : List ℕ) → T.shows profile ahead.old before
-        → AreBetween text.now (F.screens profile first) (F.screens profile before) ends.old
-        → IsTrailing ends.old steps.old
-        → IfOk result (λ played. played.1 ≡ true → NonePass text.now (F.screens profile first)
-        (F.screens profile) before bytes.now played.0) }
+    ensures piece { IfOk result (λ played. IsPiece T.shows F.screens text.now bytes.now
+        ends.old ends.new steps.old steps.new ahead.old ahead.new played.0 played.1) }
 {
     let taken = F::play_quietly(alloc, ahead, text, &ends.after, bytes)?;
     let span = catch_up::<T, F>(ends, ahead, text)?;

@@ -1,5 +1,6 @@
 //! What a text is looked for in: a terminal that shows rows of characters.
-ghost use Rattle.std.specs.Prelude.{◌≡◌, ◌<◌, ◌≤◌, ◌++◌, [], List, ℕ, length, take, IfOk, IsOk, OnOk};
+ghost use Rattle.std.specs.Prelude.{◌≡◌, ◌<◌, ◌≤◌, ◌++◌, [], List, ℕ, length, take, IfOk, IfSome, IsOk, OnOk};
+ghost use Rattle.standings.specs.Moved.{moved_up};
 ghost use Rattle.standings.specs.Spans.{Stays};
 ghost use Rattle.standings.specs.Standing.{standing};
 
@@ -88,6 +89,22 @@ pub trait Finder<T: Plays> {
         let _unread = (text.len(), still.rows.len());
         play(alloc, terminal, &bytes[..1])?;
         Ok(1)
+    }
+
+    /// Whether surely the first of the bytes moves all rows up by one, and a row of spaces comes in below: how many it has.
+    fn moves_up(terminal: &T, bytes: &[u8]) -> Option<usize>
+        ensures some { IfSome result (λ _. 0 < length bytes.now) }
+        ensures few { IfSome result (λ columns. columns < u16.MAX) }
+        ensures rows { (profile : T.Profile) (before : List ℕ) → T.shows profile terminal.now before
+            → IfSome result (λ _. 0 < length (screens profile before)) }
+        ensures moves { (profile : T.Profile) (before : List ℕ) → T.shows profile terminal.now before
+            → IfSome result (λ columns.
+            screens profile (before ++ take 1 bytes.now) ≡ moved_up columns (screens profile before)) }
+    {
+        // A terminal of which no more is known surely moves no rows.
+        let _terminal = terminal;
+        let _unread = bytes.len();
+        None
     }
 
     /// Where nothing was played a text with ink stands nowhere. Nothing is done.

@@ -10,6 +10,7 @@ mod finder;
 mod finding;
 pub mod laws;
 mod lines;
+mod moved;
 mod sides;
 
 pub use finder::Finder;

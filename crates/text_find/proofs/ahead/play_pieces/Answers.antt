@@ -31,8 +31,8 @@ returns-then-not-calm-clause-ahead g c = λ profile before h are.
     let so_far = before ++ take at bytes in
     let there = kept.ahead profile before h are in
     ahead_more g.T.Plays.shows g.F.Finder.screens profile text before bytes at taken c.play_piece.new.ahead ends
-    (subst (λ b. g.T.Plays.shows profile c.play_piece.new.ahead (so_far ++ take taken b)) rest (c.in_ok-more.ensures.shows profile so_far there.played))
-    (subst (λ b. AreBetween text (screen before) (screen (so_far ++ take taken b)) ends) rest (c.in_ok-more.ensures.ends profile before so_far there.played there.between))
+    (subst (λ b. g.T.Plays.shows profile c.play_piece.new.ahead (so_far ++ take taken b)) rest (c.in_ok-more.ensures.piece.played profile so_far there.played))
+    (subst (λ b. AreBetween text (screen before) (screen (so_far ++ take taken b)) ends) rest (c.in_ok-more.ensures.piece.between profile before so_far there.played there.between))
 
 pub loop-taken-preserved : goal.loop-taken-preserved
 loop-taken-preserved g c =
@@ -44,24 +44,24 @@ loop-taken-preserved g c =
     let kept = c.loop-taken.invariant in
     let ends = c.play_piece.new.ends in
     record {
-      within = omega (arith, c.in_ok-more.ensures.within, ap length rest, length-drop at bytes);
+      within = omega (arith, c.in_ok-more.ensures.piece.within, ap length rest, length-drop at bytes);
       count = c.play_piece.ensures.count ∙ kept.count;
-      lags = λ lags. c.in_ok-more.ensures.lags (kept.lags lags);
+      lags = λ lags. c.in_ok-more.ensures.piece.lags (kept.lags lags);
       ahead = λ profile before h are.
           let screen = g.F.Finder.screens profile in
           let so_far = before ++ take at bytes in
           let there = kept.ahead profile before h are in
           ahead_more g.T.Plays.shows g.F.Finder.screens profile text before bytes at taken c.play_piece.new.ahead ends
-          (subst (λ b. g.T.Plays.shows profile c.play_piece.new.ahead (so_far ++ take taken b)) rest (c.in_ok-more.ensures.shows profile so_far there.played))
-          (subst (λ b. AreBetween text (screen before) (screen (so_far ++ take taken b)) ends) rest (c.in_ok-more.ensures.ends profile before so_far there.played there.between));
+          (subst (λ b. g.T.Plays.shows profile c.play_piece.new.ahead (so_far ++ take taken b)) rest (c.in_ok-more.ensures.piece.played profile so_far there.played))
+          (subst (λ b. AreBetween text (screen before) (screen (so_far ++ take taken b)) ends) rest (c.in_ok-more.ensures.piece.between profile before so_far there.played there.between));
       trails = λ profile before h are trails.
           let there = kept.ahead profile before h are in
-          c.in_ok-more.ensures.trails profile before (before ++ take at bytes) there.played there.between (kept.trails profile before h are trails) c.if-not-calm.false;
+          c.in_ok-more.ensures.piece.trails profile before (before ++ take at bytes) there.played there.between (kept.trails profile before h are trails) c.if-not-calm.false;
       calm = λ profile before h are trails.
           let screen = g.F.Finder.screens profile in
           let so_far = before ++ take at bytes in
           let there = kept.ahead profile before h are in
           calm_more text screen before bytes at taken (kept.calm profile before h are trails)
           (subst (λ b. NonePass text (screen before) screen so_far b taken) rest
-          (c.in_ok-more.ensures.calm profile before so_far there.played there.between (kept.trails profile before h are trails) c.if-not-calm.false));
+          (c.in_ok-more.ensures.piece.calm profile before so_far there.played there.between (kept.trails profile before h are trails) c.if-not-calm.false));
     }

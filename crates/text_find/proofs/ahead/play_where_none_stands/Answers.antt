@@ -1,37 +1,36 @@
-use Rattle.std.proofs.Common.{◌≡◌, [], ◌++◌, arith, inl, sym, ◌∙◌, take}
+use Rattle.std.proofs.Common.{◌≡◌, [], ◌++◌, List, ℕ, arith, inl, sym, true, ◌∙◌, take}
 use Rattle.std.specs.Vec.{vec_len}
 use Rattle.std.proofs.lemmas.Bool.{eqb-true}
 use Rattle.std.proofs.lemmas.List.{nil_from_length}
+use Rattle.text_find.specs.Lines.{AreBetween, IsLagging}
 use Rattle.text_find.proofs.CalmLemmas.{lags_more, nowhere_calm}
 use Rattle.text_find.proofs.ahead.play_where_none_stands.Goals as goal
 
-pub returns-clause-lags : goal.returns-clause-lags
-returns-clause-lags g c = λ lags.
-    lags_more c.args.ends.now c.catch_up.new.sides c.args.steps.now c.in_ok-span.span c.joined-steps.result lags c.in_ok-span.ensures.others c.joined-steps.ensures
-
-pub returns-clause-ends : goal.returns-clause-ends
-returns-clause-ends g c = λ profile first before h are.
-    c.in_ok-span.ensures.sides profile first before (before ++ take c.in_ok-taken.taken c.args.bytes.now) (c.in_ok-taken.ensures.shows profile before h) (c.in_ok-taken.ensures.told profile before h) are
-
-pub returns-clause-trails : goal.returns-clause-trails
-returns-clause-trails g c = λ profile first before h are trails calm.
-    let places = c.catch_up.new.sides.after.places in
-    let count : vec_len places ≡ 0 = eqb-true (vec_len places) 0 (sym c.is_empty.ensures ∙ calm) in
-    let empty : places.items ≡ [] = nil_from_length places.items (omega (arith, count)) in
-    record {
-      lags = lags_more c.args.ends.now c.catch_up.new.sides c.args.steps.now c.in_ok-span.span c.joined-steps.result trails.lags c.in_ok-span.ensures.others c.joined-steps.ensures;
-      same = inl empty;
-    }
-
-pub returns-clause-calm : goal.returns-clause-calm
-returns-clause-calm g c = λ profile first before h are trails calm.
+pub returns-clause-piece : goal.returns-clause-piece
+returns-clause-piece g c =
     let text = c.args.text.now in
-    let screen = g.F.Finder.screens profile in
-    let taken = c.in_ok-taken.taken in
     let bytes = c.args.bytes.now in
-    let places = c.catch_up.new.sides.after.places in
-    let count : vec_len places ≡ 0 = eqb-true (vec_len places) 0 (sym c.is_empty.ensures ∙ calm) in
-    let empty : places.items ≡ [] = nil_from_length places.items (omega (arith, count)) in
-    let after = c.in_ok-span.ensures.sides profile first before (before ++ take taken bytes) (c.in_ok-taken.ensures.shows profile before h) (c.in_ok-taken.ensures.told profile before h) are in
-    nowhere_calm text (screen first) screen before bytes taken
-    (c.in_ok-taken.ensures.between profile before h (sym are.after.places ∙ c.requires.none) (sym after.after.places ∙ empty))
+    let taken = c.in_ok-taken.taken in
+    let ends = c.catch_up.new.sides in
+    let piece = c.in_ok-taken.ensures in
+    let more : IsLagging c.args.ends.now c.args.steps.now → IsLagging ends (record { sides = c.args.steps.now.sides; count = c.args.steps.now.count; span = c.joined-steps.result }) = λ lags.
+    lags_more c.args.ends.now ends c.args.steps.now c.in_ok-span.span c.joined-steps.result lags c.in_ok-span.ensures.others c.joined-steps.ensures in
+    let after : (profile : g.row.T-Profile.Denot) (first before : List ℕ) → g.T.Plays.shows profile c.args.ahead.now before
+    → AreBetween text (g.F.Finder.screens profile first) (g.F.Finder.screens profile before) c.args.ends.now
+    → AreBetween text (g.F.Finder.screens profile first) (g.F.Finder.screens profile (before ++ take taken bytes)) ends = λ profile first before h are.
+    c.in_ok-span.ensures.sides profile first before (before ++ take taken bytes) (piece.shows profile before h) (piece.told profile before h) are in
+    let empty : c.is_empty.result ≡ true → ends.after.places.items ≡ [] = λ calm.
+    let count : vec_len ends.after.places ≡ 0 = eqb-true (vec_len ends.after.places) 0 (sym c.is_empty.ensures ∙ calm) in
+    nil_from_length ends.after.places.items (omega (arith, count)) in
+    record {
+      some = piece.some;
+      within = piece.within;
+      lags = more;
+      played = piece.shows;
+      between = after;
+      trails = λ profile first before h are trails calm. record { lags = more trails.lags; same = inl (empty calm) };
+      calm = λ profile first before h are trails calm.
+          let screen = g.F.Finder.screens profile in
+          nowhere_calm text (screen first) screen before bytes taken
+          (piece.between profile before h (sym are.after.places ∙ c.requires.none) (sym (after profile first before h are).after.places ∙ empty calm));
+    }
