@@ -1,5 +1,5 @@
 -- Rows that are kept, and which of them another sheet changes.
-use Rattle.std.proofs.Common.{◌≡◌, ◌≢◌, ℕ, zero, suc, ◌+◌, ◌-◌, ◌<◌, ◌≤◌, Bool, true, false, not, List, [], ◌∷◌, ◌++◌, length, get_or, set, filter, cond, ap, sym, ◌∙◌, subst, arith, add-zero, add-one, length-append, inl, inr, get_or-set_same, get_or-set_other}
+use Rattle.std.proofs.Common.{◌≡◌, ◌≢◌, ℕ, zero, suc, ◌+◌, ◌-◌, ◌<◌, ◌≤◌, Bool, true, false, not, List, [], ◌∷◌, ◌++◌, length, get_or, set, filter, cond, ap, sym, ◌∙◌, subst, arith, add-zero, add-one, append-nil, length-append, inl, inr, get_or-set_same, get_or-set_other}
 use Rattle.std.proofs.lemmas.Bool.{cases_eq}
 use Rattle.std.proofs.lemmas.List.{get_or_append_left, get_or_default}
 use Rattle.std.proofs.lemmas.List.Elements.{filter-append}
@@ -112,3 +112,13 @@ passing_more p line here old new low is so_far more =
     ∙ ap (λ m. filter p (range_with_len 1 n) ++ filter p (m ∷ [])) next
     ∙ sym (filter-append p (range_with_len 1 n) ((1 + n) ∷ []))
     ∙ ap (filter p) (sym (range_more 1 n)) ∙ ap (λ m. filter p (range_with_len 1 m)) at
+
+-- none of the next so many passes
+pub passing_none : (p : ℕ → Bool) (n more : ℕ) → ((k : ℕ) → n < k → k ≤ n + more → p k ≡ false) → filter p (range_with_len 1 (n + more)) ≡ filter p (range_with_len 1 n)
+passing_none p n zero none = let all : n + 0 ≡ n = omega arith in ap (λ m. filter p (range_with_len 1 m)) all
+passing_none p n (suc more) none =
+    let last = 1 + (n + more) in
+    let next : n + suc more ≡ n + more + 1 = omega arith in
+    ap (λ m. filter p (range_with_len 1 m)) next ∙ ap (filter p) (range_more 1 (n + more)) ∙ filter-append p (range_with_len 1 (n + more)) (last ∷ [])
+    ∙ ap (λ b. filter p (range_with_len 1 (n + more)) ++ cond b (last ∷ []) []) (none last (omega arith) (omega arith)) ∙ append-nil (filter p (range_with_len 1 (n + more)))
+    ∙ passing_none p n more (λ k low high. none k low (omega (arith, high)))

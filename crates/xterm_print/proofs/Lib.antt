@@ -7,3 +7,4 @@ mod BlankLemmas
 mod OverLemmas
 mod PieceLemmas
 mod TrimmedLemmas
+mod MovedLemmas

@@ -7,7 +7,7 @@ ghost use Rattle.chunk_walk.specs.Stops.{OnlySeeks, StopsPrint};
 ghost use Rattle.xterm_print.specs.FindLines.{StandsNowhere, find_lines, has_ink};
 
 use crate::find_rows::{read_touched, rows_read};
-use crate::pieces::{piece, quiet_piece};
+use crate::pieces::{moved_up, piece, quiet_piece};
 use crate::seeking::seek_count;
 use chunk_walk::WalkFault;
 use plays::Plays;
@@ -110,6 +110,12 @@ impl Finder<Terminal> for Sheets {
         let mut sink = Reports::new(alloc);
         Plays::feed(terminal, &bytes[..taken], &mut sink)?;
         Ok(taken)
+    }
+
+    fn moves_up(terminal: &Terminal, bytes: &[u8]) -> Option<usize> {
+        size_stays();
+        plays_in_parts();
+        moved_up(terminal, bytes)
     }
 
     fn begins_blank() {}

@@ -63,41 +63,39 @@ pub fn read_touched(rows: &mut Vec<Row>, screen: &Screen) -> Result<Span, AllocE
     if !screen.any_touched() {
         return Ok(span);
     }
-    for line in 1..screen.lines() + 1 {
-        if may_differ(screen, line) {
-            let row = &mut rows[line as usize - 1];
-            read_again(
-                row,
-                screen.row(line),
-                screen.used(line),
-                next_row(screen, line),
-            )?;
-            span = span.widened(line as usize - 1);
-        }
+    let mut line = next_unlike(screen, 1);
+    while line <= screen.lines() {
+        let row = &mut rows[line as usize - 1];
+        read_again(
+            row,
+            screen.row(line),
+            screen.used(line),
+            next_row(screen, line),
+        )?;
+        span = span.widened(line as usize - 1);
+        line = next_unlike(screen, line + 1);
     }
     Ok(span)
 }
 
-/// Whether a row may be read otherwise than before: it was touched, or the next one was and bears on it.
-fn may_differ(screen: &Screen, line: u16) -> bool
+/// The first line from one on whose row may be read otherwise than before, since it was touched, or the next one was and
+/// bears on it; one behind the last where there is none. The row above the one asked for was read already.
+fn next_unlike(screen: &Screen, line: u16) -> u16
     requires low { 1 ≤ line }
-    requires high { line ≤ screen.now.picture.lines }
-    ensures { result ≡ false → (before : List (List Cell)) → Told before screen.now
-        → length before ≡ screen.now.picture.lines
-        → row_read (row_at before line) (row_at before (line + 1))
-        ≡ row_read (row_at screen.now.picture.rows line) (row_at screen.now.picture.rows (line + 1)) }
+    requires high { line ≤ screen.now.picture.lines + 1 }
+    ensures low { line ≤ result }
+    ensures high { result ≤ screen.now.picture.lines + 1 }
+    ensures between { (before : List (List Cell)) → Told before screen.now
+        → length before ≡ screen.now.picture.lines → (k : ℕ) → line ≤ k → k < result
+        → row_read (row_at before k) (row_at before (k + 1))
+        ≡ row_read (row_at screen.now.picture.rows k) (row_at screen.now.picture.rows (k + 1)) }
 {
     let _cursor = screen.cursor();
-    if screen.is_touched(line) {
-        return true;
+    let touched = screen.next_touched(line);
+    if line < touched && touched <= screen.lines() && heeds_next(screen.row(touched - 1)) {
+        return touched - 1;
     }
-    if line == screen.lines() {
-        return false;
-    }
-    if !screen.is_touched(line + 1) {
-        return false;
-    }
-    heeds_next(screen.row(line))
+    touched
 }
 
 /// Whether how a row is read depends on the next one.

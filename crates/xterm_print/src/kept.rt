@@ -137,10 +137,13 @@ pub fn catch_up(rows: &mut [KeptRow], screen: &Screen, changed: &mut ArrayVec<u1
         screen.now.picture.rows }
 {
     changed.clear();
-    for line in 1..screen.lines() + 1 {
+    let _cursor = screen.cursor();
+    let mut line = screen.next_touched(1);
+    while line <= screen.lines() {
         if catch_up_line(rows, screen, line) {
             changed.push(line);
         }
+        line = screen.next_touched(line + 1);
     }
 }
 

@@ -1,10 +1,11 @@
 //! How much of a chunk is played before a text is looked for again.
 
-ghost use Rattle.std.specs.Prelude.{◌≡◌, ◌-◌, ◌<◌, ◌≤◌, [], ℕ, length, slice_index, slice_index_or, take, true, false};
+ghost use Rattle.std.specs.Prelude.{◌≡◌, ◌-◌, ◌<◌, ◌≤◌, [], ℕ, IfSome, length, slice_index, slice_index_or, take, true, false};
 ghost use Rattle.std.specs.List.{flat_map, list_all};
 ghost use Rattle.sheet.specs.Cells.{blank};
 ghost use Rattle.sheet.specs.declared.rendition.Colour.TheVariants.{Default};
 ghost use Rattle.standings.specs.Kept.{EndBy};
+ghost use Rattle.standings.specs.Moved.{moved_up};
 ghost use Rattle.standings.specs.Standing.{standing};
 ghost use Rattle.vt_parser.specs.Syntax.{is_graphic};
 ghost use Rattle.xterm_rows.specs.RowText.{characters};
@@ -62,6 +63,23 @@ pub(crate) fn quiet_piece(
         return over;
     }
     1
+}
+
+/// Whether the first of the bytes moves all rows up by one: how many spaces the row has that comes in below.
+pub(crate) fn moved_up(terminal: &Terminal, bytes: &[u8]) -> Option<usize>
+    ensures some { IfSome result (λ _. 0 < length bytes.now) }
+    ensures few { IfSome result (λ columns. columns < u16.MAX) }
+    ensures rows { (x : Term) → Shows terminal.now x
+        → IfSome result (λ _. 0 < length (rows_behind x bytes.now 0)) }
+    ensures moves { (x : Term) → Shows terminal.now x
+        → IfSome result (λ columns. rows_behind x bytes.now 1 ≡ moved_up columns (rows_behind x bytes.now 0)) }
+{
+    if bytes.is_empty() || !terminal.moves_up(bytes[0]) {
+        return None;
+    }
+    let screen = terminal.screen();
+    let _cursor = screen.cursor();
+    Some(screen.columns() as usize)
 }
 
 /// How many of the bytes go over plain cells, and take nothing of the text away.

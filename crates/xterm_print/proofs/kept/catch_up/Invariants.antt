@@ -10,6 +10,8 @@ use Rattle.xterm_print.proofs.kept.catch_up.Given as goal
 -- those so far differed and follow now, and the others are as they were
 abbrev pub invariant-loop-line : goal.invariant-loop-line
 invariant-loop-line l = record {
+  low : 1 ≤ l.line;
+  high : l.line ≤ l.fn.screen.picture.lines + 1;
   whole : length l.rows ≡ l.fn.screen.picture.lines;
   changed : (before : List (List Cell)) → Told before l.fn.screen → FollowAll l.fn.screen.picture.lines l.fn.screen.picture.columns l.fn.rows before
       → l.changed.items ≡ filter (is_changed before l.fn.screen.picture.rows) (range_with_len 1 (l.line - 1));
@@ -18,3 +20,6 @@ invariant-loop-line l = record {
   caught : (before : List (List Cell)) → Told before l.fn.screen → FollowAll l.fn.screen.picture.lines l.fn.screen.picture.columns l.fn.rows before
       → (k : ℕ) → 1 ≤ k → k < l.line → Follows l.fn.screen.picture.columns (row_at l.rows k) (row_at l.fn.screen.picture.rows k);
 }
+
+abbrev pub decreases-loop-line : goal.decreases-loop-line
+decreases-loop-line l = l.fn.screen.picture.lines + 1 - l.line
