@@ -11,3 +11,4 @@ mod First
 mod Packed
 mod Used
 pub mod Over
+mod Marked

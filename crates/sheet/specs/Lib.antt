@@ -9,3 +9,4 @@ pub mod Held
 pub mod Packed
 pub mod View
 pub mod EditOf
+pub mod Marked

@@ -10,6 +10,7 @@ ghost use Rattle.sheet.specs.Table.{table};
 ghost use Rattle.sheet.specs.Held.{LinesFilled, Once, SlotsStayOrFill, row_in, turned_up};
 ghost use Rattle.sheet.specs.Edits.{deleted, erased, inserted, mark_added, put, run_put};
 
+mod marked;
 mod packed;
 
 use crate::cell::Cell;
@@ -18,12 +19,10 @@ use crate::limits::{LEAST_COLUMNS, MOST_COLUMNS, MOST_LINES};
 use crate::pen::{Paper, Pen};
 use crate::rendition::Colour;
 use crate::slot::Slot;
+use marked::next_mark;
 pub use packed::PackedSheet;
 use std::alloc::{AllocError, Global};
 use std::marker::Model;
-
-// How many lines are looked at at once for a touched one.
-const BLOCK: usize = 16;
 
 /// Rows of cells, a size that never changes, and the lines touched since that was last cleared.
 #[derive(Debug, Drop)]
@@ -511,38 +510,4 @@ fn is_any(marks: &[bool]) -> bool
         any |= *mark;
     }
     any
-}
-
-/// From one on, the start of the first block with a true one, or of what is less than a block.
-fn empty_blocks_end(marks: &[bool], from: usize) -> usize
-    requires { from ≤ length marks.now }
-    ensures low { from ≤ result }
-    ensures high { result ≤ length marks.now }
-    ensures between { (k : ℕ) → from ≤ k → k < result → slice_index_or marks.now k true ≡ false }
-{
-    let mut at = from;
-    while marks.len() - at >= BLOCK {
-        if is_any(&marks[at..at + BLOCK]) {
-            return at;
-        }
-        at += BLOCK;
-    }
-    at
-}
-
-/// The first true one from one on, or how many there are where none is.
-fn next_mark(marks: &[bool], from: usize) -> usize
-    requires { from ≤ length marks.now }
-    ensures low { from ≤ result }
-    ensures high { result ≤ length marks.now }
-    ensures between { (k : ℕ) → from ≤ k → k < result → slice_index_or marks.now k true ≡ false }
-    ensures found { result < length marks.now → slice_index_or marks.now result true ≡ true }
-{
-    let start = empty_blocks_end(marks, from);
-    for at in start..marks.len() {
-        if marks[at] {
-            return at;
-        }
-    }
-    marks.len()
 }

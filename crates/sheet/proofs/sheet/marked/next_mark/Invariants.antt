@@ -1,8 +1,8 @@
 use Rattle.std.proofs.Common.{◌≡◌, ◌-◌, ◌<◌, ◌≤◌, ℕ, false, length, true}
 use Rattle.std.specs.Prelude.{slice_index_or}
-use Rattle.sheet.proofs.sheet.empty_blocks_end.Given as goal
+use Rattle.sheet.proofs.sheet.marked.next_mark.Given as goal
 
--- none that was passed is true
+-- none of those that were passed is true
 abbrev pub invariant-loop-at : goal.invariant-loop-at
 invariant-loop-at l = record {
   low : l.from ≤ l.at;

@@ -1,6 +1,6 @@
 use Rattle.std.proofs.Common.{◌≡◌, ◌<◌, ◌≤◌, ℕ, false, true}
 use Rattle.std.specs.Prelude.{slice_index_or}
-use Rattle.sheet.proofs.sheet.next_mark.Given as goal
+use Rattle.sheet.proofs.sheet.marked.next_slowly.Given as goal
 
 -- none so far is true
 abbrev pub invariant-loop-at : goal.invariant-loop-at
