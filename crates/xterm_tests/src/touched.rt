@@ -105,14 +105,30 @@ fn assert_next(
     Ok(())
 }
 
-#[test]
-fn next_touched(rt: HostRuntime) -> Result<(), Fail> {
-    let mut left = reset_as(rt.alloc(), (80, 24))?;
-    left.feed(&[b"\x1b[3;1Hx\x1b[20;1Hy"])?;
-    for (from, want) in [(1, 3), (3, 3), (4, 20), (20, 20), (21, 25), (25, 25)] {
-        assert_next(&rt, &left.terminal, from, want)?;
+// What is fed to a screen of some lines, and from each line the next that is touched then.
+fn assert_nexts(
+    rt: &(impl Abort + AllocGlobal),
+    lines: u16,
+    bytes: &[u8],
+    rows: &[(u16, u16)],
+) -> Result<(), Fail> {
+    let mut left = reset_as(rt.alloc(), (80, lines))?;
+    left.feed(&[bytes])?;
+    for (from, want) in rows {
+        assert_next(rt, &left.terminal, *from, *want)?;
     }
     Ok(())
+}
+
+#[test]
+fn next_touched(rt: HostRuntime) -> Result<(), Fail> {
+    let rows = [(1, 3), (3, 3), (4, 20), (20, 20), (21, 25), (25, 25)];
+    assert_nexts(&rt, 24, b"\x1b[3;1Hx\x1b[20;1Hy", &rows)
+}
+
+#[test]
+fn next_touched_of_few(rt: HostRuntime) -> Result<(), Fail> {
+    assert_nexts(&rt, 6, b"\x1b[5;1Hx", &[(1, 5), (5, 5), (6, 7), (7, 7)])
 }
 
 #[test]
