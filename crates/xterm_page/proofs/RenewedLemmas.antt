@@ -1,6 +1,6 @@
 -- The lines that are told as changed, in a list.
-use Rattle.std.proofs.Common.{◌≡◌, ◌≢◌, ℕ, zero, suc, ◌+◌, ◌-◌, ◌<◌, ◌≤◌, All, Bool, true, false, cond, List, [], ◌∷◌, ◌++◌, filter, length, map, get_or, take, refl, ap, sym, ◌∙◌, arith, append-nil, inl, inr}
-use Rattle.std.specs.Prelude.{◌||◌, ◌==◌}
+use Rattle.std.proofs.Common.{◌≡◌, ◌≢◌, ℕ, zero, suc, ◌+◌, ◌-◌, ◌<◌, ◌≤◌, All, Bool, true, false, not, cond, List, [], ◌∷◌, ◌++◌, filter, length, map, get_or, take, refl, ap, sym, ◌∙◌, arith, append-nil, inl, inr}
+use Rattle.std.specs.Prelude.{◌&&◌, ◌||◌, ◌==◌}
 use Rattle.std.specs.List.{flat_map, range_with_len}
 use Rattle.std.proofs.lemmas.Bool.{cases_Bool, cases_eq}
 use Rattle.std.proofs.lemmas.Bool.Decides.{nat_tests}
@@ -9,10 +9,11 @@ use Rattle.std.proofs.lemmas.List.Concat.{flat_map-append}
 use Rattle.std.proofs.lemmas.List.Elements.{All-filter, All-from_get_or, All-map}
 use Rattle.std.proofs.lemmas.List.FromFn.{get_or-range_with_len, length-range_with_len}
 use Rattle.sheet.specs.Cells.{Cell}
-use Rattle.sheet.specs.Grid.{row_at}
-use Rattle.xterm_print.proofs.KeptLemmas.{passing_more}
+use Rattle.sheet.specs.Grid.{is_touched, row_at}
+use Rattle.xterm_print.proofs.KeptLemmas.{passing_more, passing_none}
 use Rattle.xterm_page.specs.Parts.{AreLines, is_renewed, renewed, renewed_lines, renewed_of, renewed_to}
 use Rattle.xterm_page.specs.declared.kept.Renewed.{Renewed}
+use Rattle.xterm_page.specs.Same.{same_row}
 
 -- ---- how they are told
 
@@ -38,6 +39,18 @@ renewed_more touched lines before after line here old new low is so_far more =
     ∙ ap (λ l. map f was ++ l) (mapped_if f line here)
     ∙ sym (map-append f was (cond here (line ∷ []) []))
     ∙ ap (map f) now
+
+-- the lines up to another, of which none was touched
+pub renewed_none : (touched : List Bool) (lines : ℕ) (before after : List (List Cell)) (line next : ℕ) → 1 ≤ line → line ≤ next
+    → ((k : ℕ) → line ≤ k → k < next → is_touched touched k ≡ false)
+    → renewed_to (line - 1) touched lines before after ≡ renewed_to (next - 1) touched lines before after
+renewed_none touched lines before after line next low high none =
+    let p : ℕ → Bool = λ k. is_renewed touched (row_at before k) (row_at after k) k in
+    let all : line - 1 + (next - line) ≡ next - 1 = omega (arith, low, high) in
+    ap (map (told_of lines before after))
+    (sym (passing_none p (line - 1) (next - line) (λ k from below.
+    ap (λ b. b && not (same_row (row_at before k) (row_at after k))) (none k (omega (arith, from, low)) (omega (arith, below, all, low, high)))))
+    ∙ ap (λ n. filter p (range_with_len 1 n)) all)
 
 in_range : (lines : ℕ) → All (λ n. (1 ≤ n) × (n ≤ lines)) (range_with_len 1 lines)
 in_range lines = All-from_get_or (λ n. (1 ≤ n) × (n ≤ lines)) (range_with_len 1 lines) 0 (λ i below.

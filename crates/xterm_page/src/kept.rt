@@ -1,7 +1,7 @@
 //! Rows that are kept of a sheet while the next chunk is played.
 
 ghost use Rattle.std.specs.Prelude.{◌≡◌, ◌+◌, ◌%◌, ◌<◌, ◌≤◌, IfOk, IfSome, None, Some, drop, if◌then◌else◌, length, true};
-ghost use Rattle.sheet.specs.Grid.{IsUsed, row_at};
+ghost use Rattle.sheet.specs.Grid.{IsUsed, is_touched, row_at};
 ghost use Rattle.xterm_page.specs.Entries.{line_of};
 ghost use Rattle.xterm_page.specs.Parts.{AreLines, AreMarked, AreTold, AreWide, KeptAll, MovedUp, is_renewed, renewed, renewed_of};
 ghost use Rattle.xterm_page.specs.Same.{row_number, same_row};
@@ -178,7 +178,7 @@ fn mark_to(rows: &[KeptRow], marked: usize, place: usize, marks: &mut [bool; MAR
     place
 }
 
-/// What is known of a line if it was touched and differs from the row that was kept of it, by a guess behind how many
+/// What is known of a line that was touched if it differs from the row that was kept of it, by a guess behind how many
 /// lines its row was. The numbers of the first rows are marked.
 fn renewed_line(
     rows: &[KeptRow],
@@ -190,6 +190,7 @@ fn renewed_line(
 ) -> Option<Renewed>
     requires low { 1 ≤ line }
     requires high { line ≤ screen.now.picture.lines }
+    requires touched { is_touched screen.now.touched line ≡ true }
     requires rows { length rows.now ≡ screen.now.picture.lines }
     requires marked { AreMarked rows.now marked marks.now }
     ensures { result ≡ (if is_renewed screen.now.touched (row_at rows.now line)
@@ -197,9 +198,6 @@ fn renewed_line(
         then Some (renewed_of screen.now.picture.lines rows.now (row_at screen.now.picture.rows line))
         else None) }
 {
-    if !screen.is_touched(line) {
-        return None;
-    }
     let (cells, used) = (screen.row(line), screen.used(line));
     if has_moved(rows, screen, line, guess) {
         return Some(renewed_as(rows, cells, used, guess, marked, marks));
@@ -210,11 +208,12 @@ fn renewed_line(
     None
 }
 
-/// Whether a line was touched, and its row was behind so many lines, while the one that was kept of it has another number:
-/// then it differs, without a look at its cells.
+/// Whether the row of a line that was touched was behind so many lines, while the one that was kept of it has another
+/// number: then it differs, without a look at its cells.
 fn has_moved(rows: &[KeptRow], screen: &Screen, line: u16, guess: usize) -> bool
     requires low { 1 ≤ line }
     requires high { line ≤ screen.now.picture.lines }
+    requires touched { is_touched screen.now.touched line ≡ true }
     requires rows { length rows.now ≡ screen.now.picture.lines }
     ensures within { result ≡ true → guess < length rows.now }
     ensures same { result ≡ true → same_row (row_at rows.now (guess + 1))
@@ -222,7 +221,7 @@ fn has_moved(rows: &[KeptRow], screen: &Screen, line: u16, guess: usize) -> bool
     ensures renewed { result ≡ true → is_renewed screen.now.touched (row_at rows.now line)
         (row_at screen.now.picture.rows line) line ≡ true }
 {
-    if rows.len() <= guess || !screen.is_touched(line) {
+    if rows.len() <= guess {
         return false;
     }
     let (was, own) = (&rows[guess], &rows[line as usize - 1]);
@@ -292,7 +291,8 @@ pub(crate) fn changed_rows(
     let mut shift = rows.len();
     let mut marked = 0;
     let mut marks = [false; MARKS];
-    for line in 1..screen.lines() + 1 {
+    let mut line = screen.next_touched(1);
+    while line <= screen.lines() {
         let place = line as usize - 1;
         let guess = place.wrapping_add(shift);
         if let Some(renewed) = renewed_line(rows, screen, line, guess, marked, &marks) {
@@ -302,6 +302,7 @@ pub(crate) fn changed_rows(
             marked = mark_to(rows, marked, next, &mut marks);
             changed.push((line, renewed))?;
         }
+        line = screen.next_touched(line + 1);
     }
     Ok(changed)
 }
@@ -322,14 +323,15 @@ fn shift_by(rows: &[KeptRow], renewed: Renewed, line: u16, shift: usize) -> usiz
     }
 }
 
-/// Whether a line was touched, and differs from the row that was kept of it.
+/// Whether a line that was touched differs from the row that was kept of it.
 fn is_renewed(row: &KeptRow, screen: &Screen, line: u16) -> bool
     requires low { 1 ≤ line }
     requires high { line ≤ screen.now.picture.lines }
+    requires touched { is_touched screen.now.touched line ≡ true }
     ensures { result ≡ is_renewed screen.now.touched row.now
         (row_at screen.now.picture.rows line) line }
 {
-    screen.is_touched(line) && !row.is_same(screen.row(line), screen.used(line))
+    !row.is_same(screen.row(line), screen.used(line))
 }
 
 /// The line that a row was before, where its cells are kept still and are needed for no other line: it lies behind the

@@ -1,11 +1,18 @@
-use Rattle.std.proofs.Common.{◌≡◌, ◌-◌, length}
+use Rattle.std.proofs.Common.{◌≡◌, ◌+◌, ◌-◌, ◌≤◌, length, true}
+use Rattle.sheet.specs.Grid.{is_touched}
 use Rattle.xterm_page.specs.Parts.{AreMarked, renewed_to}
 use Rattle.xterm_page.proofs.kept.changed_rows.Given as goal
 
--- the lines so far were compared, and the numbers of the first rows are marked
+-- the lines so far were compared, the next one was touched, and the numbers of the first rows are marked
 abbrev pub invariant-loop-line : goal.invariant-loop-line
 invariant-loop-line l = record {
+  low : 1 ≤ l.line;
+  high : l.line ≤ l.fn.screen.picture.lines + 1;
+  touched : l.line ≤ l.fn.screen.picture.lines → is_touched l.fn.screen.touched l.line ≡ true;
   told : l.changed.items ≡ renewed_to (l.line - 1) l.fn.screen.touched l.fn.screen.picture.lines l.rows l.fn.screen.picture.rows;
   long : length l.marks ≡ 256;
   marked : AreMarked l.rows l.marked l.marks;
 }
+
+abbrev pub decreases-loop-line : goal.decreases-loop-line
+decreases-loop-line l = l.fn.screen.picture.lines + 1 - l.line

@@ -26,5 +26,5 @@ returns-then-was-own c =
           let equal : row ≡ now = rows_equal row now (told is) in
           let apart : row_number other ≢ row_number now = λ e.
           c.if-was-own.true (c.was.invariant.number ∙ ap row_number (c.was.view_is ∙ equal) ∙ sym e ∙ ap row_number (sym c.own.view_is) ∙ sym c.own.invariant.number) in
-          ap₂ (λ (a b : Bool). a && not b) (sym c.is_touched.ensures ∙ c.if-not-is_touched.false) (ap (λ r. same_row r now) own ∙ other_numbers other now apart);
+          ap₂ (λ (a b : Bool). a && not b) c.requires.touched (ap (λ r. same_row r now) own ∙ other_numbers other now apart);
     }

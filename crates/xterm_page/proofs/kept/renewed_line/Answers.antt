@@ -24,6 +24,3 @@ returns c =
     let was = c.index-rows-line.is ∙ sym (row_read rows line c.index-rows-line.result c.requires.low (omega (arith, c.requires.high, c.requires.rows))) in
     let here = ap (λ r. is_renewed touched r now line) (sym was) ∙ sym c.is_renewed.ensures ∙ c.if-is_renewed.false in
     rw here refl
-
-pub returns-then-not-is_touched : goal.returns-then-not-is_touched
-returns-then-not-is_touched c = rw (sym c.is_touched.ensures ∙ c.if-not-is_touched.true) refl
