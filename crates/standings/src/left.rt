@@ -4,9 +4,10 @@ ghost use Rattle.std.specs.Prelude.{◌≡◌, ◌+◌, ◌<◌, ◌≤◌, fals
 ghost use Rattle.std.specs.Cmp.Lexicographic.{pointwise};
 ghost use Rattle.standings.specs.Kept.{EndBy, room_in};
 ghost use Rattle.standings.specs.Moved.{moved_up};
-ghost use Rattle.standings.specs.Rows.{Row};
+ghost use Rattle.standings.specs.Rows.{Row, row_below};
 ghost use Rattle.standings.specs.Spans.{Stays};
 ghost use Rattle.standings.specs.Standing.{count_left, is_less, is_lone, left_of, place_at, standing};
+ghost use Rattle.standings.specs.Written.{rows_written};
 
 use crate::place::{Place, look_between, may_come, move_places_up, standing};
 use crate::row::{Row, characters_below, move_rows_up};
@@ -69,6 +70,38 @@ impl Standing {
         };
         look_between(self.rows.as_slice(), text, last, &mut self.places)?;
         Ok(Span { from: 0, to: count })
+    }
+
+    /// These characters of ASCII are written over as many of the row below so many others, from the one behind so many
+    /// on; looks where the text stands then. Says which rows may differ. Nothing is done where there is no such row, or
+    /// it has too few characters.
+    pub fn write(
+        &mut self,
+        above: usize,
+        before: usize,
+        bytes: &[u8],
+        text: &[char],
+    ) -> Result<Span, AllocError>
+        ensures rows { above < length self.old.rows.items
+            → before + length bytes.now ≤ length (row_below self.old.rows.items above).characters
+            → OnOk result (self.new.rows.items ≡ rows_written above before bytes.now self.old.rows.items) }
+        ensures places { above < length self.old.rows.items
+            → before + length bytes.now ≤ length (row_below self.old.rows.items above).characters
+            → self.old.places.items ≡ standing text.now self.old.rows.items
+            → OnOk result (self.new.places.items ≡ standing text.now self.new.rows.items) }
+        ensures others { IfOk result (λ span. Stays span self.old.rows.items self.new.rows.items) }
+    {
+        if above >= self.rows.len() || !self.rows[above].has(before, bytes.len()) {
+            return Ok(Span::none());
+        }
+        let row = &mut self.rows[above];
+        row.write(before, bytes);
+        let span = Span {
+            from: above,
+            to: above + 1,
+        };
+        self.look_again(text, span)?;
+        Ok(span)
     }
 
     /// Becomes another one, from which only these of its rows may differ.

@@ -1,9 +1,10 @@
 //! A row of characters.
 
-ghost use Rattle.std.specs.Prelude.{◌≡◌, ◌+◌, ◌-◌, ◌≤◌, ◌<◌, ◌∷◌, ◌++◌, [], IfOk, OnOk, length, replicate, slice_index_or, slice_set, take};
+ghost use Rattle.std.specs.Prelude.{◌≡◌, ◌+◌, ◌-◌, ◌≤◌, ◌<◌, ◌∷◌, ◌++◌, [], IfOk, OnOk, drop, length, nat_le, replicate, slice_index_or, slice_set, take};
 ghost use Rattle.std.specs.List.{range_with_len};
 ghost use Rattle.standings.specs.Moved.{moved_up, spaces_row};
 ghost use Rattle.standings.specs.Rows.{empty_row, row_below};
+ghost use Rattle.standings.specs.Written.{row_written};
 
 use std::alloc::{AllocError, Global};
 use std::marker::Model;
@@ -186,6 +187,22 @@ impl Row {
         self.push_many(' ', columns, 1)
     }
 
+    /// Whether it has so many characters behind so many others.
+    pub(crate) fn has(&self, before: usize, count: usize) -> bool
+        ensures { result ≡ nat_le (before + count) (length self.now.characters) }
+    {
+        let all = self.characters.len();
+        before <= all && count <= all - before
+    }
+
+    /// These characters of ASCII are written over as many of its own, from the one behind so many on.
+    pub(crate) fn write(&mut self, before: usize, bytes: &[u8])
+        requires { before + length bytes.now ≤ length self.old.characters }
+        ensures { self.new ≡ row_written before bytes.now self.old }
+    {
+        write_over(self.characters.as_mut_slice(), before, bytes);
+    }
+
     /// Its characters.
     pub fn characters(&self) -> &[char]
         ensures { result.now ≡ self.now.characters }
@@ -220,6 +237,17 @@ fn number(columns: &mut [u16], from: usize, column: u16)
 {
     for at in from..columns.len() {
         columns[at] = column + (at - from) as u16;
+    }
+}
+
+/// Those behind so many become these characters of ASCII.
+fn write_over(characters: &mut [char], before: usize, bytes: &[u8])
+    requires { before + length bytes.now ≤ length characters.old }
+    ensures { characters.new
+        ≡ take before characters.old ++ bytes.now ++ drop (before + length bytes.now) characters.old }
+{
+    for (at, byte) in bytes.iter().enumerate() {
+        characters[before + at] = char::from(*byte);
     }
 }
 
