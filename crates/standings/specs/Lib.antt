@@ -4,3 +4,4 @@ pub mod Found
 pub mod Spans
 pub mod Kept
 pub mod Moved
+pub mod Written

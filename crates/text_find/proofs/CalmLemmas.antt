@@ -82,6 +82,12 @@ pub nowhere_calm : (text : List ℕ) (first : List Row) (screen : List ℕ → L
 nowhere_calm text first screen before bytes taken none = λ index due last lasts count lt.
     none_stood text index due first (standing text first) last lasts (rows_within screen before bytes count) (rows_within screen before bytes (count + 1)) (none count lt)
 
+-- nor where each place stays at each byte
+pub kept_calm : (text : List ℕ) (first : List Row) (screen : List ℕ → List Row) (before bytes : List ℕ) (taken : ℕ)
+    → ((count : ℕ) → count < taken → Keeps text (rows_within screen before bytes count) (rows_within screen before bytes (count + 1))) → NonePass text first screen before bytes taken
+kept_calm text first screen before bytes taken kept = λ index due last lasts count lt.
+    none_kept text index due first (standing text first) last lasts (rows_within screen before bytes count) (rows_within screen before bytes (count + 1)) (kept count lt)
+
 -- nor at one byte where it stood nowhere before that
 pub one_calm : (text : List ℕ) (first : List Row) (screen : List ℕ → List Row) (before bytes : List ℕ) → standing text (screen before) ≡ [] → NonePass text first screen before bytes 1
 one_calm text first screen before bytes none = nowhere_calm text first screen before bytes 1 (λ count lt.

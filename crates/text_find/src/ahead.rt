@@ -9,6 +9,7 @@ use crate::finder::Finder;
 use crate::lines::none_passes;
 use crate::moved::play_up;
 use crate::sides::{Sides, catch_up};
+use crate::written::play_written;
 use plays::{OutOfMemory, Plays, Reports};
 use std::alloc::Global;
 
@@ -116,6 +117,9 @@ fn play_piece<T: Plays, F: Finder<T>>(
 {
     if let Some(columns) = F::moves_up(ahead, bytes) {
         return play_up::<T, F>(alloc, text, bytes, columns, ends, steps, ahead);
+    }
+    if let Some(written) = F::writes(ahead, text, &ends.after, bytes) {
+        return play_written::<T, F>(alloc, text, bytes, written, ends, steps, ahead);
     }
     if ends.after.places.is_empty() {
         play_where_none_stands::<T, F>(alloc, text, bytes, ends, steps, ahead)

@@ -12,6 +12,7 @@ pub mod laws;
 mod lines;
 mod moved;
 mod sides;
+mod written;
 
-pub use finder::Finder;
+pub use finder::{Finder, Written};
 pub use finding::find;
