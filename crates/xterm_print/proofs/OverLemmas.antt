@@ -1,25 +1,21 @@
 -- Characters that are put over plain cells, and how their row is read then.
-use Rattle.std.proofs.Common.{◌≡◌, ◌≢◌, ℕ, zero, suc, ◌+◌, ◌-◌, ◌<◌, ◌≤◌, Bool, true, false, List, [], ◌∷◌, ◌++◌, append_assoc, drop, get_or, length, map, not, set, take, refl, ap, ap₂, sym, ◌∙◌, arith, inl, inr, get_or-set_other, get_or-set_same}
-use Rattle.std.specs.Prelude.{◌==◌, ◌&&◌, ◌||◌, if◌then◌else◌}
+use Rattle.std.proofs.Common.{◌≡◌, ℕ, zero, suc, ◌+◌, ◌-◌, ◌<◌, ◌≤◌, Bool, false, List, [], ◌∷◌, ◌++◌, append_assoc, drop, get_or, length, map, not, set, take, refl, ap, ap₂, sym, ◌∙◌, arith, inl, inr, get_or-set_other, get_or-set_same}
+use Rattle.std.specs.Prelude.{◌&&◌, ◌||◌, if◌then◌else◌}
 use Rattle.std.specs.List.{flat_map, range_with_len}
-use Rattle.std.proofs.Math.Seq.{length-sets, sets, take-append-add}
-use Rattle.std.proofs.lemmas.Bool.{cases_Bool, cases_eq, cases_lt}
-use Rattle.std.proofs.lemmas.Bool.Decides.{nat_tests}
-use Rattle.std.proofs.lemmas.List.{append-nil, drop-append-le, drop-drop, drop-map, drop_all, get_or-drop, get_or-take, get_or_past, length-append, length-drop, length-map, length-set, length-take-le, take-append-drop, take_all}
+use Rattle.std.proofs.Math.Seq.{drop-append_seam, length-sets, sets, take-append-add, take-append_seam}
+use Rattle.std.proofs.lemmas.Bool.{cases_Bool, cases_eq}
+use Rattle.std.proofs.lemmas.List.{append-nil, drop-append-le, drop-drop, drop-map, drop_all, get_or-drop, get_or-take, length-append, length-drop, length-map, length-set, length-take, length-take-le, take-append-drop, take_all}
 use Rattle.std.proofs.lemmas.List.Concat.{flat_map-append}
 use Rattle.std.proofs.lemmas.List.Edits.{sets-eq}
-use Rattle.std.proofs.lemmas.List.FromFn.{get_or-map-range_with_len, length-map-range_with_len}
 use Rattle.sheet.specs.declared.rendition.Colour.TheVariants.{Default}
 use Rattle.sheet.specs.declared.rendition.Rendition.{Rendition}
 use Rattle.sheet.specs.Cells.{Cell, blank, is_covered, is_wide, lettered}
-use Rattle.sheet.specs.Grid.{row_at, with_row}
-use Rattle.sheet.specs.Table.{nth, table}
 use Rattle.standings.specs.Rows.{Row}
+use Rattle.standings.specs.Written.{row_written}
 use Rattle.xterm_rows.specs.RowText.{characters, is_space}
 use Rattle.xterm_rows.specs.Runs.{cell_behind}
-use Rattle.xterm_print.specs.FindRows.{columns_from, ends_in_space, kept_cells, leaves_last, row_read, rows_read}
+use Rattle.xterm_print.specs.FindRows.{columns_from, ends_in_space, kept_cells, leaves_last, row_read}
 use Rattle.xterm_print.specs.Pieces.{IsPlain}
-use Rattle.xterm_print.proofs.FindRowLemmas.{count_read, read_at}
 
 -- ---- elements that are written over others
 
@@ -27,8 +23,8 @@ sets_outside : {X : Type 0} (vs xs : List X) (i j : ℕ) (d : X) → i + length 
 sets_outside [] xs i j d past = refl
 sets_outside (v ∷ vs) xs i j d past = sets_outside vs (set xs i v) (suc i) j d (omega arith) ∙ get_or-set_other xs i j v d (λ e. omega arith)
 
--- where a test tells none of them from the one that it replaces, it tells no element of the list
-sets_alike : {X : Type 0} (f : X → Bool) (vs xs : List X) (i j : ℕ) (d : X) → i + length vs ≤ length xs
+-- where a function has the same for each of them as for the one that it replaces, it has the same for each element of the list
+sets_alike : {X Y : Type 0} (f : X → Y) (vs xs : List X) (i j : ℕ) (d : X) → i + length vs ≤ length xs
     → ((m : ℕ) → m < length vs → f (get_or vs m d) ≡ f (get_or xs (i + m) d)) → f (get_or (sets xs i vs) j d) ≡ f (get_or xs j d)
 sets_alike f [] xs i j d room same = refl
 sets_alike f (v ∷ vs) xs i j d room same =
@@ -100,6 +96,44 @@ letter_at : (rendition : Rendition) (cs : List ℕ) (k : ℕ) → k < length (le
 letter_at rendition [] k lt = absurd (omega arith)
 letter_at rendition (c ∷ cs) zero lt = lettered_narrow rendition c
 letter_at rendition (c ∷ cs) (suc k) lt = letter_at rendition cs k (omega arith)
+
+letter_count : (rendition : Rendition) (cs : List ℕ) (k : ℕ) → k < length (letters rendition cs) → length (characters (get_or (letters rendition cs) k (blank Default))) ≡ 1
+letter_count rendition [] k lt = absurd (omega arith)
+letter_count rendition (c ∷ cs) zero lt = ap length (character_lettered rendition c)
+letter_count rendition (c ∷ cs) (suc k) lt = letter_count rendition cs k (omega arith)
+
+-- ---- columns of cells that have as many characters each
+
+column_for : (column : ℕ) (one other : List ℕ) → length one ≡ length other → map (λ _. column) one ≡ map (λ _. column) other
+column_for column [] [] long = refl
+column_for column [] (o ∷ os) long = absurd (omega (arith, long))
+column_for column (c ∷ cs) [] long = absurd (omega (arith, long))
+column_for column (c ∷ cs) (o ∷ os) long = ap (λ l. column ∷ l) (column_for column cs os (omega (arith, long)))
+
+columns_same : (column : ℕ) (one other : List Cell) → length one ≡ length other
+    → ((j : ℕ) → j < length one → length (characters (get_or one j (blank Default))) ≡ length (characters (get_or other j (blank Default))))
+    → columns_from column one ≡ columns_from column other
+columns_same column [] [] long same = refl
+columns_same column [] (o ∷ os) long same = absurd (omega (arith, long))
+columns_same column (c ∷ cs) [] long same = absurd (omega (arith, long))
+columns_same column (c ∷ cs) (o ∷ os) long same =
+    ap₂ (λ a b. a ++ b) (column_for column (characters c) (characters o) (same 0 (omega arith)))
+    (columns_same (column + 1) cs os (omega (arith, long)) (λ j lt. same (suc j) (omega arith)))
+
+-- ---- characters in place of as many others
+
+in_place : (fore old back new : List ℕ) → length new ≡ length old
+    → take (length fore) ((fore ++ old) ++ back) ++ new ++ drop (length fore + length new) ((fore ++ old) ++ back) ≡ (fore ++ new) ++ back
+in_place fore old back new long =
+    let end : length fore + length new ≡ length (fore ++ old) = omega (arith, long, length-append fore old) in
+    ap (λ l. take (length fore) l ++ new ++ drop (length fore + length new) ((fore ++ old) ++ back)) (append_assoc fore old back)
+    ∙ ap (λ l. l ++ new ++ drop (length fore + length new) ((fore ++ old) ++ back)) (take-append_seam fore (old ++ back))
+    ∙ ap (λ n. fore ++ new ++ drop n ((fore ++ old) ++ back)) end ∙ ap (λ l. fore ++ new ++ l) (drop-append_seam (fore ++ old) back)
+
+row_same : (one other : Row) → one.characters ≡ other.characters → one.columns ≡ other.columns → one.runs_on ≡ other.runs_on → one ≡ other
+row_same one other characters columns runs =
+    ap (λ l. record { characters = l; columns = one.columns; runs_on = one.runs_on }) characters
+    ∙ ap₂ (λ l b. record { characters = other.characters; columns = l; runs_on = b }) columns runs
 
 -- ---- the row
 
@@ -236,6 +270,38 @@ module _ (rendition : Rendition) (row : List Cell) (before : ℕ) (new : List �
   pub read_running : (k : ℕ) (next : List Cell) → k ≤ count → (row_read (written k) next).runs_on ≡ (row_read row next).runs_on
   unfolding row_read
   read_running k next le = ap₂ (λ a b. not a || b) (same_end k le) (same_leaving k next le)
+
+  same_count : (k j : ℕ) → k ≤ count → length (characters (cell_behind (written k) j)) ≡ length (characters (cell_behind row j))
+  same_count k j le =
+      let some = some_letters k le in
+      sets_alike (λ (cell : Cell). length (characters cell)) (letters rendition (take k new)) row before j (blank Default) (omega (arith, over.room, some))
+      (λ m lt.
+      letter_count rendition (take k new) m lt ∙ sym (ap length (character_plain (get_or row (before + m) (blank Default)) (over.plain m (omega (arith, some))))))
+
+  read_columns : (k : ℕ) (next : List Cell) → k ≤ count → (row_read (written k) next).columns ≡ (row_read row next).columns
+  unfolding row_read
+  read_columns k next le =
+      let m = kept next in
+      let own = λ (cell : Cell). length (characters cell) in
+      let long_written = length-take m (written k) in
+      ap (columns_from 1) (kept_written k next le)
+      ∙ columns_same 1 (take m (written k)) (take m row) (omega (arith, long_written, length-take m row, long k))
+      (λ j lt.
+      let within : j < m = omega (arith, lt, long_written) in
+      ap own (get_or-take m (written k) j (blank Default) within) ∙ same_count k j le ∙ sym (ap own (get_or-take m row j (blank Default) within)))
+      ∙ sym (ap (columns_from 1) (kept_written 0 next (omega arith)))
+
+  pub all_new : take count new ++ drop count old ≡ new
+  all_new = ap₂ (λ a b. a ++ b) (take_all count new (omega arith)) (drop_all count old (omega (arith, old_length))) ∙ append-nil new
+
+  -- with all of them it has them in place of as many others
+  pub read_written : (next : List Cell) → row_read (written count) next ≡ row_written (length left) new (row_read row next)
+  read_written next =
+      row_same (row_read (written count) next) (row_written (length left) new (row_read row next))
+      (read_characters count next (omega arith) ∙ ap (λ l. (left ++ l) ++ right (kept next)) all_new
+      ∙ sym (ap (λ l. take (length left) l ++ new ++ drop (length left + count) l) (read_characters 0 next (omega arith))
+      ∙ in_place left old (right (kept next)) new (sym old_length)))
+      (read_columns count next (omega arith)) (read_running count next (omega arith))
 
   leaving_above : (k : ℕ) (other : List Cell) → k ≤ count → leaves_last other (written k) ≡ leaves_last other row
   unfolding leaves_last

@@ -1,11 +1,11 @@
 -- Where a text stands nowhere before some bytes and behind them, it stands nowhere in between.
-use Rattle.std.proofs.Common.{◌≡◌, ◌≢◌, ℕ, zero, suc, ◌+◌, ◌-◌, ◌<◌, ◌≤◌, Bool, true, List, [], ◌∷◌, ◌++◌, drop, get_or, length, take, refl, ap, ap₂, subst, sym, ◌∙◌, arith, inl, inr}
-use Rattle.std.specs.Prelude.{◌==◌, ◌&&◌, if◌then◌else◌}
+use Rattle.std.proofs.Common.{◌≡◌, ◌≢◌, ℕ, zero, suc, ◌+◌, ◌-◌, ◌<◌, ◌≤◌, Bool, true, List, [], ◌∷◌, ◌++◌, drop, get_or, get_or-set_other, get_or-set_same, length, set, take, refl, ap, ap₂, subst, sym, ◌∙◌, arith, inl, inr}
+use Rattle.std.specs.Prelude.{◌==◌, if◌then◌else◌}
 use Rattle.std.specs.List.{flat_map, list_all}
 use Rattle.std.proofs.Math.Seq.{sets}
 use Rattle.std.proofs.lemmas.Bool.{and_parts, cases_eq, cases_lt}
 use Rattle.std.proofs.lemmas.Bool.Decides.{nat_tests}
-use Rattle.std.proofs.lemmas.List.{append-nil, drop_all, get_or-drop, get_or-map, get_or-take, get_or_past, length-take-le, take-take, take_all}
+use Rattle.std.proofs.lemmas.List.{append-nil, get_or-drop, get_or-map, get_or-take, get_or_past, length-append, length-set, length-take-le, take-take}
 use Rattle.std.proofs.lemmas.List.FromFn.{get_or-map-range_with_len, length-map-range_with_len}
 use Rattle.sheet.specs.declared.rendition.Colour.TheVariants.{Default}
 use Rattle.sheet.specs.declared.rendition.Rendition.{Rendition}
@@ -19,7 +19,10 @@ use Rattle.standings.specs.Kept.{Keeps, room_in}
 use Rattle.standings.specs.Rows.{Row, empty_row, row_below}
 use Rattle.standings.specs.Standing.{begins, line_text, standing}
 use Rattle.standings.proofs.FrontLemmas.{IsRewritten, NoNeighbours, nowhere_between}
+use Rattle.standings.specs.Written.{row_written, rows_written}
 use Rattle.standings.proofs.KeptLemmas.{keeps_more, keeps_same}
+use Rattle.standings.proofs.SpanLemmas.{same_rows}
+use Rattle.text_find.specs.FindLines.{rows_within}
 use Rattle.text_find.specs.Pieces.{AreQuiet}
 use Rattle.xterm_rows.specs.RowText.{characters}
 use Rattle.vt_parser.specs.Syntax.{is_graphic}
@@ -31,9 +34,9 @@ use Rattle.xterm_term.specs.declared.measure.Size.{Size}
 use Rattle.xterm_rows.specs.Runs.{cell_behind}
 use Rattle.xterm_print.specs.FindRows.{row_read, rows_read, rows_shown}
 use Rattle.xterm_print.specs.Moments.{reset_as}
-use Rattle.xterm_print.specs.Pieces.{AreApart, EndsLeft, IsPlain, IsQuiet, NoneBetween, StaysOn, left_of_cursor, rows_behind}
+use Rattle.xterm_print.specs.Pieces.{AreApart, EndsLeft, IsPlain, IsQuiet, NoneBetween, StaysOn, WritesOver, left_of_cursor, rows_behind}
 use Rattle.xterm_print.proofs.FindRowLemmas.{count_read, read_at}
-use Rattle.xterm_print.proofs.OverLemmas.{IsOver, kept, left, letters, old, old_length, read_above, read_characters, read_running, replaced, replaced_at, replaced_length, right, written}
+use Rattle.xterm_print.proofs.OverLemmas.{IsOver, all_new, kept, left, letters, old, old_length, read_above, read_characters, read_running, read_written, replaced, replaced_at, replaced_length, right, written}
 use Rattle.xterm_term.proofs.Taken.{nothing_played}
 
 -- ---- one row in place of another
@@ -117,13 +120,44 @@ module _ (rendition : Rendition) (rows : List (List Cell)) (lines at before : �
       read_with lines at (written rendition here before new over k) rows count low high
       (λ other. read_above rendition here before new over k other le) (λ next. read_running rendition here before new over k next le)
 
-  characters_there : (k : ℕ) → k ≤ length new
-      → (row_below (rows_read lines (with_first k)) (at - 1)).characters ≡ (row_read (written rendition here before new over k) below).characters
-  characters_there k le =
+  read_there : (k : ℕ) → row_below (rows_read lines (with_first k)) (at - 1) ≡ row_read (written rendition here before new over k) below
+  read_there k =
       let w = written rendition here before new over k in
-      ap (λ (r : Row). r.characters) (read_at lines (with_first k) at low high)
-      ∙ ap (λ r. (row_read r (row_at (with_first k) (at + 1))).characters) (row_there at w rows low (omega arith))
-      ∙ ap (λ l. (row_read w l).characters) (row_other at w rows (at + 1) (omega arith) (λ e. omega arith))
+      read_at lines (with_first k) at low high
+      ∙ ap (λ r. row_read r (row_at (with_first k) (at + 1))) (row_there at w rows low (omega arith))
+      ∙ ap (row_read w) (row_other at w rows (at + 1) (omega arith) (λ e. omega arith))
+
+  characters_there : (k : ℕ) → (row_below (rows_read lines (with_first k)) (at - 1)).characters ≡ (row_read (written rendition here before new over k) below).characters
+  characters_there k = ap (λ (r : Row). r.characters) (read_there k)
+
+  characters_before : (row_below (rows_read lines rows) (at - 1)).characters
+      ≡ (left rendition here before new over ++ old rendition here before new over) ++ right rendition here before new over (kept rendition here before new over below)
+  characters_before = ap (λ (r : Row). r.characters) (read_at lines rows at low high) ∙ read_characters rendition here before new over 0 below (omega arith)
+
+  -- all of them are written over as many of the row
+  pub over_written : rows_read lines (with_first (length new)) ≡ rows_written (at - 1) (length (left rendition here before new over)) new (rows_read lines rows)
+  over_written =
+      let n = length new in
+      let was = rows_read lines rows in
+      let now_ = rows_read lines (with_first n) in
+      let row = row_written (length (left rendition here before new over)) new (row_below was (at - 1)) in
+      let there : row_below now_ (at - 1) ≡ row =
+      read_there n ∙ read_written rendition here before new over below
+      ∙ ap (row_written (length (left rendition here before new over)) new) (sym (read_at lines rows at low high)) in
+      let rest = rewritten n (omega arith) in
+      same_rows (set was (at - 1) row) now_ (rest.count ∙ sym (length-set was (at - 1) row)) (λ k lt. elim (cases_eq k (at - 1)) [
+        | inl e ↦
+            ap (row_below now_) e ∙ there
+            ∙ sym (ap (row_below (set was (at - 1) row)) e ∙ get_or-set_same was (at - 1) row empty_row (omega (arith, count_read lines rows, low, high)))
+        | inr ne ↦ rest.others k ne ∙ sym (get_or-set_other was (at - 1) k row empty_row ne)
+      ])
+
+  pub over_room : length (left rendition here before new over) + length new ≤ length (row_below (rows_read lines rows) (at - 1)).characters
+  over_room =
+      let fore = left rendition here before new over in
+      let was = old rendition here before new over in
+      let back = right rendition here before new over (kept rendition here before new over below) in
+      omega (arith, ap length characters_before, length-append (fore ++ was) back, length-append fore was, old_length rendition here before new over)
 
   pub over_between : (text : List ℕ) (k : ℕ) → k ≤ length new
       → (0 < k → k < length new → NoNeighbours text (get_or new (k - 1) 0) (get_or (old rendition here before new over) k 0))
@@ -133,13 +167,11 @@ module _ (rendition : Rendition) (rows : List (List Cell)) (lines at before : �
       let n = length new in
       let was = old rendition here before new over in
       let all = read_characters rendition here before new over n below (omega arith) in
-      let all_new : take n new ++ drop n was ≡ new =
-      ap₂ (λ a b. a ++ b) (take_all n new (omega arith)) (drop_all n was (omega (arith, old_length rendition here before new over))) ∙ append-nil new in
       nowhere_between text (at - 1) k (left rendition here before new over) was new _ (rows_read lines rows) (rows_read lines (with_first k)) (rows_read lines (with_first n))
       (rewritten k le) (rewritten n (omega arith))
-      (ap (λ (r : Row). r.characters) (read_at lines rows at low high) ∙ read_characters rendition here before new over 0 below (omega arith))
-      (characters_there k le ∙ read_characters rendition here before new over k below le)
-      (characters_there n (omega arith) ∙ all ∙ ap (λ t. left rendition here before new over ++ t ++ right rendition here before new over (kept rendition here before new over below)) all_new)
+      characters_before
+      (characters_there k ∙ read_characters rendition here before new over k below le)
+      (characters_there n ∙ all ∙ ap (λ t. left rendition here before new over ++ t ++ right rendition here before new over (kept rendition here before new over below)) (all_new rendition here before new over))
       (sym (old_length rendition here before new over)) le apart none none'
 
   -- and each place of a text that ended left of them stays, a character more
@@ -154,9 +186,9 @@ module _ (rendition : Rendition) (rows : List (List Cell)) (lines at before : �
       keeps_more text (at - 1) k (left rendition here before new over) was new _ (rows_read lines rows) (rows_read lines (with_first k)) (rows_read lines (with_first (k + 1)))
       (omega (arith, count_read lines rows, low, high))
       (rewritten k (omega arith)) (rewritten (k + 1) (omega arith))
-      (ap (λ (r : Row). r.characters) (read_at lines rows at low high) ∙ read_characters rendition here before new over 0 below (omega arith))
-      (characters_there k (omega arith) ∙ read_characters rendition here before new over k below (omega arith))
-      (characters_there (k + 1) (omega arith) ∙ read_characters rendition here before new over (k + 1) below (omega arith))
+      characters_before
+      (characters_there k ∙ read_characters rendition here before new over k below (omega arith))
+      (characters_there (k + 1) ∙ read_characters rendition here before new over (k + 1) below (omega arith))
       (sym (old_length rendition here before new over)) lt some apart ends
 
 -- ---- bytes that are characters over plain cells
@@ -238,25 +270,43 @@ module _ (x : Term) (before : ℕ) (text bytes : List ℕ) (n : ℕ) (writes : W
       (omega (arith, lt, replaced_length x.console.rendition (cursor_row x) before first over))
       ∙ ap (λ (cell : Cell). cell.character) (replaced_at x.console.rendition (cursor_row x) before first over k lt)
 
+  last_there : rows_behind x bytes n ≡ rows_read p.lines (with_row p.line (row_with_first (length first)) p.rows)
+  last_there = rows_there n (omega arith) ∙ ap (λ m. rows_read p.lines (with_row p.line (row_with_first m) p.rows)) (sym first_length)
+
+  start_there : rows_behind x [] 0 ≡ rows_read p.lines p.rows
+  start_there = ap (λ (y : Term). rows_read p.lines y.console.picture.rows) (nothing_played x [] 0 refl)
+
+  left_there : left_of_cursor x ≡ left x.console.rendition (cursor_row x) before first over
+  left_there = ap (λ m. flat_map characters (take m (cursor_row x))) (sym run.at)
+
+  written_here : WritesOver x bytes n
+  written_here =
+      let rendition = x.console.rendition in
+      let was = rows_read p.lines p.rows in
+      let room = over_room rendition p.rows p.lines p.line before first run.sound.rows run.sound.line_low run.sound.line_high over in
+      record {
+        room = subst (λ r. length (left_of_cursor x) + n ≤ length (row_below r (p.line - 1)).characters) (sym start_there)
+            (omega (arith, room, first_length, ap length left_there));
+        rows =
+            last_there ∙ over_written rendition p.rows p.lines p.line before first run.sound.rows run.sound.line_low run.sound.line_high over
+            ∙ ap₂ (λ l r. rows_written (p.line - 1) (length l) first r) (sym left_there) (sym start_there);
+      }
+
   between_here : NoneBetween text x bytes n
   between_here none none' k lt =
       let rendition = x.console.rendition in
       let le : k ≤ n = omega (arith, lt) in
       let start : rows_behind x bytes 0 ≡ rows_read p.lines p.rows = ap (λ (y : Term). rows_read p.lines y.console.picture.rows) (nothing_played x bytes 0 refl) in
-      let last : rows_behind x bytes n ≡ rows_read p.lines (with_row p.line (row_with_first (length first)) p.rows) =
-      rows_there n (omega arith) ∙ ap (λ m. rows_read p.lines (with_row p.line (row_with_first m) p.rows)) (sym first_length) in
       ap (standing text) (rows_there k le)
       ∙ over_between rendition p.rows p.lines p.line before first run.sound.rows run.sound.line_low run.sound.line_high over text k (omega (arith, le, first_length))
       (λ some inside j low one other.
       run.apart k some (omega (arith, inside, first_length)) j low
       (one ∙ get_or-take n bytes (k - 1) 0 (omega (arith, some, lt))) (other ∙ old_at k (omega (arith, inside))))
-      (ap (standing text) (sym start) ∙ none) (ap (standing text) (sym last) ∙ none')
+      (ap (standing text) (sym start) ∙ none) (ap (standing text) (sym last_there) ∙ none')
 
   stays_here : 0 < length text → EndsLeft text x → StaysOn text x bytes n
   stays_here some ends k lt =
       let rendition = x.console.rendition in
-      let start : rows_behind x [] 0 ≡ rows_read p.lines p.rows = ap (λ (y : Term). rows_read p.lines y.console.picture.rows) (nothing_played x [] 0 refl) in
-      let fore : left_of_cursor x ≡ left rendition (cursor_row x) before first over = ap (λ m. flat_map characters (take m (cursor_row x))) (sym run.at) in
       subst (λ r. Keeps text r (rows_behind x bytes (k + 1))) (sym (rows_there k (omega (arith, lt))))
       (subst (λ r. Keeps text (rows_read p.lines (with_row p.line (row_with_first k) p.rows)) r) (sym (rows_there (k + 1) (omega (arith, lt))))
       (over_keeps rendition p.rows p.lines p.line before first run.sound.rows run.sound.line_low run.sound.line_high over text k (omega (arith, lt, first_length)) some
@@ -264,23 +314,33 @@ module _ (x : Term) (before : ℕ) (text bytes : List ℕ) (n : ℕ) (writes : W
       run.apart k begun lt j low
       (one ∙ get_or-take n bytes (k - 1) 0 (omega (arith, begun, lt))) (other ∙ old_at k (omega (arith, lt, first_length))))
       (subst (λ r. (j i : ℕ) → j ≤ p.line - 1 → j < length r → i < length (row_below r j).characters → begins text (line_text (drop j r)) i ≡ true
-      → i + length text ≤ room_in r (p.line - 1) (length (left rendition (cursor_row x) before first over)) j) start
+      → i + length text ≤ room_in r (p.line - 1) (length (left rendition (cursor_row x) before first over)) j) start_there
       (subst (λ l. (j i : ℕ) → j ≤ p.line - 1 → j < length (rows_behind x [] 0) → i < length (row_below (rows_behind x [] 0) j).characters → begins text (line_text (drop j (rows_behind x [] 0))) i ≡ true
-      → i + length text ≤ room_in (rows_behind x [] 0) (p.line - 1) (length l) j) fore ends))))
+      → i + length text ≤ room_in (rows_behind x [] 0) (p.line - 1) (length l) j) left_there ends))))
+
+-- it is a run of the term that shows the picture
+run_shown : (x : Term) (p : Picture) (row : List Cell) (before : ℕ) (text bytes : List ℕ) (n : ℕ) → p ≡ x.console.picture
+    → IsRun p row before text bytes n → IsRun x.console.picture (cursor_row x) before text bytes n
+run_shown x p row before text bytes n same run =
+    let here : row ≡ cursor_row x = run.is ∙ ap (λ (q : Picture). row_at q.rows q.line) same in
+    subst (λ r. IsRun x.console.picture r before text bytes n) here (subst (λ (q : Picture). IsRun q row before text bytes n) same run)
 
 pub run_stays : (x : Term) (p : Picture) (row : List Cell) (before : ℕ) (text bytes : List ℕ) (n : ℕ) → p ≡ x.console.picture → WritesOn x
     → IsRun p row before text bytes n → 0 < length text → EndsLeft text x → StaysOn text x bytes n
-run_stays x p row before text bytes n same writes run =
-    let here : row ≡ cursor_row x = run.is ∙ ap (λ (q : Picture). row_at q.rows q.line) same in
-    stays_here x before text bytes n writes
-    (subst (λ r. IsRun x.console.picture r before text bytes n) here (subst (λ (q : Picture). IsRun q row before text bytes n) same run))
+run_stays x p row before text bytes n same writes run = stays_here x before text bytes n writes (run_shown x p row before text bytes n same run)
 
 pub run_between : (x : Term) (p : Picture) (row : List Cell) (before : ℕ) (text bytes : List ℕ) (n : ℕ) → p ≡ x.console.picture → WritesOn x
     → IsRun p row before text bytes n → NoneBetween text x bytes n
-run_between x p row before text bytes n same writes run =
-    let here : row ≡ cursor_row x = run.is ∙ ap (λ (q : Picture). row_at q.rows q.line) same in
-    between_here x before text bytes n writes
-    (subst (λ r. IsRun x.console.picture r before text bytes n) here (subst (λ (q : Picture). IsRun q row before text bytes n) same run))
+run_between x p row before text bytes n same writes run = between_here x before text bytes n writes (run_shown x p row before text bytes n same run)
+
+pub run_written : (x : Term) (p : Picture) (row : List Cell) (before : ℕ) (text bytes : List ℕ) (n : ℕ) → p ≡ x.console.picture → WritesOn x
+    → IsRun p row before text bytes n → WritesOver x bytes n
+run_written x p row before text bytes n same writes run = written_here x before text bytes n writes (run_shown x p row before text bytes n same run)
+
+-- the cursor's row is one of those that are read
+pub line_behind : (x : Term) → Sound x.console.picture → x.console.picture.line - 1 < length (rows_behind x [] 0)
+line_behind x sound =
+    omega (arith, count_read x.console.picture.lines (play x []).console.picture.rows, sound.line_low, sound.line_high)
 
 -- a cell of those that are looked at
 pub cell_within : (row : List Cell) (before m k : ℕ) → k < m → cell_behind (take m (drop before row)) k ≡ get_or row (before + k) (blank Default)
@@ -338,20 +398,30 @@ none_told size_law parts size text before bytes taken between none none' count l
     ap (standing text) (at count)
     ∙ between (ap (standing text) (sym (at 0) ∙ ap (rows_shown size) (append-nil before)) ∙ none) (ap (standing text) (sym (at taken)) ∙ none') count lt
 
-pub quiet_told : SizeStays → PlaysInParts → (size : Size) (text before bytes : List ℕ) (taken : ℕ) → IsQuiet text (play (reset_as size) before) bytes taken
-    → AreQuiet text (rows_shown size) before bytes taken
-quiet_told size_law parts size text before bytes taken quiet =
-    let x = play (reset_as size) before in
-    let at = behind_is size_law parts size before bytes in
-    let kept = λ (one other : ℕ) (keeps : Keeps text (rows_behind x bytes one) (rows_behind x bytes other)).
-    subst (λ r. Keeps text r (rows_shown size (before ++ take other bytes))) (sym (at one)) (subst (Keeps text (rows_behind x bytes one)) (sym (at other)) keeps) in
-    record {
-      inside = λ count lt. kept count (count + 1) (quiet.inside count lt);
-      last = elim quiet.last [
-        | inl same ↦ inl (at (taken - 1) ∙ same ∙ sym (at 0))
-        | inr keeps ↦ inr (kept (taken - 1) taken keeps)
-      ];
-    }
+module _ (size_law : SizeStays) (parts : PlaysInParts) (size : Size) (text before bytes : List ℕ) where
+  abbrev begun : Term
+  begun = play (reset_as size) before
+
+  keeps_told : (one other : ℕ) → Keeps text (rows_behind begun bytes one) (rows_behind begun bytes other)
+      → Keeps text (rows_shown size (before ++ take one bytes)) (rows_shown size (before ++ take other bytes))
+  keeps_told one other keeps =
+      let at = behind_is size_law parts size before bytes in
+      subst (λ r. Keeps text r (rows_shown size (before ++ take other bytes))) (sym (at one)) (subst (Keeps text (rows_behind begun bytes one)) (sym (at other)) keeps)
+
+  pub quiet_told : (taken : ℕ) → IsQuiet text begun bytes taken → AreQuiet text (rows_shown size) before bytes taken
+  quiet_told taken quiet =
+      let at = behind_is size_law parts size before bytes in
+      record {
+        inside = λ count lt. keeps_told count (count + 1) (quiet.inside count lt);
+        last = elim quiet.last [
+          | inl same ↦ inl (at (taken - 1) ∙ same ∙ sym (at 0))
+          | inr keeps ↦ inr (keeps_told (taken - 1) taken keeps)
+        ];
+      }
+
+  pub stays_told : (taken : ℕ) → StaysOn text begun bytes taken
+      → (count : ℕ) → count < taken → Keeps text (rows_within (rows_shown size) before bytes count) (rows_within (rows_shown size) before bytes (count + 1))
+  stays_told taken stays count lt = keeps_told count (count + 1) (stays count lt)
 
 -- those before any byte
 pub start_is : SizeStays → PlaysInParts → (size : Size) (before : List ℕ) → rows_shown size before ≡ rows_behind (play (reset_as size) before) [] 0

@@ -8,6 +8,7 @@ use Rattle.sheet.specs.Grid.{row_at}
 use Rattle.standings.specs.Kept.{Keeps, room_in}
 use Rattle.standings.specs.Rows.{Row, row_below}
 use Rattle.standings.specs.Standing.{begins, line_text, standing}
+use Rattle.standings.specs.Written.{rows_written}
 use Rattle.xterm_rows.specs.RowText.{characters}
 use Rattle.xterm_term.specs.Term.{Term, play}
 use Rattle.xterm_print.specs.FindRows.{rows_read}
@@ -47,6 +48,11 @@ pub record IsQuiet (text : List ℕ) (x : Term) (bytes : List ℕ) (taken : ℕ)
 -- the characters of the cells left of the cursor
 abbrev pub left_of_cursor : Term → List ℕ
 left_of_cursor x = flat_map characters (take (x.console.picture.column - 1) (row_at x.console.picture.rows x.console.picture.line))
+
+-- so many bytes are written as they are over characters of the cursor's row, from the one at it on
+pub record WritesOver (x : Term) (bytes : List ℕ) (count : ℕ) : Type 0 where
+  pub room : length (left_of_cursor x) + count ≤ length (row_below (rows_behind x [] 0) (x.console.picture.line - 1)).characters
+  pub rows : rows_behind x bytes count ≡ rows_written (x.console.picture.line - 1) (length (left_of_cursor x)) (take count bytes) (rows_behind x [] 0)
 
 -- wherever a text begins, but in the rows below the cursor's, it ends left of the cursor, or in its own row
 abbrev pub EndsLeft : List ℕ → Term → Type 0

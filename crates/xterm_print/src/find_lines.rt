@@ -7,7 +7,7 @@ ghost use Rattle.chunk_walk.specs.Stops.{OnlySeeks, StopsPrint};
 ghost use Rattle.xterm_print.specs.FindLines.{StandsNowhere, find_lines, has_ink};
 
 use crate::find_rows::{read_touched, rows_read};
-use crate::pieces::{moved_up, piece, quiet_piece};
+use crate::pieces::{moved_up, piece, quiet_piece, written};
 use crate::seeking::seek_count;
 use chunk_walk::WalkFault;
 use plays::Plays;
@@ -16,7 +16,7 @@ use std::alloc::Global;
 use std::io::Write;
 use tape_core::Watched;
 use tape_seek::Session;
-use text_find::Finder;
+use text_find::{Finder, Written};
 use xterm_term::laws::{plays_in_parts, size_stays, stays_safe};
 use xterm_term::{OutOfMemory, Reports, Terminal};
 
@@ -116,6 +116,17 @@ impl Finder<Terminal> for Sheets {
         size_stays();
         plays_in_parts();
         moved_up(terminal, bytes)
+    }
+
+    fn writes(
+        terminal: &Terminal,
+        text: &[char],
+        still: &Standing,
+        bytes: &[u8],
+    ) -> Option<Written> {
+        size_stays();
+        plays_in_parts();
+        written(terminal, text, still, bytes)
     }
 
     fn begins_blank() {}

@@ -1,22 +1,26 @@
 //! How much of a chunk is played before a text is looked for again.
 
-ghost use Rattle.std.specs.Prelude.{◌≡◌, ◌-◌, ◌<◌, ◌≤◌, [], ℕ, IfSome, length, slice_index, slice_index_or, take, true, false};
+ghost use Rattle.std.specs.Prelude.{◌≡◌, ◌+◌, ◌-◌, ◌<◌, ◌≤◌, [], ℕ, IfSome, length, slice_index, slice_index_or, take, true, false};
 ghost use Rattle.std.specs.List.{flat_map, list_all};
 ghost use Rattle.sheet.specs.Cells.{blank};
 ghost use Rattle.sheet.specs.declared.rendition.Colour.TheVariants.{Default};
 ghost use Rattle.standings.specs.Kept.{EndBy};
 ghost use Rattle.standings.specs.Moved.{moved_up};
+ghost use Rattle.standings.specs.Rows.{row_below};
 ghost use Rattle.standings.specs.Standing.{standing};
+ghost use Rattle.standings.specs.Written.{rows_written};
 ghost use Rattle.vt_parser.specs.Syntax.{is_graphic};
 ghost use Rattle.xterm_rows.specs.RowText.{characters};
 ghost use Rattle.xterm_rows.specs.Runs.{cell_behind};
+ghost use Rattle.xterm_screen.specs.Picture.{Sound};
 ghost use Rattle.xterm_term.specs.Seen.{Shows};
 ghost use Rattle.xterm_term.specs.Term.{Term};
-ghost use Rattle.xterm_print.specs.Pieces.{AreApart, EndsLeft, IsPlain, IsQuiet, NoneBetween, StaysOn, left_of_cursor, rows_behind};
+ghost use Rattle.xterm_print.specs.Pieces.{AreApart, EndsLeft, IsPlain, IsQuiet, NoneBetween, StaysOn, WritesOver, left_of_cursor, rows_behind};
 
 use sheet::Cell;
 use sheet::limits::MOST_COLUMNS;
 use standings::{Standing, ends_before};
+use text_find::Written;
 use xterm_term::Terminal;
 
 /// How many of the bytes to play at once: where the text stands nowhere before them and behind them, it stands nowhere in
@@ -82,6 +86,47 @@ pub(crate) fn moved_up(terminal: &Terminal, bytes: &[u8]) -> Option<usize>
     Some(screen.columns() as usize)
 }
 
+/// How many of the bytes are written as they are over plain cells of the cursor's row, so that nothing of the text goes at
+/// them, and where.
+pub(crate) fn written(
+    terminal: &Terminal,
+    text: &[char],
+    still: &Standing,
+    bytes: &[u8],
+) -> Option<Written>
+    ensures some { IfSome result (λ written. 0 < written.count) }
+    ensures within { IfSome result (λ written. written.count ≤ length bytes.now) }
+    ensures row { (x : Term) → Shows terminal.now x
+        → still.now.rows.items ≡ rows_behind x [] 0
+        → still.now.places.items ≡ standing text.now (rows_behind x [] 0)
+        → IfSome result (λ written. written.above < length (rows_behind x [] 0)) }
+    ensures room { (x : Term) → Shows terminal.now x
+        → still.now.rows.items ≡ rows_behind x [] 0
+        → still.now.places.items ≡ standing text.now (rows_behind x [] 0)
+        → IfSome result (λ written. written.before + written.count
+        ≤ length (row_below (rows_behind x [] 0) written.above).characters) }
+    ensures rows { (x : Term) → Shows terminal.now x
+        → still.now.rows.items ≡ rows_behind x [] 0
+        → still.now.places.items ≡ standing text.now (rows_behind x [] 0)
+        → IfSome result (λ written. rows_behind x bytes.now written.count
+        ≡ rows_written written.above written.before (take written.count bytes.now) (rows_behind x [] 0)) }
+    ensures keeps { (x : Term) → Shows terminal.now x
+        → still.now.rows.items ≡ rows_behind x [] 0
+        → still.now.places.items ≡ standing text.now (rows_behind x [] 0)
+        → IfSome result (λ written. StaysOn text.now x bytes.now written.count) }
+{
+    let count = quiet_run(terminal, text, still, bytes);
+    if count == 0 {
+        return None;
+    }
+    let (above, before) = cursor_place(terminal);
+    Some(Written {
+        above,
+        before,
+        count,
+    })
+}
+
 /// How many of the bytes go over plain cells, and take nothing of the text away.
 fn quiet_run(terminal: &Terminal, text: &[char], still: &Standing, bytes: &[u8]) -> usize
     ensures within { result ≤ length bytes.now }
@@ -89,6 +134,7 @@ fn quiet_run(terminal: &Terminal, text: &[char], still: &Standing, bytes: &[u8])
         → still.now.rows.items ≡ rows_behind x [] 0
         → still.now.places.items ≡ standing text.now (rows_behind x [] 0)
         → StaysOn text.now x bytes.now result }
+    ensures written { (x : Term) → Shows terminal.now x → 0 < result → WritesOver x bytes.now result }
 {
     if text.is_empty() {
         return 0;
@@ -120,11 +166,21 @@ fn ends_left(terminal: &Terminal, len: usize, still: &Standing) -> bool
     if still.places.is_empty() {
         return true;
     }
+    let (above, before) = cursor_place(terminal);
+    ends_before(still, len, above, before)
+}
+
+/// How many rows are above the cursor's, and how many characters left of it.
+fn cursor_place(terminal: &Terminal) -> (usize, usize)
+    ensures above { (x : Term) → Shows terminal.now x → result.0 ≡ x.console.picture.line - 1 }
+    ensures before { (x : Term) → Shows terminal.now x → result.1 ≡ length (left_of_cursor x) }
+    ensures sound { (x : Term) → Shows terminal.now x → Sound x.console.picture }
+{
     let screen = terminal.screen();
     let (line, column) = screen.cursor();
     let cells = screen.row(line);
     let before = character_count(&cells[..column as usize - 1]);
-    ends_before(still, len, line as usize - 1, before)
+    (line as usize - 1, before)
 }
 
 /// How many characters cells have, with their marks.
@@ -159,6 +215,7 @@ fn run_over(terminal: &Terminal, text: &[char], bytes: &[u8]) -> usize
     ensures between { (x : Term) → Shows terminal.now x → NoneBetween text.now x bytes.now result }
     ensures stays { (x : Term) → Shows terminal.now x → 0 < length text.now → EndsLeft text.now x
         → StaysOn text.now x bytes.now result }
+    ensures written { (x : Term) → Shows terminal.now x → 0 < result → WritesOver x bytes.now result }
 {
     if !terminal.writes_on() {
         return 0;

@@ -8,7 +8,7 @@ use Rattle.xterm_print.specs.Pieces.{AreApart, IsPlain}
 use Rattle.xterm_term.specs.Ahead.{WritesOn}
 use Rattle.xterm_term.specs.Term.{Term}
 use Rattle.xterm_term.specs.Seen.{Shows}
-use Rattle.xterm_print.proofs.PieceLemmas.{IsRun, cell_within, run_between, run_stays}
+use Rattle.xterm_print.proofs.PieceLemmas.{IsRun, cell_within, run_between, run_stays, run_written}
 use Rattle.xterm_print.proofs.pieces.run_over.Goals as goal
 
 -- the bytes are a run
@@ -44,4 +44,9 @@ returns-clause-between c = λ x shows.
 pub returns-clause-stays : goal.returns-clause-stays
 returns-clause-stays c = λ x shows.
     run_stays x c.screen-screen.result.now.picture c.row-cells.result.now (c.cursor-line.result.1 - 1) c.args.text.now c.args.bytes.now c.run_on.result
+    (c.screen-screen.ensures.value ∙ sym (ap (λ (s : Console). s.picture) shows.console)) (writes c x shows) (is_run c)
+
+pub returns-clause-written : goal.returns-clause-written
+returns-clause-written c = λ x shows some.
+    run_written x c.screen-screen.result.now.picture c.row-cells.result.now (c.cursor-line.result.1 - 1) c.args.text.now c.args.bytes.now c.run_on.result
     (c.screen-screen.ensures.value ∙ sym (ap (λ (s : Console). s.picture) shows.console)) (writes c x shows) (is_run c)
