@@ -1,9 +1,9 @@
 -- Rows of which only some differ.
-use Rattle.std.proofs.Common.{Bool, true, take, nat_eq, ◌≡◌, ◌≢◌, ◌⊎◌, ℕ, zero, suc, ◌+◌, ◌-◌, ◌<◌, ◌≤◌, false, List, [], ◌∷◌, ◌++◌, cond, drop, length, nat_le, refl, ap, sym, ◌∙◌, arith, inl, inr, subst}
+use Rattle.std.proofs.Common.{Bool, true, take, nat_eq, ◌≡◌, ◌≢◌, ◌⊎◌, ℕ, zero, suc, ◌+◌, ◌-◌, ◌<◌, ◌≤◌, false, List, [], ◌∷◌, ◌++◌, append_assoc, append-nil, cond, drop, length, nat_le, refl, ap, sym, ◌∙◌, arith, inl, inr, subst}
 use Rattle.std.proofs.lemmas.Bool.{cases_Bool, cases_lt, leb-true}
 use Rattle.std.specs.Cmp.Lexicographic.{pointwise}
 use Rattle.std.specs.List.{starts_with}
-use Rattle.std.proofs.lemmas.List.{drop-append-le, drop-take, drop_all, ext_get_or, get_or_past}
+use Rattle.std.proofs.lemmas.List.{drop-append-le, drop-drop, drop-take, drop_all, ext_get_or, get_or_past, length-drop, length-take, take-append-drop}
 use Rattle.standings.specs.declared.place.Place.{Place}
 use Rattle.standings.specs.declared.span.Span.{Span}
 use Rattle.standings.specs.Rows.{Row, empty_row, row_below}
@@ -230,22 +230,60 @@ none_before text above line (suc n) i none lt =
           ]
     ]
 
+-- those of the characters up to one stay, where it begins at none of so many from it on
+pub passed_over : (text : List ℕ) (above : ℕ) (line : List ℕ) (from n : ℕ) → ((i : ℕ) → from ≤ i → i < from + n → begins text line i ≡ false)
+    → places_in text above line (from + n) ≡ places_in text above line from
+passed_over text above line from zero none = let all : from + 0 ≡ from = omega arith in ap (places_in text above line) all
+passed_over text above line from (suc n) none =
+    let next : from + suc n ≡ from + n + 1 = omega arith in
+    ap (places_in text above line) next ∙ places_more text above line (from + n) false (sym (none (from + n) (omega arith) (omega arith)))
+    ∙ append-nil (places_in text above line (from + n))
+    ∙ passed_over text above line from n (λ i low lt. none i low (omega arith))
+
 pub all_before : (text : List ℕ) (above : ℕ) (line : List ℕ) (count : ℕ) → ((i : ℕ) → i < count → begins text line i ≡ false) → places_in text above line count ≡ []
-all_before text above line zero none = refl
-all_before text above line (suc n) none =
-    let next : suc n ≡ n + 1 = omega arith in
-    ap (places_in text above line) next ∙ places_more text above line n false (sym (none n (omega arith)))
-    ∙ ap (λ l. l ++ []) (all_before text above line n (λ i lt. none i (omega arith)))
+all_before text above line count none =
+    let all : 0 + count ≡ count = omega arith in
+    ap (places_in text above line) (sym all) ∙ passed_over text above line 0 count (λ i _ lt. none i (omega arith))
+
+-- where it doesn't begin at a character of a row, whatever comes behind it
+pub never_here : (text : List ℕ) (rows : List Row) (above i : ℕ) → i < length (row_below rows above).characters
+    → ((rest : List ℕ) → starts_with nat_eq (drop i (row_below rows above).characters ++ rest) text ≡ false) → begins text (line_text (drop above rows)) i ≡ false
+never_here text rows above i lt none =
+    let row = row_below rows above in
+    let more = cond row.runs_on (line_text (drop (above + 1) rows)) [] in
+    ap (λ l. begins text l i) (line_at rows above) ∙ ap (λ l. starts_with nat_eq l text) (drop-append-le i row.characters more (omega arith)) ∙ none more
 
 -- where it begins at none of a row's, whatever comes behind them
 pub none_here : (text : List ℕ) (rows : List Row) (above : ℕ)
     → ((before : ℕ) → before < length (row_below rows above).characters → (rest : List ℕ) → starts_with nat_eq (drop before (row_below rows above).characters ++ rest) text ≡ false)
     → places_of text rows above ≡ []
 none_here text rows above none =
-    let row = row_below rows above in
-    let more = cond row.runs_on (line_text (drop (above + 1) rows)) [] in
-    all_before text above (line_text (drop above rows)) (length row.characters) (λ i lt.
-    ap (λ l. begins text l i) (line_at rows above) ∙ ap (λ l. starts_with nat_eq l text) (drop-append-le i row.characters more (omega arith)) ∙ none i lt more)
+    all_before text above (line_text (drop above rows)) (length (row_below rows above).characters) (λ i lt. never_here text rows above i lt (none i lt))
+
+-- and where it begins at none of the first ones of a part of them
+pub none_in_part : (characters text : List ℕ) (from n m : ℕ) → m ≤ length (take n (drop from characters))
+    → ((k : ℕ) → k < m → (rest : List ℕ) → starts_with nat_eq (drop k (take n (drop from characters)) ++ rest) text ≡ false)
+    → (before : ℕ) → from ≤ before → before < from + m → (rest : List ℕ) → starts_with nat_eq (drop before characters ++ rest) text ≡ false
+none_in_part characters text from n m fits none before low high rest =
+    let behind = drop from characters in
+    let k = before - from in
+    let here : from + k ≡ before = omega arith in
+    ap (λ i. starts_with nat_eq (drop i characters ++ rest) text) (sym here)
+    ∙ ap (λ l. starts_with nat_eq (l ++ rest) text)
+    (sym (drop-drop k from characters) ∙ ap (drop k) (sym (take-append-drop n behind)) ∙ drop-append-le k (take n behind) (drop n behind) (omega arith))
+    ∙ ap (λ l. starts_with nat_eq l text) (append_assoc (drop k (take n behind)) (drop n behind) rest)
+    ∙ none k (omega arith) (drop n behind ++ rest)
+
+-- and at none of those that were passed before it
+pub none_further : (characters text : List ℕ) (start from n m : ℕ) → m ≤ n → from + n ≤ length characters
+    → ((before : ℕ) → start ≤ before → before < from → (rest : List ℕ) → starts_with nat_eq (drop before characters ++ rest) text ≡ false)
+    → ((k : ℕ) → k < m → (rest : List ℕ) → starts_with nat_eq (drop k (take n (drop from characters)) ++ rest) text ≡ false)
+    → (before : ℕ) → start ≤ before → before < from + m → (rest : List ℕ) → starts_with nat_eq (drop before characters ++ rest) text ≡ false
+none_further characters text start from n m fits within passed none before low high rest = elim (cases_lt before from) [
+  | inl lt ↦ passed before low lt rest
+  | inr ge ↦
+      none_in_part characters text from n m (omega (arith, length-take n (drop from characters), length-drop from characters)) none before ge high rest
+]
 
 -- a row and its line give its places
 pub places_same : (text : List ℕ) (one other : List Row) (above : ℕ) → row_below other above ≡ row_below one above → line_text (drop above other) ≡ line_text (drop above one)

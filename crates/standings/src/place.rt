@@ -11,6 +11,9 @@ use crate::row::{Row, characters_below, runs_on_below};
 use crate::span::Span;
 use std::alloc::{AllocError, Global};
 
+// How many characters are passed over at once where a text begins at none of them.
+const BLOCK: usize = 16;
+
 /// A place on a screen: how many rows are above it, and how many characters before it in its row.
 #[derive(Clone, Copy, Debug, PartialEq, Eq)]
 pub struct Place {
@@ -178,7 +181,7 @@ fn begins_in(rows: &[Row], above: usize, text: &[char]) -> bool
     false
 }
 
-/// Puts the places of one row behind others.
+/// Puts the places of one row behind others. It passes over blocks of characters at which the text doesn't begin.
 fn push_places(
     rows: &[Row],
     above: usize,
@@ -189,10 +192,34 @@ fn push_places(
     ensures { OnOk result (places.new.items ≡ places.old.items
         ++ places_in text.now above (line_text (drop above rows.now)) (length (row_below rows.now above).characters)) }
 {
-    if !has_front(characters_below(rows, above), text) {
-        return Ok(());
+    let characters = characters_below(rows, above);
+    let mut from = 0;
+    while from < characters.len() {
+        let start = next_block(characters, from, text);
+        let end = start + BLOCK.min(characters.len() - start);
+        push_block(rows, above, start, end, text, places)?;
+        from = end;
     }
-    for before in 0..characters_below(rows, above).len() {
+    Ok(())
+}
+
+/// Puts the places of one row from one up to and without another behind those up to the first.
+fn push_block(
+    rows: &[Row],
+    above: usize,
+    start: usize,
+    end: usize,
+    text: &[char],
+    places: &mut Vec<Place>,
+) -> Result<(), AllocError>
+    requires row { above < length rows.now }
+    requires order { start ≤ end }
+    requires within { end ≤ length (row_below rows.now above).characters }
+    ensures { OnOk result ((others : List Place)
+        → places.old.items ≡ others ++ places_in text.now above (line_text (drop above rows.now)) start
+        → places.new.items ≡ others ++ places_in text.now above (line_text (drop above rows.now)) end) }
+{
+    for before in start..end {
         if begins(&rows[above..], before, text) {
             places.push(Place { above, before })?;
         }
@@ -200,7 +227,31 @@ fn push_places(
     Ok(())
 }
 
+/// The next block of characters in which a text may begin, or the end. A block is looked at with the character behind it,
+/// so that there is a pair for each of its own.
+fn next_block(characters: &[char], from: usize, text: &[char]) -> usize
+    requires { from ≤ length characters.now }
+    ensures low { from ≤ result }
+    ensures within { result ≤ length characters.now }
+    ensures passed { (before : ℕ) → from ≤ before → before < result
+        → (rest : List ℕ) → starts_with nat_eq (drop before characters.now ++ rest) text.now ≡ false }
+{
+    let mut at = from;
+    while characters.len() - at > BLOCK {
+        if has_front_early(&characters[at..at + BLOCK + 1], text) {
+            return at;
+        }
+        at += BLOCK;
+    }
+    if has_front(&characters[at..], text) {
+        at
+    } else {
+        characters.len()
+    }
+}
+
 /// Whether a text may begin among these characters: whether its first two stand side by side, or its first one at the end.
+#[inline(always)]
 fn has_front(characters: &[char], text: &[char]) -> bool
     ensures { result ≡ false → (before : ℕ) → before < length characters.now → (rest : List ℕ)
         → starts_with nat_eq (drop before characters.now ++ rest) text.now ≡ false }
@@ -214,7 +265,21 @@ fn has_front(characters: &[char], text: &[char]) -> bool
     characters[characters.len() - 1] == text[0] || has_pair(characters, text[0], text[1])
 }
 
+/// Whether a text may begin among these characters but at the last one: whether its first two stand side by side.
+#[inline(always)]
+fn has_front_early(characters: &[char], text: &[char]) -> bool
+    requires { 0 < length characters.now }
+    ensures { result ≡ false → (before : ℕ) → before + 1 < length characters.now → (rest : List ℕ)
+        → starts_with nat_eq (drop before characters.now ++ rest) text.now ≡ false }
+{
+    if text.len() < 2 {
+        return has_front(characters, text);
+    }
+    has_pair(characters, text[0], text[1])
+}
+
 /// Whether a character is among others. It goes over all of them with no way out, since that is done many at a time.
+#[inline(always)]
 fn has(characters: &[char], wanted: char) -> bool
     ensures { result ≡ false → (before : ℕ) → before < length characters.now
         → slice_index_or characters.now before 0 ≢ wanted }
@@ -227,6 +292,7 @@ fn has(characters: &[char], wanted: char) -> bool
 }
 
 /// Whether two characters stand side by side among others. It goes over all of them too.
+#[inline(always)]
 fn has_pair(characters: &[char], first: char, second: char) -> bool
     requires { 0 < length characters.now }
     ensures { result ≡ false → (before : ℕ) → before + 1 < length characters.now
