@@ -148,12 +148,9 @@ fn quiet_run(terminal: &Terminal, text: &[char], still: &Standing, bytes: &[u8])
     run_over(terminal, text, bytes)
 }
 
-/// Whether more than one of the bytes may be put as graphic characters: else it isn't worth to look at all places.
+/// Whether the first of the bytes may be put as a graphic character: else it isn't worth to look at all places.
 fn may_run(terminal: &Terminal, bytes: &[u8]) -> bool {
-    bytes.len() > 1
-        && matches!(bytes[0], 32..=126)
-        && matches!(bytes[1], 32..=126)
-        && terminal.writes_on()
+    !bytes.is_empty() && matches!(bytes[0], 32..=126) && terminal.writes_on()
 }
 
 /// Whether a text of so many characters ends left of the cursor, or in a row above, wherever it stands but in the rows
