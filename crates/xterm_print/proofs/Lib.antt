@@ -5,6 +5,7 @@ pub mod ShownLemmas
 mod FindRowLemmas
 mod BlankLemmas
 mod OverLemmas
+mod PlaceLemmas
 mod PieceLemmas
 mod TrimmedLemmas
 mod MovedLemmas

@@ -59,7 +59,7 @@ plain_narrow : (cell : Cell) → IsPlain cell → is_wide cell ≡ false
 unfolding is_wide
 plain_narrow cell plain = rw plain.kind refl
 
-character_plain : (cell : Cell) → IsPlain cell → characters cell ≡ cell.character ∷ []
+pub character_plain : (cell : Cell) → IsPlain cell → characters cell ≡ cell.character ∷ []
 unfolding characters is_covered
 character_plain cell plain = rw (plain.kind, plain.alone) refl
 

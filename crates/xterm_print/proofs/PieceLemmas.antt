@@ -337,7 +337,15 @@ pub run_written : (x : Term) (p : Picture) (row : List Cell) (before : ℕ) (tex
     → IsRun p row before text bytes n → WritesOver x bytes n
 run_written x p row before text bytes n same writes run = written_here x before text bytes n writes (run_shown x p row before text bytes n same run)
 
--- the cursor's row is one of those that are read
+-- the cursor's row, as it is read
+pub row_behind : (x : Term) → Sound x.console.picture
+    → row_below (rows_behind x [] 0) (x.console.picture.line - 1) ≡ row_read (cursor_row x) (row_at x.console.picture.rows (x.console.picture.line + 1))
+row_behind x sound =
+    let p = x.console.picture in
+    ap (λ (y : Term). row_below (rows_read p.lines y.console.picture.rows) (p.line - 1)) (nothing_played x [] 0 refl)
+    ∙ read_at p.lines p.rows p.line sound.line_low sound.line_high
+
+-- it is one of those that are read
 pub line_behind : (x : Term) → Sound x.console.picture → x.console.picture.line - 1 < length (rows_behind x [] 0)
 line_behind x sound =
     omega (arith, count_read x.console.picture.lines (play x []).console.picture.rows, sound.line_low, sound.line_high)

@@ -1,8 +1,8 @@
 //! How much of a chunk is played before a text is looked for again.
 
-ghost use Rattle.std.specs.Prelude.{◌≡◌, ◌+◌, ◌-◌, ◌<◌, ◌≤◌, [], ℕ, IfSome, length, slice_index, slice_index_or, take, true, false};
+ghost use Rattle.std.specs.Prelude.{◌≡◌, ◌+◌, ◌-◌, ◌<◌, ◌≤◌, [], List, ℕ, IfSome, length, slice_index, slice_index_or, take, true, false};
 ghost use Rattle.std.specs.List.{flat_map, list_all};
-ghost use Rattle.sheet.specs.Cells.{blank};
+ghost use Rattle.sheet.specs.Cells.{Cell, blank};
 ghost use Rattle.sheet.specs.declared.rendition.Colour.TheVariants.{Default};
 ghost use Rattle.standings.specs.Kept.{EndBy};
 ghost use Rattle.standings.specs.Moved.{moved_up};
@@ -15,11 +15,12 @@ ghost use Rattle.xterm_rows.specs.Runs.{cell_behind};
 ghost use Rattle.xterm_screen.specs.Picture.{Sound};
 ghost use Rattle.xterm_term.specs.Seen.{Shows};
 ghost use Rattle.xterm_term.specs.Term.{Term};
+ghost use Rattle.xterm_print.specs.FindRows.{row_read};
 ghost use Rattle.xterm_print.specs.Pieces.{AreApart, EndsLeft, IsPlain, IsQuiet, NoneBetween, StaysOn, WritesOver, left_of_cursor, rows_behind};
 
 use sheet::Cell;
 use sheet::limits::MOST_COLUMNS;
-use standings::{Standing, ends_before};
+use standings::{Row, Standing, ends_before};
 use text_find::Written;
 use xterm_term::Terminal;
 
@@ -119,7 +120,7 @@ pub(crate) fn written(
     if count == 0 {
         return None;
     }
-    let (above, before) = cursor_place(terminal);
+    let (above, before) = cursor_place(terminal, still);
     Some(Written {
         above,
         before,
@@ -157,27 +158,49 @@ fn may_run(terminal: &Terminal, bytes: &[u8]) -> bool {
 /// below.
 fn ends_left(terminal: &Terminal, len: usize, still: &Standing) -> bool
     ensures { result ≡ true → (x : Term) → Shows terminal.now x
+        → still.now.rows.items ≡ rows_behind x [] 0
         → EndBy len still.now.rows.items still.now.places.items
         (x.console.picture.line - 1) (length (left_of_cursor x)) }
 {
     if still.places.is_empty() {
         return true;
     }
-    let (above, before) = cursor_place(terminal);
+    let (above, before) = cursor_place(terminal, still);
     ends_before(still, len, above, before)
 }
 
-/// How many rows are above the cursor's, and how many characters left of it.
-fn cursor_place(terminal: &Terminal) -> (usize, usize)
+/// How many rows are above the cursor's, and how many characters left of it, on a terminal that shows these rows.
+fn cursor_place(terminal: &Terminal, still: &Standing) -> (usize, usize)
     ensures above { (x : Term) → Shows terminal.now x → result.0 ≡ x.console.picture.line - 1 }
-    ensures before { (x : Term) → Shows terminal.now x → result.1 ≡ length (left_of_cursor x) }
+    ensures before { (x : Term) → Shows terminal.now x
+        → still.now.rows.items ≡ rows_behind x [] 0
+        → result.1 ≡ length (left_of_cursor x) }
     ensures sound { (x : Term) → Shows terminal.now x → Sound x.console.picture }
 {
     let screen = terminal.screen();
     let (line, column) = screen.cursor();
     let cells = screen.row(line);
-    let before = character_count(&cells[..column as usize - 1]);
-    (line as usize - 1, before)
+    let above = line as usize - 1;
+    let before = count_before(&still.rows, above, cells, column as usize - 1);
+    (above, before)
+}
+
+/// How many characters so many first cells have, in the row below so many others, which is that of the cells. Mostly they
+/// have one each: then the next cell's character is where its column says, and none is counted.
+fn count_before(rows: &[Row], above: usize, cells: &[Cell], before: usize) -> usize
+    requires few { length cells.now ≤ MOST_COLUMNS }
+    requires within { before < length cells.now }
+    ensures { (next : List Cell) → row_below rows.now above ≡ row_read cells.now next
+        → result ≡ length (flat_map characters (take before cells.now)) }
+{
+    if above < rows.len()
+        && before + 1 < cells.len()
+        && cells[before].is_plain()
+        && rows[above].column(before) as usize == before + 1
+    {
+        return before;
+    }
+    character_count(&cells[..before])
 }
 
 /// How many characters cells have, with their marks.

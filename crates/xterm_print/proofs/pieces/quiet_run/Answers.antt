@@ -13,6 +13,6 @@ returns-clause-quiet c = λ x shows rows places.
     let above = x.console.picture.line - 1 in
     let before = length (left_of_cursor x) in
     let some : 0 < length text = omega (arith, eqb-false (length text) 0 (sym c.is_empty.ensures ∙ c.if-is_empty.false)) in
-    let ends = subst (λ r. EndBy (length text) r still.places.items above before) rows (c.ends_left.ensures c.if-not-ends_left.false x shows) in
+    let ends = subst (λ r. EndBy (length text) r still.places.items above before) rows (c.ends_left.ensures c.if-not-ends_left.false x shows rows) in
     c.run_over.ensures.stays x shows some
     (λ k i low lt fits begun. ends_here text (rows_behind x [] 0) still.places.items above before k i ends places low lt fits begun)
