@@ -5,3 +5,4 @@ pub mod FrontLemmas
 mod PlaceLemmas
 pub mod KeptLemmas
 mod MovedLemmas
+mod LagLemmas

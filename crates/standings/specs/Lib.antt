@@ -5,3 +5,4 @@ pub mod Spans
 pub mod Kept
 pub mod Moved
 pub mod Written
+pub mod Lag

@@ -1,5 +1,5 @@
 -- Rows that move up by one.
-use Rattle.std.specs.Prelude.{ℕ, ◌-◌, false, List, [], ◌∷◌, ◌++◌, drop, replicate}
+use Rattle.std.specs.Prelude.{ℕ, ◌-◌, false, List, [], ◌∷◌, ◌++◌, drop, replicate, take}
 use Rattle.std.specs.List.{range_with_len}
 use Rattle.standings.specs.Rows.{Row}
 use Rattle.standings.specs.Standing.{place_in}
@@ -12,6 +12,10 @@ spaces_row columns = record { characters = replicate columns 32; columns = range
 -- all rows move up by one, and a row of so many spaces comes in below (ours)
 abbrev pub moved_up : ℕ → List Row → List Row
 moved_up columns rows = drop 1 rows ++ spaces_row columns ∷ []
+
+-- the first so many rows come behind the others (ours)
+abbrev pub turned : ℕ → List Row → List Row
+turned count rows = drop count rows ++ take count rows
 
 -- private: a place, in the row above its own
 abbrev pub place_up : Place → Place

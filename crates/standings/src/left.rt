@@ -3,14 +3,16 @@
 ghost use Rattle.std.specs.Prelude.{◌≡◌, ◌+◌, ◌<◌, ◌≤◌, false, true, List, ℕ, length, nat_eq, take, IfOk, OnOk};
 ghost use Rattle.std.specs.Cmp.Lexicographic.{pointwise};
 ghost use Rattle.standings.specs.Kept.{EndBy, room_in};
+ghost use Rattle.standings.specs.Lag.{Lags};
 ghost use Rattle.standings.specs.Moved.{moved_up};
 ghost use Rattle.standings.specs.Rows.{Row, row_below};
 ghost use Rattle.standings.specs.Spans.{Stays};
 ghost use Rattle.standings.specs.Standing.{count_left, is_less, is_lone, left_of, place_at, standing};
 ghost use Rattle.standings.specs.Written.{rows_written};
 
+use crate::lag::Lag;
 use crate::place::{Place, look_between, may_come, move_places_up, standing};
-use crate::row::{Row, characters_below, move_rows_up};
+use crate::row::{Row, characters_below, move_rows_up, turn_rows};
 use crate::span::Span;
 use std::alloc::{AllocError, Global};
 
@@ -114,6 +116,16 @@ impl Standing {
         self.places.clear();
         self.places.extend_from_slice(other.places.as_slice())?;
         Ok(())
+    }
+
+    /// Becomes another one, behind which its rows lag so.
+    pub fn follow_lag(&mut self, other: &Standing, lag: Lag) -> Result<(), AllocError>
+        ensures rows { Lags lag self.old.rows.items other.now.rows.items
+            → OnOk result (self.new.rows.items ≡ other.now.rows.items) }
+        ensures places { OnOk result (self.new.places.items ≡ other.now.places.items) }
+    {
+        turn_rows(self.rows.as_mut_slice(), lag.moved);
+        self.follow(other, lag.span)
     }
 }
 

@@ -1,12 +1,14 @@
 //! Where a text stands on rows of characters, what of it came and went between two screens, and how that is written.
 #![tactic(auto)]
 
+mod lag;
 mod left;
 mod line;
 mod place;
 mod row;
 mod span;
 
+pub use lag::Lag;
 pub use left::{Standing, ends_before, has_twin, is_less, is_lone, keeps_all};
 pub use line::{Moment, put_found};
 pub use place::{Place, standing};

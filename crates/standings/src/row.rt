@@ -2,7 +2,7 @@
 
 ghost use Rattle.std.specs.Prelude.{◌≡◌, ◌+◌, ◌-◌, ◌≤◌, ◌<◌, ◌∷◌, ◌++◌, [], IfOk, OnOk, drop, length, nat_le, replicate, slice_index_or, slice_set, take};
 ghost use Rattle.std.specs.List.{range_with_len};
-ghost use Rattle.standings.specs.Moved.{moved_up, spaces_row};
+ghost use Rattle.standings.specs.Moved.{moved_up, spaces_row, turned};
 ghost use Rattle.standings.specs.Rows.{empty_row, row_below};
 ghost use Rattle.standings.specs.Written.{row_written};
 
@@ -248,6 +248,15 @@ fn write_over(characters: &mut [char], before: usize, bytes: &[u8])
 {
     for (at, byte) in bytes.iter().enumerate() {
         characters[before + at] = char::from(*byte);
+    }
+}
+
+/// The first so many rows come behind the others.
+pub(crate) fn turn_rows(rows: &mut [Row], count: usize)
+    ensures { rows.new ≡ turned count rows.old }
+{
+    if count > 0 && count < rows.len() {
+        rows.rotate_left(count);
     }
 }
 
