@@ -6,3 +6,4 @@ mod PlaceLemmas
 pub mod KeptLemmas
 mod MovedLemmas
 mod LagLemmas
+mod NearLemmas

@@ -1,7 +1,6 @@
 -- Rows that move up by one, the places in them, and the row that comes in below.
 use Rattle.std.proofs.Common.{◌≡◌, ℕ, ◌+◌, ◌-◌, ◌<◌, ◌≤◌, List, [], ◌∷◌, ◌++◌, cond, drop, filter, length, map, set, take, refl, ap, ap₂, subst, sym, ◌∙◌, arith}
 use Rattle.std.specs.List.{range_with_len}
-use Rattle.std.proofs.Math.Seq.{set-append_seam}
 use Rattle.std.proofs.lemmas.List.{drop_all, drop_at, get_or_append_left, get_or_past, length-append, length-drop, map-append}
 use Rattle.standings.specs.Moved.{moved_up, place_up, spaces_row}
 use Rattle.standings.specs.Rows.{Row, empty_row}
@@ -69,12 +68,10 @@ standing_below text rows = from_more text rows 0
 
 -- ---- the rows
 
--- the first one comes last, and becomes another
-pub put_last : (rows turned : List Row) (row : Row) → 0 < length rows → turned ≡ drop 1 rows ++ take 1 rows → set turned (length turned - 1) row ≡ drop 1 rows ++ row ∷ []
+-- the first one becomes another, and comes last
+pub put_last : (rows turned : List Row) (row : Row) → 0 < length rows → turned ≡ drop 1 (set rows 0 row) ++ take 1 (set rows 0 row) → turned ≡ drop 1 rows ++ row ∷ []
 put_last [] turned row some turns = absurd (omega (arith, some))
-put_last (first ∷ rows) turned row some turns =
-    let last : length turned - 1 ≡ length rows = omega (arith, ap length turns, length-append rows (first ∷ [])) in
-    ap₂ (λ l k. set l k row) turns last ∙ set-append_seam rows first [] row
+put_last (first ∷ rows) turned row some turns = turns
 
 last_differs : (rows : List Row) (one other : Row) (from to : ℕ) → from ≡ length rows → to ≡ length rows + 1
     → Stays (span_of from to) (rows ++ one ∷ []) (rows ++ other ∷ [])

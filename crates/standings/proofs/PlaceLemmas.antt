@@ -1,14 +1,14 @@
 -- Places row by row, and those that stay where only some rows differ.
-use Rattle.std.proofs.Common.{◌≡◌, ◌⊎◌, true, ℕ, zero, suc, ◌+◌, ◌-◌, ◌<◌, ◌≤◌, List, [], ◌∷◌, ◌++◌, append_assoc, append-nil, cond, drop, filter, get_or, length, map, take, refl, ap, ap₂, sym, ◌∙◌, subst, arith, inl, inr}
-use Rattle.std.specs.List.{range_with_len}
+use Rattle.std.proofs.Common.{◌≡◌, [], ◌∷◌, cond, true, ℕ, zero, suc, ◌+◌, ◌-◌, ◌<◌, ◌≤◌, List, ◌++◌, append_assoc, append-nil, drop, length, take, refl, ap, ap₂, sym, ◌∙◌, subst, arith, inl, inr}
 use Rattle.std.proofs.lemmas.Bool.{cases_Bool, cases_lt}
-use Rattle.std.proofs.lemmas.List.{drop_all, drop_at, get_or-append-add, get_or-map, get_or_append_left, length-append, length-map, take_at}
+use Rattle.std.proofs.lemmas.List.{drop_all, drop_at, get_or-append-add, get_or_append_left, length-append, take_at}
+use Rattle.standings.specs.Near.{places_part}
 use Rattle.standings.specs.Rows.{Row, row_below}
 use Rattle.standings.specs.Spans.{Stays, characters_in, places_along}
-use Rattle.standings.specs.Standing.{begins, line_text, place_at, place_in, places_from, places_in, standing}
+use Rattle.standings.specs.Standing.{begins, line_text, place_at, place_in, places_from, standing}
 use Rattle.standings.specs.declared.place.Place.{Place}
 use Rattle.standings.specs.declared.span.Span.{Span}
-use Rattle.standings.proofs.RowLemmas.{places_more, places_row}
+use Rattle.standings.proofs.RowLemmas.{part_first, places_row}
 use Rattle.standings.proofs.SpanLemmas.{places_of, places_stay}
 
 -- ---- the places of rows, one after another
@@ -45,19 +45,39 @@ along_parts text rows (suc n) m above =
     ∙ ap (λ l. places_of text rows above ++ l) (along_parts text rows n m (above + 1) ∙ ap (λ k. places_along text rows (above + 1) n ++ places_along text rows k m) there)
     ∙ sym (append_assoc (places_of text rows above) (places_along text rows (above + 1) n) (places_along text rows (above + suc n) m))
 
-along_same : (text : List ℕ) (one other : List Row) (n above : ℕ) → ((k : ℕ) → above ≤ k → k < above + n → places_of text other k ≡ places_of text one k)
+pub along_same : (text : List ℕ) (one other : List Row) (n above : ℕ) → ((k : ℕ) → above ≤ k → k < above + n → places_of text other k ≡ places_of text one k)
     → places_along text other above n ≡ places_along text one above n
 along_same text one other zero above same = refl
 along_same text one other (suc n) above same =
     ap₂ (λ a b. a ++ b) (same above (omega arith) (omega arith)) (along_same text one other n (above + 1) (λ k low high. same k (omega arith) (omega arith)))
 
--- ---- in which rows they are
+-- ---- places of which the same is said
 
-in_row : (text : List ℕ) (above : ℕ) (line : List ℕ) (n j : ℕ) → j < length (places_in text above line n) → (place_at (places_in text above line n) j).above ≡ above
-in_row text above line n j lt =
-    let starts = filter (begins text line) (range_with_len 0 n) in
-    let few : j < length starts = omega (arith, lt, length-map starts (place_in above)) in
-    ap (λ (p : Place). p.above) (get_or-map (place_in above) starts j 0 (place_in 0 0) few)
+abbrev pub AllAre : (Place → Type 0) → List Place → Type 0
+AllAre P places = (j : ℕ) → j < length places → P (place_at places j)
+
+pub are_both : (P : Place → Type 0) (a b : List Place) → AllAre P a → AllAre P b → AllAre P (a ++ b)
+are_both P a b first second = λ j lt. elim (cases_lt j (length a)) [
+  | inl fore ↦ subst P (sym (get_or_append_left a b (place_in 0 0) j fore)) (first j fore)
+  | inr past ↦
+      let i = j - length a in
+      let parts : length a + i ≡ j = omega arith in
+      subst (λ m. P (place_at (a ++ b) m)) parts
+      (subst P (sym (get_or-append-add a b i (place_in 0 0))) (second i (omega (arith, lt, length-append a b))))
+]
+
+pub part_all : (P : Place → Type 0) (text : List ℕ) (above : ℕ) (line : List ℕ) (n start : ℕ) → ((i : ℕ) → start ≤ i → i < start + n → P (place_in above i)) → AllAre P (places_part text above line start n)
+part_all P text above line zero start are = λ j lt. absurd (omega (arith, lt))
+part_all P text above line (suc n) start are =
+    subst (AllAre P) (sym (part_first text above line start n (begins text line start) refl))
+    (are_both P (cond (begins text line start) (place_in above start ∷ []) []) (places_part text above line (start + 1) n)
+    (elim (cases_Bool (begins text line start)) [
+      | inr f ↦ rw f (λ j lt. absurd (omega (arith, lt)))
+      | inl t ↦ rw t (λ j lt. let first : 0 ≡ j = omega (arith, lt) in subst (λ k. P (place_at (place_in above start ∷ []) k)) first (are start (omega arith) (omega arith)))
+    ])
+    (part_all P text above line n (start + 1) (λ i low lt. are i (omega arith) (omega arith))))
+
+-- ---- in which rows they are
 
 pub record IsWithin (places : List Place) (low high : ℕ) : Type 0 where
   pub from : (j : ℕ) → j < length places → low ≤ (place_at places j).above
@@ -65,22 +85,8 @@ pub record IsWithin (places : List Place) (low high : ℕ) : Type 0 where
 
 within_both : (a b : List Place) (low high : ℕ) → IsWithin a low high → IsWithin b low high → IsWithin (a ++ b) low high
 within_both a b low high first second = record {
-  from = λ j lt. elim (cases_lt j (length a)) [
-    | inl fore ↦ subst (λ (p : Place). low ≤ p.above) (sym (get_or_append_left a b (place_in 0 0) j fore)) (first.from j fore)
-    | inr past ↦
-        let i = j - length a in
-        let parts : length a + i ≡ j = omega arith in
-        subst (λ m. low ≤ (place_at (a ++ b) m).above) parts
-        (subst (λ (p : Place). low ≤ p.above) (sym (get_or-append-add a b i (place_in 0 0))) (second.from i (omega (arith, lt, length-append a b))))
-  ];
-  to = λ j lt. elim (cases_lt j (length a)) [
-    | inl fore ↦ subst (λ (p : Place). p.above < high) (sym (get_or_append_left a b (place_in 0 0) j fore)) (first.to j fore)
-    | inr past ↦
-        let i = j - length a in
-        let parts : length a + i ≡ j = omega arith in
-        subst (λ m. (place_at (a ++ b) m).above < high) parts
-        (subst (λ (p : Place). p.above < high) (sym (get_or-append-add a b i (place_in 0 0))) (second.to i (omega (arith, lt, length-append a b))))
-  ];
+  from = are_both (λ place. low ≤ place.above) a b first.from second.from;
+  to = are_both (λ place. place.above < high) a b first.to second.to;
 }
 
 within_more : (places : List Place) (low high low' high' : ℕ) → low' ≤ low → high ≤ high' → IsWithin places low high → IsWithin places low' high'
@@ -92,11 +98,12 @@ within_more places low high low' high' lower higher is = record {
 pub along_within : (text : List ℕ) (rows : List Row) (n above : ℕ) → IsWithin (places_along text rows above n) above (above + n)
 along_within text rows zero above = record { from = λ j lt. absurd (omega (arith, lt)); to = λ j lt. absurd (omega (arith, lt)) }
 along_within text rows (suc n) above =
-    let here = places_of text rows above in
-    within_both here (places_along text rows (above + 1) n) above (above + suc n)
+    let line = line_text (drop above rows) in
+    let count = length (row_below rows above).characters in
+    within_both (places_of text rows above) (places_along text rows (above + 1) n) above (above + suc n)
     (record {
-      from = λ j lt. omega (arith, in_row text above (line_text (drop above rows)) (length (row_below rows above).characters) j lt);
-      to = λ j lt. omega (arith, in_row text above (line_text (drop above rows)) (length (row_below rows above).characters) j lt);
+      from = part_all (λ place. above ≤ place.above) text above line count 0 (λ i _ _. omega arith);
+      to = part_all (λ place. place.above < above + suc n) text above line count 0 (λ i _ _. omega arith);
     })
     (within_more (places_along text rows (above + 1) n) (above + 1) (above + 1 + n) above (above + suc n) (omega arith) (omega arith) (along_within text rows n (above + 1)))
 

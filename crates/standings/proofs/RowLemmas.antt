@@ -1,11 +1,11 @@
 -- Rows, lines and places, one more at a time.
-use Rattle.std.proofs.Common.{◌≡◌, ◌≢◌, ℕ, zero, suc, ◌+◌, ◌-◌, ◌<◌, ◌≤◌, Bool, true, false, List, [], ◌∷◌, ◌++◌, length, take, drop, filter, get_or, map, nat_eq, nat_le, refl, ap, sym, ◌∙◌, arith, append_assoc, append-nil, cond, inl, inr}
+use Rattle.std.proofs.Common.{◌≡◌, ◌≢◌, ℕ, zero, suc, ◌+◌, ◌-◌, ◌<◌, ◌≤◌, Bool, true, false, List, [], ◌∷◌, ◌++◌, length, take, drop, get_or, nat_eq, nat_le, refl, ap, sym, ◌∙◌, arith, append_assoc, append-nil, cond, inl, inr}
 use Rattle.std.specs.List.{range_with_len, starts_with}
 use Rattle.std.proofs.lemmas.Bool.{and_parts, cases_Bool, eq-eqb, eqb-true, false≢true, le-leb, lt-leb, ne_eqb, true≢false}
 use Rattle.std.proofs.lemmas.Bool.Decides.{Decides-eqb}
 use Rattle.std.proofs.lemmas.Slice.Eq.{slice_eq-Decides}
-use Rattle.std.proofs.lemmas.List.{drop-append-le, drop_all, drop_more, length-take, map-append}
-use Rattle.std.proofs.lemmas.List.Elements.{filter-append}
+use Rattle.std.proofs.lemmas.List.{drop-append-le, drop_all, drop_more, length-take}
+use Rattle.standings.specs.Near.{places_part}
 use Rattle.standings.specs.Rows.{Row, empty_row, row_below}
 use Rattle.standings.specs.Standing.{begins, line_text, place_in, places_from, places_in}
 use Rattle.standings.specs.Found.{rows_reaching}
@@ -163,29 +163,49 @@ range_more a (suc n) =
     let next : a + 1 + n ≡ a + suc n = omega arith in
     ap (range_with_len a) more ∙ ap (λ l. a ∷ l) (range_more (a + 1) n ∙ ap (λ k. range_with_len (a + 1) n ++ k ∷ []) next)
 
-places_one : (text : List ℕ) (above : ℕ) (line : List ℕ) (before : ℕ) (here : Bool) → here ≡ begins text line before
-    → map (place_in above) (filter (begins text line) (before ∷ [])) ≡ cond here (place_in above before ∷ []) []
-places_one text above line before true is = rw (sym is) refl
-places_one text above line before false is = rw (sym is) refl
+-- those of a part of a row: with the first character apart ..
+pub part_first : (text : List ℕ) (above : ℕ) (line : List ℕ) (from n : ℕ) (here : Bool) → here ≡ begins text line from
+    → places_part text above line from (suc n) ≡ cond here (place_in above from ∷ []) [] ++ places_part text above line (from + 1) n
+part_first text above line from n true is = rw (sym is) refl
+part_first text above line from n false is = rw (sym is) refl
+
+-- .. and in two
+pub part_parts : (text : List ℕ) (above : ℕ) (line : List ℕ) (n m from : ℕ) → places_part text above line from (n + m) ≡ places_part text above line from n ++ places_part text above line (from + n) m
+part_parts text above line zero m from =
+    let all : 0 + m ≡ m = omega arith in
+    let here : from ≡ from + 0 = omega arith in
+    ap (places_part text above line from) all ∙ ap (λ k. places_part text above line k m) here
+part_parts text above line (suc n) m from =
+    let more : suc n + m ≡ suc (n + m) = omega arith in
+    let there : from + 1 + n ≡ from + suc n = omega arith in
+    let first = cond (begins text line from) (place_in above from ∷ []) [] in
+    ap (places_part text above line from) more ∙ part_first text above line from (n + m) (begins text line from) refl
+    ∙ ap (λ l. first ++ l) (part_parts text above line n m (from + 1) ∙ ap (λ k. places_part text above line (from + 1) n ++ places_part text above line k m) there)
+    ∙ sym (append_assoc first (places_part text above line (from + 1) n) (places_part text above line (from + suc n) m))
+    ∙ ap (λ l. l ++ places_part text above line (from + suc n) m) (sym (part_first text above line from n (begins text line from) refl))
+
+-- a character more
+part_more : (text : List ℕ) (above : ℕ) (line : List ℕ) (from n : ℕ) (here : Bool) → here ≡ begins text line (from + n)
+    → places_part text above line from (n + 1) ≡ places_part text above line from n ++ cond here (place_in above (from + n) ∷ []) []
+part_more text above line from n here is =
+    part_parts text above line n 1 from
+    ∙ ap (λ l. places_part text above line from n ++ l) (part_first text above line (from + n) 0 here is ∙ append-nil (cond here (place_in above (from + n) ∷ []) []))
 
 pub places_more : (text : List ℕ) (above : ℕ) (line : List ℕ) (before : ℕ) (here : Bool) → here ≡ begins text line before
     → places_in text above line (before + 1) ≡ places_in text above line before ++ cond here (place_in above before ∷ []) []
 places_more text above line before here is =
     let same : 0 + before ≡ before = omega arith in
-    ap (λ l. map (place_in above) (filter (begins text line) l)) (range_more 0 before)
-    ∙ ap (map (place_in above)) (filter-append (begins text line) (range_with_len 0 before) ((0 + before) ∷ []))
-    ∙ map-append (place_in above) (filter (begins text line) (range_with_len 0 before)) (filter (begins text line) ((0 + before) ∷ []))
-    ∙ ap (λ m. places_in text above line before ++ map (place_in above) (filter (begins text line) (m ∷ []))) same
-    ∙ ap (λ l. places_in text above line before ++ l) (places_one text above line before here is)
+    part_more text above line 0 before here (is ∙ ap (begins text line) (sym same))
+    ∙ ap (λ k. places_in text above line before ++ cond here (place_in above k ∷ []) []) same
 
 -- places, a character more
-pub placed_step : (text : List ℕ) (above : ℕ) (line : List ℕ) (before : ℕ) (here : Bool) (old so_far new : List Place)
-    → here ≡ begins text line before → so_far ≡ old ++ places_in text above line before → new ≡ so_far ++ cond here (place_in above before ∷ []) []
-    → new ≡ old ++ places_in text above line (before + 1)
-placed_step text above line before here old so_far new is known more =
-    more ∙ ap (λ l. l ++ cond here (place_in above before ∷ []) []) known
-    ∙ append_assoc old (places_in text above line before) (cond here (place_in above before ∷ []) [])
-    ∙ ap (λ l. old ++ l) (sym (places_more text above line before here is))
+pub placed_step : (text : List ℕ) (above : ℕ) (line : List ℕ) (from n : ℕ) (here : Bool) (old so_far new : List Place)
+    → here ≡ begins text line (from + n) → so_far ≡ old ++ places_part text above line from n → new ≡ so_far ++ cond here (place_in above (from + n) ∷ []) []
+    → new ≡ old ++ places_part text above line from (n + 1)
+placed_step text above line from n here old so_far new is known more =
+    let last = cond here (place_in above (from + n) ∷ []) [] in
+    more ∙ ap (λ l. l ++ last) known ∙ append_assoc old (places_part text above line from n) last
+    ∙ ap (λ l. old ++ l) (sym (part_more text above line from n here is))
 
 -- and a row more
 pub places_row : (text : List ℕ) (rows : List Row) (above : ℕ) → above < length rows

@@ -1,15 +1,16 @@
 -- Rows of which only some differ.
-use Rattle.std.proofs.Common.{Bool, true, take, nat_eq, ◌≡◌, ◌≢◌, ◌⊎◌, ℕ, zero, suc, ◌+◌, ◌-◌, ◌<◌, ◌≤◌, false, List, [], ◌∷◌, ◌++◌, append_assoc, append-nil, cond, drop, length, nat_le, refl, ap, sym, ◌∙◌, arith, inl, inr, subst}
+use Rattle.std.proofs.Common.{Bool, true, take, nat_eq, ◌≡◌, ◌≢◌, ◌⊎◌, ℕ, zero, suc, ◌+◌, ◌-◌, ◌<◌, ◌≤◌, false, List, [], ◌∷◌, ◌++◌, append_assoc, cond, drop, length, nat_le, refl, ap, sym, ◌∙◌, arith, inl, inr, subst}
 use Rattle.std.proofs.lemmas.Bool.{cases_Bool, cases_lt, leb-true}
 use Rattle.std.specs.Cmp.Lexicographic.{pointwise}
 use Rattle.std.specs.List.{starts_with}
 use Rattle.std.proofs.lemmas.List.{drop-append-le, drop-drop, drop-take, drop_all, ext_get_or, get_or_past, length-drop, length-take, take-append-drop}
 use Rattle.standings.specs.declared.place.Place.{Place}
 use Rattle.standings.specs.declared.span.Span.{Span}
+use Rattle.standings.specs.Near.{places_part}
 use Rattle.standings.specs.Rows.{Row, empty_row, row_below}
 use Rattle.standings.specs.Spans.{Stays, characters_in, joined, widened}
 use Rattle.standings.specs.Standing.{begins, line_text, place_in, places_from, places_in, standing}
-use Rattle.standings.proofs.RowLemmas.{places_more, places_row, rows_at}
+use Rattle.standings.proofs.RowLemmas.{part_first, part_parts, places_more, places_row, rows_at}
 
 -- ---- rows that are the same
 
@@ -100,7 +101,7 @@ line_step one other above same more =
     ∙ ap (λ l. (row_below one above).characters ++ l) more ∙ sym (line_at one above)
 
 -- above a row that doesn't run on
-line_above : (one other : List Row) (start n above : ℕ) → start ≡ above + suc n → ((k : ℕ) → k < start → row_below other k ≡ row_below one k)
+pub line_above : (one other : List Row) (start n above : ℕ) → start ≡ above + suc n → ((k : ℕ) → k < start → row_below other k ≡ row_below one k)
     → (row_below one (start - 1)).runs_on ≡ false → line_text (drop above other) ≡ line_text (drop above one)
 line_above one other start zero above is same ends =
     let last : start - 1 ≡ above = omega arith in
@@ -230,20 +231,31 @@ none_before text above line (suc n) i none lt =
           ]
     ]
 
--- those of the characters up to one stay, where it begins at none of so many from it on
-pub passed_over : (text : List ℕ) (above : ℕ) (line : List ℕ) (from n : ℕ) → ((i : ℕ) → from ≤ i → i < from + n → begins text line i ≡ false)
-    → places_in text above line (from + n) ≡ places_in text above line from
-passed_over text above line from zero none = let all : from + 0 ≡ from = omega arith in ap (places_in text above line) all
-passed_over text above line from (suc n) none =
-    let next : from + suc n ≡ from + n + 1 = omega arith in
-    ap (places_in text above line) next ∙ places_more text above line (from + n) false (sym (none (from + n) (omega arith) (omega arith)))
-    ∙ append-nil (places_in text above line (from + n))
-    ∙ passed_over text above line from n (λ i low lt. none i low (omega arith))
+-- and the other way round
+pub part_none : (text : List ℕ) (above : ℕ) (line : List ℕ) (n from : ℕ) → ((i : ℕ) → from ≤ i → i < from + n → begins text line i ≡ false) → places_part text above line from n ≡ []
+part_none text above line zero from none = refl
+part_none text above line (suc n) from none =
+    part_first text above line from n false (sym (none from (omega arith) (omega arith)))
+    ∙ part_none text above line n (from + 1) (λ i low lt. none i (omega arith) (omega arith))
 
 pub all_before : (text : List ℕ) (above : ℕ) (line : List ℕ) (count : ℕ) → ((i : ℕ) → i < count → begins text line i ≡ false) → places_in text above line count ≡ []
-all_before text above line count none =
-    let all : 0 + count ≡ count = omega arith in
-    ap (places_in text above line) (sym all) ∙ passed_over text above line 0 count (λ i _ lt. none i (omega arith))
+all_before text above line count none = part_none text above line count 0 (λ i _ lt. none i (omega arith))
+
+-- where it begins at none of those between two parts
+pub part_over : (text : List ℕ) (above : ℕ) (line : List ℕ) (start from next last : ℕ) → start ≤ from → from ≤ next → next ≤ last → ((i : ℕ) → from ≤ i → i < next → begins text line i ≡ false)
+    → places_part text above line start (last - start) ≡ places_part text above line start (from - start) ++ places_part text above line next (last - next)
+part_over text above line start from next last low high end none =
+    let a = from - start in
+    let b = next - from in
+    let d = last - next in
+    let all : last - start ≡ a + (b + d) = omega arith in
+    let there : start + a ≡ from = omega arith in
+    let further : from + b ≡ next = omega arith in
+    ap (places_part text above line start) all ∙ part_parts text above line a (b + d) start
+    ∙ ap (λ l. places_part text above line start a ++ l)
+    (ap (λ k. places_part text above line k (b + d)) there ∙ part_parts text above line b d from
+    ∙ ap (λ l. l ++ places_part text above line (from + b) d) (part_none text above line b from (λ i ge lt. none i ge (omega arith)))
+    ∙ ap (λ k. places_part text above line k d) further)
 
 -- where it doesn't begin at a character of a row, whatever comes behind it
 pub never_here : (text : List ℕ) (rows : List Row) (above i : ℕ) → i < length (row_below rows above).characters
@@ -260,19 +272,26 @@ pub none_here : (text : List ℕ) (rows : List Row) (above : ℕ)
 none_here text rows above none =
     all_before text above (line_text (drop above rows)) (length (row_below rows above).characters) (λ i lt. never_here text rows above i lt (none i lt))
 
--- and where it begins at none of the first ones of a part of them
+-- and where it begins at none of some of the first ones of them
+pub none_in_front : (characters text : List ℕ) (n from m : ℕ) → m ≤ length (take n characters)
+    → ((k : ℕ) → from ≤ k → k < m → (rest : List ℕ) → starts_with nat_eq (drop k (take n characters) ++ rest) text ≡ false)
+    → (k : ℕ) → from ≤ k → k < m → (rest : List ℕ) → starts_with nat_eq (drop k characters ++ rest) text ≡ false
+none_in_front characters text n from m fits none k low lt rest =
+    ap (λ l. starts_with nat_eq (l ++ rest) text)
+    (ap (drop k) (sym (take-append-drop n characters)) ∙ drop-append-le k (take n characters) (drop n characters) (omega arith))
+    ∙ ap (λ l. starts_with nat_eq l text) (append_assoc (drop k (take n characters)) (drop n characters) rest)
+    ∙ none k low lt (drop n characters ++ rest)
+
+-- or of the first ones of a part of them
 pub none_in_part : (characters text : List ℕ) (from n m : ℕ) → m ≤ length (take n (drop from characters))
     → ((k : ℕ) → k < m → (rest : List ℕ) → starts_with nat_eq (drop k (take n (drop from characters)) ++ rest) text ≡ false)
     → (before : ℕ) → from ≤ before → before < from + m → (rest : List ℕ) → starts_with nat_eq (drop before characters ++ rest) text ≡ false
 none_in_part characters text from n m fits none before low high rest =
-    let behind = drop from characters in
     let k = before - from in
     let here : from + k ≡ before = omega arith in
     ap (λ i. starts_with nat_eq (drop i characters ++ rest) text) (sym here)
-    ∙ ap (λ l. starts_with nat_eq (l ++ rest) text)
-    (sym (drop-drop k from characters) ∙ ap (drop k) (sym (take-append-drop n behind)) ∙ drop-append-le k (take n behind) (drop n behind) (omega arith))
-    ∙ ap (λ l. starts_with nat_eq l text) (append_assoc (drop k (take n behind)) (drop n behind) rest)
-    ∙ none k (omega arith) (drop n behind ++ rest)
+    ∙ ap (λ l. starts_with nat_eq (l ++ rest) text) (sym (drop-drop k from characters))
+    ∙ none_in_front (drop from characters) text n 0 m fits (λ j _ lt. none j lt) k (omega arith) (omega arith) rest
 
 -- and at none of those that were passed before it
 pub none_further : (characters text : List ℕ) (start from n m : ℕ) → m ≤ n → from + n ≤ length characters
@@ -292,14 +311,15 @@ places_same text one other above row line =
     ap (λ l. places_in text above l (length (row_below other above).characters)) line
     ∙ ap (λ (r : Row). places_in text above (line_text (drop above one)) (length r.characters)) row
 
--- where a text begins in a row, by where it begins in a line
-places_alike : (text : List ℕ) (above : ℕ) (line other : List ℕ) (n : ℕ) → ((i : ℕ) → i < n → begins text other i ≡ begins text line i) → places_in text above other n ≡ places_in text above line n
-places_alike text above line other zero same = refl
-places_alike text above line other (suc n) same =
-    let next : suc n ≡ n + 1 = omega arith in
-    ap (places_in text above other) next ∙ places_more text above other n (begins text line n) (sym (same n (omega arith)))
-    ∙ ap (λ l. l ++ cond (begins text line n) (place_in above n ∷ []) []) (places_alike text above line other n (λ i lt. same i (omega arith)))
-    ∙ sym (places_more text above line n (begins text line n) refl) ∙ sym (ap (places_in text above line) next)
+-- where a text begins in a part of a row, by where it begins in a line
+pub part_alike : (text : List ℕ) (above : ℕ) (line other : List ℕ) (n from : ℕ) → ((i : ℕ) → from ≤ i → i < from + n → begins text other i ≡ begins text line i)
+    → places_part text above other from n ≡ places_part text above line from n
+part_alike text above line other zero from same = refl
+part_alike text above line other (suc n) from same =
+    let here = begins text line from in
+    part_first text above other from n here (sym (same from (omega arith) (omega arith)))
+    ∙ ap (λ l. cond here (place_in above from ∷ []) [] ++ l) (part_alike text above line other n (from + 1) (λ i low lt. same i (omega arith) (omega arith)))
+    ∙ sym (part_first text above line from n here refl)
 
 -- the places of a row stay that is above those that differ and from which no text reaches them, or below them
 pub places_stay : (text : List ℕ) (span : Span) (start : ℕ) (one other : List Row) (k : ℕ) → Stays span one other → start ≤ span.from
@@ -315,8 +335,8 @@ places_stay text span start one other k stays low ends lt (inl above) = elim (ca
       (line_above one other start (start - k - 1) k (omega arith) (λ i lt'. stays.above i (omega arith)) (ap (λ (r : Row). r.runs_on) (sym same) ∙ broken))
   | inl runs ↦
       let row = stays.above k (omega arith) in
-      places_alike text k (line_text (drop k one)) (line_text (drop k other)) (length (row_below other k).characters)
-      (λ i fits. sym (begins_above text other one start span.from k i above low (λ j lt'. sym (stays.above j lt')) (ends (omega arith) runs) fits))
+      part_alike text k (line_text (drop k one)) (line_text (drop k other)) (length (row_below other k).characters) 0
+      (λ i _ fits. sym (begins_above text other one start span.from k i above low (λ j lt'. sym (stays.above j lt')) (ends (omega arith) runs) (omega arith)))
       ∙ ap (λ (r : Row). places_in text k (line_text (drop k one)) (length r.characters)) row
 ]
 

@@ -6,3 +6,4 @@ pub mod Kept
 pub mod Moved
 pub mod Written
 pub mod Lag
+pub mod Near

@@ -11,8 +11,9 @@ ghost use Rattle.standings.specs.Standing.{count_left, is_less, is_lone, left_of
 ghost use Rattle.standings.specs.Written.{rows_written};
 
 use crate::lag::Lag;
+use crate::near::look_near;
 use crate::place::{Place, look_between, may_come, move_places_up, standing};
-use crate::row::{Row, characters_below, move_rows_up, turn_rows};
+use crate::row::{Row, characters_below, move_rows_up, runs_on_to, turn_rows};
 use crate::span::Span;
 use std::alloc::{AllocError, Global};
 
@@ -102,8 +103,36 @@ impl Standing {
             from: above,
             to: above + 1,
         };
-        self.look_again(text, span)?;
+        self.look_around(text, above, before, bytes.len())?;
         Ok(span)
+    }
+
+    /// Looks again where the text stands, where only so many characters behind so many others of a row were written.
+    fn look_around(
+        &mut self,
+        text: &[char],
+        above: usize,
+        before: usize,
+        count: usize,
+    ) -> Result<(), AllocError>
+        requires row { above < length self.old.rows.items }
+        requires within { before + count ≤ length (row_below self.old.rows.items above).characters }
+        ensures rows { self.new.rows.items ≡ self.old.rows.items }
+        ensures places { (was : List Row) (written : List ℕ) → length written ≡ count
+            → before + count ≤ length (row_below was above).characters
+            → self.old.rows.items ≡ rows_written above before written was
+            → self.old.places.items ≡ standing text.now was
+            → OnOk result (self.new.places.items ≡ standing text.now self.new.rows.items) }
+    {
+        if text.is_empty() || runs_on_to(self.rows.as_slice(), above) {
+            let span = Span {
+                from: above,
+                to: above + 1,
+            };
+            return self.look_again(text, span);
+        }
+        let places = &mut self.places;
+        look_near(self.rows.as_slice(), text, above, before, count, places)
     }
 
     /// Becomes another one, from which only these of its rows may differ.

@@ -4,6 +4,7 @@
 mod lag;
 mod left;
 mod line;
+mod near;
 mod place;
 mod row;
 mod span;

@@ -3,6 +3,7 @@
 ghost use Rattle.std.specs.Prelude.{◌≡◌, ◌≢◌, ◌+◌, ◌≤◌, ◌<◌, ◌++◌, ◌-◌, [], false, true, List, ℕ, drop, length, map, nat_eq, slice_index_or, take, IfOk, OnOk};
 ghost use Rattle.std.specs.List.{starts_with};
 ghost use Rattle.standings.specs.Moved.{place_up};
+ghost use Rattle.standings.specs.Near.{places_part};
 ghost use Rattle.standings.specs.Rows.{Row, row_below};
 ghost use Rattle.standings.specs.Spans.{Stays, characters_in, places_along};
 ghost use Rattle.standings.specs.Standing.{begins, line_text, place_at, places_in, standing};
@@ -113,7 +114,7 @@ fn count_above(places: &[Place], above: usize) -> usize
 }
 
 /// Takes the places from one up to and without another out.
-fn forget(places: &mut Vec<Place>, from: usize, to: usize)
+pub(crate) fn forget(places: &mut Vec<Place>, from: usize, to: usize)
     requires order { from ≤ to }
     requires within { to ≤ length places.old.items }
     ensures items { places.new.items ≡ take from places.old.items ++ drop to places.old.items }
@@ -123,7 +124,7 @@ fn forget(places: &mut Vec<Place>, from: usize, to: usize)
 }
 
 /// The first so many places behind others come last.
-fn turn(places: &mut Vec<Place>, from: usize, count: usize)
+pub(crate) fn turn(places: &mut Vec<Place>, from: usize, count: usize)
     requires { from + count ≤ length places.old.items }
     ensures { places.new.items ≡ take from places.old.items
         ++ (drop count (drop from places.old.items) ++ take count (drop from places.old.items)) }
@@ -181,7 +182,7 @@ fn begins_in(rows: &[Row], above: usize, text: &[char]) -> bool
     false
 }
 
-/// Puts the places of one row behind others. It passes over blocks of characters at which the text doesn't begin.
+/// Puts the places of one row behind others.
 fn push_places(
     rows: &[Row],
     above: usize,
@@ -192,18 +193,39 @@ fn push_places(
     ensures { OnOk result (places.new.items ≡ places.old.items
         ++ places_in text.now above (line_text (drop above rows.now)) (length (row_below rows.now above).characters)) }
 {
+    let count = characters_below(rows, above).len();
+    push_part(rows, above, 0, count, text, places)
+}
+
+/// Puts the places of one row from one up to and without another behind others. It passes over blocks of characters at
+/// which the text doesn't begin.
+pub(crate) fn push_part(
+    rows: &[Row],
+    above: usize,
+    start: usize,
+    end: usize,
+    text: &[char],
+    places: &mut Vec<Place>,
+) -> Result<(), AllocError>
+    requires row { above < length rows.now }
+    requires order { start ≤ end }
+    requires within { end ≤ length (row_below rows.now above).characters }
+    ensures { OnOk result (places.new.items ≡ places.old.items
+        ++ places_part text.now above (line_text (drop above rows.now)) start (end - start)) }
+{
     let characters = characters_below(rows, above);
-    let mut from = 0;
-    while from < characters.len() {
-        let start = next_block(characters, from, text);
-        let end = start + BLOCK.min(characters.len() - start);
-        push_block(rows, above, start, end, text, places)?;
-        from = end;
+    let seen = &characters[..characters.len().min(end + 1)];
+    let mut from = start;
+    while from < end {
+        let next = next_block(seen, from, text).min(end);
+        let last = next + BLOCK.min(end - next);
+        push_block(rows, above, next, last, text, places)?;
+        from = last;
     }
     Ok(())
 }
 
-/// Puts the places of one row from one up to and without another behind those up to the first.
+/// Puts the places of one row from one up to and without another behind others, character by character.
 fn push_block(
     rows: &[Row],
     above: usize,
@@ -215,9 +237,8 @@ fn push_block(
     requires row { above < length rows.now }
     requires order { start ≤ end }
     requires within { end ≤ length (row_below rows.now above).characters }
-    ensures { OnOk result ((others : List Place)
-        → places.old.items ≡ others ++ places_in text.now above (line_text (drop above rows.now)) start
-        → places.new.items ≡ others ++ places_in text.now above (line_text (drop above rows.now)) end) }
+    ensures { OnOk result (places.new.items ≡ places.old.items
+        ++ places_part text.now above (line_text (drop above rows.now)) start (end - start)) }
 {
     for before in start..end {
         if begins(&rows[above..], before, text) {
@@ -252,7 +273,7 @@ fn next_block(characters: &[char], from: usize, text: &[char]) -> usize
 
 /// Whether a text may begin among these characters: whether its first two stand side by side, or its first one at the end.
 #[inline(always)]
-fn has_front(characters: &[char], text: &[char]) -> bool
+pub(crate) fn has_front(characters: &[char], text: &[char]) -> bool
     ensures { result ≡ false → (before : ℕ) → before < length characters.now → (rest : List ℕ)
         → starts_with nat_eq (drop before characters.now ++ rest) text.now ≡ false }
 {

@@ -1,6 +1,6 @@
 //! A row of characters.
 
-ghost use Rattle.std.specs.Prelude.{◌≡◌, ◌+◌, ◌-◌, ◌≤◌, ◌<◌, ◌∷◌, ◌++◌, [], IfOk, OnOk, drop, length, nat_le, replicate, slice_index_or, slice_set, take};
+ghost use Rattle.std.specs.Prelude.{◌≡◌, ◌+◌, ◌-◌, ◌≤◌, ◌<◌, ◌∷◌, ◌++◌, [], false, IfOk, OnOk, drop, length, nat_le, replicate, slice_index_or, slice_set, take};
 ghost use Rattle.std.specs.List.{range_with_len};
 ghost use Rattle.standings.specs.Moved.{moved_up, spaces_row, turned};
 ghost use Rattle.standings.specs.Rows.{empty_row, row_below};
@@ -260,16 +260,17 @@ pub(crate) fn turn_rows(rows: &mut [Row], count: usize)
     }
 }
 
-/// All rows move up by one, and the first one becomes a row of so many spaces below the others.
+/// All rows move up by one, and the first one becomes a row of so many spaces below the others. Memory is asked for before
+/// they turn.
 pub(crate) fn move_rows_up(rows: &mut [Row], columns: usize) -> Result<(), AllocError>
     requires some { 0 < length rows.old }
     requires few { columns < u16.MAX }
     ensures { OnOk result (rows.new ≡ moved_up columns rows.old) }
 {
+    let row = &mut rows[0];
+    row.blank(columns)?;
     rows.rotate_left(1);
-    let last = rows.len() - 1;
-    let row = &mut rows[last];
-    row.blank(columns)
+    Ok(())
 }
 
 /// The characters of the row below so many others; none below the last.
@@ -299,4 +300,11 @@ pub(crate) fn column_below(rows: &[Row], above: usize, before: usize) -> u16
     } else {
         0
     }
+}
+
+/// Whether the row above one runs on to it.
+pub(crate) fn runs_on_to(rows: &[Row], above: usize) -> bool
+    ensures { result ≡ false → 0 < above → (row_below rows.now (above - 1)).runs_on ≡ false }
+{
+    above > 0 && runs_on_below(rows, above - 1)
 }
