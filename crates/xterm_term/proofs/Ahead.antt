@@ -14,7 +14,8 @@ use Rattle.vt_parser.specs.declared.states.ParserState.TheVariants.{Ground}
 use Rattle.vt_parser.specs.Fold.{Waits}
 use Rattle.vt_parser.specs.Law.{ControlIsGiven}
 use Rattle.vt_parser.specs.Step.{command_of, context_of, pending_after}
-use Rattle.vt_parser.specs.Syntax.{is_within}
+use Rattle.std.specs.List.{list_all}
+use Rattle.vt_parser.specs.Syntax.{is_graphic, is_within}
 use Rattle.vt_parser.specs.View.{parser_view}
 use Rattle.sheet.specs.declared.rendition.Colour.{Colour}
 use Rattle.sheet.specs.Grid.{blank_row, scrolled_up}
@@ -26,7 +27,7 @@ use Rattle.xterm_screen.proofs.Runs.{run_within}
 use Rattle.xterm_term.specs.declared.sets.CharacterSet.{CharacterSet}
 use Rattle.xterm_term.specs.declared.sets.CharacterSet.TheVariants.{Ascii}
 use Rattle.xterm_term.specs.Ahead.{MovesUp, WritesOn, run_at_cursor}
-use Rattle.xterm_term.specs.Console.{Console, forgotten}
+use Rattle.xterm_term.specs.Console.{Console, IsSafe, forgotten}
 use Rattle.xterm_term.specs.Controls.{Control, Lf, controls, control_effect, line_fed}
 use Rattle.xterm_term.specs.Effect.{effect}
 use Rattle.xterm_term.specs.Law.{LawsBelow}
@@ -39,10 +40,19 @@ use Rattle.xterm_term.specs.Term.{Outcome, Term, ends_last, forgotten_if, is_gro
 use Rattle.xterm_term.proofs.ByteKinds.{first, next, other}
 use Rattle.xterm_term.proofs.Idle.{begun, control_brings, halfway}
 use Rattle.xterm_term.proofs.Ran.{at_ground}
-use Rattle.xterm_term.proofs.Runs.{ascii_map, ascii_put, on_ground, run_played, stepped}
+use Rattle.xterm_term.proofs.Runs.{ascii_map, ascii_put, on_ground, run_played, shown_at_once, stepped}
 use Rattle.xterm_term.proofs.Taken.{front_within, nothing_played}
 
--- nothing is pending, no title is read, the wrap isn't pending, none is inserted, and ASCII is in use
+-- graphic characters of ASCII come to stand on it as they are: no title is read, the wrap isn't pending, none is inserted,
+-- and ASCII is in use
+pub record CanWrite (s : Console) : Type 0 where
+  pub safe : IsSafe s
+  pub title : s.title ≡ false
+  pub wrap : s.picture.wrap ≡ false
+  pub insert : s.modes.insert ≡ false
+  pub set : set_in_use s.sets ≡ Ascii
+
+-- the same of what is seen, with nothing pending
 pub record IsPlain (seen : Seen) : Type 0 where
   pub title : seen.console.title ≡ false
   pub state : seen.state ≡ Ground
@@ -51,23 +61,38 @@ pub record IsPlain (seen : Seen) : Type 0 where
   pub insert : seen.console.modes.insert ≡ false
   pub set : set_in_use seen.console.sets ≡ Ascii
 
+pub plain_writes : (seen : Seen) → IsTerminal seen → IsPlain seen → CanWrite seen.console
+plain_writes seen is plain = record { safe = is.safe; title = plain.title; wrap = plain.wrap; insert = plain.insert; set = plain.set }
+
+-- a console on which characters stand from the cursor on
+abbrev pub written_on : List ℕ → Console → Console
+written_on characters s = record (shown_at_once characters s) { picture = run_at_cursor characters s.rendition s.picture }
+
 module _ (laws : LawsBelow) (narrow : AsciiIsNarrow) where
+  pub run_stands : (s : Console) (reports bytes : List ℕ) → CanWrite s → list_all is_graphic bytes ≡ true
+      → s.picture.column + length bytes ≤ s.picture.columns
+      → play (on_ground s reports) bytes ≡ on_ground (written_on bytes s) reports
+  run_stands s reports bytes can graphic room =
+      let sound = can.safe.sound in
+      let as_they_are : map (character_of (set_in_use s.sets)) bytes ≡ bytes =
+      ap (λ (set : CharacterSet). map (character_of set) bytes) can.set ∙ ascii_map bytes in
+      let there : run_shown bytes s.rendition s.modes.autowrap s.modes.insert s.picture ≡ run_at_cursor bytes s.rendition s.picture =
+      ap (λ b. run_shown bytes s.rendition s.modes.autowrap b s.picture) can.insert
+      ∙ run_within s.rendition s.modes.autowrap bytes s.picture can.wrap sound.line_low (omega (arith, sound.line_high, sound.rows)) room in
+      (run_played laws.graphic_is_shown s reports bytes graphic can.title).0
+      ∙ ap (λ (l : List ℕ). on_ground (all_put l s) reports) as_they_are
+      ∙ ap (λ (t : Console). on_ground t reports) (ascii_put narrow bytes s graphic)
+      ∙ ap (λ (p : Picture). on_ground (record (shown_at_once bytes s) { picture = p }) reports) there
+
   pub writes_on : (seen : Seen) (x : Term) → IsTerminal seen → IsPlain seen → Shows seen x → WritesOn x
   writes_on seen x is plain shows bytes graphic room =
       let s : Console = seen.console in
-      let sound = is.safe.sound in
       let same = shows.console in
-      let as_they_are : map (character_of (set_in_use s.sets)) bytes ≡ bytes =
-      ap (λ (set : CharacterSet). map (character_of set) bytes) plain.set ∙ ascii_map bytes in
       let fits : s.picture.column + length bytes ≤ s.picture.columns =
       subst (λ (t : Console). t.picture.column + length bytes ≤ t.picture.columns) same room in
       subst (λ (t : Console). (play x bytes).console.picture ≡ run_at_cursor bytes t.rendition t.picture) (sym same)
       (ap (λ (y : Term). (play y bytes).console.picture) (at_ground laws seen x shows plain.state plain.character)
-      ∙ ap (λ (y : Term). y.console.picture) (run_played laws.graphic_is_shown s x.reports bytes graphic plain.title).0
-      ∙ ap (λ (l : List ℕ). (all_put l s).picture) as_they_are
-      ∙ ap (λ (t : Console). t.picture) (ascii_put narrow bytes s graphic)
-      ∙ ap (λ b. run_shown bytes s.rendition s.modes.autowrap b s.picture) plain.insert
-      ∙ run_within s.rendition s.modes.autowrap bytes s.picture plain.wrap sound.line_low (omega (arith, sound.line_high, sound.rows)) fits)
+      ∙ ap (λ (y : Term). y.console.picture) (run_stands s x.reports bytes (plain_writes seen is plain) graphic fits))
 
 -- ---- a line feed at the last line
 

@@ -16,3 +16,4 @@ pub mod Idle
 pub mod Sizes
 pub mod Rowless
 pub mod Ahead
+pub mod Styled

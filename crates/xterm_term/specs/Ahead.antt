@@ -1,11 +1,15 @@
 -- What bytes will show, told before they are played.
-use Rattle.std.specs.Prelude.{◌≡◌, ℕ, ◌+◌, ◌≤◌, true, List, [], ◌∷◌, length}
+use Rattle.std.specs.Prelude.{◌≡◌, ℕ, ◌+◌, ◌≤◌, ◌==◌, true, if◌then◌else◌, List, [], ◌∷◌, ◌++◌, length, Option, Some, None}
 use Rattle.std.specs.List.{list_all}
-use Rattle.vt_parser.specs.Syntax.{is_graphic}
+use Rattle.std.specs.Option.{option_and_then, option_map_or}
+use Rattle.vt_parser.specs.Syntax.{escape, is_graphic, is_within}
+use Rattle.vt_parser.specs.Forms.{bracket}
 use Rattle.sheet.specs.declared.rendition.Rendition.{Rendition}
 use Rattle.sheet.specs.Edits.{run_put}
 use Rattle.sheet.specs.Grid.{blank_row, row_at, scrolled_up, with_row}
 use Rattle.xterm_screen.specs.Picture.{Picture}
+use Rattle.xterm_term.specs.declared.terminal.styling.Styling.{Styling}
+use Rattle.xterm_term.specs.declared.terminal.styling.Styling.TheVariants.{Letters, Escape, Parameters}
 use Rattle.xterm_term.specs.Term.{Term, play}
 
 -- the picture with these characters of width 1, one behind the other from the cursor on, and the cursor behind them
@@ -22,8 +26,53 @@ WritesOn x =
     → x.console.picture.column + length bytes ≤ x.console.picture.columns
     → (play x bytes).console.picture ≡ run_at_cursor bytes x.console.rendition x.console.picture
 
--- at this byte all lines move up by one, and one comes in that is blank in the paper of the current rendition
+-- at this byte all lines move up by one, and one comes in that is blank in the paper of the current rendition (ours)
 abbrev pub MovesUp : Term → ℕ → Type 0
 MovesUp x byte =
     (play x (byte ∷ [])).console.picture.rows
     ≡ scrolled_up 1 1 x.console.picture.lines (blank_row x.console.picture.columns x.console.rendition.paper) x.console.picture.rows
+
+-- ---- characters with sequences between them
+
+-- Where a byte leads among characters and sequences that select renditions (ECMA-48 8.3.117): none where it is neither a
+-- graphic character of ASCII between sequences nor of a sequence of digits, semicolons and colons that ends in m.
+unfoldable pub styling_after : Styling → ℕ → Option Styling
+styling_after Letters byte = if byte == escape then Some Escape else (if is_graphic byte then Some Letters else None)
+styling_after Escape byte = if byte == bracket then Some Parameters else None
+styling_after Parameters byte = if byte == 109 then Some Letters else (if is_within 48 59 byte then Some Parameters else None)
+
+-- where bytes lead from one place on, if all of them are such ones
+abbrev pub styling_behind : Styling → List ℕ → Option Styling
+styling_behind styling [] = Some styling
+styling_behind styling (byte ∷ rest) = option_and_then (λ next. styling_behind next rest) (styling_after styling byte)
+
+-- a byte that leads from letters to letters is one
+abbrev pub letter_of : Styling → Styling → ℕ → List ℕ
+letter_of Letters Letters byte = byte ∷ []
+letter_of _ _ byte = []
+
+-- the characters among them
+abbrev pub letters_from : Styling → List ℕ → List ℕ
+letters_from styling [] = []
+letters_from styling (byte ∷ rest) =
+    option_map_or (λ next. letter_of styling next byte ++ letters_from next rest) (styling_after styling byte) []
+
+-- each of these characters comes to stand at the cursor, one behind the other, in a rendition of its own
+abbrev pub spelled : List Rendition → List ℕ → Picture → Picture
+spelled (rendition ∷ renditions) (letter ∷ letters) p =
+    spelled renditions letters (run_at_cursor (letter ∷ []) rendition p)
+spelled _ _ p = p
+
+-- so these characters stand on a picture, whatever their renditions
+pub record IsSpelled (letters : List ℕ) (p q : Picture) : Type 0 where
+  pub renditions : List Rendition
+  pub long : length renditions ≡ length letters
+  pub is : q ≡ spelled renditions letters p
+
+-- Graphic characters of ASCII that leave the cursor on its line come to stand there as they are, also with sequences
+-- between them that select renditions.
+abbrev pub WritesStyled : Term → Type 0
+WritesStyled x =
+    (bytes : List ℕ) (styling : Styling) → styling_behind Letters bytes ≡ Some styling
+    → x.console.picture.column + length (letters_from Letters bytes) ≤ x.console.picture.columns
+    → IsSpelled (letters_from Letters bytes) x.console.picture (play x bytes).console.picture

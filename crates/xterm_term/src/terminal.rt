@@ -7,6 +7,7 @@ ghost use Rattle.xterm_term.specs.Reading.{GoesOn};
 
 mod ahead;
 mod packed;
+mod styling;
 
 use crate::below::laws_below;
 use crate::console::Console;
@@ -17,6 +18,7 @@ pub use packed::PackedTerminal;
 use sheet::Rendition;
 use std::alloc::{AllocError, Global};
 use std::marker::Model;
+pub use styling::Styling;
 use vt_parser::laws::control_is_given;
 use vt_parser::{Mode, Parser, ParserState, printable_run};
 use xterm_screen::Screen;

@@ -1,7 +1,7 @@
 //! What bytes will show, told before they are played.
 ghost use Rattle.std.specs.Prelude.{◌≡◌, ℕ, ◌≤◌, length, take, true};
 ghost use Rattle.vt_parser.specs.Syntax.{is_within};
-ghost use Rattle.xterm_term.specs.Ahead.{MovesUp, WritesOn};
+ghost use Rattle.xterm_term.specs.Ahead.{MovesUp, WritesOn, WritesStyled};
 
 use crate::below::laws_below;
 use crate::reading::is_ground_state;
@@ -25,9 +25,10 @@ impl Terminal {
     ghost use Rattle.xterm_term.specs.Term.{Term, play};
 
     /// Whether graphic characters of ASCII that leave the cursor on its line come to stand there as they are: nothing is
-    /// pending, not the wrap either, and none is inserted.
+    /// pending, not the wrap either, and none is inserted. So they do with sequences between them that select renditions.
     pub fn writes_on(&self) -> bool
-        ensures { result ≡ true → (x : Term) → Shows self.now x → WritesOn x }
+        ensures plain { result ≡ true → (x : Term) → Shows self.now x → WritesOn x }
+        ensures styled { result ≡ true → (x : Term) → Shows self.now x → WritesStyled x }
     {
         laws_below();
         widths_are_small();
