@@ -1,17 +1,16 @@
 -- Chunks inside which nothing of a text passes, and screens that trail.
-use Rattle.std.proofs.Common.{◌≡◌, ◌⊎◌, ℕ, ◌+◌, ◌-◌, ◌<◌, ◌≤◌, List, [], ◌++◌, append-nil, drop, length, take, refl, ap, ap₂, subst, sym, ◌∙◌, arith, inl, inr}
+use Rattle.std.proofs.Common.{◌≡◌, ℕ, ◌+◌, ◌-◌, ◌<◌, List, [], ◌++◌, append-nil, drop, length, take, refl, ap, ap₂, subst, sym, ◌∙◌, arith, inl, inr}
 use Rattle.std.specs.List.{flat_map, range_with_len}
 use Rattle.std.proofs.lemmas.Bool.{cases_lt}
 use Rattle.tape_core.specs.declared.chunk.Chunk.{Chunk}
 use Rattle.tape_core.specs.Due.{first}
 use Rattle.standings.specs.Kept.{Keeps}
+use Rattle.standings.specs.Lag.{Lags}
 use Rattle.standings.specs.Rows.{Row}
-use Rattle.standings.specs.Spans.{Stays, joined}
 use Rattle.standings.specs.Standing.{standing}
+use Rattle.standings.specs.declared.lag.Lag.{Lag}
 use Rattle.standings.specs.declared.left.Standing.{Standing}
 use Rattle.standings.specs.declared.place.Place.{Place}
-use Rattle.standings.specs.declared.span.Span.{Span}
-use Rattle.standings.proofs.SpanLemmas.{stays_all, stays_back, stays_both}
 use Rattle.text_find.specs.declared.behind.Steps.{Steps}
 use Rattle.text_find.specs.declared.sides.Sides.{Sides}
 use Rattle.text_find.specs.Calm.{IsAhead, IsCalm, NonePass}
@@ -88,12 +87,6 @@ pub kept_calm : (text : List ℕ) (first : List Row) (screen : List ℕ → List
 kept_calm text first screen before bytes taken kept = λ index due last lasts count lt.
     none_kept text index due first (standing text first) last lasts (rows_within screen before bytes count) (rows_within screen before bytes (count + 1)) (kept count lt)
 
--- nor at one byte where it stood nowhere before that
-pub one_calm : (text : List ℕ) (first : List Row) (screen : List ℕ → List Row) (before bytes : List ℕ) → standing text (screen before) ≡ [] → NonePass text first screen before bytes 1
-one_calm text first screen before bytes none = nowhere_calm text first screen before bytes 1 (λ count lt.
-    let start : count ≡ 0 = omega (arith, lt) in
-    ap (λ n. standing text (rows_within screen before bytes n)) start ∙ ap (standing text) (within_start screen before bytes) ∙ none)
-
 -- nor at a piece more
 pub calm_more : (text : List ℕ) (screen : List ℕ → List Row) (before bytes : List ℕ) (at taken : ℕ) → IsCalm text screen before bytes at
     → NonePass text (screen before) screen (before ++ take at bytes) (drop at bytes) taken → IsCalm text screen before bytes (at + taken)
@@ -136,40 +129,26 @@ calm_lines text index due len screen before bytes one other l is is' calm =
 
 -- ---- screens that trail
 
-pub stays_same : (span : Span) (screen one other : List Row) → one ≡ screen → other ≡ screen → Stays span one other
-stays_same span screen one other is is' = subst (Stays span one) (is ∙ sym is') (stays_all one span)
+-- what doesn't lag is the same
+pub lags_same : (lag : Lag) (screen one other : List Row) → ((rows : List Row) → Lags lag rows rows) → one ≡ screen → other ≡ screen → Lags lag one other
+lags_same lag screen one other none is is' = subst (Lags lag one) (is ∙ sym is') (none one)
 
--- what is brought there lags in no row, and is the same
-pub trails_there : (ends : Sides) (steps : Steps) (before : Standing) (none wider : Span) → IsLagging ends steps → before.rows.items ≡ ends.after.rows.items
-    → before.places.items ≡ ends.after.places.items → wider ≡ joined steps.sides.span steps.span
-    → IsTrailing ends (record { sides = record { before = before; after = steps.sides.after; span = wider }; count = steps.count; span = none })
-trails_there ends steps before none wider lags rows places is =
-    let here = steps.sides.before.rows.items in
-    let after = steps.sides.after.rows.items in
-    let back = subst (Stays steps.span here) (sym rows) lags.before in
-    record {
-      lags = record {
-        before = stays_same none ends.after.rows.items before.rows.items ends.after.rows.items rows refl;
-        after = subst (λ s. Stays s before.rows.items after) (sym is)
-            (stays_back (joined steps.sides.span steps.span) after before.rows.items
-            (stays_both steps.sides.span steps.span after here before.rows.items (stays_back steps.sides.span here after lags.after) back));
-      };
-      same = inr (rows, places);
-    }
-
--- what is played ahead goes on
-pub lags_more : (ends others : Sides) (steps : Steps) (span wider : Span) → IsLagging ends steps → Stays span ends.after.rows.items others.after.rows.items
-    → wider ≡ joined steps.span span → IsLagging others (record { sides = steps.sides; count = steps.count; span = wider })
-lags_more ends others steps span wider lags stays is = record {
-  before = subst (λ s. Stays s steps.sides.before.rows.items others.after.rows.items) (sym is)
-      (stays_both steps.span span steps.sides.before.rows.items ends.after.rows.items others.after.rows.items lags.before stays);
-  after = lags.after;
+-- what is brought there doesn't lag, and is the same
+pub trails_there : (ends : Sides) (steps : Steps) (before : Standing) (none apart : Lag) → before.rows.items ≡ ends.after.rows.items
+    → before.places.items ≡ ends.after.places.items → ((rows : List Row) → Lags none rows rows) → Lags apart ends.after.rows.items steps.sides.after.rows.items
+    → IsTrailing ends (record { sides = record { before = before; after = steps.sides.after; lag = apart }; count = steps.count; lag = none })
+trails_there ends steps before none apart rows places there more = record {
+  lags = record {
+    before = lags_same none ends.after.rows.items before.rows.items ends.after.rows.items there rows refl;
+    after = subst (λ r. Lags apart r steps.sides.after.rows.items) (sym rows) more;
+  };
+  same = inr (rows, places);
 }
 
--- or stays
+-- what is played ahead stays
 pub lags_on : (ends others : Sides) (steps : Steps) → others.after.rows.items ≡ ends.after.rows.items → IsLagging ends steps → IsLagging others steps
 lags_on ends others steps rows lags = record {
-  before = subst (Stays steps.span steps.sides.before.rows.items) (sym rows) lags.before;
+  before = subst (Lags steps.lag steps.sides.before.rows.items) (sym rows) lags.before;
   after = lags.after;
 }
 
@@ -194,25 +173,13 @@ stood_before text screen ends steps stands is trails = elim trails.same [
   | inr both ↦ record { rows = both.0 ∙ is.rows; places = both.1 ∙ is.places }
 ]
 
--- what stood at a chunk's start, from which the screen that is played ahead differs in some rows
-pub start_differs : (ends : Sides) (steps : Steps) → Stays ends.span ends.before.rows.items ends.after.rows.items → IsLagging ends steps
-    → Stays (joined steps.span ends.span) steps.sides.before.rows.items ends.before.rows.items
-start_differs ends steps stays lags =
-    stays_both steps.span ends.span steps.sides.before.rows.items ends.after.rows.items ends.before.rows.items lags.before
-    (stays_back ends.span ends.before.rows.items ends.after.rows.items stays)
-
-pub start_differs_more : (ends : Sides) (steps : Steps) → Stays ends.span ends.before.rows.items ends.after.rows.items → IsLagging ends steps
-    → Stays (joined steps.sides.span (joined steps.span ends.span)) steps.sides.after.rows.items ends.before.rows.items
-start_differs_more ends steps stays lags =
-    stays_both steps.sides.span (joined steps.span ends.span) steps.sides.after.rows.items steps.sides.before.rows.items ends.before.rows.items
-    (stays_back steps.sides.span steps.sides.before.rows.items steps.sides.after.rows.items lags.after) (start_differs ends steps stays lags)
-
 -- where both are the same
-pub trails_same : (text : List ℕ) (screen : List Row) (ends : Sides) (steps : Steps) → AreStill text screen ends → AreStill text screen steps.sides → IsTrailing ends steps
-trails_same text screen ends steps still also = record {
+pub trails_same : (text : List ℕ) (screen : List Row) (ends : Sides) (steps : Steps) → AreStill text screen ends → AreStill text screen steps.sides
+    → ((rows : List Row) → Lags steps.lag rows rows) → IsTrailing ends steps
+trails_same text screen ends steps still also none = record {
   lags = record {
-    before = stays_same steps.span screen steps.sides.before.rows.items ends.after.rows.items also.before.rows still.after.rows;
-    after = also.span;
+    before = lags_same steps.lag screen steps.sides.before.rows.items ends.after.rows.items none also.before.rows still.after.rows;
+    after = also.lag;
   };
   same = inr (also.before.rows ∙ sym still.after.rows, also.before.places ∙ sym still.after.places);
 }
@@ -220,14 +187,15 @@ trails_same text screen ends steps still also = record {
 module _ {P T : Type 0} (shows : P → T → List ℕ → Type 0) (screens : Screens P) (profile : P) (chunks : List Chunk) (text : List ℕ) where
   -- neither terminal lags
   pub found_both : (index : ℕ) (ahead : T) (ends : Sides) (behind : T) (steps : Steps) → shows profile ahead (first chunks index) → AreStill text (screens profile (first chunks index)) ends
-      → shows profile behind (first chunks index) → AreStill text (screens profile (first chunks index)) steps.sides → steps.count ≡ index
+      → shows profile behind (first chunks index) → AreStill text (screens profile (first chunks index)) steps.sides
+      → ((rows : List Row) → Lags steps.lag rows rows) → steps.count ≡ index
       → AreFound shows screens profile chunks index text ahead ends behind steps
-  found_both index ahead ends behind steps played still also also_still count = record {
+  found_both index ahead ends behind steps played still also also_still none count = record {
     played = played;
     still = still;
     count = omega arith;
     lagging = subst (λ n. shows profile behind (first chunks n)) (sym count) also;
-    trails = trails_same text (screens profile (first chunks index)) ends steps still also_still;
+    trails = trails_same text (screens profile (first chunks index)) ends steps still also_still none;
   }
 
   -- one lags a chunk more

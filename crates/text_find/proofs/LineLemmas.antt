@@ -1,8 +1,8 @@
 -- What is written of a chunk that is played byte by byte.
-use Rattle.std.proofs.Common.{◌≡◌, ◌⊎◌, ℕ, zero, suc, true, false, ◌+◌, ◌-◌, ◌<◌, ◌≤◌, Bool, ◌&&◌, cond, max, List, [], ◌∷◌, ◌++◌, append_assoc, append-nil, filter, length, get_or, map, nat_eq, take, Option, None, Some, refl, ap, subst, sym, ◌∙◌, arith, inl, inr}
+use Rattle.std.proofs.Common.{◌≡◌, ◌⊎◌, ℕ, zero, suc, true, false, ◌+◌, ◌-◌, ◌<◌, ◌≤◌, Bool, ◌&&◌, cond, max, List, [], ◌∷◌, ◌++◌, append-nil, filter, length, get_or, map, nat_eq, take, Option, None, Some, refl, ap, subst, sym, ◌∙◌, arith, inl, inr}
 use Rattle.std.specs.List.{count_by, flat_map, range_with_len}
 use Rattle.std.proofs.lemmas.Bool.{cases_Bool, eq-eqb, lt-leb}
-use Rattle.std.proofs.lemmas.List.{drop_more, take_more}
+use Rattle.std.proofs.lemmas.List.{drop_more}
 use Rattle.std.proofs.lemmas.List.Concat.{flat_map-append}
 use Rattle.std.proofs.lemmas.List.Sums.{count_by_more_yes, sum_by-take-drop}
 use Rattle.std.specs.Cmp.Lexicographic.{pointwise}
@@ -15,9 +15,6 @@ use Rattle.chunk_walk.specs.Walk.{asked_places, is_asked}
 use Rattle.chunk_walk.proofs.TextLemmas.{passing_between, texts_from}
 use Rattle.standings.specs.declared.left.Standing.{Standing}
 use Rattle.standings.specs.declared.place.Place.{Place}
-use Rattle.standings.specs.declared.span.Span.{Span}
-use Rattle.standings.specs.Spans.{Stays}
-use Rattle.standings.proofs.SpanLemmas.{stays_none}
 use Rattle.standings.specs.Found.{Found, found, found_line, found_text}
 use Rattle.standings.specs.Rows.{Row}
 use Rattle.standings.specs.Standing.{count_left, gone, is_less, is_lone, left_of, passed, place_at, place_in, standing}
@@ -178,11 +175,6 @@ none_of_all index due len first firsts last lasts one places other others none =
 
 -- ---- the same lines, by what is kept of the screens
 
--- a byte more
-pub bytes_more : (before bytes : List ℕ) (at : ℕ) → at < length bytes → (before ++ take at bytes) ++ get_or bytes at 0 ∷ [] ≡ before ++ take (at + 1) bytes
-bytes_more before bytes at lt =
-    append_assoc before (take at bytes) (get_or bytes at 0 ∷ []) ∙ ap (λ l. before ++ l) (sym (take_more bytes at 0 lt))
-
 -- the places that are kept, by the rows that are
 pub places_kept : (text : List ℕ) (screen : List Row) (still : Standing) → IsStill text screen still → still.places.items ≡ standing text still.rows.items
 places_kept text screen still is = is.places ∙ ap (standing text) (sym is.rows)
@@ -199,10 +191,9 @@ passed_by text index due len first firsts last lasts screen screen' one other is
     ∙ ap (λ r. passed_lines index due len first firsts last lasts screen (standing text screen) r (standing text screen')) is'.rows
 
 -- where no row differs, the screens are the same
-pub same_screens : (text : List ℕ) (span : Span) (screen screen' : List Row) (one other : Standing) → IsStill text screen one → IsStill text screen' other
-    → span.to ≤ span.from → Stays span one.rows.items other.rows.items → screen' ≡ screen
-same_screens text span screen screen' one other is is' none stays =
-    sym is'.rows ∙ stays_none span one.rows.items other.rows.items none stays ∙ is.rows
+pub same_screens : (text : List ℕ) (screen screen' : List Row) (one other : Standing) → IsStill text screen one → IsStill text screen' other
+    → one.rows.items ≡ other.rows.items → screen' ≡ screen
+same_screens text screen screen' one other is is' same = sym is'.rows ∙ sym same ∙ is.rows
 
 less_is : (sign index due : ℕ) (text : List ℕ) (len : ℕ) (screen screen' : List Row) (one other : Standing)
     → len ≡ length text → IsStill text screen one → IsStill text screen' other

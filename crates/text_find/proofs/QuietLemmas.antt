@@ -1,5 +1,5 @@
 -- Bytes that are played at once where a text stands: what is written of them.
-use Rattle.std.proofs.Common.{◌≡◌, ◌⊎◌, ℕ, zero, suc, ◌+◌, ◌-◌, ◌<◌, ◌≤◌, List, [], ◌++◌, append-nil, drop, length, take, refl, ap, ap₂, subst, sym, ◌∙◌, arith, inl, inr}
+use Rattle.std.proofs.Common.{◌≡◌, ℕ, zero, suc, ◌+◌, ◌-◌, ◌<◌, ◌≤◌, List, [], ◌++◌, append-nil, drop, length, take, refl, ap, ap₂, subst, sym, ◌∙◌, arith, inl, inr}
 use Rattle.chunk_walk.proofs.TextLemmas.{texts_from}
 use Rattle.standings.specs.Kept.{Keeps}
 use Rattle.standings.specs.Rows.{Row}

@@ -1,4 +1,5 @@
 pub mod Calm
 pub mod FindLines
+pub mod Foretold
 pub mod Lines
 pub mod Pieces

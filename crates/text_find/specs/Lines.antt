@@ -7,8 +7,8 @@ use Rattle.tape_core.specs.Tape.{Tape}
 use Rattle.tape_core.specs.declared.chunk.Chunk.{Chunk}
 use Rattle.tape_core.specs.declared.devices.Watched.{Watched}
 use Rattle.standings.specs.Found.{found_line}
+use Rattle.standings.specs.Lag.{Lags}
 use Rattle.standings.specs.Rows.{Row}
-use Rattle.standings.specs.Spans.{Stays}
 use Rattle.standings.specs.Standing.{is_less, is_lone, left_of, place_at, standing}
 use Rattle.standings.specs.declared.left.Standing.{Standing}
 use Rattle.standings.specs.declared.place.Place.{Place}
@@ -28,20 +28,20 @@ pub record IsStill (text : List ℕ) (screen : List Row) (still : Standing) : Ty
   pub rows : still.rows.items ≡ screen
   pub places : still.places.items ≡ standing text screen
 
--- these tell two screens, of which only the rows that are named differ
+-- these tell two screens, of which one lags so behind the other
 pub record AreBetween (text : List ℕ) (one other : List Row) (sides : Sides) : Type 0 where
   pub before : IsStill text one sides.before
   pub after : IsStill text other sides.after
-  pub span : Stays sides.span sides.before.rows.items sides.after.rows.items
+  pub lag : Lags sides.lag sides.before.rows.items sides.after.rows.items
 
 -- and these one
 abbrev pub AreStill : List ℕ → List Row → Sides → Type 0
 AreStill text screen sides = AreBetween text screen screen sides
 
--- what stood before a piece and after it differs from what is played ahead in these rows alone
+-- what stood before a piece lags so behind what is played ahead, and behind what stood after it
 pub record IsLagging (ends : Sides) (steps : Steps) : Type 0 where
-  pub before : Stays steps.span steps.sides.before.rows.items ends.after.rows.items
-  pub after : Stays steps.sides.span steps.sides.before.rows.items steps.sides.after.rows.items
+  pub before : Lags steps.lag steps.sides.before.rows.items ends.after.rows.items
+  pub after : Lags steps.sides.lag steps.sides.before.rows.items steps.sides.after.rows.items
 
 -- and where a text stands on what is played ahead, what stood before is the same
 pub record IsTrailing (ends : Sides) (steps : Steps) : Type 0 where

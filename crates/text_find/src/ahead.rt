@@ -1,15 +1,14 @@
 //! A chunk that is played ahead, in pieces, so long as nothing of a text passes inside it.
 
-ghost use Rattle.std.specs.Prelude.{◌≡◌, ◌≢◌, ◌++◌, ◌<◌, ◌≤◌, [], true, List, ℕ, length, take, IfOk, OnOk};
+ghost use Rattle.std.specs.Prelude.{◌≡◌, ◌≢◌, ◌++◌, ◌<◌, ◌≤◌, [], true, List, ℕ, length, IfOk, OnOk};
 ghost use Rattle.text_find.specs.Calm.{IsAhead, IsCalm, IsPiece};
 ghost use Rattle.text_find.specs.Lines.{AreBetween, AreStill, IsLagging, IsTrailing};
 
 use crate::behind::{Steps, trail};
 use crate::finder::Finder;
+use crate::foretold::play_foretold;
 use crate::lines::none_passes;
-use crate::moved::play_up;
 use crate::sides::{Sides, catch_up};
-use crate::written::play_written;
 use plays::{OutOfMemory, Plays, Reports};
 use std::alloc::Global;
 
@@ -59,7 +58,7 @@ pub(crate) fn play_ahead<T: Plays, F: Finder<T>>(
         return Ok(true);
     }
     play(alloc, ahead, &bytes[taken..])?;
-    steps.span = steps.span.joined(catch_up::<T, F>(ends, ahead, text)?);
+    steps.lag = steps.lag.widened(catch_up::<T, F>(ends, ahead, text)?);
     Ok(false)
 }
 
@@ -115,11 +114,8 @@ fn play_piece<T: Plays, F: Finder<T>>(
     ensures piece { IfOk result (λ played. IsPiece T.shows F.screens text.now bytes.now
         ends.old ends.new steps.old steps.new ahead.old ahead.new played.0 played.1) }
 {
-    if let Some(columns) = F::moves_up(ahead, bytes) {
-        return play_up::<T, F>(alloc, text, bytes, columns, ends, steps, ahead);
-    }
-    if let Some(written) = F::writes(ahead, text, &ends.after, bytes) {
-        return play_written::<T, F>(alloc, text, bytes, written, ends, steps, ahead);
+    if let Some(foretold) = F::foretells(ahead, text, &ends.after, bytes) {
+        return play_foretold::<T, F>(alloc, text, bytes, &foretold, ends, steps, ahead);
     }
     if ends.after.places.is_empty() {
         play_where_none_stands::<T, F>(alloc, text, bytes, ends, steps, ahead)
@@ -145,7 +141,7 @@ fn play_where_none_stands<T: Plays, F: Finder<T>>(
 {
     let taken = F::play_some(alloc, ahead, text, bytes)?;
     let span = catch_up::<T, F>(ends, ahead, text)?;
-    steps.span = steps.span.joined(span);
+    steps.lag = steps.lag.widened(span);
     Ok((taken, ends.after.places.is_empty()))
 }
 
@@ -170,7 +166,7 @@ fn play_where_it_stands<T: Plays, F: Finder<T>>(
         return Ok((taken, true));
     }
     let calm = none_passes(&ends.before, &steps.sides.before, &ends.after);
-    steps.span = steps.span.joined(span);
+    steps.lag = steps.lag.widened(span);
     trail(steps, ends)?;
     Ok((taken, calm))
 }

@@ -1,6 +1,7 @@
 //! A terminal that lags where nothing passes, and what stands on a screen that trails another one.
 
 ghost use Rattle.std.specs.Prelude.{◌≡◌, ◌≤◌, List, ℕ, length, IfOk, OnOk};
+ghost use Rattle.standings.specs.Lag.{Lags};
 ghost use Rattle.standings.specs.Rows.{Row};
 ghost use Rattle.tape_core.specs.Due.{first as bytes_of_first};
 ghost use Rattle.text_find.specs.Lines.{AreBetween, AreStill, IsLagging, IsTrailing};
@@ -9,7 +10,7 @@ use crate::ahead::play;
 use crate::finder::Finder;
 use crate::sides::{Sides, sides_of};
 use plays::{OutOfMemory, Plays};
-use standings::Span;
+use standings::Lag;
 use std::alloc::Global;
 use tape_core::Recording;
 use tape_core::laws::first_grows_by_a_chunk;
@@ -21,8 +22,8 @@ pub(crate) struct Steps {
     pub(crate) sides: Sides,
     /// How many chunks the terminal has had.
     pub(crate) count: usize,
-    /// The rows that may have changed since on the screen that is played ahead.
-    pub(crate) span: Span,
+    /// How the rows before lag behind the screen that is played ahead.
+    pub(crate) lag: Lag,
 }
 
 /// What stands on the screen of a terminal that has had so many chunks.
@@ -35,12 +36,13 @@ pub(crate) fn steps_of<T: Plays, F: Finder<T>>(
     ensures sides { (profile : T.Profile) (bytes : List ℕ) → T.shows profile terminal.now bytes
         → IfOk result (λ steps. AreStill text.now (F.screens profile bytes) steps.sides) }
     ensures count { IfOk result (λ steps. steps.count ≡ count) }
+    ensures none { IfOk result (λ steps. (rows : List Row) → Lags steps.lag rows rows) }
 {
     let sides = sides_of::<T, F>(alloc, terminal, text)?;
     Ok(Steps {
         sides,
         count,
-        span: Span::none(),
+        lag: Lag::none(),
     })
 }
 
@@ -52,10 +54,11 @@ pub(crate) fn trail(steps: &mut Steps, ends: &Sides) -> Result<(), OutOfMemory>
     if ends.after.places.is_empty() {
         return Ok(());
     }
-    let span = steps.span;
-    steps.sides.before.follow(&ends.after, span)?;
-    steps.sides.span = steps.sides.span.joined(span);
-    steps.span = Span::none();
+    let lag = steps.lag;
+    let span = lag.apart(steps.sides.lag, steps.sides.before.rows.len());
+    steps.sides.before.follow_lag(&ends.after, lag)?;
+    steps.sides.lag = Lag::of(span);
+    steps.lag = Lag::none();
     Ok(())
 }
 
@@ -74,14 +77,16 @@ pub(crate) fn reach<T: Plays>(
         → OnOk result (T.shows profile behind.new (bytes_of_first recording.now.chunks index)) }
     ensures steps { (text : List ℕ) (one other : List Row) → AreBetween text one other ends.now
         → IsLagging ends.now steps.old → OnOk result (AreStill text one steps.new.sides) }
+    ensures none { OnOk result ((rows : List Row) → Lags steps.new.lag rows rows) }
 {
     play_chunks(alloc, recording, steps.count, index, behind)?;
-    let span = steps.span.joined(ends.span);
-    let more = steps.sides.span.joined(span);
+    let span = steps.lag.between(ends.lag, ends.after.rows.len());
+    let reached = steps.sides.lag.reach(steps.sides.after.rows.len());
+    let more = reached.joined(span);
     steps.sides.before.follow(&ends.before, span)?;
     steps.sides.after.follow(&ends.before, more)?;
-    steps.sides.span = Span::none();
-    steps.span = Span::none();
+    steps.sides.lag = Lag::none();
+    steps.lag = Lag::none();
     steps.count = index;
     Ok(())
 }

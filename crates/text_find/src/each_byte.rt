@@ -126,7 +126,7 @@ fn put_byte<T: Plays, F: Finder<T>, W: Write>(
 {
     gives_join::<W>();
     catch_up::<T, F>(steps, terminal, text)?;
-    if steps.span.is_none() {
+    if steps.lag.is_none() {
         return Ok(());
     }
     put_passed(alloc, moment, ends, &steps.before, &steps.after, writer)?;

@@ -1,31 +1,20 @@
 //! What a text is looked for in: a terminal that shows rows of characters.
-ghost use Rattle.std.specs.Prelude.{◌≡◌, ◌+◌, ◌<◌, ◌≤◌, ◌++◌, [], List, ℕ, length, take, IfOk, IfSome, IsOk, OnOk};
-ghost use Rattle.standings.specs.Kept.{Keeps};
-ghost use Rattle.standings.specs.Moved.{moved_up};
-ghost use Rattle.standings.specs.Rows.{row_below};
-ghost use Rattle.standings.specs.Written.{rows_written};
+ghost use Rattle.std.specs.Prelude.{◌≡◌, ◌<◌, ◌≤◌, ◌++◌, [], List, ℕ, length, take, IfOk, IfSome, IsOk, OnOk};
 ghost use Rattle.standings.specs.Spans.{Stays};
 ghost use Rattle.standings.specs.Standing.{standing};
 
 use crate::ahead::play;
+use crate::foretold::Foretold;
 use plays::{OutOfMemory, Plays};
 use standings::{Row, Span, Standing};
 use std::alloc::Global;
 use tape_seek::Session;
 
-/// Bytes that are written over as many characters of a row: how many rows are above it, how many characters before them in
-/// it, and how many they are.
-#[derive(Clone, Copy, Debug)]
-pub struct Written {
-    pub above: usize,
-    pub before: usize,
-    pub count: usize,
-}
-
 /// How a text is looked for on a terminal.
 pub trait Finder<T: Plays> {
     ghost use Rattle.tape_seek.specs.State.{Leaves};
-    ghost use Rattle.text_find.specs.FindLines.{BeginsBlank, Screens, rows_within};
+    ghost use Rattle.text_find.specs.FindLines.{BeginsBlank, Screens};
+    ghost use Rattle.text_find.specs.Foretold.{IsForetold, IsWithin};
     ghost use Rattle.text_find.specs.Pieces.{AreQuiet};
 
     /// The rows that the terminal shows.
@@ -103,48 +92,16 @@ pub trait Finder<T: Plays> {
         Ok(1)
     }
 
-    /// Whether surely the first of the bytes moves all rows up by one, and a row of spaces comes in below: how many it has.
-    fn moves_up(terminal: &T, bytes: &[u8]) -> Option<usize>
-        ensures some { IfSome result (λ _. 0 < length bytes.now) }
-        ensures few { IfSome result (λ columns. columns < u16.MAX) }
-        ensures rows { (profile : T.Profile) (before : List ℕ) → T.shows profile terminal.now before
-            → IfSome result (λ _. 0 < length (screens profile before)) }
-        ensures moves { (profile : T.Profile) (before : List ℕ) → T.shows profile terminal.now before
-            → IfSome result (λ columns.
-            screens profile (before ++ take 1 bytes.now) ≡ moved_up columns (screens profile before)) }
+    /// What the first of the bytes surely do to the rows of a terminal that shows these rows, on which the text stands
+    /// there; where they write, nothing of the text goes at them.
+    fn foretells(terminal: &T, text: &[char], still: &Standing, bytes: &[u8]) -> Option<Foretold>
+        ensures within { IfSome result (λ foretold. IsWithin foretold (length bytes.now)) }
+        ensures foretold { (profile : T.Profile) (before : List ℕ) → T.shows profile terminal.now before
+            → still.now.rows.items ≡ screens profile before
+            → still.now.places.items ≡ standing text.now (screens profile before)
+            → IfSome result (λ foretold. IsForetold text.now (screens profile) before bytes.now foretold) }
     {
-        // A terminal of which no more is known surely moves no rows.
-        let _terminal = terminal;
-        let _unread = bytes.len();
-        None
-    }
-
-    /// Whether surely the first of the bytes are written as they are over as many characters of a row, of a terminal that
-    /// shows these rows, on which the text stands there, and nothing of the text goes at them: where, and how many.
-    fn writes(terminal: &T, text: &[char], still: &Standing, bytes: &[u8]) -> Option<Written>
-        ensures some { IfSome result (λ written. 0 < written.count) }
-        ensures within { IfSome result (λ written. written.count ≤ length bytes.now) }
-        ensures row { (profile : T.Profile) (before : List ℕ) → T.shows profile terminal.now before
-            → still.now.rows.items ≡ screens profile before
-            → still.now.places.items ≡ standing text.now (screens profile before)
-            → IfSome result (λ written. written.above < length (screens profile before)) }
-        ensures room { (profile : T.Profile) (before : List ℕ) → T.shows profile terminal.now before
-            → still.now.rows.items ≡ screens profile before
-            → still.now.places.items ≡ standing text.now (screens profile before)
-            → IfSome result (λ written. written.before + written.count
-            ≤ length (row_below (screens profile before) written.above).characters) }
-        ensures rows { (profile : T.Profile) (before : List ℕ) → T.shows profile terminal.now before
-            → still.now.rows.items ≡ screens profile before
-            → still.now.places.items ≡ standing text.now (screens profile before)
-            → IfSome result (λ written. screens profile (before ++ take written.count bytes.now)
-            ≡ rows_written written.above written.before (take written.count bytes.now) (screens profile before)) }
-        ensures keeps { (profile : T.Profile) (before : List ℕ) → T.shows profile terminal.now before
-            → still.now.rows.items ≡ screens profile before
-            → still.now.places.items ≡ standing text.now (screens profile before)
-            → IfSome result (λ written. (count : ℕ) → count < written.count
-            → Keeps text.now (rows_within (screens profile) before bytes.now count)
-            (rows_within (screens profile) before bytes.now (count + 1))) }
-    {
+        // Of a terminal of which no more is known nothing is foretold.
         let _terminal = terminal;
         let _unread = (text.len(), still.rows.len(), bytes.len());
         None

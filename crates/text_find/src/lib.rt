@@ -8,11 +8,11 @@ mod chunk;
 mod each_byte;
 mod finder;
 mod finding;
+mod foretold;
 pub mod laws;
 mod lines;
-mod moved;
 mod sides;
-mod written;
 
-pub use finder::{Finder, Written};
+pub use finder::Finder;
 pub use finding::find;
+pub use foretold::{Foretold, LETTERS, Written};

@@ -7,16 +7,16 @@ ghost use Rattle.text_find.specs.Lines.{AreBetween, AreStill, IsStill};
 
 use crate::finder::Finder;
 use plays::{OutOfMemory, Plays};
-use standings::{Span, Standing};
+use standings::{Lag, Span, Standing};
 use std::alloc::Global;
 
-/// What stands on a screen before some bytes and after them, and which rows may differ. Where none were played the two
+/// What stands on a screen before some bytes and after them, and how the rows before lag. Where none were played the two
 /// are the same.
 #[derive(Drop)]
 pub(crate) struct Sides {
     pub(crate) before: Standing,
     pub(crate) after: Standing,
-    pub(crate) span: Span,
+    pub(crate) lag: Lag,
 }
 
 /// What stands on the screen of a terminal.
@@ -46,7 +46,7 @@ pub(crate) fn sides_of<T: Plays, F: Finder<T>>(
     Ok(Sides {
         before,
         after,
-        span: Span::none(),
+        lag: Lag::none(),
     })
 }
 
@@ -66,7 +66,7 @@ pub(crate) fn catch_up<T: Plays, F: Finder<T>>(
 {
     let span = F::catch_up(&mut sides.after.rows, terminal)?;
     sides.after.look_again(text, span)?;
-    sides.span = sides.span.joined(span);
+    sides.lag = sides.lag.widened(span);
     Ok(span)
 }
 
@@ -75,8 +75,8 @@ pub(crate) fn settle(sides: &mut Sides) -> Result<(), OutOfMemory>
     ensures { (text : List ℕ) (one other : List Row) → AreBetween text one other sides.old
         → OnOk result (AreStill text other sides.new) }
 {
-    let span = sides.span;
-    sides.before.follow(&sides.after, span)?;
-    sides.span = Span::none();
+    let lag = sides.lag;
+    sides.before.follow_lag(&sides.after, lag)?;
+    sides.lag = Lag::none();
     Ok(())
 }

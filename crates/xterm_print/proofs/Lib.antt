@@ -6,6 +6,8 @@ mod FindRowLemmas
 mod BlankLemmas
 mod OverLemmas
 mod PlaceLemmas
+mod StylingLemmas
+mod RunLemmas
 mod PieceLemmas
 mod TrimmedLemmas
 mod MovedLemmas

@@ -1,5 +1,5 @@
 -- Rows that are read where all lines move up by one.
-use Rattle.std.proofs.Common.{◌≡◌, ℕ, ◌+◌, ◌-◌, ◌<◌, ◌≤◌, Bool, true, false, List, [], ◌∷◌, ◌++◌, add-one, ap, ap₂, arith, cond, drop, get_or, inl, inr, length, map, refl, replicate, sym, take, ◌∙◌, nat_le, ◌&&◌, not, ◌||◌}
+use Rattle.std.proofs.Common.{◌≡◌, ℕ, ◌+◌, ◌-◌, ◌<◌, ◌≤◌, true, false, List, [], ◌∷◌, ◌++◌, add-one, ap, ap₂, arith, drop, inl, inr, length, map, refl, replicate, sym, take, ◌∙◌, nat_le, not, ◌||◌}
 use Rattle.std.specs.List.{flat_map, range_with_len}
 use Rattle.std.proofs.lemmas.Bool.{cases_lt, le-leb, lt-leb}
 use Rattle.std.proofs.lemmas.List.{get_or-append_right, get_or-drop, get_or_append_left, length-append, length-drop}

@@ -1,15 +1,14 @@
 -- Characters that are put over plain cells, and how their row is read then.
-use Rattle.std.proofs.Common.{◌≡◌, ℕ, zero, suc, ◌+◌, ◌-◌, ◌<◌, ◌≤◌, Bool, false, List, [], ◌∷◌, ◌++◌, append_assoc, drop, get_or, length, map, not, set, take, refl, ap, ap₂, sym, ◌∙◌, arith, inl, inr, get_or-set_other, get_or-set_same}
+use Rattle.std.proofs.Common.{◌≡◌, ℕ, suc, ◌+◌, ◌-◌, ◌<◌, ◌≤◌, Bool, false, List, [], ◌∷◌, ◌++◌, append_assoc, drop, get_or, length, map, not, set, take, refl, ap, ap₂, subst, sym, ◌∙◌, arith, inl, inr, get_or-set_other, get_or-set_same}
 use Rattle.std.specs.Prelude.{◌&&◌, ◌||◌, if◌then◌else◌}
 use Rattle.std.specs.List.{flat_map, range_with_len}
 use Rattle.std.proofs.Math.Seq.{drop-append_seam, length-sets, sets, take-append-add, take-append_seam}
 use Rattle.std.proofs.lemmas.Bool.{cases_Bool, cases_eq}
-use Rattle.std.proofs.lemmas.List.{append-nil, drop-append-le, drop-drop, drop-map, drop_all, get_or-drop, get_or-take, length-append, length-drop, length-map, length-set, length-take, length-take-le, take-append-drop, take_all}
+use Rattle.std.proofs.lemmas.List.{drop-drop, get_or-drop, get_or-map, get_or-take, length-append, length-drop, length-map, length-set, length-take, length-take-le, take-append-drop, take_all}
 use Rattle.std.proofs.lemmas.List.Concat.{flat_map-append}
 use Rattle.std.proofs.lemmas.List.Edits.{sets-eq}
 use Rattle.sheet.specs.declared.rendition.Colour.TheVariants.{Default}
-use Rattle.sheet.specs.declared.rendition.Rendition.{Rendition}
-use Rattle.sheet.specs.Cells.{Cell, blank, is_covered, is_wide, lettered}
+use Rattle.sheet.specs.Cells.{Cell, blank, is_covered, is_wide}
 use Rattle.standings.specs.Rows.{Row}
 use Rattle.standings.specs.Written.{row_written}
 use Rattle.xterm_rows.specs.RowText.{characters, is_space}
@@ -24,7 +23,7 @@ sets_outside [] xs i j d past = refl
 sets_outside (v ∷ vs) xs i j d past = sets_outside vs (set xs i v) (suc i) j d (omega arith) ∙ get_or-set_other xs i j v d (λ e. omega arith)
 
 -- where a function has the same for each of them as for the one that it replaces, it has the same for each element of the list
-sets_alike : {X Y : Type 0} (f : X → Y) (vs xs : List X) (i j : ℕ) (d : X) → i + length vs ≤ length xs
+pub sets_alike : {X Y : Type 0} (f : X → Y) (vs xs : List X) (i j : ℕ) (d : X) → i + length vs ≤ length xs
     → ((m : ℕ) → m < length vs → f (get_or vs m d) ≡ f (get_or xs (i + m) d)) → f (get_or (sets xs i vs) j d) ≡ f (get_or xs j d)
 sets_alike f [] xs i j d room same = refl
 sets_alike f (v ∷ vs) xs i j d room same =
@@ -47,28 +46,17 @@ take_past front rest m past =
 
 -- ---- cells
 
-character_lettered : (rendition : Rendition) (c : ℕ) → characters (lettered c false rendition) ≡ c ∷ []
-unfolding characters lettered is_covered
-character_lettered rendition c = refl
-
-lettered_narrow : (rendition : Rendition) (c : ℕ) → is_wide (lettered c false rendition) ≡ false
-unfolding is_wide lettered
-lettered_narrow rendition c = refl
-
-plain_narrow : (cell : Cell) → IsPlain cell → is_wide cell ≡ false
+pub plain_narrow : (cell : Cell) → IsPlain cell → is_wide cell ≡ false
 unfolding is_wide
 plain_narrow cell plain = rw plain.kind refl
+
+pub plain_open : (cell : Cell) → IsPlain cell → is_covered cell ≡ false
+unfolding is_covered
+plain_open cell plain = rw plain.kind refl
 
 pub character_plain : (cell : Cell) → IsPlain cell → characters cell ≡ cell.character ∷ []
 unfolding characters is_covered
 character_plain cell plain = rw (plain.kind, plain.alone) refl
-
-abbrev pub letters : Rendition → List ℕ → List Cell
-letters rendition cs = map (λ c. lettered c false rendition) cs
-
-characters_lettered : (rendition : Rendition) (cs : List ℕ) → flat_map characters (letters rendition cs) ≡ cs
-characters_lettered rendition [] = refl
-characters_lettered rendition (c ∷ cs) = ap₂ (λ a b. a ++ b) (character_lettered rendition c) (characters_lettered rendition cs)
 
 pub characters_plain : (cells : List Cell) → ((k : ℕ) → k < length cells → IsPlain (get_or cells k (blank Default)))
     → flat_map characters cells ≡ map (λ (cell : Cell). cell.character) cells
@@ -92,16 +80,6 @@ row_plain row cells letters runs_on plain are is =
     is ∙ ap₂ (λ a b. record { characters = a; columns = b; runs_on = runs_on }) (are ∙ sym (characters_plain cells plain))
     (ap (range_with_len 1) long ∙ sym (columns_plain cells 1 plain))
 
-letter_at : (rendition : Rendition) (cs : List ℕ) (k : ℕ) → k < length (letters rendition cs) → is_wide (get_or (letters rendition cs) k (blank Default)) ≡ false
-letter_at rendition [] k lt = absurd (omega arith)
-letter_at rendition (c ∷ cs) zero lt = lettered_narrow rendition c
-letter_at rendition (c ∷ cs) (suc k) lt = letter_at rendition cs k (omega arith)
-
-letter_count : (rendition : Rendition) (cs : List ℕ) (k : ℕ) → k < length (letters rendition cs) → length (characters (get_or (letters rendition cs) k (blank Default))) ≡ 1
-letter_count rendition [] k lt = absurd (omega arith)
-letter_count rendition (c ∷ cs) zero lt = ap length (character_lettered rendition c)
-letter_count rendition (c ∷ cs) (suc k) lt = letter_count rendition cs k (omega arith)
-
 -- ---- columns of cells that have as many characters each
 
 column_for : (column : ℕ) (one other : List ℕ) → length one ≡ length other → map (λ _. column) one ≡ map (λ _. column) other
@@ -122,7 +100,7 @@ columns_same column (c ∷ cs) (o ∷ os) long same =
 
 -- ---- characters in place of as many others
 
-in_place : (fore old back new : List ℕ) → length new ≡ length old
+pub in_place : (fore old back new : List ℕ) → length new ≡ length old
     → take (length fore) ((fore ++ old) ++ back) ++ new ++ drop (length fore + length new) ((fore ++ old) ++ back) ≡ (fore ++ new) ++ back
 in_place fore old back new long =
     let end : length fore + length new ≡ length (fore ++ old) = omega (arith, long, length-append fore old) in
@@ -137,177 +115,184 @@ row_same one other characters columns runs =
 
 -- ---- the row
 
--- so many characters go over plain cells behind so many others, and two cells stay behind them
-pub record IsOver (row : List Cell) (before : ℕ) (new : List ℕ) : Type 0 where
-  pub room : before + length new + 2 ≤ length row
-  pub plain : (k : ℕ) → k < length new → IsPlain (get_or row (before + k) (blank Default))
+-- so many cells behind so many others are plain, and two stay behind them
+pub record IsOver (row : List Cell) (before count : ℕ) : Type 0 where
+  pub room : before + count + 2 ≤ length row
+  pub plain : (k : ℕ) → k < count → IsPlain (get_or row (before + k) (blank Default))
 
-module _ (rendition : Rendition) (row : List Cell) (before : ℕ) (new : List ℕ) (over : IsOver row before new) where
-  -- the row with the first of them
-  abbrev pub written : ℕ → List Cell
-  written k = sets row before (letters rendition (take k new))
+-- these are plain cells with these characters
+pub record AreLetters (letters : List ℕ) (cells : List Cell) : Type 0 where
+  pub plain : (k : ℕ) → k < length cells → IsPlain (get_or cells k (blank Default))
+  pub are : map (λ (cell : Cell). cell.character) cells ≡ letters
 
-  abbrev count : ℕ
-  count = length new
+pub letters_long : (letters : List ℕ) (cells : List Cell) → AreLetters letters cells → length cells ≡ length letters
+letters_long letters cells these = sym (length-map cells (λ (cell : Cell). cell.character)) ∙ ap length these.are
 
-  abbrev pub replaced : List Cell
-  replaced = take count (drop before row)
+-- the characters of the first cells of a row, of those over which so many are put, and of so many behind them
+abbrev pub left : List Cell → ℕ → List ℕ
+left row before = flat_map characters (take before row)
 
-  abbrev pub old : List ℕ
-  old = map (λ (cell : Cell). cell.character) replaced
+abbrev replaced : List Cell → ℕ → ℕ → List Cell
+replaced row before count = take count (drop before row)
 
-  abbrev rest : List Cell
-  rest = drop count (drop before row)
+abbrev pub old : List Cell → ℕ → ℕ → List ℕ
+old row before count = map (λ (cell : Cell). cell.character) (replaced row before count)
 
-  some_letters : (k : ℕ) → k ≤ count → length (letters rendition (take k new)) ≡ k
-  some_letters k le = length-map (take k new) (λ c. lettered c false rendition) ∙ length-take-le k new le
+abbrev rest : List Cell → ℕ → ℕ → List Cell
+rest row before count = drop count (drop before row)
 
-  pub replaced_length : length replaced ≡ count
+abbrev pub right : List Cell → ℕ → ℕ → ℕ → List ℕ
+right row before count m = flat_map characters (take (m - (before + count)) (rest row before count))
+
+-- how many cells are kept
+abbrev pub kept : List Cell → List Cell → ℕ
+kept row next = if leaves_last row next then length row - 1 else length row
+
+module _ (row : List Cell) (before count : ℕ) (over : IsOver row before count) where
+  replaced_length : length (replaced row before count) ≡ count
   replaced_length = length-take-le count (drop before row) (omega (arith, over.room, length-drop before row))
 
-  pub old_length : length old ≡ count
-  old_length = length-map replaced (λ (cell : Cell). cell.character) ∙ replaced_length
+  pub old_length : length (old row before count) ≡ count
+  old_length = length-map (replaced row before count) (λ (cell : Cell). cell.character) ∙ replaced_length
 
   -- each of those that are replaced
-  pub replaced_at : (k : ℕ) → k < count → get_or replaced k (blank Default) ≡ get_or row (before + k) (blank Default)
+  replaced_at : (k : ℕ) → k < count → get_or (replaced row before count) k (blank Default) ≡ get_or row (before + k) (blank Default)
   replaced_at k lt = get_or-take count (drop before row) k (blank Default) lt ∙ get_or-drop before row k (blank Default)
 
-  -- in three parts
-  parts : (k : ℕ) → k ≤ count → written k ≡ (take before row ++ letters rendition (take k new) ++ drop k replaced) ++ rest
-  parts k le =
-      let l = letters rendition (take k new) in
-      let some = some_letters k le in
-      let from : drop (before + length l) row ≡ drop k replaced ++ rest =
-      ap (λ m. drop (before + m) row) some ∙ sym (drop-drop k before row) ∙ ap (drop k) (sym (take-append-drop count (drop before row)))
-      ∙ drop-append-le k replaced rest (omega (arith, replaced_length)) in
-      sets-eq l row before (omega (arith, over.room, some)) ∙ ap (λ t. take before row ++ l ++ t) from
-      ∙ sym (append_assoc (take before row ++ l) (drop k replaced) rest)
+  pub old_at : (k : ℕ) → k < count → get_or (old row before count) k 0 ≡ (get_or row (before + k) (blank Default)).character
+  old_at k lt =
+      get_or-map (λ (cell : Cell). cell.character) (replaced row before count) k (blank Default) 0 (omega (arith, lt, replaced_length))
+      ∙ ap (λ (cell : Cell). cell.character) (replaced_at k lt)
 
-  front_length : (k : ℕ) → k ≤ count → length (take before row ++ letters rendition (take k new) ++ drop k replaced) ≡ before + count
-  front_length k le =
-      let l = letters rendition (take k new) in
-      omega (arith, length-append (take before row ++ l) (drop k replaced), length-append (take before row) l, length-take-le before row (omega (arith, over.room)), some_letters k le, length-drop k replaced, replaced_length)
+  -- they are such cells themselves
+  own_letters : AreLetters (old row before count) (replaced row before count)
+  own_letters = record {
+    plain = λ k lt. let low : k < count = omega (arith, lt, replaced_length) in subst IsPlain (sym (replaced_at k low)) (over.plain k low);
+    are = refl;
+  }
 
-  plain_left : (k : ℕ) → k ≤ count → flat_map characters (drop k replaced) ≡ drop k old
-  plain_left k le =
-      characters_plain (drop k replaced) (λ j lt.
-      let within : k + j < count = omega (arith, length-drop k replaced, replaced_length) in
-      subst_plain (get_or-drop k replaced j (blank Default) ∙ replaced_at (k + j) within) (over.plain (k + j) within))
-      ∙ sym (drop-map (λ (cell : Cell). cell.character) k replaced)
-    where
-      subst_plain : {a b : Cell} → a ≡ b → IsPlain b → IsPlain a
-      subst_plain same plain = record { kind = ap (λ (x : Cell). x.kind) same ∙ plain.kind; alone = ap (λ (x : Cell). x.marks) same ∙ plain.alone }
+  -- the row, in three parts
+  own_parts : row ≡ (take before row ++ replaced row before count) ++ rest row before count
+  own_parts =
+      sym (take-append-drop before row) ∙ ap (λ l. take before row ++ l) (sym (take-append-drop count (drop before row)))
+      ∙ sym (append_assoc (take before row) (replaced row before count) (rest row before count))
 
-  -- the characters of its first cells
-  abbrev pub left : List ℕ
-  left = flat_map characters (take before row)
-
-  abbrev pub right : ℕ → List ℕ
-  right m = flat_map characters (take (m - (before + count)) rest)
-
-  characters_written : (k m : ℕ) → k ≤ count → before + count ≤ m → flat_map characters (take m (written k)) ≡ left ++ (take k new ++ drop k old) ++ right m
-  characters_written k m le past =
-      let l = letters rendition (take k new) in
+  -- the characters of its first cells, with these in place of them
+  characters_with : (letters : List ℕ) (cells : List Cell) (m : ℕ) → AreLetters letters cells → length letters ≡ count → before + count ≤ m
+      → flat_map characters (take m ((take before row ++ cells) ++ rest row before count)) ≡ (left row before ++ letters) ++ right row before count m
+  characters_with letters cells m these long past =
       let a = take before row in
-      let d = drop k replaced in
-      let front = front_length k le in
-      ap (λ r. flat_map characters (take m r)) (parts k le)
-      ∙ ap (flat_map characters) (take_past (a ++ l ++ d) rest m (omega (arith, front)))
-      ∙ ap (λ n. flat_map characters ((a ++ l ++ d) ++ take (m - n) rest)) front
-      ∙ flat_map-append characters (a ++ l ++ d) (take (m - (before + count)) rest)
-      ∙ ap (λ t. t ++ right m) (flat_map-append characters (a ++ l) d ∙ ap (λ t. t ++ flat_map characters d) (flat_map-append characters a l))
-      ∙ ap₂ (λ s t. (left ++ s ++ t) ++ right m) (characters_lettered rendition (take k new)) (plain_left k le)
-      ∙ ap (λ t. t ++ right m) (append_assoc left (take k new) (drop k old))
+      let front : length (a ++ cells) ≡ before + count =
+      omega (arith, length-append a cells, length-take-le before row (omega (arith, over.room)), letters_long letters cells these, long) in
+      ap (flat_map characters) (take_past (a ++ cells) (rest row before count) m (omega (arith, front, past)))
+      ∙ ap (λ n. flat_map characters ((a ++ cells) ++ take (m - n) (rest row before count))) front
+      ∙ flat_map-append characters (a ++ cells) (take (m - (before + count)) (rest row before count))
+      ∙ ap (λ t. t ++ right row before count m) (flat_map-append characters a cells)
+      ∙ ap (λ t. (left row before ++ t) ++ right row before count m) (characters_plain cells these.plain ∙ these.are)
 
-  long : (k : ℕ) → length (written k) ≡ length row
-  long k = length-sets row before (letters rendition (take k new))
-
-  same_behind : (k j : ℕ) → k ≤ count → before + count ≤ j → cell_behind (written k) j ≡ cell_behind row j
-  same_behind k j le past = sets_outside (letters rendition (take k new)) row before j (blank Default) (omega (arith, some_letters k le))
-
-  same_from_end : (k j : ℕ) → k ≤ count → 1 ≤ j → j ≤ 2 → cell_behind (written k) (length (written k) - j) ≡ cell_behind row (length row - j)
-  same_from_end k j le low high = ap (λ n. cell_behind (written k) (n - j)) (long k) ∙ same_behind k (length row - j) le (omega (arith, over.room))
-
-  same_width : (k : ℕ) → k ≤ count → is_wide (cell_behind (written k) 0) ≡ is_wide (cell_behind row 0)
-  same_width k le =
-      let l = letters rendition (take k new) in
-      let some = some_letters k le in
-      sets_alike is_wide l row before 0 (blank Default) (omega (arith, over.room, some))
-      (λ m lt. letter_at rendition (take k new) m lt ∙ sym (plain_narrow (get_or row (before + m) (blank Default)) (over.plain m (omega (arith, some)))))
-
-  same_end : (k : ℕ) → k ≤ count → ends_in_space (written k) ≡ ends_in_space row
-  same_end k le = ap is_space (same_from_end k 1 le (omega arith) (omega arith))
-
-  same_leaving : (k : ℕ) (next : List Cell) → k ≤ count → leaves_last (written k) next ≡ leaves_last row next
-  unfolding leaves_last
-  same_leaving k next le =
-      ap₂ (λ a b. is_space a && not (is_space b) && is_wide (cell_behind next 0)) (same_from_end k 1 le (omega arith) (omega arith)) (same_from_end k 2 le (omega arith) (omega arith))
-
-  -- how many cells are kept
-  abbrev pub kept : List Cell → ℕ
-  kept next = if leaves_last row next then length row - 1 else length row
-
-  kept_high : (next : List Cell) → before + count ≤ kept next
+  kept_high : (next : List Cell) → before + count ≤ kept row next
   kept_high next = elim (cases_Bool (leaves_last row next)) [
     | inl t ↦ rw t (omega (arith, over.room))
     | inr f ↦ rw f (omega (arith, over.room))
   ]
 
-  kept_written : (k : ℕ) (next : List Cell) → k ≤ count → kept_cells (written k) next ≡ take (kept next) (written k)
+  kept_own : (next : List Cell) → kept_cells row next ≡ take (kept row next) row
   unfolding kept_cells
-  kept_written k next le =
-      let same = same_leaving k next le in
-      let all = long k in
+  kept_own next = elim (cases_Bool (leaves_last row next)) [
+    | inl t ↦ rw t refl
+    | inr f ↦ rw f (sym (take_all (length row) row (omega arith)))
+  ]
+
+  pub characters_own : (next : List Cell) → (row_read row next).characters ≡ (left row before ++ old row before count) ++ right row before count (kept row next)
+  unfolding row_read
+  characters_own next =
+      ap (flat_map characters) (kept_own next ∙ ap (take (kept row next)) own_parts)
+      ∙ characters_with (old row before count) (replaced row before count) (kept row next) own_letters old_length (kept_high next)
+
+-- these characters go over plain cells
+module _ (row : List Cell) (before : ℕ) (letters : List ℕ) (cells : List Cell) (over : IsOver row before (length letters)) (these : AreLetters letters cells) where
+  abbrev count : ℕ
+  count = length letters
+
+  abbrev written : List Cell
+  written = sets row before cells
+
+  some : length cells ≡ count
+  some = letters_long letters cells these
+
+  parts : written ≡ (take before row ++ cells) ++ rest row before count
+  parts =
+      sets-eq cells row before (omega (arith, over.room, some))
+      ∙ ap (λ t. take before row ++ cells ++ t) (ap (λ m. drop (before + m) row) some ∙ sym (drop-drop count before row))
+
+  long : length written ≡ length row
+  long = length-sets row before cells
+
+  same_from_end : (j : ℕ) → 1 ≤ j → j ≤ 2 → cell_behind written (length written - j) ≡ cell_behind row (length row - j)
+  same_from_end j low high =
+      ap (λ n. cell_behind written (n - j)) long ∙ sets_outside cells row before (length row - j) (blank Default) (omega (arith, over.room, some, low, high))
+
+  -- a function that has the same for all plain cells
+  same_for : {Y : Type 0} (f : Cell → Y) (y : Y) → ((cell : Cell) → IsPlain cell → f cell ≡ y) → (j : ℕ) → f (cell_behind written j) ≡ f (cell_behind row j)
+  same_for f y plain j =
+      sets_alike f cells row before j (blank Default) (omega (arith, over.room, some))
+      (λ m lt. plain (get_or cells m (blank Default)) (these.plain m lt) ∙ sym (plain (get_or row (before + m) (blank Default)) (over.plain m (omega (arith, lt, some)))))
+
+  same_end : ends_in_space written ≡ ends_in_space row
+  same_end = ap is_space (same_from_end 1 (omega arith) (omega arith))
+
+  same_leaving : (next : List Cell) → leaves_last written next ≡ leaves_last row next
+  unfolding leaves_last
+  same_leaving next =
+      ap₂ (λ a b. is_space a && not (is_space b) && is_wide (cell_behind next 0)) (same_from_end 1 (omega arith) (omega arith)) (same_from_end 2 (omega arith) (omega arith))
+
+  kept_written : (next : List Cell) → kept_cells written next ≡ take (kept row next) written
+  unfolding kept_cells
+  kept_written next =
+      let same = same_leaving next in
       elim (cases_Bool (leaves_last row next)) [
-        | inl t ↦ rw (same, t, all) refl
-        | inr f ↦ rw (same, f) (sym (take_all (length row) (written k) (omega arith)))
+        | inl t ↦ rw (same, t, long) refl
+        | inr f ↦ rw (same, f) (sym (take_all (length row) written (omega (arith, long))))
       ]
 
-  pub read_characters : (k : ℕ) (next : List Cell) → k ≤ count → (row_read (written k) next).characters ≡ left ++ (take k new ++ drop k old) ++ right (kept next)
+  pub read_running : (next : List Cell) → (row_read written next).runs_on ≡ (row_read row next).runs_on
   unfolding row_read
-  read_characters k next le = ap (flat_map characters) (kept_written k next le) ∙ characters_written k (kept next) le (kept_high next)
+  read_running next = ap₂ (λ a b. not a || b) same_end (same_leaving next)
 
-  pub read_running : (k : ℕ) (next : List Cell) → k ≤ count → (row_read (written k) next).runs_on ≡ (row_read row next).runs_on
+  read_characters : (next : List Cell) → (row_read written next).characters ≡ (left row before ++ letters) ++ right row before count (kept row next)
   unfolding row_read
-  read_running k next le = ap₂ (λ a b. not a || b) (same_end k le) (same_leaving k next le)
+  read_characters next =
+      ap (flat_map characters) (kept_written next ∙ ap (take (kept row next)) parts)
+      ∙ characters_with row before count over letters cells (kept row next) these refl (kept_high row before count over next)
 
-  same_count : (k j : ℕ) → k ≤ count → length (characters (cell_behind (written k) j)) ≡ length (characters (cell_behind row j))
-  same_count k j le =
-      let some = some_letters k le in
-      sets_alike (λ (cell : Cell). length (characters cell)) (letters rendition (take k new)) row before j (blank Default) (omega (arith, over.room, some))
-      (λ m lt.
-      letter_count rendition (take k new) m lt ∙ sym (ap length (character_plain (get_or row (before + m) (blank Default)) (over.plain m (omega (arith, some))))))
-
-  read_columns : (k : ℕ) (next : List Cell) → k ≤ count → (row_read (written k) next).columns ≡ (row_read row next).columns
+  read_columns : (next : List Cell) → (row_read written next).columns ≡ (row_read row next).columns
   unfolding row_read
-  read_columns k next le =
-      let m = kept next in
+  read_columns next =
+      let m = kept row next in
       let own = λ (cell : Cell). length (characters cell) in
-      let long_written = length-take m (written k) in
-      ap (columns_from 1) (kept_written k next le)
-      ∙ columns_same 1 (take m (written k)) (take m row) (omega (arith, long_written, length-take m row, long k))
+      let long_written = length-take m written in
+      ap (columns_from 1) (kept_written next)
+      ∙ columns_same 1 (take m written) (take m row) (omega (arith, long_written, length-take m row, long))
       (λ j lt.
       let within : j < m = omega (arith, lt, long_written) in
-      ap own (get_or-take m (written k) j (blank Default) within) ∙ same_count k j le ∙ sym (ap own (get_or-take m row j (blank Default) within)))
-      ∙ sym (ap (columns_from 1) (kept_written 0 next (omega arith)))
+      ap own (get_or-take m written j (blank Default) within) ∙ same_for own 1 (λ cell plain. ap length (character_plain cell plain)) j
+      ∙ sym (ap own (get_or-take m row j (blank Default) within)))
+      ∙ sym (ap (columns_from 1) (kept_own row before count over next))
 
-  pub all_new : take count new ++ drop count old ≡ new
-  all_new = ap₂ (λ a b. a ++ b) (take_all count new (omega arith)) (drop_all count old (omega (arith, old_length))) ∙ append-nil new
-
-  -- with all of them it has them in place of as many others
-  pub read_written : (next : List Cell) → row_read (written count) next ≡ row_written (length left) new (row_read row next)
+  -- it has them in place of as many others
+  pub read_written : (next : List Cell) → row_read written next ≡ row_written (length (left row before)) letters (row_read row next)
   read_written next =
-      row_same (row_read (written count) next) (row_written (length left) new (row_read row next))
-      (read_characters count next (omega arith) ∙ ap (λ l. (left ++ l) ++ right (kept next)) all_new
-      ∙ sym (ap (λ l. take (length left) l ++ new ++ drop (length left + count) l) (read_characters 0 next (omega arith))
-      ∙ in_place left old (right (kept next)) new (sym old_length)))
-      (read_columns count next (omega arith)) (read_running count next (omega arith))
+      row_same (row_read written next) (row_written (length (left row before)) letters (row_read row next))
+      (read_characters next
+      ∙ sym (ap (λ l. take (length (left row before)) l ++ letters ++ drop (length (left row before) + count) l) (characters_own row before count over next)
+      ∙ in_place (left row before) (old row before count) (right row before count (kept row next)) letters (sym (old_length row before count over))))
+      (read_columns next) (read_running next)
 
-  leaving_above : (k : ℕ) (other : List Cell) → k ≤ count → leaves_last other (written k) ≡ leaves_last other row
+  leaving_above : (other : List Cell) → leaves_last other written ≡ leaves_last other row
   unfolding leaves_last
-  leaving_above k other le = ap (λ w. is_space (cell_behind other (length other - 1)) && not (is_space (cell_behind other (length other - 2))) && w) (same_width k le)
+  leaving_above other = ap (λ w. is_space (cell_behind other (length other - 1)) && not (is_space (cell_behind other (length other - 2))) && w) (same_for is_wide false plain_narrow 0)
 
   -- the row above it
-  pub read_above : (k : ℕ) (other : List Cell) → k ≤ count → row_read other (written k) ≡ row_read other row
+  pub read_above : (other : List Cell) → row_read other written ≡ row_read other row
   unfolding row_read kept_cells
-  read_above k other le = let same = leaving_above k other le in rw same refl
+  read_above other = let same = leaving_above other in rw same refl

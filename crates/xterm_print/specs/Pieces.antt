@@ -10,6 +10,7 @@ use Rattle.standings.specs.Rows.{Row, row_below}
 use Rattle.standings.specs.Standing.{begins, line_text, standing}
 use Rattle.standings.specs.Written.{rows_written}
 use Rattle.xterm_rows.specs.RowText.{characters}
+use Rattle.xterm_rows.specs.Runs.{cell_behind}
 use Rattle.xterm_term.specs.Term.{Term, play}
 use Rattle.xterm_print.specs.FindRows.{rows_read}
 
@@ -18,17 +19,27 @@ pub record IsPlain (cell : Cell) : Type 0 where
   pub kind : cell.kind ≡ Narrow
   pub alone : cell.marks ≡ []
 
--- behind so many cells all are blank
-abbrev pub BlankFrom : List Cell → ℕ → Type 0
-BlankFrom cells used = (k : ℕ) → used ≤ k → slice_index_or cells k (blank Default) ≡ blank Default
-
 -- no two neighbours of a text are these
 abbrev pub AreApart : List ℕ → ℕ → ℕ → Type 0
 AreApart text one other = (k : ℕ) → k + 1 < length text → slice_index_or text k 0 ≡ one → slice_index_or text (k + 1) 0 ≡ other → ⊥
 
--- the rows of the sheet that is shown behind so many of these bytes
+-- letters that may be put over the first cells: these are plain, and no neighbours of the text come to be the last one put and the next cell left
+pub record GoOver (text : List ℕ) (cells : List Cell) (letters : List ℕ) : Type 0 where
+  pub room : length letters ≤ length cells
+  pub plain : (k : ℕ) → k < length letters → IsPlain (cell_behind cells k)
+  pub apart : (k : ℕ) → 0 < k → k < length letters → AreApart text (slice_index_or letters (k - 1) 0) (cell_behind cells k).character
+
+-- behind so many cells all are blank
+abbrev pub BlankFrom : List Cell → ℕ → Type 0
+BlankFrom cells used = (k : ℕ) → used ≤ k → slice_index_or cells k (blank Default) ≡ blank Default
+
+-- the rows of the sheet that is shown once these bytes are played ..
+abbrev pub rows_after : Term → List ℕ → List Row
+rows_after x played = rows_read x.console.picture.lines (play x played).console.picture.rows
+
+-- .. or so many of them
 abbrev pub rows_behind : Term → List ℕ → ℕ → List Row
-rows_behind x bytes count = rows_read x.console.picture.lines (play x (take count bytes)).console.picture.rows
+rows_behind x bytes count = rows_after x (take count bytes)
 
 -- where a text stands nowhere before so many bytes and behind them, it stands nowhere in between
 abbrev pub NoneBetween : List ℕ → Term → List ℕ → ℕ → Type 0
@@ -49,10 +60,10 @@ pub record IsQuiet (text : List ℕ) (x : Term) (bytes : List ℕ) (taken : ℕ)
 abbrev pub left_of_cursor : Term → List ℕ
 left_of_cursor x = flat_map characters (take (x.console.picture.column - 1) (row_at x.console.picture.rows x.console.picture.line))
 
--- so many bytes are written as they are over characters of the cursor's row, from the one at it on
-pub record WritesOver (x : Term) (bytes : List ℕ) (count : ℕ) : Type 0 where
-  pub room : length (left_of_cursor x) + count ≤ length (row_below (rows_behind x [] 0) (x.console.picture.line - 1)).characters
-  pub rows : rows_behind x bytes count ≡ rows_written (x.console.picture.line - 1) (length (left_of_cursor x)) (take count bytes) (rows_behind x [] 0)
+-- so many bytes write these letters over characters of the cursor's row, from the one at it on
+pub record WritesOver (x : Term) (bytes letters : List ℕ) (taken : ℕ) : Type 0 where
+  pub room : length (left_of_cursor x) + length letters ≤ length (row_below (rows_behind x [] 0) (x.console.picture.line - 1)).characters
+  pub rows : rows_behind x bytes taken ≡ rows_written (x.console.picture.line - 1) (length (left_of_cursor x)) letters (rows_behind x [] 0)
 
 -- wherever a text begins, but in the rows below the cursor's, it ends left of the cursor, or in its own row
 abbrev pub EndsLeft : List ℕ → Term → Type 0

@@ -7,7 +7,7 @@ ghost use Rattle.chunk_walk.specs.Stops.{OnlySeeks, StopsPrint};
 ghost use Rattle.xterm_print.specs.FindLines.{StandsNowhere, find_lines, has_ink};
 
 use crate::find_rows::{read_touched, rows_read};
-use crate::pieces::{moved_up, piece, quiet_piece, written};
+use crate::pieces::{foretold, piece, quiet_piece};
 use crate::seeking::seek_count;
 use chunk_walk::WalkFault;
 use plays::Plays;
@@ -16,7 +16,7 @@ use std::alloc::Global;
 use std::io::Write;
 use tape_core::Watched;
 use tape_seek::Session;
-use text_find::{Finder, Written};
+use text_find::{Finder, Foretold};
 use xterm_term::laws::{plays_in_parts, size_stays, stays_safe};
 use xterm_term::{OutOfMemory, Reports, Terminal};
 
@@ -91,7 +91,9 @@ impl Finder<Terminal> for Sheets {
     ) -> Result<usize, OutOfMemory> {
         size_stays();
         plays_in_parts();
-        let taken = piece(terminal, text, bytes);
+        // Where the text stands nowhere, its characters make no difference.
+        let _unread = text.len();
+        let taken = piece(terminal, bytes);
         let mut sink = Reports::new(alloc);
         Plays::feed(terminal, &bytes[..taken], &mut sink)?;
         Ok(taken)
@@ -112,21 +114,15 @@ impl Finder<Terminal> for Sheets {
         Ok(taken)
     }
 
-    fn moves_up(terminal: &Terminal, bytes: &[u8]) -> Option<usize> {
-        size_stays();
-        plays_in_parts();
-        moved_up(terminal, bytes)
-    }
-
-    fn writes(
+    fn foretells(
         terminal: &Terminal,
         text: &[char],
         still: &Standing,
         bytes: &[u8],
-    ) -> Option<Written> {
+    ) -> Option<Foretold> {
         size_stays();
         plays_in_parts();
-        written(terminal, text, still, bytes)
+        foretold(terminal, text, still, bytes)
     }
 
     fn begins_blank() {}

@@ -9,6 +9,7 @@ pub mod laws;
 mod pieces;
 mod plain_print;
 mod rows;
+mod runs;
 mod same;
 mod seeking;
 

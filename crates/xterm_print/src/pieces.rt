@@ -1,44 +1,41 @@
 //! How much of a chunk is played before a text is looked for again.
 
-ghost use Rattle.std.specs.Prelude.{◌≡◌, ◌+◌, ◌-◌, ◌<◌, ◌≤◌, [], List, ℕ, IfSome, length, slice_index, slice_index_or, take, true, false};
-ghost use Rattle.std.specs.List.{flat_map, list_all};
-ghost use Rattle.sheet.specs.Cells.{Cell, blank};
-ghost use Rattle.sheet.specs.declared.rendition.Colour.TheVariants.{Default};
+ghost use Rattle.std.specs.Prelude.{◌≡◌, ◌+◌, ◌-◌, ◌<◌, ◌≤◌, [], List, ℕ, IfSome, length, take, true};
+ghost use Rattle.std.specs.List.{flat_map};
+ghost use Rattle.sheet.specs.Cells.{Cell};
 ghost use Rattle.standings.specs.Kept.{EndBy};
 ghost use Rattle.standings.specs.Moved.{moved_up};
 ghost use Rattle.standings.specs.Rows.{row_below};
 ghost use Rattle.standings.specs.Standing.{standing};
-ghost use Rattle.standings.specs.Written.{rows_written};
-ghost use Rattle.vt_parser.specs.Syntax.{is_graphic};
+ghost use Rattle.text_find.specs.Foretold.{IsForetold, IsWithin};
 ghost use Rattle.xterm_rows.specs.RowText.{characters};
-ghost use Rattle.xterm_rows.specs.Runs.{cell_behind};
 ghost use Rattle.xterm_screen.specs.Picture.{Sound};
+ghost use Rattle.xterm_term.specs.Ahead.{WritesStyled};
 ghost use Rattle.xterm_term.specs.Seen.{Shows};
 ghost use Rattle.xterm_term.specs.Term.{Term};
+ghost use Rattle.text_find.specs.declared.foretold.Foretold.TheVariants.{Writes};
 ghost use Rattle.xterm_print.specs.FindRows.{row_read};
-ghost use Rattle.xterm_print.specs.Pieces.{AreApart, EndsLeft, IsPlain, IsQuiet, NoneBetween, StaysOn, WritesOver, left_of_cursor, rows_behind};
+ghost use Rattle.xterm_print.specs.Pieces.{IsQuiet, NoneBetween, StaysOn, WritesOver, left_of_cursor, rows_after, rows_behind};
 
+use crate::runs::{Run, run_over};
 use sheet::Cell;
 use sheet::limits::MOST_COLUMNS;
 use standings::{Row, Standing, ends_before};
-use text_find::Written;
+use text_find::{Foretold, Written};
 use xterm_term::Terminal;
 
-/// How many of the bytes to play at once: where the text stands nowhere before them and behind them, it stands nowhere in
+/// How many of the bytes to play at once: where a text stands nowhere before them and behind them, it stands nowhere in
 /// between.
-pub(crate) fn piece(terminal: &Terminal, text: &[char], bytes: &[u8]) -> usize
+pub(crate) fn piece(terminal: &Terminal, bytes: &[u8]) -> usize
     requires { 0 < length bytes.now }
     ensures some { 0 < result }
     ensures within { result ≤ length bytes.now }
-    ensures between { (x : Term) → Shows terminal.now x → NoneBetween text.now x bytes.now result }
+    ensures between { (text : List ℕ) (x : Term) → Shows terminal.now x
+        → NoneBetween text x bytes.now result }
 {
     let unshown = terminal.unshown(bytes);
     if unshown > 0 {
         return bytes.len().min(unshown + 1);
-    }
-    let over = run_over(terminal, text, bytes);
-    if over > 0 {
-        return over;
     }
     1
 }
@@ -63,11 +60,10 @@ pub(crate) fn quiet_piece(
     if unshown > 0 {
         return (unshown + 1).min(bytes.len());
     }
-    let over = quiet_run(terminal, text, still, bytes);
-    if over > 0 {
-        return over;
+    match quiet_run(terminal, text, still, bytes) {
+        Some(run) => run.taken,
+        None => 1,
     }
-    1
 }
 
 /// Whether the first of the bytes moves all rows up by one: how many spaces the row has that comes in below.
@@ -87,70 +83,76 @@ pub(crate) fn moved_up(terminal: &Terminal, bytes: &[u8]) -> Option<usize>
     Some(screen.columns() as usize)
 }
 
-/// How many of the bytes are written as they are over plain cells of the cursor's row, so that nothing of the text goes at
+/// Which characters the first of the bytes write over plain cells of the cursor's row, so that nothing of the text goes at
 /// them, and where.
-pub(crate) fn written(
-    terminal: &Terminal,
-    text: &[char],
-    still: &Standing,
-    bytes: &[u8],
-) -> Option<Written>
-    ensures some { IfSome result (λ written. 0 < written.count) }
-    ensures within { IfSome result (λ written. written.count ≤ length bytes.now) }
-    ensures row { (x : Term) → Shows terminal.now x
+fn written(terminal: &Terminal, text: &[char], still: &Standing, bytes: &[u8]) -> Option<Written>
+    ensures some { IfSome result (λ written. 0 < written.taken) }
+    ensures within { IfSome result (λ written. written.taken ≤ length bytes.now) }
+    ensures written { (x : Term) → Shows terminal.now x
         → still.now.rows.items ≡ rows_behind x [] 0
         → still.now.places.items ≡ standing text.now (rows_behind x [] 0)
-        → IfSome result (λ written. written.above < length (rows_behind x [] 0)) }
-    ensures room { (x : Term) → Shows terminal.now x
-        → still.now.rows.items ≡ rows_behind x [] 0
-        → still.now.places.items ≡ standing text.now (rows_behind x [] 0)
-        → IfSome result (λ written. written.before + written.count
-        ≤ length (row_below (rows_behind x [] 0) written.above).characters) }
-    ensures rows { (x : Term) → Shows terminal.now x
-        → still.now.rows.items ≡ rows_behind x [] 0
-        → still.now.places.items ≡ standing text.now (rows_behind x [] 0)
-        → IfSome result (λ written. rows_behind x bytes.now written.count
-        ≡ rows_written written.above written.before (take written.count bytes.now) (rows_behind x [] 0)) }
-    ensures keeps { (x : Term) → Shows terminal.now x
-        → still.now.rows.items ≡ rows_behind x [] 0
-        → still.now.places.items ≡ standing text.now (rows_behind x [] 0)
-        → IfSome result (λ written. StaysOn text.now x bytes.now written.count) }
+        → IfSome result (λ written. IsForetold text.now (rows_after x) [] bytes.now (Writes written)) }
 {
-    let count = quiet_run(terminal, text, still, bytes);
-    if count == 0 {
-        return None;
-    }
+    let run = quiet_run(terminal, text, still, bytes)?;
     let (above, before) = cursor_place(terminal, still);
     Some(Written {
         above,
         before,
-        count,
+        letters: run.letters,
+        taken: run.taken,
     })
 }
 
-/// How many of the bytes go over plain cells, and take nothing of the text away.
-fn quiet_run(terminal: &Terminal, text: &[char], still: &Standing, bytes: &[u8]) -> usize
-    ensures within { result ≤ length bytes.now }
+/// What the first of the bytes surely do to the rows of a terminal that shows these rows, on which the text stands there;
+/// where they write, nothing of the text goes at them.
+pub(crate) fn foretold(
+    terminal: &Terminal,
+    text: &[char],
+    still: &Standing,
+    bytes: &[u8],
+) -> Option<Foretold>
+    ensures within { IfSome result (λ foretold. IsWithin foretold (length bytes.now)) }
+    ensures foretold { (x : Term) → Shows terminal.now x
+        → still.now.rows.items ≡ rows_behind x [] 0
+        → still.now.places.items ≡ standing text.now (rows_behind x [] 0)
+        → IfSome result (λ foretold. IsForetold text.now (rows_after x) [] bytes.now foretold) }
+{
+    match moved_up(terminal, bytes) {
+        Some(columns) => Some(Foretold::MovesUp(columns)),
+        None => match written(terminal, text, still, bytes) {
+            Some(written) => Some(Foretold::Writes(written)),
+            None => None,
+        },
+    }
+}
+
+/// Which of the bytes go over plain cells, and take nothing of the text away, if there are any.
+fn quiet_run(terminal: &Terminal, text: &[char], still: &Standing, bytes: &[u8]) -> Option<Run>
+    ensures some { IfSome result (λ run. 0 < run.taken) }
+    ensures within { IfSome result (λ run. run.taken ≤ length bytes.now) }
     ensures quiet { (x : Term) → Shows terminal.now x
         → still.now.rows.items ≡ rows_behind x [] 0
         → still.now.places.items ≡ standing text.now (rows_behind x [] 0)
-        → StaysOn text.now x bytes.now result }
-    ensures written { (x : Term) → Shows terminal.now x → 0 < result → WritesOver x bytes.now result }
+        → IfSome result (λ run. StaysOn text.now x bytes.now run.taken) }
+    ensures written { (x : Term) → Shows terminal.now x
+        → IfSome result (λ run. WritesOver x bytes.now run.letters.items run.taken) }
 {
     if text.is_empty() {
-        return 0;
+        return None;
     }
     if !may_run(terminal, bytes) {
-        return 0;
+        return None;
     }
     if !ends_left(terminal, text.len(), still) {
-        return 0;
+        return None;
     }
     run_over(terminal, text, bytes)
 }
 
-/// Whether the first of the bytes may be put as a graphic character: else it isn't worth to look at all places.
-fn may_run(terminal: &Terminal, bytes: &[u8]) -> bool {
+/// Whether a character may be put first: else it isn't worth to look at all places.
+fn may_run(terminal: &Terminal, bytes: &[u8]) -> bool
+    ensures { result ≡ true → (x : Term) → Shows terminal.now x → WritesStyled x }
+{
     !bytes.is_empty() && matches!(bytes[0], 32..=126) && terminal.writes_on()
 }
 
@@ -226,71 +228,4 @@ fn own_count(cell: Cell) -> usize
     } else {
         1 + cell.mark_count() as usize
     }
-}
-
-/// How many of the bytes go over plain cells of the cursor's row, left of its last two, so that no two neighbours of the
-/// text come to stand on both sides of a border between new characters and old ones.
-fn run_over(terminal: &Terminal, text: &[char], bytes: &[u8]) -> usize
-    ensures within { result ≤ length bytes.now }
-    ensures between { (x : Term) → Shows terminal.now x → NoneBetween text.now x bytes.now result }
-    ensures stays { (x : Term) → Shows terminal.now x → 0 < length text.now → EndsLeft text.now x
-        → StaysOn text.now x bytes.now result }
-    ensures written { (x : Term) → Shows terminal.now x → 0 < result → WritesOver x bytes.now result }
-{
-    if !terminal.writes_on() {
-        return 0;
-    }
-    let screen = terminal.screen();
-    let (line, column) = screen.cursor();
-    let cells = screen.row(line);
-    let (from, end) = (column as usize - 1, cells.len() - 2);
-    if end < from {
-        return 0;
-    }
-    run_on(&cells[from..end], text, bytes)
-}
-
-/// How many of the bytes are graphic characters, to be put over plain cells, before two neighbours of the text are the
-/// last one put and the first one left.
-fn run_on(cells: &[Cell], text: &[char], bytes: &[u8]) -> usize
-    ensures within { result ≤ length bytes.now }
-    ensures room { result ≤ length cells.now }
-    ensures graphic { list_all is_graphic (take result bytes.now) ≡ true }
-    ensures plain { (k : ℕ) → k < result → IsPlain (cell_behind cells.now k) }
-    ensures apart { (k : ℕ) → 0 < k → k < result → AreApart text.now
-        (slice_index_or bytes.now (k - 1) 0) (cell_behind cells.now k).character }
-{
-    let end = bytes.len().min(cells.len());
-    let mut at = 0;
-    while at < end && may_go_on(cells, text, bytes, at) {
-        at += 1;
-    }
-    at
-}
-
-/// Whether a byte more may be put.
-#[inline]
-fn may_go_on(cells: &[Cell], text: &[char], bytes: &[u8], at: usize) -> bool
-    requires bytes { at < length bytes.now }
-    requires cells { at < length cells.now }
-    ensures graphic { result ≡ true → is_graphic (slice_index bytes.now at) ≡ true }
-    ensures plain { result ≡ true → IsPlain (cell_behind cells.now at) }
-    ensures apart { result ≡ true → 0 < at → AreApart text.now
-        (slice_index bytes.now (at - 1)) (cell_behind cells.now at).character }
-{
-    matches!(bytes[at], 32..=126)
-        && cells[at].is_plain()
-        && (at == 0 || !are_neighbours(text, bytes[at - 1] as char, cells[at].character()))
-}
-
-/// Whether two neighbours of the text are these.
-fn are_neighbours(text: &[char], one: char, other: char) -> bool
-    ensures { result ≡ false → AreApart text.now one other }
-{
-    for at in 1..text.len() {
-        if text[at - 1] == one && text[at] == other {
-            return true;
-        }
-    }
-    false
 }

@@ -1,7 +1,6 @@
-use Rattle.text_find.proofs.CalmLemmas.{lags_more}
 use Rattle.text_find.proofs.ahead.play_ahead.Goals as goal
 
 pub returns-clause-lags : goal.returns-clause-lags
 returns-clause-lags g c = λ lags.
-    lags_more c.play_pieces.new.ends c.catch_up.new.sides c.play_pieces.new.steps c.in_ok-catch_up.field-0 c.joined-steps.result
-    (c.in_ok-taken.ensures.lags lags) c.in_ok-catch_up.ensures.others c.joined-steps.ensures
+    let so_far = c.in_ok-taken.ensures.lags lags in
+    record { before = c.widened-steps.ensures _ _ _ so_far.before c.in_ok-catch_up.ensures.others; after = so_far.after }

@@ -2,7 +2,7 @@ use Rattle.std.proofs.Common.{◌≤◌, ◌++◌, List, ℕ, subst, sym, ◌∙
 use Rattle.std.proofs.lemmas.Bool.{leb-true}
 use Rattle.standings.proofs.SpanLemmas.{stays_none}
 use Rattle.text_find.specs.Lines.{AreBetween, IsLagging, IsStill}
-use Rattle.text_find.proofs.CalmLemmas.{lags_more, lags_on, quiet_calm, stays_calm, stood_before, trails_on}
+use Rattle.text_find.proofs.CalmLemmas.{lags_on, quiet_calm, stays_calm, stood_before, trails_on}
 use Rattle.text_find.proofs.ahead.play_where_it_stands.Goals as goal
 
 pub returns-then-is_none-clause-piece : goal.returns-then-is_none-clause-piece
@@ -42,8 +42,8 @@ returns-clause-piece g c =
     let taken = c.in_ok-taken.taken in
     let ends = c.catch_up.new.sides in
     let piece = c.in_ok-taken.ensures in
-    let more : IsLagging c.args.ends.now c.args.steps.now → IsLagging ends (record { sides = c.args.steps.now.sides; count = c.args.steps.now.count; span = c.joined-steps.result }) = λ lags.
-    lags_more c.args.ends.now ends c.args.steps.now c.in_ok-span.span c.joined-steps.result lags c.in_ok-span.ensures.others c.joined-steps.ensures in
+    let more : IsLagging c.args.ends.now c.args.steps.now → IsLagging ends (record { sides = c.args.steps.now.sides; count = c.args.steps.now.count; lag = c.widened-steps.result }) = λ lags.
+    record { before = c.widened-steps.ensures _ _ _ lags.before c.in_ok-span.ensures.others; after = lags.after } in
     let after : (profile : g.row.T-Profile.Denot) (first before : List ℕ) → g.T.Plays.shows profile c.args.ahead.now before
     → AreBetween text (g.F.Finder.screens profile first) (g.F.Finder.screens profile before) c.args.ends.now
     → AreBetween text (g.F.Finder.screens profile first) (g.F.Finder.screens profile (before ++ take taken bytes)) ends = λ profile first before h are.

@@ -3,7 +3,7 @@ use Rattle.std.specs.Vec.{vec_len}
 use Rattle.std.proofs.lemmas.Bool.{eqb-true}
 use Rattle.std.proofs.lemmas.List.{nil_from_length}
 use Rattle.text_find.specs.Lines.{AreBetween, IsLagging}
-use Rattle.text_find.proofs.CalmLemmas.{lags_more, nowhere_calm}
+use Rattle.text_find.proofs.CalmLemmas.{nowhere_calm}
 use Rattle.text_find.proofs.ahead.play_where_none_stands.Goals as goal
 
 pub returns-clause-piece : goal.returns-clause-piece
@@ -13,8 +13,8 @@ returns-clause-piece g c =
     let taken = c.in_ok-taken.taken in
     let ends = c.catch_up.new.sides in
     let piece = c.in_ok-taken.ensures in
-    let more : IsLagging c.args.ends.now c.args.steps.now → IsLagging ends (record { sides = c.args.steps.now.sides; count = c.args.steps.now.count; span = c.joined-steps.result }) = λ lags.
-    lags_more c.args.ends.now ends c.args.steps.now c.in_ok-span.span c.joined-steps.result lags c.in_ok-span.ensures.others c.joined-steps.ensures in
+    let more : IsLagging c.args.ends.now c.args.steps.now → IsLagging ends (record { sides = c.args.steps.now.sides; count = c.args.steps.now.count; lag = c.widened-steps.result }) = λ lags.
+    record { before = c.widened-steps.ensures _ _ _ lags.before c.in_ok-span.ensures.others; after = lags.after } in
     let after : (profile : g.row.T-Profile.Denot) (first before : List ℕ) → g.T.Plays.shows profile c.args.ahead.now before
     → AreBetween text (g.F.Finder.screens profile first) (g.F.Finder.screens profile before) c.args.ends.now
     → AreBetween text (g.F.Finder.screens profile first) (g.F.Finder.screens profile (before ++ take taken bytes)) ends = λ profile first before h are.

@@ -2,6 +2,7 @@ use Rattle.std.proofs.Common.{◌≡◌, [], arith, inl, sym, ◌∙◌}
 use Rattle.std.specs.Vec.{vec_len}
 use Rattle.std.proofs.lemmas.Bool.{eqb-true}
 use Rattle.std.proofs.lemmas.List.{nil_from_length}
+use Rattle.standings.specs.Spans.{Stays}
 use Rattle.text_find.proofs.CalmLemmas.{trails_there}
 use Rattle.text_find.proofs.behind.trail.Goals as goal
 
@@ -14,4 +15,8 @@ returns-then-is_empty-clause-trails c = λ lags.
 
 pub returns-clause-trails : goal.returns-clause-trails
 returns-clause-trails c = λ lags.
-    trails_there c.args.ends.now c.args.steps.now c.follow.new.self c.none-steps.result c.joined-steps.result lags (c.in_ok-follow.ensures.rows lags.before) c.in_ok-follow.ensures.places c.joined-steps.ensures
+    let steps = c.args.steps.now in
+    let after = c.args.ends.now.after.rows.items in
+    let apart : Stays c.apart-span.result after steps.sides.after.rows.items = c.apart-span.ensures _ _ _ (omega (arith, c.len.ensures)) lags.before lags.after in
+    trails_there c.args.ends.now steps c.follow_lag.new.self c.none-steps.result c.of-steps.result (c.in_ok-follow_lag.ensures.rows lags.before) c.in_ok-follow_lag.ensures.places
+    c.none-steps.ensures (c.of-steps.ensures _ _ apart)

@@ -162,8 +162,8 @@ returns-clause-found g c = λ profile found.
     let still = c.in_ok-reach.ensures.steps text (screen here) (screen (here ++ chunk)) are (c.in_ok-play_ahead.ensures.lags found.trails.lags) in
     let next : here ++ chunk ≡ first chunks (index + 1) = ap (λ l. here ++ l) bytes ∙ sym (c.first_grows_by_a_chunk.ensures.at chunks index) in
     let between = subst (λ b. AreBetween text (screen here) (screen b) c.play_ahead.new.ends) next are in
-    found_both g.T.Plays.shows g.F.Finder.screens profile chunks text (index + 1) c.play_ahead.new.ahead c.settle-2.new.sides c.put_chunk.new.behind (record { sides = c.put_chunk.new.steps; count = index + 1; span = c.reach.new.steps.span })
+    found_both g.T.Plays.shows g.F.Finder.screens profile chunks text (index + 1) c.play_ahead.new.ahead c.settle-2.new.sides c.put_chunk.new.behind (record { sides = c.put_chunk.new.steps; count = index + 1; lag = c.reach.new.steps.lag })
     (subst (g.T.Plays.shows profile c.play_ahead.new.ahead) next (c.in_ok-play_ahead.ensures.shows profile here found.played found.still))
     (c.in_ok-settle-2.ensures text (screen here) (screen (first chunks (index + 1))) between)
     (subst (g.T.Plays.shows profile c.put_chunk.new.behind) next (c.in_ok-put_chunk.ensures.behind profile here shows))
-    (subst (λ b. AreStill text (screen b) c.put_chunk.new.steps) next (c.in_ok-put_chunk.ensures.steps profile here shows still)) refl
+    (subst (λ b. AreStill text (screen b) c.put_chunk.new.steps) next (c.in_ok-put_chunk.ensures.steps profile here shows still)) c.in_ok-reach.ensures.none refl

@@ -1,5 +1,4 @@
-use Rattle.std.proofs.Common.{◌∙◌, ◌≤◌, refl, subst, sym}
-use Rattle.std.proofs.lemmas.Bool.{leb-true}
+use Rattle.std.proofs.Common.{refl, subst, sym}
 use Rattle.std.proofs.lemmas.Result.{err_from_is_err_and}
 use Rattle.tape_core.specs.Devices.{Gave}
 use Rattle.standings.specs.Standing.{standing}
@@ -22,8 +21,7 @@ returns-then-is_none-clause-gave g c = λ profile before after h told are.
     let one = g.F.Finder.screens profile before in
     let other = g.F.Finder.screens profile after in
     let between = c.in_ok-catch_up.ensures.sides profile before before after h told are in
-    let none : sides.span.to ≤ sides.span.from = leb-true sides.span.to sides.span.from (sym c.is_none.ensures ∙ c.if-is_none.true) in
-    let same = same_screens text sides.span one other sides.before sides.after between.before between.after none between.span in
+    let same = same_screens text one other sides.before sides.after between.before between.after (c.is_none.ensures c.if-is_none.true _ _ between.lag) in
     subst (λ t. Gave g.W.Write.contents c.args.writer.now c.args.writer.now t)
     (sym (nothing_passed text m.index m.due m.len ends.before.rows.items ends.before.places.items ends.after.rows.items ends.after.places.items one (standing text one) other (sym same) refl))
     (c.gives_join.ensures.nothing c.args.writer.now)
@@ -35,12 +33,11 @@ returns-then-is_none-clause-steps g c = λ profile before after h told are.
     let one = g.F.Finder.screens profile before in
     let other = g.F.Finder.screens profile after in
     let between = c.in_ok-catch_up.ensures.sides profile before before after h told are in
-    let none : sides.span.to ≤ sides.span.from = leb-true sides.span.to sides.span.from (sym c.is_none.ensures ∙ c.if-is_none.true) in
-    let same = same_screens text sides.span one other sides.before sides.after between.before between.after none between.span in
+    let same = same_screens text one other sides.before sides.after between.before between.after (c.is_none.ensures c.if-is_none.true _ _ between.lag) in
     record {
       before = subst (λ screen. IsStill text screen sides.before) (sym same) between.before;
       after = between.after;
-      span = between.span;
+      lag = between.lag;
     }
 
 pub returns-in_err-put_passed-clause-front : goal.returns-in_err-put_passed-clause-front
@@ -71,3 +68,8 @@ returns-in_err-settle-clause-front g c = λ profile before after h told are.
     (subst (λ t. Gave g.W.Write.contents c.args.writer.now c.put_passed.new.writer t)
     (passed_by text m.index m.due m.len ends.before.rows.items ends.before.places.items ends.after.rows.items ends.after.places.items one other sides.before sides.after between.before between.after)
     c.in_ok-put_passed.ensures.gave))
+
+pub returns-clause-steps : goal.returns-clause-steps
+returns-clause-steps g c = λ profile before after h told are.
+    c.in_ok-settle.ensures c.args.text.now (g.F.Finder.screens profile before) (g.F.Finder.screens profile after)
+    (c.in_ok-catch_up.ensures.sides profile before before after h told are)

@@ -1,7 +1,6 @@
 use Rattle.std.proofs.Common.{◌∙◌, ap, subst, sym}
 use Rattle.standings.specs.Spans.{Stays}
 use Rattle.standings.specs.Standing.{standing}
-use Rattle.standings.proofs.SpanLemmas.{stays_both}
 use Rattle.text_find.proofs.LineLemmas.{places_kept}
 use Rattle.text_find.proofs.sides.catch_up.Goals as goal
 
@@ -22,7 +21,5 @@ returns-clause-sides g c = λ profile first before after shows told are.
         places = c.in_ok-look_again.ensures.places sides.after.rows.items stays (places_kept text (g.F.Finder.screens profile before) sides.after are.after)
             ∙ ap (standing text) rows;
       };
-      span = subst (λ span. Stays span sides.before.rows.items other.rows.items) (sym c.joined-sides.ensures)
-          (stays_both sides.span c.in_ok-span.span sides.before.rows.items sides.after.rows.items other.rows.items are.span
-          (subst (Stays c.in_ok-span.span sides.after.rows.items) (sym same) stays));
+      lag = c.widened-sides.ensures _ _ _ are.lag (subst (Stays c.in_ok-span.span sides.after.rows.items) (sym same) stays);
     }

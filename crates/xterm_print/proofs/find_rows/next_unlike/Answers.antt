@@ -2,7 +2,6 @@ use Rattle.std.proofs.Common.{◌≡◌, ℕ, ◌+◌, ◌-◌, ◌≤◌, ◌�
 use Rattle.std.proofs.lemmas.Bool.{cases_lt}
 use Rattle.sheet.specs.Cells.{Cell}
 use Rattle.sheet.specs.Grid.{row_at}
-use Rattle.xterm_screen.specs.Picture.{Told}
 use Rattle.xterm_print.specs.FindRows.{heeds_next, row_read}
 use Rattle.xterm_print.proofs.FindRowLemmas.{no_row, read_alike}
 use Rattle.xterm_print.proofs.find_rows.next_unlike.Goals as goal

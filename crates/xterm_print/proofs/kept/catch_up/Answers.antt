@@ -1,9 +1,8 @@
-use Rattle.std.proofs.Common.{◌≡◌, ℕ, ◌+◌, ◌-◌, ◌<◌, ◌≤◌, List, length, ap, sym, ◌∙◌, subst, arith, append-nil, refl, filter, inl, inr}
+use Rattle.std.proofs.Common.{◌≡◌, ◌+◌, ◌-◌, List, length, ap, sym, ◌∙◌, subst, arith, append-nil, refl, filter, inl, inr}
 use Rattle.std.proofs.lemmas.Bool.{cases_eq, cases_lt}
 use Rattle.std.specs.List.{range_with_len}
 use Rattle.sheet.specs.Cells.{Cell}
 use Rattle.sheet.specs.Grid.{row_at}
-use Rattle.xterm_screen.specs.Picture.{Told}
 use Rattle.xterm_print.specs.ChangeLines.{changed_lines, is_changed}
 use Rattle.xterm_print.specs.Kept.{FollowAll, Follows}
 use Rattle.xterm_print.proofs.KeptLemmas.{not_changed, passing_more, passing_none}

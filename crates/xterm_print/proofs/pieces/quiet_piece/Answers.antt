@@ -6,6 +6,6 @@ pub returns-then-unshown-gt0-clause-quiet : goal.returns-then-unshown-gt0-clause
 returns-then-unshown-gt0-clause-quiet c = λ x shows _ _.
     unshown_quiet x c.args.text.now c.args.bytes.now c.unshown-unshown.result _ (omega (arith, c.min.ensures)) (c.unshown-unshown.ensures.shows x shows)
 
-pub returns-then-over-gt0-clause-quiet : goal.returns-then-over-gt0-clause-quiet
-returns-then-over-gt0-clause-quiet c = λ x shows rows places.
-    stays_quiet x c.args.text.now c.args.bytes.now c.quiet_run-over.result (omega arith) (c.quiet_run-over.ensures.quiet x shows rows places)
+pub returns-in-Some-clause-quiet : goal.returns-in-Some-clause-quiet
+returns-in-Some-clause-quiet c = λ x shows rows places.
+    stays_quiet x c.args.text.now c.args.bytes.now c.in-Some.run'.taken c.in-Some.ensures.some (c.in-Some.ensures.quiet x shows rows places)

@@ -1,4 +1,3 @@
-use Rattle.std.proofs.Common.{sym}
 use Rattle.xterm_print.specs.ChangeLines.{rows_by}
 use Rattle.xterm_print.proofs.ShownLemmas.{caught_rows, rows_sized, screen_told}
 use Rattle.xterm_print.proofs.find_lines.SheetsFinderTerminal.catch_up.Goals as goal

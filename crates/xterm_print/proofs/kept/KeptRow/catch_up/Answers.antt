@@ -1,4 +1,4 @@
-use Rattle.std.proofs.Common.{◌≡◌, ◌<◌, ◌≤◌, List, ap, arith, length, not, subst, sym, take_at, ◌∙◌}
+use Rattle.std.proofs.Common.{◌≡◌, ◌<◌, List, ap, arith, length, not, subst, sym, take_at, ◌∙◌}
 use Rattle.sheet.specs.Cells.{Cell}
 use Rattle.xterm_print.specs.ChangeLines.{same_row}
 use Rattle.xterm_print.specs.Same.{Agree}

@@ -1,6 +1,6 @@
 use Rattle.std.proofs.Common.{◌≡◌, ◌+◌, ◌<◌, ℕ}
 use Rattle.std.specs.Prelude.{slice_index_or}
-use Rattle.xterm_print.proofs.pieces.are_neighbours.Given as goal
+use Rattle.xterm_print.proofs.runs.are_neighbours.Given as goal
 
 -- those so far aren't
 abbrev pub invariant-loop-at : goal.invariant-loop-at

@@ -1,0 +1,48 @@
+-- What bytes surely do to the rows of a terminal, and that nothing of a text goes where they write.
+use Rattle.std.specs.Prelude.{◌≡◌, ℕ, ◌+◌, ◌<◌, ◌≤◌, List, ◌++◌, length, take}
+use Rattle.standings.specs.Kept.{Keeps}
+use Rattle.standings.specs.Moved.{moved_up}
+use Rattle.standings.specs.Rows.{Row, row_below}
+use Rattle.standings.specs.Written.{rows_written}
+use Rattle.text_find.specs.declared.foretold.Foretold.{Foretold}
+use Rattle.text_find.specs.declared.foretold.Foretold.TheVariants.{MovesUp, Writes}
+use Rattle.text_find.specs.FindLines.{rows_within}
+
+-- how many of the bytes it is foretold of
+abbrev pub taken_by : Foretold → ℕ
+taken_by (MovesUp columns) = 1
+taken_by (Writes written) = written.taken
+
+-- the rows behind them
+abbrev pub foretold_rows : Foretold → List Row → List Row
+foretold_rows (MovesUp columns) rows = moved_up columns rows
+foretold_rows (Writes written) rows = rows_written written.above written.before written.letters.items rows
+
+-- these rows have the ones that move, or the characters that are written over
+abbrev pub HasRoom : Foretold → List Row → Type 0
+HasRoom (MovesUp columns) rows = 0 < length rows
+HasRoom (Writes written) rows =
+    (written.above < length rows) × (written.before + length written.letters.items ≤ length (row_below rows written.above).characters)
+
+-- nothing of a text goes at any of the bytes that write
+abbrev pub KeepsIn : List ℕ → (List ℕ → List Row) → List ℕ → List ℕ → Foretold → Type 0
+KeepsIn text screen before bytes (MovesUp columns) = Unit {0}
+KeepsIn text screen before bytes (Writes written) =
+    (count : ℕ) → count < written.taken → Keeps text (rows_within screen before bytes count) (rows_within screen before bytes (count + 1))
+
+-- this is what the first of the bytes do, where others were played before
+pub record IsForetold (text : List ℕ) (screen : List ℕ → List Row) (before bytes : List ℕ) (foretold : Foretold) : Type 0 where
+  pub rows : screen (before ++ take (taken_by foretold) bytes) ≡ foretold_rows foretold (screen before)
+  pub room : HasRoom foretold (screen before)
+  pub keeps : KeepsIn text screen before bytes foretold
+
+-- a row that comes in has no more columns than can be told
+abbrev pub IsNarrow : Foretold → Type 0
+IsNarrow (MovesUp columns) = columns < 65535
+IsNarrow (Writes written) = Unit {0}
+
+-- it is foretold of some bytes, and of no more than so many
+pub record IsWithin (foretold : Foretold) (count : ℕ) : Type 0 where
+  pub some : 0 < taken_by foretold
+  pub within : taken_by foretold ≤ count
+  pub narrow : IsNarrow foretold

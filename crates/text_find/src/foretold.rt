@@ -1,0 +1,154 @@
+//! A piece of a chunk of which it is foretold what it does.
+
+ghost use Rattle.std.specs.Prelude.{◌≡◌, ◌≢◌, [], false, true, List, ℕ, length, IfOk, OnOk};
+ghost use Rattle.standings.specs.Lag.{Lags};
+ghost use Rattle.standings.specs.Rows.{Row};
+ghost use Rattle.standings.specs.Spans.{Stays};
+ghost use Rattle.standings.specs.Standing.{standing};
+ghost use Rattle.text_find.specs.Calm.{IsPiece, NonePass};
+ghost use Rattle.text_find.specs.Foretold.{HasRoom, IsForetold, IsNarrow, IsWithin, KeepsIn, foretold_rows, taken_by};
+ghost use Rattle.text_find.specs.Lines.{AreBetween, IsLagging};
+
+use crate::ahead::play;
+use crate::behind::{Steps, trail};
+use crate::finder::Finder;
+use crate::lines::none_passes;
+use crate::sides::Sides;
+use arrayvec::ArrayVec;
+use plays::{OutOfMemory, Plays};
+use standings::{Lag, Span, Standing};
+use std::alloc::Global;
+
+/// How many characters are written at once at most.
+pub const LETTERS: usize = 160;
+
+/// Characters that bytes write over as many of a row: how many rows are above it, how many characters before them in it,
+/// which they are (of ASCII), and how many bytes write them: these may hold sequences that show nothing.
+#[derive(Drop)]
+pub struct Written {
+    pub above: usize,
+    pub before: usize,
+    pub letters: ArrayVec<u8, LETTERS>,
+    pub taken: usize,
+}
+
+/// What bytes surely do to the rows of a terminal.
+#[derive(Drop)]
+pub enum Foretold {
+    /// The first byte moves all rows up by one, and a row of so many spaces comes in below.
+    MovesUp(usize),
+    /// Characters are written over others.
+    Writes(Written),
+}
+
+impl Foretold {
+    /// How many bytes it is foretold of.
+    fn taken(&self) -> usize
+        ensures { result ≡ taken_by self.now }
+    {
+        match self {
+            Foretold::MovesUp(_) => 1,
+            Foretold::Writes(written) => written.taken,
+        }
+    }
+
+    /// Whether surely nothing of the text passes at them, where it stands so before: else it is foretold of one byte, and
+    /// the text stands somewhere.
+    fn is_calm(&self, still: &Standing) -> bool
+        ensures calm { result ≡ true → (text : List ℕ) (screen : List ℕ → List Row) (before bytes : List ℕ)
+            → still.now.places.items ≡ standing text (screen before)
+            → KeepsIn text screen before bytes self.now
+            → (first : List Row) → NonePass text first screen before bytes (taken_by self.now) }
+        ensures one { result ≡ false → taken_by self.now ≡ 1 }
+        ensures stands { result ≡ false → still.now.places.items ≢ [] }
+    {
+        match self {
+            Foretold::MovesUp(_) => still.places.is_empty(),
+            Foretold::Writes(_) => true,
+        }
+    }
+
+    /// How rows lag behind those that are foretold, where they lag so behind so many rows; a span tells which of these may
+    /// differ.
+    fn lagging(&self, lag: Lag, count: usize, span: Span) -> Lag
+        ensures { (one other later : List Row) → length other ≡ count → Lags lag one other
+            → (HasRoom self.now other → later ≡ foretold_rows self.now other) → Stays span other later
+            → Lags result one later }
+    {
+        match self {
+            Foretold::MovesUp(_) if count > 0 => lag.raised(count),
+            _ => lag.widened(span),
+        }
+    }
+}
+
+/// Plays the first of the bytes, of which it is foretold what they do. Says how many were played, and whether surely
+/// nothing of the text passes at them.
+pub(crate) fn play_foretold<T: Plays, F: Finder<T>>(
+    alloc: Global,
+    text: &[char],
+    bytes: &[u8],
+    foretold: &Foretold,
+    ends: &mut Sides,
+    steps: &mut Steps,
+    ahead: &mut T,
+) -> Result<(usize, bool), OutOfMemory>
+    requires within { IsWithin foretold.now (length bytes.now) }
+    requires foretold { (profile : T.Profile) (before : List ℕ) → T.shows profile ahead.old before
+        → ends.old.after.rows.items ≡ F.screens profile before
+        → ends.old.after.places.items ≡ standing text.now (F.screens profile before)
+        → IsForetold text.now (F.screens profile) before bytes.now foretold.now }
+    ensures count { steps.new.count ≡ steps.old.count }
+    ensures piece { IfOk result (λ played. IsPiece T.shows F.screens text.now bytes.now
+        ends.old ends.new steps.old steps.new ahead.old ahead.new played.0 played.1) }
+{
+    let surely = foretold.is_calm(&ends.after);
+    let taken = foretold.taken();
+    play(alloc, ahead, &bytes[..taken])?;
+    change(foretold, text, ends, steps)?;
+    let calm = surely || none_passes(&ends.before, &steps.sides.before, &ends.after);
+    trail(steps, ends)?;
+    Ok((taken, calm))
+}
+
+/// What stands after is what stands behind what is foretold, and what lags behind it lags so much more.
+fn change(
+    foretold: &Foretold,
+    text: &[char],
+    ends: &mut Sides,
+    steps: &mut Steps,
+) -> Result<(), OutOfMemory>
+    requires { IsNarrow foretold.now }
+    ensures count { steps.new.count ≡ steps.old.count }
+    ensures sides { steps.new.sides ≡ steps.old.sides }
+    ensures lags { IsLagging ends.old steps.old → OnOk result (IsLagging ends.new steps.new) }
+    ensures between { (first before after : List Row) → HasRoom foretold.now before
+        → after ≡ foretold_rows foretold.now before
+        → AreBetween text.now first before ends.old
+        → OnOk result (AreBetween text.now first after ends.new) }
+{
+    let count = ends.after.rows.len();
+    let span = foresee(&mut ends.after, foretold, text)?;
+    ends.lag = foretold.lagging(ends.lag, count, span);
+    steps.lag = foretold.lagging(steps.lag, count, span);
+    Ok(())
+}
+
+/// Rows become those that are foretold; looks where the text stands then. Says which rows may differ.
+fn foresee(still: &mut Standing, foretold: &Foretold, text: &[char]) -> Result<Span, OutOfMemory>
+    requires { IsNarrow foretold.now }
+    ensures rows { HasRoom foretold.now still.old.rows.items
+        → OnOk result (still.new.rows.items ≡ foretold_rows foretold.now still.old.rows.items) }
+    ensures places { HasRoom foretold.now still.old.rows.items
+        → still.old.places.items ≡ standing text.now still.old.rows.items
+        → OnOk result (still.new.places.items ≡ standing text.now still.new.rows.items) }
+    ensures others { IfOk result (λ span. Stays span still.old.rows.items still.new.rows.items) }
+{
+    match foretold {
+        Foretold::MovesUp(columns) => Ok(still.move_up(*columns, text)?),
+        Foretold::Writes(written) => {
+            let letters = written.letters.as_slice();
+            Ok(still.write(written.above, written.before, letters, text)?)
+        }
+    }
+}
