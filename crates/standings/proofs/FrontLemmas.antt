@@ -29,7 +29,7 @@ has_text line text i is lt =
     front_reads 0 line text (drop (length text) line) ((starts_is Decides-eqb line text (starts_with nat_eq line text) refl).0 is) i lt
 
 -- and as many of them
-fits_text : (line text : List ℕ) → starts_with nat_eq line text ≡ true → length text ≤ length line
+pub fits_text : (line text : List ℕ) → starts_with nat_eq line text ≡ true → length text ≤ length line
 fits_text line text is =
     front_fits line text (drop (length text) line) ((starts_is Decides-eqb line text (starts_with nat_eq line text) refl).0 is)
 

@@ -1,21 +1,19 @@
 -- Characters that are written over others, one after another: what stood before them stays.
-use Rattle.std.proofs.Common.{◌≡◌, ◌≢◌, ◌⊎◌, ℕ, zero, suc, ◌+◌, ◌-◌, ◌<◌, ◌≤◌, Bool, true, false, List, [], ◌∷◌, ◌++◌, append_assoc, append-nil, cond, drop, get_or, length, nat_eq, take, refl, ap, ap₂, subst, sym, ◌∙◌, arith, inl, inr}
-use Rattle.std.specs.Prelude.{◌==◌, if◌then◌else◌}
+use Rattle.std.proofs.Common.{◌≡◌, ℕ, zero, suc, ◌+◌, ◌-◌, ◌<◌, ◌≤◌, true, List, [], ◌∷◌, ◌++◌, append_assoc, cond, drop, get_or, length, nat_eq, take, refl, ap, subst, sym, ◌∙◌, arith, inl, inr}
 use Rattle.std.specs.Cmp.Lexicographic.{pointwise}
-use Rattle.std.specs.List.{count_by}
 use Rattle.std.proofs.lemmas.Bool.{cases_Bool, cases_eq, cases_lt, true≢false}
 use Rattle.std.proofs.lemmas.Bool.Decides.{nat_tests}
-use Rattle.std.proofs.lemmas.List.{drop_more, get_or-append-add, get_or_append_left, length-append, length-drop, length-take-le, take-append-drop, take-append-le, take_more}
+use Rattle.std.proofs.lemmas.List.{get_or-append-add, get_or_append_left, length-append, length-drop, length-take-le, take-append-drop, take-append-le, take_more}
 use Rattle.std.proofs.lemmas.List.Sums.{sum_by-append}
 use Rattle.standings.specs.Kept.{EndBy, Keeps, room_in}
 use Rattle.standings.specs.Rows.{Row, row_below}
 use Rattle.standings.specs.Spans.{places_along}
 use Rattle.standings.specs.Standing.{begins, count_left, left_of, line_text, place_at, place_in, places_in, standing}
 use Rattle.standings.specs.declared.place.Place.{Place}
-use Rattle.standings.proofs.FrontLemmas.{IsRewritten, Leads, NoNeighbours, as_many, begins_across, begins_before, begins_behind, first_left, in_three, in_two, last_written, leads, line_here, rewritten}
+use Rattle.standings.proofs.FrontLemmas.{IsRewritten, NoNeighbours, as_many, begins_across, begins_before, begins_behind, first_left, in_three, in_two, last_written, leads, line_here, rewritten}
 use Rattle.standings.proofs.PlaceLemmas.{along_parts, standing_along}
 use Rattle.standings.proofs.RowLemmas.{places_more}
-use Rattle.standings.proofs.SpanLemmas.{line_at, line_below, places_of}
+use Rattle.standings.proofs.SpanLemmas.{line_below, places_of}
 
 -- ---- what stays, in general
 
@@ -96,7 +94,7 @@ RowKeeps text one other k =
     (i : ℕ) → i < length (row_below one k).characters → begins text (line_text (drop k one)) i ≡ true
     → (begins text (line_text (drop k other)) i ≡ true) × (take i (row_below other k).characters ≡ take i (row_below one k).characters)
 
-counted : (rows : List Row) (a b : List Place) (left : List ℕ) → count_left rows (a ++ b) left ≡ count_left rows a left + count_left rows b left
+pub counted : (rows : List Row) (a b : List Place) (left : List ℕ) → count_left rows (a ++ b) left ≡ count_left rows a left + count_left rows b left
 counted rows a b left = sum_by-append (λ place. cond (pointwise nat_eq (left_of rows place) left) 1 0) a b
 
 row_counts : (text : List ℕ) (one other : List Row) (k n : ℕ) (left : List ℕ) → n ≤ length (row_below one k).characters → RowKeeps text one other k
@@ -125,7 +123,7 @@ row_counts text one other k (suc n) left few kept =
           omega (arith, before, sum, sum', some, some', same)
     ]
 
-along_counts : (text : List ℕ) (one other : List Row) (n k : ℕ) (left : List ℕ)
+pub along_counts : (text : List ℕ) (one other : List Row) (n k : ℕ) (left : List ℕ)
     → ((j : ℕ) → k ≤ j → j < k + n → (length (row_below other j).characters ≡ length (row_below one j).characters) × RowKeeps text one other j)
     → count_left one (places_along text one k n) left ≤ count_left other (places_along text other k n) left
 along_counts text one other zero k left kept = omega arith

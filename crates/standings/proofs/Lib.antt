@@ -7,3 +7,4 @@ pub mod KeptLemmas
 mod MovedLemmas
 mod LagLemmas
 mod NearLemmas
+mod StayLemmas

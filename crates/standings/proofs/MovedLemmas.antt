@@ -27,7 +27,7 @@ up_from text (row ∷ rows) above =
     ∙ ap₂ (λ a b. a ++ b) (up_in above (filter (begins text line) (range_with_len 0 n))) (up_from text rows (above + 1))
 
 -- those of the first row are as many as stand above the second
-below_first : (text : List ℕ) (rows : List Row) (places : List Place) (c : ℕ) → 0 < length rows → places ≡ standing text rows → c ≤ length places
+pub below_first : (text : List ℕ) (rows : List Row) (places : List Place) (c : ℕ) → 0 < length rows → places ≡ standing text rows → c ≤ length places
     → ((k : ℕ) → k < c → (place_at places k).above < 1) → (c < length places → 1 ≤ (place_at places c).above) → drop c places ≡ places_from text 1 (drop 1 rows)
 below_first text rows places c some was within below ends =
     let m = length rows - 1 in

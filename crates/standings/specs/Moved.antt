@@ -1,5 +1,5 @@
 -- Rows that move up by one.
-use Rattle.std.specs.Prelude.{ℕ, ◌-◌, false, List, [], ◌∷◌, ◌++◌, drop, replicate, take}
+use Rattle.std.specs.Prelude.{ℕ, ◌-◌, false, List, [], ◌∷◌, ◌++◌, drop, length, replicate, take}
 use Rattle.std.specs.List.{range_with_len}
 use Rattle.standings.specs.Rows.{Row}
 use Rattle.standings.specs.Standing.{place_in}
@@ -12,6 +12,18 @@ spaces_row columns = record { characters = replicate columns 32; columns = range
 -- all rows move up by one, and a row of so many spaces comes in below (ours)
 abbrev pub moved_up : ℕ → List Row → List Row
 moved_up columns rows = drop 1 rows ++ spaces_row columns ∷ []
+
+-- all rows move down by one, and a row of so many spaces comes in above (ours)
+abbrev pub moved_down : ℕ → List Row → List Row
+moved_down columns rows = spaces_row columns ∷ take (length rows - 1) rows
+
+-- of the rows from one up to and without another, the first goes out, the others move up, and a row of so many spaces comes in below them (ours)
+abbrev pub region_up : ℕ → ℕ → ℕ → List Row → List Row
+region_up from to columns rows = take from rows ++ moved_up columns (take (to - from) (drop from rows)) ++ drop to rows
+
+-- the last goes out, the others move down, and a row of so many spaces comes in above them (ours)
+abbrev pub region_down : ℕ → ℕ → ℕ → List Row → List Row
+region_down from to columns rows = take from rows ++ spaces_row columns ∷ (take (to - from - 1) (drop from rows) ++ drop to rows)
 
 -- the first so many rows come behind the others (ours)
 abbrev pub turned : ℕ → List Row → List Row

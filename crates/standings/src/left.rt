@@ -1,8 +1,8 @@
 //! What of a text went between two screens, told by what stands left of it.
 
-ghost use Rattle.std.specs.Prelude.{◌≡◌, ◌+◌, ◌<◌, ◌≤◌, false, true, List, ℕ, length, nat_eq, take, IfOk, OnOk};
+ghost use Rattle.std.specs.Prelude.{◌≡◌, ◌≢◌, [], ◌+◌, ◌<◌, ◌≤◌, false, true, List, ℕ, length, nat_eq, take, IfOk, OnOk};
 ghost use Rattle.std.specs.Cmp.Lexicographic.{pointwise};
-ghost use Rattle.standings.specs.Kept.{EndBy, room_in};
+ghost use Rattle.standings.specs.Kept.{EndBy, Keeps, room_in};
 ghost use Rattle.standings.specs.Lag.{Lags};
 ghost use Rattle.standings.specs.Moved.{moved_up};
 ghost use Rattle.standings.specs.Rows.{Row, row_below};
@@ -243,6 +243,17 @@ fn ends_by(rows: &[Row], place: Place, len: usize, above: usize, before: usize) 
         characters_below(rows, place.above).len()
     };
     len <= room && place.before <= room - len
+}
+
+/// Whether surely nothing of a text that stands there goes where all rows move up by one: none of it begins in the first
+/// row.
+pub fn stays_moved(still: &Standing) -> bool
+    ensures keeps { result ≡ true → (text : List ℕ) (columns : ℕ) → 0 < length still.now.rows.items
+        → still.now.places.items ≡ standing text still.now.rows.items
+        → Keeps text still.now.rows.items (moved_up columns still.now.rows.items) }
+    ensures stands { result ≡ false → still.now.places.items ≢ [] }
+{
+    still.places.is_empty() || still.places[0].above > 0
 }
 
 /// How many places of a screen were kept behind one more of the other.

@@ -2,7 +2,7 @@
 
 ghost use Rattle.std.specs.Prelude.{◌≡◌, ◌+◌, ◌-◌, ◌≤◌, ◌<◌, ◌∷◌, ◌++◌, [], false, IfOk, OnOk, drop, length, nat_le, replicate, slice_index_or, slice_set, take};
 ghost use Rattle.std.specs.List.{range_with_len};
-ghost use Rattle.standings.specs.Moved.{moved_up, spaces_row, turned};
+ghost use Rattle.standings.specs.Moved.{moved_down, moved_up, spaces_row, turned};
 ghost use Rattle.standings.specs.Rows.{empty_row, row_below};
 ghost use Rattle.standings.specs.Written.{row_written};
 
@@ -270,6 +270,19 @@ pub(crate) fn move_rows_up(rows: &mut [Row], columns: usize) -> Result<(), Alloc
     let row = &mut rows[0];
     row.blank(columns)?;
     rows.rotate_left(1);
+    Ok(())
+}
+
+/// All rows move down by one, and the last one becomes a row of so many spaces above the others.
+pub(crate) fn move_rows_down(rows: &mut [Row], columns: usize) -> Result<(), AllocError>
+    requires some { 0 < length rows.old }
+    requires few { columns < u16.MAX }
+    ensures { OnOk result (rows.new ≡ moved_down columns rows.old) }
+{
+    let last = rows.len() - 1;
+    let row = &mut rows[last];
+    row.blank(columns)?;
+    rows.rotate_right(1);
     Ok(())
 }
 

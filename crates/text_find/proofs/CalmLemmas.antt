@@ -6,6 +6,7 @@ use Rattle.tape_core.specs.declared.chunk.Chunk.{Chunk}
 use Rattle.tape_core.specs.Due.{first}
 use Rattle.standings.specs.Kept.{Keeps}
 use Rattle.standings.specs.Lag.{Lags}
+use Rattle.standings.specs.Moved.{moved_up}
 use Rattle.standings.specs.Rows.{Row}
 use Rattle.standings.specs.Standing.{standing}
 use Rattle.standings.specs.declared.lag.Lag.{Lag}
@@ -15,6 +16,8 @@ use Rattle.text_find.specs.declared.behind.Steps.{Steps}
 use Rattle.text_find.specs.declared.sides.Sides.{Sides}
 use Rattle.text_find.specs.Calm.{IsAhead, IsCalm, NonePass}
 use Rattle.text_find.specs.FindLines.{Screens, rows_within}
+use Rattle.text_find.specs.Foretold.{IsForetold}
+use Rattle.text_find.specs.declared.foretold.Foretold.TheVariants.{MovesUp}
 use Rattle.text_find.specs.Lines.{AreBetween, AreFound, AreStill, IsLagging, IsStill, IsTrailing, byte_lines, chunk_lines, end_lines, less_lines, passed_lines}
 use Rattle.text_find.specs.Pieces.{AreQuiet}
 use Rattle.text_find.proofs.LineLemmas.{chunk_in_three, none_passed, nothing_passed, passed_by}
@@ -86,6 +89,17 @@ pub kept_calm : (text : List ℕ) (first : List Row) (screen : List ℕ → List
     → ((count : ℕ) → count < taken → Keeps text (rows_within screen before bytes count) (rows_within screen before bytes (count + 1))) → NonePass text first screen before bytes taken
 kept_calm text first screen before bytes taken kept = λ index due last lasts count lt.
     none_kept text index due first (standing text first) last lasts (rows_within screen before bytes count) (rows_within screen before bytes (count + 1)) (kept count lt)
+
+-- as where all rows move up, and each place stays
+pub moved_calm : (text : List ℕ) (first : List Row) (screen : List ℕ → List Row) (before bytes : List ℕ) (columns : ℕ) (still : Standing) → still.rows.items ≡ screen before
+    → IsForetold text screen before bytes (MovesUp columns) → Keeps text still.rows.items (moved_up columns still.rows.items) → NonePass text first screen before bytes 1
+moved_calm text first screen before bytes columns still rows told keeps =
+    kept_calm text first screen before bytes 1 (λ count lt.
+    let one : 0 ≡ count = omega (arith, lt) in
+    let here : still.rows.items ≡ rows_within screen before bytes 0 = rows ∙ sym (within_start screen before bytes) in
+    let there : moved_up columns still.rows.items ≡ rows_within screen before bytes 1 = ap (moved_up columns) rows ∙ sym told.rows in
+    subst (λ n. Keeps text (rows_within screen before bytes n) (rows_within screen before bytes (n + 1))) one
+    (subst (λ r. Keeps text r (rows_within screen before bytes 1)) here (subst (Keeps text still.rows.items) there keeps)))
 
 -- nor at a piece more
 pub calm_more : (text : List ℕ) (screen : List ℕ → List Row) (before bytes : List ℕ) (at taken : ℕ) → IsCalm text screen before bytes at

@@ -1,5 +1,6 @@
 -- Bytes that are played at once where a text stands: what is written of them.
 use Rattle.std.proofs.Common.{◌≡◌, ℕ, zero, suc, ◌+◌, ◌-◌, ◌<◌, ◌≤◌, List, [], ◌++◌, append-nil, drop, length, take, refl, ap, ap₂, subst, sym, ◌∙◌, arith, inl, inr}
+use Rattle.std.proofs.lemmas.Bool.{cases_lt}
 use Rattle.chunk_walk.proofs.TextLemmas.{texts_from}
 use Rattle.standings.specs.Kept.{Keeps}
 use Rattle.standings.specs.Rows.{Row}
@@ -18,6 +19,18 @@ pub one_quiet : (text : List ℕ) (screen : List ℕ → List Row) (before bytes
 one_quiet text screen before bytes = record {
   inside = λ count lt. absurd (omega (arith, lt));
   last = inl refl;
+}
+
+-- and bytes of which none but the last changes a row
+pub still_quiet : (text : List ℕ) (screen : List ℕ → List Row) (before bytes : List ℕ) (taken : ℕ)
+    → ((count : ℕ) → count < taken → rows_within screen before bytes count ≡ rows_within screen before bytes 0) → AreQuiet text screen before bytes taken
+still_quiet text screen before bytes taken same = record {
+  inside = λ count lt.
+      keeps_same text (rows_within screen before bytes count) (rows_within screen before bytes (count + 1)) (same count (omega (arith, lt)) ∙ sym (same (count + 1) lt));
+  last = elim (cases_lt (taken - 1) taken) [
+    | inl lt ↦ inl (same (taken - 1) lt)
+    | inr ge ↦ inl (let none : taken - 1 ≡ 0 = omega (arith, ge) in ap (rows_within screen before bytes) none)
+  ];
 }
 
 pub texts_none : (f : ℕ → List ℕ) (start n : ℕ) → ((k : ℕ) → start ≤ k → k < start + n → f k ≡ []) → texts_from f 0 (start + n) ≡ texts_from f 0 start

@@ -1,32 +1,38 @@
 -- What bytes surely do to the rows of a terminal, and that nothing of a text goes where they write.
-use Rattle.std.specs.Prelude.{◌≡◌, ℕ, ◌+◌, ◌<◌, ◌≤◌, List, ◌++◌, length, take}
+use Rattle.std.specs.Prelude.{◌≡◌, ℕ, ◌+◌, ◌<◌, ◌≤◌, List, ◌++◌, if◌then◌else◌, length, take}
 use Rattle.standings.specs.Kept.{Keeps}
-use Rattle.standings.specs.Moved.{moved_up}
+use Rattle.standings.specs.Moved.{moved_up, region_down, region_up}
 use Rattle.standings.specs.Rows.{Row, row_below}
 use Rattle.standings.specs.Written.{rows_written}
 use Rattle.text_find.specs.declared.foretold.Foretold.{Foretold}
-use Rattle.text_find.specs.declared.foretold.Foretold.TheVariants.{MovesUp, Writes}
+use Rattle.text_find.specs.declared.foretold.Foretold.TheVariants.{MovesUp, MovesWithin, Writes}
 use Rattle.text_find.specs.FindLines.{rows_within}
 
 -- how many of the bytes it is foretold of
 abbrev pub taken_by : Foretold → ℕ
 taken_by (MovesUp columns) = 1
+taken_by (MovesWithin region) = region.taken
 taken_by (Writes written) = written.taken
 
 -- the rows behind them
 abbrev pub foretold_rows : Foretold → List Row → List Row
 foretold_rows (MovesUp columns) rows = moved_up columns rows
+foretold_rows (MovesWithin region) rows =
+    if region.down then region_down region.from region.to region.columns rows else region_up region.from region.to region.columns rows
 foretold_rows (Writes written) rows = rows_written written.above written.before written.letters.items rows
 
 -- these rows have the ones that move, or the characters that are written over
 abbrev pub HasRoom : Foretold → List Row → Type 0
 HasRoom (MovesUp columns) rows = 0 < length rows
+HasRoom (MovesWithin region) rows = (region.from < region.to) × (region.to ≤ length rows)
 HasRoom (Writes written) rows =
     (written.above < length rows) × (written.before + length written.letters.items ≤ length (row_below rows written.above).characters)
 
--- nothing of a text goes at any of the bytes that write
+-- no row changes before the last of the bytes that move rows between margins, and nothing of a text goes at any of those that write
 abbrev pub KeepsIn : List ℕ → (List ℕ → List Row) → List ℕ → List ℕ → Foretold → Type 0
 KeepsIn text screen before bytes (MovesUp columns) = Unit {0}
+KeepsIn text screen before bytes (MovesWithin region) =
+    (count : ℕ) → count < region.taken → rows_within screen before bytes count ≡ rows_within screen before bytes 0
 KeepsIn text screen before bytes (Writes written) =
     (count : ℕ) → count < written.taken → Keeps text (rows_within screen before bytes count) (rows_within screen before bytes (count + 1))
 
@@ -39,6 +45,7 @@ pub record IsForetold (text : List ℕ) (screen : List ℕ → List Row) (before
 -- a row that comes in has no more columns than can be told
 abbrev pub IsNarrow : Foretold → Type 0
 IsNarrow (MovesUp columns) = columns < 65535
+IsNarrow (MovesWithin region) = region.columns < 65535
 IsNarrow (Writes written) = Unit {0}
 
 -- it is foretold of some bytes, and of no more than so many

@@ -93,7 +93,8 @@ pub trait Finder<T: Plays> {
     }
 
     /// What the first of the bytes surely do to the rows of a terminal that shows these rows, on which the text stands
-    /// there; where they write, nothing of the text goes at them.
+    /// there; where they write, nothing of the text goes at them, and where they move rows between margins none changes
+    /// before the last of them.
     fn foretells(terminal: &T, text: &[char], still: &Standing, bytes: &[u8]) -> Option<Foretold>
         ensures within { IfSome result (λ foretold. IsWithin foretold (length bytes.now)) }
         ensures foretold { (profile : T.Profile) (before : List ℕ) → T.shows profile terminal.now before

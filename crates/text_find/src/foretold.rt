@@ -8,6 +8,7 @@ ghost use Rattle.standings.specs.Standing.{standing};
 ghost use Rattle.text_find.specs.Calm.{IsPiece, NonePass};
 ghost use Rattle.text_find.specs.Foretold.{HasRoom, IsForetold, IsNarrow, IsWithin, KeepsIn, foretold_rows, taken_by};
 ghost use Rattle.text_find.specs.Lines.{AreBetween, IsLagging};
+ghost use Rattle.text_find.specs.Pieces.{AreQuiet};
 
 use crate::ahead::play;
 use crate::behind::{Steps, trail};
@@ -16,7 +17,7 @@ use crate::lines::none_passes;
 use crate::sides::Sides;
 use arrayvec::ArrayVec;
 use plays::{OutOfMemory, Plays};
-use standings::{Lag, Span, Standing};
+use standings::{Lag, Span, Standing, stays_moved};
 use std::alloc::Global;
 
 /// How many characters are written at once at most.
@@ -32,11 +33,24 @@ pub struct Written {
     pub taken: usize,
 }
 
+/// Rows that move up or down by one: from the one below so many up to and without the one below so many others; a row of
+/// so many spaces comes in; and how many bytes that takes, of which none but the last shows anything.
+#[derive(Clone, Copy, Debug)]
+pub struct Region {
+    pub from: usize,
+    pub to: usize,
+    pub columns: usize,
+    pub down: bool,
+    pub taken: usize,
+}
+
 /// What bytes surely do to the rows of a terminal.
 #[derive(Drop)]
 pub enum Foretold {
     /// The first byte moves all rows up by one, and a row of so many spaces comes in below.
     MovesUp(usize),
+    /// Rows between two margins move up or down by one.
+    MovesWithin(Region),
     /// Characters are written over others.
     Writes(Written),
 }
@@ -48,22 +62,27 @@ impl Foretold {
     {
         match self {
             Foretold::MovesUp(_) => 1,
+            Foretold::MovesWithin(region) => region.taken,
             Foretold::Writes(written) => written.taken,
         }
     }
 
-    /// Whether surely nothing of the text passes at them, where it stands so before: else it is foretold of one byte, and
-    /// the text stands somewhere.
+    /// Whether surely nothing of the text passes at them, where it stands so before: else no row changes before the last of
+    /// them, and the text stands somewhere.
     fn is_calm(&self, still: &Standing) -> bool
         ensures calm { result ≡ true → (text : List ℕ) (screen : List ℕ → List Row) (before bytes : List ℕ)
+            → still.now.rows.items ≡ screen before
             → still.now.places.items ≡ standing text (screen before)
-            → KeepsIn text screen before bytes self.now
+            → IsForetold text screen before bytes self.now
             → (first : List Row) → NonePass text first screen before bytes (taken_by self.now) }
-        ensures one { result ≡ false → taken_by self.now ≡ 1 }
+        ensures quiet { result ≡ false → (text : List ℕ) (screen : List ℕ → List Row) (before bytes : List ℕ)
+            → KeepsIn text screen before bytes self.now
+            → AreQuiet text screen before bytes (taken_by self.now) }
         ensures stands { result ≡ false → still.now.places.items ≢ [] }
     {
         match self {
-            Foretold::MovesUp(_) => still.places.is_empty(),
+            Foretold::MovesUp(_) => stays_moved(still),
+            Foretold::MovesWithin(_) => still.places.is_empty(),
             Foretold::Writes(_) => true,
         }
     }
@@ -146,6 +165,10 @@ fn foresee(still: &mut Standing, foretold: &Foretold, text: &[char]) -> Result<S
 {
     match foretold {
         Foretold::MovesUp(columns) => Ok(still.move_up(*columns, text)?),
+        Foretold::MovesWithin(region) => {
+            let columns = region.columns;
+            Ok(still.move_within(region.from, region.to, columns, region.down, text)?)
+        }
         Foretold::Writes(written) => {
             let letters = written.letters.as_slice();
             Ok(still.write(written.above, written.before, letters, text)?)

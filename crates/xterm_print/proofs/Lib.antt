@@ -11,3 +11,4 @@ mod RunLemmas
 mod PieceLemmas
 mod TrimmedLemmas
 mod MovedLemmas
+mod WithinLemmas

@@ -74,15 +74,15 @@ module _ (paper : Colour) where
     ends : ends_in_space row ≡ true
     ends = space_in (length row - 1) (omega (arith, long, some))
 
-    stays : leaves_last row [] ≡ false
+    stays : (next : List Cell) → leaves_last row next ≡ false
     unfolding leaves_last
-    stays =
+    stays next =
         let second = space_in (length row - 2) (omega (arith, long, some)) in
         rw (ends, second) refl
 
-    kept : kept_cells row [] ≡ row
+    kept : (next : List Cell) → kept_cells row next ≡ row
     unfolding kept_cells
-    kept = rw stays refl
+    kept next = rw (stays next) refl
 
     characters_of : flat_map characters row ≡ replicate columns 32
     unfolding table
@@ -92,22 +92,43 @@ module _ (paper : Colour) where
     unfolding table
     columns_of = columns_in 1 (range_with_len 1 columns) ∙ ap (range_with_len 1) (length-range_with_len 1 columns)
 
-    runs_on : (not (ends_in_space row) || leaves_last row []) ≡ false
-    runs_on = ap₂ (λ a b. not a || b) ends stays
+    runs_on : (next : List Cell) → (not (ends_in_space row) || leaves_last row next) ≡ false
+    runs_on next = ap₂ (λ a b. not a || b) ends (stays next)
 
-    -- it is read as spaces
-    spaces_read : row_read row [] ≡ spaces_row columns
+    -- it is read as spaces, whatever row is next
+    pub spaces_read : (next : List Cell) → row_read row next ≡ spaces_row columns
     unfolding row_read
-    spaces_read =
-        ap (λ cells. record { characters = flat_map characters cells; columns = columns_from 1 cells; runs_on = not (ends_in_space row) || leaves_last row [] }) kept
-        ∙ ap (λ l. record { characters = l; columns = columns_from 1 row; runs_on = not (ends_in_space row) || leaves_last row [] }) characters_of
-        ∙ ap (λ l. record { characters = replicate columns 32; columns = l; runs_on = not (ends_in_space row) || leaves_last row [] }) columns_of
-        ∙ ap (λ b. record { characters = replicate columns 32; columns = range_with_len 1 columns; runs_on = b }) runs_on
+    spaces_read next =
+        ap (λ cells. record { characters = flat_map characters cells; columns = columns_from 1 cells; runs_on = not (ends_in_space row) || leaves_last row next }) (kept next)
+        ∙ ap (λ l. record { characters = l; columns = columns_from 1 row; runs_on = not (ends_in_space row) || leaves_last row next }) characters_of
+        ∙ ap (λ l. record { characters = replicate columns 32; columns = l; runs_on = not (ends_in_space row) || leaves_last row next }) columns_of
+        ∙ ap (λ b. record { characters = replicate columns 32; columns = range_with_len 1 columns; runs_on = b }) (runs_on next)
+
+-- ---- rows that move up
+
+-- the last of the rows that move up is one of spaces, each other one the next
+module _ (columns : ℕ) (rows : List Row) (some : 1 ≤ length rows) where
+  next_long : length (drop 1 rows) + 1 ≡ length rows
+  next_long = omega (arith, length-drop 1 rows, some)
+
+  pub moved_next : (k : ℕ) → k + 1 < length rows → row_below (moved_up columns rows) k ≡ row_below rows (k + 1)
+  moved_next k lt =
+      let there : 1 + k ≡ k + 1 = omega arith in
+      get_or_append_left (drop 1 rows) (spaces_row columns ∷ []) empty_row k (omega (arith, next_long, lt)) ∙ get_or-drop 1 rows k empty_row ∙ ap (row_below rows) there
+
+  pub moved_last : (k : ℕ) → k + 1 ≡ length rows → row_below (moved_up columns rows) k ≡ spaces_row columns
+  moved_last k is =
+      let here : length (drop 1 rows) ≡ k = omega (arith, next_long, is) in
+      let none : k - k ≡ 0 = omega arith in
+      get_or-append_right (drop 1 rows) (spaces_row columns ∷ []) k k empty_row here (omega arith) ∙ ap (λ n. row_below (spaces_row columns ∷ []) n) none
+
+  pub moved_up_long : length (moved_up columns rows) ≡ length rows
+  moved_up_long = length-append (drop 1 rows) (spaces_row columns ∷ []) ∙ next_long
 
 -- ---- all lines
 
 -- the row of a line of a list of so many
-row_in : (n : ℕ) (f : ℕ → List Cell) (k : ℕ) → k < n → row_at (table n f) (k + 1) ≡ f (k + 1)
+pub row_in : (n : ℕ) (f : ℕ → List Cell) (k : ℕ) → k < n → row_at (table n f) (k + 1) ≡ f (k + 1)
 unfolding nth table
 row_in n f k lt =
     let next : 1 + k ≡ k + 1 = omega arith in
@@ -152,30 +173,29 @@ module _ (paper : Colour) (columns lines : ℕ) (rows : List (List Cell)) (wide 
   abbrev was : List Row
   was = rows_read lines rows
 
-  was_long : length (drop 1 was) + 1 ≡ lines
-  was_long = omega (arith, length-drop 1 was, count_read lines rows, some)
+  was_long : length was ≡ lines
+  was_long = count_read lines rows
+
+  some_read : 1 ≤ length was
+  some_read = omega (arith, was_long, some)
 
   moved_count : length (moved_up columns was) ≡ lines
-  moved_count = length-append (drop 1 was) (spaces_row columns ∷ []) ∙ was_long
+  moved_count = moved_up_long columns was some_read ∙ was_long
 
-  -- each row that is read is the next one of before ..
+  -- each row that is read is the next one of before
   up_next : (k : ℕ) → k + 1 < lines → row_below (moved_up columns was) k ≡ row_read (row_at rows (k + 1 + 1)) (row_at rows (k + 1 + 1 + 1))
   up_next k lt =
-      let there : k + 1 + 1 - 1 ≡ 1 + k = omega arith in
-      get_or_append_left (drop 1 was) (spaces_row columns ∷ []) empty_row k (omega (arith, was_long, lt)) ∙ get_or-drop 1 was k empty_row
+      let there : k + 1 + 1 - 1 ≡ k + 1 = omega arith in
+      moved_next columns was some_read k (omega (arith, was_long, lt))
       ∙ ap (row_below was) (sym there) ∙ read_at lines rows (k + 1 + 1) (omega arith) (omega (arith, lt))
 
-  -- .. and the last one has spaces
   up_last : (k : ℕ) → k + 1 ≡ lines → row_below (moved_up columns was) k ≡ spaces_row columns
-  up_last k is =
-      let here : length (drop 1 was) ≡ k = omega (arith, was_long, is) in
-      let none : k - k ≡ 0 = omega arith in
-      get_or-append_right (drop 1 was) (spaces_row columns ∷ []) k k empty_row here (omega arith) ∙ ap (λ n. row_below (spaces_row columns ∷ []) n) none
+  up_last k is = moved_last columns was some_read k (is ∙ sym was_long)
 
   read_last : (k : ℕ) → k + 1 ≡ lines → row_read (row_at moved (k + 1)) (row_at moved (k + 1 + 1)) ≡ spaces_row columns
   read_last k is =
       ap (λ r. row_read r (row_at moved (k + 1 + 1))) (row_last k is) ∙ ap (row_read (blank_row columns paper)) (no_row moved (k + 1) (omega (arith, moved_long, is)))
-      ∙ spaces_read paper columns wide
+      ∙ spaces_read paper columns wide []
 
   pub rows_moved : rows_read lines moved ≡ moved_up columns (rows_read lines rows)
   rows_moved = same_rows (moved_up columns was) (rows_read lines moved) (count_read lines moved ∙ sym moved_count) (λ k lt.
@@ -190,7 +210,7 @@ module _ (paper : Colour) (columns lines : ℕ) (rows : List (List Cell)) (wide 
 
 -- ---- the rows that a finder tells of
 
-nothing : (x : Term) → play x [] ≡ x
+pub nothing : (x : Term) → play x [] ≡ x
 unfolding play
 nothing x = refl
 

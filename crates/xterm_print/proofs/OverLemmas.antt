@@ -18,7 +18,7 @@ use Rattle.xterm_print.specs.Pieces.{IsPlain}
 
 -- ---- elements that are written over others
 
-sets_outside : {X : Type 0} (vs xs : List X) (i j : ℕ) (d : X) → i + length vs ≤ j → get_or (sets xs i vs) j d ≡ get_or xs j d
+pub sets_outside : {X : Type 0} (vs xs : List X) (i j : ℕ) (d : X) → i + length vs ≤ j → get_or (sets xs i vs) j d ≡ get_or xs j d
 sets_outside [] xs i j d past = refl
 sets_outside (v ∷ vs) xs i j d past = sets_outside vs (set xs i v) (suc i) j d (omega arith) ∙ get_or-set_other xs i j v d (λ e. omega arith)
 

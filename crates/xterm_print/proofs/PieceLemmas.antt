@@ -10,7 +10,7 @@ use Rattle.standings.specs.Standing.{standing}
 use Rattle.standings.specs.Written.{rows_written}
 use Rattle.standings.proofs.KeptLemmas.{keeps_same}
 use Rattle.text_find.specs.declared.foretold.Foretold.{Foretold}
-use Rattle.text_find.specs.declared.foretold.Foretold.TheVariants.{MovesUp, Writes}
+use Rattle.text_find.specs.declared.foretold.Foretold.TheVariants.{MovesUp, MovesWithin, Writes}
 use Rattle.text_find.specs.declared.foretold.Written.{Written}
 use Rattle.text_find.specs.Foretold.{HasRoom, IsForetold, KeepsIn, foretold_rows, taken_by}
 use Rattle.text_find.specs.Pieces.{AreQuiet}
@@ -133,6 +133,9 @@ module _ (size_law : SizeStays) (parts : PlaysInParts) (size : Size) (text befor
 
   keep_told : (foretold : Foretold) → KeepsIn text (rows_after begun) [] bytes foretold → KeepsIn text (rows_shown size) before bytes foretold
   keep_told (MovesUp columns) keeps = keeps
+  keep_told (MovesWithin region) keeps = λ count lt.
+      let at = λ (k : ℕ). after_is size_law parts size before (take k bytes) in
+      at count ∙ keeps count lt ∙ sym (at 0)
   keep_told (Writes written) keeps = λ count lt. keeps_told count (count + 1) (keeps count lt)
 
   pub foretold_told : (foretold : Foretold) → IsForetold text (rows_after begun) [] bytes foretold → IsForetold text (rows_shown size) before bytes foretold

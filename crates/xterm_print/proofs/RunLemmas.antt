@@ -117,7 +117,7 @@ read_with lines at row rows count low high above k apart =
     ]
 
 -- letters over plain cells are written over as many characters of the row
-over_written : (rows : List (List Cell)) (lines at before : ℕ) (letters : List ℕ) (cells : List Cell) → length rows ≡ lines → 1 ≤ at → at ≤ lines
+pub over_written : (rows : List (List Cell)) (lines at before : ℕ) (letters : List ℕ) (cells : List Cell) → length rows ≡ lines → 1 ≤ at → at ≤ lines
     → IsOver (row_at rows at) before (length letters) → AreLetters letters cells
     → rows_read lines (with_row at (sets (row_at rows at) before cells) rows) ≡ rows_written (at - 1) (length (left (row_at rows at) before)) letters (rows_read lines rows)
 over_written rows lines at before letters cells count low high over these =

@@ -99,7 +99,7 @@ fn next_unlike(screen: &Screen, line: u16) -> u16
 }
 
 /// Whether how a row is read depends on the next one.
-fn heeds_next(cells: &[Cell]) -> bool
+pub(crate) fn heeds_next(cells: &[Cell]) -> bool
     ensures { result ≡ heeds_next cells.now }
 {
     ends_in_space(cells) && !is_space(cell_behind(cells, cells.len().saturating_sub(2)))

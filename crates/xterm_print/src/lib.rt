@@ -12,6 +12,7 @@ mod rows;
 mod runs;
 mod same;
 mod seeking;
+mod within;
 
 pub use change_lines::changes;
 pub use chunk_walk::WalkFault;

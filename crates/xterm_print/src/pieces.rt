@@ -18,6 +18,7 @@ ghost use Rattle.xterm_print.specs.FindRows.{row_read};
 ghost use Rattle.xterm_print.specs.Pieces.{IsQuiet, NoneBetween, StaysOn, WritesOver, left_of_cursor, rows_after, rows_behind};
 
 use crate::runs::{Run, run_over};
+use crate::within::moved_within;
 use sheet::Cell;
 use sheet::limits::MOST_COLUMNS;
 use standings::{Row, Standing, ends_before};
@@ -117,13 +118,16 @@ pub(crate) fn foretold(
         → still.now.places.items ≡ standing text.now (rows_behind x [] 0)
         → IfSome result (λ foretold. IsForetold text.now (rows_after x) [] bytes.now foretold) }
 {
-    match moved_up(terminal, bytes) {
-        Some(columns) => Some(Foretold::MovesUp(columns)),
-        None => match written(terminal, text, still, bytes) {
-            Some(written) => Some(Foretold::Writes(written)),
-            None => None,
-        },
+    if let Some(columns) = moved_up(terminal, bytes) {
+        return Some(Foretold::MovesUp(columns));
     }
+    if let Some(region) = moved_within(terminal, bytes) {
+        return Some(Foretold::MovesWithin(region));
+    }
+    if let Some(run) = written(terminal, text, still, bytes) {
+        return Some(Foretold::Writes(run));
+    }
+    None
 }
 
 /// Which of the bytes go over plain cells, and take nothing of the text away, if there are any.

@@ -106,10 +106,10 @@ pub record IsAtFoot (seen : Seen) : Type 0 where
   pub line : seen.console.picture.line ≡ seen.console.picture.lines
 
 -- LF, VT and FF are line feeds, and controls that have an effect
-line_feed_named : (byte : ℕ) → is_within 10 12 byte ≡ true → named controls byte ≡ Some Lf
+pub line_feed_named : (byte : ℕ) → is_within 10 12 byte ≡ true → named controls byte ≡ Some Lf
 line_feed_named byte is = grind (arith, nat_tests)
 
-line_feed_within : (byte : ℕ) → is_within 10 12 byte ≡ true → is_within 8 15 byte ≡ true
+pub line_feed_within : (byte : ℕ) → is_within 10 12 byte ≡ true → is_within 8 15 byte ≡ true
 line_feed_within byte is = grind (arith, nat_tests)
 
 -- at the bottom margin an index moves the region up
@@ -118,7 +118,7 @@ index_raises : (paper : Colour) (p : Picture) → p.line ≡ p.bottom
 index_raises paper p same = let is : nat_eq p.line p.bottom ≡ true = grind (arith, nat_tests) in simp is
 
 -- so does a line feed, which goes to column 1 first or not
-feed_raises : (newline : Bool) (paper : Colour) (p : Picture) → p.line ≡ p.bottom
+pub feed_raises : (newline : Bool) (paper : Colour) (p : Picture) → p.line ≡ p.bottom
     → (line_fed newline paper p).rows ≡ scrolled_up 1 p.top p.bottom (blank_row p.columns paper) p.rows
 feed_raises true paper p same = index_raises paper (moved_to_left p) same
 feed_raises false paper p same = index_raises paper p same

@@ -17,3 +17,4 @@ pub mod Sizes
 pub mod Rowless
 pub mod Ahead
 pub mod Styled
+pub mod Moving

@@ -100,7 +100,7 @@ no_control byte is = grind (arith, nat_tests)
 no_upper : (sequence : List ℕ) (byte : ℕ) → is_ground sequence ≡ false → (is_ground sequence && nat_le 128 byte) ≡ false
 no_upper sequence byte pending = simp pending
 
-read_here : (s : Console) (sequence : List ℕ) (byte : ℕ) → s.title ≡ false → (is_ground sequence && nat_le 128 byte) ≡ false
+pub read_here : (s : Console) (sequence : List ℕ) (byte : ℕ) → s.title ≡ false → (is_ground sequence && nat_le 128 byte) ≡ false
     → outcome_of s sequence [] byte ≡ syntax_read s sequence byte
 read_here s sequence byte title low = sym (other s sequence byte title low ∙ first s sequence [] byte refl)
 
@@ -147,7 +147,7 @@ low_escape : (b : Bool) → (b && nat_le 128 escape) ≡ false
 low_escape true = refl
 low_escape false = refl
 
-begun : (s : Console) (sequence reports : List ℕ) → s.title ≡ false
+pub begun : (s : Console) (sequence reports : List ℕ) → s.title ≡ false
     → (step (behind s sequence reports) escape ≡ behind s (escape ∷ []) reports) × (reply_to (behind s sequence reports) escape ≡ [])
 begun s sequence reports title =
     let read = read_here s sequence escape title (low_escape (is_ground sequence)) in

@@ -1,15 +1,17 @@
 -- What bytes will show, told before they are played.
-use Rattle.std.specs.Prelude.{◌≡◌, ℕ, ◌+◌, ◌≤◌, ◌==◌, true, if◌then◌else◌, List, [], ◌∷◌, ◌++◌, length, Option, Some, None}
+use Rattle.std.specs.Prelude.{◌≡◌, ℕ, ◌+◌, ◌<◌, ◌≤◌, ◌==◌, Bool, true, false, if◌then◌else◌, List, [], ◌∷◌, ◌++◌, length, take, Option, Some, None}
 use Rattle.std.specs.List.{list_all}
 use Rattle.std.specs.Option.{option_and_then, option_map_or}
+use Rattle.vt_parser.specs.declared.states.ParserState.TheVariants.{Ground}
 use Rattle.vt_parser.specs.Syntax.{escape, is_graphic, is_within}
 use Rattle.vt_parser.specs.Forms.{bracket}
 use Rattle.sheet.specs.declared.rendition.Rendition.{Rendition}
 use Rattle.sheet.specs.Edits.{run_put}
-use Rattle.sheet.specs.Grid.{blank_row, row_at, scrolled_up, with_row}
+use Rattle.sheet.specs.Grid.{blank_row, row_at, scrolled_down, scrolled_up, with_row}
 use Rattle.xterm_screen.specs.Picture.{Picture}
 use Rattle.xterm_term.specs.declared.terminal.styling.Styling.{Styling}
 use Rattle.xterm_term.specs.declared.terminal.styling.Styling.TheVariants.{Letters, Escape, Parameters}
+use Rattle.xterm_term.specs.Seen.{Seen}
 use Rattle.xterm_term.specs.Term.{Term, play}
 
 -- the picture with these characters of width 1, one behind the other from the cursor on, and the cursor behind them
@@ -76,3 +78,29 @@ WritesStyled x =
     (bytes : List ℕ) (styling : Styling) → styling_behind Letters bytes ≡ Some styling
     → x.console.picture.column + length (letters_from Letters bytes) ≤ x.console.picture.columns
     → IsSpelled (letters_from Letters bytes) x.console.picture (play x bytes).console.picture
+
+-- ---- lines that move between margins
+
+-- At the last of these bytes the lines from one to another move up or down by one, and one comes in that is blank in the
+-- paper of the current rendition; nothing shows before it (ECMA-48 8.3.32, 8.3.67; EK-VT100-UG chapter 3; xterm).
+pub record MovesWithin (x : Term) (bytes : List ℕ) (top bottom : ℕ) (down : Bool) : Type 0 where
+  pub low : 1 ≤ top
+  pub order : top ≤ bottom
+  pub high : bottom ≤ x.console.picture.lines
+  pub before : (count : ℕ) → count < length bytes → (play x (take count bytes)).console.picture ≡ x.console.picture
+  pub rows : (play x bytes).console.picture.rows ≡ (
+      if down
+      then scrolled_down 1 top bottom (blank_row x.console.picture.columns x.console.rendition.paper) x.console.picture.rows
+      else scrolled_up 1 top bottom (blank_row x.console.picture.columns x.console.rendition.paper) x.console.picture.rows)
+
+-- Private: nothing is pending and no title is read, the cursor is on this line, and these are the margins
+pub record IsPlace (seen : Seen) (line top bottom : ℕ) : Type 0 where
+  pub title : seen.console.title ≡ false
+  pub state : seen.state ≡ Ground
+  pub character : seen.character ≡ []
+  pub line_is : seen.console.picture.line ≡ line
+  pub top_is : seen.console.picture.top ≡ top
+  pub bottom_is : seen.console.picture.bottom ≡ bottom
+  pub low : 1 ≤ top
+  pub order : top ≤ bottom
+  pub high : bottom ≤ seen.console.picture.lines

@@ -6,6 +6,7 @@ ghost use Rattle.characters.specs.Utf8.{Spells, bytes_of};
 ghost use Rattle.xterm_term.specs.Reading.{GoesOn};
 
 mod ahead;
+mod moving;
 mod packed;
 mod styling;
 
@@ -14,6 +15,7 @@ use crate::console::Console;
 use crate::reading::{ESC, is_effective, is_graphic, is_ground_state, is_open, read_byte};
 use crate::{Modes, OutOfMemory, Reports, Saved, Sets, Size};
 use characters::{Begun, Decoder, character_at};
+pub use moving::MovedLines;
 pub use packed::PackedTerminal;
 use sheet::Rendition;
 use std::alloc::{AllocError, Global};

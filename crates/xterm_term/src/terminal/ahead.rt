@@ -14,7 +14,7 @@ use vt_parser::waiting_run;
 
 // A line feed: LF, VT or FF.
 #[inline]
-fn is_line_feed(byte: u8) -> bool
+pub fn is_line_feed(byte: u8) -> bool
     ensures { result ≡ is_within 10 12 byte }
 {
     matches!(byte, 10..=12)

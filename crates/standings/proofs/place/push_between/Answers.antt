@@ -1,5 +1,4 @@
-use Rattle.std.proofs.Common.{◌≡◌, ◌+◌, ◌-◌, ◌++◌, ◌∙◌, ap, append_assoc, append-nil, arith, length, sym}
-use Rattle.std.proofs.lemmas.List.{length-append}
+use Rattle.std.proofs.Common.{◌≡◌, ◌+◌, ◌-◌, ◌++◌, ◌∙◌, ap, append_assoc, arith, sym}
 use Rattle.standings.specs.Spans.{places_along}
 use Rattle.standings.proofs.SpanLemmas.{places_of}
 use Rattle.standings.proofs.PlaceLemmas.{along_more}

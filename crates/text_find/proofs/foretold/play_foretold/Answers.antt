@@ -4,7 +4,6 @@ use Rattle.text_find.specs.Foretold.{taken_by}
 use Rattle.text_find.specs.Lines.{AreBetween, IsStill}
 use Rattle.text_find.specs.Pieces.{AreQuiet}
 use Rattle.text_find.proofs.CalmLemmas.{quiet_calm, stood_before}
-use Rattle.text_find.proofs.QuietLemmas.{one_quiet}
 use Rattle.text_find.proofs.foretold.play_foretold.Goals as goal
 use Rattle.text_find.proofs.foretold.play_foretold.Goals.{then-surely, else-surely}
 
@@ -38,11 +37,10 @@ returns-clause-piece g c =
           elim c.if-surely.branch [
             | then-surely w ↦
                 subst (NonePass text (screen first) screen before bytes) (sym count)
-                (c.is_calm-surely.ensures.calm w.if-surely.true text screen before bytes are.after.places told.keeps (screen first))
+                (c.is_calm-surely.ensures.calm w.if-surely.true text screen before bytes are.after.rows are.after.places told (screen first))
             | else-surely w ↦
-                let one : taken ≡ 1 = count ∙ c.is_calm-surely.ensures.one w.if-surely.false in
                 quiet_calm text (screen first) screen before bytes taken ends.before c.change.new.steps.sides.before ends.after
-                (subst (AreQuiet text screen before bytes) (sym one) (one_quiet text screen before bytes)) still.before
+                (subst (AreQuiet text screen before bytes) (sym count) (c.is_calm-surely.ensures.quiet w.if-surely.false text screen before bytes told.keeps)) still.before
                 (subst (λ sides. IsStill text (screen before) sides.before) (sym c.change.ensures.sides)
                 (stood_before text (screen before) c.args.ends.now c.args.steps.now (c.is_calm-surely.ensures.stands w.if-surely.false) are.after trails)) still.after
                 (w.none_passes-calm.ensures (sym w.calm-is ∙ calm))
