@@ -9,6 +9,7 @@ mod PlaceLemmas
 mod StylingLemmas
 mod RunLemmas
 mod PieceLemmas
+mod ErasedLemmas
 mod TrimmedLemmas
 mod MovedLemmas
 mod WithinLemmas

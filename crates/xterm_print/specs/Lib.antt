@@ -6,5 +6,6 @@ pub mod ChangeLines
 pub mod Kept
 pub mod FindRows
 pub mod Pieces
+pub mod Erased
 pub mod FindLines
 pub mod Same

@@ -2,6 +2,7 @@
 #![tactic(auto)]
 
 mod change_lines;
+mod erased;
 mod find_lines;
 mod find_rows;
 mod kept;

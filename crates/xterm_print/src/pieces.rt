@@ -17,6 +17,7 @@ ghost use Rattle.text_find.specs.declared.foretold.Foretold.TheVariants.{Writes}
 ghost use Rattle.xterm_print.specs.FindRows.{row_read};
 ghost use Rattle.xterm_print.specs.Pieces.{IsQuiet, NoneBetween, StaysOn, WritesOver, left_of_cursor, rows_after, rows_behind};
 
+use crate::erased::erased;
 use crate::runs::{Run, run_over};
 use crate::within::moved_within;
 use sheet::Cell;
@@ -127,7 +128,7 @@ pub(crate) fn foretold(
     if let Some(run) = written(terminal, text, still, bytes) {
         return Some(Foretold::Writes(run));
     }
-    None
+    Some(Foretold::Writes(erased(terminal, text, still, bytes)?))
 }
 
 /// Which of the bytes go over plain cells, and take nothing of the text away, if there are any.
@@ -162,7 +163,7 @@ fn may_run(terminal: &Terminal, bytes: &[u8]) -> bool
 
 /// Whether a text of so many characters ends left of the cursor, or in a row above, wherever it stands but in the rows
 /// below.
-fn ends_left(terminal: &Terminal, len: usize, still: &Standing) -> bool
+pub(crate) fn ends_left(terminal: &Terminal, len: usize, still: &Standing) -> bool
     ensures { result ≡ true → (x : Term) → Shows terminal.now x
         → still.now.rows.items ≡ rows_behind x [] 0
         → EndBy len still.now.rows.items still.now.places.items
@@ -176,7 +177,7 @@ fn ends_left(terminal: &Terminal, len: usize, still: &Standing) -> bool
 }
 
 /// How many rows are above the cursor's, and how many characters left of it, on a terminal that shows these rows.
-fn cursor_place(terminal: &Terminal, still: &Standing) -> (usize, usize)
+pub(crate) fn cursor_place(terminal: &Terminal, still: &Standing) -> (usize, usize)
     ensures above { (x : Term) → Shows terminal.now x → result.0 ≡ x.console.picture.line - 1 }
     ensures before { (x : Term) → Shows terminal.now x
         → still.now.rows.items ≡ rows_behind x [] 0

@@ -18,3 +18,4 @@ pub mod Rowless
 pub mod Ahead
 pub mod Styled
 pub mod Moving
+pub mod Erases

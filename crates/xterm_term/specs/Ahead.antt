@@ -1,5 +1,5 @@
 -- What bytes will show, told before they are played.
-use Rattle.std.specs.Prelude.{◌≡◌, ℕ, ◌+◌, ◌<◌, ◌≤◌, ◌==◌, Bool, true, false, if◌then◌else◌, List, [], ◌∷◌, ◌++◌, length, take, Option, Some, None}
+use Rattle.std.specs.Prelude.{◌≡◌, ◌⊎◌, ℕ, ◌+◌, ◌<◌, ◌≤◌, ◌==◌, Bool, true, false, if◌then◌else◌, List, [], ◌∷◌, ◌++◌, length, take, Option, Some, None}
 use Rattle.std.specs.List.{list_all}
 use Rattle.std.specs.Option.{option_and_then, option_map_or}
 use Rattle.vt_parser.specs.declared.states.ParserState.TheVariants.{Ground}
@@ -8,6 +8,7 @@ use Rattle.vt_parser.specs.Forms.{bracket}
 use Rattle.sheet.specs.declared.rendition.Rendition.{Rendition}
 use Rattle.sheet.specs.Edits.{run_put}
 use Rattle.sheet.specs.Grid.{blank_row, row_at, scrolled_down, scrolled_up, with_row}
+use Rattle.xterm_screen.specs.Erasures.{columns_erased}
 use Rattle.xterm_screen.specs.Picture.{Picture}
 use Rattle.xterm_term.specs.declared.terminal.styling.Styling.{Styling}
 use Rattle.xterm_term.specs.declared.terminal.styling.Styling.TheVariants.{Letters, Escape, Parameters}
@@ -33,6 +34,17 @@ abbrev pub MovesUp : Term → ℕ → Type 0
 MovesUp x byte =
     (play x (byte ∷ [])).console.picture.rows
     ≡ scrolled_up 1 1 x.console.picture.lines (blank_row x.console.picture.columns x.console.rendition.paper) x.console.picture.rows
+
+-- these bytes erase the cursor's row from the cursor on, and show nothing before the last of them (ECMA-48 8.3.41)
+pub record ErasesRight (x : Term) (bytes : List ℕ) : Type 0 where
+  pub before : (count : ℕ) → count < length bytes → (play x (take count bytes)).console.picture ≡ x.console.picture
+  pub rows :
+      (play x bytes).console.picture.rows
+      ≡ (columns_erased x.console.picture.column x.console.picture.columns x.console.rendition.paper x.console.picture).rows
+
+-- Private: EL without a parameter, or with 0
+abbrev pub IsErasing : List ℕ → Type 0
+IsErasing bytes = (bytes ≡ escape ∷ bracket ∷ 75 ∷ []) ⊎ (bytes ≡ escape ∷ bracket ∷ 48 ∷ 75 ∷ [])
 
 -- ---- characters with sequences between them
 

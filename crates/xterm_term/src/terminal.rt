@@ -6,6 +6,7 @@ ghost use Rattle.characters.specs.Utf8.{Spells, bytes_of};
 ghost use Rattle.xterm_term.specs.Reading.{GoesOn};
 
 mod ahead;
+mod erases;
 mod moving;
 mod packed;
 mod styling;
