@@ -1,6 +1,6 @@
 -- Bytes that come before the end of a sequence: nothing changes on the screen.
-use Rattle.std.proofs.Common.{◌≡◌, ℕ, zero, suc, ◌+◌, ◌<◌, ◌≤◌, List, [], ◌∷◌, ◌++◌, append-nil, length, take, ap, ap₂, refl, subst, sym, ◌∙◌, arith}
-use Rattle.std.specs.Prelude.{Option, None, Some}
+use Rattle.std.proofs.Common.{◌≡◌, ℕ, zero, suc, ◌+◌, ◌<◌, ◌≤◌, List, [], ◌∷◌, ◌++◌, length, take, ap, ap₂, refl, subst, sym, ◌∙◌, arith}
+use Rattle.std.specs.Prelude.{Option, None}
 use Rattle.std.proofs.lemmas.List.{take-take}
 use Rattle.vt_parser.specs.declared.commands.Command.{Command}
 use Rattle.vt_parser.specs.declared.commands.Mode.{Mode}
@@ -11,7 +11,6 @@ use Rattle.vt_term.specs.Console.{Console, effect_of}
 use Rattle.vt_term.specs.Effect.{effect, reply}
 use Rattle.vt_term.specs.Replies.{reply_of}
 use Rattle.vt_term.specs.Term.{Term, mode_of, play, reply_to, sent, step}
-use Rattle.screen_print.specs.ByLine.{row_on}
 use Rattle.screen_print.specs.EachByte.{still_within}
 use Rattle.screen_print.specs.Fresh.{IsWaiting, Keeps}
 use Rattle.screen_print.specs.Stills.{Still, still_of}

@@ -14,3 +14,4 @@ pub mod EachByte
 pub mod ByLine
 pub mod Skim
 pub mod Fresh
+pub mod Kept

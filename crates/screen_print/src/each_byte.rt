@@ -45,6 +45,7 @@ ghost use Rattle.screen_print.specs.EachByte.{
 };
 ghost use Rattle.screen_print.specs.ByLine.{DifferIn};
 ghost use Rattle.screen_print.specs.FindLines.{found_line, less_lines, standing};
+ghost use Rattle.screen_print.specs.Kept.{AreAlike, IsCurrent, IsKeptOf, IsLike};
 ghost use Rattle.screen_print.specs.Places.{IsPlace};
 ghost use Rattle.screen_print.specs.Skim.{AreKeysOf, IsKeyed, IsLacked, IsPart, NowhereIn, ScreenLacks};
 ghost use Rattle.screen_print.specs.Start.{IsStart};
@@ -58,6 +59,7 @@ use crate::fresh::play_quietly;
 use crate::key::{Key, Keys};
 use crate::laws::nowhere_means_nowhere;
 use crate::quiet::stays;
+use crate::seen::{is_vain, place_seen, stands_still};
 use crate::silent::play_all;
 use crate::skim::skim_some;
 use crate::standing::{Place, standing};
@@ -270,6 +272,28 @@ struct Stills {
     after: Still,
 }
 
+/// What is kept from chunk to chunk: stills that are alike, and a second terminal. Where it is current they are of the
+/// first terminal, and the second one shows the same.
+#[derive(Drop)]
+struct Kept {
+    terminal: Terminal,
+    first: Still,
+    last: Still,
+    stills: Stills,
+    current: bool,
+    /// Where the text stood at the last look.
+    seen: Place,
+}
+
+/// A chunk that was played: what stands before it and behind it, the lines in which they differ, and the terminal then.
+#[derive(Drop)]
+struct Played<'a> {
+    first: &'a Still,
+    last: &'a Still,
+    lines: &'a [u8],
+    terminal: &'a Terminal,
+}
+
 /// The same by how the text begins, and by its keys.
 fn put_each<W: Write>(
     recording: &Recording,
@@ -294,29 +318,34 @@ fn put_each<W: Write>(
 {
     gives_join::<W>();
     gives_end::<W>();
-    let mut kept = Terminal::reset();
-    let mut stills = Stills {
-        before: Still::of(terminal),
-        after: Still::of(terminal),
-    };
+    let mut kept = kept_of(terminal);
     let mut known = None;
     for index in start..end {
         known = put_chunk_at(
-            recording,
-            index,
-            text,
-            begins,
-            keys,
-            known,
-            terminal,
-            &mut kept,
-            &mut stills,
-            scratch,
-            writer,
+            recording, index, text, begins, keys, known, terminal, &mut kept, scratch, writer,
         );
         if writer.failed() {
             return;
         }
+    }
+}
+
+/// What is kept of a terminal.
+fn kept_of(terminal: &Terminal) -> Kept
+    ensures { IsKeptOf terminal.now result }
+{
+    let mut second = Terminal::reset();
+    second.copy_from(terminal);
+    Kept {
+        terminal: second,
+        first: Still::of(terminal),
+        last: Still::of(terminal),
+        stills: Stills {
+            before: Still::of(terminal),
+            after: Still::of(terminal),
+        },
+        current: true,
+        seen: Place::default(),
     }
 }
 
@@ -330,8 +359,7 @@ fn put_chunk_at<'k, 'a, W: Write>(
     keys: &'k Keys<'a>,
     known: Option<&'k Key<'a>>,
     terminal: &mut Terminal,
-    kept: &mut Terminal,
-    stills: &mut Stills,
+    kept: &mut Kept,
     scratch: &mut Reports,
     writer: &mut Watched<W>,
 ) -> Option<&'k Key<'a>>
@@ -339,6 +367,7 @@ fn put_chunk_at<'k, 'a, W: Write>(
     requires keys { AreKeysOf text.now keys.now }
     requires known { IfSome known (λ key. IsLacked text.now key.now terminal.old.console.picture) }
     requires within { index < length recording.now.chunks }
+    requires kept { IsKeptOf terminal.old kept.old }
     requires scratch { SCRATCH ≤ length scratch.old.bytes }
     ensures gave { (profile : Profile) → Shows terminal.old (up_to profile recording.now.chunks index)
         → Gave W.contents writer.old writer.new
@@ -346,6 +375,7 @@ fn put_chunk_at<'k, 'a, W: Write>(
     ensures shows { (profile : Profile) → Shows terminal.old (up_to profile recording.now.chunks index)
         → Shows terminal.new (up_to profile recording.now.chunks (index + 1)) }
     ensures known { IfSome result (λ key. IsLacked text.now key.now terminal.new.console.picture) }
+    ensures kept { IsKeptOf terminal.new kept.new }
     ensures scratch { SCRATCH ≤ length scratch.new.bytes }
 {
     first_grows_by_a_chunk();
@@ -357,12 +387,11 @@ fn put_chunk_at<'k, 'a, W: Write>(
     };
     let bytes = recording.chunks()[index].bytes.as_slice();
     put_or_pass(
-        text, start, &chunk, bytes, keys, known, terminal, kept, stills, scratch, writer,
+        text, start, &chunk, bytes, keys, known, terminal, kept, scratch, writer,
     )
 }
 
-/// The same of a chunk's bytes: where keys tell that the text stands nowhere, there are no lines. Else the terminal
-/// takes them once more, from where it stood.
+/// The same of a chunk's bytes: where keys tell that the text stands nowhere, there are no lines.
 fn put_or_pass<'k, 'a, W: Write>(
     text: &[char],
     start: &Start,
@@ -371,8 +400,7 @@ fn put_or_pass<'k, 'a, W: Write>(
     keys: &'k Keys<'a>,
     known: Option<&'k Key<'a>>,
     terminal: &mut Terminal,
-    kept: &mut Terminal,
-    stills: &mut Stills,
+    kept: &mut Kept,
     scratch: &mut Reports,
     writer: &mut Watched<W>,
 ) -> Option<&'k Key<'a>>
@@ -380,38 +408,104 @@ fn put_or_pass<'k, 'a, W: Write>(
     requires start { IsStart text.now start.now }
     requires keys { AreKeysOf text.now keys.now }
     requires known { IfSome known (λ key. IsLacked text.now key.now terminal.old.console.picture) }
+    requires kept { IsKeptOf terminal.old kept.old }
     requires scratch { SCRATCH ≤ length scratch.old.bytes }
     ensures gave { (x : Term) → Shows terminal.old x → Gave W.contents writer.old writer.new
         (chunk_lines text.now chunk.now.index chunk.now.due x bytes.now) }
     ensures shows { (x : Term) → Shows terminal.old x
         → Shows terminal.new (play x bytes.now) }
     ensures known { IfSome result (λ key. IsLacked text.now key.now terminal.new.console.picture) }
+    ensures kept { IsKeptOf terminal.new kept.new }
     ensures scratch { SCRATCH ≤ length scratch.new.bytes }
 {
     gives_join::<W>();
-    kept.copy_from(terminal);
-    if let Some(key) = passes(text, keys, known, bytes, terminal, scratch) {
+    let first = known_or_found(text, start, keys, known, &mut kept.seen, terminal);
+    follow_terminal(kept, terminal);
+    if let Some(key) = pass_or_stay(text, keys, first, bytes, terminal, &kept.terminal, scratch) {
+        kept.current = false;
         return Some(key);
     }
-    terminal.copy_from(kept);
-    put_chunk(
-        text, start, chunk, bytes, terminal, kept, stills, scratch, writer,
-    );
+    follow_stills(kept, terminal);
+    put_next(text, start, chunk, bytes, terminal, kept, scratch, writer);
     None
 }
 
+/// The second terminal becomes like the first one, if it isn't yet.
+fn follow_terminal(kept: &mut Kept, terminal: &Terminal)
+    requires { IsKeptOf terminal.now kept.old }
+    ensures kept { IsKeptOf terminal.now kept.new }
+    ensures like { IsLike terminal.now kept.new.terminal }
+{
+    if !kept.current {
+        kept.terminal.copy_from(terminal);
+    }
+}
+
+/// The stills become those of the terminal, and what is kept is current.
+fn follow_stills(kept: &mut Kept, terminal: &Terminal)
+    requires kept { IsKeptOf terminal.now kept.old }
+    requires like { IsLike terminal.now kept.old.terminal }
+    ensures alike { AreAlike kept.new }
+    ensures current { IsCurrent terminal.now kept.new }
+{
+    if kept.current {
+        return;
+    }
+    let changed = kept.first.lines_unlike(terminal);
+    let lines = changed.as_slice();
+    kept.first.catch_up(terminal, lines);
+    kept.last.catch_up(terminal, lines);
+    kept.stills.before.catch_up(terminal, lines);
+    kept.stills.after.catch_up(terminal, lines);
+    kept.current = true;
+}
+
 /// Plays a chunk, and answers a key that the screen lacks then, where keys show that the text stands nowhere before it and
-/// after each of its bytes. Where they don't, the terminal is some terminal.
+/// after each of its bytes. Where they don't, or none is lacked before it, the terminal shows what it showed, as does the
+/// one that is kept.
+fn pass_or_stay<'k, 'a>(
+    text: &[char],
+    keys: &'k Keys<'a>,
+    first: Option<&'k Key<'a>>,
+    bytes: &[u8],
+    terminal: &mut Terminal,
+    kept: &Terminal,
+    scratch: &mut Reports,
+) -> Option<&'k Key<'a>>
+    requires keys { AreKeysOf text.now keys.now }
+    requires first { IfSome first (λ key. IsLacked text.now key.now terminal.old.console.picture) }
+    requires like { IsLike terminal.old kept.now }
+    requires scratch { SCRATCH ≤ length scratch.old.bytes }
+    ensures nowhere { IfSome result (λ _. (x : Term) → Shows terminal.old x
+        → NowhereIn text.now x bytes.now) }
+    ensures shows { IfSome result (λ _. (x : Term) → Shows terminal.old x
+        → Shows terminal.new (play x bytes.now)) }
+    ensures known { IfSome result (λ key. IsLacked text.now key.now terminal.new.console.picture) }
+    ensures stays { result ≡ None → IsLike terminal.old terminal.new }
+    ensures scratch { SCRATCH ≤ length scratch.new.bytes }
+{
+    let Some(key) = first else {
+        return None;
+    };
+    if let Some(next) = passes(text, keys, key, bytes, terminal, scratch) {
+        return Some(next);
+    }
+    terminal.copy_from(kept);
+    None
+}
+
+/// Plays a chunk before which the screen lacks a key, and answers one that it lacks then, where keys show that it lacks one
+/// after each of the bytes. Where they don't, the terminal is some terminal.
 fn passes<'k, 'a>(
     text: &[char],
     keys: &'k Keys<'a>,
-    known: Option<&'k Key<'a>>,
+    first: &'k Key<'a>,
     bytes: &[u8],
     terminal: &mut Terminal,
     scratch: &mut Reports,
 ) -> Option<&'k Key<'a>>
     requires keys { AreKeysOf text.now keys.now }
-    requires known { IfSome known (λ key. IsLacked text.now key.now terminal.old.console.picture) }
+    requires first { IsLacked text.now first.now terminal.old.console.picture }
     requires scratch { SCRATCH ≤ length scratch.old.bytes }
     ensures nowhere { IfSome result (λ _. (x : Term) → Shows terminal.old x
         → NowhereIn text.now x bytes.now) }
@@ -421,7 +515,7 @@ fn passes<'k, 'a>(
     ensures scratch { SCRATCH ≤ length scratch.new.bytes }
 {
     plays_in_parts();
-    let mut current = known_or_found(text, keys, known, terminal);
+    let mut current = Some(first);
     let mut done = 0;
     while done < bytes.len() {
         let Some(key) = current else {
@@ -437,8 +531,10 @@ fn passes<'k, 'a>(
 /// The key that the screen of a terminal is known to lack, or else one that it is seen to lack.
 fn known_or_found<'k, 'a>(
     text: &[char],
+    start: &Start,
     keys: &'k Keys<'a>,
     known: Option<&'k Key<'a>>,
+    seen: &mut Place,
     terminal: &Terminal,
 ) -> Option<&'k Key<'a>>
     requires keys { AreKeysOf text.now keys.now }
@@ -447,8 +543,31 @@ fn known_or_found<'k, 'a>(
 {
     match known {
         Some(_) => known,
-        None => keys.lacked_by(text, terminal),
+        None => found_lacked(text, start, keys, seen, terminal),
     }
+}
+
+/// A key that the screen of a terminal is seen to lack. Where the text stands still none is looked for.
+fn found_lacked<'k, 'a>(
+    text: &[char],
+    start: &Start,
+    keys: &'k Keys<'a>,
+    seen: &mut Place,
+    terminal: &Terminal,
+) -> Option<&'k Key<'a>>
+    requires { AreKeysOf text.now keys.now }
+    ensures { IfSome result (λ key. IsLacked text.now key.now terminal.now.console.picture) }
+{
+    if stands_still(text, terminal, seen) {
+        return None;
+    }
+    let found = keys.lacked_by(text, terminal);
+    if found.is_some() {
+        *seen = Place::default();
+    } else if !is_vain(*seen) {
+        *seen = place_seen(text, start, terminal);
+    }
+    found
 }
 
 /// A key, where the screen of a terminal surely lacks it, or else one that it is seen to lack.
@@ -471,51 +590,105 @@ fn kept_or_found<'k, 'a>(
     keys.lacked_by(text, terminal)
 }
 
-/// Plays a chunk, and writes what went, what came and went inside it, and what came. Lines of what went stand
-/// before all others, so a chunk is played twice, first by a terminal that is equal.
-fn put_chunk<W: Write>(
+/// Plays a chunk by what is kept, which is current, and writes its lines. Those of what went stand before all others, so
+/// it is played twice, first by the second terminal.
+fn put_next<W: Write>(
     text: &[char],
     start: &Start,
     chunk: &Chunk,
     bytes: &[u8],
     terminal: &mut Terminal,
-    equal: &mut Terminal,
-    stills: &mut Stills,
+    kept: &mut Kept,
     scratch: &mut Reports,
     writer: &mut Watched<W>,
 )
     requires len { chunk.now.len ≡ length text.now }
     requires start { IsStart text.now start.now }
-    requires equal { equal.old ≡ terminal.old }
+    requires alike { AreAlike kept.old }
+    requires current { IsCurrent terminal.old kept.old }
     requires scratch { SCRATCH ≤ length scratch.old.bytes }
     ensures gave { (x : Term) → Shows terminal.old x → Gave W.contents writer.old writer.new
         (chunk_lines text.now chunk.now.index chunk.now.due x bytes.now) }
     ensures shows { (x : Term) → Shows terminal.old x
         → Shows terminal.new (play x bytes.now) }
+    ensures alike { AreAlike kept.new }
+    ensures current { IsCurrent terminal.new kept.new }
+    ensures scratch { SCRATCH ≤ length scratch.new.bytes }
+{
+    let _screen = terminal.screen();
+    play_all(&mut kept.terminal, bytes, scratch);
+    let changed = kept.first.lines_unlike(&kept.terminal);
+    let lines = changed.as_slice();
+    kept.last.catch_up(&kept.terminal, lines);
+    let played = Played {
+        first: &kept.first,
+        last: &kept.last,
+        lines,
+        terminal: &kept.terminal,
+    };
+    put_chunk(
+        text,
+        start,
+        chunk,
+        bytes,
+        played,
+        &mut kept.stills,
+        terminal,
+        scratch,
+        writer,
+    );
+    kept.first.catch_up(&kept.terminal, lines);
+}
+
+/// Writes what went in a chunk, what came and went inside it, and what came. The terminal plays it, and both stills go
+/// along.
+fn put_chunk<W: Write>(
+    text: &[char],
+    start: &Start,
+    chunk: &Chunk,
+    bytes: &[u8],
+    played: Played<'_>,
+    stills: &mut Stills,
+    terminal: &mut Terminal,
+    scratch: &mut Reports,
+    writer: &mut Watched<W>,
+)
+    requires len { chunk.now.len ≡ length text.now }
+    requires start { IsStart text.now start.now }
+    requires played { (x : Term) → Shows terminal.old x
+        → Shows played.terminal.now (play x bytes.now) }
+    requires first { played.first.now ≡ still_of terminal.old.console }
+    requires last { played.last.now ≡ still_of played.terminal.now.console }
+    requires changed { played.lines.now
+        ≡ changed_lines played.first.now.rows played.terminal.now.console.picture.rows }
+    requires before { stills.old.before ≡ still_of terminal.old.console }
+    requires after { stills.old.after ≡ still_of terminal.old.console }
+    requires scratch { SCRATCH ≤ length scratch.old.bytes }
+    ensures gave { (x : Term) → Shows terminal.old x → Gave W.contents writer.old writer.new
+        (chunk_lines text.now chunk.now.index chunk.now.due x bytes.now) }
+    ensures shows { (x : Term) → Shows terminal.old x
+        → Shows terminal.new (play x bytes.now) }
+    ensures before { stills.new.before ≡ still_of terminal.new.console }
+    ensures after { stills.new.after ≡ still_of terminal.new.console }
     ensures scratch { SCRATCH ≤ length scratch.new.bytes }
 {
     gives_join::<W>();
-    let before = Still::of(terminal);
-    play_all(equal, bytes, scratch);
-    let after = Still::of(equal);
-    let changed = before.lines_unlike(&after);
-    let lines = changed.as_slice();
+    let first = played.first;
+    let last = played.last;
+    let lines = played.lines;
     let sought = Sought { text, start };
-    let ends = Ends {
-        first: &before,
-        last: &after,
-    };
+    let ends = Ends { first, last };
     let went = Pair {
-        one: &before,
-        other: &after,
+        one: first,
+        other: last,
         lines,
     };
     let came = Pair {
-        one: &after,
-        other: &before,
+        one: last,
+        other: first,
         lines,
     };
-    let quiet = stays(text, start, &before, equal, lines);
+    let quiet = stays(text, start, first, played.terminal, lines);
     put_end(b'-', chunk, &sought, &went, quiet, writer);
     put_bytes(
         &sought,
@@ -573,6 +746,7 @@ pub(crate) fn step(terminal: &mut Terminal, byte: u8, scratch: &mut Reports)
 }
 
 /// Plays a chunk's bytes, and writes what went inside it. Those that take nothing of the text away are played at once.
+/// Both stills go along.
 fn put_bytes<W: Write>(
     sought: &Sought<'_>,
     chunk: &Chunk,
@@ -586,7 +760,8 @@ fn put_bytes<W: Write>(
 )
     requires len { chunk.now.len ≡ length sought.now.text.now }
     requires start { IsStart sought.now.text.now sought.now.start.now }
-    requires first { ends.now.first.now ≡ still_of terminal.old.console }
+    requires before { before.old ≡ still_of terminal.old.console }
+    requires after { after.old ≡ still_of terminal.old.console }
     requires scratch { SCRATCH ≤ length scratch.old.bytes }
     ensures gave { (x : Term) → Shows terminal.old x → Gave W.contents writer.old writer.new
         (flat_map (byte_lines sought.now.text.now chunk.now.index chunk.now.due
@@ -595,12 +770,12 @@ fn put_bytes<W: Write>(
         (range_with_len 0 (length bytes.now))) }
     ensures shows { (x : Term) → Shows terminal.old x
         → Shows terminal.new (play x bytes.now) }
+    ensures before { before.new ≡ still_of terminal.new.console }
+    ensures after { after.new ≡ still_of terminal.new.console }
     ensures scratch { SCRATCH ≤ length scratch.new.bytes }
 {
     gives_join::<W>();
     plays_in_parts();
-    before.copy_from(ends.first);
-    after.copy_from(ends.first);
     let mut at = 0;
     while at < bytes.len() {
         at += play_quietly(sought.text, &bytes[at..], before, after, terminal, scratch);

@@ -12,6 +12,7 @@ mod key;
 pub mod laws;
 mod plain_print;
 mod quiet;
+mod seen;
 mod silent;
 mod skim;
 mod standing;

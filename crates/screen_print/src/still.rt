@@ -60,17 +60,6 @@ impl Still {
         }
     }
 
-    /// Becomes another.
-    pub(crate) fn copy_from(&mut self, other: &Still)
-        ensures { self.new ≡ other.now }
-    {
-        self.rows.copy_from_slice(&other.rows);
-        self.wide = other.wide;
-        self.reversed = other.reversed;
-        self.line = other.line;
-        self.column = other.column;
-    }
-
     /// Whether it has 132 columns.
     pub fn is_wide(&self) -> bool
         ensures { result ≡ self.now.wide }
@@ -134,26 +123,32 @@ impl Still {
         changed_lines(&self.rows, screen, narrow)
     }
 
-    /// The lines in which it differs from another.
-    pub(crate) fn lines_unlike(&self, other: &Still) -> ArrayVec<u8, ROWS>
-        ensures { result.items ≡ changed_lines self.now.rows other.now.rows }
+    /// The same of any terminal, whatever it marks.
+    pub(crate) fn lines_unlike(&self, terminal: &Terminal) -> ArrayVec<u8, ROWS>
+        ensures { result.items
+            ≡ changed_lines self.now.rows terminal.now.console.picture.rows }
     {
+        let screen = terminal.screen();
         let mut unlike = ArrayVec::new();
         for line in 1..LINES + 1 {
-            if self.is_unlike(other, line) {
+            if self.is_unlike(screen, line) {
                 unlike.push(line);
             }
         }
         unlike
     }
 
-    /// Whether it differs from another in a line.
-    fn is_unlike(&self, other: &Still, line: u8) -> bool
+    /// Whether it differs from a screen in a line.
+    fn is_unlike(&self, screen: &Screen, line: u8) -> bool
         requires low { 1 ≤ line }
         requires high { line ≤ LINES }
-        ensures { result ≡ is_changed self.now.rows other.now.rows line }
+        ensures { result ≡ is_changed self.now.rows screen.now.picture.rows line }
     {
-        !same_row(self.row(line), other.row(line), !(self.wide || other.wide))
+        !same_row(
+            self.row(line),
+            screen.row(line),
+            !(self.wide || screen.is_wide()),
+        )
     }
 
     /// Becomes what stands on the screen of a terminal, from which it differs in these lines.

@@ -14,13 +14,13 @@ loop-done-init c =
     let text = c.args.text.now in
     let bytes = c.args.bytes.now in
     let terminal = c.args.terminal.now in
+    let key = c.args.first.now in
+    let lacked = c.requires.first in
     record {
       within = omega arith;
-      known = c.known_or_found-current.ensures;
-      nowhere = if_some (λ (key : Bor Key). IsLacked text key.now terminal.console.picture) (λ _. (x : Term) → Shows terminal x → NowhereUpTo text x bytes 0)
-          c.known_or_found-current.result c.known_or_found-current.ensures
-          (λ key lacked x shows. nowhere_start key.now.chars.now text x bytes lacked.keyed.proper lacked.part
-          (subst (λ (s : Console). ScreenLacks key.now.chars.now s.picture) (sym shows.console) lacked.lacks));
+      known = lacked;
+      nowhere = λ x shows. nowhere_start key.chars.now text x bytes lacked.keyed.proper lacked.part
+          (subst (λ (s : Console). ScreenLacks key.chars.now s.picture) (sym shows.console) lacked.lacks);
       shows = λ x shows. shows_start terminal x shows;
       scratch = c.requires.scratch;
     }

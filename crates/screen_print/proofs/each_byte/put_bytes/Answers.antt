@@ -1,4 +1,4 @@
-use Rattle.std.proofs.Common.{◌≡◌, ◌∙◌, ◌≤◌, ℕ, drop, ◌<◌, ◌+◌, ap, arith, length, subst, sym, take}
+use Rattle.std.proofs.Common.{◌<◌, ◌+◌, ap, arith, length, subst, sym, take}
 use Rattle.std.proofs.lemmas.List.{length-drop, take_rest}
 use Rattle.tape_core.specs.Devices.{Gave}
 use Rattle.vt_term.specs.Seen.{Shows, Told}
@@ -17,8 +17,8 @@ loop-at-init g c = record {
   within = omega arith;
   shows = λ x h. shows_start c.args.terminal.now x h;
   scratch = c.requires.scratch;
-  before = c.copy_from.ensures ∙ c.requires.first;
-  after = c.copy_from-2.ensures ∙ c.requires.first;
+  before = c.requires.before;
+  after = c.requires.after;
   gave = λ x h. c.gives_join.ensures.nothing c.args.writer.now;
 }
 

@@ -21,6 +21,7 @@ loop-index-preserved g c =
       shows = λ profile h. c.put_chunk_at-known.ensures.shows profile (kept.shows profile h);
       scratch = c.put_chunk_at-known.ensures.scratch;
       known = c.put_chunk_at-known.ensures.known;
+      kept = c.put_chunk_at-known.ensures.kept;
       gave = λ profile h.
           let f = chunk_lines_at c.args.text.now profile c.args.recording.now in
           subst (Gave g.W.Write.contents c.args.writer.now c.put_chunk_at-known.new.writer) (texts_more f c.args.start index (f index) (omega arith) refl)

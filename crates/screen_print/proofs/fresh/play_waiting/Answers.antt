@@ -1,4 +1,4 @@
-use Rattle.std.proofs.Common.{◌≡◌, ◌<◌, ◌∙◌, arith, length, subst, sym, take}
+use Rattle.std.proofs.Common.{◌≡◌, ◌∙◌, arith, length, subst, sym, take}
 use Rattle.vt_term.specs.Console.{Console}
 use Rattle.screen_print.proofs.EachByteLemmas.{shows_start}
 use Rattle.screen_print.proofs.WaitingLemmas.{waiting_keeps, waiting_same, waiting_silent}

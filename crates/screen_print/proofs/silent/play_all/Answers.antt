@@ -1,4 +1,4 @@
-use Rattle.std.proofs.Common.{◌≡◌, ◌≤◌, ◌+◌, ap, arith, drop, length, subst, take}
+use Rattle.std.proofs.Common.{ap, arith, length, subst, take}
 use Rattle.std.proofs.lemmas.List.{length-drop, take_rest}
 use Rattle.vt_term.specs.Seen.{Shows}
 use Rattle.vt_term.specs.Term.{play}

@@ -1,4 +1,4 @@
-use Rattle.std.proofs.Common.{◌≡◌, ◌∙◌, All, ap, arith, sym, take, true}
+use Rattle.std.proofs.Common.{◌≡◌, ◌∙◌, ap, arith, sym, take, true}
 use Rattle.std.specs.Prelude.{Some}
 use Rattle.std.proofs.lemmas.Bool.{or_left}
 use Rattle.std.proofs.lemmas.List.Elements.{All-weaker, recursion_from_All}

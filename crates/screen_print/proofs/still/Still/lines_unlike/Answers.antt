@@ -1,4 +1,6 @@
-use Rattle.std.proofs.Common.{◌≡◌, ◌-◌, sym, arith, append-nil, ◌∙◌}
+use Rattle.std.proofs.Common.{◌≡◌, ◌-◌, ap, sym, arith, append-nil, ◌∙◌}
+use Rattle.vt_screen.specs.Picture.{Picture}
+use Rattle.screen_rows.specs.SameRows.{changed_lines}
 use Rattle.screen_print.proofs.RowLemmas.{all_changed, changed_step}
 use Rattle.screen_print.proofs.still.Still.lines_unlike.Goals as goal
 use Rattle.screen_print.proofs.still.Still.lines_unlike.Goals.{then-is_unlike, else-is_unlike}
@@ -7,7 +9,7 @@ pub loop-line-preserved : goal.loop-line-preserved
 loop-line-preserved c =
     let line = c.loop-line.line in
     let before = c.args.self.now.rows in
-    let after = c.args.other.now.rows in
+    let after = c.screen-screen.result.now.picture.rows in
     record {
       changed = changed_step before after line c.is_unlike.result c.loop-line.unlike.items c.if-is_unlike.unlike.items (omega arith) c.is_unlike.ensures c.loop-line.invariant.changed
           (elim c.if-is_unlike.branch [
@@ -23,4 +25,5 @@ loop-line-preserved c =
 pub returns : goal.returns
 returns c =
     let last : c.loop-line.line - 1 ≡ 24 = omega arith in
-    rw last at c.loop-line.invariant.changed ∙ all_changed c.args.self.now.rows c.args.other.now.rows
+    let shown = ap (λ (p : Picture). changed_lines c.args.self.now.rows p.rows) c.screen-screen.ensures.value in
+    rw last at c.loop-line.invariant.changed ∙ all_changed c.args.self.now.rows c.screen-screen.result.now.picture.rows ∙ shown
