@@ -11,6 +11,8 @@ mod changes;
 #[cfg(test)]
 mod foot;
 #[cfg(test)]
+mod moved;
+#[cfg(test)]
 mod nothing;
 #[cfg(test)]
 mod packed;
