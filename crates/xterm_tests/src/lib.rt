@@ -9,6 +9,8 @@ mod bytes;
 #[cfg(test)]
 mod changes;
 #[cfg(test)]
+mod erased;
+#[cfg(test)]
 mod foot;
 #[cfg(test)]
 mod moved;
