@@ -27,7 +27,7 @@ const REFUSED: Outcome = Outcome {
 
 const SECRET: &[char] = &['s', 'e', 'c', 'r', 'e', 't'];
 
-const ROWS: [(Given<'static>, Wanted<'static>); 8] = [
+const ROWS: [(Given<'static>, Wanted<'static>); 13] = [
     // Over the border of two chunks.
     (
         (SECRET, b"Script started on X\nsecret x", b"0 2\n0.5 6\n"),
@@ -55,6 +55,64 @@ const ROWS: [(Given<'static>, Wanted<'static>); 8] = [
             b"0.000000 3\n",
             b"redacted 2\n",
             DONE,
+        ),
+    ),
+    // Each overlaps the one before it.
+    (
+        (&['a', 'a'], b"Script started on X\naaaa", b"0 4\n"),
+        (
+            b"Script started on X\n****",
+            b"0.000000 4\n",
+            b"redacted 3\n",
+            DONE,
+        ),
+    ),
+    // Two that overlap, and one apart, at the very end.
+    (
+        (
+            &['a', 'b', 'a'],
+            b"Script started on X\nababa xaba",
+            b"0 10\n",
+        ),
+        (
+            b"Script started on X\n***** x***",
+            b"0.000000 10\n",
+            b"redacted 3\n",
+            DONE,
+        ),
+    ),
+    // Two that touch, and a beginning of one.
+    (
+        (&['a', 'b'], b"Script started on X\nxababa", b"0 6\n"),
+        (
+            b"Script started on X\nx****a",
+            b"0.000000 6\n",
+            b"redacted 2\n",
+            DONE,
+        ),
+    ),
+    // Longer than 32 bytes.
+    (
+        (
+            &['a'; 40],
+            b"Script started on X\naaaaaaaaaaaaaaaaaaaaaaaaaaaaaaaaaaaaaaaaaa",
+            b"0 42\n",
+        ),
+        (
+            b"Script started on X\n******************************************",
+            b"0.000000 42\n",
+            b"redacted 3\n",
+            DONE,
+        ),
+    ),
+    // Longer than the typescript.
+    (
+        (&['x'; 40], b"Script started on X\nxxx", b"0 3\n"),
+        (
+            b"Script started on X\nxxx",
+            b"0.000000 3\n",
+            b"redacted 0\n",
+            LEFT,
         ),
     ),
     // Into the trailer.
@@ -159,6 +217,41 @@ fn redact_takes_a_text_out(rt: HostRuntime) {
     for (given, wanted) in ROWS {
         compare_redaction(&rt, Player::Vt(Profile::Vt100), given, wanted);
     }
+}
+
+/// It stands nowhere among many beginnings of it, and then once, at their end.
+#[test]
+fn redact_searches_a_long_script(rt: HostRuntime) -> Result<(), Fail> {
+    let mut script = b"Script started on X\n".to_vec(rt.alloc())?;
+    for _ in 0..4096 {
+        script.extend_from_slice(b"secre\r\n")?;
+    }
+    compare_redaction(
+        &rt,
+        Player::Vt(Profile::Vt100),
+        (SECRET, script.as_slice(), b"0 28672\n"),
+        (
+            script.as_slice(),
+            b"0.000000 28672\n",
+            b"redacted 0\n",
+            LEFT,
+        ),
+    );
+    let mut new_script = script.clone()?;
+    script.extend_from_slice(b"secret")?;
+    new_script.extend_from_slice(b"******")?;
+    compare_redaction(
+        &rt,
+        Player::Vt(Profile::Vt100),
+        (SECRET, script.as_slice(), b"0 28678\n"),
+        (
+            new_script.as_slice(),
+            b"0.000000 28678\n",
+            b"redacted 1\n",
+            DONE,
+        ),
+    );
+    Ok(())
 }
 
 /// A size in the header that is taken out plays the new recording all the same, where the text then comes to stand.

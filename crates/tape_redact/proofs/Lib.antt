@@ -1,3 +1,4 @@
 mod RedactLemmas
+mod SearchLemmas
 mod ReadLemmas
 mod TextLemmas

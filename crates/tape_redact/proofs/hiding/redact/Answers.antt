@@ -1,49 +1,64 @@
-use Rattle.std.proofs.Common.{◌≡◌, ◌+◌, ◌<◌, ◌∙◌, ap, arith, cond, get_or, length, nat_lt, ◌-◌, sym}
-use Rattle.std.proofs.lemmas.List.{take_all}
-use Rattle.tape_redact.specs.Redacted.{begins_at, byte_at, is_covered, occurrences, redacted}
-use Rattle.tape_redact.proofs.RedactLemmas.{begun_few, begun_more, begun_before, begins_same, here_is, hidden_more, is_reached, length-redacted, reach_more, rest_more}
+use Rattle.std.proofs.Common.{◌+◌, ◌-◌, ◌∙◌, ap, arith, drop, length, sym, take}
+use Rattle.tape_redact.specs.Redacted.{occurrences}
+use Rattle.tape_redact.proofs.SearchLemmas.{Hidden, all_searched, begins_ahead, begun_few, begun_next, begun_same, next_is, none_left, run_ahead, search_on}
 use Rattle.tape_redact.proofs.hiding.redact.Goals as goal
+
+pub run_of-run-requires-clause-begins : goal.run_of-run-requires-clause-begins
+run_of-run-requires-clause-begins c =
+    let text = c.args.text.now in
+    let old = c.args.bytes.now in
+    let now = c.loop-ahead.bytes in
+    let from = c.loop-ahead.from in
+    let so_far = c.loop-ahead.invariant.searched in
+    let next = next_is text old now c.new-finder.result from c.in-Some.ahead so_far c.requires c.new-finder.ensures c.in-Some.ensures in
+    begins_ahead text old now from (from + c.in-Some.ahead) so_far next
 
 pub overflow_add-count : goal.overflow_add-count
 overflow_add-count c =
-    omega (arith, c.loop-at.invariant.counted, begun_few c.args.text.now c.args.bytes.now c.loop-at.at, c.one_if-count.ensures.few)
+    let run = c.run_of-run.ensures in
+    let kept = c.loop-ahead.invariant in
+    let now = c.loop-ahead.bytes in
+    let start = c.loop-ahead.from + c.in-Some.ahead in
+    let before = begun_few c.args.text.now c.args.bytes.now c.loop-ahead.from in
+    let more = begun_few c.args.text.now (take (length now - start) (drop start now)) c.run_of-run.result.len in
+    omega (arith, kept.counted, before, run.counted, more, run.within)
 
-pub loop-at-preserved : goal.loop-at-preserved
-loop-at-preserved c =
+pub loop-ahead-preserved : goal.loop-ahead-preserved
+loop-ahead-preserved c =
     let text = c.args.text.now in
     let old = c.args.bytes.now in
-    let now = c.loop-at.bytes in
-    let at = c.loop-at.at in
-    let kept = c.loop-at.invariant in
-    let long : length now ≡ length old = omega arith in
-    let lt : at < length old = omega arith in
-    let begun : c.begins-begun.result ≡ begins_at text old at = c.begins-begun.ensures ∙ begins_same text old now at kept.rest in
-    let covered = is_reached text old at c.loop-at.left c.begins-begun.result kept.reach c.requires begun in
-    let byte : c.hidden.result ≡ byte_at text old at =
-    c.hidden.ensures
-    ∙ ap (λ n. cond (nat_lt 0 n) 42 (get_or now at 0)) c.reach-left.ensures
-    ∙ ap (λ b. cond b 42 (get_or now at 0)) (sym covered)
-    ∙ ap (cond (is_covered text old at) 42) (here_is old now at kept.rest) in
+    let now = c.loop-ahead.bytes in
+    let new = c.hide.new.bytes in
+    let from = c.loop-ahead.from in
+    let start = from + c.in-Some.ahead in
+    let len = c.run_of-run.result.len in
+    let count = c.run_of-run.result.count in
+    let so_far = c.loop-ahead.invariant.searched in
+    let next = next_is text old now c.new-finder.result from c.in-Some.ahead so_far c.requires c.new-finder.ensures c.in-Some.ensures in
+    let it = c.run_of-run.ensures in
+    let run = run_ahead text old now from start len count so_far next (record { within = it.within; covers = it.covers; ends = it.ends; counted = it.counted }) in
+    let hides : Hidden now new start (start + len) =
+    record { hidden = c.hide.ensures.hidden; before = c.hide.ensures.before; behind = c.hide.ensures.behind } in
     record {
-      done = hidden_more text old now at c.hidden.result lt long kept.done byte;
-      rest = rest_more old now at c.hidden.result kept.rest;
-      reach = reach_more text old at c.loop-at.left c.saturating_sub-left.result c.begins-begun.result kept.reach c.requires begun
-          (c.saturating_sub-left.ensures ∙ ap (λ n. n - 1) c.reach-left.ensures);
-      counted = ap (λ n. n + c.one_if-count.result) kept.counted
-          ∙ ap (λ n. begun_before text old at + n) (c.one_if-count.ensures.value ∙ ap (λ b. cond b 1 0) begun)
-          ∙ sym (begun_more text old at);
+      searched = search_on text old now new from start len count so_far next run c.hide.auto.bytes hides;
+      counted = ap (λ n. n + count) c.loop-ahead.invariant.counted ∙ sym (begun_next text old from start len count next run);
     }
 
 pub returns-clause-bytes : goal.returns-clause-bytes
 returns-clause-bytes c =
     let text = c.args.text.now in
     let old = c.args.bytes.now in
-    let at = c.loop-at.at in
-    let long : length c.loop-at.bytes ≡ length old = omega arith in
-    sym (take_all at c.loop-at.bytes (omega arith)) ∙ c.loop-at.invariant.done ∙ take_all at (redacted text old) (omega (arith, length-redacted text old))
+    let now = c.loop-ahead.bytes in
+    let so_far = c.loop-ahead.invariant.searched in
+    all_searched text old now c.loop-ahead.from so_far
+    (none_left text old now c.new-finder.result c.loop-ahead.from so_far c.requires c.new-finder.ensures c.in_default.ensures)
 
 pub returns-clause-count : goal.returns-clause-count
 unfolding occurrences
 returns-clause-count c =
-    let at : c.loop-at.at ≡ length c.args.bytes.now = omega arith in
-    c.loop-at.invariant.counted ∙ ap (begun_before c.args.text.now c.args.bytes.now) at
+    let text = c.args.text.now in
+    let old = c.args.bytes.now in
+    let from = c.loop-ahead.from in
+    let so_far = c.loop-ahead.invariant.searched in
+    let none = none_left text old c.loop-ahead.bytes c.new-finder.result from so_far c.requires c.new-finder.ensures c.in_default.ensures in
+    c.loop-ahead.invariant.counted ∙ sym (begun_same text old from (length old) so_far.within none)
