@@ -5,6 +5,7 @@ use Rattle.std.specs.List.{list_all, list_any}
 use Rattle.std.specs.Cmp.Lexicographic.{pointwise}
 use Rattle.std.proofs.lemmas.Bool.{cases_Bool, and_parts, false≢true}
 use Rattle.std.proofs.lemmas.Bool.Decides.{nat_tests}
+use Rattle.std.proofs.Math.Seq.{take-add}
 use Rattle.std.proofs.lemmas.List.{take_more, append-nil}
 use Rattle.std.proofs.lemmas.List.Concat.{flat_map-append}
 use Rattle.std.proofs.lemmas.List.Sums.{fold-append}
@@ -14,13 +15,13 @@ use Rattle.vt_parser.specs.declared.states.Formless.TheVariants as formless
 use Rattle.vt_parser.specs.declared.syntax.Action.{Action}
 use Rattle.vt_parser.specs.declared.syntax.Action.TheVariants.{Ignore, Execute, Print, Mark, Begin, Join, End, Cancel}
 use Rattle.vt_parser.specs.declared.syntax.Context.TheVariants.{Ground, Sequence, Text}
-use Rattle.vt_parser.specs.Syntax.{escape, is_within, SyntaxRow, table, actions_in, action_of}
+use Rattle.vt_parser.specs.Syntax.{escape, is_graphic, is_within, SyntaxRow, table, actions_in, action_of}
 use Rattle.vt_parser.specs.Forms.{front, final, is_whole, is_string_begun, is_control_sequence_begun, is_control_sequence_text}
 use Rattle.vt_parser.specs.Formless.{formless, formless_of, control_sequence_formless, escape_formless}
 use Rattle.vt_parser.specs.Step.{context_of, command_of, pending_by, pending_after}
 use Rattle.tape_check.specs.declared.quiet.Marks.{Marks}
 use Rattle.tape_check.specs.Quiet.{is_quiet_text, loud_form}
-use Rattle.tape_check.specs.Tallying.{first_marks, marked, marks_of, marks_after, Knows, is_quiet_by, loud_by, IsAt}
+use Rattle.tape_check.specs.Tallying.{first_marks, marked, marks_of, marks_after, Knows, is_quiet_by, loud_by, is_idle, IsAt}
 use Rattle.tape_check.specs.declared.tally.Reader.{Reader}
 use Rattle.tape_check.specs.Unplayed.{command_names, formless_names}
 use Rattle.tape_check.specs.Counting.{entries_of}
@@ -29,12 +30,13 @@ use Rattle.std.specs.declared.result.Result.{Result}
 use Rattle.std.specs.declared.result.Result.TheVariants.{Ok, Err}
 use Rattle.std.specs.declared.alloc.AllocError.{AllocError}
 use Rattle.tape_check.specs.Scan.{counted}
-use Rattle.tape_check.specs.Tally.{Tally, any_today, forms_at, title_by, syntax_read, title_read, upper_read, read, gone_on, tallied}
+use Rattle.tape_check.specs.Tally.{Tally, any_today, forms_at, names_at, title_by, syntax_read, title_read, upper_read, read, gone_on, tallied}
 use Rattle.tape_core.specs.declared.chunk.Chunk.{Chunk}
 use Rattle.tape_core.specs.Tape.{body}
 use Rattle.characters.specs.Utf8.{reading}
 use Rattle.vt_parser.specs.declared.commands.Command.{Command}
 use Rattle.xterm_term.specs.Term.{is_ground}
+use Rattle.vt_parser.proofs.LawLemmas.{graphic_is_shown}
 
 -- ---- what marks tell of a text
 
@@ -292,6 +294,11 @@ unfolding tallied
 tallied_anew t byte none =
     ap (λ (b : Bool). if b then read t byte else gone_on (reading t.character byte) t byte) (ap is_ground none)
 
+-- where neither a title nor a character is read
+syntax_tallied : (t : Tally) (byte : ℕ) → t.title ≡ false → t.character ≡ [] → (is_ground t.sequence && nat_le 128 byte) ≡ false
+    → tallied t byte ≡ syntax_read t byte
+syntax_tallied t byte title character other = tallied_anew t byte character ∙ read_as_syntax t byte title other
+
 -- the control syntax in two parts
 pub syntax_by : (t : Tally) (byte : ℕ) (command : Option Command) → command ≡ command_of Ansi t.sequence byte
     → record t {
@@ -322,6 +329,52 @@ titled_now reader t command title at is = record {
   parts = at.parts;
 }
 
+-- ---- graphic characters where nothing is pending
+
+-- a tally that reads no title, with nothing pending
+abbrev idle : List (List ℕ × ℕ) → ℕ → Tally
+idle entries parts = record { title = false; sequence = []; character = []; entries = entries; parts = parts }
+
+low : (byte : ℕ) → is_graphic byte ≡ true → nat_le 128 byte ≡ false
+low byte graphic = grind (arith, nat_tests)
+
+-- no byte alone is a sequence
+no_form : (byte : ℕ) → formless_of Ansi [] byte ≡ None
+unfolding formless_of is_whole
+no_form byte = refl
+
+graphic_tallied : (entries : List (List ℕ × ℕ)) (parts byte : ℕ) → is_graphic byte ≡ true → tallied (idle entries parts) byte ≡ idle entries parts
+graphic_tallied entries parts byte graphic =
+    let shown = graphic_is_shown Ansi byte graphic in
+    let names : names_at [] byte ≡ []
+    = ap₂ (λ (form : Option Formless) (command : Option Command). formless_names (loud_form [] form) ++ command_names any_today command)
+    (no_form byte) shown.0 in
+    syntax_tallied (idle entries parts) byte refl refl (low byte graphic)
+    ∙ ap₂ (λ (command : Option Command) (sequence : List ℕ). record (idle (fold counted entries (names_at [] byte)) parts) {
+      title = title_by command false;
+      sequence = sequence;
+    }) shown.0 shown.1
+    ∙ ap (λ (l : List (List ℕ)). idle (fold counted entries l) parts) names
+
+run_tallied : (entries : List (List ℕ × ℕ)) (parts : ℕ) (bytes : List ℕ) → list_all is_graphic bytes ≡ true
+    → fold tallied (idle entries parts) bytes ≡ idle entries parts
+run_tallied entries parts [] graphic = refl
+run_tallied entries parts (byte ∷ rest) graphic =
+    let each = and_parts (is_graphic byte) (list_all is_graphic rest) graphic in
+    ap (λ (t : Tally). fold tallied t rest) (graphic_tallied entries parts byte each.0) ∙ run_tallied entries parts rest each.1
+
+-- they count nothing
+pub idle_stays : (t : Tally) (bytes : List ℕ) → is_idle t ≡ true → list_all is_graphic bytes ≡ true → fold tallied t bytes ≡ t
+idle_stays t bytes is graphic = by t.title t.sequence t.character is
+  where
+    by : (title : Bool) (sequence character : List ℕ) → (not title && is_ground sequence && is_ground character) ≡ true
+        → fold tallied (record { title = title; sequence = sequence; character = character; entries = t.entries; parts = t.parts }) bytes
+        ≡ record { title = title; sequence = sequence; character = character; entries = t.entries; parts = t.parts }
+    by false [] [] is = run_tallied t.entries t.parts bytes graphic
+    by false [] (begun ∷ rest) is = absurd (false≢true is)
+    by false (begun ∷ rest) character is = absurd (false≢true is)
+    by true sequence character is = absurd (false≢true is)
+
 -- ---- chunks
 
 pub chunk_more : (t : Tally) (chunks : List Chunk) (i : ℕ) (d : Chunk) → i < length chunks
@@ -348,3 +401,23 @@ form_counted (Ok done) reader counts t byte form at is told = record {
       ∙ ap (λ (f : Option Formless). fold counted (entries_of reader.counts) (formless_names f)) (sym is) ∙ sym told;
   parts = at.parts;
 }
+
+-- ---- bytes taken some at a time
+
+-- what was taken of bytes so far, and the rest of them
+pub record Fed (old new : Reader) (bytes rest : List ℕ) : Type 0 where
+  pub at : ℕ
+  pub left : rest ≡ drop at bytes
+  pub stands : (t : Tally) → IsAt old t → IsAt new (fold tallied t (take at bytes))
+
+pub fed_on : (reader : Reader) (t : Tally) (bytes rest : List ℕ) (at n : ℕ) → rest ≡ drop at bytes
+    → IsAt reader (fold tallied (fold tallied t (take at bytes)) (take n rest)) → IsAt reader (fold tallied t (take (at + n) bytes))
+fed_on reader t bytes rest at n left is =
+    subst (IsAt reader)
+    (ap (λ (l : List ℕ). fold tallied (fold tallied t (take at bytes)) (take n l)) left
+    ∙ sym (fold-append tallied t (take at bytes) (take n (drop at bytes)))
+    ∙ ap (fold tallied t) (sym (take-add at n bytes))) is
+
+pub one_tallied : (t : Tally) (bytes : List ℕ) → 0 < length bytes → tallied t (get_or bytes 0 0) ≡ fold tallied t (take 1 bytes)
+one_tallied t [] some = absurd (omega arith)
+one_tallied t (byte ∷ rest) some = refl

@@ -6,6 +6,7 @@ use Rattle.vt_parser.specs.declared.states.Formless.TheVariants.{Escape, Control
 use Rattle.vt_parser.specs.Syntax.{is_within}
 use Rattle.vt_parser.specs.Forms.{is_control_sequence_begun}
 use Rattle.vt_parser.specs.View.{parser_view}
+use Rattle.xterm_term.specs.Term.{is_ground}
 use Rattle.tape_check.specs.declared.quiet.Marks.{Marks}
 use Rattle.tape_check.specs.declared.tally.Reader.{Reader}
 use Rattle.tape_check.specs.Counting.{entries_of}
@@ -49,6 +50,10 @@ loud_by m (Some (Escape last)) = Some (Escape last)
 loud_by m (Some (ControlSequence last)) = if is_quiet_by m last then None else Some (ControlSequence last)
 
 -- ---- the reader
+
+-- no title is read, and no sequence and no character is pending
+abbrev pub is_idle : Tally → Bool
+is_idle t = not t.title && is_ground t.sequence && is_ground t.character
 
 -- it stands where the tally does
 pub record IsAt (reader : Reader) (t : Tally) : Type 0 where

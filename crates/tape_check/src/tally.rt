@@ -1,5 +1,5 @@
 //! What a terminal of today leaves out of a recording: bytes read as it reads them, without a screen.
-ghost use Rattle.std.specs.Prelude.{◌≡◌, ◌+◌, ◌<◌, ◌&&◌, [], IfOk, OnOk, fold, length, nat_le};
+ghost use Rattle.std.specs.Prelude.{◌≡◌, ◌+◌, ◌<◌, ◌≤◌, ◌&&◌, [], IfOk, OnOk, fold, length, nat_le, take};
 ghost use Rattle.characters.specs.Utf8.{reading};
 ghost use Rattle.tape_core.specs.Tape.{body};
 ghost use Rattle.xterm_term.specs.Term.{ends_title, is_ground};
@@ -8,7 +8,7 @@ ghost use Rattle.tape_check.specs.Unplayed.{command_names};
 ghost use Rattle.tape_check.specs.Scan.{counted};
 ghost use Rattle.tape_check.specs.Counting.{entries_of};
 ghost use Rattle.tape_check.specs.Tally.{Tally, any_today, forms_at, gone_on, parts_of, read, syntax_read, tallied, tally_start, title_by, title_read, upper_read};
-ghost use Rattle.tape_check.specs.Tallying.{IsAt};
+ghost use Rattle.tape_check.specs.Tallying.{IsAt, is_idle};
 
 use crate::played::PlayedAs;
 use crate::quiet::Marks;
@@ -16,7 +16,7 @@ use crate::unplayed::Counts;
 use characters::{Decoder, Reading, begins};
 use std::alloc::{AllocError, Global};
 use tape_core::Chunk;
-use vt_parser::{Command, Mode, Parser, ParserState};
+use vt_parser::{Command, Mode, Parser, ParserState, printable_run};
 use xterm_term::played::title_left;
 
 const ESC: u8 = 27;
@@ -100,10 +100,50 @@ impl Reader {
         ensures { (t : Tally) → IsAt self.old t
             → OnOk result (IsAt self.new (fold tallied t bytes.now)) }
     {
-        for byte in bytes {
-            self.take_byte(*byte)?;
+        let mut rest = bytes;
+        while !rest.is_empty() {
+            let taken = self.take_some(rest)?;
+            rest = &rest[taken..];
         }
         Ok(())
+    }
+
+    // Takes some of the bytes, and says how many.
+    fn take_some(&mut self, bytes: &[u8]) -> Result<usize, AllocError>
+        requires { 0 < length bytes.now }
+        ensures some { IfOk result (λ n. 0 < n) }
+        ensures within { IfOk result (λ n. n ≤ length bytes.now) }
+        ensures taken { (t : Tally) → IsAt self.old t
+            → IfOk result (λ n. IsAt self.new (fold tallied t (take n bytes.now))) }
+    {
+        let plain = self.plain_run(bytes);
+        if plain > 0 {
+            return Ok(plain);
+        }
+        self.take_byte(bytes[0])?;
+        Ok(1)
+    }
+
+    // How many of these bytes at least count nothing and leave the reader as it is.
+    #[inline]
+    fn plain_run(&self, bytes: &[u8]) -> usize
+        ensures within { result ≤ length bytes.now }
+        ensures idle { (t : Tally) → IsAt self.now t
+            → fold tallied t (take result bytes.now) ≡ t }
+    {
+        if self.is_idle() {
+            printable_run(bytes)
+        } else {
+            0
+        }
+    }
+
+    // Whether no title is read and nothing is pending.
+    #[inline]
+    fn is_idle(&self) -> bool
+        ensures { (t : Tally) → IsAt self.now t → result ≡ is_idle t }
+    {
+        !self.title && self.is_on_ground() && !self.decoder.is_pending()
     }
 
     fn take_byte(&mut self, byte: u8) -> Result<(), AllocError>

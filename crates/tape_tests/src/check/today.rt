@@ -119,6 +119,64 @@ const UNPLAYED: [(&[u8], &str); 9] = [
     ),
 ];
 
+/// Chunks with runs of graphic characters, and what is noted and unplayed of them.
+const RUNS: [(&[u8], &str); 14] = [
+    // 15, 16, 17 and 33 of them before a sequence.
+    (b"abcdefghijklmno\x1b[w", "unplayed 1 ESC [ w\n"),
+    (b"abcdefghijklmnop\x1b[w", "unplayed 1 ESC [ w\n"),
+    (b"abcdefghijklmnopq\x1b[w", "unplayed 1 ESC [ w\n"),
+    (
+        b"abcdefghijklmnopqrstuvwxyzabcdefg\x1b[w",
+        "unplayed 1 ESC [ w\n",
+    ),
+    // All of them, with a sequence before and behind, and DEL between.
+    (
+        b"\x1bN !\"#$%&'()*+,-./0123456789:;<=>?@AMNZ[\\]^_`amz{}~\x7f~~~\x1bN",
+        "unplayed 2 ESC N\n",
+    ),
+    // A title ends with BEL, or by the ESC of a sequence.
+    (
+        b"abcdefghijklmnopq\x1bkabcdefghijklmnopq\x1b[w",
+        "unplayed 1 ESC [ w\n",
+    ),
+    (
+        b"\x1bkabcdefghijklmnopq|abcdefghijklmnopq\xff\x07abcdefghijklmnopq\xff\x1b[w",
+        "note bytes: 1 parts that are no UTF-8\nunplayed 1 ESC [ w\n",
+    ),
+    // A string goes on over a border.
+    (
+        b"\x1b]0;abcdefghijklmnopq|[wabcdefghijklmnopq\xff\x07abcdefghijklmnopq\x1bN",
+        "unplayed 1 ESC N\n",
+    ),
+    // A character that goes on, and one that doesn't.
+    (
+        b"abcdefghijklmnopq\xe6\x97|\xa5abcdefghijklmnopq\x1b[w",
+        "unplayed 1 ESC [ w\n",
+    ),
+    (
+        b"abcdefghijklmnopq\xe6\x97abcdefghijklmnopq\xf0|abcdefghijklmnopq\x1b[w",
+        "note bytes: 2 parts that are no UTF-8\nunplayed 1 ESC [ w\n",
+    ),
+    // The graphic characters behind a border first end what was begun before it.
+    (
+        b"abcdefghijklmnopq\x1b[1;2|wabcdefghijklmnopq\x1b|[wabcdefghijklmnopq\x1b[|wabcdefghijklmnopq",
+        "unplayed 3 ESC [ w\n",
+    ),
+    (
+        b"\x1b|Nabcdefghijklmnopq\x1b#|3abcdefghijklmnopq\x1b(|(Aabcdefghijklmnopq",
+        "unplayed 1 ESC # 3\nunplayed 1 ESC .. A\nunplayed 1 ESC N\n",
+    ),
+    (
+        b"\x1b[38:|5:1mabcdefghijklmnopq\x1b[!|pabcdefghijklmnopq\x1b[!|!p\x1b[38|\n:1mabcdefghijklmnopq",
+        "unplayed 2 ESC [ .. m\nunplayed 1 ESC [ .. p\n",
+    ),
+    // One that is cut begins anew.
+    (
+        b"\x1b[:|\x1b[4mabcdefghijklmnopq\x1b[:\x18mabcdefghijklmnopq\x1b[:\xff|4m\x1b[?2;|3h",
+        "unplayed 1 ESC [ .. m\nunplayed 1 ESC [ ? 2 h\nunplayed 1 ESC [ ? 3 h\n",
+    ),
+];
+
 #[test]
 fn headers_of_today(rt: HostRuntime) -> Result<(), Fail> {
     for (header, lines) in &HEADERS {
@@ -140,6 +198,15 @@ fn malformed_parts_are_counted(rt: HostRuntime) -> Result<(), Fail> {
 fn quiet_sequences_are_left_out(rt: HostRuntime) -> Result<(), Fail> {
     for (chunks, unplayed) in &UNPLAYED {
         let lines = format!(in rt.alloc(); "started X\n{unplayed}")?;
+        compare_today(&rt, PLAIN, chunks, lines.as_str())?;
+    }
+    Ok(())
+}
+
+#[test]
+fn runs_hide_no_sequence(rt: HostRuntime) -> Result<(), Fail> {
+    for (chunks, told) in &RUNS {
+        let lines = format!(in rt.alloc(); "started X\n{told}")?;
         compare_today(&rt, PLAIN, chunks, lines.as_str())?;
     }
     Ok(())

@@ -1,9 +1,10 @@
-use Rattle.std.proofs.Common.{take}
-use Rattle.std.specs.Prelude.{fold}
-use Rattle.tape_check.specs.Tally.{Tally, tallied}
-use Rattle.tape_check.specs.Tallying.{IsAt}
+use Rattle.std.proofs.Common.{length}
+use Rattle.tape_check.proofs.TallyLemmas.{Fed}
 use Rattle.tape_check.proofs.tally.Reader.take.Given as goal
 
 -- the bytes so far were taken
-abbrev pub invariant-loop-byte : goal.invariant-loop-byte
-invariant-loop-byte l = (t : Tally) → IsAt l.initial.self t → IsAt l.self (fold tallied t (take l.byte-index l.bytes))
+abbrev pub invariant-loop-rest : goal.invariant-loop-rest
+invariant-loop-rest l = Fed l.initial.self l.self l.bytes l.rest
+
+abbrev pub decreases-loop-rest : goal.decreases-loop-rest
+decreases-loop-rest l = length l.rest
