@@ -3,4 +3,5 @@ mod ScanLemmas
 mod CountLemmas
 mod NoteLemmas
 mod TallyLemmas
+mod TallyTokens
 mod TallyLaw

@@ -18,7 +18,7 @@ use Rattle.vt_parser.specs.declared.syntax.Context.TheVariants.{Ground, Sequence
 use Rattle.vt_parser.specs.Syntax.{escape, is_graphic, is_within, SyntaxRow, table, actions_in, action_of}
 use Rattle.vt_parser.specs.Forms.{front, final, is_whole, is_string_begun, is_control_sequence_begun, is_control_sequence_text}
 use Rattle.vt_parser.specs.Formless.{formless, formless_of, control_sequence_formless, escape_formless}
-use Rattle.vt_parser.specs.Step.{context_of, command_of, pending_by, pending_after}
+use Rattle.vt_parser.specs.Step.{context_of, pending_by, pending_after}
 use Rattle.tape_check.specs.declared.quiet.Marks.{Marks}
 use Rattle.tape_check.specs.Quiet.{is_quiet_text, loud_form}
 use Rattle.tape_check.specs.Tallying.{first_marks, marked, marks_of, marks_after, Knows, is_quiet_by, loud_by, is_idle, IsAt}
@@ -295,51 +295,21 @@ tallied_anew t byte none =
     ap (λ (b : Bool). if b then read t byte else gone_on (reading t.character byte) t byte) (ap is_ground none)
 
 -- where neither a title nor a character is read
-syntax_tallied : (t : Tally) (byte : ℕ) → t.title ≡ false → t.character ≡ [] → (is_ground t.sequence && nat_le 128 byte) ≡ false
+pub syntax_tallied : (t : Tally) (byte : ℕ) → t.title ≡ false → t.character ≡ [] → (is_ground t.sequence && nat_le 128 byte) ≡ false
     → tallied t byte ≡ syntax_read t byte
 syntax_tallied t byte title character other = tallied_anew t byte character ∙ read_as_syntax t byte title other
-
--- the control syntax in two parts
-pub syntax_by : (t : Tally) (byte : ℕ) (command : Option Command) → command ≡ command_of Ansi t.sequence byte
-    → record t {
-      title = title_by command t.title;
-      sequence = pending_after Ansi t.sequence byte;
-      entries = fold counted (fold counted t.entries (forms_at t.sequence byte)) (command_names any_today command);
-    } ≡ syntax_read t byte
-syntax_by t byte command is =
-    ap (λ (c : Option Command). record t {
-      title = title_by c t.title;
-      sequence = pending_after Ansi t.sequence byte;
-      entries = fold counted (fold counted t.entries (forms_at t.sequence byte)) (command_names any_today c);
-    }) is
-    ∙ ap (λ (e : List (List ℕ × ℕ)). record t {
-      title = title_by (command_of Ansi t.sequence byte) t.title;
-      sequence = pending_after Ansi t.sequence byte;
-      entries = e;
-    }) (sym (fold-append counted t.entries (forms_at t.sequence byte) (command_names any_today (command_of Ansi t.sequence byte))))
-
-pub titled_now : (reader : Reader) (t : Tally) (command : Option Command) (title : Bool) → IsAt reader t
-    → title ≡ title_by command reader.title → IsAt (record reader { title = title }) (record t { title = title_by command t.title })
-titled_now reader t command title at is = record {
-  title = ap (title_by command) at.title ∙ sym is;
-  state = at.state;
-  character = at.character;
-  marks = at.marks;
-  entries = at.entries;
-  parts = at.parts;
-}
 
 -- ---- graphic characters where nothing is pending
 
 -- a tally that reads no title, with nothing pending
-abbrev idle : List (List ℕ × ℕ) → ℕ → Tally
+abbrev pub idle : List (List ℕ × ℕ) → ℕ → Tally
 idle entries parts = record { title = false; sequence = []; character = []; entries = entries; parts = parts }
 
-low : (byte : ℕ) → is_graphic byte ≡ true → nat_le 128 byte ≡ false
+pub low : (byte : ℕ) → is_graphic byte ≡ true → nat_le 128 byte ≡ false
 low byte graphic = grind (arith, nat_tests)
 
 -- no byte alone is a sequence
-no_form : (byte : ℕ) → formless_of Ansi [] byte ≡ None
+pub no_form : (byte : ℕ) → formless_of Ansi [] byte ≡ None
 unfolding formless_of is_whole
 no_form byte = refl
 
@@ -417,7 +387,3 @@ fed_on reader t bytes rest at n left is =
     (ap (λ (l : List ℕ). fold tallied (fold tallied t (take at bytes)) (take n l)) left
     ∙ sym (fold-append tallied t (take at bytes) (take n (drop at bytes)))
     ∙ ap (fold tallied t) (sym (take-add at n bytes))) is
-
-pub one_tallied : (t : Tally) (bytes : List ℕ) → 0 < length bytes → tallied t (get_or bytes 0 0) ≡ fold tallied t (take 1 bytes)
-one_tallied t [] some = absurd (omega arith)
-one_tallied t (byte ∷ rest) some = refl

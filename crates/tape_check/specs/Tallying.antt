@@ -1,9 +1,10 @@
 -- Private: what the code's reader stands for.
-use Rattle.std.specs.Prelude.{◌≡◌, ℕ, Bool, true, false, not, ◌==◌, ◌&&◌, ◌||◌, List, drop, fold, if◌then◌else◌, Option, Some, None}
+use Rattle.std.specs.Prelude.{◌≡◌, ℕ, Bool, true, false, not, ◌==◌, ◌&&◌, ◌||◌, nat_le, List, [], ◌∷◌, drop, fold, if◌then◌else◌, Option, Some, None}
+use Rattle.std.specs.List.{list_all}
 use Rattle.vt_parser.specs.declared.commands.Mode.TheVariants.{Ansi}
 use Rattle.vt_parser.specs.declared.states.Formless.{Formless}
 use Rattle.vt_parser.specs.declared.states.Formless.TheVariants.{Escape, ControlSequence}
-use Rattle.vt_parser.specs.Syntax.{is_within}
+use Rattle.vt_parser.specs.Syntax.{is_graphic, is_within}
 use Rattle.vt_parser.specs.Forms.{is_control_sequence_begun}
 use Rattle.vt_parser.specs.View.{parser_view}
 use Rattle.xterm_term.specs.Term.{is_ground}
@@ -48,6 +49,14 @@ abbrev pub loud_by : Marks → Option Formless → Option Formless
 loud_by m None = None
 loud_by m (Some (Escape last)) = Some (Escape last)
 loud_by m (Some (ControlSequence last)) = if is_quiet_by m last then None else Some (ControlSequence last)
+
+-- ---- bytes together
+
+-- where nothing is pending the first is below 128, and those behind it are graphic characters
+abbrev pub AreSyntax : List ℕ → List ℕ → Type 0
+AreSyntax sequence [] = Unit {0}
+AreSyntax sequence (byte ∷ rest) =
+    ((is_ground sequence && nat_le 128 byte) ≡ false) × (list_all is_graphic rest ≡ true)
 
 -- ---- the reader
 

@@ -1,5 +1,5 @@
 //! Sequences that have no row and aren't told either: `specs/Quiet` has the same table.
-ghost use Rattle.std.specs.Prelude.{◌≡◌};
+ghost use Rattle.std.specs.Prelude.{◌≡◌, fold};
 ghost use Rattle.tape_check.specs.Quiet.{changes_no_cell, ends_string, is_quiet_escape, is_quiet_final, is_quiet_intermediate, is_quiet_mode, is_quiet_sequence, is_told_mode};
 ghost use Rattle.tape_check.specs.Tallying.{first_marks, is_quiet_by, loud_by, marked, marks_after};
 
@@ -124,6 +124,17 @@ impl Marks {
             32..=63 => self.with(byte),
             _ => self,
         }
+    }
+
+    /// What is known behind bytes.
+    pub(crate) fn behind(self, bytes: &[u8]) -> Marks
+        ensures { result ≡ fold marks_after self bytes.now }
+    {
+        let mut marks = self;
+        for byte in bytes {
+            marks = marks.after(*byte);
+        }
+        marks
     }
 
     // Whether a control sequence of such a text that isn't well formed is quiet.

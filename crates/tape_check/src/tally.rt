@@ -1,14 +1,20 @@
 //! What a terminal of today leaves out of a recording: bytes read as it reads them, without a screen.
-ghost use Rattle.std.specs.Prelude.{◌≡◌, ◌+◌, ◌<◌, ◌≤◌, ◌&&◌, [], IfOk, OnOk, fold, length, nat_le, take};
+ghost use Rattle.std.specs.Prelude.{◌≡◌, ◌+◌, ◌<◌, ◌≤◌, ◌&&◌, ℕ, List, [], Some, IfOk, OnOk, true, false, drop, fold, length, nat_le, take};
+ghost use Rattle.std.specs.List.{list_all};
 ghost use Rattle.characters.specs.Utf8.{reading};
 ghost use Rattle.tape_core.specs.Tape.{body};
+ghost use Rattle.xterm_term.specs.Played.{title_left};
 ghost use Rattle.xterm_term.specs.Term.{ends_title, is_ground};
-ghost use Rattle.vt_parser.specs.Step.{command_of, pending_after};
-ghost use Rattle.tape_check.specs.Unplayed.{command_names};
+ghost use Rattle.vt_parser.specs.declared.commands.Mode.TheVariants.{Ansi};
+ghost use Rattle.vt_parser.specs.Fold.{pending_after_bytes};
+ghost use Rattle.vt_parser.specs.Step.{pending_after};
+ghost use Rattle.vt_parser.specs.Syntax.{is_graphic};
+ghost use Rattle.vt_parser.specs.Token.{command_of_token};
+ghost use Rattle.vt_parser.specs.View.{parser_view};
 ghost use Rattle.tape_check.specs.Scan.{counted};
 ghost use Rattle.tape_check.specs.Counting.{entries_of};
-ghost use Rattle.tape_check.specs.Tally.{Tally, any_today, forms_at, gone_on, parts_of, read, syntax_read, tallied, tally_start, title_by, title_read, upper_read};
-ghost use Rattle.tape_check.specs.Tallying.{IsAt, is_idle};
+ghost use Rattle.tape_check.specs.Tally.{Tally, forms_at, gone_on, parts_of, read, tallied, tally_start, title_read, upper_read};
+ghost use Rattle.tape_check.specs.Tallying.{AreSyntax, IsAt, Knows, is_idle};
 
 use crate::played::PlayedAs;
 use crate::quiet::Marks;
@@ -16,10 +22,13 @@ use crate::unplayed::Counts;
 use characters::{Decoder, Reading, begins};
 use std::alloc::{AllocError, Global};
 use tape_core::Chunk;
-use vt_parser::{Command, Mode, Parser, ParserState, printable_run};
+use vt_parser::{Command, Mode, Parser, ParserState, Token, printable_run};
 use xterm_term::played::title_left;
 
 const ESC: u8 = 27;
+
+// Most sequences are shorter. The parser may take fewer, and those behind are then looked through again.
+const MOST_TOGETHER: usize = 32;
 
 /// Where a reader of a recording stands, and what it has counted.
 #[derive(Drop)]
@@ -39,14 +48,28 @@ fn ends_title(byte: u8) -> bool
     matches!(byte, 7 | 24 | 26)
 }
 
-// Whether a title is read behind a command, if there is one.
-fn title_by(command: &Option<Command>, title: bool) -> bool
-    ensures { result ≡ title_by command.now title }
+// Whether a title is read behind a token.
+fn title_behind(token: &Token, title: bool) -> bool
+    ensures { result ≡ title_left (command_of_token token.now) title }
 {
-    match command {
-        None => title,
-        Some(command) => title_left(command, title),
+    match token {
+        Token::Esc { inter, last } => {
+            let (inter, last) = (*inter, *last);
+            title_left(&Command::Esc { inter, last }, title)
+        }
+        _ => title,
     }
+}
+
+// How many bytes stand together for the control syntax: the first, and graphic characters behind it.
+#[inline]
+fn syntax_front(bytes: &[u8]) -> usize
+    requires { 0 < length bytes.now }
+    ensures some { 0 < result }
+    ensures within { result ≤ length bytes.now }
+    ensures graphic { list_all is_graphic (drop 1 (take result bytes.now)) ≡ true }
+{
+    1 + printable_run(&bytes[1..bytes.len().min(MOST_TOGETHER)])
 }
 
 /// The unplayed sequences of chunks, and how many parts of them are no UTF-8.
@@ -120,8 +143,11 @@ impl Reader {
         if plain > 0 {
             return Ok(plain);
         }
-        self.take_byte(bytes[0])?;
-        Ok(1)
+        if self.title || self.decoder.is_pending() || bytes[0] >= 128 {
+            self.take_byte(bytes[0])?;
+            return Ok(1);
+        }
+        self.read_syntax(&bytes[..syntax_front(bytes)])
     }
 
     // How many of these bytes at least count nothing and leave the reader as it is.
@@ -193,7 +219,8 @@ impl Reader {
         if self.is_upper(byte) {
             return self.read_upper(byte);
         }
-        self.read_syntax(byte)
+        self.read_syntax(&[byte])?;
+        Ok(())
     }
 
     #[tactic(auto, using(vt_parser::proofs::Agrees::ground_is_empty))]
@@ -235,14 +262,37 @@ impl Reader {
         self.count_part()
     }
 
-    // A byte of the control syntax.
-    fn read_syntax(&mut self, byte: u8) -> Result<(), AllocError>
-        ensures { (t : Tally) → IsAt self.old t → OnOk result (IsAt self.new (syntax_read t byte)) }
+    // Takes some bytes of the control syntax, and says how many.
+    fn read_syntax(&mut self, bytes: &[u8]) -> Result<usize, AllocError>
+        requires some { 0 < length bytes.now }
+        requires title { self.old.title ≡ false }
+        requires character { self.old.decoder ≡ [] }
+        requires syntax { (t : Tally) → IsAt self.old t → AreSyntax t.sequence bytes.now }
+        ensures some { IfOk result (λ n. 0 < n) }
+        ensures within { IfOk result (λ n. n ≤ length bytes.now) }
+        ensures taken { (t : Tally) → IsAt self.old t
+            → IfOk result (λ n. IsAt self.new (fold tallied t (take n bytes.now))) }
     {
-        self.count_form(byte)?;
-        let command = self.step(byte);
-        self.title = title_by(&command, self.title);
-        self.count_command(&command)
+        self.count_form(bytes[0])?;
+        let (taken, token) = self.parser.next(Mode::Ansi, bytes);
+        if let Some(token) = token {
+            self.title = title_behind(&token, self.title);
+            self.counts.count_token(TODAY, &token)?;
+        }
+        self.marks = self.marks_behind(&bytes[..taken]);
+        Ok(taken)
+    }
+
+    // The marks behind bytes that the parser took: they matter only where a sequence is pending.
+    fn marks_behind(&self, bytes: &[u8]) -> Marks
+        ensures { (pending : List ℕ) → Knows self.now.marks pending
+            → parser_view Ansi (pending_after_bytes Ansi Ansi pending bytes.now) ≡ Some self.now.parser
+            → Knows result (pending_after_bytes Ansi Ansi pending bytes.now) }
+    {
+        match self.parser.state() {
+            ParserState::Ground => self.marks,
+            _ => self.marks.behind(bytes),
+        }
     }
 
     // Counts the sequence without a command that a byte ends, if it ends one that isn't quiet.
@@ -256,23 +306,12 @@ impl Reader {
     }
 
     #[tactic(auto, using(crate::proofs::TallyLemmas::knows_after))]
-    fn step(&mut self, byte: u8) -> Option<Command>
-        ensures command { (t : Tally) → IsAt self.old t → result ≡ command_of Mode.Ansi t.sequence byte }
-        ensures stands { (t : Tally) → IsAt self.old t
-            → IsAt self.new (record t { sequence = pending_after Mode.Ansi t.sequence byte }) }
+    fn step(&mut self, byte: u8)
+        ensures { (t : Tally) → IsAt self.old t
+            → IsAt self.new (record t { sequence = pending_after Ansi t.sequence byte }) }
     {
         self.marks = self.marks.after(byte);
-        self.parser.step(Mode::Ansi, byte)
-    }
-
-    fn count_command(&mut self, command: &Option<Command>) -> Result<(), AllocError>
-        ensures { (t : Tally) → IsAt self.old t → OnOk result (IsAt self.new
-            (record t { entries = fold counted t.entries (command_names any_today command.now) })) }
-    {
-        match command {
-            None => Ok(()),
-            Some(command) => self.counts.count_command(TODAY, command),
-        }
+        let _ = self.parser.step(Mode::Ansi, byte);
     }
 }
 

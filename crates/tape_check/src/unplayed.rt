@@ -13,7 +13,7 @@ use arrayvec::ArrayVec;
 use itoa::Buffer;
 use std::alloc::{AllocError, Global};
 use std::collections::BTreeMap;
-use vt_parser::{Command, Formless, Token};
+use vt_parser::{Formless, Token};
 use vt_term::played as vt;
 use xterm_term::played as today;
 
@@ -198,28 +198,6 @@ impl Counts {
                 last,
             } => self.count_sequence(played, *private, params, *last),
             Token::Vt52(last) => self.count_vt52(*last),
-            _ => Ok(()),
-        }
-    }
-
-    /// Counts what is unplayed of a command.
-    pub(crate) fn count_command(
-        &mut self,
-        played: PlayedAs,
-        command: &Command,
-    ) -> Result<(), AllocError>
-        ensures { OnOk result
-            (entries_of self.new ≡ fold counted (entries_of self.old)
-            (command_names played (Some command.now))) }
-    {
-        match command {
-            Command::Esc { inter, last } => self.count_escape(played, *inter, *last),
-            Command::Csi {
-                private,
-                params,
-                last,
-            } => self.count_sequence(played, *private, params.as_slice(), *last),
-            Command::Vt52(last) => self.count_vt52(*last),
             _ => Ok(()),
         }
     }

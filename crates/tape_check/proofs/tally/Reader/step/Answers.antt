@@ -9,8 +9,8 @@ use Rattle.tape_check.proofs.ScanLemmas.{mode_same}
 use Rattle.tape_check.proofs.TallyLemmas.{knows_after}
 use Rattle.tape_check.proofs.tally.Reader.step.Goals as goal
 
-pub returns-clause-stands : goal.returns-clause-stands
-returns-clause-stands c t at =
+pub returns : goal.returns
+returns c t at =
     let byte = c.args.byte in
     let left = pending_after Ansi t.sequence byte in
     record {
