@@ -5,10 +5,13 @@ use Rattle.std.proofs.lemmas.Bool.{cases_eq, cases_lt}
 use Rattle.std.proofs.lemmas.Bool.Decides.{nat_tests}
 use Rattle.std.proofs.lemmas.List.{length-set, get_or_default, get_or-set_same, get_or-set_other}
 use Rattle.sheet.specs.Cells.{Cell}
+use Rattle.sheet.specs.declared.rendition.Rendition.{Rendition}
 use Rattle.sheet.specs.Table.{table}
+use Rattle.sheet.specs.Edits.{run_put}
 use Rattle.sheet.specs.Halves.{Whole}
 use Rattle.sheet.specs.Grid.{Grid, Told, is_touched, row_at, with_row}
 use Rattle.sheet.specs.Held.{Held, Sound, slot_at, row_in, rows_of, grid_of}
+use Rattle.sheet.proofs.Wholes.{whole_run, length_run}
 use Rattle.sheet.proofs.Tables.{length-table, nth-table, nth_is, nth_none, nth_past, table_ext, get_or-set, nth-set}
 
 -- the row of a line lies in the line's slot
@@ -119,3 +122,13 @@ module _ (held : Held) (old : Grid) (sound : Sound held) (seen : grid_of held �
 
           unmoved : (k : ℕ) → k ≢ line → (if k == line then new else row_at (rows_of held) k) ≡ row_at (rows_of held) k
           unmoved k other = grind (arith, nat_tests)
+
+    -- characters that are put one after another in that row
+    module _ (row : List Cell) (is_row : row ≡ get_or held.slots slot row) (rendition : Rendition) (cs : List ℕ) (column : ℕ) (new : List Cell) (is_new : new ≡ run_put column cs rendition row) where
+      pub sound_run : Sound (replaced new)
+      sound_run =
+          sound_changed new (subst Whole (sym is_new) (whole_run rendition cs column row (row_whole row is_row)))
+          (ap length is_new ∙ length_run rendition cs column row ∙ row_length row is_row)
+
+      pub rows_run : rows_of (replaced new) ≡ with_row line (run_put column cs rendition (row_at old.rows line)) old.rows
+      rows_run = rows_changed new _ (is_new ∙ ap (run_put column cs rendition) (row_read row is_row))

@@ -1,5 +1,5 @@
 -- Characters that are put one after another, and at once.
-use Rattle.std.proofs.Common.{◌≡◌, ℕ, ◌+◌, ◌-◌, ◌<◌, ◌≤◌, ◌≢◌, Bool, false, List, [], ◌∷◌, length, get_or, drop, refl, sym, ap, inl, inr, ◌∙◌, arith}
+use Rattle.std.proofs.Common.{◌≡◌, ℕ, ◌+◌, ◌-◌, ◌<◌, ◌≤◌, ◌≢◌, Bool, false, List, [], ◌∷◌, length, max, get_or, set, drop, refl, sym, ap, inl, inr, ◌∙◌, subst, arith}
 use Rattle.std.specs.Prelude.{if◌then◌else◌, ◌==◌, ◌&&◌, ◌||◌, not}
 use Rattle.std.proofs.lemmas.Bool.{cases_eq, cases_lt}
 use Rattle.std.proofs.lemmas.Bool.Decides.{nat_tests}
@@ -13,7 +13,7 @@ use Rattle.sheet.specs.Halves.{Whole, mended, border_mended}
 use Rattle.sheet.specs.Edits.{written, put, run_written, run_put}
 use Rattle.sheet.specs.Grid.{IsUsed}
 use Rattle.sheet.proofs.Tables.{length-table, table_ext}
-use Rattle.sheet.proofs.Rows.{Intact, at_mended, blank_narrow, still_blank, lettered_wide, lettered_open, written_there, narrow_put, two_mended, mended_same, mended_whole, whole_mended}
+use Rattle.sheet.proofs.Rows.{Intact, at_mended, blank_narrow, still_blank, lettered_wide, lettered_open, narrow_written, still_narrow, written_there, narrow_put, two_mended, mended_same, mended_whole, whole_mended}
 
 module _ (rendition : Rendition) where
   pub len_written : (column : ℕ) (cs : List ℕ) (row : List Cell) → length (run_written column cs rendition row) ≡ length row
@@ -165,6 +165,13 @@ module _ (rendition : Rendition) where
             (still_blank column paper w k low (omega arith) (run_outside cs column row k low room (λ _. omega arith) ∙ is.tail k (omega arith)));
       }
 
+  -- the same of a row that they were put in, where the count of cells in use goes up to the last of them
+  pub run_used_after : (cs : List ℕ) (column : ℕ) (row after : List Cell) (used most : ℕ) → Whole row → IsUsed row used → 1 ≤ column → column + length cs ≤ length row + 1
+      → most ≡ max used (column + length cs - 1) → after ≡ run_put column cs rendition row → IsUsed after most
+  run_used_after cs column row after used most whole is low room is_most is_after =
+      subst (λ (cells : List Cell). IsUsed cells most) (sym is_after)
+      (run_used cs column row used most whole is low room (omega (arith, is_most)) (omega (arith, is_most)) (omega (arith, is_most, is.within)))
+
   -- nothing is left to write
   pub run_done : (cs : List ℕ) (i column : ℕ) (row : List Cell) → length cs ≤ i → run_written column (drop i cs) rendition row ≡ row
   run_done cs i column row all = at_drop_all (λ rest. run_written column rest rendition row) cs i all
@@ -176,3 +183,41 @@ module _ (rendition : Rendition) where
   run_more cs column i row below =
       at_drop_more (λ gs. run_written (column + i) gs rendition row) cs i 0 below
       ∙ ap (λ (k : ℕ). run_written k (drop (i + 1) cs) rendition (written (column + i) (get_or cs i 0) false rendition row)) (omega arith)
+
+  -- a loop's step: one is written, and what is left leads to the whole still
+  pub run_step : (cs : List ℕ) (column i : ℕ) (row all : List Cell) (cell : Cell) → 1 ≤ column → column + length cs ≤ length row + 1 → i < length cs
+      → cell ≡ lettered (get_or cs i 0) false rendition → run_written (column + i) (drop i cs) rendition row ≡ all
+      → run_written (column + (i + 1)) (drop (i + 1) cs) rendition (set row (column - 1 + i) cell) ≡ all
+  run_step cs column i row all cell low room below is left =
+      let at : column - 1 + i ≡ column + i - 1 = omega arith in
+      ap (run_written (column + (i + 1)) (drop (i + 1) cs) rendition)
+      (ap (λ (k : ℕ). set row k cell) at ∙ narrow_written (column + i) (get_or cs i 0) rendition row (omega arith) cell is (omega arith))
+      ∙ sym (run_more cs column i row below) ∙ left
+
+  -- What a loop leaves that wrote all of them over a row, and its borders are mended then.
+  module _ (cs : List ℕ) (column i : ℕ) (row now : List Cell) (low : 1 ≤ column) (room : column + length cs ≤ length row + 1) (done : length cs ≤ i)
+      (left : run_written (column + i) (drop i cs) rendition now ≡ run_written column cs rendition row) where
+    run_there : now ≡ run_written column cs rendition row
+    run_there = sym (run_done cs i (column + i) now done) ∙ left
+
+    pub run_open : 0 < length cs → is_covered (cell_at now column) ≡ false
+    run_open some = ap (λ (r : List Cell). is_covered (cell_at r column)) run_there ∙ (run_inside cs column row column low room (omega arith) (omega arith)).1
+
+    module _ (paper : Colour) (same : paper ≡ rendition.paper) (before : List Cell) (is_before : before ≡ border_mended column paper now) where
+      run_before : before ≡ border_mended column rendition.paper (run_written column cs rendition row)
+      run_before = is_before ∙ ap (λ (p : Colour). border_mended column p now) same ∙ ap (border_mended column rendition.paper) run_there
+
+      pub run_narrow : 0 < length cs → is_wide (cell_at before (column + length cs - 1)) ≡ false
+      run_narrow some =
+          let last = column + length cs - 1 in
+          ap (λ (r : List Cell). is_wide (cell_at r last)) run_before
+          ∙ still_narrow column rendition.paper (run_written column cs rendition row) last low (run_inside cs column row last low room (omega arith) (omega arith)).0
+
+      pub run_left : (after : List Cell) → Whole row → after ≡ border_mended (column + length cs) paper before → after ≡ run_put column cs rendition row
+      run_left after whole is_after =
+          is_after ∙ ap (λ (p : Colour). border_mended (column + length cs) p before) same ∙ ap (border_mended (column + length cs) rendition.paper) run_before
+          ∙ run_is_put cs column row whole low room
+
+  -- none is put where there is none
+  pub run_none : (cs : List ℕ) (column : ℕ) (row : List Cell) → length cs ≡ 0 → row ≡ run_put column cs rendition row
+  run_none cs column row none = sym (at_drop_all (λ (rest : List ℕ). run_put column rest rendition row) cs 0 (omega arith))

@@ -207,6 +207,24 @@ pub(crate) fn put_run(cells: &mut [Cell], column: usize, characters: &[u8], rend
     mend_behind(cells, column + characters.len(), paper);
 }
 
+/// Puts characters of one column, one after another.
+pub(crate) fn put_letters(cells: &mut [Cell], column: usize, letters: &[char], rendition: Pen)
+    requires whole { Whole cells.old }
+    requires low { 1 ≤ column }
+    requires high { column + length letters.now ≤ length cells.old + 1 }
+    ensures { cells.new ≡ run_put column letters.now rendition cells.old }
+{
+    if letters.is_empty() {
+        return;
+    }
+    for (i, letter) in letters.iter().enumerate() {
+        cells[column - 1 + i] = Cell::lettered(*letter, false, rendition);
+    }
+    let paper = rendition.paper();
+    mend_before(cells, column, paper);
+    mend_behind(cells, column + letters.len(), paper);
+}
+
 /// Adds a mark to the character that lies at a column.
 pub(crate) fn add_mark(cells: &mut [Cell], column: usize, mark: char)
     requires whole { Whole cells.old }

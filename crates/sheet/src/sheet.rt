@@ -129,6 +129,24 @@ impl Sheet {
         self.touched[line as usize - 1] = true;
     }
 
+    /// Puts characters of one column, one after another.
+    pub fn put_letters(&mut self, line: u16, column: u16, letters: &[char], rendition: Pen)
+        requires line_low { 1 ≤ line }
+        requires line_high { line ≤ self.old.lines }
+        requires column_low { 1 ≤ column }
+        requires column_high { column + length letters.now ≤ self.old.columns + 1 }
+        ensures rows { self.new.rows
+            ≡ with_row line (run_put column letters.now rendition (row_at self.old.rows line)) self.old.rows }
+        ensures columns { self.new.columns ≡ self.old.columns }
+        ensures lines { self.new.lines ≡ self.old.lines }
+        ensures told { (before : List (List Cell)) → Told before self.old → Told before self.new }
+    {
+        let slot = self.order[line as usize - 1] as usize;
+        let row = &mut self.slots[slot];
+        row.put_letters(column as usize, letters, rendition);
+        self.touched[line as usize - 1] = true;
+    }
+
     /// A character of width 0 joins the one that lies at a column, where that has fewer than two.
     pub fn add_mark(&mut self, line: u16, column: u16, mark: char)
         requires line_low { 1 ≤ line }

@@ -167,6 +167,16 @@ impl Slot {
         self.used = self.used.max(column + characters.len() - 1);
     }
 
+    pub fn put_letters(&mut self, column: usize, letters: &[char], rendition: Pen)
+        requires whole { Whole self.old }
+        requires low { 1 ≤ column }
+        requires high { column + length letters.now ≤ length self.old + 1 }
+        ensures { self.new ≡ run_put column letters.now rendition self.old }
+    {
+        row::put_letters(self.cells.as_mut_slice(), column, letters, rendition);
+        self.used = self.used.max(column + letters.len() - 1);
+    }
+
     pub fn add_mark(&mut self, column: usize, mark: char)
         requires whole { Whole self.old }
         requires low { 1 ≤ column }

@@ -3,4 +3,5 @@ mod Soundness
 mod Regions
 mod Stops
 pub mod Runs
+mod Parts
 mod Screens

@@ -27,6 +27,8 @@ mod rows;
 #[cfg(test)]
 mod sheets;
 #[cfg(test)]
+mod shown_letters;
+#[cfg(test)]
 mod starts;
 #[cfg(test)]
 mod stream;

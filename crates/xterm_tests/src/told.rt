@@ -186,7 +186,7 @@ fn is_blank(row: &[Cell]) -> bool {
 }
 
 // The lines that aren't blank, each with its number.
-fn write_lines(text: &mut String, screen: &Screen) -> Result<(), Fail> {
+pub(crate) fn write_lines(text: &mut String, screen: &Screen) -> Result<(), Fail> {
     for line in 1..screen.lines() + 1 {
         if is_blank(screen.row(line)) {
             continue;
@@ -303,7 +303,7 @@ fn write_tabs(text: &mut String, screen: &Screen) -> Result<(), Fail> {
     Ok(())
 }
 
-fn write_cursor(text: &mut String, screen: &Screen) -> Result<(), Fail> {
+pub(crate) fn write_cursor(text: &mut String, screen: &Screen) -> Result<(), Fail> {
     let (line, column) = screen.cursor();
     text.push_str("at ")?;
     write_place(text, line, column, screen.wrap())

@@ -46,6 +46,40 @@ impl Screen {
         }
     }
 
+    /// Shows characters of one column, as many as the cursor's line has room for, at least one, and says how many: it leaves
+    /// what `show` of each in turn leaves. Inserted, one alone.
+    pub fn show_letters(
+        &mut self,
+        letters: &[char],
+        rendition: Pen,
+        autowrap: bool,
+        inserting: bool,
+    ) -> usize
+        requires { 0 < length letters.now }
+        ensures some { 0 < result }
+        ensures within { result ≤ length letters.now }
+        ensures picture { self.new.picture
+            ≡ run_shown (take result letters.now) rendition autowrap inserting self.old.picture }
+        ensures told { KeepsTold self.old self.new }
+    {
+        if inserting {
+            self.show(letters[0], false, rendition, autowrap, true);
+            return 1;
+        }
+        self.take_wrap(rendition);
+        let room = (self.columns - self.column) as usize + 1;
+        let count = letters.len().min(room);
+        self.shown
+            .put_letters(self.line, self.column, &letters[..count], rendition);
+        if count == room {
+            self.column = self.columns;
+            self.wrap = autowrap;
+        } else {
+            self.column += count as u16;
+        }
+        count
+    }
+
     /// A character of width 0 joins the one at the cursor where the wrap is pending, else the one left of it; where
     /// there is none, or it has two marks, nothing.
     pub fn add_mark(&mut self, mark: char)

@@ -1,9 +1,6 @@
-use Rattle.std.proofs.Common.{◌∙◌, length, sym, ap, subst, arith}
-use Rattle.sheet.specs.Halves.{Whole}
-use Rattle.sheet.specs.Edits.{run_put}
+use Rattle.std.proofs.Common.{arith}
 use Rattle.sheet.specs.View.{held_of}
-use Rattle.sheet.proofs.Wholes.{whole_run, length_run}
-use Rattle.sheet.proofs.Index.{inside, slot_below, row_read, row_whole, row_length, row_columns, rows_changed, sound_changed, told_changed}
+use Rattle.sheet.proofs.Index.{inside, slot_below, row_whole, row_length, row_columns, rows_run, sound_run, told_changed}
 use Rattle.sheet.proofs.sheet.Sheet.put_run.Goals as goal
 
 pub index-requires : goal.index-requires
@@ -22,18 +19,12 @@ pub put_run-requires-clause-high : goal.put_run-requires-clause-high
 put_run-requires-clause-high c = omega (arith, row_columns (held_of c.self.inside) _ c.self.invariant c.self.view_is c.args.line c.requires.line_low c.requires.line_high _ c.index.ensures _ c.index_mut-row.ensures.value, row_length (held_of c.self.inside) _ c.self.invariant c.self.view_is c.args.line c.requires.line_low c.requires.line_high _ c.index.ensures _ c.index_mut-row.ensures.value, c.self.invariant.columns_high)
 
 pub invariant_of-self : goal.invariant_of-self
-invariant_of-self c =
-    let row = c.index_mut-row.result.now in
-    let was = row_length (held_of c.self.inside) _ c.self.invariant c.self.view_is c.args.line c.requires.line_low c.requires.line_high _ c.index.ensures row c.index_mut-row.ensures.value in
-    let whole : Whole row = row_whole (held_of c.self.inside) _ c.self.invariant c.self.view_is c.args.line c.requires.line_low c.requires.line_high _ c.index.ensures row c.index_mut-row.ensures.value in
-    sound_changed (held_of c.self.inside) _ c.self.invariant c.self.view_is c.args.line c.requires.line_low c.requires.line_high _ c.index.ensures c.put_run.new.self
-    (subst Whole (sym c.put_run.ensures) (whole_run c.args.rendition c.args.characters.now c.args.column row whole))
-    (ap length c.put_run.ensures ∙ length_run c.args.rendition c.args.characters.now c.args.column row ∙ was)
+invariant_of-self c = sound_run (held_of c.self.inside) _ c.self.invariant c.self.view_is c.args.line c.requires.line_low c.requires.line_high _ c.index.ensures _ c.index_mut-row.ensures.value
+    c.args.rendition c.args.characters.now c.args.column c.put_run.new.self c.put_run.ensures
 
 pub returns-clause-rows : goal.returns-clause-rows
-returns-clause-rows c =
-    rows_changed (held_of c.self.inside) _ c.self.invariant c.self.view_is c.args.line c.requires.line_low c.requires.line_high _ c.index.ensures c.put_run.new.self _
-    (c.put_run.ensures ∙ ap (run_put c.args.column c.args.characters.now c.args.rendition) (row_read (held_of c.self.inside) _ c.self.invariant c.self.view_is c.args.line c.requires.line_low c.requires.line_high _ c.index.ensures _ c.index_mut-row.ensures.value))
+returns-clause-rows c = rows_run (held_of c.self.inside) _ c.self.invariant c.self.view_is c.args.line c.requires.line_low c.requires.line_high _ c.index.ensures _ c.index_mut-row.ensures.value
+    c.args.rendition c.args.characters.now c.args.column c.put_run.new.self c.put_run.ensures
 
 pub returns-clause-told : goal.returns-clause-told
 returns-clause-told c = told_changed (held_of c.self.inside) _ c.self.invariant c.self.view_is c.args.line c.requires.line_low c.requires.line_high _ c.index.ensures c.put_run.new.self

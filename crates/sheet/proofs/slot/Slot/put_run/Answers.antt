@@ -1,18 +1,13 @@
-use Rattle.std.proofs.Common.{List, length, ◌∙◌, ap, sym, subst, arith, take_at}
-use Rattle.sheet.specs.Cells.{Cell}
+use Rattle.std.proofs.Common.{length, ◌∙◌, ap, sym, subst, arith, take_at}
 use Rattle.sheet.specs.Edits.{run_put}
 use Rattle.sheet.specs.Halves.{Whole}
-use Rattle.sheet.specs.Grid.{IsUsed}
-use Rattle.sheet.proofs.Runs.{run_used}
+use Rattle.sheet.proofs.Runs.{run_used_after}
 use Rattle.sheet.proofs.slot.Slot.put_run.Goals as goal
 
 pub invariant_of-self : goal.invariant_of-self
 invariant_of-self c =
     let row = c.self.inside.cells.items in
-    let len = ap length c.self.view_is in
     let is = take_at c.put_run.new.cells _ c.self.inside.cells.len (c.put_run.auto.cells ∙ c.as_mut_slice.ensures.len) ∙ c.put_run.ensures
     ∙ ap (run_put c.args.column c.args.characters.now c.args.rendition) c.as_mut_slice.ensures.value in
-    subst (λ (cells : List Cell). IsUsed cells c.max-self-inside.result) (sym is)
-    (run_used c.args.rendition c.args.characters.now c.args.column row c.self.inside.used c.max-self-inside.result (subst Whole (sym c.self.view_is) c.requires.whole) c.self.invariant
-    c.requires.low (omega (arith, c.requires.high, len)) (omega (arith, c.max-self-inside.ensures)) (omega (arith, c.max-self-inside.ensures))
-    (omega (arith, c.max-self-inside.ensures, c.self.invariant.within, c.requires.high, len)))
+    run_used_after c.args.rendition c.args.characters.now c.args.column row _ c.self.inside.used c.max-self-inside.result (subst Whole (sym c.self.view_is) c.requires.whole) c.self.invariant
+    c.requires.low (omega (arith, c.requires.high, ap length c.self.view_is)) c.max-self-inside.ensures is
