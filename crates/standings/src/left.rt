@@ -75,35 +75,35 @@ impl Standing {
         Ok(Span { from: 0, to: count })
     }
 
-    /// These characters of ASCII are written over as many of the row below so many others, from the one behind so many
-    /// on; looks where the text stands then. Says which rows may differ. Nothing is done where there is no such row, or
-    /// it has too few characters.
+    /// These characters are written over as many of the row below so many others, from the one behind so many on; looks
+    /// where the text stands then. Says which rows may differ. Nothing is done where there is no such row, or it has too
+    /// few characters.
     pub fn write(
         &mut self,
         above: usize,
         before: usize,
-        bytes: &[u8],
+        letters: &[char],
         text: &[char],
     ) -> Result<Span, AllocError>
         ensures rows { above < length self.old.rows.items
-            → before + length bytes.now ≤ length (row_below self.old.rows.items above).characters
-            → OnOk result (self.new.rows.items ≡ rows_written above before bytes.now self.old.rows.items) }
+            → before + length letters.now ≤ length (row_below self.old.rows.items above).characters
+            → OnOk result (self.new.rows.items ≡ rows_written above before letters.now self.old.rows.items) }
         ensures places { above < length self.old.rows.items
-            → before + length bytes.now ≤ length (row_below self.old.rows.items above).characters
+            → before + length letters.now ≤ length (row_below self.old.rows.items above).characters
             → self.old.places.items ≡ standing text.now self.old.rows.items
             → OnOk result (self.new.places.items ≡ standing text.now self.new.rows.items) }
         ensures others { IfOk result (λ span. Stays span self.old.rows.items self.new.rows.items) }
     {
-        if above >= self.rows.len() || !self.rows[above].has(before, bytes.len()) {
+        if above >= self.rows.len() || !self.rows[above].has(before, letters.len()) {
             return Ok(Span::none());
         }
         let row = &mut self.rows[above];
-        row.write(before, bytes);
+        row.write(before, letters);
         let span = Span {
             from: above,
             to: above + 1,
         };
-        self.look_around(text, above, before, bytes.len())?;
+        self.look_around(text, above, before, letters.len())?;
         Ok(span)
     }
 

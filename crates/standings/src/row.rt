@@ -195,12 +195,12 @@ impl Row {
         before <= all && count <= all - before
     }
 
-    /// These characters of ASCII are written over as many of its own, from the one behind so many on.
-    pub(crate) fn write(&mut self, before: usize, bytes: &[u8])
-        requires { before + length bytes.now ≤ length self.old.characters }
-        ensures { self.new ≡ row_written before bytes.now self.old }
+    /// These characters are written over as many of its own, from the one behind so many on.
+    pub(crate) fn write(&mut self, before: usize, letters: &[char])
+        requires { before + length letters.now ≤ length self.old.characters }
+        ensures { self.new ≡ row_written before letters.now self.old }
     {
-        write_over(self.characters.as_mut_slice(), before, bytes);
+        write_over(self.characters.as_mut_slice(), before, letters);
     }
 
     /// Its characters.
@@ -240,15 +240,13 @@ fn number(columns: &mut [u16], from: usize, column: u16)
     }
 }
 
-/// Those behind so many become these characters of ASCII.
-fn write_over(characters: &mut [char], before: usize, bytes: &[u8])
-    requires { before + length bytes.now ≤ length characters.old }
+/// Those behind so many become these.
+fn write_over(characters: &mut [char], before: usize, letters: &[char])
+    requires { before + length letters.now ≤ length characters.old }
     ensures { characters.new
-        ≡ take before characters.old ++ bytes.now ++ drop (before + length bytes.now) characters.old }
+        ≡ take before characters.old ++ letters.now ++ drop (before + length letters.now) characters.old }
 {
-    for (at, byte) in bytes.iter().enumerate() {
-        characters[before + at] = char::from(*byte);
-    }
+    characters[before..before + letters.len()].copy_from_slice(letters);
 }
 
 /// The first so many rows come behind the others.

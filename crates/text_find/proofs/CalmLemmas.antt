@@ -91,9 +91,9 @@ kept_calm text first screen before bytes taken kept = λ index due last lasts co
     none_kept text index due first (standing text first) last lasts (rows_within screen before bytes count) (rows_within screen before bytes (count + 1)) (kept count lt)
 
 -- as where all rows move up, and each place stays
-pub moved_calm : (text : List ℕ) (first : List Row) (screen : List ℕ → List Row) (before bytes : List ℕ) (columns : ℕ) (still : Standing) → still.rows.items ≡ screen before
-    → IsForetold text screen before bytes (MovesUp columns) → Keeps text still.rows.items (moved_up columns still.rows.items) → NonePass text first screen before bytes 1
-moved_calm text first screen before bytes columns still rows told keeps =
+pub moved_calm : (text : List ℕ) (first : List Row) (screen : List ℕ → List Row) (before bytes : List ℕ) (columns : ℕ) (letters : List ℕ) (still : Standing) → still.rows.items ≡ screen before
+    → IsForetold text screen before bytes (MovesUp columns) letters → Keeps text still.rows.items (moved_up columns still.rows.items) → NonePass text first screen before bytes 1
+moved_calm text first screen before bytes columns letters still rows told keeps =
     kept_calm text first screen before bytes 1 (λ count lt.
     let one : 0 ≡ count = omega (arith, lt) in
     let here : still.rows.items ≡ rows_within screen before bytes 0 = rows ∙ sym (within_start screen before bytes) in

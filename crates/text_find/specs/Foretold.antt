@@ -14,19 +14,19 @@ taken_by (MovesUp columns) = 1
 taken_by (MovesWithin region) = region.taken
 taken_by (Writes written) = written.taken
 
--- the rows behind them
-abbrev pub foretold_rows : Foretold → List Row → List Row
-foretold_rows (MovesUp columns) rows = moved_up columns rows
-foretold_rows (MovesWithin region) rows =
+-- the rows behind them, where these are the letters that are written
+abbrev pub foretold_rows : Foretold → List ℕ → List Row → List Row
+foretold_rows (MovesUp columns) letters rows = moved_up columns rows
+foretold_rows (MovesWithin region) letters rows =
     if region.down then region_down region.from region.to region.columns rows else region_up region.from region.to region.columns rows
-foretold_rows (Writes written) rows = rows_written written.above written.before written.letters.items rows
+foretold_rows (Writes written) letters rows = rows_written written.above written.before letters rows
 
 -- these rows have the ones that move, or the characters that are written over
-abbrev pub HasRoom : Foretold → List Row → Type 0
-HasRoom (MovesUp columns) rows = 0 < length rows
-HasRoom (MovesWithin region) rows = (region.from < region.to) × (region.to ≤ length rows)
-HasRoom (Writes written) rows =
-    (written.above < length rows) × (written.before + length written.letters.items ≤ length (row_below rows written.above).characters)
+abbrev pub HasRoom : Foretold → List ℕ → List Row → Type 0
+HasRoom (MovesUp columns) letters rows = 0 < length rows
+HasRoom (MovesWithin region) letters rows = (region.from < region.to) × (region.to ≤ length rows)
+HasRoom (Writes written) letters rows =
+    (written.above < length rows) × (written.before + length letters ≤ length (row_below rows written.above).characters)
 
 -- no row changes before the last of the bytes that move rows between margins, and nothing of a text goes at any of those that write
 abbrev pub KeepsIn : List ℕ → (List ℕ → List Row) → List ℕ → List ℕ → Foretold → Type 0
@@ -37,9 +37,9 @@ KeepsIn text screen before bytes (Writes written) =
     (count : ℕ) → count < written.taken → Keeps text (rows_within screen before bytes count) (rows_within screen before bytes (count + 1))
 
 -- this is what the first of the bytes do, where others were played before
-pub record IsForetold (text : List ℕ) (screen : List ℕ → List Row) (before bytes : List ℕ) (foretold : Foretold) : Type 0 where
-  pub rows : screen (before ++ take (taken_by foretold) bytes) ≡ foretold_rows foretold (screen before)
-  pub room : HasRoom foretold (screen before)
+pub record IsForetold (text : List ℕ) (screen : List ℕ → List Row) (before bytes : List ℕ) (foretold : Foretold) (letters : List ℕ) : Type 0 where
+  pub rows : screen (before ++ take (taken_by foretold) bytes) ≡ foretold_rows foretold letters (screen before)
+  pub room : HasRoom foretold letters (screen before)
   pub keeps : KeepsIn text screen before bytes foretold
 
 -- a row that comes in has no more columns than can be told

@@ -6,9 +6,10 @@ ghost use Rattle.text_find.specs.Lines.{AreBetween, AreStill, IsLagging, IsTrail
 
 use crate::behind::{Steps, trail};
 use crate::finder::Finder;
-use crate::foretold::play_foretold;
+use crate::foretold::{LetterRun, play_foretold};
 use crate::lines::none_passes;
 use crate::sides::{Sides, catch_up};
+use arrayvec::ArrayVec;
 use plays::{OutOfMemory, Plays, Reports};
 use std::alloc::Global;
 
@@ -88,9 +89,11 @@ fn play_pieces<T: Plays, F: Finder<T>>(
         → IfOk result (λ played. played.1 ≡ true
         → IsCalm text.now (F.screens profile) before bytes.now played.0) }
 {
+    let mut letters = ArrayVec::new();
     let mut taken = 0;
     while taken < bytes.len() {
-        let (more, calm) = play_piece::<T, F>(alloc, text, &bytes[taken..], ends, steps, ahead)?;
+        let rest = &bytes[taken..];
+        let (more, calm) = play_piece::<T, F>(alloc, text, rest, &mut letters, ends, steps, ahead)?;
         taken += more;
         if !calm {
             return Ok((taken, false));
@@ -100,11 +103,12 @@ fn play_pieces<T: Plays, F: Finder<T>>(
 }
 
 /// Plays a piece of a chunk: a beginning of the bytes. Says how many, and whether surely nothing of the text passes at
-/// them.
+/// them. The list of letters is room for those that they write.
 fn play_piece<T: Plays, F: Finder<T>>(
     alloc: Global,
     text: &[char],
     bytes: &[u8],
+    letters: &mut LetterRun,
     ends: &mut Sides,
     steps: &mut Steps,
     ahead: &mut T,
@@ -114,8 +118,9 @@ fn play_piece<T: Plays, F: Finder<T>>(
     ensures piece { IfOk result (λ played. IsPiece T.shows F.screens text.now bytes.now
         ends.old ends.new steps.old steps.new ahead.old ahead.new played.0 played.1) }
 {
-    if let Some(foretold) = F::foretells(ahead, text, &ends.after, bytes) {
-        return play_foretold::<T, F>(alloc, text, bytes, &foretold, ends, steps, ahead);
+    if let Some(foretold) = F::foretells(ahead, text, &ends.after, bytes, letters) {
+        let letters = letters.as_slice();
+        return play_foretold::<T, F>(alloc, text, bytes, foretold, letters, ends, steps, ahead);
     }
     if ends.after.places.is_empty() {
         play_where_none_stands::<T, F>(alloc, text, bytes, ends, steps, ahead)

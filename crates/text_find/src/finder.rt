@@ -4,7 +4,7 @@ ghost use Rattle.standings.specs.Spans.{Stays};
 ghost use Rattle.standings.specs.Standing.{standing};
 
 use crate::ahead::play;
-use crate::foretold::Foretold;
+use crate::foretold::{Foretold, LetterRun};
 use plays::{OutOfMemory, Plays};
 use standings::{Row, Span, Standing};
 use std::alloc::Global;
@@ -93,18 +93,24 @@ pub trait Finder<T: Plays> {
     }
 
     /// What the first of the bytes surely do to the rows of a terminal that shows these rows, on which the text stands
-    /// there; where they write, nothing of the text goes at them, and where they move rows between margins none changes
-    /// before the last of them.
-    fn foretells(terminal: &T, text: &[char], still: &Standing, bytes: &[u8]) -> Option<Foretold>
+    /// there; where they write, nothing of the text goes at them, and the letters become what they write; where they move
+    /// rows between margins none changes before the last of them.
+    fn foretells(
+        terminal: &T,
+        text: &[char],
+        still: &Standing,
+        bytes: &[u8],
+        letters: &mut LetterRun,
+    ) -> Option<Foretold>
         ensures within { IfSome result (λ foretold. IsWithin foretold (length bytes.now)) }
         ensures foretold { (profile : T.Profile) (before : List ℕ) → T.shows profile terminal.now before
             → still.now.rows.items ≡ screens profile before
             → still.now.places.items ≡ standing text.now (screens profile before)
-            → IfSome result (λ foretold. IsForetold text.now (screens profile) before bytes.now foretold) }
+            → IfSome result (λ foretold. IsForetold text.now (screens profile) before bytes.now foretold letters.new.items) }
     {
         // Of a terminal of which no more is known nothing is foretold.
         let _terminal = terminal;
-        let _unread = (text.len(), still.rows.len(), bytes.len());
+        let _unread = (text.len(), still.rows.len(), bytes.len(), letters.len());
         None
     }
 

@@ -23,13 +23,15 @@ use std::alloc::Global;
 /// How many characters are written at once at most.
 pub const LETTERS: usize = 160;
 
-/// Characters that bytes write over as many of a row: how many rows are above it, how many characters before them in it,
-/// which they are (of ASCII), and how many bytes write them: these may hold sequences that show nothing.
-#[derive(Drop)]
+/// Letters that are written one behind the other.
+pub type LetterRun = ArrayVec<char, LETTERS>;
+
+/// Where bytes write letters over as many characters of a row: how many rows are above it, how many characters before them
+/// in it, and how many bytes write them: these may hold sequences that show nothing. The letters stand apart.
+#[derive(Clone, Copy, Debug)]
 pub struct Written {
     pub above: usize,
     pub before: usize,
-    pub letters: ArrayVec<u8, LETTERS>,
     pub taken: usize,
 }
 
@@ -45,20 +47,20 @@ pub struct Region {
 }
 
 /// What bytes surely do to the rows of a terminal.
-#[derive(Drop)]
+#[derive(Clone, Copy, Debug)]
 pub enum Foretold {
     /// The first byte moves all rows up by one, and a row of so many spaces comes in below.
     MovesUp(usize),
     /// Rows between two margins move up or down by one.
     MovesWithin(Region),
-    /// Characters are written over others.
+    /// Letters are written over characters.
     Writes(Written),
 }
 
 impl Foretold {
     /// How many bytes it is foretold of.
-    fn taken(&self) -> usize
-        ensures { result ≡ taken_by self.now }
+    fn taken(self) -> usize
+        ensures { result ≡ taken_by self }
     {
         match self {
             Foretold::MovesUp(_) => 1,
@@ -69,15 +71,15 @@ impl Foretold {
 
     /// Whether surely nothing of the text passes at them, where it stands so before: else no row changes before the last of
     /// them, and the text stands somewhere.
-    fn is_calm(&self, still: &Standing) -> bool
+    fn is_calm(self, still: &Standing) -> bool
         ensures calm { result ≡ true → (text : List ℕ) (screen : List ℕ → List Row) (before bytes : List ℕ)
             → still.now.rows.items ≡ screen before
             → still.now.places.items ≡ standing text (screen before)
-            → IsForetold text screen before bytes self.now
-            → (first : List Row) → NonePass text first screen before bytes (taken_by self.now) }
+            → (letters : List ℕ) → IsForetold text screen before bytes self letters
+            → (first : List Row) → NonePass text first screen before bytes (taken_by self) }
         ensures quiet { result ≡ false → (text : List ℕ) (screen : List ℕ → List Row) (before bytes : List ℕ)
-            → KeepsIn text screen before bytes self.now
-            → AreQuiet text screen before bytes (taken_by self.now) }
+            → KeepsIn text screen before bytes self
+            → AreQuiet text screen before bytes (taken_by self) }
         ensures stands { result ≡ false → still.now.places.items ≢ [] }
     {
         match self {
@@ -89,9 +91,9 @@ impl Foretold {
 
     /// How rows lag behind those that are foretold, where they lag so behind so many rows; a span tells which of these may
     /// differ.
-    fn lagging(&self, lag: Lag, count: usize, span: Span) -> Lag
-        ensures { (one other later : List Row) → length other ≡ count → Lags lag one other
-            → (HasRoom self.now other → later ≡ foretold_rows self.now other) → Stays span other later
+    fn lagging(self, lag: Lag, count: usize, span: Span) -> Lag
+        ensures { (one other later : List Row) (letters : List ℕ) → length other ≡ count → Lags lag one other
+            → (HasRoom self letters other → later ≡ foretold_rows self letters other) → Stays span other later
             → Lags result one later }
     {
         match self {
@@ -107,16 +109,17 @@ pub(crate) fn play_foretold<T: Plays, F: Finder<T>>(
     alloc: Global,
     text: &[char],
     bytes: &[u8],
-    foretold: &Foretold,
+    foretold: Foretold,
+    letters: &[char],
     ends: &mut Sides,
     steps: &mut Steps,
     ahead: &mut T,
 ) -> Result<(usize, bool), OutOfMemory>
-    requires within { IsWithin foretold.now (length bytes.now) }
+    requires within { IsWithin foretold (length bytes.now) }
     requires foretold { (profile : T.Profile) (before : List ℕ) → T.shows profile ahead.old before
         → ends.old.after.rows.items ≡ F.screens profile before
         → ends.old.after.places.items ≡ standing text.now (F.screens profile before)
-        → IsForetold text.now (F.screens profile) before bytes.now foretold.now }
+        → IsForetold text.now (F.screens profile) before bytes.now foretold letters.now }
     ensures count { steps.new.count ≡ steps.old.count }
     ensures piece { IfOk result (λ played. IsPiece T.shows F.screens text.now bytes.now
         ends.old ends.new steps.old steps.new ahead.old ahead.new played.0 played.1) }
@@ -124,7 +127,7 @@ pub(crate) fn play_foretold<T: Plays, F: Finder<T>>(
     let surely = foretold.is_calm(&ends.after);
     let taken = foretold.taken();
     play(alloc, ahead, &bytes[..taken])?;
-    change(foretold, text, ends, steps)?;
+    change(foretold, letters, text, ends, steps)?;
     let calm = surely || none_passes(&ends.before, &steps.sides.before, &ends.after);
     trail(steps, ends)?;
     Ok((taken, calm))
@@ -132,45 +135,50 @@ pub(crate) fn play_foretold<T: Plays, F: Finder<T>>(
 
 /// What stands after is what stands behind what is foretold, and what lags behind it lags so much more.
 fn change(
-    foretold: &Foretold,
+    foretold: Foretold,
+    letters: &[char],
     text: &[char],
     ends: &mut Sides,
     steps: &mut Steps,
 ) -> Result<(), OutOfMemory>
-    requires { IsNarrow foretold.now }
+    requires { IsNarrow foretold }
     ensures count { steps.new.count ≡ steps.old.count }
     ensures sides { steps.new.sides ≡ steps.old.sides }
     ensures lags { IsLagging ends.old steps.old → OnOk result (IsLagging ends.new steps.new) }
-    ensures between { (first before after : List Row) → HasRoom foretold.now before
-        → after ≡ foretold_rows foretold.now before
+    ensures between { (first before after : List Row) → HasRoom foretold letters.now before
+        → after ≡ foretold_rows foretold letters.now before
         → AreBetween text.now first before ends.old
         → OnOk result (AreBetween text.now first after ends.new) }
 {
     let count = ends.after.rows.len();
-    let span = foresee(&mut ends.after, foretold, text)?;
+    let span = foresee(&mut ends.after, foretold, letters, text)?;
     ends.lag = foretold.lagging(ends.lag, count, span);
     steps.lag = foretold.lagging(steps.lag, count, span);
     Ok(())
 }
 
 /// Rows become those that are foretold; looks where the text stands then. Says which rows may differ.
-fn foresee(still: &mut Standing, foretold: &Foretold, text: &[char]) -> Result<Span, OutOfMemory>
-    requires { IsNarrow foretold.now }
-    ensures rows { HasRoom foretold.now still.old.rows.items
-        → OnOk result (still.new.rows.items ≡ foretold_rows foretold.now still.old.rows.items) }
-    ensures places { HasRoom foretold.now still.old.rows.items
+fn foresee(
+    still: &mut Standing,
+    foretold: Foretold,
+    letters: &[char],
+    text: &[char],
+) -> Result<Span, OutOfMemory>
+    requires { IsNarrow foretold }
+    ensures rows { HasRoom foretold letters.now still.old.rows.items
+        → OnOk result (still.new.rows.items ≡ foretold_rows foretold letters.now still.old.rows.items) }
+    ensures places { HasRoom foretold letters.now still.old.rows.items
         → still.old.places.items ≡ standing text.now still.old.rows.items
         → OnOk result (still.new.places.items ≡ standing text.now still.new.rows.items) }
     ensures others { IfOk result (λ span. Stays span still.old.rows.items still.new.rows.items) }
 {
     match foretold {
-        Foretold::MovesUp(columns) => Ok(still.move_up(*columns, text)?),
+        Foretold::MovesUp(columns) => Ok(still.move_up(columns, text)?),
         Foretold::MovesWithin(region) => {
             let columns = region.columns;
             Ok(still.move_within(region.from, region.to, columns, region.down, text)?)
         }
         Foretold::Writes(written) => {
-            let letters = written.letters.as_slice();
             Ok(still.write(written.above, written.before, letters, text)?)
         }
     }

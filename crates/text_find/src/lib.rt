@@ -15,4 +15,4 @@ mod sides;
 
 pub use finder::Finder;
 pub use finding::find;
-pub use foretold::{Foretold, LETTERS, Region, Written};
+pub use foretold::{Foretold, LETTERS, LetterRun, Region, Written};

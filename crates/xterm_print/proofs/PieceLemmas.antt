@@ -48,6 +48,9 @@ pub none_before_one : (x : Term) (text bytes : List ℕ) → NoneBetween text x 
 none_before_one x text bytes none none' zero lt = none
 none_before_one x text bytes none none' (suc k) lt = absurd (omega (arith, lt))
 
+pub one_quiet : (x : Term) (text bytes : List ℕ) → IsQuiet text x bytes 1
+one_quiet x text bytes = record { inside = λ count lt. absurd (omega (arith, lt)); last = inl refl }
+
 pub unshown_between : (x : Term) (text bytes : List ℕ) (unshown n : ℕ) → n ≤ unshown + 1
     → ((count : ℕ) → count ≤ unshown → (play x (take count bytes)).console.picture ≡ x.console.picture) → NoneBetween text x bytes n
 unshown_between x text bytes unshown n few same none none' k lt =
@@ -74,12 +77,11 @@ stays_quiet x text bytes n some stays =
     }
 
 -- what is foretold of a run, by the rows of the term
-pub run_foretold : (x : Term) (text bytes : List ℕ) (written : Written) → written.above ≡ x.console.picture.line - 1 → written.before ≡ length (left_of_cursor x)
-    → Sound x.console.picture → WritesOver x bytes written.letters.items written.taken → StaysOn text x bytes written.taken
-    → IsForetold text (rows_after x) [] bytes (Writes written)
-run_foretold x text bytes written above before sound over stays =
+pub run_foretold : (x : Term) (text bytes letters : List ℕ) (written : Written) → written.above ≡ x.console.picture.line - 1 → written.before ≡ length (left_of_cursor x)
+    → Sound x.console.picture → WritesOver x bytes letters written.taken → StaysOn text x bytes written.taken
+    → IsForetold text (rows_after x) [] bytes (Writes written) letters
+run_foretold x text bytes letters written above before sound over stays =
     let rows = rows_behind x [] 0 in
-    let letters = written.letters.items in
     record {
       rows = over.rows ∙ ap₂ (λ a b. rows_written a b letters rows) (sym above) (sym before);
       room = (
@@ -138,11 +140,12 @@ module _ (size_law : SizeStays) (parts : PlaysInParts) (size : Size) (text befor
       at count ∙ keeps count lt ∙ sym (at 0)
   keep_told (Writes written) keeps = λ count lt. keeps_told count (count + 1) (keeps count lt)
 
-  pub foretold_told : (foretold : Foretold) → IsForetold text (rows_after begun) [] bytes foretold → IsForetold text (rows_shown size) before bytes foretold
-  foretold_told foretold is =
+  pub foretold_told : (foretold : Foretold) (letters : List ℕ) → IsForetold text (rows_after begun) [] bytes foretold letters
+      → IsForetold text (rows_shown size) before bytes foretold letters
+  foretold_told foretold letters is =
       let start = start_is size_law parts size before in
       record {
-        rows = after_is size_law parts size before (take (taken_by foretold) bytes) ∙ is.rows ∙ ap (foretold_rows foretold) (sym start);
-        room = subst (HasRoom foretold) (sym start) is.room;
+        rows = after_is size_law parts size before (take (taken_by foretold) bytes) ∙ is.rows ∙ ap (foretold_rows foretold letters) (sym start);
+        room = subst (HasRoom foretold letters) (sym start) is.room;
         keeps = keep_told foretold is.keeps;
       }

@@ -24,8 +24,8 @@ use Rattle.standings.proofs.KeptLemmas.{keeps_more, keeps_same}
 use Rattle.standings.proofs.SpanLemmas.{same_rows}
 use Rattle.xterm_rows.specs.RowText.{characters}
 use Rattle.xterm_screen.specs.Picture.{Picture, Sound}
-use Rattle.xterm_term.specs.declared.terminal.styling.Styling.TheVariants.{Letters}
-use Rattle.xterm_term.specs.Ahead.{WritesStyled, letters_from, run_at_cursor, spelled, styling_behind}
+use Rattle.xterm_term.specs.declared.sets.CharacterSet.{CharacterSet}
+use Rattle.xterm_term.specs.Ahead.{Letters, WritesStyled, letters_from, run_at_cursor, spelled, styling_behind}
 use Rattle.xterm_term.specs.Term.{Term}
 use Rattle.xterm_print.specs.FindRows.{row_read, rows_read}
 use Rattle.xterm_print.specs.Pieces.{AreApart, EndsLeft, IsPlain, StaysOn, WritesOver, left_of_cursor, rows_behind}
@@ -276,22 +276,22 @@ module _ (rows : List Row) (above : ℕ) (pre was post letters : List ℕ) (insi
 -- ---- bytes that are such a run
 
 -- so many bytes spell these letters, which go over plain cells of the cursor's row, left of its last two
-pub record IsRun (p : Picture) (row : List Cell) (before : ℕ) (text bytes letters : List ℕ) (n : ℕ) : Type 0 where
+pub record IsRun (charset : CharacterSet) (p : Picture) (row : List Cell) (before : ℕ) (text bytes letters : List ℕ) (n : ℕ) : Type 0 where
   pub is : row ≡ row_at p.rows p.line
   pub at : before ≡ p.column - 1
   pub sound : Sound p
   pub whole : Whole row
   pub columns : length row ≡ p.columns
   pub within : n ≤ length bytes
-  pub styled : styling_behind Letters (take n bytes) ≡ Some Letters
-  pub letters_are : letters ≡ letters_from Letters (take n bytes)
+  pub styled : styling_behind charset Letters (take n bytes) ≡ Some Letters
+  pub letters_are : letters ≡ letters_from charset Letters (take n bytes)
   pub over : IsOver row before (length letters)
   pub apart : (k : ℕ) → 0 < k → k < length letters → AreApart text (get_or letters (k - 1) 0) (get_or row (before + k) (blank Default)).character
 
 abbrev pub cursor_row : Term → List Cell
 cursor_row x = row_at x.console.picture.rows x.console.picture.line
 
-module _ (x : Term) (before : ℕ) (text bytes letters : List ℕ) (n : ℕ) (writes : WritesStyled x) (run : IsRun x.console.picture (cursor_row x) before text bytes letters n) where
+module _ (charset : CharacterSet) (x : Term) (before : ℕ) (text bytes letters : List ℕ) (n : ℕ) (writes : WritesStyled charset x) (run : IsRun charset x.console.picture (cursor_row x) before text bytes letters n) where
   abbrev p : Picture
   p = x.console.picture
 
@@ -306,10 +306,10 @@ module _ (x : Term) (before : ℕ) (text bytes letters : List ℕ) (n : ℕ) (wr
 
   -- those of the first bytes
   abbrev front : ℕ → List ℕ
-  front k = letters_from Letters (take k bytes)
+  front k = letters_from charset Letters (take k bytes)
 
-  is_front : (k : ℕ) → k ≤ n → IsFront bytes letters k
-  is_front k le = front_of bytes letters n k le run.styled run.letters_are
+  is_front : (k : ℕ) → k ≤ n → IsFront charset bytes letters k
+  is_front k le = front_of charset bytes letters n k le run.styled run.letters_are
 
   front_low : (k : ℕ) → k ≤ n → length (front k) ≤ length letters
   front_low k le = let some = is_front k le in omega (arith, ap length some.whole, length-append (front k) some.rest)
@@ -375,7 +375,7 @@ module _ (x : Term) (before : ℕ) (text bytes letters : List ℕ) (n : ℕ) (wr
   stays_here some ends k lt =
       let c = length (front k) in
       let c' = length (front (k + 1)) in
-      let more = count_more bytes letters k (omega (arith, lt, run.within)) (is_front k (omega (arith, lt))) in
+      let more = count_more charset bytes letters k (omega (arith, lt, run.within)) (is_front k (omega (arith, lt))) in
       let rows = λ (ls : List ℕ). rows_written (p.line - 1) (length (left_of_cursor x)) ls was in
       let one : rows_behind x bytes k ≡ rows (take c letters) = front_there k (omega (arith, lt)) ∙ ap rows (front_is k (omega (arith, lt))) in
       let other : rows_behind x bytes (k + 1) ≡ rows (take c' letters) = front_there (k + 1) (omega (arith, lt)) ∙ ap rows (front_is (k + 1) (omega (arith, lt))) in
@@ -389,16 +389,16 @@ module _ (x : Term) (before : ℕ) (text bytes letters : List ℕ) (n : ℕ) (wr
       ]
 
 -- it is a run of the term that shows the picture
-run_shown : (x : Term) (p : Picture) (row : List Cell) (before : ℕ) (text bytes letters : List ℕ) (n : ℕ) → p ≡ x.console.picture
-    → IsRun p row before text bytes letters n → IsRun x.console.picture (cursor_row x) before text bytes letters n
-run_shown x p row before text bytes letters n same run =
+run_shown : (charset : CharacterSet) (x : Term) (p : Picture) (row : List Cell) (before : ℕ) (text bytes letters : List ℕ) (n : ℕ) → p ≡ x.console.picture
+    → IsRun charset p row before text bytes letters n → IsRun charset x.console.picture (cursor_row x) before text bytes letters n
+run_shown charset x p row before text bytes letters n same run =
     let here : row ≡ cursor_row x = run.is ∙ ap (λ (q : Picture). row_at q.rows q.line) same in
-    subst (λ r. IsRun x.console.picture r before text bytes letters n) here (subst (λ (q : Picture). IsRun q row before text bytes letters n) same run)
+    subst (λ r. IsRun charset x.console.picture r before text bytes letters n) here (subst (λ (q : Picture). IsRun charset q row before text bytes letters n) same run)
 
-pub run_stays : (x : Term) (p : Picture) (row : List Cell) (before : ℕ) (text bytes letters : List ℕ) (n : ℕ) → p ≡ x.console.picture → WritesStyled x
-    → IsRun p row before text bytes letters n → 0 < length text → EndsLeft text x → StaysOn text x bytes n
-run_stays x p row before text bytes letters n same writes run = stays_here x before text bytes letters n writes (run_shown x p row before text bytes letters n same run)
+pub run_stays : (charset : CharacterSet) (x : Term) (p : Picture) (row : List Cell) (before : ℕ) (text bytes letters : List ℕ) (n : ℕ) → p ≡ x.console.picture → WritesStyled charset x
+    → IsRun charset p row before text bytes letters n → 0 < length text → EndsLeft text x → StaysOn text x bytes n
+run_stays charset x p row before text bytes letters n same writes run = stays_here charset x before text bytes letters n writes (run_shown charset x p row before text bytes letters n same run)
 
-pub run_written : (x : Term) (p : Picture) (row : List Cell) (before : ℕ) (text bytes letters : List ℕ) (n : ℕ) → p ≡ x.console.picture → WritesStyled x
-    → IsRun p row before text bytes letters n → WritesOver x bytes letters n
-run_written x p row before text bytes letters n same writes run = written_here x before text bytes letters n writes (run_shown x p row before text bytes letters n same run)
+pub run_written : (charset : CharacterSet) (x : Term) (p : Picture) (row : List Cell) (before : ℕ) (text bytes letters : List ℕ) (n : ℕ) → p ≡ x.console.picture → WritesStyled charset x
+    → IsRun charset p row before text bytes letters n → WritesOver x bytes letters n
+run_written charset x p row before text bytes letters n same writes run = written_here charset x before text bytes letters n writes (run_shown charset x p row before text bytes letters n same run)

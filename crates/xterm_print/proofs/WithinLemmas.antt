@@ -384,12 +384,12 @@ module _ (x : Term) (bytes : List ℕ) (taken top bottom : ℕ) (sound : Sound x
       ap (rows_after x) (sym part) ∙ ap (λ (p : Picture). rows_read x.console.picture.lines p.rows) (moves.before n few)
       ∙ ap (λ (y : Term). rows_read x.console.picture.lines y.console.picture.rows) (sym (nothing x))
 
-pub within_foretold : (x : Term) (text bytes : List ℕ) (region : Region) (top bottom : ℕ) → Sound x.console.picture
+pub within_foretold : (x : Term) (text bytes letters : List ℕ) (region : Region) (top bottom : ℕ) → Sound x.console.picture
     → region.from ≡ top - 1 → region.to ≡ bottom → region.columns ≡ x.console.picture.columns → region.taken ≤ length bytes
     → Moving x (take region.taken bytes) top bottom region.down → heeds_next (row_at x.console.picture.rows (top - 1)) ≡ false
     → heeds_next (row_at x.console.picture.rows (if region.down then bottom - 1 else bottom)) ≡ false
-    → IsForetold text (rows_after x) [] bytes (MovesWithin region)
-within_foretold x text bytes region top bottom sound from to columns within moves above last =
+    → IsForetold text (rows_after x) [] bytes (MovesWithin region) letters
+within_foretold x text bytes letters region top bottom sound from to columns within moves above last =
     let rows = rows_after x [] in
     let count = count_read x.console.picture.lines (play x []).console.picture.rows in
     let moved = λ (f t c : ℕ). if region.down then region_down f t c rows else region_up f t c rows in

@@ -11,26 +11,26 @@ ghost use Rattle.xterm_print.specs.Erased.{IsErasableAt};
 ghost use Rattle.xterm_print.specs.Pieces.{IsPlain, rows_after, rows_behind};
 
 use crate::pieces::{cursor_place, ends_left};
-use arrayvec::ArrayVec;
 use sheet::Cell;
 use standings::Standing;
-use text_find::{LETTERS, Written};
+use text_find::{LETTERS, LetterRun, Written};
 use xterm_term::Terminal;
 
 /// What a sequence that erases the rest of the cursor's row comes to: spaces over the characters from the cursor up to the
-/// end of those in use, so that nothing of the text goes.
+/// end of those in use, so that nothing of the text goes. The letters become these spaces.
 pub(crate) fn erased(
     terminal: &Terminal,
     text: &[char],
     still: &Standing,
     bytes: &[u8],
+    letters: &mut LetterRun,
 ) -> Option<Written>
     ensures some { IfSome result (λ written. 0 < written.taken) }
     ensures within { IfSome result (λ written. written.taken ≤ length bytes.now) }
     ensures foretold { (x : Term) → Shows terminal.now x
         → still.now.rows.items ≡ rows_behind x [] 0
         → still.now.places.items ≡ standing text.now (rows_behind x [] 0)
-        → IfSome result (λ written. IsForetold text.now (rows_after x) [] bytes.now (Writes written)) }
+        → IfSome result (λ written. IsForetold text.now (rows_after x) [] bytes.now (Writes written) letters.new.items) }
 {
     let taken = terminal.erases_right(bytes);
     if taken == 0 {
@@ -43,11 +43,11 @@ pub(crate) fn erased(
     if !ends_left(terminal, text.len(), still) {
         return None;
     }
+    put_spaces(letters, count);
     let (above, before) = cursor_place(terminal, still);
     Some(Written {
         above,
         before,
-        letters: spaces(count),
         taken,
     })
 }
@@ -85,14 +85,13 @@ fn are_plain(cells: &[Cell]) -> bool
     true
 }
 
-/// So many spaces.
-fn spaces(count: usize) -> ArrayVec<u8, LETTERS>
+/// The letters become so many spaces.
+fn put_spaces(letters: &mut LetterRun, count: usize)
     requires { count ≤ LETTERS }
-    ensures { result.items ≡ replicate count 32 }
+    ensures { letters.new.items ≡ replicate count 32 }
 {
-    let mut letters = ArrayVec::new();
+    letters.clear();
     for _ in 0..count {
-        letters.push(b' ');
+        letters.push(' ');
     }
-    letters
 }

@@ -16,7 +16,7 @@ use std::alloc::Global;
 use std::io::Write;
 use tape_core::Watched;
 use tape_seek::Session;
-use text_find::{Finder, Foretold};
+use text_find::{Finder, Foretold, LetterRun};
 use xterm_term::laws::{plays_in_parts, size_stays, stays_safe};
 use xterm_term::{OutOfMemory, Reports, Terminal};
 
@@ -119,10 +119,11 @@ impl Finder<Terminal> for Sheets {
         text: &[char],
         still: &Standing,
         bytes: &[u8],
+        letters: &mut LetterRun,
     ) -> Option<Foretold> {
         size_stays();
         plays_in_parts();
-        foretold(terminal, text, still, bytes)
+        foretold(terminal, text, still, bytes, letters)
     }
 
     fn begins_blank() {}

@@ -18,13 +18,13 @@ ghost use Rattle.xterm_print.specs.FindRows.{row_read};
 ghost use Rattle.xterm_print.specs.Pieces.{IsQuiet, NoneBetween, StaysOn, WritesOver, left_of_cursor, rows_after, rows_behind};
 
 use crate::erased::erased;
-use crate::runs::{Run, run_over};
+use crate::runs::run_over;
 use crate::within::moved_within;
 use sheet::Cell;
 use sheet::limits::MOST_COLUMNS;
 use standings::{Row, Standing, ends_before};
-use text_find::{Foretold, Written};
-use xterm_term::Terminal;
+use text_find::{Foretold, LetterRun, Written};
+use xterm_term::{CharacterSet, Terminal, letter_at};
 
 /// How many of the bytes to play at once: where a text stands nowhere before them and behind them, it stands nowhere in
 /// between.
@@ -62,10 +62,8 @@ pub(crate) fn quiet_piece(
     if unshown > 0 {
         return (unshown + 1).min(bytes.len());
     }
-    match quiet_run(terminal, text, still, bytes) {
-        Some(run) => run.taken,
-        None => 1,
-    }
+    let mut letters = LetterRun::new();
+    quiet_run(terminal, text, still, bytes, &mut letters).max(1)
 }
 
 /// Whether the first of the bytes moves all rows up by one: how many spaces the row has that comes in below.
@@ -85,39 +83,48 @@ pub(crate) fn moved_up(terminal: &Terminal, bytes: &[u8]) -> Option<usize>
     Some(screen.columns() as usize)
 }
 
-/// Which characters the first of the bytes write over plain cells of the cursor's row, so that nothing of the text goes at
-/// them, and where.
-fn written(terminal: &Terminal, text: &[char], still: &Standing, bytes: &[u8]) -> Option<Written>
+/// Where the first of the bytes write letters over plain cells of the cursor's row, so that nothing of the text goes at
+/// them: the letters become these.
+fn written(
+    terminal: &Terminal,
+    text: &[char],
+    still: &Standing,
+    bytes: &[u8],
+    letters: &mut LetterRun,
+) -> Option<Written>
     ensures some { IfSome result (λ written. 0 < written.taken) }
     ensures within { IfSome result (λ written. written.taken ≤ length bytes.now) }
     ensures written { (x : Term) → Shows terminal.now x
         → still.now.rows.items ≡ rows_behind x [] 0
         → still.now.places.items ≡ standing text.now (rows_behind x [] 0)
-        → IfSome result (λ written. IsForetold text.now (rows_after x) [] bytes.now (Writes written)) }
+        → IfSome result (λ written. IsForetold text.now (rows_after x) [] bytes.now (Writes written) letters.new.items) }
 {
-    let run = quiet_run(terminal, text, still, bytes)?;
+    let taken = quiet_run(terminal, text, still, bytes, letters);
+    if taken == 0 {
+        return None;
+    }
     let (above, before) = cursor_place(terminal, still);
     Some(Written {
         above,
         before,
-        letters: run.letters,
-        taken: run.taken,
+        taken,
     })
 }
 
 /// What the first of the bytes surely do to the rows of a terminal that shows these rows, on which the text stands there;
-/// where they write, nothing of the text goes at them.
+/// where they write, nothing of the text goes at them, and the letters become what they write.
 pub(crate) fn foretold(
     terminal: &Terminal,
     text: &[char],
     still: &Standing,
     bytes: &[u8],
+    letters: &mut LetterRun,
 ) -> Option<Foretold>
     ensures within { IfSome result (λ foretold. IsWithin foretold (length bytes.now)) }
     ensures foretold { (x : Term) → Shows terminal.now x
         → still.now.rows.items ≡ rows_behind x [] 0
         → still.now.places.items ≡ standing text.now (rows_behind x [] 0)
-        → IfSome result (λ foretold. IsForetold text.now (rows_after x) [] bytes.now foretold) }
+        → IfSome result (λ foretold. IsForetold text.now (rows_after x) [] bytes.now foretold letters.new.items) }
 {
     if let Some(columns) = moved_up(terminal, bytes) {
         return Some(Foretold::MovesUp(columns));
@@ -125,40 +132,50 @@ pub(crate) fn foretold(
     if let Some(region) = moved_within(terminal, bytes) {
         return Some(Foretold::MovesWithin(region));
     }
-    if let Some(run) = written(terminal, text, still, bytes) {
+    if let Some(run) = written(terminal, text, still, bytes, letters) {
         return Some(Foretold::Writes(run));
     }
-    Some(Foretold::Writes(erased(terminal, text, still, bytes)?))
+    Some(Foretold::Writes(erased(terminal, text, still, bytes, letters)?))
 }
 
-/// Which of the bytes go over plain cells, and take nothing of the text away, if there are any.
-fn quiet_run(terminal: &Terminal, text: &[char], still: &Standing, bytes: &[u8]) -> Option<Run>
-    ensures some { IfSome result (λ run. 0 < run.taken) }
-    ensures within { IfSome result (λ run. run.taken ≤ length bytes.now) }
+/// How many of the bytes write letters over plain cells, and take nothing of the text away: the letters become these.
+fn quiet_run(
+    terminal: &Terminal,
+    text: &[char],
+    still: &Standing,
+    bytes: &[u8],
+    letters: &mut LetterRun,
+) -> usize
+    ensures within { result ≤ length bytes.now }
     ensures quiet { (x : Term) → Shows terminal.now x
         → still.now.rows.items ≡ rows_behind x [] 0
         → still.now.places.items ≡ standing text.now (rows_behind x [] 0)
-        → IfSome result (λ run. StaysOn text.now x bytes.now run.taken) }
-    ensures written { (x : Term) → Shows terminal.now x
-        → IfSome result (λ run. WritesOver x bytes.now run.letters.items run.taken) }
+        → StaysOn text.now x bytes.now result }
+    ensures written { 0 < result → (x : Term) → Shows terminal.now x
+        → WritesOver x bytes.now letters.new.items result }
 {
     if text.is_empty() {
-        return None;
+        return 0;
     }
-    if !may_run(terminal, bytes) {
-        return None;
-    }
+    let Some(set) = set_written(terminal, bytes) else {
+        return 0;
+    };
     if !ends_left(terminal, text.len(), still) {
-        return None;
+        return 0;
     }
-    run_over(terminal, text, bytes)
+    run_over(terminal, set, text, bytes, letters)
 }
 
-/// Whether a character may be put first: else it isn't worth to look at all places.
-fn may_run(terminal: &Terminal, bytes: &[u8]) -> bool
-    ensures { result ≡ true → (x : Term) → Shows terminal.now x → WritesStyled x }
+/// The set in use, where the first of the bytes are a character that may be put: else it isn't worth to look at all places.
+fn set_written(terminal: &Terminal, bytes: &[u8]) -> Option<CharacterSet>
+    ensures { IfSome result (λ set. (x : Term) → Shows terminal.now x → WritesStyled set x) }
 {
-    !bytes.is_empty() && matches!(bytes[0], 32..=126) && terminal.writes_on()
+    if bytes.is_empty() {
+        return None;
+    }
+    let set = terminal.writes_in()?;
+    let _first = letter_at(set, bytes)?;
+    Some(set)
 }
 
 /// Whether a text of so many characters ends left of the cursor, or in a row above, wherever it stands but in the rows

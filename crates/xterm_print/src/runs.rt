@@ -1,109 +1,117 @@
-//! Bytes that write characters over plain cells, with sequences between them that select renditions.
+//! Bytes that write characters of one column over plain cells, with sequences between them that select renditions.
 
-ghost use Rattle.std.specs.Prelude.{◌≡◌, ◌+◌, ◌-◌, ◌<◌, ◌≤◌, ◌++◌, ◌∷◌, [], ℕ, IfSome, None, Some, length, slice_index_or, take, true, false};
+ghost use Rattle.std.specs.Prelude.{◌≡◌, ◌+◌, ◌-◌, ◌%◌, ◌<◌, ◌≤◌, ◌++◌, ◌∷◌, [], ℕ, IfSome, Some, length, slice_index_or, take, true, false};
 ghost use Rattle.sheet.specs.Cells.{blank};
 ghost use Rattle.sheet.specs.declared.rendition.Colour.TheVariants.{Default};
 ghost use Rattle.xterm_rows.specs.Runs.{cell_behind};
-ghost use Rattle.xterm_term.specs.Ahead.{WritesStyled, letter_of, letters_from, styling_after, styling_behind};
-ghost use Rattle.xterm_term.specs.declared.terminal.styling.Styling.TheVariants.{Letters};
+ghost use Rattle.xterm_term.specs.Ahead.{Letters, WritesStyled, letters_from, styling_behind};
 ghost use Rattle.xterm_term.specs.Seen.{Shows};
 ghost use Rattle.xterm_term.specs.Term.{Term};
-ghost use Rattle.xterm_print.specs.Pieces.{AreApart, EndsLeft, GoOver, IsPlain, StaysOn, WritesOver};
+ghost use Rattle.xterm_print.specs.Pieces.{AreApart, AreFollowers, EndsLeft, GoOver, IsPlain, StaysOn, WritesOver};
 
-use arrayvec::ArrayVec;
 use sheet::Cell;
-use text_find::LETTERS;
-use xterm_term::{Styling, Terminal};
+use text_find::{LETTERS, LetterRun};
+use xterm_term::{CharacterSet, Terminal, letter_at, styling_at};
 
-/// Characters of ASCII, and how many bytes write them.
-#[derive(Drop)]
-pub(crate) struct Run {
-    pub letters: ArrayVec<u8, LETTERS>,
-    pub taken: usize,
-}
+/// How many marks there are for the characters of a text.
+const MARKS: usize = 64;
 
-/// Which of the bytes go over plain cells of the cursor's row, left of its last two, so that no two neighbours of the text
-/// come to stand on both sides of a border between new characters and old ones, if there are any.
-pub(crate) fn run_over(terminal: &Terminal, text: &[char], bytes: &[u8]) -> Option<Run>
-    requires { (x : Term) → Shows terminal.now x → WritesStyled x }
-    ensures some { IfSome result (λ run. 0 < run.taken) }
-    ensures within { IfSome result (λ run. run.taken ≤ length bytes.now) }
+/// Marks of the characters that a text has behind its first one: most characters of a row have none.
+type Followers = [bool; MARKS];
+
+/// How many of the bytes write letters over plain cells of the cursor's row, left of its last two, so that no two neighbours
+/// of the text come to stand on both sides of a border between new characters and old ones: the letters become these.
+pub(crate) fn run_over(
+    terminal: &Terminal,
+    set: CharacterSet,
+    text: &[char],
+    bytes: &[u8],
+    letters: &mut LetterRun,
+) -> usize
+    requires { (x : Term) → Shows terminal.now x → WritesStyled set x }
+    ensures within { result ≤ length bytes.now }
     ensures stays { (x : Term) → Shows terminal.now x → 0 < length text.now → EndsLeft text.now x
-        → IfSome result (λ run. StaysOn text.now x bytes.now run.taken) }
-    ensures written { (x : Term) → Shows terminal.now x
-        → IfSome result (λ run. WritesOver x bytes.now run.letters.items run.taken) }
+        → StaysOn text.now x bytes.now result }
+    ensures written { 0 < result → (x : Term) → Shows terminal.now x
+        → WritesOver x bytes.now letters.new.items result }
 {
     let screen = terminal.screen();
     let (line, column) = screen.cursor();
     let cells = screen.row(line);
     let (from, end) = (column as usize - 1, cells.len() - 2);
     if end < from {
-        return None;
+        return 0;
     }
-    let run = run_on(&cells[from..end.min(from + LETTERS)], text, bytes);
-    if run.taken == 0 {
-        return None;
-    }
-    Some(run)
+    let room = end.min(from + LETTERS);
+    run_on(&cells[from..room], set, text, bytes, letters)
 }
 
-/// Which of the bytes are characters to be put over these cells, and whole sequences, as far as they may be.
-fn run_on(cells: &[Cell], text: &[char], bytes: &[u8]) -> Run
+/// How many of the bytes are letters to be put over these cells, and whole sequences, as far as they may be.
+fn run_on(
+    cells: &[Cell],
+    set: CharacterSet,
+    text: &[char],
+    bytes: &[u8],
+    letters: &mut LetterRun,
+) -> usize
     requires { length cells.now ≤ LETTERS }
-    ensures within { result.taken ≤ length bytes.now }
-    ensures styled { styling_behind Letters (take result.taken bytes.now) ≡ Some Letters }
-    ensures letters { result.letters.items ≡ letters_from Letters (take result.taken bytes.now) }
-    ensures over { GoOver text.now cells.now result.letters.items }
+    ensures within { result ≤ length bytes.now }
+    ensures styled { styling_behind set Letters (take result bytes.now) ≡ Some Letters }
+    ensures letters { letters.new.items ≡ letters_from set Letters (take result bytes.now) }
+    ensures over { GoOver text.now cells.now letters.new.items }
 {
-    let mut letters = ArrayVec::new();
-    let mut styling = Styling::Letters;
-    let mut at = 0;
+    let followers = followers_of(text);
+    letters.clear();
     let mut taken = 0;
-    while at < bytes.len() {
-        match step(&mut letters, styling, cells, text, bytes[at]) {
-            Some(next) => styling = next,
-            None => break,
+    while taken < bytes.len() {
+        let more = step(letters, set, cells, text, &followers, &bytes[taken..]);
+        if more == 0 {
+            break;
         }
-        at += 1;
-        if matches!(styling, Styling::Letters) {
-            taken = at;
-        }
+        taken += more;
     }
-    Run { letters, taken }
+    taken
 }
 
-/// Goes on over a byte, if it may be played: a character comes behind the others. Says where the byte leads.
+/// Goes on over a sequence, or over a character, which comes behind the others, if it may be played. Says how many bytes
+/// that took; 0 where they are neither.
 #[inline]
 fn step(
-    letters: &mut ArrayVec<u8, LETTERS>,
-    styling: Styling,
+    letters: &mut LetterRun,
+    set: CharacterSet,
     cells: &[Cell],
     text: &[char],
-    byte: u8,
-) -> Option<Styling>
+    followers: &Followers,
+    bytes: &[u8],
+) -> usize
+    requires some { 0 < length bytes.now }
     requires few { length cells.now ≤ LETTERS }
+    requires followers { AreFollowers text.now followers.now }
     requires over { GoOver text.now cells.now letters.old.items }
     ensures over { GoOver text.now cells.now letters.new.items }
-    ensures led { IfSome result (λ next. styling_after styling byte ≡ Some next) }
-    ensures more { IfSome result (λ next.
-        letters.new.items ≡ letters.old.items ++ letter_of styling next byte) }
-    ensures stays { result ≡ None → letters.new.items ≡ letters.old.items }
+    ensures within { result ≤ length bytes.now }
+    ensures styled { styling_behind set Letters (take result bytes.now) ≡ Some Letters }
+    ensures more { letters.new.items
+        ≡ letters.old.items ++ letters_from set Letters (take result bytes.now) }
 {
-    match (styling, styling.after(byte)) {
-        (Styling::Letters, Some(Styling::Letters)) => {
-            if !may_go_on(cells, text, letters.as_slice()) {
-                return None;
-            }
-            letters.push(byte);
-            Some(Styling::Letters)
-        }
-        (_, next) => next,
+    let styled = styling_at(bytes);
+    if styled > 0 {
+        return styled;
     }
+    let Some(letter) = letter_at(set, bytes) else {
+        return 0;
+    };
+    if !may_go_on(cells, text, followers, letters.as_slice()) {
+        return 0;
+    }
+    letters.push(letter.character);
+    letter.taken
 }
 
 /// Whether a character more may be put behind these.
 #[inline]
-fn may_go_on(cells: &[Cell], text: &[char], letters: &[u8]) -> bool
+fn may_go_on(cells: &[Cell], text: &[char], followers: &Followers, letters: &[char]) -> bool
+    requires { AreFollowers text.now followers.now }
     ensures cells { result ≡ true → length letters.now < length cells.now }
     ensures plain { result ≡ true → IsPlain (cell_behind cells.now (length letters.now)) }
     ensures apart { result ≡ true → 0 < length letters.now → AreApart text.now
@@ -112,7 +120,36 @@ fn may_go_on(cells: &[Cell], text: &[char], letters: &[u8]) -> bool
     let at = letters.len();
     at < cells.len()
         && cells[at].is_plain()
-        && (at == 0 || !are_neighbours(text, letters[at - 1] as char, cells[at].character()))
+        && (at == 0 || are_apart(text, followers, letters[at - 1], cells[at].character()))
+}
+
+/// Whether two characters surely aren't neighbours of the text.
+#[inline]
+fn are_apart(text: &[char], followers: &Followers, one: char, other: char) -> bool
+    requires { AreFollowers text.now followers.now }
+    ensures { result ≡ true → AreApart text.now one other }
+{
+    !followers[mark_of(other)] || !are_neighbours(text, one, other)
+}
+
+/// The mark of a character.
+#[inline]
+fn mark_of(character: char) -> usize
+    ensures value { result ≡ character % 64 }
+    ensures below { result < 64 }
+{
+    character as usize % MARKS
+}
+
+/// Which marks the characters of a text have that come behind its first one.
+fn followers_of(text: &[char]) -> Followers
+    ensures { AreFollowers text.now result }
+{
+    let mut followers = [false; MARKS];
+    for at in 1..text.len() {
+        followers[mark_of(text[at])] = true;
+    }
+    followers
 }
 
 /// Whether two neighbours of the text are these.

@@ -20,8 +20,8 @@ pub(crate) fn moved_within(terminal: &Terminal, bytes: &[u8]) -> Option<Region>
     ensures some { IfSome result (λ region. 0 < region.taken) }
     ensures within { IfSome result (λ region. region.taken ≤ length bytes.now) }
     ensures few { IfSome result (λ region. region.columns < u16.MAX) }
-    ensures moves { (text : List ℕ) (x : Term) → Shows terminal.now x
-        → IfSome result (λ region. IsForetold text (rows_after x) [] bytes.now (MovesWithin region)) }
+    ensures moves { (text letters : List ℕ) (x : Term) → Shows terminal.now x
+        → IfSome result (λ region. IsForetold text (rows_after x) [] bytes.now (MovesWithin region) letters) }
 {
     let moved = terminal.moves_within(bytes)?;
     let screen = terminal.screen();

@@ -40,17 +40,15 @@ use Rattle.xterm_term.specs.Term.{Outcome, Term, ends_last, forgotten_if, is_gro
 use Rattle.xterm_term.proofs.ByteKinds.{first, next, other}
 use Rattle.xterm_term.proofs.Idle.{begun, control_brings, halfway}
 use Rattle.xterm_term.proofs.Ran.{at_ground}
-use Rattle.xterm_term.proofs.Runs.{ascii_map, ascii_put, on_ground, run_played, shown_at_once, stepped}
+use Rattle.xterm_term.proofs.Runs.{ascii_map, ascii_put, on_ground, run_played, stepped}
 use Rattle.xterm_term.proofs.Taken.{front_within, nothing_played}
 
--- graphic characters of ASCII come to stand on it as they are: no title is read, the wrap isn't pending, none is inserted,
--- and ASCII is in use
+-- characters of one column come to stand on it as they are: no title is read, the wrap isn't pending, and none is inserted
 pub record CanWrite (s : Console) : Type 0 where
   pub safe : IsSafe s
   pub title : s.title ≡ false
   pub wrap : s.picture.wrap ≡ false
   pub insert : s.modes.insert ≡ false
-  pub set : set_in_use s.sets ≡ Ascii
 
 -- the same of what is seen, with nothing pending
 pub record IsPlain (seen : Seen) : Type 0 where
@@ -59,40 +57,39 @@ pub record IsPlain (seen : Seen) : Type 0 where
   pub character : seen.character ≡ []
   pub wrap : seen.console.picture.wrap ≡ false
   pub insert : seen.console.modes.insert ≡ false
-  pub set : set_in_use seen.console.sets ≡ Ascii
 
 pub plain_writes : (seen : Seen) → IsTerminal seen → IsPlain seen → CanWrite seen.console
-plain_writes seen is plain = record { safe = is.safe; title = plain.title; wrap = plain.wrap; insert = plain.insert; set = plain.set }
+plain_writes seen is plain = record { safe = is.safe; title = plain.title; wrap = plain.wrap; insert = plain.insert }
 
--- a console on which characters stand from the cursor on
-abbrev pub written_on : List ℕ → Console → Console
-written_on characters s = record (shown_at_once characters s) { picture = run_at_cursor characters s.rendition s.picture }
+-- they stand there from the cursor on
+pub stands_there : (s : Console) (characters : List ℕ) → CanWrite s → s.picture.column + length characters ≤ s.picture.columns
+    → run_shown characters s.rendition s.modes.autowrap s.modes.insert s.picture ≡ run_at_cursor characters s.rendition s.picture
+stands_there s characters can room =
+    let sound = can.safe.sound in
+    ap (λ b. run_shown characters s.rendition s.modes.autowrap b s.picture) can.insert
+    ∙ run_within s.rendition s.modes.autowrap characters s.picture can.wrap sound.line_low (omega (arith, sound.line_high, sound.rows)) room
 
 module _ (laws : LawsBelow) (narrow : AsciiIsNarrow) where
-  pub run_stands : (s : Console) (reports bytes : List ℕ) → CanWrite s → list_all is_graphic bytes ≡ true
+  run_stands : (s : Console) (reports bytes : List ℕ) → CanWrite s → set_in_use s.sets ≡ Ascii → list_all is_graphic bytes ≡ true
       → s.picture.column + length bytes ≤ s.picture.columns
-      → play (on_ground s reports) bytes ≡ on_ground (written_on bytes s) reports
-  run_stands s reports bytes can graphic room =
-      let sound = can.safe.sound in
+      → (play (on_ground s reports) bytes).console.picture ≡ run_at_cursor bytes s.rendition s.picture
+  run_stands s reports bytes can ascii graphic room =
       let as_they_are : map (character_of (set_in_use s.sets)) bytes ≡ bytes =
-      ap (λ (set : CharacterSet). map (character_of set) bytes) can.set ∙ ascii_map bytes in
-      let there : run_shown bytes s.rendition s.modes.autowrap s.modes.insert s.picture ≡ run_at_cursor bytes s.rendition s.picture =
-      ap (λ b. run_shown bytes s.rendition s.modes.autowrap b s.picture) can.insert
-      ∙ run_within s.rendition s.modes.autowrap bytes s.picture can.wrap sound.line_low (omega (arith, sound.line_high, sound.rows)) room in
-      (run_played laws.graphic_is_shown s reports bytes graphic can.title).0
-      ∙ ap (λ (l : List ℕ). on_ground (all_put l s) reports) as_they_are
-      ∙ ap (λ (t : Console). on_ground t reports) (ascii_put narrow bytes s graphic)
-      ∙ ap (λ (p : Picture). on_ground (record (shown_at_once bytes s) { picture = p }) reports) there
+      ap (λ (set : CharacterSet). map (character_of set) bytes) ascii ∙ ascii_map bytes in
+      ap (λ (y : Term). y.console.picture) (run_played laws.graphic_is_shown s reports bytes graphic can.title).0
+      ∙ ap (λ (l : List ℕ). (all_put l s).picture) as_they_are
+      ∙ ap (λ (t : Console). t.picture) (ascii_put narrow bytes s graphic)
+      ∙ stands_there s bytes can room
 
-  pub writes_on : (seen : Seen) (x : Term) → IsTerminal seen → IsPlain seen → Shows seen x → WritesOn x
-  writes_on seen x is plain shows bytes graphic room =
+  pub writes_on : (seen : Seen) (x : Term) → IsTerminal seen → IsPlain seen → set_in_use seen.console.sets ≡ Ascii → Shows seen x → WritesOn x
+  writes_on seen x is plain ascii shows bytes graphic room =
       let s : Console = seen.console in
       let same = shows.console in
       let fits : s.picture.column + length bytes ≤ s.picture.columns =
       subst (λ (t : Console). t.picture.column + length bytes ≤ t.picture.columns) same room in
       subst (λ (t : Console). (play x bytes).console.picture ≡ run_at_cursor bytes t.rendition t.picture) (sym same)
       (ap (λ (y : Term). (play y bytes).console.picture) (at_ground laws seen x shows plain.state plain.character)
-      ∙ ap (λ (y : Term). y.console.picture) (run_stands s x.reports bytes (plain_writes seen is plain) graphic fits))
+      ∙ run_stands s x.reports bytes (plain_writes seen is plain) ascii graphic fits)
 
 -- ---- a line feed at the last line
 

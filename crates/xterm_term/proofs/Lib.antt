@@ -16,6 +16,7 @@ pub mod Idle
 pub mod Sizes
 pub mod Rowless
 pub mod Ahead
+pub mod LettersAt
 pub mod Styled
 pub mod Moving
 pub mod Erases

@@ -14,6 +14,7 @@ use Rattle.xterm_screen.specs.Picture.{Picture}
 use Rattle.xterm_screen.specs.Puts.{run_shown}
 use Rattle.xterm_term.specs.declared.sets.Sets.{Sets}
 use Rattle.xterm_term.specs.declared.sets.CharacterSet.TheVariants.{Ascii}
+use Rattle.xterm_term.specs.Ahead.{is_narrow}
 use Rattle.xterm_term.specs.Sets.{character_of, set_in_use}
 use Rattle.xterm_term.specs.Console.{Console}
 use Rattle.xterm_term.specs.Puts.{put, put_by_width, is_c1, shown_with, all_put, character_for}
@@ -35,17 +36,24 @@ shown_at_once characters s = record s {
 no_c1 : (character : ℕ) → is_graphic character ≡ true → is_c1 character ≡ false
 no_c1 character is = grind (arith, nat_tests)
 
--- one of width 1
-put_narrow : AsciiIsNarrow → (character : ℕ) (s : Console) → is_graphic character ≡ true → put character s ≡ shown_with false character s
+-- graphic characters of ASCII are shown in one column
+pub ascii_is_narrow : AsciiIsNarrow → (character : ℕ) → is_graphic character ≡ true → is_narrow character ≡ true
+ascii_is_narrow narrow character is = simp (no_c1 character is, narrow character is)
+
+narrow_parts : (character : ℕ) → is_narrow character ≡ true → (is_c1 character ≡ false) × (width character ≡ 1)
+narrow_parts character is = (grind (arith, nat_tests), grind (arith, nat_tests))
+
+-- one that is
+pub put_narrow : (character : ℕ) (s : Console) → is_narrow character ≡ true → put character s ≡ shown_with false character s
 unfolding put
-put_narrow narrow character s is = simp (no_c1 character is, narrow character is)
+put_narrow character s is = let parts = narrow_parts character is in simp (parts.0, parts.1)
 
 pub ascii_put : AsciiIsNarrow → (characters : List ℕ) (s : Console) → list_all is_graphic characters ≡ true
     → all_put characters s ≡ shown_at_once characters s
 ascii_put narrow [] s graphic = refl
 ascii_put narrow (character ∷ characters) s graphic =
     let parts = and_parts (is_graphic character) (list_all is_graphic characters) graphic in
-    ap (all_put characters) (put_narrow narrow character s parts.0)
+    ap (all_put characters) (put_narrow character s (ascii_is_narrow narrow character parts.0))
     ∙ ascii_put narrow characters (shown_with false character s) parts.1
 
 -- in ASCII bytes are characters as they stand
@@ -102,7 +110,7 @@ module _ (shown : GraphicIsShown) where
       let control = no_control byte graphic in
       simp (command, pending, control)
 
-  byte_read : (s : Console) (byte : ℕ) → is_graphic byte ≡ true → s.title ≡ false → outcome_of s [] [] byte ≡ silent (put (character_for s byte) s)
+  pub byte_read : (s : Console) (byte : ℕ) → is_graphic byte ≡ true → s.title ≡ false → outcome_of s [] [] byte ≡ silent (put (character_for s byte) s)
   unfolding outcome_of read
   byte_read s byte graphic title = let upper = low byte graphic in simp (title, upper) (byte_shown s byte graphic)
 

@@ -1,13 +1,13 @@
 -- Characters that come to stand at the cursor with sequences between them that select renditions.
-use Rattle.std.proofs.Common.{◌≡◌, ◌⊎◌, ℕ, ◌+◌, ◌≤◌, Bool, true, false, List, [], ◌∷◌, ◌++◌, length, refl, sym, ap, ap₂, subst, inl, inr, ◌∙◌, ◌&&◌, ◌==◌, nat_le, arith}
-use Rattle.std.specs.Prelude.{Option, None, Some}
-use Rattle.std.specs.List.{list_all}
+use Rattle.std.proofs.Common.{◌≡◌, ◌⊎◌, ℕ, ◌+◌, ◌<◌, ◌≤◌, Bool, true, false, List, [], ◌∷◌, ◌++◌, length, refl, sym, ap, ap₂, subst, inl, inr, ◌∙◌, ◌&&◌, ◌==◌, nat_le, arith}
+use Rattle.std.specs.Prelude.{Option, None, Some, if◌then◌else◌}
 use Rattle.std.specs.Option.{option_and_then, option_map_or}
-use Rattle.std.proofs.lemmas.Bool.{cases_Bool}
 use Rattle.std.proofs.lemmas.Bool.Decides.{nat_tests}
 use Rattle.std.proofs.lemmas.List.{length-append}
 use Rattle.arrayvec.specs.ArrayVec.{ArrayVec}
-use Rattle.characters.specs.Law.{AsciiIsNarrow}
+use Rattle.characters.specs.declared.utf8.Reading.{Reading}
+use Rattle.characters.specs.declared.utf8.Reading.TheVariants as read
+use Rattle.characters.specs.Utf8.{begins, code_point, reading}
 use Rattle.vt_parser.specs.declared.commands.Command.{Command}
 use Rattle.vt_parser.specs.declared.commands.Command.TheVariants as command
 use Rattle.vt_parser.specs.declared.commands.Mode.TheVariants.{Ansi}
@@ -22,25 +22,25 @@ use Rattle.vt_parser.proofs.Whole.{escape_begins, joins, joins_off}
 use Rattle.sheet.specs.declared.rendition.Rendition.{Rendition}
 use Rattle.xterm_screen.specs.Picture.{Picture}
 use Rattle.xterm_term.specs.declared.modes.Modes.{Modes}
+use Rattle.xterm_term.specs.declared.sets.CharacterSet.{CharacterSet}
 use Rattle.xterm_term.specs.declared.sets.Sets.{Sets}
-use Rattle.xterm_term.specs.declared.terminal.styling.Styling.{Styling}
-use Rattle.xterm_term.specs.declared.terminal.styling.Styling.TheVariants.{Letters, Escape, Parameters}
-use Rattle.xterm_term.specs.Ahead.{IsSpelled, WritesStyled, letter_of, letters_from, run_at_cursor, spelled, styling_after, styling_behind}
+use Rattle.xterm_term.specs.Ahead.{IsSpelled, Styling, Letters, Escape, Parameters, Begun, WritesStyled, begun_after, behind_character, is_narrow, letter_of, letters_from, run_at_cursor, spelled, styling_after, styling_behind}
 use Rattle.xterm_term.specs.Console.{Console, IsSafe}
 use Rattle.xterm_term.specs.Effect.{effect}
 use Rattle.xterm_term.specs.Law.{LawsBelow}
+use Rattle.xterm_term.specs.Puts.{put}
 use Rattle.xterm_term.specs.Reading.{Stands}
 use Rattle.xterm_term.specs.Rows.{effect_of}
 use Rattle.xterm_term.specs.Seen.{IsTerminal, Seen, Shows}
-use Rattle.xterm_term.specs.Sets.{set_in_use}
-use Rattle.xterm_term.specs.Term.{Outcome, Term, ends_last, forgotten_if, is_ground, outcome_of, play, step, syntax_read}
-use Rattle.xterm_term.proofs.Ahead.{CanWrite, IsPlain, plain_writes, run_stands, written_on}
-use Rattle.xterm_term.proofs.ByteKinds.{first, other}
+use Rattle.xterm_term.specs.Sets.{character_of, set_in_use}
+use Rattle.xterm_term.specs.Term.{Outcome, Term, ends_last, forgotten_if, is_ground, outcome, outcome_of, play, step, syntax_read}
+use Rattle.xterm_term.proofs.Ahead.{CanWrite, IsPlain, plain_writes, stands_there}
+use Rattle.xterm_term.proofs.ByteKinds.{first, next, other}
+use Rattle.xterm_term.proofs.Idle.{begun}
+use Rattle.xterm_term.proofs.LettersAt.{read_whole}
 use Rattle.xterm_term.proofs.Parts.{stands_after}
-use Rattle.xterm_term.proofs.Ran.{at_ground}
-use Rattle.xterm_term.proofs.Runs.{on_ground}
+use Rattle.xterm_term.proofs.Runs.{byte_read, put_narrow, silent, stepped as term_by}
 use Rattle.xterm_term.proofs.Stays.{safe_step}
-use Rattle.xterm_term.proofs.Told.{seen}
 
 -- ---- pictures on which characters are spelled
 
@@ -99,16 +99,21 @@ restyled_writes s t styled safe can = record {
   title = styled.title ∙ can.title;
   wrap = ap (λ (p : Picture). p.wrap) styled.picture ∙ can.wrap;
   insert = ap (λ (m : Modes). m.insert) styled.modes ∙ can.insert;
-  set = ap (λ (sets : Sets). set_in_use sets) styled.sets ∙ can.set;
 }
 
--- ---- the parser's states
+-- ---- the parser's states, and the bytes of a character
 
--- those of a place
+-- the states of a place
 abbrev StandsFor : Styling → ParserState → Type 0
 StandsFor Letters at = at ≡ state.Ground
 StandsFor Escape at = at ≡ state.Escape
 StandsFor Parameters at = is_text_begun at ≡ true
+StandsFor (Begun front) at = (at ≡ state.Ground) × (0 < length front)
+
+-- what is pending of a character there
+abbrev front_of : Styling → List ℕ
+front_of (Begun front) = front
+front_of _ = []
 
 -- a step of the parser to a place, by which a console is restyled at most
 record StylesTo (styling : Styling) (moved : Transition) : Type 0 where
@@ -147,34 +152,66 @@ off_ground at begun same = let ground = ap is_text_begun same in cc
 -- ---- the bytes
 
 -- which bytes lead on, and where
-after_letters : (byte : ℕ) (next : Styling) → styling_after Letters byte ≡ Some next
-    → ((byte ≡ escape) × (next ≡ Escape)) ⊎ ((is_graphic byte ≡ true) × (next ≡ Letters))
-unfolding styling_after
-after_letters byte next led = elim (cases_Bool (byte == escape)) [
-  | inl t ↦ inl (grind (arith, nat_tests), grind (arith, nat_tests))
-  | inr f ↦ elim (cases_Bool (is_graphic byte)) [
-    | inl t ↦ inr (t, grind (arith, nat_tests))
-    | inr g ↦ absurd (grind (arith, nat_tests))
-  ]
-]
+choice : (here : Bool) (there next : Styling) (otherwise : Option Styling) → (if here then Some there else otherwise) ≡ Some next
+    → ((here ≡ true) × (next ≡ there)) ⊎ ((here ≡ false) × (otherwise ≡ Some next))
+choice true there next otherwise led = inl (refl, cc)
+choice false there next otherwise led = inr (refl, led)
 
-after_escape : (byte : ℕ) (next : Styling) → styling_after Escape byte ≡ Some next → (byte ≡ bracket) × (next ≡ Parameters)
-unfolding styling_after
-after_escape byte next led = elim (cases_Bool (byte == bracket)) [
-  | inl t ↦ (grind (arith, nat_tests), grind (arith, nat_tests))
-  | inr f ↦ absurd (grind (arith, nat_tests))
-]
+no_choice : (next : Styling) → None ≡ Some next → ⊥
+no_choice next led = cc
 
-after_parameters : (byte : ℕ) (next : Styling) → styling_after Parameters byte ≡ Some next
+-- the only choice
+only : (here : Bool) (there next : Styling) → (if here then Some there else None) ≡ Some next → (here ≡ true) × (next ≡ there)
+only here there next led = elim (choice here there next None led) [ inl is ↦ is | inr is ↦ absurd (no_choice next is.1) ]
+
+-- from letters: ESC, a graphic character, or the first byte of another
+data FromLetters (set : CharacterSet) (byte : ℕ) (next : Styling) : Type 0 where
+  escapes : byte ≡ escape → next ≡ Escape → FromLetters set byte next
+  prints : is_graphic byte ≡ true → is_narrow (character_of set byte) ≡ true → next ≡ Letters → FromLetters set byte next
+  opens : begins byte ≡ true → next ≡ Begun (byte ∷ []) → FromLetters set byte next
+
+after_letters : (set : CharacterSet) (byte : ℕ) (next : Styling) → styling_after set Letters byte ≡ Some next → FromLetters set byte next
+unfolding styling_after
+after_letters set byte next led = elim (choice (byte == escape) Escape next _ led) [
+  | inl is ↦ escapes (grind (arith, nat_tests, is.0)) is.1
+  | inr is ↦ not_escape (is_graphic byte) refl is.1
+]
+  where
+    not_escape : (b : Bool) → is_graphic byte ≡ b
+        → (if b then behind_character (character_of set byte) else (if begins byte then Some (Begun (byte ∷ [])) else None)) ≡ Some next
+        → FromLetters set byte next
+    not_escape true graphic to = let is = only (is_narrow (character_of set byte)) Letters next to in prints graphic is.0 is.1
+    not_escape false graphic to = let is = only (begins byte) (Begun (byte ∷ [])) next to in opens is.0 is.1
+
+after_escape : (set : CharacterSet) (byte : ℕ) (next : Styling) → styling_after set Escape byte ≡ Some next → (byte ≡ bracket) × (next ≡ Parameters)
+unfolding styling_after
+after_escape set byte next led = let is = only (byte == bracket) Parameters next led in (grind (arith, nat_tests, is.0), is.1)
+
+after_parameters : (set : CharacterSet) (byte : ℕ) (next : Styling) → styling_after set Parameters byte ≡ Some next
     → ((byte ≡ 109) × (next ≡ Letters)) ⊎ ((is_within 48 59 byte ≡ true) × (next ≡ Parameters))
 unfolding styling_after
-after_parameters byte next led = elim (cases_Bool (byte == 109)) [
-  | inl t ↦ inl (grind (arith, nat_tests), grind (arith, nat_tests))
-  | inr f ↦ elim (cases_Bool (is_within 48 59 byte)) [
-    | inl t ↦ inr (t, grind (arith, nat_tests))
-    | inr g ↦ absurd (grind (arith, nat_tests))
-  ]
+after_parameters set byte next led = elim (choice (byte == 109) Letters next _ led) [
+  | inl is ↦ inl (grind (arith, nat_tests, is.0), is.1)
+  | inr is ↦ inr (only (is_within 48 59 byte) Parameters next is.1)
 ]
+
+-- from inside a character: its last byte, or one more
+data FromInside (front : List ℕ) (byte : ℕ) (next : Styling) : Type 0 where
+  ends : reading front byte ≡ read.Character (code_point (front ++ byte ∷ [])) → is_narrow (code_point (front ++ byte ∷ [])) ≡ true → next ≡ Letters
+      → FromInside front byte next
+  goes_on : reading front byte ≡ read.More → next ≡ Begun (front ++ byte ∷ []) → FromInside front byte next
+
+after_begun : (set : CharacterSet) (front : List ℕ) (byte : ℕ) (next : Styling) → styling_after set (Begun front) byte ≡ Some next → FromInside front byte next
+unfolding styling_after
+after_begun set front byte next led = by_reading (reading front byte) refl led
+  where
+    by_reading : (r : Reading) → reading front byte ≡ r → begun_after r front byte ≡ Some next → FromInside front byte next
+    by_reading (read.Character character) is to =
+        let whole = read_whole front byte character is in
+        let narrow = only (is_narrow character) Letters next to in
+        ends (is ∙ ap read.Character whole) (ap is_narrow (sym whole) ∙ narrow.0) narrow.1
+    by_reading read.More is to = goes_on is cc
+    by_reading read.Broken is to = absurd (no_choice next to)
 
 -- ESC begins a sequence, and [ its parameters
 escape_styles : (at : ParserState) → StylesTo Escape (stepped at Ansi escape)
@@ -193,17 +230,18 @@ m_styles at begun = subst (StylesTo Letters) (sym (joins_off at Ansi 109 (off_gr
 
 -- ---- steps of a terminal
 
--- a terminal stands at a place, and characters can be written
-record IsAt (styling : Styling) (x : Term) : Type 0 where
+-- a terminal stands at a place, this set is in use, and characters can be written
+record IsAt (set : CharacterSet) (styling : Styling) (x : Term) : Type 0 where
   can : CanWrite x.console
+  in_use : set_in_use x.console.sets ≡ set
   at : ParserState
   shown : Stands x.sequence at
   place : StandsFor styling at
-  character : x.character ≡ []
+  character : x.character ≡ front_of styling
 
 -- so another does, and these characters were put
-record Leads (letters : List ℕ) (styling : Styling) (x y : Term) : Type 0 where
-  is : IsAt styling y
+record Leads (set : CharacterSet) (letters : List ℕ) (styling : Styling) (x y : Term) : Type 0 where
+  is : IsAt set styling y
   picture : IsSpelled letters x.console.picture y.console.picture
 
 no_upper : (ground : Bool) (byte : ℕ) → nat_le 128 byte ≡ false → (ground && nat_le 128 byte) ≡ false
@@ -211,116 +249,188 @@ no_upper true byte low = low
 no_upper false byte low = refl
 
 -- where the first byte leads, and the others from there
-led_on : (rest : List ℕ) (end : Styling) (after : Option Styling) → option_and_then (λ next. styling_behind next rest) after ≡ Some end
-    → (next : Styling) × (after ≡ Some next) × (styling_behind next rest ≡ Some end)
-led_on rest end None behind = absurd cc
-led_on rest end (Some next) behind = (next, refl, behind)
+led_on : (set : CharacterSet) (rest : List ℕ) (end : Styling) (after : Option Styling)
+    → option_and_then (λ next. styling_behind set next rest) after ≡ Some end
+    → (next : Styling) × (after ≡ Some next) × (styling_behind set next rest ≡ Some end)
+led_on set rest end None behind = absurd cc
+led_on set rest end (Some next) behind = (next, refl, behind)
 
-module _ (laws : LawsBelow) (narrow : AsciiIsNarrow) where
-  restyling_step : (styling next : Styling) (x : Term) (byte : ℕ) (is : IsAt styling x) → nat_le 128 byte ≡ false → StylesTo next (stepped is.at Ansi byte)
-      → Leads [] next x (step x byte)
-  restyling_step styling next x byte is low styles =
+-- a character of one column that is put comes to stand at the cursor
+record StandsThere (character : ℕ) (s t : Console) : Type 0 where
+  picture : t.picture ≡ run_at_cursor (character ∷ []) s.rendition s.picture
+  modes : t.modes ≡ s.modes
+  sets : t.sets ≡ s.sets
+  title : t.title ≡ s.title
+
+put_stands : (character : ℕ) (s : Console) → CanWrite s → is_narrow character ≡ true → s.picture.column + 1 ≤ s.picture.columns
+    → StandsThere character s (put character s)
+put_stands character s can narrow room =
+    subst (StandsThere character s) (sym (put_narrow character s narrow))
+    (record { picture = stands_there s (character ∷ []) can room; modes = refl; sets = refl; title = refl })
+
+module _ (laws : LawsBelow) where
+  no_sequence : (x : Term) (at : ParserState) → Stands x.sequence at → at ≡ state.Ground → x.sequence ≡ []
+  no_sequence x at shown ground = laws.ground_is_empty.1 Ansi x.sequence (shown ∙ ap (λ (s : ParserState). Some s) ground)
+
+  -- by what its byte comes to
+  moved_to : (set : CharacterSet) (letters : List ℕ) (styling : Styling) (x : Term) (byte : ℕ) (o : Outcome) → outcome_of x.console x.sequence x.character byte ≡ o
+      → Leads set letters styling x (term_by x.reports o) → Leads set letters styling x (step x byte)
+  moved_to set letters styling x byte o same leads = subst (λ (q : Outcome). Leads set letters styling x (term_by x.reports q)) (sym same) leads
+
+  restyling_step : (set : CharacterSet) (styling next : Styling) (x : Term) (byte : ℕ) (is : IsAt set styling x) → x.character ≡ [] → front_of next ≡ []
+      → nat_le 128 byte ≡ false → StylesTo next (stepped is.at Ansi byte)
+      → Leads set [] next x (step x byte)
+  restyling_step set styling next x byte is alone none low styles =
       let s : Console = x.console in
       let after : ParserState = (stepped is.at Ansi byte).state in
-      let here : syntax_read s x.sequence byte ≡ outcome_of s x.sequence x.character byte =
-      other s x.sequence byte is.can.title (no_upper (is_ground x.sequence) byte low) ∙ first s x.sequence x.character byte is.character in
+      let here : outcome_of s x.sequence x.character byte ≡ syntax_read s x.sequence byte =
+      sym (other s x.sequence byte is.can.title (no_upper (is_ground x.sequence) byte low) ∙ first s x.sequence x.character byte alone) in
       let told : Restyled s (effect_of effect (command_of Ansi x.sequence byte) s) =
       subst (λ (c : Option Command). Restyled s (effect_of effect c s)) (sym (same_command Ansi Ansi x.sequence byte is.at is.shown)) (styles.restyles s) in
-      let restyled : Restyled s (step x byte).console =
-      subst (λ (o : Outcome). Restyled s o.console) here (restyled_if (ends_last x.sequence byte) s _ told) in
-      let shown : Stands (pending_after Ansi x.sequence byte) after =
-      stands_after byte (pending_after Ansi x.sequence byte) after (same_view Ansi Ansi x.sequence byte is.at is.shown) in
-      record {
+      let restyled : Restyled s (syntax_read s x.sequence byte).console = restyled_if (ends_last x.sequence byte) s _ told in
+      moved_to set [] next x byte (syntax_read s x.sequence byte) here (record {
         is = record {
-          can = restyled_writes s (step x byte).console restyled (safe_step laws x byte is.can.safe) is.can;
+          can = restyled_writes s (syntax_read s x.sequence byte).console restyled
+              (subst (λ (o : Outcome). IsSafe o.console) here (safe_step laws x byte is.can.safe)) is.can;
+          in_use = ap (λ (sets : Sets). set_in_use sets) restyled.sets ∙ is.in_use;
           at = after;
-          shown = subst (λ (o : Outcome). Stands o.sequence after) here shown;
+          shown = stands_after byte (pending_after Ansi x.sequence byte) after (same_view Ansi Ansi x.sequence byte is.at is.shown);
           place = styles.place;
-          character = ap (λ (o : Outcome). o.character) (sym here);
+          character = sym none;
         };
-        picture = nothing_spelled s.picture (step x byte).console.picture restyled.picture;
-      }
+        picture = nothing_spelled s.picture (syntax_read s x.sequence byte).console.picture restyled.picture;
+      })
 
-  letter_step : (x : Term) (byte : ℕ) → IsAt Letters x → is_graphic byte ≡ true → x.console.picture.column + 1 ≤ x.console.picture.columns
-      → Leads (byte ∷ []) Letters x (step x byte)
-  unfolding play
-  letter_step x byte is graphic room =
+  -- a character of one column that a byte puts
+  put_step : (set : CharacterSet) (styling : Styling) (x : Term) (byte character : ℕ) (sequence : List ℕ) → IsAt set styling x → is_narrow character ≡ true
+      → x.console.picture.column + 1 ≤ x.console.picture.columns → Stands sequence state.Ground
+      → outcome_of x.console x.sequence x.character byte ≡ outcome (put character x.console) sequence [] []
+      → Leads set (character ∷ []) Letters x (step x byte)
+  put_step set styling x byte character sequence is narrow room ground same =
       let s : Console = x.console in
-      let all : list_all is_graphic (byte ∷ []) ≡ true = simp graphic in
-      let shows : Shows (seen [] s is.at []) x = record { console = refl; state = is.shown; character = is.character } in
-      let moved : step x byte ≡ on_ground (written_on (byte ∷ []) s) x.reports =
-      ap (λ (y : Term). step y byte) (at_ground laws (seen [] s is.at []) x shows is.place refl)
-      ∙ run_stands laws narrow s x.reports (byte ∷ []) is.can all room in
-      subst (Leads (byte ∷ []) Letters x) (sym moved) (record {
+      let stands : StandsThere character s (put character s) = put_stands character s is.can narrow room in
+      moved_to set (character ∷ []) Letters x byte (outcome (put character s) sequence [] []) same (record {
         is = record {
           can = record {
-            safe = subst (λ (y : Term). IsSafe y.console) moved (safe_step laws x byte is.can.safe);
-            title = is.can.title;
-            wrap = is.can.wrap;
-            insert = is.can.insert;
-            set = is.can.set;
+            safe = laws.puts_keep_safe character s is.can.safe;
+            title = stands.title ∙ is.can.title;
+            wrap = ap (λ (p : Picture). p.wrap) stands.picture ∙ is.can.wrap;
+            insert = ap (λ (m : Modes). m.insert) stands.modes ∙ is.can.insert;
           };
+          in_use = ap (λ (sets : Sets). set_in_use sets) stands.sets ∙ is.in_use;
           at = state.Ground;
-          shown = laws.ground_is_empty.0 Ansi;
+          shown = ground;
           place = refl;
           character = refl;
         };
-        picture = record { renditions = s.rendition ∷ []; long = refl; is = refl };
+        picture = record { renditions = s.rendition ∷ []; long = refl; is = stands.picture };
       })
 
-  one_step : (styling next : Styling) (x : Term) (byte : ℕ) → IsAt styling x → styling_after styling byte ≡ Some next
-      → x.console.picture.column + length (letter_of styling next byte) ≤ x.console.picture.columns
-      → Leads (letter_of styling next byte) next x (step x byte)
-  one_step Letters next x byte is led room = elim (after_letters byte next led) [
-    | inl to ↦ subst (λ (n : Styling). Leads (letter_of Letters n byte) n x (step x byte)) (sym to.1)
-        (restyling_step Letters Escape x byte is (grind (arith, nat_tests, to.0))
-        (subst (λ (b : ℕ). StylesTo Escape (stepped is.at Ansi b)) (sym to.0) (escape_styles is.at)))
-    | inr to ↦ subst (λ (n : Styling). Leads (letter_of Letters n byte) n x (step x byte)) (sym to.1)
-        (letter_step x byte is to.0
-        (subst (λ (n : Styling). x.console.picture.column + length (letter_of Letters n byte) ≤ x.console.picture.columns) to.1 room))
-  ]
-  one_step Escape next x byte is led room =
-      let to = after_escape byte next led in
-      subst (λ (n : Styling). Leads (letter_of Escape n byte) n x (step x byte)) (sym to.1)
-      (restyling_step Escape Parameters x byte is (grind (arith, nat_tests, to.0))
+  -- a byte of a character that isn't its last
+  front_step : (set : CharacterSet) (styling : Styling) (x : Term) (byte : ℕ) (front sequence : List ℕ) → IsAt set styling x → 0 < length front
+      → Stands sequence state.Ground → outcome_of x.console x.sequence x.character byte ≡ outcome x.console sequence front []
+      → Leads set [] (Begun front) x (step x byte)
+  front_step set styling x byte front sequence is some ground same =
+      moved_to set [] (Begun front) x byte (outcome x.console sequence front []) same (record {
+        is = record { can = is.can; in_use = is.in_use; at = state.Ground; shown = ground; place = (refl, some); character = refl };
+        picture = nothing_spelled x.console.picture x.console.picture refl;
+      })
+
+  letter_step : (set : CharacterSet) (x : Term) (byte : ℕ) (next : Styling) → IsAt set Letters x → FromLetters set byte next
+      → x.console.picture.column + length (letter_of set Letters next byte) ≤ x.console.picture.columns
+      → Leads set (letter_of set Letters next byte) next x (step x byte)
+  letter_step set x byte next is (escapes esc to) room =
+      subst (λ (n : Styling). Leads set (letter_of set Letters n byte) n x (step x byte)) (sym to)
+      (restyling_step set Letters Escape x byte is is.character refl (grind (arith, nat_tests, esc))
+      (subst (λ (b : ℕ). StylesTo Escape (stepped is.at Ansi b)) (sym esc) (escape_styles is.at)))
+  letter_step set x byte next is (prints graphic narrow to) room =
+      let s : Console = x.console in
+      let same : outcome_of s x.sequence x.character byte ≡ silent (put (character_of set byte) s) =
+      ap₂ (λ (l c : List ℕ). outcome_of s l c byte) (no_sequence x is.at is.shown is.place) is.character
+      ∙ byte_read laws.graphic_is_shown s byte graphic is.can.title
+      ∙ ap (λ (used : CharacterSet). silent (put (character_of used byte) s)) is.in_use in
+      subst (λ (n : Styling). Leads set (letter_of set Letters n byte) n x (step x byte)) (sym to)
+      (put_step set Letters x byte (character_of set byte) [] is narrow
+      (subst (λ (n : Styling). s.picture.column + length (letter_of set Letters n byte) ≤ s.picture.columns) to room)
+      (laws.ground_is_empty.0 Ansi) same)
+  letter_step set x byte next is (opens begins_one to) room =
+      let s : Console = x.console in
+      let same : outcome_of s x.sequence x.character byte ≡ outcome s [] (byte ∷ []) [] =
+      ap₂ (λ (l c : List ℕ). outcome_of s l c byte) (no_sequence x is.at is.shown is.place) is.character ∙ begun s byte is.can.title begins_one in
+      subst (λ (n : Styling). Leads set (letter_of set Letters n byte) n x (step x byte)) (sym to)
+      (front_step set Letters x byte (byte ∷ []) [] is (omega arith) (laws.ground_is_empty.0 Ansi) same)
+
+  inside_step : (set : CharacterSet) (front : List ℕ) (x : Term) (byte : ℕ) (next : Styling) → IsAt set (Begun front) x → FromInside front byte next
+      → x.console.picture.column + length (letter_of set (Begun front) next byte) ≤ x.console.picture.columns
+      → Leads set (letter_of set (Begun front) next byte) next x (step x byte)
+  inside_step set front x byte next_place is (ends whole narrow to) room =
+      let s : Console = x.console in
+      let character : ℕ = code_point (front ++ byte ∷ []) in
+      let same : outcome_of s x.sequence x.character byte ≡ outcome (put character s) x.sequence [] [] =
+      ap (λ (l : List ℕ). outcome_of s x.sequence l byte) is.character
+      ∙ sym (next s x.sequence front byte (read.Character character) is.place.1 (sym whole)) in
+      subst (λ (n : Styling). Leads set (letter_of set (Begun front) n byte) n x (step x byte)) (sym to)
+      (put_step set (Begun front) x byte character x.sequence is narrow
+      (subst (λ (n : Styling). s.picture.column + length (letter_of set (Begun front) n byte) ≤ s.picture.columns) to room)
+      (subst (Stands x.sequence) is.place.0 is.shown) same)
+  inside_step set front x byte next_place is (goes_on more to) room =
+      let s : Console = x.console in
+      let same : outcome_of s x.sequence x.character byte ≡ outcome s x.sequence (front ++ byte ∷ []) [] =
+      ap (λ (l : List ℕ). outcome_of s x.sequence l byte) is.character ∙ sym (next s x.sequence front byte read.More is.place.1 (sym more)) in
+      let longer = length-append front (byte ∷ []) in
+      subst (λ (n : Styling). Leads set (letter_of set (Begun front) n byte) n x (step x byte)) (sym to)
+      (front_step set (Begun front) x byte (front ++ byte ∷ []) x.sequence is (omega (arith, longer))
+      (subst (Stands x.sequence) is.place.0 is.shown) same)
+
+  one_step : (set : CharacterSet) (styling next : Styling) (x : Term) (byte : ℕ) → IsAt set styling x → styling_after set styling byte ≡ Some next
+      → x.console.picture.column + length (letter_of set styling next byte) ≤ x.console.picture.columns
+      → Leads set (letter_of set styling next byte) next x (step x byte)
+  one_step set Letters next x byte is led room = letter_step set x byte next is (after_letters set byte next led) room
+  one_step set (Begun front) next x byte is led room = inside_step set front x byte next is (after_begun set front byte next led) room
+  one_step set Escape next x byte is led room =
+      let to = after_escape set byte next led in
+      subst (λ (n : Styling). Leads set (letter_of set Escape n byte) n x (step x byte)) (sym to.1)
+      (restyling_step set Escape Parameters x byte is is.character refl (grind (arith, nat_tests, to.0))
       (subst (λ (b : ℕ). StylesTo Parameters (stepped is.at Ansi b)) (sym to.0)
       (subst (λ (at : ParserState). StylesTo Parameters (stepped at Ansi bracket)) (sym is.place) bracket_styles)))
-  one_step Parameters next x byte is led room = elim (after_parameters byte next led) [
-    | inl to ↦ subst (λ (n : Styling). Leads (letter_of Parameters n byte) n x (step x byte)) (sym to.1)
-        (restyling_step Parameters Letters x byte is (grind (arith, nat_tests, to.0))
+  one_step set Parameters next x byte is led room = elim (after_parameters set byte next led) [
+    | inl to ↦ subst (λ (n : Styling). Leads set (letter_of set Parameters n byte) n x (step x byte)) (sym to.1)
+        (restyling_step set Parameters Letters x byte is is.character refl (grind (arith, nat_tests, to.0))
         (subst (λ (b : ℕ). StylesTo Letters (stepped is.at Ansi b)) (sym to.0) (m_styles is.at is.place)))
-    | inr to ↦ subst (λ (n : Styling). Leads (letter_of Parameters n byte) n x (step x byte)) (sym to.1)
-        (restyling_step Parameters Parameters x byte is (grind (arith, nat_tests, to.0)) (parameter_styles is.at byte is.place to.0))
+    | inr to ↦ subst (λ (n : Styling). Leads set (letter_of set Parameters n byte) n x (step x byte)) (sym to.1)
+        (restyling_step set Parameters Parameters x byte is is.character refl (grind (arith, nat_tests, to.0)) (parameter_styles is.at byte is.place to.0))
   ]
 
-  styled : (bytes : List ℕ) (styling end : Styling) (x : Term) → IsAt styling x → styling_behind styling bytes ≡ Some end
-      → x.console.picture.column + length (letters_from styling bytes) ≤ x.console.picture.columns
-      → IsSpelled (letters_from styling bytes) x.console.picture (play x bytes).console.picture
+  styled : (set : CharacterSet) (bytes : List ℕ) (styling end : Styling) (x : Term) → IsAt set styling x → styling_behind set styling bytes ≡ Some end
+      → x.console.picture.column + length (letters_from set styling bytes) ≤ x.console.picture.columns
+      → IsSpelled (letters_from set styling bytes) x.console.picture (play x bytes).console.picture
   unfolding play
-  styled [] styling end x is behind room = nothing_spelled x.console.picture x.console.picture refl
-  styled (byte ∷ rest) styling end x is behind room =
-      let led = led_on rest end (styling_after styling byte) behind in
+  styled set [] styling end x is behind room = nothing_spelled x.console.picture x.console.picture refl
+  styled set (byte ∷ rest) styling end x is behind room =
+      let led = led_on set rest end (styling_after set styling byte) behind in
       let next : Styling = led.0 in
-      let letter : List ℕ = letter_of styling next byte in
-      let letters : List ℕ = letters_from next rest in
+      let letter : List ℕ = letter_of set styling next byte in
+      let letters : List ℕ = letters_from set next rest in
       let p : Picture = x.console.picture in
       let q : Picture = (step x byte).console.picture in
-      let all : letters_from styling (byte ∷ rest) ≡ letter ++ letters =
-      ap (λ (after : Option Styling). option_map_or (λ next. letter_of styling next byte ++ letters_from next rest) after []) led.1 in
-      let count : length (letters_from styling (byte ∷ rest)) ≡ length letter + length letters = ap (λ (l : List ℕ). length l) all ∙ length-append letter letters in
-      let here : Leads letter next x (step x byte) = one_step styling next x byte is led.1 (omega (arith, room, count)) in
+      let all : letters_from set styling (byte ∷ rest) ≡ letter ++ letters =
+      ap (λ (after : Option Styling). option_map_or (λ next. letter_of set styling next byte ++ letters_from set next rest) after []) led.1 in
+      let count : length (letters_from set styling (byte ∷ rest)) ≡ length letter + length letters =
+      ap (λ (l : List ℕ). length l) all ∙ length-append letter letters in
+      let here : Leads set letter next x (step x byte) = one_step set styling next x byte is led.1 (omega (arith, room, count)) in
       let size = spelled_column here.picture.renditions letter p here.picture.long in
       let column : q.column ≡ p.column + length letter = ap (λ (r : Picture). r.column) here.picture.is ∙ size.0 in
       let columns : q.columns ≡ p.columns = ap (λ (r : Picture). r.columns) here.picture.is ∙ size.1 in
       subst (λ (l : List ℕ). IsSpelled l p (play (step x byte) rest).console.picture) (sym all)
       (spelled_on letter letters p q (play (step x byte) rest).console.picture here.picture
-      (styled rest next end (step x byte) here.is led.2 (omega (arith, room, count, column, columns))))
+      (styled set rest next end (step x byte) here.is led.2 (omega (arith, room, count, column, columns))))
 
-  pub writes_styled : (now_ : Seen) (x : Term) → IsTerminal now_ → IsPlain now_ → Shows now_ x → WritesStyled x
+  pub writes_styled : (now_ : Seen) (x : Term) → IsTerminal now_ → IsPlain now_ → Shows now_ x → WritesStyled (set_in_use now_.console.sets) x
   writes_styled now_ x is plain shows bytes styling behind room =
-      styled bytes Letters styling x
+      styled (set_in_use now_.console.sets) bytes Letters styling x
       (record {
         can = subst CanWrite (sym shows.console) (plain_writes now_ is plain);
+        in_use = ap (λ (s : Console). set_in_use s.sets) shows.console;
         at = now_.state;
         shown = shows.state;
         place = plain.state;

@@ -1,7 +1,11 @@
 -- What bytes will show, told before they are played.
-use Rattle.std.specs.Prelude.{◌≡◌, ◌⊎◌, ℕ, ◌+◌, ◌<◌, ◌≤◌, ◌==◌, Bool, true, false, if◌then◌else◌, List, [], ◌∷◌, ◌++◌, length, take, Option, Some, None}
+use Rattle.std.specs.Prelude.{◌≡◌, ◌⊎◌, ℕ, ◌+◌, ◌<◌, ◌≤◌, ◌==◌, ◌&&◌, Bool, true, false, not, if◌then◌else◌, List, [], ◌∷◌, ◌++◌, length, take, Option, Some, None}
 use Rattle.std.specs.List.{list_all}
 use Rattle.std.specs.Option.{option_and_then, option_map_or}
+use Rattle.characters.specs.declared.utf8.Reading.{Reading}
+use Rattle.characters.specs.declared.utf8.Reading.TheVariants as read
+use Rattle.characters.specs.Utf8.{begins, code_point, reading}
+use Rattle.characters.specs.Width.{width}
 use Rattle.vt_parser.specs.declared.states.ParserState.TheVariants.{Ground}
 use Rattle.vt_parser.specs.Syntax.{escape, is_graphic, is_within}
 use Rattle.vt_parser.specs.Forms.{bracket}
@@ -10,9 +14,10 @@ use Rattle.sheet.specs.Edits.{run_put}
 use Rattle.sheet.specs.Grid.{blank_row, row_at, scrolled_down, scrolled_up, with_row}
 use Rattle.xterm_screen.specs.Erasures.{columns_erased}
 use Rattle.xterm_screen.specs.Picture.{Picture}
-use Rattle.xterm_term.specs.declared.terminal.styling.Styling.{Styling}
-use Rattle.xterm_term.specs.declared.terminal.styling.Styling.TheVariants.{Letters, Escape, Parameters}
+use Rattle.xterm_term.specs.declared.sets.CharacterSet.{CharacterSet}
+use Rattle.xterm_term.specs.Puts.{is_c1}
 use Rattle.xterm_term.specs.Seen.{Seen}
+use Rattle.xterm_term.specs.Sets.{character_of}
 use Rattle.xterm_term.specs.Term.{Term, play}
 
 -- the picture with these characters of width 1, one behind the other from the cursor on, and the cursor behind them
@@ -46,30 +51,58 @@ pub record ErasesRight (x : Term) (bytes : List ℕ) : Type 0 where
 abbrev pub IsErasing : List ℕ → Type 0
 IsErasing bytes = (bytes ≡ escape ∷ bracket ∷ 75 ∷ []) ⊎ (bytes ≡ escape ∷ bracket ∷ 48 ∷ 75 ∷ [])
 
--- ---- characters with sequences between them
+-- ---- characters of one column, with sequences between them
 
--- Where a byte leads among characters and sequences that select renditions (ECMA-48 8.3.117): none where it is neither a
--- graphic character of ASCII between sequences nor of a sequence of digits, semicolons and colons that ends in m.
-unfoldable pub styling_after : Styling → ℕ → Option Styling
-styling_after Letters byte = if byte == escape then Some Escape else (if is_graphic byte then Some Letters else None)
-styling_after Escape byte = if byte == bracket then Some Parameters else None
-styling_after Parameters byte = if byte == 109 then Some Letters else (if is_within 48 59 byte then Some Parameters else None)
+-- Where bytes stand among characters and sequences that select renditions: between them, behind ESC, in the parameters, or
+-- inside a character of several bytes, of which these came.
+pub data Styling : Type 0 where
+  Letters : Styling
+  Escape : Styling
+  Parameters : Styling
+  Begun : List ℕ → Styling
+
+-- a character that is shown in one column
+abbrev pub is_narrow : ℕ → Bool
+is_narrow character = not (is_c1 character) && (width character == 1)
+
+-- behind a whole character, where it is shown in one column
+abbrev pub behind_character : ℕ → Option Styling
+behind_character character = if is_narrow character then Some Letters else None
+
+-- where the next byte leads inside a character of several bytes (Unicode core specification 3.9)
+abbrev pub begun_after : Reading → List ℕ → ℕ → Option Styling
+begun_after (read.Character character) front byte = behind_character character
+begun_after read.More front byte = Some (Begun (front ++ byte ∷ []))
+begun_after read.Broken front byte = None
+
+-- Where a byte leads, by the set in use (ECMA-48 8.3.117): none where it ends no character of one column, and is of no
+-- sequence of digits, semicolons and colons that ends in m.
+unfoldable pub styling_after : CharacterSet → Styling → ℕ → Option Styling
+styling_after set Letters byte =
+    if byte == escape then Some Escape
+    else (if is_graphic byte then behind_character (character_of set byte)
+    else (if begins byte then Some (Begun (byte ∷ [])) else None))
+styling_after set Escape byte = if byte == bracket then Some Parameters else None
+styling_after set Parameters byte = if byte == 109 then Some Letters else (if is_within 48 59 byte then Some Parameters else None)
+styling_after set (Begun front) byte = begun_after (reading front byte) front byte
 
 -- where bytes lead from one place on, if all of them are such ones
-abbrev pub styling_behind : Styling → List ℕ → Option Styling
-styling_behind styling [] = Some styling
-styling_behind styling (byte ∷ rest) = option_and_then (λ next. styling_behind next rest) (styling_after styling byte)
+abbrev pub styling_behind : CharacterSet → Styling → List ℕ → Option Styling
+styling_behind set styling [] = Some styling
+styling_behind set styling (byte ∷ rest) =
+    option_and_then (λ next. styling_behind set next rest) (styling_after set styling byte)
 
--- a byte that leads from letters to letters is one
-abbrev pub letter_of : Styling → Styling → ℕ → List ℕ
-letter_of Letters Letters byte = byte ∷ []
-letter_of _ _ byte = []
+-- the character that a byte ends, if it leads to letters from letters, or from inside a character
+abbrev pub letter_of : CharacterSet → Styling → Styling → ℕ → List ℕ
+letter_of set Letters Letters byte = character_of set byte ∷ []
+letter_of set (Begun front) Letters byte = code_point (front ++ byte ∷ []) ∷ []
+letter_of set _ _ byte = []
 
 -- the characters among them
-abbrev pub letters_from : Styling → List ℕ → List ℕ
-letters_from styling [] = []
-letters_from styling (byte ∷ rest) =
-    option_map_or (λ next. letter_of styling next byte ++ letters_from next rest) (styling_after styling byte) []
+abbrev pub letters_from : CharacterSet → Styling → List ℕ → List ℕ
+letters_from set styling [] = []
+letters_from set styling (byte ∷ rest) =
+    option_map_or (λ next. letter_of set styling next byte ++ letters_from set next rest) (styling_after set styling byte) []
 
 -- each of these characters comes to stand at the cursor, one behind the other, in a rendition of its own
 abbrev pub spelled : List Rendition → List ℕ → Picture → Picture
@@ -83,13 +116,18 @@ pub record IsSpelled (letters : List ℕ) (p q : Picture) : Type 0 where
   pub long : length renditions ≡ length letters
   pub is : q ≡ spelled renditions letters p
 
--- Graphic characters of ASCII that leave the cursor on its line come to stand there as they are, also with sequences
--- between them that select renditions.
-abbrev pub WritesStyled : Term → Type 0
-WritesStyled x =
-    (bytes : List ℕ) (styling : Styling) → styling_behind Letters bytes ≡ Some styling
-    → x.console.picture.column + length (letters_from Letters bytes) ≤ x.console.picture.columns
-    → IsSpelled (letters_from Letters bytes) x.console.picture (play x bytes).console.picture
+-- Characters of one column that leave the cursor on its line come to stand there as they are, also with sequences between
+-- them that select renditions.
+abbrev pub WritesStyled : CharacterSet → Term → Type 0
+WritesStyled set x =
+    (bytes : List ℕ) (styling : Styling) → styling_behind set Letters bytes ≡ Some styling
+    → x.console.picture.column + length (letters_from set Letters bytes) ≤ x.console.picture.columns
+    → IsSpelled (letters_from set Letters bytes) x.console.picture (play x bytes).console.picture
+
+-- Private: bytes that begin with ESC [
+abbrev pub OpensStyling : List ℕ → Type 0
+OpensStyling (first ∷ second ∷ rest) = (first ≡ escape) × (second ≡ bracket)
+OpensStyling _ = ⊥
 
 -- ---- lines that move between margins
 

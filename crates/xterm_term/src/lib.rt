@@ -28,4 +28,4 @@ pub use modes::Modes;
 pub use plays::{OutOfMemory, Reports};
 pub use saved::Saved;
 pub use sets::{CharacterSet, Sets, Slot};
-pub use terminal::{MovedLines, PackedTerminal, Styling, Terminal};
+pub use terminal::{Letter, MovedLines, PackedTerminal, Terminal, letter_at, styling_at};

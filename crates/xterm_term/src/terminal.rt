@@ -21,7 +21,7 @@ pub use packed::PackedTerminal;
 use sheet::Rendition;
 use std::alloc::{AllocError, Global};
 use std::marker::Model;
-pub use styling::Styling;
+pub use styling::{Letter, letter_at, styling_at};
 use vt_parser::laws::control_is_given;
 use vt_parser::{Mode, Parser, ParserState, printable_run};
 use xterm_screen::Screen;

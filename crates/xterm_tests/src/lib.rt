@@ -13,6 +13,8 @@ mod erased;
 #[cfg(test)]
 mod foot;
 #[cfg(test)]
+mod letters;
+#[cfg(test)]
 mod moved;
 #[cfg(test)]
 mod nothing;

@@ -1,5 +1,5 @@
 //! What bytes will show, told before they are played.
-ghost use Rattle.std.specs.Prelude.{◌≡◌, ℕ, ◌≤◌, length, take, true};
+ghost use Rattle.std.specs.Prelude.{◌≡◌, ℕ, ◌≤◌, [], IfSome, length, take, false, true};
 ghost use Rattle.vt_parser.specs.Syntax.{is_within};
 ghost use Rattle.xterm_term.specs.Ahead.{MovesUp, WritesOn, WritesStyled};
 
@@ -10,7 +10,7 @@ use crate::terminal::Terminal;
 use characters::character_at;
 use characters::laws::widths_are_small;
 use vt_parser::laws::control_is_given;
-use vt_parser::waiting_run;
+use vt_parser::{ParserState, waiting_run};
 
 // A line feed: LF, VT or FF.
 #[inline]
@@ -25,17 +25,37 @@ impl Terminal {
     ghost use Rattle.xterm_term.specs.Term.{Term, play};
 
     /// Whether graphic characters of ASCII that leave the cursor on its line come to stand there as they are: nothing is
-    /// pending, not the wrap either, and none is inserted. So they do with sequences between them that select renditions.
+    /// pending, not the wrap either, and none is inserted.
     pub fn writes_on(&self) -> bool
-        ensures plain { result ≡ true → (x : Term) → Shows self.now x → WritesOn x }
-        ensures styled { result ≡ true → (x : Term) → Shows self.now x → WritesStyled x }
+        ensures { result ≡ true → (x : Term) → Shows self.now x → WritesOn x }
     {
         laws_below();
         widths_are_small();
-        if !self.is_idle(b' ') || self.console.modes.insert || self.console.screen.wrap() {
-            return false;
+        self.takes_letters() && matches!(self.console.sets.in_use(), CharacterSet::Ascii)
+    }
+
+    /// The set in use, where characters of one column that leave the cursor on its line come to stand there as they are, also
+    /// with sequences between them that select renditions: nothing is pending, not the wrap either, and none is inserted.
+    pub fn writes_in(&self) -> Option<CharacterSet>
+        ensures { IfSome result (λ set. (x : Term) → Shows self.now x → WritesStyled set x) }
+    {
+        laws_below();
+        if !self.takes_letters() {
+            return None;
         }
-        matches!(self.console.sets.in_use(), CharacterSet::Ascii)
+        Some(self.console.sets.in_use())
+    }
+
+    // Whether nothing is pending, not the wrap either, and no character is inserted.
+    #[inline]
+    fn takes_letters(&self) -> bool
+        ensures title { result ≡ true → self.now.console.title ≡ false }
+        ensures state { result ≡ true → self.now.state ≡ ParserState.Ground }
+        ensures character { result ≡ true → self.now.character ≡ [] }
+        ensures insert { result ≡ true → self.now.console.modes.insert ≡ false }
+        ensures wrap { result ≡ true → self.now.console.picture.wrap ≡ false }
+    {
+        self.is_idle(b' ') && !self.console.modes.insert && !self.console.screen.wrap()
     }
 
     /// Whether a byte is a line feed at the last line that moves all lines up by one: nothing is pending, and the margins are

@@ -11,7 +11,7 @@ pub returns-clause-piece : goal.returns-clause-piece
 returns-clause-piece g c =
     let text = c.args.text.now in
     let bytes = c.args.bytes.now in
-    let foretold = c.args.foretold.now in
+    let foretold = c.args.foretold in
     let taken = c.taken-taken.result in
     let count : taken ≡ taken_by foretold = c.taken-taken.ensures in
     let ends = c.change.new.ends in
@@ -37,7 +37,7 @@ returns-clause-piece g c =
           elim c.if-surely.branch [
             | then-surely w ↦
                 subst (NonePass text (screen first) screen before bytes) (sym count)
-                (c.is_calm-surely.ensures.calm w.if-surely.true text screen before bytes are.after.rows are.after.places told (screen first))
+                (c.is_calm-surely.ensures.calm w.if-surely.true text screen before bytes are.after.rows are.after.places c.args.letters.now told (screen first))
             | else-surely w ↦
                 quiet_calm text (screen first) screen before bytes taken ends.before c.change.new.steps.sides.before ends.after
                 (subst (AreQuiet text screen before bytes) (sym count) (c.is_calm-surely.ensures.quiet w.if-surely.false text screen before bytes told.keeps)) still.before

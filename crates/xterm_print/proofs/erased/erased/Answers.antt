@@ -22,7 +22,7 @@ returns-clause-foretold c = λ x shows rows places.
     let erases = c.erases_right-taken.ensures.erases begun x shows in
     let within = c.erases_right-taken.ensures.within in
     let ends = subst (λ r. EndBy (length text) r still.places.items above before) rows (c.ends_left.ensures c.if-not-ends_left.false x shows rows) in
-    run_foretold x text bytes _ (c.cursor_place-above.ensures.above x shows) (c.cursor_place-above.ensures.before x shows rows) sound
-    (subst (λ l. WritesOver x bytes l taken) (sym c.spaces.ensures) (erased_written x count text bytes taken sound erasable begun within erases))
+    run_foretold x text bytes _ _ (c.cursor_place-above.ensures.above x shows) (c.cursor_place-above.ensures.before x shows rows) sound
+    (subst (λ l. WritesOver x bytes l taken) (sym c.put_spaces.ensures) (erased_written x count text bytes taken sound erasable begun within erases))
     (erased_stays x count text bytes taken sound erasable begun within erases
     (λ k i low lt fits here. ends_here text (rows_behind x [] 0) still.places.items above before k i ends places low lt fits here))

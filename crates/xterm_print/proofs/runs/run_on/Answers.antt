@@ -1,44 +1,26 @@
-use Rattle.std.proofs.Common.{◌≡◌, ◌≢◌, ◌++◌, ap, arith, get_or, sym, true≢false, ◌∙◌}
+use Rattle.std.proofs.Common.{◌≡◌, ◌-◌, ◌++◌, List, ℕ, arith, drop, length, subst, take}
 use Rattle.std.specs.Prelude.{Some}
-use Rattle.std.proofs.lemmas.List.{append-nil}
-use Rattle.xterm_term.specs.declared.terminal.styling.Styling.TheVariants.{Letters}
-use Rattle.xterm_print.proofs.StylingLemmas.{letters_more, no_letter, styling_more}
+use Rattle.std.proofs.lemmas.List.{length-drop, take_all}
+use Rattle.xterm_term.specs.Ahead.{Letters, letters_from, styling_behind}
+use Rattle.xterm_print.proofs.StylingLemmas.{letters_more, styling_more}
 use Rattle.xterm_print.proofs.runs.run_on.Goals as goal
-use Rattle.xterm_print.proofs.runs.run_on.Goals.{in-Letters, in_default}
 
-pub loop-at-preserved-then-matches : goal.loop-at-preserved-then-matches
-loop-at-preserved-then-matches c =
-    let i = c.loop-at.invariant in
-    let led : c.in-Some.next ≡ Letters = elim c.match-matches.branch [
-      | in-Letters w ↦ w.in-Letters.is
-      | in_default w ↦ absurd (true≢false (sym c.if-matches.true ∙ w.matches-is))
-    ] in
-    let behind = styling_more c.args.bytes.now c.loop-at.letters.items c.step.new.letters.items c.loop-at.at c.loop-at.styling c.in-Some.next c.loop-at-test.true i.behind c.in-Some.ensures.led in
-    let letters = letters_more c.args.bytes.now c.loop-at.letters.items c.step.new.letters.items c.loop-at.at c.loop-at.styling c.in-Some.next c.loop-at-test.true i.behind c.in-Some.ensures.led i.are c.in-Some.ensures.more in
+pub loop-taken-preserved : goal.loop-taken-preserved
+loop-taken-preserved c =
+    let kept = c.loop-taken.invariant in
+    let set = c.args.set in
+    let bytes = c.args.bytes.now in
+    let taken = c.loop-taken.taken in
+    let more = c.step-more.result in
+    let were = c.loop-taken.letters.items in
+    let then_ = c.step-more.new.letters.items in
+    let rest : take (length bytes - taken) (drop taken bytes) ≡ drop taken bytes =
+    take_all (length bytes - taken) (drop taken bytes) (omega (arith, length-drop taken bytes)) in
     record {
-      high = omega (arith, c.loop-at-test.true);
-      behind = behind;
-      are = letters;
-      over = c.step.ensures.over;
-      low = omega arith;
-      whole = behind ∙ ap Some led;
-      same = letters;
-    }
-
-pub loop-at-preserved : goal.loop-at-preserved
-loop-at-preserved c =
-    let i = c.loop-at.invariant in
-    let elsewhere : c.in-Some.next ≢ Letters = elim c.match-matches.branch [
-      | in-Letters w ↦ absurd (true≢false (sym w.matches-is ∙ c.if-matches.false))
-      | in_default w ↦ w.in_default.not-Letters
-    ] in
-    let none = no_letter c.loop-at.styling c.in-Some.next (get_or c.args.bytes.now c.loop-at.at 0) elsewhere in
-    record {
-      high = omega (arith, c.loop-at-test.true);
-      behind = styling_more c.args.bytes.now c.loop-at.letters.items c.step.new.letters.items c.loop-at.at c.loop-at.styling c.in-Some.next c.loop-at-test.true i.behind c.in-Some.ensures.led;
-      are = letters_more c.args.bytes.now c.loop-at.letters.items c.step.new.letters.items c.loop-at.at c.loop-at.styling c.in-Some.next c.loop-at-test.true i.behind c.in-Some.ensures.led i.are c.in-Some.ensures.more;
-      over = c.step.ensures.over;
-      low = omega (arith, i.low);
-      whole = i.whole;
-      same = c.in-Some.ensures.more ∙ ap (λ l. c.loop-at.letters.items ++ l) none ∙ append-nil c.loop-at.letters.items ∙ i.same;
+      high = omega (arith, kept.high, c.step-more.ensures.within, length-drop taken bytes);
+      styled = styling_more set bytes taken more kept.styled
+          (subst (λ (l : List ℕ). styling_behind set Letters (take more l) ≡ Some Letters) rest c.step-more.ensures.styled);
+      are = letters_more set bytes taken more kept.styled were then_ kept.are
+          (subst (λ (l : List ℕ). then_ ≡ were ++ letters_from set Letters (take more l)) rest c.step-more.ensures.more);
+      over = c.step-more.ensures.over;
     }

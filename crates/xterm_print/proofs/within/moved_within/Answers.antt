@@ -14,10 +14,10 @@ shown : (c : goal.After-columns) (x : Term) → Shows c.args.terminal.now x → 
 shown c x shows = c.screen-screen.ensures.value ∙ ap (λ (s : Console). s.picture) (sym shows.console)
 
 pub returns-clause-moves : goal.returns-clause-moves
-returns-clause-moves c = λ text x shows.
+returns-clause-moves c = λ text letters x shows.
     let here = shown c x shows in
     let moved = c.in_ok-moved.moved in
-    within_foretold x text c.args.bytes.now _ moved.top moved.bottom (subst Sound here c.cursor-cursor.ensures.sound)
+    within_foretold x text c.args.bytes.now letters _ moved.top moved.bottom (subst Sound here c.cursor-cursor.ensures.sound)
     c.saturating_sub-from.ensures refl (c.columns.ensures.value ∙ ap (λ (p : Picture). p.columns) here) c.in_ok-moved.ensures.within
     (c.in_ok-moved.ensures.moves x shows)
     (ap (λ (p : Picture). heeds_next (row_at p.rows (moved.top - 1))) (sym here)

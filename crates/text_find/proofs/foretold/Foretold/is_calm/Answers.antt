@@ -12,10 +12,10 @@ use Rattle.text_find.proofs.QuietLemmas.{one_quiet, still_quiet}
 use Rattle.text_find.proofs.foretold.Foretold.is_calm.Goals as goal
 
 pub returns-in-MovesUp-clause-calm : goal.returns-in-MovesUp-clause-calm
-returns-in-MovesUp-clause-calm c = λ calm text screen before bytes rows stood foretold first.
+returns-in-MovesUp-clause-calm c = λ calm text screen before bytes rows stood letters foretold first.
     let columns = c.in-MovesUp.field-0 in
-    subst (λ f. IsForetold text screen before bytes f → NonePass text first screen before bytes (taken_by f)) (sym c.in-MovesUp.is)
-    (λ told. moved_calm text first screen before bytes columns c.args.still.now rows told
+    subst (λ f. IsForetold text screen before bytes f letters → NonePass text first screen before bytes (taken_by f)) (sym c.in-MovesUp.is)
+    (λ told. moved_calm text first screen before bytes columns letters c.args.still.now rows told
     (c.stays_moved.ensures.keeps calm text columns (subst (λ r. 0 < length r) (sym rows) told.room) (stood ∙ ap (standing text) (sym rows)))) foretold
 
 pub returns-in-MovesUp-clause-quiet : goal.returns-in-MovesUp-clause-quiet
@@ -23,11 +23,11 @@ returns-in-MovesUp-clause-quiet c = λ told text screen before bytes keeps.
     subst (λ f. AreQuiet text screen before bytes (taken_by f)) (sym c.in-MovesUp.is) (one_quiet text screen before bytes)
 
 pub returns-in-MovesWithin-clause-calm : goal.returns-in-MovesWithin-clause-calm
-returns-in-MovesWithin-clause-calm c = λ calm text screen before bytes rows stood foretold first.
+returns-in-MovesWithin-clause-calm c = λ calm text screen before bytes rows stood letters foretold first.
     let places = c.args.still.now.places in
     let count : vec_len places ≡ 0 = eqb-true (vec_len places) 0 (sym c.is_empty.ensures ∙ calm) in
     let none : standing text (screen before) ≡ [] = sym stood ∙ nil_from_length places.items (omega (arith, count)) in
-    subst (λ f. IsForetold text screen before bytes f → NonePass text first screen before bytes (taken_by f)) (sym c.in-MovesWithin.is)
+    subst (λ f. IsForetold text screen before bytes f letters → NonePass text first screen before bytes (taken_by f)) (sym c.in-MovesWithin.is)
     (λ told. nowhere_calm text first screen before bytes c.in-MovesWithin.field-0.taken (λ n lt.
     ap (standing text) (told.keeps n lt ∙ within_start screen before bytes) ∙ none)) foretold
 
@@ -37,6 +37,6 @@ returns-in-MovesWithin-clause-quiet c = λ told text screen before bytes keeps.
     (still_quiet text screen before bytes c.in-MovesWithin.field-0.taken) keeps
 
 pub returns-in-Writes-clause-calm : goal.returns-in-Writes-clause-calm
-returns-in-Writes-clause-calm c = λ calm text screen before bytes rows stood foretold first.
-    subst (λ f. IsForetold text screen before bytes f → NonePass text first screen before bytes (taken_by f)) (sym c.in-Writes.is)
+returns-in-Writes-clause-calm c = λ calm text screen before bytes rows stood letters foretold first.
+    subst (λ f. IsForetold text screen before bytes f letters → NonePass text first screen before bytes (taken_by f)) (sym c.in-Writes.is)
     (λ told. kept_calm text first screen before bytes c.in-Writes.field-0.taken told.keeps) foretold

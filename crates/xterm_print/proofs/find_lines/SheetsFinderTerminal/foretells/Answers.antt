@@ -11,4 +11,4 @@ returns-clause-foretold c = λ size before shows rows places.
     let start = start_is c.size_stays.ensures c.plays_in_parts.ensures size before in
     IfSome_then c.foretold.result
     (c.foretold.ensures.foretold (play (reset_as size) before) shows (rows ∙ start) (places ∙ ap (standing c.args.text.now) start))
-    (λ foretold is. foretold_told c.size_stays.ensures c.plays_in_parts.ensures size c.args.text.now before c.args.bytes.now foretold is)
+    (λ foretold is. foretold_told c.size_stays.ensures c.plays_in_parts.ensures size c.args.text.now before c.args.bytes.now foretold c.foretold.new.letters.items is)

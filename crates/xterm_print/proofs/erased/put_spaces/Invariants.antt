@@ -1,5 +1,5 @@
 use Rattle.std.proofs.Common.{◌≡◌, replicate}
-use Rattle.xterm_print.proofs.erased.spaces.Given as goal
+use Rattle.xterm_print.proofs.erased.put_spaces.Given as goal
 
 -- those so far are spaces
 abbrev pub invariant-loop : goal.invariant-loop
