@@ -13,6 +13,7 @@ pub mod Told
 pub mod Ran
 pub mod Taken
 pub mod Idle
+pub mod Letters
 pub mod Sizes
 pub mod Rowless
 pub mod Ahead

@@ -1,9 +1,10 @@
 -- Runs of graphic characters.
-use Rattle.std.proofs.Common.{◌≡◌, ℕ, zero, suc, ◌≤◌, ◌<◌, ◌-◌, take, length, get_or, Bool, true, false, List, [], ◌∷◌, ◌++◌, map, refl, sym, ap, ap₂, ◌∙◌, arith, nat_le}
+use Rattle.std.proofs.Common.{◌≡◌, ℕ, zero, suc, ◌≤◌, ◌<◌, ◌-◌, take, drop, length, get_or, Bool, true, false, List, [], ◌∷◌, ◌++◌, map, refl, sym, ap, ap₂, ◌∙◌, arith, nat_le}
 use Rattle.std.specs.Prelude.{Option, Some, if◌then◌else◌}
 use Rattle.std.specs.List.{list_all, prefix_len}
 use Rattle.std.proofs.lemmas.Bool.{and_parts}
-use Rattle.std.proofs.lemmas.List.{append-nil}
+use Rattle.std.proofs.lemmas.List.{append-nil, take-append-drop}
+use Rattle.std.proofs.lemmas.List.Folds.{list_all-append}
 use Rattle.std.proofs.lemmas.Bool.Decides.{nat_tests}
 use Rattle.characters.specs.Width.{width}
 use Rattle.characters.specs.Law.{AsciiIsNarrow}
@@ -40,6 +41,12 @@ no_c1 character is = grind (arith, nat_tests)
 pub ascii_is_narrow : AsciiIsNarrow → (character : ℕ) → is_graphic character ≡ true → is_narrow character ≡ true
 ascii_is_narrow narrow character is = simp (no_c1 character is, narrow character is)
 
+pub run_is_narrow : AsciiIsNarrow → (characters : List ℕ) → list_all is_graphic characters ≡ true → list_all is_narrow characters ≡ true
+run_is_narrow narrow [] graphic = refl
+run_is_narrow narrow (character ∷ characters) graphic =
+    let parts = and_parts (is_graphic character) (list_all is_graphic characters) graphic in
+    simp (ascii_is_narrow narrow character parts.0) (run_is_narrow narrow characters parts.1)
+
 narrow_parts : (character : ℕ) → is_narrow character ≡ true → (is_c1 character ≡ false) × (width character ≡ 1)
 narrow_parts character is = (grind (arith, nat_tests), grind (arith, nat_tests))
 
@@ -48,13 +55,16 @@ pub put_narrow : (character : ℕ) (s : Console) → is_narrow character ≡ tru
 unfolding put
 put_narrow character s is = let parts = narrow_parts character is in simp (parts.0, parts.1)
 
+-- many that are
+letters_put : (letters : List ℕ) (s : Console) → list_all is_narrow letters ≡ true → all_put letters s ≡ shown_at_once letters s
+letters_put [] s narrow = refl
+letters_put (letter ∷ letters) s narrow =
+    let parts = and_parts (is_narrow letter) (list_all is_narrow letters) narrow in
+    ap (all_put letters) (put_narrow letter s parts.0) ∙ letters_put letters (shown_with false letter s) parts.1
+
 pub ascii_put : AsciiIsNarrow → (characters : List ℕ) (s : Console) → list_all is_graphic characters ≡ true
     → all_put characters s ≡ shown_at_once characters s
-ascii_put narrow [] s graphic = refl
-ascii_put narrow (character ∷ characters) s graphic =
-    let parts = and_parts (is_graphic character) (list_all is_graphic characters) graphic in
-    ap (all_put characters) (put_narrow character s (ascii_is_narrow narrow character parts.0))
-    ∙ ascii_put narrow characters (shown_with false character s) parts.1
+ascii_put narrow characters s graphic = letters_put characters s (run_is_narrow narrow characters graphic)
 
 -- in ASCII bytes are characters as they stand
 pub ascii_map : (bytes : List ℕ) → map (character_of Ascii) bytes ≡ bytes
@@ -64,9 +74,9 @@ ascii_map (byte ∷ bytes) = ap (λ (l : List ℕ). byte ∷ l) (ascii_map bytes
 
 -- ---- what a character leaves alone
 
-record Others (s t : Console) : Type 0 where
-  sets : t.sets ≡ s.sets
-  title : t.title ≡ s.title
+pub record Others (s t : Console) : Type 0 where
+  pub sets : t.sets ≡ s.sets
+  pub title : t.title ≡ s.title
 
 others_if : (b : Bool) (s t u : Console) → Others s t → Others s u → Others s (if b then t else u)
 others_if true s t u others other = others
@@ -76,7 +86,7 @@ others_by_width : (n character : ℕ) (s : Console) → Others s (put_by_width n
 others_by_width zero character s = record { sets = refl; title = refl }
 others_by_width (suc n) character s = record { sets = refl; title = refl }
 
-put_others : (character : ℕ) (s : Console) → Others s (put character s)
+pub put_others : (character : ℕ) (s : Console) → Others s (put character s)
 unfolding put
 put_others character s =
     others_if (is_c1 character) s _ _ (record { sets = refl; title = refl }) (others_by_width (width character) character s)
@@ -138,6 +148,13 @@ module _ (shown : GraphicIsShown) where
         ap₂ (λ (l : List ℕ) (x : Term). l ++ sent x bytes) (reply_run s reports byte parts.0 title) first ∙ rest.1,
       )
 
+-- what holds of all holds of each part
+pub all_in_parts : (p : ℕ → Bool) (xs : List ℕ) (n : ℕ) → list_all p xs ≡ true
+    → (list_all p (take n xs) ≡ true) × (list_all p (drop n xs) ≡ true)
+all_in_parts p xs n all =
+    and_parts (list_all p (take n xs)) (list_all p (drop n xs))
+    (sym (list_all-append p (take n xs) (drop n xs)) ∙ ap (list_all p) (take-append-drop n xs) ∙ all)
+
 -- no byte of a run is anything but a graphic character
 pub run_is_graphic : (bytes : List ℕ) (n : ℕ) → n ≤ prefix_len is_graphic bytes → list_all is_graphic (take n bytes) ≡ true
 run_is_graphic bytes zero le = refl
@@ -149,19 +166,20 @@ run_graphic bytes n same = run_is_graphic bytes n (omega arith)
 
 -- ---- the last one
 
-pub last_told : (last : Option ℕ) (bytes : List ℕ) → 0 < length bytes → Some (get_or bytes (length bytes - 1) 0) ≡ last_of last bytes
-last_told last [] some = absurd (omega arith)
-last_told last (byte ∷ []) some = refl
-last_told last (byte ∷ next ∷ rest) some =
-    let there : length (byte ∷ next ∷ rest) - 1 ≡ suc (length (next ∷ rest) - 1) = omega arith in
-    ap (λ (k : ℕ). Some (get_or (byte ∷ next ∷ rest) k 0)) there ∙ last_told (Some byte) (next ∷ rest) (omega arith)
+pub last_told : (last : Option ℕ) (letters : List ℕ) (none : ℕ) → 0 < length letters
+    → Some (get_or letters (length letters - 1) none) ≡ last_of last letters
+last_told last [] none some = absurd (omega arith)
+last_told last (letter ∷ []) none some = refl
+last_told last (letter ∷ next ∷ rest) none some =
+    let there : length (letter ∷ next ∷ rest) - 1 ≡ suc (length (next ∷ rest) - 1) = omega arith in
+    ap (λ (k : ℕ). Some (get_or (letter ∷ next ∷ rest) k none)) there ∙ last_told (Some letter) (next ∷ rest) none (omega arith)
 
-pub put_at_once : AsciiIsNarrow → (bytes : List ℕ) (s : Console) (picture : Picture) → list_all is_graphic bytes ≡ true → 0 < length bytes
-    → picture ≡ run_shown bytes s.rendition s.modes.autowrap s.modes.insert s.picture
-    → record s { picture = picture; last = Some (get_or bytes (length bytes - 1) 0) } ≡ all_put bytes s
-put_at_once narrow bytes s picture graphic some shown =
-    ap₂ (λ (p : Picture) (l : Option ℕ). record s { picture = p; last = l }) shown (last_told s.last bytes some)
-    ∙ sym (ascii_put narrow bytes s graphic)
+pub put_at_once : (letters : List ℕ) (none : ℕ) (s : Console) (picture : Picture) → list_all is_narrow letters ≡ true → 0 < length letters
+    → picture ≡ run_shown letters s.rendition s.modes.autowrap s.modes.insert s.picture
+    → record s { picture = picture; last = Some (get_or letters (length letters - 1) none) } ≡ all_put letters s
+put_at_once letters none s picture narrow some shown =
+    ap₂ (λ (p : Picture) (l : Option ℕ). record s { picture = p; last = l }) shown (last_told s.last letters none some)
+    ∙ sym (letters_put letters s narrow)
 
 pub put_nothing : (bytes : List ℕ) (s : Console) → length bytes ≡ 0 → s ≡ all_put bytes s
 put_nothing [] s none = refl

@@ -33,7 +33,7 @@ use Rattle.xterm_term.specs.Reading.{Stands, GoesOn, is_ground_state}
 use Rattle.xterm_term.specs.Law.{LawsBelow}
 use Rattle.xterm_term.proofs.ByteKinds.{first, other}
 use Rattle.xterm_term.proofs.Parts.{ground_shown, either_mode}
-use Rattle.xterm_term.proofs.Runs.{stepped, run_graphic}
+use Rattle.xterm_term.proofs.Runs.{all_in_parts, stepped, run_graphic}
 use Rattle.xterm_term.proofs.Stays.{safe_play, size_stays}
 use Rattle.xterm_term.proofs.Told.{seen, shows_touched}
 
@@ -63,17 +63,11 @@ goes_by_escape state (byte ∷ rest) n some is same =
     subst (λ (k : ℕ). GoesOn state (take k (byte ∷ rest))) (sym one_more)
     (run_graphic rest n (same ∙ ap (prefix_len is_graphic) whole), inl is)
 
-all_take : (bytes : List ℕ) (n : ℕ) → list_all is_graphic bytes ≡ true → list_all is_graphic (take n bytes) ≡ true
-all_take bytes zero graphic = refl
-all_take [] (suc n) graphic = refl
-all_take (byte ∷ rest) (suc n) graphic =
-    let parts = and_parts (is_graphic byte) (list_all is_graphic rest) graphic in both_true parts.0 (all_take rest n parts.1)
-
 -- a front of them goes on too
 pub goes_front : (state : ParserState) (bytes : List ℕ) (n : ℕ) → 0 < n → GoesOn state bytes → GoesOn state (take n bytes)
 goes_front state bytes zero some goes = absurd (omega arith)
 goes_front state [] (suc n) some goes = goes
-goes_front state (byte ∷ rest) (suc n) some goes = (all_take rest n goes.0, goes.1)
+goes_front state (byte ∷ rest) (suc n) some goes = ((all_in_parts is_graphic rest n goes.0).0, goes.1)
 
 -- ---- by a place
 

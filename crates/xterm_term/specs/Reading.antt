@@ -1,6 +1,7 @@
 -- Private: what the parts of a terminal come to by a byte.
-use Rattle.std.specs.Prelude.{◌≡◌, ◌⊎◌, ℕ, Bool, true, false, List, [], ◌∷◌, Some}
+use Rattle.std.specs.Prelude.{◌≡◌, ◌⊎◌, ℕ, Bool, true, false, List, [], ◌∷◌, ◌++◌, Some}
 use Rattle.std.specs.List.{list_all}
+use Rattle.characters.specs.Utf8.{Spells}
 use Rattle.vt_parser.specs.declared.commands.Mode.TheVariants.{Ansi}
 use Rattle.vt_parser.specs.declared.states.ParserState.{ParserState}
 use Rattle.vt_parser.specs.declared.states.ParserState.TheVariants.{Ground, Text}
@@ -25,6 +26,12 @@ GoesOn state [] = ⊥
 GoesOn state (byte ∷ rest) =
     (list_all is_graphic rest ≡ true)
     × ((byte ≡ escape) ⊎ ((is_graphic byte ≡ true) × (is_ground_state state ≡ false)))
+
+-- bytes that are these characters, each of several bytes, one behind the other
+abbrev pub SpellsEach : List ℕ → List ℕ → Type 0
+SpellsEach bytes [] = bytes ≡ []
+SpellsEach bytes (character ∷ characters) =
+    (front : List ℕ) × (rest : List ℕ) × (bytes ≡ front ++ rest) × Spells front character × SpellsEach rest characters
 
 -- the state shows this sequence
 abbrev pub Stands : List ℕ → ParserState → Type 0

@@ -1,6 +1,7 @@
 //! Characters that are put.
-ghost use Rattle.std.specs.Prelude.{◌≡◌, ◌≤◌, map, true};
+ghost use Rattle.std.specs.Prelude.{◌≡◌, ◌<◌, ◌≤◌, length, map, take, true};
 ghost use Rattle.std.specs.List.{list_all};
+ghost use Rattle.xterm_term.specs.Ahead.{is_narrow};
 ghost use Rattle.xterm_term.specs.Console.{console_of};
 ghost use Rattle.xterm_term.specs.Puts.{put, put_by_width, all_put, shown_with, character_for, put_times, last_repeated};
 ghost use Rattle.xterm_term.specs.Sets.{character_of, set_in_use};
@@ -9,8 +10,16 @@ ghost use Rattle.xterm_screen.specs.Picture.{KeepsTold};
 
 use crate::CharacterSet;
 use crate::console::Console;
+use crate::terminal::is_narrow;
+use arrayvec::ArrayVec;
 use characters::laws::widths_are_small;
 use characters::width;
+
+// How many characters of one column are put at once, at most.
+const LETTERS: usize = 64;
+
+/// Room for those.
+pub(crate) type Letters = ArrayVec<char, LETTERS>;
 
 impl Console {
     /// Puts a character.
@@ -103,15 +112,71 @@ impl Console {
         self.last = Some(bytes[bytes.len() - 1] as char);
     }
 
+    // Those of the other sets are spelled some at a time.
     fn put_each(&mut self, set: CharacterSet, bytes: &[u8])
         requires { list_all is_graphic bytes.now ≡ true }
         ensures done { console_of self.new
             ≡ all_put (map (character_of set) bytes.now) (console_of self.old) }
         ensures told { KeepsTold self.old.screen self.new.screen }
     {
-        for &byte in bytes {
-            self.put(set.character(byte));
+        let mut letters = Letters::new();
+        let mut rest = bytes;
+        while !rest.is_empty() {
+            let taken = self.put_some(set, rest, &mut letters);
+            rest = &rest[taken..];
         }
+    }
+
+    // Puts the characters of some of the bytes, at least one, and says of how many: as many as are of one column go at once.
+    // The list is room for them.
+    fn put_some(&mut self, set: CharacterSet, bytes: &[u8], letters: &mut Letters) -> usize
+        requires some { 0 < length bytes.now }
+        requires graphic { list_all is_graphic bytes.now ≡ true }
+        ensures some { 0 < result }
+        ensures within { result ≤ length bytes.now }
+        ensures done { console_of self.new
+            ≡ all_put (map (character_of set) (take result bytes.now)) (console_of self.old) }
+        ensures told { KeepsTold self.old.screen self.new.screen }
+    {
+        spell(set, bytes, letters);
+        if letters.is_empty() {
+            self.put(set.character(bytes[0]));
+            return 1;
+        }
+        self.put_letters(letters.as_slice());
+        letters.len()
+    }
+
+    /// Puts characters of one column, one after another.
+    pub(crate) fn put_letters(&mut self, letters: &[char])
+        requires { list_all is_narrow letters.now ≡ true }
+        ensures done { console_of self.new ≡ all_put letters.now (console_of self.old) }
+        ensures told { KeepsTold self.old.screen self.new.screen }
+    {
+        let mut rest = letters;
+        while !rest.is_empty() {
+            let taken = self.put_part(rest);
+            rest = &rest[taken..];
+        }
+    }
+
+    // Those that the cursor's line has room for go to the screen at once. Says how many.
+    fn put_part(&mut self, letters: &[char]) -> usize
+        requires some { 0 < length letters.now }
+        requires narrow { list_all is_narrow letters.now ≡ true }
+        ensures some { 0 < result }
+        ensures within { result ≤ length letters.now }
+        ensures done { console_of self.new ≡ all_put (take result letters.now) (console_of self.old) }
+        ensures told { KeepsTold self.old.screen self.new.screen }
+    {
+        let shown = self.screen.show_letters(
+            letters,
+            self.rendition,
+            self.modes.autowrap,
+            self.modes.insert,
+        );
+        self.last = Some(letters[shown - 1]);
+        shown
     }
 
     /// REP.
@@ -131,5 +196,23 @@ impl Console {
         for step in 0..n {
             self.put(character);
         }
+    }
+}
+
+// Writes down the characters of these bytes, as many of the first ones as are of one column and have room.
+fn spell(set: CharacterSet, bytes: &[u8], letters: &mut Letters)
+    requires { list_all is_graphic bytes.now ≡ true }
+    ensures within { length letters.new.items ≤ length bytes.now }
+    ensures spelled { letters.new.items
+        ≡ map (character_of set) (take (length letters.new.items) bytes.now) }
+    ensures narrow { list_all is_narrow letters.new.items ≡ true }
+{
+    letters.clear();
+    for &byte in bytes {
+        let character = set.character(byte);
+        if letters.is_full() || !is_narrow(character) {
+            return;
+        }
+        letters.push(character);
     }
 }

@@ -1,9 +1,10 @@
 //! The terminal: a decoder and a parser before a console.
-ghost use Rattle.std.specs.Prelude.{◌≡◌, ◌≤◌, ◌<◌, [], ◌∷◌, length, take, true, false, IsOk, IfOk, OnOk, OnErr};
+ghost use Rattle.std.specs.Prelude.{◌≡◌, ◌≤◌, ◌<◌, [], ◌∷◌, length, take, true, false, IsOk, IfOk, OnOk, OnErr, IfSome};
 ghost use Rattle.std.specs.List.{list_all};
 ghost use Rattle.vt_parser.specs.Syntax.{is_graphic, is_within};
 ghost use Rattle.characters.specs.Utf8.{Spells, bytes_of};
-ghost use Rattle.xterm_term.specs.Reading.{GoesOn};
+ghost use Rattle.xterm_term.specs.Ahead.{is_narrow};
+ghost use Rattle.xterm_term.specs.Reading.{GoesOn, SpellsEach};
 
 mod ahead;
 mod erases;
@@ -13,14 +14,16 @@ mod styling;
 
 use crate::below::laws_below;
 use crate::console::Console;
+use crate::puts::Letters;
 use crate::reading::{ESC, is_effective, is_graphic, is_ground_state, is_open, read_byte};
 use crate::{Modes, OutOfMemory, Reports, Saved, Sets, Size};
-use characters::{Begun, Decoder, character_at};
+use characters::{Begun, Decoder, begins, character_at};
 pub use moving::MovedLines;
 pub use packed::PackedTerminal;
 use sheet::Rendition;
 use std::alloc::{AllocError, Global};
 use std::marker::Model;
+pub(crate) use styling::is_narrow;
 pub use styling::{Letter, letter_at, styling_at};
 use vt_parser::laws::control_is_given;
 use vt_parser::{Mode, Parser, ParserState, printable_run};
@@ -252,6 +255,9 @@ impl Terminal {
         }
         match character_at(bytes) {
             Some((character, len)) => {
+                if len < bytes.len() && begins(bytes[len]) && is_narrow(character) {
+                    return self.take_letters(bytes);
+                }
                 self.take_character(character, &bytes[..len]);
                 len
             }
@@ -307,6 +313,26 @@ impl Terminal {
         laws_below();
         let _bytes = bytes;
         self.console.put(character);
+    }
+
+    // Puts the characters of one column that the first of the bytes are, each of several bytes, and says how many bytes these
+    // are.
+    fn take_letters(&mut self, bytes: &[u8]) -> usize
+        requires title { self.old.console.title ≡ false }
+        requires state { self.old.state ≡ ParserState.Ground }
+        requires character { self.old.character ≡ [] }
+        ensures within { result ≤ length bytes.now }
+        ensures shows { (x : Term) → Shows self.old x
+            → Shows self.new (play x (take result bytes.now)) }
+        ensures silent { (x : Term) → Shows self.old x → sent x (take result bytes.now) ≡ [] }
+        ensures size { SameSize self.old.console self.new.console }
+        ensures told { KeepsTold self.old self.new }
+    {
+        laws_below();
+        let mut letters = Letters::new();
+        let taken = gather(bytes, &mut letters);
+        self.console.put_letters(letters.as_slice());
+        taken
     }
 
     // How many bytes begin a sequence or go on one at once: ESC and the graphic characters behind it, or those of the text
@@ -462,5 +488,41 @@ impl Terminal {
         ensures { result ≡ self.now.console.alternate_saved }
     {
         self.console.alternate_saved
+    }
+}
+
+// Writes down the characters of one column that the first of the bytes are, each of several bytes, as many as have room, and
+// says how many bytes these are.
+fn gather(bytes: &[u8], letters: &mut Letters) -> usize
+    requires { letters.old.items ≡ [] }
+    ensures within { result ≤ length bytes.now }
+    ensures narrow { list_all is_narrow letters.new.items ≡ true }
+    ensures spelled { SpellsEach (take result bytes.now) letters.new.items }
+{
+    let mut taken = 0;
+    while !letters.is_full() {
+        match narrow_at(&bytes[taken..]) {
+            Some((letter, len)) => {
+                letters.push(letter);
+                taken += len;
+            }
+            None => return taken,
+        }
+    }
+    taken
+}
+
+// The character of one column and several bytes that these begin with, and how many it takes.
+#[inline]
+fn narrow_at(bytes: &[u8]) -> Option<(char, usize)>
+    ensures within { IfSome result (λ found. found.1 ≤ length bytes.now) }
+    ensures narrow { IfSome result (λ found. is_narrow found.0 ≡ true) }
+    ensures spelled { IfSome result (λ found. Spells (take found.1 bytes.now) found.0) }
+{
+    let (character, len) = character_at(bytes)?;
+    if is_narrow(character) {
+        Some((character, len))
+    } else {
+        None
     }
 }

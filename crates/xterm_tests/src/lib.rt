@@ -13,6 +13,8 @@ mod erased;
 #[cfg(test)]
 mod foot;
 #[cfg(test)]
+mod letter_runs;
+#[cfg(test)]
 mod letters;
 #[cfg(test)]
 mod moved;

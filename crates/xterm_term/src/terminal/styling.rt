@@ -61,7 +61,7 @@ fn graphic_letter(set: CharacterSet, byte: u8) -> Option<Letter>
 }
 
 // Whether a character is shown in one column.
-fn is_narrow(character: char) -> bool
+pub(crate) fn is_narrow(character: char) -> bool
     ensures { result ≡ is_narrow character }
 {
     !matches!(character, '\u{80}'..='\u{9F}') && width(character) == 1
