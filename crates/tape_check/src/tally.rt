@@ -61,14 +61,18 @@ fn title_behind(token: &Token, title: bool) -> bool
     }
 }
 
-// How many bytes stand together for the control syntax: the first, and graphic characters behind it.
+// How many bytes stand together for the control syntax: the first, and, where it is ESC or a sequence is open, graphic
+// characters behind it.
 #[inline]
-fn syntax_front(bytes: &[u8]) -> usize
+fn syntax_front(open: bool, bytes: &[u8]) -> usize
     requires { 0 < length bytes.now }
     ensures some { 0 < result }
     ensures within { result ≤ length bytes.now }
     ensures graphic { list_all is_graphic (drop 1 (take result bytes.now)) ≡ true }
 {
+    if !open && bytes[0] != ESC {
+        return 1;
+    }
     1 + printable_run(&bytes[1..bytes.len().min(MOST_TOGETHER)])
 }
 
@@ -147,7 +151,7 @@ impl Reader {
             self.take_byte(bytes[0])?;
             return Ok(1);
         }
-        self.read_syntax(&bytes[..syntax_front(bytes)])
+        self.read_syntax(&bytes[..syntax_front(self.is_open(), bytes)])
     }
 
     // How many of these bytes at least count nothing and leave the reader as it is.
@@ -228,6 +232,17 @@ impl Reader {
         ensures { (t : Tally) → IsAt self.now t → result ≡ is_ground t.sequence }
     {
         matches!(self.parser.state(), ParserState::Ground)
+    }
+
+    // Whether a sequence goes on by graphic characters, and no string is skipped.
+    fn is_open(&self) -> bool {
+        matches!(
+            self.parser.state(),
+            ParserState::CsiStart
+                | ParserState::Csi { .. }
+                | ParserState::Escape
+                | ParserState::EscapeOne(_)
+        )
     }
 
     // Whether a byte from 128 on comes where nothing is pending.

@@ -1,5 +1,5 @@
 -- A search that goes from run to run of occurrences, and what it writes and counts.
-use Rattle.std.proofs.Common.{◌≡◌, ℕ, zero, suc, ◌+◌, ◌-◌, ◌<◌, ◌≤◌, Bool, true, false, Option, Some, None, List, [], ◌∷◌, ◌++◌, length, get_or, drop, take, nat_eq, add-zero, add_assoc, ap, subst, ext_get_or, sym, ◌∙◌, arith, inl, inr, zero-add, cond, length-drop}
+use Rattle.std.proofs.Common.{◌≡◌, ℕ, zero, suc, ◌+◌, ◌-◌, ◌<◌, ◌≤◌, Bool, true, false, Option, Some, None, List, [], ◌∷◌, ◌++◌, length, get_or, drop, take, nat_eq, add-zero, add_assoc, ap, refl, subst, ext_get_or, sym, ◌∙◌, arith, inl, inr, zero-add, cond, length-drop}
 use Rattle.std.specs.List.{count_by, range_with_len, starts_with}
 use Rattle.std.proofs.lemmas.Bool.{both_ways, cases_lt, cases_order, cond-false, cond-true, false_from_ne_true}
 use Rattle.std.proofs.lemmas.List.{get_or-drop, drop-drop, map-id, take_rest}
@@ -267,3 +267,23 @@ pub begun_next : (text old : List ℕ) (from start len count : ℕ) → Next tex
     → begun_before text old (start + len) ≡ begun_before text old from + count
 begun_next text old from start len count next run =
     omega (arith, begun_behind text old start len, begun_same text old from start next.low next.none, run.counted)
+
+-- ---- a text that is longer than the bytes
+
+none_fits : (text bytes : List ℕ) → length bytes < length text → Nowhere (Begins text bytes) 0 (length bytes)
+none_fits text bytes short b low high is = absurd (omega (arith, (occurs_from text bytes b is).fits))
+
+nothing_done : (text old : List ℕ) → Searched text old old 0
+nothing_done text old = record {
+  long = refl;
+  within = omega arith;
+  done = λ k lt. absurd (omega arith);
+  rest = λ k le. refl;
+  below = λ b lt is. absurd (omega arith);
+}
+
+pub short_stays : (text bytes : List ℕ) → length bytes < length text → bytes ≡ redacted text bytes
+short_stays text bytes short = all_searched text bytes bytes 0 (nothing_done text bytes) (none_fits text bytes short)
+
+pub short_counts : (text bytes : List ℕ) → length bytes < length text → begun_before text bytes (length bytes) ≡ 0
+short_counts text bytes short = begun_same text bytes 0 (length bytes) (omega arith) (none_fits text bytes short)

@@ -14,6 +14,9 @@ pub fn redact(bytes: &mut [u8], text: &[u8]) -> usize
     ensures bytes { bytes.new ≡ redacted text.now bytes.old }
     ensures count { result ≡ occurrences text.now bytes.old }
 {
+    if bytes.len() < text.len() {
+        return 0;
+    }
     let finder = Finder::new(text);
     let mut count: usize = 0;
     let mut from: usize = 0;

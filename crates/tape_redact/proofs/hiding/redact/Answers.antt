@@ -1,7 +1,14 @@
 use Rattle.std.proofs.Common.{◌+◌, ◌-◌, ◌∙◌, ap, arith, drop, length, sym, take}
 use Rattle.tape_redact.specs.Redacted.{occurrences}
-use Rattle.tape_redact.proofs.SearchLemmas.{Hidden, all_searched, begins_ahead, begun_few, begun_next, begun_same, next_is, none_left, run_ahead, search_on}
+use Rattle.tape_redact.proofs.SearchLemmas.{Hidden, all_searched, begins_ahead, begun_few, begun_next, begun_same, next_is, none_left, run_ahead, search_on, short_counts, short_stays}
 use Rattle.tape_redact.proofs.hiding.redact.Goals as goal
+
+pub returns-then-bytes-text-clause-bytes : goal.returns-then-bytes-text-clause-bytes
+returns-then-bytes-text-clause-bytes c = short_stays c.args.text.now c.args.bytes.now c.if-bytes-text.true
+
+pub returns-then-bytes-text-clause-count : goal.returns-then-bytes-text-clause-count
+unfolding occurrences
+returns-then-bytes-text-clause-count c = sym (short_counts c.args.text.now c.args.bytes.now c.if-bytes-text.true)
 
 pub run_of-run-requires-clause-begins : goal.run_of-run-requires-clause-begins
 run_of-run-requires-clause-begins c =
