@@ -1,8 +1,6 @@
 //! Bytes that write characters of one column over plain cells, with sequences between them that select renditions.
 
-ghost use Rattle.std.specs.Prelude.{◌≡◌, ◌+◌, ◌-◌, ◌%◌, ◌<◌, ◌≤◌, ◌++◌, ◌∷◌, [], ℕ, IfSome, Some, length, slice_index_or, take, true, false};
-ghost use Rattle.sheet.specs.Cells.{blank};
-ghost use Rattle.sheet.specs.declared.rendition.Colour.TheVariants.{Default};
+ghost use Rattle.std.specs.Prelude.{◌≡◌, ◌-◌, ◌%◌, ◌<◌, ◌≤◌, ◌++◌, Some, length, slice_index_or, take, true, false};
 ghost use Rattle.xterm_rows.specs.Runs.{cell_behind};
 ghost use Rattle.xterm_term.specs.Ahead.{Letters, WritesStyled, letters_from, styling_behind};
 ghost use Rattle.xterm_term.specs.Seen.{Shows};
@@ -19,8 +17,12 @@ const MARKS: usize = 64;
 /// Marks of the characters that a text has behind its first one: most characters of a row have none.
 type Followers = [bool; MARKS];
 
-/// How many of the bytes write letters over plain cells of the cursor's row, left of its last two, so that no two neighbours
-/// of the text come to stand on both sides of a border between new characters and old ones: the letters become these.
+/// The marks for a first letter, which has no letter before it: they aren't looked at.
+const NO_MARKS: Followers = [false; MARKS];
+
+/// How many of the bytes write letters over plain cells of the cursor's row, left of its last two, so that no two
+/// neighbours of the text come to stand on both sides of a border between new characters and old ones: the letters
+/// become these.
 pub(crate) fn run_over(
     terminal: &Terminal,
     set: CharacterSet,
@@ -46,7 +48,8 @@ pub(crate) fn run_over(
     run_on(&cells[from..room], set, text, bytes, letters)
 }
 
-/// How many of the bytes are letters to be put over these cells, and whole sequences, as far as they may be.
+/// How many of the bytes are letters to be put over these cells, and whole sequences, as far as they may be. The text's
+/// characters are marked only when more comes than one letter: a key that is typed doesn't cost the text's length.
 fn run_on(
     cells: &[Cell],
     set: CharacterSet,
@@ -60,9 +63,15 @@ fn run_on(
     ensures letters { letters.new.items ≡ letters_from set Letters (take result bytes.now) }
     ensures over { GoOver text.now cells.now letters.new.items }
 {
-    let followers = followers_of(text);
     letters.clear();
-    let mut taken = 0;
+    if bytes.is_empty() {
+        return 0;
+    }
+    let mut taken = step(letters, set, cells, text, &NO_MARKS, bytes);
+    if taken == 0 || taken == bytes.len() {
+        return taken;
+    }
+    let followers = followers_of(text);
     while taken < bytes.len() {
         let more = step(letters, set, cells, text, &followers, &bytes[taken..]);
         if more == 0 {
@@ -73,8 +82,8 @@ fn run_on(
     taken
 }
 
-/// Goes on over a sequence, or over a character, which comes behind the others, if it may be played. Says how many bytes
-/// that took; 0 where they are neither.
+/// Goes on over a sequence, or over a character, which comes behind the others, if it may be played. Says how many
+/// bytes that took; 0 where they are neither.
 #[inline]
 fn step(
     letters: &mut LetterRun,
@@ -86,7 +95,7 @@ fn step(
 ) -> usize
     requires some { 0 < length bytes.now }
     requires few { length cells.now ≤ LETTERS }
-    requires followers { AreFollowers text.now followers.now }
+    requires followers { 0 < length letters.old.items → AreFollowers text.now followers.now }
     requires over { GoOver text.now cells.now letters.old.items }
     ensures over { GoOver text.now cells.now letters.new.items }
     ensures within { result ≤ length bytes.now }
@@ -111,7 +120,7 @@ fn step(
 /// Whether a character more may be put behind these.
 #[inline]
 fn may_go_on(cells: &[Cell], text: &[char], followers: &Followers, letters: &[char]) -> bool
-    requires { AreFollowers text.now followers.now }
+    requires { 0 < length letters.now → AreFollowers text.now followers.now }
     ensures cells { result ≡ true → length letters.now < length cells.now }
     ensures plain { result ≡ true → IsPlain (cell_behind cells.now (length letters.now)) }
     ensures apart { result ≡ true → 0 < length letters.now → AreApart text.now
