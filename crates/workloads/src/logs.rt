@@ -83,3 +83,14 @@ pub fn put_keys(recorder: &mut Recorder, count: usize) -> Result<(), AllocError>
     }
     Ok(())
 }
+
+/// A few sequences that no terminal plays, and broken characters, which a check counts.
+pub fn put_unplayed(recorder: &mut Recorder) -> Result<(), AllocError> {
+    for _ in 0..recorder.random.below(100) {
+        recorder.put("\x1b[?69h")?;
+    }
+    for _ in 0..recorder.random.below(100) {
+        recorder.script.push(0xFF)?;
+    }
+    recorder.end_chunk()
+}

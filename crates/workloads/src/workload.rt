@@ -2,7 +2,7 @@
 
 use crate::editors::put_editor;
 use crate::jobs::{END, do_job};
-use crate::logs::{put_keys, put_log};
+use crate::logs::{put_keys, put_log, put_unplayed};
 use crate::recorder::{Kind, Recorder};
 use crate::requests::{edits, questions};
 use command_line::{Job, Player, Print as Printed};
@@ -17,6 +17,12 @@ const ERROR: &[char] = &['e', 'r', 'r', 'o', 'r'];
 const THE: &[char] = &['t', 'h', 'e'];
 
 const NOWHERE: &[char] = &['n', 'o', 'w', 'h', 'e', 'r', 'e'];
+
+/// It stands in some small recordings, and in others not.
+const NO_S: &[char] = &['n', 'o', ' ', 's'];
+
+/// The logs in which a text is looked for that stands there often.
+const LOGS: [u64; 7] = [1, 24, 26, 28, 30, 32, 34];
 
 /// What is asked for: the seed, and how much of a workload, in percent.
 #[derive(Clone, Copy, Debug)]
@@ -34,6 +40,11 @@ impl Asked {
     /// The seed of one of its recordings.
     fn seed_of(self, number: u64) -> u64 {
         self.seed.wrapping_mul(64).wrapping_add(number)
+    }
+
+    /// The seed of one of up to 1,024 small recordings.
+    fn archive_seed_of(self, number: u64) -> u64 {
+        self.seed.wrapping_mul(1024).wrapping_add(number)
     }
 }
 
@@ -154,12 +165,20 @@ fn shown<R: Print + AllocGlobal>(rt: &R, name: &str, recorder: &Recorder) -> io:
     do_job(rt, name, job, &[], recorder, "")
 }
 
-/// What stands often on a log that scrolls.
+/// What stands often on logs that scroll.
 fn find_log<R: Print + AllocGlobal>(rt: &R, asked: Asked) -> io::Result<()> {
+    for number in LOGS {
+        find_logs(rt, asked, number)?;
+    }
+    Ok(())
+}
+
+/// The same on a large log and a small one: this one of the recordings, and the next.
+fn find_logs<R: Print + AllocGlobal>(rt: &R, asked: Asked, number: u64) -> io::Result<()> {
     let alloc = rt.alloc();
     let recorder = log(
         alloc,
-        asked.seed_of(1),
+        asked.seed_of(number),
         Kind::Today,
         (132, 43),
         asked.of(2000),
@@ -167,7 +186,7 @@ fn find_log<R: Print + AllocGlobal>(rt: &R, asked: Asked) -> io::Result<()> {
     find(rt, "find error in a log", ERROR, &recorder)?;
     let recorder = log(
         alloc,
-        asked.seed_of(2),
+        asked.seed_of(number.wrapping_add(1)),
         Kind::Today,
         (80, 24),
         asked.of(4000),
@@ -392,7 +411,7 @@ fn sessions<R: Print + AllocGlobal>(rt: &R, asked: Asked) -> io::Result<()> {
         requests.as_str(),
     )?;
     for number in 0..asked.of(300) {
-        archived(rt, asked.seed_of((number as u64).wrapping_add(64)))?;
+        archived(rt, asked.archive_seed_of(number as u64))?;
     }
     Ok(())
 }
@@ -409,14 +428,15 @@ fn session_of(recorder: &Recorder) -> Job {
 fn archived<R: Print + AllocGlobal>(rt: &R, seed: u64) -> io::Result<()> {
     let alloc = rt.alloc();
     let recorder = editor(alloc, seed.wrapping_mul(3), Kind::Today, (80, 24), 20)?;
-    find(rt, "find in an archive", NOWHERE, &recorder)?;
-    let recorder = log(
+    find(rt, "find in an archive", NO_S, &recorder)?;
+    let mut recorder = log(
         alloc,
         seed.wrapping_mul(3).wrapping_add(1),
         Kind::Today,
         (80, 24),
         100,
     )?;
+    put_unplayed(&mut recorder)?;
     let job = Job::Check {
         player: player_of(recorder.kind),
     };
