@@ -24,7 +24,7 @@ NoNeighbours text x y = (i : ℕ) → i + 1 < length text → get_or text i 0 �
 -- ---- a line whose front is written
 
 -- what begins with a text has its characters
-has_text : (line text : List ℕ) (i : ℕ) → starts_with nat_eq line text ≡ true → i < length text → get_or line i 0 ≡ get_or text i 0
+pub has_text : (line text : List ℕ) (i : ℕ) → starts_with nat_eq line text ≡ true → i < length text → get_or line i 0 ≡ get_or text i 0
 has_text line text i is lt =
     front_reads 0 line text (drop (length text) line) ((starts_is Decides-eqb line text (starts_with nat_eq line text) refl).0 is) i lt
 
@@ -34,7 +34,7 @@ fits_text line text is =
     front_fits line text (drop (length text) line) ((starts_is Decides-eqb line text (starts_with nat_eq line text) refl).0 is)
 
 -- behind the first of two parts
-drop_past : (front rest : List ℕ) (n : ℕ) → length front ≤ n → drop n (front ++ rest) ≡ drop (n - length front) rest
+pub drop_past : (front rest : List ℕ) (n : ℕ) → length front ≤ n → drop n (front ++ rest) ≡ drop (n - length front) rest
 drop_past front rest n past =
     let parts : length front + (n - length front) ≡ n = omega arith in
     ap (λ m. drop m (front ++ rest)) (sym parts) ∙ sym (drop-drop (n - length front) (length front) (front ++ rest))

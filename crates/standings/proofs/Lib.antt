@@ -3,8 +3,11 @@ mod CountLemmas
 pub mod SpanLemmas
 pub mod FrontLemmas
 mod PlaceLemmas
+mod RoomLemmas
 pub mod KeptLemmas
 mod MovedLemmas
 mod LagLemmas
 mod NearLemmas
 mod StayLemmas
+mod SpaceLemmas
+mod RegionLemmas

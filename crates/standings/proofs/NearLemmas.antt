@@ -1,15 +1,15 @@
 -- Places around characters that were written over others.
-use Rattle.std.proofs.Common.{◌≡◌, ℕ, suc, ◌+◌, ◌-◌, ◌<◌, ◌≤◌, false, List, [], ◌++◌, append_assoc, cond, drop, length, nat_eq, take, refl, ap, ap₂, subst, sym, ◌∙◌, arith, inl, inr}
+use Rattle.std.proofs.Common.{◌≡◌, ℕ, suc, ◌+◌, ◌-◌, ◌<◌, ◌≤◌, false, List, [], ◌++◌, append_assoc, cond, drop, length, nat_eq, set, take, refl, ap, ap₂, subst, sym, ◌∙◌, arith, inl, inr}
 use Rattle.std.specs.List.{starts_with}
 use Rattle.std.proofs.lemmas.Bool.{cases_lt}
-use Rattle.std.proofs.lemmas.List.{get_or-append-add, get_or-set_other, get_or-set_same, get_or_append_left, length-append, length-drop, length-set, length-take, take-append-drop}
+use Rattle.std.proofs.lemmas.List.{drop-append-le, drop-drop, drop-take, drop_at, get_or-append-add, get_or-set_other, get_or-set_same, get_or_append_left, length-append, length-drop, length-set, length-take, set-get_or, set-set, take-append-drop, take_at}
 use Rattle.standings.specs.Near.{IsCut, IsEarly, IsLate, places_part}
 use Rattle.standings.specs.Rows.{Row, empty_row, row_below}
 use Rattle.standings.specs.Spans.{places_along}
 use Rattle.standings.specs.Standing.{begins, line_text, place_at, place_in, standing}
 use Rattle.standings.specs.Written.{row_written, rows_written}
 use Rattle.standings.specs.declared.place.Place.{Place}
-use Rattle.standings.proofs.FrontLemmas.{IsRewritten, begins_before, begins_behind, line_here, rewritten}
+use Rattle.standings.proofs.FrontLemmas.{IsRewritten, begins_before, begins_behind, drop_past, line_here, rewritten}
 use Rattle.standings.proofs.PlaceLemmas.{AllAre, along_parts, along_same, along_within, are_both, part_all, standing_along}
 use Rattle.standings.proofs.RowLemmas.{part_parts}
 use Rattle.standings.proofs.SpanLemmas.{first_none, line_above, line_below, never_here, part_alike, part_none, places_of, places_same, second_none}
@@ -220,3 +220,82 @@ near_nothing text one other above start end is order within none was =
     let rest : is.rest ≡ [] = second_none is.middle is.rest (second_none is.front (is.middle ++ is.rest) parts) in
     let nothing = part_none text above (line_text (drop above other)) (end - start) start (λ i low lt. never_here text other above i (omega arith) (none i low (omega arith))) in
     is.after ∙ ap₂ (λ a b. a ++ b) front (ap₂ (λ a b. a ++ b) nothing rest)
+
+-- where it begins neither at what stands left of them nor at one of them, whatever comes behind
+none_written : (characters letters text : List ℕ) (from before : ℕ) → from ≤ before → before + length letters ≤ length characters
+    → ((k : ℕ) → k < length (take (before - from) (drop from characters)) → (rest : List ℕ)
+    → starts_with nat_eq (drop k (take (before - from) (drop from characters)) ++ (letters ++ rest)) text ≡ false)
+    → ((k : ℕ) → k < length letters → (rest : List ℕ) → starts_with nat_eq (drop k letters ++ (drop (before + length letters) characters ++ rest)) text ≡ false)
+    → (k : ℕ) → from ≤ k → k < before + length letters → (rest : List ℕ)
+    → starts_with nat_eq (drop k ((take before characters ++ letters) ++ drop (before + length letters) characters) ++ rest) text ≡ false
+none_written characters letters text from before order within left right k low high rest =
+    let pre = take before characters in
+    let post = drop (before + length letters) characters in
+    let long : length pre ≡ before = omega (arith, length-take before characters) in
+    let split : (pre ++ letters) ++ post ≡ pre ++ (letters ++ post) = append_assoc pre letters post in
+    elim (cases_lt k before) [
+      | inl lt ↦
+          let parts : from + (before - from) ≡ before = omega arith in
+          let there : from + (k - from) ≡ k = omega arith in
+          let cut : drop k pre ≡ drop (k - from) (take (before - from) (drop from characters)) =
+          ap (λ n. drop n pre) (sym there) ∙ sym (drop-drop (k - from) from pre)
+          ∙ ap (drop (k - from)) (ap (λ n. drop from (take n characters)) (sym parts) ∙ drop-take from (before - from) characters) in
+          ap (λ l. starts_with nat_eq (l ++ rest) text)
+          (ap (drop k) split ∙ drop-append-le k pre (letters ++ post) (omega arith) ∙ ap (λ l. l ++ (letters ++ post)) cut)
+          ∙ ap (λ l. starts_with nat_eq l text)
+          (append_assoc (drop (k - from) (take (before - from) (drop from characters))) (letters ++ post) rest
+          ∙ ap (λ l. drop (k - from) (take (before - from) (drop from characters)) ++ l) (append_assoc letters post rest))
+          ∙ left (k - from) (omega (arith, length-take (before - from) (drop from characters), length-drop from characters)) (post ++ rest)
+      | inr ge ↦
+          let past : k - length pre ≡ k - before = omega arith in
+          ap (λ l. starts_with nat_eq (l ++ rest) text)
+          (ap (drop k) split ∙ drop_past pre (letters ++ post) k (omega arith) ∙ ap (λ n. drop n (letters ++ post)) past
+          ∙ drop-append-le (k - before) letters post (omega arith))
+          ∙ ap (λ l. starts_with nat_eq l text) (append_assoc (drop (k - before) letters) post rest)
+          ∙ right (k - before) (omega arith) rest
+    ]
+
+pub written_nothing : (was : List Row) (above before : ℕ) (letters text : List ℕ) (from : ℕ) → above < length was → before + length letters ≤ length (row_below was above).characters
+    → 0 < length text → from ≡ before - (length text - 1) → (0 < above → (row_below was (above - 1)).runs_on ≡ false)
+    → ((k : ℕ) → k < length (take (before - from) (drop from (row_below was above).characters)) → (rest : List ℕ)
+    → starts_with nat_eq (drop k (take (before - from) (drop from (row_below was above).characters)) ++ (letters ++ rest)) text ≡ false)
+    → ((k : ℕ) → k < length letters → (rest : List ℕ)
+    → starts_with nat_eq (drop k letters ++ (drop (before + length letters) (row_below was above).characters ++ rest)) text ≡ false)
+    → standing text was ≡ [] → standing text (rows_written above before letters was) ≡ []
+written_nothing was above before letters text from lt within some is runs left right none =
+    let rows = rows_written above before letters was in
+    let end = before + length letters in
+    let written = there was above before letters lt within in
+    let near_is = near_written was above before letters lt within text rows from end refl some is refl
+    (λ below. ap (λ (r : Row). r.runs_on) ((over was above before letters lt within).others (above - 1) (λ e. omega arith)) ∙ runs below) in
+    near_nothing text was rows above from end near_is (omega (arith, is)) (omega (arith, written_long was above before letters lt within, within))
+    (λ k low high rest.
+    ap (λ (r : Row). starts_with nat_eq (drop k r.characters ++ rest) text) written
+    ∙ none_written (row_below was above).characters letters text from before (omega (arith, is)) within left right k low high rest) none
+
+-- what was written over, written over it again
+pub written_back : (before : ℕ) (letters was : List ℕ) (row : Row) → before + length letters ≤ length row.characters
+    → was ≡ take (length letters) (drop before row.characters) → row_written before was (row_written before letters row) ≡ row
+written_back before letters was row within is =
+    let pre = take before row.characters in
+    let post = drop (before + length letters) row.characters in
+    let new = (pre ++ letters) ++ post in
+    let long : length pre ≡ before = omega (arith, length-take before row.characters) in
+    let many : length was ≡ length letters = omega (arith, ap length is, length-take (length letters) (drop before row.characters), length-drop before row.characters) in
+    let front : take before new ≡ pre = ap (take before) (append_assoc pre letters post) ∙ take_at pre (letters ++ post) before long in
+    let back : drop (before + length was) new ≡ post =
+    ap (λ n. drop (before + n) new) many ∙ drop_at (pre ++ letters) post (before + length letters) (omega (arith, length-append pre letters)) in
+    let rest : was ++ post ≡ drop before row.characters =
+    ap₂ (λ a b. a ++ b) is (sym (drop-drop (length letters) before row.characters)) ∙ take-append-drop (length letters) (drop before row.characters) in
+    ap (λ l. record row { characters = l })
+    (ap₂ (λ a b. (a ++ was) ++ b) front back ∙ append_assoc pre was post ∙ ap (λ l. pre ++ l) rest ∙ take-append-drop before row.characters)
+
+pub rows_back : (above before : ℕ) (letters was : List ℕ) (rows one : List Row) (last : Row) → above < length rows → before + length letters ≤ length (row_below rows above).characters
+    → was ≡ take (length letters) (drop before (row_below rows above).characters) → one ≡ rows_written above before letters rows
+    → last ≡ row_written before was (row_below one above) → set one above last ≡ rows
+rows_back above before letters was rows one last lt within is there written =
+    let row = row_below rows above in
+    let back : last ≡ row =
+    written ∙ ap (row_written before was) (ap (λ l. row_below l above) there ∙ get_or-set_same rows above (row_written before letters row) empty_row lt)
+    ∙ written_back before letters was row within is in
+    ap₂ (λ l r. set l above r) there back ∙ set-set rows above (row_written before letters row) row ∙ set-get_or rows above empty_row

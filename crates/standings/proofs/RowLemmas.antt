@@ -185,7 +185,7 @@ part_parts text above line (suc n) m from =
     ∙ ap (λ l. l ++ places_part text above line (from + suc n) m) (sym (part_first text above line from n (begins text line from) refl))
 
 -- a character more
-part_more : (text : List ℕ) (above : ℕ) (line : List ℕ) (from n : ℕ) (here : Bool) → here ≡ begins text line (from + n)
+pub part_more : (text : List ℕ) (above : ℕ) (line : List ℕ) (from n : ℕ) (here : Bool) → here ≡ begins text line (from + n)
     → places_part text above line from (n + 1) ≡ places_part text above line from n ++ cond here (place_in above (from + n) ∷ []) []
 part_more text above line from n here is =
     part_parts text above line n 1 from
@@ -197,15 +197,6 @@ places_more text above line before here is =
     let same : 0 + before ≡ before = omega arith in
     part_more text above line 0 before here (is ∙ ap (begins text line) (sym same))
     ∙ ap (λ k. places_in text above line before ++ cond here (place_in above k ∷ []) []) same
-
--- places, a character more
-pub placed_step : (text : List ℕ) (above : ℕ) (line : List ℕ) (from n : ℕ) (here : Bool) (old so_far new : List Place)
-    → here ≡ begins text line (from + n) → so_far ≡ old ++ places_part text above line from n → new ≡ so_far ++ cond here (place_in above (from + n) ∷ []) []
-    → new ≡ old ++ places_part text above line from (n + 1)
-placed_step text above line from n here old so_far new is known more =
-    let last = cond here (place_in above (from + n) ∷ []) [] in
-    more ∙ ap (λ l. l ++ last) known ∙ append_assoc old (places_part text above line from n) last
-    ∙ ap (λ l. old ++ l) (sym (part_more text above line from n here is))
 
 -- and a row more
 pub places_row : (text : List ℕ) (rows : List Row) (above : ℕ) → above < length rows

@@ -7,3 +7,5 @@ pub mod Moved
 pub mod Written
 pub mod Lag
 pub mod Near
+pub mod Room
+pub mod Follow

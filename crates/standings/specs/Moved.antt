@@ -1,5 +1,5 @@
 -- Rows that move up by one.
-use Rattle.std.specs.Prelude.{ℕ, ◌-◌, false, List, [], ◌∷◌, ◌++◌, drop, length, replicate, take}
+use Rattle.std.specs.Prelude.{ℕ, ◌-◌, false, List, [], ◌∷◌, ◌++◌, drop, replicate, take}
 use Rattle.std.specs.List.{range_with_len}
 use Rattle.standings.specs.Rows.{Row}
 use Rattle.standings.specs.Standing.{place_in}
@@ -13,10 +13,6 @@ spaces_row columns = record { characters = replicate columns 32; columns = range
 abbrev pub moved_up : ℕ → List Row → List Row
 moved_up columns rows = drop 1 rows ++ spaces_row columns ∷ []
 
--- all rows move down by one, and a row of so many spaces comes in above (ours)
-abbrev pub moved_down : ℕ → List Row → List Row
-moved_down columns rows = spaces_row columns ∷ take (length rows - 1) rows
-
 -- of the rows from one up to and without another, the first goes out, the others move up, and a row of so many spaces comes in below them (ours)
 abbrev pub region_up : ℕ → ℕ → ℕ → List Row → List Row
 region_up from to columns rows = take from rows ++ moved_up columns (take (to - from) (drop from rows)) ++ drop to rows
@@ -24,6 +20,14 @@ region_up from to columns rows = take from rows ++ moved_up columns (take (to - 
 -- the last goes out, the others move down, and a row of so many spaces comes in above them (ours)
 abbrev pub region_down : ℕ → ℕ → ℕ → List Row → List Row
 region_down from to columns rows = take from rows ++ spaces_row columns ∷ (take (to - from - 1) (drop from rows) ++ drop to rows)
+
+-- private: of the rows from one up to and without another, the first goes out, the others move up, and a row comes in below them
+abbrev pub shifted_up : ℕ → ℕ → Row → List Row → List Row
+shifted_up from to row rows = take from rows ++ (drop 1 (take (to - from) (drop from rows)) ++ row ∷ []) ++ drop to rows
+
+-- private: the last goes out, the others move down, and a row comes in above them
+abbrev pub shifted_down : ℕ → ℕ → Row → List Row → List Row
+shifted_down from to row rows = take from rows ++ row ∷ (take (to - from - 1) (drop from rows) ++ drop to rows)
 
 -- the first so many rows come behind the others (ours)
 abbrev pub turned : ℕ → List Row → List Row

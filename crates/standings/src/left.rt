@@ -1,6 +1,6 @@
 //! What of a text went between two screens, told by what stands left of it.
 
-ghost use Rattle.std.specs.Prelude.{◌≡◌, ◌≢◌, [], ◌+◌, ◌<◌, ◌≤◌, false, true, List, ℕ, length, nat_eq, take, IfOk, OnOk};
+ghost use Rattle.std.specs.Prelude.{◌≡◌, ◌≢◌, [], ◌+◌, ◌<◌, ◌≤◌, false, true, List, ℕ, drop, length, nat_eq, take, IfOk, OnErr, OnOk};
 ghost use Rattle.std.specs.Cmp.Lexicographic.{pointwise};
 ghost use Rattle.standings.specs.Kept.{EndBy, Keeps, room_in};
 ghost use Rattle.standings.specs.Lag.{Lags};
@@ -10,10 +10,14 @@ ghost use Rattle.standings.specs.Spans.{Stays};
 ghost use Rattle.standings.specs.Standing.{count_left, is_less, is_lone, left_of, place_at, standing};
 ghost use Rattle.standings.specs.Written.{rows_written};
 
+use crate::follow::follow_rows;
 use crate::lag::Lag;
-use crate::near::look_near;
-use crate::place::{Place, look_between, may_come, move_places_up, standing};
-use crate::row::{Row, characters_below, move_rows_up, runs_on_to, turn_rows};
+use crate::near::{count_near, look_near, may_come_near};
+use crate::place::{Place, look_between, may_come, may_come_below, move_places_up, standing};
+use crate::row::{
+    Row, characters_below, move_rows_up, runs_on_to, shift_down, shift_up, turn_rows,
+    turn_rows_back,
+};
 use crate::span::Span;
 use std::alloc::{AllocError, Global};
 
@@ -34,12 +38,13 @@ impl Standing {
         Ok(Standing { rows, places })
     }
 
-    /// Looks again where the text stands, where only these rows may have changed.
+    /// Looks again where the text stands, where only these rows may have changed. Where memory is refused, it is as before.
     pub fn look_again(&mut self, text: &[char], span: Span) -> Result<(), AllocError>
         ensures rows { self.new.rows.items ≡ self.old.rows.items }
         ensures places { (before : List Row) → Stays span before self.old.rows.items
             → self.old.places.items ≡ standing text.now before
             → OnOk result (self.new.places.items ≡ standing text.now self.new.rows.items) }
+        ensures refused { OnErr result (self.new.places.items ≡ self.old.places.items) }
     {
         if span.is_none() {
             return Ok(());
@@ -51,7 +56,7 @@ impl Standing {
     }
 
     /// All rows move up by one, and a row of so many spaces comes in below; looks where the text stands then. Says which
-    /// rows may differ. Nothing is done where there is no row.
+    /// rows may differ. Nothing is done where there is no row, and nothing where memory is refused.
     pub fn move_up(&mut self, columns: usize, text: &[char]) -> Result<Span, AllocError>
         requires { columns < u16.MAX }
         ensures rows { 0 < length self.old.rows.items
@@ -60,24 +65,61 @@ impl Standing {
             → self.old.places.items ≡ standing text.now self.old.rows.items
             → OnOk result (self.new.places.items ≡ standing text.now self.new.rows.items) }
         ensures others { IfOk result (λ span. Stays span self.old.rows.items self.new.rows.items) }
+        ensures refused_rows { OnErr result (self.new.rows.items ≡ self.old.rows.items) }
+        ensures refused_places { OnErr result (self.new.places.items ≡ self.old.places.items) }
     {
         let count = self.rows.len();
         if count == 0 {
             return Ok(Span::none());
         }
+        let all = Span { from: 0, to: count };
+        if may_come_below(text) {
+            let last = Span {
+                from: count - 1,
+                to: count,
+            };
+            self.move_up_and_look(columns, text, last)?;
+            return Ok(all);
+        }
         move_rows_up(self.rows.as_mut_slice(), columns)?;
         move_places_up(&mut self.places);
-        let last = Span {
-            from: count - 1,
-            to: count,
-        };
-        look_between(self.rows.as_slice(), text, last, &mut self.places)?;
-        Ok(Span { from: 0, to: count })
+        Ok(all)
+    }
+
+    /// The same of a text that may come to stand by the row of spaces: looks in these rows. What it makes is kept apart
+    /// till memory was had for all.
+    fn move_up_and_look(
+        &mut self,
+        columns: usize,
+        text: &[char],
+        last: Span,
+    ) -> Result<(), AllocError>
+        requires some { 0 < length self.old.rows.items }
+        requires few { columns < u16.MAX }
+        ensures rows { OnOk result (self.new.rows.items ≡ moved_up columns self.old.rows.items) }
+        ensures places { (before : List Row) → Stays last before (moved_up columns self.old.rows.items)
+            → standing text.now before ≡ standing text.now (drop 1 self.old.rows.items)
+            → self.old.places.items ≡ standing text.now self.old.rows.items
+            → OnOk result (self.new.places.items ≡ standing text.now self.new.rows.items) }
+        ensures refused_rows { OnErr result (self.new.rows.items ≡ self.old.rows.items) }
+        ensures refused_places { OnErr result (self.new.places.items ≡ self.old.places.items) }
+    {
+        let alloc = *self.rows.allocator();
+        let mut places = Vec::from_slice(alloc, self.places.as_slice())?;
+        let row = Row::spaces(alloc, columns)?;
+        let out = shift_up(self.rows.as_mut_slice(), row);
+        move_places_up(&mut places);
+        if look_between(self.rows.as_slice(), text, last, &mut places).is_err() {
+            shift_down(self.rows.as_mut_slice(), out);
+            return Err(AllocError);
+        }
+        self.places = places;
+        Ok(())
     }
 
     /// These characters are written over as many of the row below so many others, from the one behind so many on; looks
     /// where the text stands then. Says which rows may differ. Nothing is done where there is no such row, or it has too
-    /// few characters.
+    /// few characters, and nothing where memory is refused.
     pub fn write(
         &mut self,
         above: usize,
@@ -93,46 +135,73 @@ impl Standing {
             → self.old.places.items ≡ standing text.now self.old.rows.items
             → OnOk result (self.new.places.items ≡ standing text.now self.new.rows.items) }
         ensures others { IfOk result (λ span. Stays span self.old.rows.items self.new.rows.items) }
+        ensures refused_rows { OnErr result (self.new.rows.items ≡ self.old.rows.items) }
+        ensures refused_places { OnErr result (self.new.places.items ≡ self.old.places.items) }
     {
         if above >= self.rows.len() || !self.rows[above].has(before, letters.len()) {
             return Ok(Span::none());
         }
-        let row = &mut self.rows[above];
-        row.write(before, letters);
         let span = Span {
             from: above,
             to: above + 1,
         };
-        self.look_around(text, above, before, letters.len())?;
+        if text.is_empty() || runs_on_to(self.rows.as_slice(), above) {
+            return self.write_and_look(span, before, letters, text);
+        }
+        let rows = self.rows.as_slice();
+        let comes = !self.places.is_empty() || may_come_near(rows, text, above, before, letters);
+        let most = if comes {
+            count_near(rows, text, above, before, letters.len())
+        } else {
+            0
+        };
+        self.places.reserve(most)?;
+        let row = &mut self.rows[above];
+        row.write(before, letters);
+        if comes {
+            look_near(
+                self.rows.as_slice(),
+                text,
+                above,
+                before,
+                letters.len(),
+                &mut self.places,
+            );
+        }
         Ok(span)
     }
 
-    /// Looks again where the text stands, where only so many characters behind so many others of a row were written.
-    fn look_around(
+    /// The same of the row of a span, where the text may go on from the one above: looks again in the whole row. What was
+    /// written over is kept till memory was had for all.
+    fn write_and_look(
         &mut self,
-        text: &[char],
-        above: usize,
+        here: Span,
         before: usize,
-        count: usize,
-    ) -> Result<(), AllocError>
-        requires row { above < length self.old.rows.items }
-        requires within { before + count ≤ length (row_below self.old.rows.items above).characters }
-        ensures rows { self.new.rows.items ≡ self.old.rows.items }
-        ensures places { (was : List Row) (written : List ℕ) → length written ≡ count
-            → before + count ≤ length (row_below was above).characters
-            → self.old.rows.items ≡ rows_written above before written was
-            → self.old.places.items ≡ standing text.now was
+        letters: &[char],
+        text: &[char],
+    ) -> Result<Span, AllocError>
+        requires row { here.from < length self.old.rows.items }
+        requires one { here.to ≡ here.from + 1 }
+        requires within { before + length letters.now
+            ≤ length (row_below self.old.rows.items here.from).characters }
+        ensures rows { OnOk result
+            (self.new.rows.items ≡ rows_written here.from before letters.now self.old.rows.items) }
+        ensures places { self.old.places.items ≡ standing text.now self.old.rows.items
             → OnOk result (self.new.places.items ≡ standing text.now self.new.rows.items) }
+        ensures others { IfOk result (λ span. Stays span self.old.rows.items self.new.rows.items) }
+        ensures refused_rows { OnErr result (self.new.rows.items ≡ self.old.rows.items) }
+        ensures refused_places { OnErr result (self.new.places.items ≡ self.old.places.items) }
     {
-        if text.is_empty() || runs_on_to(self.rows.as_slice(), above) {
-            let span = Span {
-                from: above,
-                to: above + 1,
-            };
-            return self.look_again(text, span);
+        let alloc = *self.rows.allocator();
+        let line = &mut self.rows[here.from];
+        let was = Vec::from_slice(alloc, &line.characters()[before..before + letters.len()])?;
+        line.write(before, letters);
+        if self.look_again(text, here).is_err() {
+            let line = &mut self.rows[here.from];
+            line.write(before, was.as_slice());
+            return Err(AllocError);
         }
-        let places = &mut self.places;
-        look_near(self.rows.as_slice(), text, above, before, count, places)
+        Ok(here)
     }
 
     /// Becomes another one, from which only these of its rows may differ.
@@ -147,14 +216,26 @@ impl Standing {
         Ok(())
     }
 
-    /// Becomes another one, behind which its rows lag so.
+    /// Becomes another one, behind which its rows lag so. Where memory is refused, it is as before.
     pub fn follow_lag(&mut self, other: &Standing, lag: Lag) -> Result<(), AllocError>
         ensures rows { Lags lag self.old.rows.items other.now.rows.items
             → OnOk result (self.new.rows.items ≡ other.now.rows.items) }
         ensures places { OnOk result (self.new.places.items ≡ other.now.places.items) }
+        ensures refused_rows { OnErr result (self.new.rows.items ≡ self.old.rows.items) }
+        ensures refused_places { OnErr result (self.new.places.items ≡ self.old.places.items) }
     {
-        turn_rows(self.rows.as_mut_slice(), lag.moved);
-        self.follow(other, lag.span)
+        let lacking = other.places.len().saturating_sub(self.places.len());
+        self.places.reserve(lacking)?;
+        let alloc = *self.rows.allocator();
+        let rows = self.rows.as_mut_slice();
+        turn_rows(rows, lag.moved);
+        if follow_rows(alloc, rows, other.rows.as_slice(), lag.span).is_err() {
+            turn_rows_back(rows, lag.moved);
+            return Err(AllocError);
+        }
+        self.places.clear();
+        self.places.extend_from_slice(other.places.as_slice())?;
+        Ok(())
     }
 }
 

@@ -1,6 +1,7 @@
 //! Where a text stands on rows of characters, what of it came and went between two screens, and how that is written.
 #![tactic(auto)]
 
+mod follow;
 mod lag;
 mod left;
 mod line;

@@ -1,19 +1,18 @@
 //! A look where a text stands around characters that were written.
 
-ghost use Rattle.std.specs.Prelude.{◌≡◌, ◌+◌, ◌≤◌, ◌<◌, ◌++◌, ◌-◌, false, true, List, ℕ, drop, length, nat_eq, OnOk};
+ghost use Rattle.std.specs.Prelude.{◌≡◌, ◌+◌, ◌≤◌, ◌<◌, ◌++◌, ◌-◌, [], false, true, List, ℕ, drop, length, nat_eq, vec_capacity};
 ghost use Rattle.std.specs.List.{starts_with};
 ghost use Rattle.standings.specs.Near.{IsCut, IsEarly, IsLate, places_part};
 ghost use Rattle.standings.specs.Rows.{Row, row_below};
 ghost use Rattle.standings.specs.Standing.{line_text, place_at, standing};
 ghost use Rattle.standings.specs.Written.{rows_written};
 
-use crate::place::{Place, forget, has_front, push_part, turn};
+use crate::place::{Place, forget, has_front, has_front_early, put_part, turn};
 use crate::row::{Row, characters_below};
-use std::alloc::AllocError;
 
 /// Looks again where a text stands that stood at these places, where so many characters were written in a row to which no
-/// other runs on: at them, and at those left of them from which the text may go on in them. Mostly it stands nowhere, and
-/// begins at none of them.
+/// other runs on: at them, and at those left of them from which the text may go on in them. There is room for a place at
+/// each.
 pub(crate) fn look_near(
     rows: &[Row],
     text: &[char],
@@ -21,40 +20,86 @@ pub(crate) fn look_near(
     before: usize,
     count: usize,
     places: &mut Vec<Place>,
-) -> Result<(), AllocError>
+)
     requires row { above < length rows.now }
     requires within { before + count ≤ length (row_below rows.now above).characters }
     requires some { 0 < length text.now }
+    requires room { length places.old.items + (before + count - (before - (length text.now - 1)))
+        ≤ vec_capacity places.old }
     ensures { (was : List Row) (written : List ℕ) → length written ≡ count
         → before + count ≤ length (row_below was above).characters
         → rows.now ≡ rows_written above before written was
         → (0 < above → (row_below rows.now (above - 1)).runs_on ≡ false)
         → places.old.items ≡ standing text.now was
-        → OnOk result (places.new.items ≡ standing text.now rows.now) }
+        → places.new.items ≡ standing text.now rows.now }
 {
-    let characters = characters_below(rows, above);
     let start = before.saturating_sub(text.len() - 1);
-    let end = before + count;
-    if places.is_empty() && !has_front_between(characters, start, end, text) {
-        return Ok(());
-    }
+    let end = characters_below(rows, above).len().min(before + count);
     look_part(rows, above, start, end, text, places)
 }
 
-/// Whether a text may begin at one of the characters from one up to and without another. They are looked at with the
-/// character behind them, so that there is a pair for each.
-fn has_front_between(characters: &[char], start: usize, end: usize, text: &[char]) -> bool
-    requires order { start ≤ end }
-    requires within { end ≤ length characters.now }
-    ensures { result ≡ false → (k : ℕ) → start ≤ k → k < end
-        → (rest : List ℕ) → starts_with nat_eq (drop k characters.now ++ rest) text.now ≡ false }
+/// How many places may come there: one at each of these characters.
+pub(crate) fn count_near(
+    rows: &[Row],
+    text: &[char],
+    above: usize,
+    before: usize,
+    count: usize,
+) -> usize
+    requires row { above < length rows.now }
+    requires within { before + count ≤ length (row_below rows.now above).characters }
+    requires some { 0 < length text.now }
+    ensures { result ≡ before + count - (before - (length text.now - 1)) }
 {
-    let last = characters.len().min(end + 1);
-    has_front(&characters[start..last], text)
+    let from = before.saturating_sub(text.len() - 1);
+    characters_below(rows, above)[from..before + count].len()
+}
+
+/// Whether a text that stands nowhere may come to stand where these characters are written over as many others of a row
+/// to which no other runs on: whether it may begin at one of them, or left of them and go on in them. Mostly it doesn't.
+pub(crate) fn may_come_near(
+    rows: &[Row],
+    text: &[char],
+    above: usize,
+    before: usize,
+    letters: &[char],
+) -> bool
+    requires row { above < length rows.now }
+    requires within { before + length letters.now ≤ length (row_below rows.now above).characters }
+    requires some { 0 < length text.now }
+    ensures { result ≡ false → (0 < above → (row_below rows.now (above - 1)).runs_on ≡ false)
+        → standing text.now rows.now ≡ []
+        → standing text.now (rows_written above before letters.now rows.now) ≡ [] }
+{
+    let characters = characters_below(rows, above);
+    let from = before.saturating_sub(text.len() - 1);
+    may_begin_in(&characters[from..before], letters, text)
+        || may_begin_in(letters, &characters[before + letters.len()..], text)
+}
+
+/// Whether a text may begin among characters behind which others stand: whether its first two stand side by side.
+fn may_begin_in(characters: &[char], behind: &[char], text: &[char]) -> bool
+    requires { 0 < length text.now }
+    ensures { result ≡ false → (k : ℕ) → k < length characters.now
+        → (rest : List ℕ) → starts_with nat_eq (drop k characters.now ++ (behind.now ++ rest)) text.now ≡ false }
+{
+    if characters.is_empty() {
+        return false;
+    }
+    if text.len() < 2 {
+        return has_front(characters, text);
+    }
+    if has_front_early(characters, text) {
+        return true;
+    }
+    if characters[characters.len() - 1] != text[0] {
+        return false;
+    }
+    behind.is_empty() || behind[0] == text[1]
 }
 
 /// The places of a row's characters from one up to and without another become those at which a text begins now; the others
-/// stay.
+/// stay. There is room for a place at each.
 fn look_part(
     rows: &[Row],
     above: usize,
@@ -62,22 +107,22 @@ fn look_part(
     end: usize,
     text: &[char],
     places: &mut Vec<Place>,
-) -> Result<(), AllocError>
+)
     requires row { above < length rows.now }
     requires order { start ≤ end }
     requires within { end ≤ length (row_below rows.now above).characters }
+    requires room { length places.old.items + (end - start) ≤ vec_capacity places.old }
     ensures { (front middle rest : List Place) → places.old.items ≡ front ++ (middle ++ rest)
         → IsCut above start end front middle rest
-        → OnOk result (places.new.items ≡ front
-        ++ (places_part text.now above (line_text (drop above rows.now)) start (end - start) ++ rest)) }
+        → places.new.items ≡ front
+        ++ (places_part text.now above (line_text (drop above rows.now)) start (end - start) ++ rest) }
 {
     let behind = count_early(places.as_slice(), above, end);
     let kept = count_early(&places.as_slice()[..behind], above, start);
     forget(places, kept, behind);
     let count = places.len() - kept;
-    push_part(rows, above, start, end, text, places)?;
+    put_part(rows, above, start, end, text, places);
     turn(places, kept, count);
-    Ok(())
 }
 
 /// How many places in reading order stand before a character of a row. They are passed from the last one on, since few

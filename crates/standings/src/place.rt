@@ -1,9 +1,10 @@
 //! Where a text stands on a screen.
 
-ghost use Rattle.std.specs.Prelude.{◌≡◌, ◌≢◌, ◌+◌, ◌≤◌, ◌<◌, ◌++◌, ◌-◌, [], false, true, List, ℕ, drop, length, map, nat_eq, slice_index_or, take, IfOk, OnOk};
+ghost use Rattle.std.specs.Prelude.{◌≡◌, ◌≢◌, ◌+◌, ◌≤◌, ◌<◌, ◌++◌, ◌∷◌, ◌-◌, [], false, true, List, ℕ, drop, length, map, nat_eq, slice_index_or, take, vec_capacity, IfOk, OnErr, OnOk};
 ghost use Rattle.std.specs.List.{starts_with};
-ghost use Rattle.standings.specs.Moved.{place_up};
+ghost use Rattle.standings.specs.Moved.{place_up, spaces_row};
 ghost use Rattle.standings.specs.Near.{places_part};
+ghost use Rattle.standings.specs.Room.{fitting};
 ghost use Rattle.standings.specs.Rows.{Row, row_below};
 ghost use Rattle.standings.specs.Spans.{Stays, characters_in, places_along};
 ghost use Rattle.standings.specs.Standing.{begins, line_text, place_at, places_in, standing};
@@ -14,6 +15,9 @@ use std::alloc::{AllocError, Global};
 
 // How many characters are passed over at once where a text begins at none of them.
 const BLOCK: usize = 16;
+
+// Up to how many places there is room for those that come beside those that go.
+const FEW: usize = 1024;
 
 /// A place on a screen: how many rows are above it, and how many characters before it in its row.
 #[derive(Clone, Copy, Debug, PartialEq, Eq)]
@@ -35,50 +39,103 @@ pub fn standing(alloc: Global, rows: &[Row], text: &[char]) -> Result<Vec<Place>
 fn push_standing(rows: &[Row], text: &[char], places: &mut Vec<Place>) -> Result<(), AllocError>
     ensures { OnOk result (places.new.items ≡ places.old.items ++ standing text.now rows.now) }
 {
-    push_between(rows, 0, rows.len(), text, places)
-}
-
-/// Puts the places of the rows from one up to and without another behind others.
-fn push_between(
-    rows: &[Row],
-    start: usize,
-    end: usize,
-    text: &[char],
-    places: &mut Vec<Place>,
-) -> Result<(), AllocError>
-    requires order { start ≤ end }
-    requires within { end ≤ length rows.now }
-    ensures items { OnOk result (places.new.items
-        ≡ places.old.items ++ places_along text.now rows.now start (end - start)) }
-    ensures more { OnOk result (length places.old.items ≤ length places.new.items) }
-{
-    for above in start..end {
-        push_places(rows, above, text, places)?;
-    }
-    Ok(())
+    let all = places.len();
+    renew(rows, 0, rows.len(), text, places, all, all)
 }
 
 /// Looks again where a text stands that stood at these places, where only these rows may have changed: in them, and in
-/// those above from which the text may go on in them.
+/// those above from which the text may go on in them. Where memory is refused, they are as before.
 pub(crate) fn look_between(
     rows: &[Row],
     text: &[char],
     span: Span,
     places: &mut Vec<Place>,
 ) -> Result<(), AllocError>
-    ensures { (before : List Row) → Stays span before rows.now
+    ensures looked { (before : List Row) → Stays span before rows.now
         → places.old.items ≡ standing text.now before
         → OnOk result (places.new.items ≡ standing text.now rows.now) }
+    ensures refused { OnErr result (places.new.items ≡ places.old.items) }
 {
     let end = span.to.min(rows.len());
     let start = reach_start(rows, text.len(), span.from).min(end);
     let kept = count_above(places.as_slice(), start);
     let behind = count_above(places.as_slice(), end).max(kept);
+    renew(rows, start, end, text, places, kept, behind)
+}
+
+/// The places from one up to and without another become those of the rows from one up to and without another. These are
+/// put behind all others first, as many as there is room for; where that is too little, it is asked for before anything
+/// is taken out. Where it is refused, the places are as before.
+fn renew(
+    rows: &[Row],
+    start: usize,
+    end: usize,
+    text: &[char],
+    places: &mut Vec<Place>,
+    kept: usize,
+    behind: usize,
+) -> Result<(), AllocError>
+    requires order { start ≤ end }
+    requires within { end ≤ length rows.now }
+    requires kept { kept ≤ behind }
+    requires behind { behind ≤ length places.old.items }
+    ensures items { OnOk result (places.new.items ≡ take kept places.old.items
+        ++ (places_along text.now rows.now start (end - start) ++ drop behind places.old.items)) }
+    ensures refused { OnErr result (places.new.items ≡ places.old.items) }
+{
+    let all = places.len();
+    let found = put_between(rows, start, end, text, places);
+    if found == usize::MAX || places.len() - all < found {
+        places.truncate(all);
+        make_room(places, found, behind - kept)?;
+        forget(places, kept, behind);
+        put_between(rows, start, end, text, places);
+        turn(places, kept, all - behind);
+        return Ok(());
+    }
     forget(places, kept, behind);
-    let count = places.len() - kept;
-    push_between(rows, start, end, text, places)?;
-    turn(places, kept, count);
+    turn(places, kept, all - behind);
     Ok(())
+}
+
+/// Asks for room for so many places more, where so many others are to be taken out; where they are few without these,
+/// so that there is room the next time.
+fn make_room(places: &mut Vec<Place>, found: usize, gone: usize) -> Result<(), AllocError>
+    ensures items { places.new.items ≡ places.old.items }
+    ensures room { OnOk result (length places.old.items + found ≤ vec_capacity places.new + gone) }
+    ensures few { OnOk result (found < usize.MAX) }
+{
+    if found == usize::MAX {
+        return Err(AllocError);
+    }
+    if places.len() <= FEW && found <= FEW && places.reserve(found).is_ok() {
+        return Ok(());
+    }
+    places.reserve(found.saturating_sub(gone))
+}
+
+/// Puts the places of the rows from one up to and without another behind others, as many as there is room for. Says how
+/// many they are, or the greatest number.
+fn put_between(
+    rows: &[Row],
+    start: usize,
+    end: usize,
+    text: &[char],
+    places: &mut Vec<Place>,
+) -> usize
+    requires order { start ≤ end }
+    requires within { end ≤ length rows.now }
+    ensures items { places.new.items ≡ fitting (vec_capacity places.old) places.old.items
+        (places_along text.now rows.now start (end - start)) }
+    ensures room { vec_capacity places.new ≡ vec_capacity places.old }
+    ensures count { result < usize.MAX
+        → result ≡ length (places_along text.now rows.now start (end - start)) }
+{
+    let mut found = 0usize;
+    for above in start..end {
+        found = found.saturating_add(put_places(rows, above, text, places));
+    }
+    found
 }
 
 /// The places of the first row are taken out, and each other one moves up by a row.
@@ -119,6 +176,7 @@ pub(crate) fn forget(places: &mut Vec<Place>, from: usize, to: usize)
     requires within { to ≤ length places.old.items }
     ensures items { places.new.items ≡ take from places.old.items ++ drop to places.old.items }
     ensures count { length places.new.items ≡ from + (length places.old.items - to) }
+    ensures room { vec_capacity places.new ≡ vec_capacity places.old }
 {
     drop(places.drain(from..to));
 }
@@ -147,6 +205,14 @@ pub(crate) fn may_come(rows: &[Row], text: &[char], span: Span) -> bool
         }
     }
     false
+}
+
+/// Whether a text may come to stand by a row of spaces that comes in below others: whether it ends in a space.
+pub(crate) fn may_come_below(text: &[char]) -> bool
+    ensures { result ≡ false → (rows : List Row) (columns : ℕ)
+        → standing text.now (rows ++ spaces_row columns ∷ []) ≡ standing text.now rows }
+{
+    text.is_empty() || text[text.len() - 1] == ' '
 }
 
 /// How many rows are above those in which a text of so many characters may begin that goes on in the row below so many
@@ -182,70 +248,91 @@ fn begins_in(rows: &[Row], above: usize, text: &[char]) -> bool
     false
 }
 
-/// Puts the places of one row behind others.
-fn push_places(
-    rows: &[Row],
-    above: usize,
-    text: &[char],
-    places: &mut Vec<Place>,
-) -> Result<(), AllocError>
+/// Puts the places of one row behind others, as many as there is room for. Says how many they are.
+fn put_places(rows: &[Row], above: usize, text: &[char], places: &mut Vec<Place>) -> usize
     requires { above < length rows.now }
-    ensures { OnOk result (places.new.items ≡ places.old.items
-        ++ places_in text.now above (line_text (drop above rows.now)) (length (row_below rows.now above).characters)) }
+    ensures items { places.new.items ≡ fitting (vec_capacity places.old) places.old.items
+        (places_in text.now above (line_text (drop above rows.now)) (length (row_below rows.now above).characters)) }
+    ensures room { vec_capacity places.new ≡ vec_capacity places.old }
+    ensures count { result
+        ≡ length (places_in text.now above (line_text (drop above rows.now)) (length (row_below rows.now above).characters)) }
 {
     let count = characters_below(rows, above).len();
-    push_part(rows, above, 0, count, text, places)
+    put_part(rows, above, 0, count, text, places)
 }
 
-/// Puts the places of one row from one up to and without another behind others. It passes over blocks of characters at
-/// which the text doesn't begin.
-pub(crate) fn push_part(
+/// Puts the places of one row from one up to and without another behind others, as many as there is room for. Says how
+/// many they are. It passes over blocks of characters at which the text doesn't begin.
+pub(crate) fn put_part(
     rows: &[Row],
     above: usize,
     start: usize,
     end: usize,
     text: &[char],
     places: &mut Vec<Place>,
-) -> Result<(), AllocError>
+) -> usize
     requires row { above < length rows.now }
     requires order { start ≤ end }
     requires within { end ≤ length (row_below rows.now above).characters }
-    ensures { OnOk result (places.new.items ≡ places.old.items
-        ++ places_part text.now above (line_text (drop above rows.now)) start (end - start)) }
+    ensures items { places.new.items ≡ fitting (vec_capacity places.old) places.old.items
+        (places_part text.now above (line_text (drop above rows.now)) start (end - start)) }
+    ensures room { vec_capacity places.new ≡ vec_capacity places.old }
+    ensures count { result
+        ≡ length (places_part text.now above (line_text (drop above rows.now)) start (end - start)) }
+    ensures few { result ≤ end - start }
 {
     let characters = characters_below(rows, above);
     let seen = &characters[..characters.len().min(end + 1)];
+    let mut found = 0;
     let mut from = start;
     while from < end {
         let next = next_block(seen, from, text).min(end);
         let last = next + BLOCK.min(end - next);
-        push_block(rows, above, next, last, text, places)?;
+        found += put_block(rows, above, next, last, text, places);
         from = last;
     }
-    Ok(())
+    found
 }
 
-/// Puts the places of one row from one up to and without another behind others, character by character.
-fn push_block(
+/// Puts the places of one row from one up to and without another behind others, as many as there is room for, character
+/// by character. Says how many they are.
+fn put_block(
     rows: &[Row],
     above: usize,
     start: usize,
     end: usize,
     text: &[char],
     places: &mut Vec<Place>,
-) -> Result<(), AllocError>
+) -> usize
     requires row { above < length rows.now }
     requires order { start ≤ end }
     requires within { end ≤ length (row_below rows.now above).characters }
-    ensures { OnOk result (places.new.items ≡ places.old.items
-        ++ places_part text.now above (line_text (drop above rows.now)) start (end - start)) }
+    ensures items { places.new.items ≡ fitting (vec_capacity places.old) places.old.items
+        (places_part text.now above (line_text (drop above rows.now)) start (end - start)) }
+    ensures room { vec_capacity places.new ≡ vec_capacity places.old }
+    ensures count { result
+        ≡ length (places_part text.now above (line_text (drop above rows.now)) start (end - start)) }
+    ensures few { result ≤ end - start }
 {
+    let mut found = 0;
     for before in start..end {
         if begins(&rows[above..], before, text) {
-            places.push(Place { above, before })?;
+            put(places, Place { above, before });
+            found += 1;
         }
     }
-    Ok(())
+    found
+}
+
+/// Puts a place behind others, if there is room for it.
+fn put(places: &mut Vec<Place>, place: Place)
+    ensures items { places.new.items ≡ fitting (vec_capacity places.old) places.old.items (place ∷ []) }
+    ensures room { vec_capacity places.new ≡ vec_capacity places.old }
+{
+    let last = places.len();
+    if last < places.capacity() {
+        drop(places.insert(last, place));
+    }
 }
 
 /// The next block of characters in which a text may begin, or the end. A block is looked at with the character behind it,
@@ -288,7 +375,7 @@ pub(crate) fn has_front(characters: &[char], text: &[char]) -> bool
 
 /// Whether a text may begin among these characters but at the last one: whether its first two stand side by side.
 #[inline(always)]
-fn has_front_early(characters: &[char], text: &[char]) -> bool
+pub(crate) fn has_front_early(characters: &[char], text: &[char]) -> bool
     requires { 0 < length characters.now }
     ensures { result ≡ false → (before : ℕ) → before + 1 < length characters.now → (rest : List ℕ)
         → starts_with nat_eq (drop before characters.now ++ rest) text.now ≡ false }

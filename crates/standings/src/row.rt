@@ -1,13 +1,15 @@
 //! A row of characters.
 
-ghost use Rattle.std.specs.Prelude.{◌≡◌, ◌+◌, ◌-◌, ◌≤◌, ◌<◌, ◌∷◌, ◌++◌, [], false, IfOk, OnOk, drop, length, nat_le, replicate, slice_index_or, slice_set, take};
+ghost use Rattle.std.specs.Prelude.{◌≡◌, ◌+◌, ◌-◌, ◌≤◌, ◌<◌, ◌∷◌, ◌++◌, [], false, true, List, IfOk, OnErr, OnOk, drop, length, nat_le, replicate, slice_index_or, slice_set, take, vec_capacity};
 ghost use Rattle.std.specs.List.{range_with_len};
-ghost use Rattle.standings.specs.Moved.{moved_down, moved_up, spaces_row, turned};
+ghost use Rattle.standings.specs.Follow.{has_length};
+ghost use Rattle.standings.specs.Moved.{moved_up, spaces_row, turned};
 ghost use Rattle.standings.specs.Rows.{empty_row, row_below};
 ghost use Rattle.standings.specs.Written.{row_written};
 
 use std::alloc::{AllocError, Global};
 use std::marker::Model;
+use std::mem::replace;
 
 /// A row's characters, the column in which each of them stands, and whether the row runs on into the next one.
 #[derive(Drop)]
@@ -55,20 +57,22 @@ impl Row {
         Ok(())
     }
 
-    /// Puts characters at its end, which stand in these columns.
+    /// Puts characters at its end, which stand in these columns. Where memory is refused, it is as before.
     pub fn push_run(&mut self, characters: &[char], columns: &[u16]) -> Result<(), AllocError>
-        ensures { OnOk result (self.new ≡ record {
+        ensures pushed { OnOk result (self.new ≡ record {
           characters = self.old.characters ++ characters.now;
           columns = self.old.columns ++ columns.now;
           runs_on = self.old.runs_on;
         }) }
+        ensures refused { OnErr result (self.new ≡ self.old) }
     {
-        self.characters.extend_from_slice(characters)?;
+        self.characters.reserve(characters.len())?;
         self.columns.extend_from_slice(columns)?;
+        self.characters.extend_from_slice(characters)?;
         Ok(())
     }
 
-    /// Puts a character at its end so many times, in columns from this one on.
+    /// Puts a character at its end so many times, in columns from this one on. Where memory is refused, it is as before.
     pub fn push_many(
         &mut self,
         character: char,
@@ -76,16 +80,18 @@ impl Row {
         column: u16,
     ) -> Result<(), AllocError>
         requires { column + count ≤ u16.MAX }
-        ensures { OnOk result (self.new ≡ record {
+        ensures pushed { OnOk result (self.new ≡ record {
           characters = self.old.characters ++ replicate count character;
           columns = self.old.columns ++ range_with_len column count;
           runs_on = self.old.runs_on;
         }) }
+        ensures refused { OnErr result (self.new ≡ self.old) }
     {
-        let before = self.characters.len();
-        self.characters.resize(before + count, character)?;
+        self.characters.reserve(count)?;
         let from = self.columns.len();
         self.columns.resize(from + count, 0)?;
+        let before = self.characters.len();
+        self.characters.resize(before + count, character)?;
         number(self.columns.as_mut_slice(), from, column);
         Ok(())
     }
@@ -150,18 +156,21 @@ impl Row {
         number(self.columns.as_mut_slice(), 0, 1);
     }
 
-    /// Becomes a row of these characters, in columns from 1 on, and asks for room where it has too little.
+    /// Becomes a row of these characters, in columns from 1 on, and asks for room where it has too little. Where that is
+    /// refused, it is as before.
     pub fn respell(&mut self, characters: &[char], runs_on: bool) -> Result<(), AllocError>
         requires { length characters.now ≤ u16.MAX }
-        ensures { OnOk result (self.new ≡ record {
+        ensures spelt { OnOk result (self.new ≡ record {
           characters = characters.now;
           columns = range_with_len 1 (length characters.now);
           runs_on = runs_on;
         }) }
+        ensures refused { OnErr result (self.new ≡ self.old) }
     {
+        make_room(&mut self.characters, characters.len())?;
+        self.columns.resize(characters.len(), 0)?;
         self.characters.clear();
         self.characters.extend_from_slice(characters)?;
-        self.columns.resize(characters.len(), 0)?;
         number(self.columns.as_mut_slice(), 0, 1);
         self.runs_on = runs_on;
         Ok(())
@@ -178,13 +187,55 @@ impl Row {
         Ok(())
     }
 
-    /// Becomes a row of so many spaces, and asks for room where it has too little.
+    /// A copy of it.
+    pub(crate) fn copied(&self, alloc: Global) -> Result<Self, AllocError>
+        ensures { IfOk result (λ row. row ≡ self.now) }
+    {
+        let mut row = Row::with_room(alloc, 0, false)?;
+        row.copy_from(self)?;
+        Ok(row)
+    }
+
+    /// Whether it has at least as many characters and columns as another row.
+    pub(crate) fn has_length(&self, other: &Row) -> bool
+        ensures { result ≡ has_length self.now other.now }
+    {
+        other.characters.len() <= self.characters.len() && other.columns.len() <= self.columns.len()
+    }
+
+    /// Becomes a copy of another row, which has no more characters and columns.
+    pub(crate) fn overwrite(&mut self, other: &Row)
+        requires { has_length self.old other.now ≡ true }
+        ensures { self.new ≡ other.now }
+    {
+        overwrite(&mut self.characters, other.characters.as_slice());
+        overwrite(&mut self.columns, other.columns.as_slice());
+        self.runs_on = other.runs_on;
+    }
+
+    /// A row of so many spaces.
+    pub(crate) fn spaces(alloc: Global, columns: usize) -> Result<Self, AllocError>
+        requires { columns < u16.MAX }
+        ensures { IfOk result (λ row. row ≡ spaces_row columns) }
+    {
+        let mut row = Row::with_room(alloc, columns, false)?;
+        row.push_many(' ', columns, 1)?;
+        Ok(row)
+    }
+
+    /// Becomes a row of so many spaces, and asks for room where it has too little. Where that is refused, it is as before.
     pub(crate) fn blank(&mut self, columns: usize) -> Result<(), AllocError>
         requires { columns < u16.MAX }
-        ensures { OnOk result (self.new ≡ spaces_row columns) }
+        ensures spaces { OnOk result (self.new ≡ spaces_row columns) }
+        ensures refused { OnErr result (self.new ≡ self.old) }
     {
-        self.restart(false);
-        self.push_many(' ', columns, 1)
+        make_room(&mut self.characters, columns)?;
+        self.columns.resize(columns, 0)?;
+        self.characters.clear();
+        self.characters.resize(columns, ' ')?;
+        number(self.columns.as_mut_slice(), 0, 1);
+        self.runs_on = false;
+        Ok(())
     }
 
     /// Whether it has so many characters behind so many others.
@@ -229,6 +280,23 @@ impl Row {
     }
 }
 
+/// A list becomes these, which are no more.
+fn overwrite<T: Copy + Drop>(items: &mut Vec<T>, others: &[T])
+    requires { length others.now ≤ length items.old.items }
+    ensures { items.new.items ≡ others.now }
+{
+    items.truncate(others.len());
+    items.as_mut_slice().copy_from_slice(others);
+}
+
+/// Asks for room for so many characters in all, where there is less.
+fn make_room(characters: &mut Vec<char>, count: usize) -> Result<(), AllocError>
+    ensures items { characters.new.items ≡ characters.old.items }
+    ensures room { OnOk result (count ≤ vec_capacity characters.new) }
+{
+    characters.reserve(count.saturating_sub(characters.len()))
+}
+
 /// Those behind so many become the columns from one on.
 fn number(columns: &mut [u16], from: usize, column: u16)
     requires within { from ≤ length columns.old }
@@ -258,12 +326,22 @@ pub(crate) fn turn_rows(rows: &mut [Row], count: usize)
     }
 }
 
-/// All rows move up by one, and the first one becomes a row of so many spaces below the others. Memory is asked for before
-/// they turn.
+/// And the last so many come before the others again.
+pub(crate) fn turn_rows_back(rows: &mut [Row], count: usize)
+    ensures { (before : List Row) → rows.old ≡ turned count before → rows.new ≡ before }
+{
+    if count > 0 && count < rows.len() {
+        rows.rotate_right(count);
+    }
+}
+
+/// All rows move up by one, and the first one becomes a row of so many spaces below the others. Where memory is refused,
+/// they are as before.
 pub(crate) fn move_rows_up(rows: &mut [Row], columns: usize) -> Result<(), AllocError>
     requires some { 0 < length rows.old }
     requires few { columns < u16.MAX }
-    ensures { OnOk result (rows.new ≡ moved_up columns rows.old) }
+    ensures moved { OnOk result (rows.new ≡ moved_up columns rows.old) }
+    ensures refused { OnErr result (rows.new ≡ rows.old) }
 {
     let row = &mut rows[0];
     row.blank(columns)?;
@@ -271,17 +349,27 @@ pub(crate) fn move_rows_up(rows: &mut [Row], columns: usize) -> Result<(), Alloc
     Ok(())
 }
 
-/// All rows move down by one, and the last one becomes a row of so many spaces above the others.
-pub(crate) fn move_rows_down(rows: &mut [Row], columns: usize) -> Result<(), AllocError>
-    requires some { 0 < length rows.old }
-    requires few { columns < u16.MAX }
-    ensures { OnOk result (rows.new ≡ moved_down columns rows.old) }
+/// The first of some rows goes out, the others move up by one, and a row comes in below them.
+pub(crate) fn shift_up(rows: &mut [Row], row: Row) -> Row
+    requires { 0 < length rows.old }
+    ensures rows { rows.new ≡ drop 1 rows.old ++ row ∷ [] }
+    ensures out { result ≡ row_below rows.old 0 }
+{
+    let out = replace(&mut rows[0], row);
+    rows.rotate_left(1);
+    out
+}
+
+/// The last of some rows goes out, the others move down by one, and a row comes in above them.
+pub(crate) fn shift_down(rows: &mut [Row], row: Row) -> Row
+    requires { 0 < length rows.old }
+    ensures rows { rows.new ≡ row ∷ take (length rows.old - 1) rows.old }
+    ensures out { result ≡ row_below rows.old (length rows.old - 1) }
 {
     let last = rows.len() - 1;
-    let row = &mut rows[last];
-    row.blank(columns)?;
+    let out = replace(&mut rows[last], row);
     rows.rotate_right(1);
-    Ok(())
+    out
 }
 
 /// The characters of the row below so many others; none below the last.

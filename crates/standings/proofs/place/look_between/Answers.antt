@@ -1,11 +1,12 @@
-use Rattle.std.proofs.Common.{◌≡◌, ◌≤◌, ◌-◌, ◌++◌, ◌∙◌, arith, length, sym}
-use Rattle.std.proofs.lemmas.List.{length-append}
+use Rattle.std.proofs.Common.{◌≡◌, ◌≤◌, ◌-◌, ◌++◌, ◌∙◌, ap, ap₂, append_assoc, arith, drop, length, sym, take}
+use Rattle.std.proofs.lemmas.List.{drop_at, length-append, take_at}
+use Rattle.std.proofs.lemmas.Result.{on_ok_weaker}
 use Rattle.standings.specs.Spans.{places_along}
-use Rattle.standings.proofs.PlaceLemmas.{again, cut_first, cut_second, put_again}
+use Rattle.standings.proofs.PlaceLemmas.{again, cut_first, cut_second}
 use Rattle.standings.proofs.place.look_between.Goals as goal
 
-pub returns : goal.returns
-returns c = λ before stays was.
+pub returns-clause-looked : goal.returns-clause-looked
+returns-clause-looked c = λ before stays was.
     let text = c.args.text.now in
     let rows = c.args.rows.now in
     let places = c.args.places.now.items in
@@ -20,7 +21,10 @@ returns c = λ before stays was.
     let second = cut_second text before rows start end c.count_above.result c.as_slice-2.result.now is order high (c.as_slice-2.ensures.value ∙ was)
     c.count_above.ensures.within c.count_above.ensures.below c.count_above.ensures.ends in
     let behind : c.max-behind.result ≡ length (is.front ++ is.was) = omega (arith, length-append is.front is.was, first, second, c.max-behind.ensures) in
-    put_again is.front is.was is.rest (places_along text rows start (end - start)) places c.forget.new.places.items c.push_between.new.places.items c.turn.new.places.items
-    c.count_above-kept.result c.max-behind.result (c.len.result - c.count_above-kept.result) (was ∙ is.before) first behind c.forget.ensures.items
-    (omega (arith, c.len.ensures)) c.in_ok-push_between.ensures.items c.turn.ensures
-    ∙ sym is.after
+    let split : places ≡ is.front ++ (is.was ++ is.rest) = was ∙ is.before in
+    let front : take c.count_above-kept.result places ≡ is.front = ap (take c.count_above-kept.result) split ∙ take_at is.front (is.was ++ is.rest) c.count_above-kept.result (sym first) in
+    let other : places ≡ (is.front ++ is.was) ++ is.rest = split ∙ sym (append_assoc is.front is.was is.rest) in
+    let rest : drop c.max-behind.result places ≡ is.rest =
+    ap (drop c.max-behind.result) other ∙ drop_at (is.front ++ is.was) is.rest c.max-behind.result (sym behind) in
+    on_ok_weaker c.renew.result (λ placed.
+    placed ∙ ap₂ (λ a b. a ++ (places_along text rows start (end - start) ++ b)) front rest ∙ sym is.after) c.renew.ensures.items

@@ -1,5 +1,6 @@
-use Rattle.std.proofs.Common.{◌≡◌, ◌-◌, ◌∙◌, ◌++◌, ap, arith, length, subst, sym}
-use Rattle.std.specs.Prelude.{OnOk}
+use Rattle.std.proofs.Common.{◌≡◌, ◌-◌, ◌∙◌, ◌++◌, ap, ap₂, append-nil, arith, length, sym}
+use Rattle.std.proofs.lemmas.List.{drop_all, take_all}
+use Rattle.std.proofs.lemmas.Result.{on_ok_weaker}
 use Rattle.standings.specs.Spans.{places_along}
 use Rattle.standings.proofs.PlaceLemmas.{standing_along}
 use Rattle.standings.proofs.place.push_standing.Goals as goal
@@ -8,6 +9,12 @@ pub returns : goal.returns
 returns c =
     let text = c.args.text.now in
     let rows = c.args.rows.now in
-    let all : length rows - 0 ≡ length rows = omega arith in
-    subst (λ l. OnOk c.push_between.result (c.push_between.new.places.items ≡ c.args.places.now.items ++ l))
-    (ap (places_along text rows 0) all ∙ sym (standing_along text rows)) c.push_between.ensures.items
+    let old = c.args.places.now.items in
+    let all = c.len-all.result in
+    let long : all ≡ length old = omega (arith, c.len-all.ensures, c.args.places.now.ok.0) in
+    let many : length rows - 0 ≡ length rows = omega arith in
+    on_ok_weaker c.renew.result (λ placed.
+    placed
+    ∙ ap₂ (λ a b. a ++ (places_along text rows 0 (length rows - 0) ++ b)) (take_all all old (omega (arith, long))) (drop_all all old (omega (arith, long)))
+    ∙ ap (λ l. old ++ l) (append-nil (places_along text rows 0 (length rows - 0)) ∙ ap (places_along text rows 0) many ∙ sym (standing_along text rows)))
+    c.renew.ensures.items
