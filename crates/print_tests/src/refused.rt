@@ -9,6 +9,8 @@ use tape_core::Watched;
 use tape_seek::Session;
 use tape_tests::once_more::read;
 
+mod standing;
+
 /// Three chunks, half a second apart, on lines 1, 3 and 1, and the first two with reports.
 const SCRIPT: &[u8] = b"\nab\x1b[6n\x1b[3;1Hcd\x1b[c\x1b[1;1He";
 
