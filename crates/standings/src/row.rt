@@ -223,6 +223,14 @@ impl Row {
         Ok(row)
     }
 
+    /// Gives back the room that neither it nor another row has taken. All stays, also where memory is refused.
+    pub fn fit(&mut self, alloc: Global, other: &Row) -> Result<(), AllocError>
+        ensures { self.new ≡ self.old }
+    {
+        fit_list(alloc, &mut self.characters, other.characters.capacity())?;
+        fit_list(alloc, &mut self.columns, other.columns.capacity())
+    }
+
     /// Becomes a row of so many spaces, and asks for room where it has too little. Where that is refused, it is as before.
     pub(crate) fn blank(&mut self, columns: usize) -> Result<(), AllocError>
         requires { columns < u16.MAX }
@@ -295,6 +303,24 @@ fn make_room(characters: &mut Vec<char>, count: usize) -> Result<(), AllocError>
     ensures room { OnOk result (count ≤ vec_capacity characters.new) }
 {
     characters.reserve(count.saturating_sub(characters.len()))
+}
+
+/// Gives back the room that a list has for more than so many and doesn't need.
+fn fit_list<T: Copy + Drop>(
+    alloc: Global,
+    items: &mut Vec<T>,
+    room: usize,
+) -> Result<(), AllocError>
+    ensures { items.new.items ≡ items.old.items }
+{
+    let room = room.max(items.len());
+    if items.capacity() <= room {
+        return Ok(());
+    }
+    let mut fitting = Vec::with_capacity(alloc, room)?;
+    fitting.extend_from_slice(items.as_slice())?;
+    *items = fitting;
+    Ok(())
 }
 
 /// Those behind so many become the columns from one on.
