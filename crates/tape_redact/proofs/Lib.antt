@@ -1,4 +1,4 @@
 mod RedactLemmas
-mod SearchLemmas
+mod AheadLemmas
 mod ReadLemmas
 mod TextLemmas

@@ -1,10 +1,11 @@
 -- Occurrences, and what is written over them.
-use Rattle.std.proofs.Common.{◌≡◌, ℕ, zero, suc, ◌+◌, ◌-◌, ◌<◌, ◌≤◌, Bool, true, false, ◌==◌, List, ◌++◌, length, get_or, map, drop, take, refl, ap, sym, ◌∙◌, arith, inl, inr, zero-add, append_assoc, length-append, length-drop}
-use Rattle.std.specs.List.{All, list_any, range_with_len}
-use Rattle.std.proofs.lemmas.Bool.{both_ways, cases_Bool, cases_order, cond-false, cond-true, eqb-false, false_from_ne_true, or_cases, or_left, or_right}
+use Rattle.std.proofs.Common.{◌≡◌, ℕ, zero, suc, ◌+◌, ◌-◌, ◌<◌, ◌≤◌, Bool, true, false, ◌==◌, List, [], ◌∷◌, ◌++◌, length, get_or, set, map, drop, take, nat_eq, nat_lt, add-zero, refl, ap, sym, ◌∙◌, arith, inl, inr, zero-add, cond, append_assoc, length-append, length-drop}
+use Rattle.std.specs.List.{All, count_by, list_any, range_with_len, starts_with}
+use Rattle.std.proofs.lemmas.Bool.{both_ways, cases_Bool, cases_order, cond-false, cond-true, eqb-false, false_from_ne_true, le-ltb, lt-ltb, or_cases, or_left, or_right}
 use Rattle.std.proofs.lemmas.Bool.Decides.{Decides-eqb}
-use Rattle.std.proofs.lemmas.List.{drop_at, get_or_append_left, get_or_default, length-take, get_or-drop, get_or-map, get_or-take, length-map, length-take-le, same_lists}
-use Rattle.std.proofs.lemmas.List.FromFn.{get_or-range_with_len, length-range_with_len}
+use Rattle.std.proofs.lemmas.List.{drop_at, get_or_append_left, get_or_default, length-take, get_or-drop, get_or-map, get_or-take, length-map, length-take-le, same_lists, drop-set-lt, drop-drop, map-id, take_more, take_more_set}
+use Rattle.std.proofs.lemmas.List.FromFn.{get_or-range_with_len, length-range_with_len, map-range_with_len_more}
+use Rattle.std.proofs.lemmas.List.Sums.{count_by-le-length, sum_by_push}
 use Rattle.std.proofs.lemmas.Slice.Eq.{slice_eq-Decides}
 use Rattle.tape_redact.specs.Law.{HidesAll, LinesStay, NoneIsLeft}
 use Rattle.tape_redact.specs.Redacted.{begins_at, byte_at, is_covered, redacted}
@@ -145,3 +146,92 @@ lines_stay text bytes clean =
             | inr f ↦ ap lf (kept_at text bytes k within f)
           ] ∙ sym (get_or-map lf bytes k 0 d within));
     }
+
+-- ---- one place after another
+
+-- how many occurrences begin before a place
+abbrev pub begun_before : List ℕ → List ℕ → ℕ → ℕ
+begun_before text bytes at = count_by (begins_at text bytes) (range_with_len 0 at)
+
+-- so many places from this one on lie in an occurrence that began before
+pub record Reach (text bytes : List ℕ) (at left : ℕ) : Type 0 where
+  pub below : (b : ℕ) → b < at → begins_at text bytes b ≡ true → b + length text ≤ at + left
+  pub from : 0 < left → (b : ℕ) × (b < at) × (begins_at text bytes b ≡ true) × (b + length text ≡ at + left)
+
+pub no_reach : (text bytes : List ℕ) → Reach text bytes 0 0
+no_reach text bytes = record {
+  below = λ b lt is. absurd (omega arith);
+  from = λ some. absurd (omega arith);
+}
+
+-- whether the place itself does
+pub is_reached : (text bytes : List ℕ) (at left : ℕ) (begun : Bool) → Reach text bytes at left → 0 < length text → begun ≡ begins_at text bytes at
+    → is_covered text bytes at ≡ nat_lt 0 (cond begun (length text) left)
+is_reached text bytes at left true reach some is =
+    covered_from text bytes at at (omega arith) (omega arith) (sym is) ∙ sym (lt-ltb 0 (length text) some)
+is_reached text bytes at zero false reach some is =
+    false_from_ne_true (is_covered text bytes at) (λ covered.
+    let it = covered_to text bytes at covered in
+    elim (cases_order it.0 at) [
+      | inl e ↦ both_ways (begins_at text bytes at) (sym is) (ap (begins_at text bytes) (sym e) ∙ it.3)
+      | inr rest ↦ elim rest [
+        | inl lt ↦ let near = reach.below it.0 lt it.3 in absurd (omega (arith, near, it.2))
+        | inr gt ↦ absurd (omega (arith, gt, it.1))
+      ]
+    ]) ∙ sym (le-ltb 0 0 (omega arith))
+is_reached text bytes at (suc left) false reach some is =
+    let it = reach.from (omega arith) in
+    covered_from text bytes at it.0 (omega (arith, it.1)) (omega (arith, it.3)) it.2 ∙ sym (lt-ltb 0 (suc left) (omega arith))
+
+pub reach_more : (text bytes : List ℕ) (at left next : ℕ) (begun : Bool) → Reach text bytes at left → 0 < length text → begun ≡ begins_at text bytes at
+    → next ≡ cond begun (length text) left - 1 → Reach text bytes (at + 1) next
+reach_more text bytes at left next true reach some is e = record {
+  below = λ b lt begins. omega arith;
+  from = λ more. (at, omega arith, sym is, omega arith);
+}
+reach_more text bytes at left next false reach some is e = record {
+  below = λ b lt begins. elim (cases_order b at) [
+    | inl same ↦ absurd (both_ways (begins_at text bytes at) (sym is) (ap (begins_at text bytes) (sym same) ∙ begins))
+    | inr rest ↦ elim rest [
+      | inl less ↦ let near = reach.below b less begins in omega (arith, near)
+      | inr gt ↦ absurd (omega arith)
+    ]
+  ];
+  from = λ more.
+      let it = reach.from (omega arith) in
+      (it.0, omega (arith, it.1), it.2, omega (arith, it.3));
+}
+
+-- the new bytes, one more
+pub hidden_more : (text bytes now : List ℕ) (at v : ℕ) → at < length bytes → length now ≡ length bytes → take at now ≡ take at (redacted text bytes)
+    → v ≡ byte_at text bytes at → take (at + 1) (set now at v) ≡ take (at + 1) (redacted text bytes)
+hidden_more text bytes now at v lt long before here =
+    take_more_set now at v (omega arith)
+    ∙ ap (λ l. l ++ v ∷ []) before
+    ∙ ap (λ b. take at (redacted text bytes) ++ b ∷ []) (here ∙ sym (redacted_at text bytes at lt))
+    ∙ sym (take_more (redacted text bytes) at 0 (omega (arith, length-redacted text bytes)))
+
+-- the old ones, one fewer
+pub rest_more : (bytes now : List ℕ) (at v : ℕ) → drop at now ≡ drop at bytes → drop (at + 1) (set now at v) ≡ drop (at + 1) bytes
+rest_more bytes now at v same =
+    drop-set-lt (at + 1) now at v (omega arith) ∙ sym (drop-drop 1 at now) ∙ ap (drop 1) same ∙ drop-drop 1 at bytes
+
+pub here_is : (bytes now : List ℕ) (at : ℕ) → drop at now ≡ drop at bytes → get_or now at 0 ≡ get_or bytes at 0
+here_is bytes now at same =
+    ap (λ i. get_or now i 0) (sym (add-zero at)) ∙ sym (get_or-drop at now 0 0) ∙ ap (λ (l : List ℕ). get_or l 0 0) same ∙ get_or-drop at bytes 0 0
+    ∙ ap (λ i. get_or bytes i 0) (add-zero at)
+
+range_more : (n : ℕ) → range_with_len 0 (n + 1) ≡ range_with_len 0 n ++ n ∷ []
+range_more n =
+    sym (map-id (range_with_len 0 (n + 1))) ∙ map-range_with_len_more (λ i. i) 0 n n (zero-add n) ∙ ap (λ l. l ++ n ∷ []) (map-id (range_with_len 0 n))
+
+pub begun_more : (text bytes : List ℕ) (at : ℕ) → begun_before text bytes (at + 1) ≡ begun_before text bytes at + cond (begins_at text bytes at) 1 0
+begun_more text bytes at =
+    ap (count_by (begins_at text bytes)) (range_more at)
+    ∙ sum_by_push (λ i. cond (begins_at text bytes i) 1 0) (range_with_len 0 at) at
+
+pub begun_few : (text bytes : List ℕ) (at : ℕ) → begun_before text bytes at ≤ at
+begun_few text bytes at = omega (arith, count_by-le-length (begins_at text bytes) (range_with_len 0 at), length-range_with_len 0 at)
+
+pub begins_same : (text bytes now : List ℕ) (at : ℕ) → drop at now ≡ drop at bytes → begins_at text now at ≡ begins_at text bytes at
+begins_same text bytes now at same = ap (λ l. starts_with nat_eq l text) same

@@ -1,3 +1,4 @@
 pub mod Redacted
 pub mod Recording
 pub mod Law
+pub mod Ahead
