@@ -71,3 +71,8 @@ pub listed_more : {X : Type 0} (f : X → List ℕ) (xs : List X) (i : ℕ) (d :
     → flat_map f (take (i + 1) xs) ≡ flat_map f (take i xs) ++ f (get_or xs i d)
 listed_more f xs i d lt =
     ap (flat_map f) (take_more xs i d lt) ∙ flat_map-append f (take i xs) (get_or xs i d ∷ []) ∙ ap (λ l. flat_map f (take i xs) ++ l) (append-nil (f (get_or xs i d)))
+
+-- what a writer that had stayed was given
+pub gave_again : {T : Type 0} (contents : T → Option (List ℕ)) (a b c d : Watched T) (text : List ℕ) → b ≡ a → Gave contents b c text → d ≡ c → Gave contents a d text
+gave_again contents a b c d text stayed gave is =
+    subst (λ w. Gave contents a w text) (sym is) (subst (λ w. Gave contents w c text) stayed gave)

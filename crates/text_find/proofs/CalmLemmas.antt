@@ -1,5 +1,5 @@
 -- Chunks inside which nothing of a text passes, and screens that trail.
-use Rattle.std.proofs.Common.{◌≡◌, ℕ, ◌+◌, ◌-◌, ◌<◌, List, [], ◌++◌, append-nil, drop, length, take, refl, ap, ap₂, subst, sym, ◌∙◌, arith, inl, inr}
+use Rattle.std.proofs.Common.{◌≡◌, ℕ, ◌+◌, ◌-◌, ◌<◌, ◌≤◌, List, [], ◌++◌, append-nil, drop, length, take, refl, ap, ap₂, subst, sym, ◌∙◌, arith, inl, inr}
 use Rattle.std.specs.List.{flat_map, range_with_len}
 use Rattle.std.proofs.lemmas.Bool.{cases_lt}
 use Rattle.tape_core.specs.declared.chunk.Chunk.{Chunk}
@@ -8,17 +8,19 @@ use Rattle.standings.specs.Kept.{Keeps}
 use Rattle.standings.specs.Lag.{Lags}
 use Rattle.standings.specs.Moved.{moved_up}
 use Rattle.standings.specs.Rows.{Row}
+use Rattle.standings.specs.Spans.{Stays}
 use Rattle.standings.specs.Standing.{standing}
 use Rattle.standings.specs.declared.lag.Lag.{Lag}
 use Rattle.standings.specs.declared.left.Standing.{Standing}
 use Rattle.standings.specs.declared.place.Place.{Place}
+use Rattle.standings.specs.declared.span.Span.{Span}
 use Rattle.text_find.specs.declared.behind.Steps.{Steps}
 use Rattle.text_find.specs.declared.sides.Sides.{Sides}
 use Rattle.text_find.specs.Calm.{IsAhead, IsCalm, NonePass}
 use Rattle.text_find.specs.FindLines.{Screens, rows_within}
 use Rattle.text_find.specs.Foretold.{IsForetold}
 use Rattle.text_find.specs.declared.foretold.Foretold.TheVariants.{MovesUp}
-use Rattle.text_find.specs.Lines.{AreBetween, AreFound, AreStill, IsLagging, IsStill, IsTrailing, byte_lines, chunk_lines, end_lines, less_lines, passed_lines}
+use Rattle.text_find.specs.Lines.{AreBetween, AreFound, AreStill, IsLagging, IsLate, IsReached, IsStill, IsTrailing, byte_lines, chunk_lines, end_lines, less_lines, passed_lines}
 use Rattle.text_find.specs.Pieces.{AreQuiet}
 use Rattle.text_find.proofs.LineLemmas.{chunk_in_three, none_passed, nothing_passed, passed_by}
 use Rattle.text_find.proofs.NowhereLemmas.{within_start}
@@ -212,16 +214,59 @@ module _ {P T : Type 0} (shows : P → T → List ℕ → Type 0) (screens : Scr
     trails = trails_same text (screens profile (first chunks index)) ends steps still also_still none;
   }
 
-  -- one lags a chunk more
-  pub found_calm : (index : ℕ) (ahead one : T) (ends between others : Sides) (behind : T) (steps more : Steps) → AreFound shows screens profile chunks index text ahead ends behind steps
-      → shows profile one (first chunks (index + 1))
-      → AreBetween text (screens profile (first chunks index)) (screens profile (first chunks (index + 1))) between
-      → AreStill text (screens profile (first chunks (index + 1))) others → IsTrailing between more → more.count ≡ steps.count
-      → AreFound shows screens profile chunks (index + 1) text one others behind more
-  found_calm index ahead one ends between others behind steps more found played are still trails same = record {
+  -- one lags, and what stands on the other one was kept up
+  pub found_settled : (index : ℕ) (ahead : T) (one : List Row) (ends others : Sides) (behind : T) (steps : Steps) → shows profile ahead (first chunks index)
+      → AreBetween text one (screens profile (first chunks index)) ends → AreStill text (screens profile (first chunks index)) others
+      → IsTrailing ends steps → IsLate shows profile chunks index behind steps
+      → AreFound shows screens profile chunks index text ahead others behind steps
+  found_settled index ahead one ends others behind steps played are still trails late = record {
     played = played;
     still = still;
-    count = omega (arith, found.count, same);
-    lagging = subst (λ n. shows profile behind (first chunks n)) (sym same) found.lagging;
-    trails = trails_on text (screens profile (first chunks (index + 1))) between others more are.after still.after trails;
+    count = late.count;
+    lagging = late.played;
+    trails = trails_on text (screens profile (first chunks index)) ends others steps are.after still.after trails;
   }
+
+  -- it has had as many chunks as its count says
+  pub found_late : (index next : ℕ) (ahead : T) (ends : Sides) (behind : T) (steps more : Steps) → AreFound shows screens profile chunks index text ahead ends behind steps
+      → index ≤ next → more.count ≡ steps.count → IsLate shows profile chunks next behind more
+  found_late index next ahead ends behind steps more found le same = record {
+    count = omega (arith, found.count, le, same);
+    played = subst (λ n. shows profile behind (first chunks n)) (sym same) found.lagging;
+  }
+
+  -- that are all
+  pub late_reached : (index : ℕ) (behind : T) (steps : Steps) → IsLate shows profile chunks index behind steps → steps.count ≡ index
+      → AreStill text (screens profile (first chunks index)) steps.sides → ((rows : List Row) → Lags steps.lag rows rows)
+      → IsReached shows screens profile chunks index text behind steps
+  late_reached index behind steps late all still none = record {
+    played = subst (λ n. shows profile behind (first chunks n)) all late.played;
+    still = still;
+    count = all;
+    none = none;
+  }
+
+  -- and the other one has had no more
+  pub found_reached : (index : ℕ) (ahead : T) (ends : Sides) (behind : T) (steps : Steps) → shows profile ahead (first chunks index)
+      → AreStill text (screens profile (first chunks index)) ends → IsReached shows screens profile chunks index text behind steps
+      → AreFound shows screens profile chunks index text ahead ends behind steps
+  found_reached index ahead ends behind steps played still reached =
+      found_both index ahead ends behind steps played still reached.played reached.still reached.none reached.count
+
+  -- of all that is the same
+  pub found_as : (index : ℕ) (ahead ahead' : T) (ends ends' : Sides) (behind behind' : T) (steps steps' : Steps)
+      → ahead' ≡ ahead → ends' ≡ ends → behind' ≡ behind → steps' ≡ steps
+      → AreFound shows screens profile chunks index text ahead ends behind steps → AreFound shows screens profile chunks index text ahead' ends' behind' steps'
+  found_as index ahead ahead' ends ends' behind behind' steps steps' one two three four found =
+      subst (λ a. AreFound shows screens profile chunks index text a ends' behind' steps') (sym one)
+      (subst (λ e. AreFound shows screens profile chunks index text ahead e behind' steps') (sym two)
+      (subst (λ b. AreFound shows screens profile chunks index text ahead ends b steps') (sym three)
+      (subst (AreFound shows screens profile chunks index text ahead ends behind) (sym four) found)))
+
+-- rows that differ from the same others in no more than some
+pub stays_apart : (span : Span) (from one other : List Row) → Stays span from one → Stays span from other → Stays span one other
+stays_apart span from one other stays also = record {
+  count = also.count ∙ sym stays.count;
+  above = λ k lt. also.above k lt ∙ sym (stays.above k lt);
+  below = λ k ge. also.below k ge ∙ sym (stays.below k ge);
+}

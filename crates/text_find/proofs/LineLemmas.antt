@@ -244,6 +244,17 @@ bytes_here chunks i d lt =
     sym (append-nil (get_or chunks i d).bytes)
     ∙ sym (ap (λ l. flat_map (λ (c : Chunk). c.bytes) (take 1 l)) (drop_more chunks i d lt))
 
+-- the lines of a chunk are those at its place
+pub lines_here : {P : Type 0} (text : List ℕ) (screens : Screens P) (profile : P) (tape : Tape) (index i due : ℕ) (chunk : List ℕ)
+    → i ≡ index → due ≡ due_time tape.chunks index → chunk ≡ bytes_at tape.chunks index
+    → chunk_lines text i due (screens profile) (first tape.chunks index) chunk ≡ chunk_lines_at text screens profile tape index
+lines_here text screens profile tape index i due chunk here is bytes =
+    let screen = screens profile in
+    let before = first tape.chunks index in
+    ap (λ n. chunk_lines text n due screen before chunk) here
+    ∙ ap (λ d. chunk_lines text index d screen before chunk) is
+    ∙ ap (chunk_lines text index (due_time tape.chunks index) screen before) bytes
+
 module _ {P : Type 0} (screens : Screens P) where
   from_are : (text : List ℕ) (profile : P) (tape : Tape) (from : Option ℕ) (rows : List Row)
       → rows ≡ screens profile (first tape.chunks (first_asked tape.chunks from))

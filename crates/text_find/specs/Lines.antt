@@ -57,6 +57,20 @@ pub record AreFound {P T : Type 0} (shows : P → T → List ℕ → Type 0) (sc
   pub lagging : shows profile behind (first chunks steps.count)
   pub trails : IsTrailing ends steps
 
+-- a terminal has had as many chunks as its count says, and no more than so many
+pub record IsLate {P T : Type 0} (shows : P → T → List ℕ → Type 0) (profile : P) (chunks : List Chunk) (index : ℕ)
+    (behind : T) (steps : Steps) : Type 0 where
+  pub count : steps.count ≤ index
+  pub played : shows profile behind (first chunks steps.count)
+
+-- a terminal has had so many chunks, and what stands on it is told
+pub record IsReached {P T : Type 0} (shows : P → T → List ℕ → Type 0) (screens : Screens P) (profile : P) (chunks : List Chunk) (index : ℕ)
+    (text : List ℕ) (behind : T) (steps : Steps) : Type 0 where
+  pub played : shows profile behind (first chunks index)
+  pub still : AreStill text (screens profile (first chunks index)) steps.sides
+  pub count : steps.count ≡ index
+  pub none : (rows : List Row) → Lags steps.lag rows rows
+
 -- the line of place n, where it is less on the other screen
 abbrev pub less_line : ℕ → ℕ → ℕ → ℕ → List Row → List Place → List Row → List Place → ℕ → List ℕ
 less_line sign index due len one places other others n =

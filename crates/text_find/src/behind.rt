@@ -1,16 +1,18 @@
 //! A terminal that lags where nothing passes, and what stands on a screen that trails another one.
 
-ghost use Rattle.std.specs.Prelude.{◌≡◌, ◌≤◌, List, ℕ, length, IfOk, OnOk};
+ghost use Rattle.std.specs.Prelude.{◌≡◌, ◌≤◌, true, List, ℕ, length, IfOk, OnOk};
 ghost use Rattle.standings.specs.Lag.{Lags};
 ghost use Rattle.standings.specs.Rows.{Row};
+ghost use Rattle.standings.specs.Spans.{Stays};
 ghost use Rattle.tape_core.specs.Due.{first as bytes_of_first};
-ghost use Rattle.text_find.specs.Lines.{AreBetween, AreStill, IsLagging, IsTrailing};
+ghost use Rattle.text_find.specs.Lines.{AreBetween, AreStill, IsLagging, IsLate, IsStill, IsTrailing};
 
 use crate::ahead::play;
 use crate::finder::Finder;
+use crate::room::give_back;
 use crate::sides::{Sides, sides_of};
 use plays::{OutOfMemory, Plays};
-use standings::Lag;
+use standings::{Lag, Span, Standing};
 use std::alloc::Global;
 use tape_core::Recording;
 use tape_core::laws::first_grows_by_a_chunk;
@@ -62,37 +64,63 @@ pub(crate) fn trail(steps: &mut Steps, ends: &Sides) -> Result<(), OutOfMemory>
     Ok(())
 }
 
-/// Brings a terminal that lags to where a chunk begins, and what stands before and after a piece to what stands there.
+/// Brings a terminal that lags to where a chunk begins, and what stands before and after a piece to what stands there. Says
+/// whether it did: else memory for what stands was refused, and the terminal has had as many chunks as its count says. What
+/// was kept of the chunk's inside is given back first.
 pub(crate) fn reach<T: Plays>(
     alloc: Global,
     recording: &Recording,
     index: usize,
-    ends: &Sides,
+    ends: &mut Sides,
     behind: &mut T,
     steps: &mut Steps,
-) -> Result<(), OutOfMemory>
+) -> Result<bool, OutOfMemory>
     requires within { index ≤ length recording.now.chunks }
-    ensures shows { (profile : T.Profile) → steps.old.count ≤ index
-        → T.shows profile behind.old (bytes_of_first recording.now.chunks steps.old.count)
-        → OnOk result (T.shows profile behind.new (bytes_of_first recording.now.chunks index)) }
-    ensures steps { (text : List ℕ) (one other : List Row) → AreBetween text one other ends.now
-        → IsLagging ends.now steps.old → OnOk result (AreStill text one steps.new.sides) }
-    ensures none { OnOk result ((rows : List Row) → Lags steps.new.lag rows rows) }
+    ensures late { (profile : T.Profile) → IsLate T.shows profile recording.now.chunks index behind.old steps.old
+        → OnOk result (IsLate T.shows profile recording.now.chunks index behind.new steps.new) }
+    ensures count { IfOk result (λ done. done ≡ true → steps.new.count ≡ index) }
+    ensures steps { (text : List ℕ) (one other : List Row) → AreBetween text one other ends.old
+        → IsLagging ends.old steps.old
+        → IfOk result (λ done. done ≡ true → AreStill text one steps.new.sides) }
+    ensures none { IfOk result (λ done. done ≡ true → (rows : List Row) → Lags steps.new.lag rows rows) }
+    ensures ends { (text : List ℕ) (one other : List Row) → AreBetween text one other ends.old
+        → AreBetween text one other ends.new }
 {
-    play_chunks(alloc, recording, steps.count, index, behind)?;
     let span = steps.lag.between(ends.lag, ends.after.rows.len());
     let reached = steps.sides.lag.reach(steps.sides.after.rows.len());
-    let more = reached.joined(span);
-    steps.sides.before.follow(&ends.before, span)?;
-    steps.sides.after.follow(&ends.before, more)?;
-    steps.sides.lag = Lag::none();
-    steps.lag = Lag::none();
+    let changed = reached.joined(span);
+    if give_back(alloc, ends, &mut steps.sides, span, changed).is_err() {
+        return Ok(false);
+    }
+    play_chunks(alloc, recording, steps.count, index, behind)?;
     steps.count = index;
+    steps.lag = Lag::none();
+    let Ok(()) = stand_at(&mut steps.sides, &ends.before, span, changed) else {
+        return Ok(false);
+    };
+    Ok(true)
+}
+
+/// What stands before and after a piece becomes what stands at a chunk's start, from which only the rows of these spans
+/// may differ.
+fn stand_at(
+    steps: &mut Sides,
+    still: &Standing,
+    span: Span,
+    changed: Span,
+) -> Result<(), OutOfMemory>
+    ensures { (text : List ℕ) (one : List Row) → IsStill text one still.now
+        → Stays span steps.old.before.rows.items one → Stays changed steps.old.after.rows.items one
+        → OnOk result (AreStill text one steps.new) }
+{
+    steps.before.follow(still, span)?;
+    steps.after.follow(still, changed)?;
+    steps.lag = Lag::none();
     Ok(())
 }
 
 /// Plays the chunks from one place up to and without another.
-fn play_chunks<T: Plays>(
+pub(crate) fn play_chunks<T: Plays>(
     alloc: Global,
     recording: &Recording,
     start: usize,

@@ -1,9 +1,11 @@
 //! The lines of a chunk of a recording.
 
-ghost use Rattle.std.specs.Prelude.{◌≡◌, ◌+◌, ◌<◌, length, OnErr, OnOk};
+ghost use Rattle.std.specs.Prelude.{◌≡◌, ◌+◌, ◌<◌, false, length, true, IfOk, OnErr, OnOk};
 ghost use Rattle.tape_core.specs.Devices.{Gave};
-ghost use Rattle.text_find.specs.Lines.{AreFound, Began, chunk_lines_at};
+ghost use Rattle.tape_core.specs.Due.{due_time, first as bytes_of_first};
+ghost use Rattle.text_find.specs.Lines.{AreBetween, AreFound, AreStill, Began, IsLate, IsReached, chunk_lines_at};
 
+use crate::again::end_chunk;
 use crate::ahead::play_ahead;
 use crate::behind::{Steps, reach};
 use crate::each_byte::put_chunk;
@@ -14,11 +16,12 @@ use plays::{OutOfMemory, Plays};
 use standings::Moment;
 use std::alloc::Global;
 use std::io::Write;
-use tape_core::laws::{first_grows_by_a_chunk, gives_join};
+use tape_core::laws::first_grows_by_a_chunk;
 use tape_core::{Recording, Watched};
 
-/// Plays a chunk of a recording, and writes its lines. Where surely nothing of the text passes inside it they tell of its
-/// ends alone, and the terminal that is played again in pieces lags.
+/// Plays a chunk of a recording, and writes its lines; says whether it did. Where surely nothing of the text passes inside
+/// it they tell of its ends alone, and the terminal that is played again in pieces lags. Where memory is refused before its
+/// lines, nothing is written, and of the terminal behind and its count alone it is known what they are.
 pub(crate) fn put_chunk_at<T: Plays, F: Finder<T>, W: Write>(
     alloc: Global,
     recording: &Recording,
@@ -29,11 +32,11 @@ pub(crate) fn put_chunk_at<T: Plays, F: Finder<T>, W: Write>(
     steps: &mut Steps,
     behind: &mut T,
     writer: &mut Watched<W>,
-) -> Result<(), OutOfMemory>
+) -> Result<bool, OutOfMemory>
     requires { index < length recording.now.chunks }
     ensures gave { (profile : T.Profile)
         → AreFound T.shows F.screens profile recording.now.chunks index text.now ahead.old ends.old behind.old steps.old
-        → OnOk result (Gave W.contents writer.old writer.new
+        → IfOk result (λ done. done ≡ true → Gave W.contents writer.old writer.new
         (chunk_lines_at text.now F.screens profile recording.now index)) }
     ensures front { (profile : T.Profile)
         → AreFound T.shows F.screens profile recording.now.chunks index text.now ahead.old ends.old behind.old steps.old
@@ -41,23 +44,76 @@ pub(crate) fn put_chunk_at<T: Plays, F: Finder<T>, W: Write>(
         (chunk_lines_at text.now F.screens profile recording.now index)) }
     ensures found { (profile : T.Profile)
         → AreFound T.shows F.screens profile recording.now.chunks index text.now ahead.old ends.old behind.old steps.old
-        → OnOk result (AreFound T.shows F.screens profile recording.now.chunks (index + 1) text.now
+        → IfOk result (λ done. done ≡ true → AreFound T.shows F.screens profile recording.now.chunks (index + 1) text.now
         ahead.new ends.new behind.new steps.new) }
+    ensures unwritten { IfOk result (λ done. done ≡ false → writer.new ≡ writer.old) }
+    ensures late { (profile : T.Profile)
+        → AreFound T.shows F.screens profile recording.now.chunks index text.now ahead.old ends.old behind.old steps.old
+        → IfOk result (λ done. done ≡ false
+        → IsLate T.shows profile recording.now.chunks index behind.new steps.new) }
 {
     first_grows_by_a_chunk();
-    gives_join::<W>();
     let bytes = recording.chunks()[index].bytes.as_slice();
-    let moment = Moment {
-        index,
-        due: recording.due_time(index),
-        len: text.len(),
+    let Ok(calm) = play_ahead::<T, F>(alloc, text, bytes, ends, steps, ahead) else {
+        return Ok(false);
     };
-    if play_ahead::<T, F>(alloc, text, bytes, ends, steps, ahead)? {
-        put_ends(alloc, moment, ends, writer)?;
-        settle(ends)?;
-        return Ok(());
+    if calm {
+        put_ends(alloc, moment_of(recording, index, text), ends, writer)?;
+        end_chunk::<T, F>(
+            alloc,
+            recording,
+            index + 1,
+            text,
+            ends,
+            ahead,
+            steps,
+            behind,
+        )?;
+        return Ok(true);
     }
-    reach(alloc, recording, index, ends, behind, steps)?;
+    if !reach(alloc, recording, index, ends, behind, steps)? {
+        return Ok(false);
+    }
+    put_chunk_behind::<T, F, W>(alloc, recording, index, text, ends, steps, behind, writer)?;
+    Ok(true)
+}
+
+/// Plays a chunk in pieces on a terminal that has had those before it, and writes its lines, by what stands at its ends.
+pub(crate) fn put_chunk_behind<T: Plays, F: Finder<T>, W: Write>(
+    alloc: Global,
+    recording: &Recording,
+    index: usize,
+    text: &[char],
+    ends: &mut Sides,
+    steps: &mut Steps,
+    behind: &mut T,
+    writer: &mut Watched<W>,
+) -> Result<(), OutOfMemory>
+    requires { index < length recording.now.chunks }
+    ensures gave { (profile : T.Profile)
+        → IsReached T.shows F.screens profile recording.now.chunks index text.now behind.old steps.old
+        → AreBetween text.now (F.screens profile (bytes_of_first recording.now.chunks index))
+        (F.screens profile (bytes_of_first recording.now.chunks (index + 1))) ends.old
+        → OnOk result (Gave W.contents writer.old writer.new
+        (chunk_lines_at text.now F.screens profile recording.now index)) }
+    ensures front { (profile : T.Profile)
+        → IsReached T.shows F.screens profile recording.now.chunks index text.now behind.old steps.old
+        → AreBetween text.now (F.screens profile (bytes_of_first recording.now.chunks index))
+        (F.screens profile (bytes_of_first recording.now.chunks (index + 1))) ends.old
+        → OnErr result (Began W.contents writer.old writer.new
+        (chunk_lines_at text.now F.screens profile recording.now index)) }
+    ensures reached { (profile : T.Profile)
+        → IsReached T.shows F.screens profile recording.now.chunks index text.now behind.old steps.old
+        → OnOk result (IsReached T.shows F.screens profile recording.now.chunks (index + 1) text.now
+        behind.new steps.new) }
+    ensures still { (profile : T.Profile)
+        → AreBetween text.now (F.screens profile (bytes_of_first recording.now.chunks index))
+        (F.screens profile (bytes_of_first recording.now.chunks (index + 1))) ends.old
+        → OnOk result (AreStill text.now (F.screens profile (bytes_of_first recording.now.chunks (index + 1))) ends.new) }
+{
+    first_grows_by_a_chunk();
+    let moment = moment_of(recording, index, text);
+    let bytes = recording.chunks()[index].bytes.as_slice();
     put_chunk::<T, F, W>(
         alloc,
         text,
@@ -71,4 +127,18 @@ pub(crate) fn put_chunk_at<T: Plays, F: Finder<T>, W: Write>(
     steps.count = index + 1;
     settle(ends)?;
     Ok(())
+}
+
+/// A chunk's place, when it is due, and how long the text is.
+fn moment_of(recording: &Recording, index: usize, text: &[char]) -> Moment
+    requires { index < length recording.now.chunks }
+    ensures index { result.index ≡ index }
+    ensures due { result.due ≡ due_time recording.now.chunks index }
+    ensures len { result.len ≡ length text.now }
+{
+    Moment {
+        index,
+        due: recording.due_time(index),
+        len: text.len(),
+    }
 }

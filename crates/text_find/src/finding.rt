@@ -9,6 +9,7 @@ ghost use Rattle.chunk_walk.specs.Stops.{OnlySeeks, StopsPrint, first_asked};
 ghost use Rattle.text_find.specs.FindLines.{NowhereOn, has_ink, lines_found};
 ghost use Rattle.text_find.specs.Lines.{AreFound, Began, chunk_lines_at};
 
+use crate::again::put_chunk_again;
 use crate::behind::{Steps, steps_of};
 use crate::chunk::put_chunk_at;
 use crate::finder::Finder;
@@ -52,7 +53,7 @@ pub fn find<T: Plays, F: Finder<T>, W: Write>(
     nowhere_means_nowhere::<T, F>();
     let start = start_of(session, from);
     let mut behind = terminal_at::<T, F>(alloc, session, start)?;
-    let mut ahead = F::copy(alloc, &behind)?;
+    let ahead = F::copy(alloc, &behind)?;
     put_all::<T, F, W>(
         alloc,
         session.recording(),
@@ -61,7 +62,7 @@ pub fn find<T: Plays, F: Finder<T>, W: Write>(
         start,
         text,
         &mut behind,
-        &mut ahead,
+        ahead,
         writer,
     )
 }
@@ -101,19 +102,19 @@ fn put_all<T: Plays, F: Finder<T>, W: Write>(
     start: usize,
     text: &[char],
     behind: &mut T,
-    ahead: &mut T,
+    ahead: T,
     writer: &mut Watched<W>,
 ) -> Result<(), WalkFault>
     requires start { start ≡ first_asked recording.now.chunks from }
     requires within { start ≤ length recording.now.chunks }
     requires sound { has_failed writer.old ≡ false }
     ensures ok { (profile : T.Profile) → T.shows profile behind.old (bytes_of_first recording.now.chunks start)
-        → T.shows profile ahead.old (bytes_of_first recording.now.chunks start)
+        → T.shows profile ahead (bytes_of_first recording.now.chunks start)
         → OnOk result (Took W.contents writer.old writer.new
         (lines_found F.screens profile recording.now from to text.now)) }
     ensures flushed { OnOk result (is_flushed writer.new ≡ true) }
     ensures fault { (profile : T.Profile) → T.shows profile behind.old (bytes_of_first recording.now.chunks start)
-        → T.shows profile ahead.old (bytes_of_first recording.now.chunks start)
+        → T.shows profile ahead (bytes_of_first recording.now.chunks start)
         → IfErr result (StopsPrint W.contents writer.old writer.new
         (lines_found F.screens profile recording.now from to text.now)) }
 {
@@ -141,24 +142,24 @@ fn put_lines<T: Plays, F: Finder<T>, W: Write>(
     start: usize,
     text: &[char],
     behind: &mut T,
-    ahead: &mut T,
+    ahead: T,
     writer: &mut Watched<W>,
 ) -> Result<(), OutOfMemory>
     requires start { start ≡ first_asked recording.now.chunks from }
     requires within { start ≤ length recording.now.chunks }
     ensures gave { (profile : T.Profile) → T.shows profile behind.old (bytes_of_first recording.now.chunks start)
-        → T.shows profile ahead.old (bytes_of_first recording.now.chunks start)
+        → T.shows profile ahead (bytes_of_first recording.now.chunks start)
         → OnOk result (Gave W.contents writer.old writer.new
         (lines_found F.screens profile recording.now from to text.now)) }
     ensures front { (profile : T.Profile) → T.shows profile behind.old (bytes_of_first recording.now.chunks start)
-        → T.shows profile ahead.old (bytes_of_first recording.now.chunks start)
+        → T.shows profile ahead (bytes_of_first recording.now.chunks start)
         → OnErr result (Began W.contents writer.old writer.new
         (lines_found F.screens profile recording.now from to text.now)) }
 {
     due_is_below_the_count();
     gives_join::<W>();
     let end = recording.due_count(to).max(start);
-    let mut ends = sides_of::<T, F>(alloc, ahead, text)?;
+    let mut ends = sides_of::<T, F>(alloc, &ahead, text)?;
     let mut steps = steps_of::<T, F>(alloc, behind, start, text)?;
     put_from(alloc, from, start, text.len(), &ends.before, writer)?;
     put_between::<T, F, W>(
@@ -168,7 +169,8 @@ fn put_lines<T: Plays, F: Finder<T>, W: Write>(
 }
 
 /// Plays the chunks from one place up to and without another, and writes their lines, as long as the writer
-/// doesn't fail.
+/// doesn't fail. Where memory is refused before the lines of a chunk, all is given back that is held to play ahead, and the
+/// chunk is begun again.
 fn put_between<T: Plays, F: Finder<T>, W: Write>(
     alloc: Global,
     recording: &Recording,
@@ -176,7 +178,7 @@ fn put_between<T: Plays, F: Finder<T>, W: Write>(
     end: usize,
     text: &[char],
     ends: &mut Sides,
-    ahead: &mut T,
+    mut ahead: T,
     steps: &mut Steps,
     behind: &mut T,
     writer: &mut Watched<W>,
@@ -184,12 +186,12 @@ fn put_between<T: Plays, F: Finder<T>, W: Write>(
     requires rising { start ≤ end }
     requires within { end ≤ length recording.now.chunks }
     ensures gave { (profile : T.Profile)
-        → AreFound T.shows F.screens profile recording.now.chunks start text.now ahead.old ends.old behind.old steps.old
+        → AreFound T.shows F.screens profile recording.now.chunks start text.now ahead ends.old behind.old steps.old
         → OnOk result (Gave W.contents writer.old writer.new
         (flat_map (chunk_lines_at text.now F.screens profile recording.now)
         (range_with_len start (end - start)))) }
     ensures front { (profile : T.Profile)
-        → AreFound T.shows F.screens profile recording.now.chunks start text.now ahead.old ends.old behind.old steps.old
+        → AreFound T.shows F.screens profile recording.now.chunks start text.now ahead ends.old behind.old steps.old
         → OnErr result (Began W.contents writer.old writer.new
         (flat_map (chunk_lines_at text.now F.screens profile recording.now)
         (range_with_len start (end - start)))) }
@@ -197,9 +199,15 @@ fn put_between<T: Plays, F: Finder<T>, W: Write>(
     gives_join::<W>();
     gives_end::<W>();
     for index in start..end {
-        put_chunk_at::<T, F, W>(
-            alloc, recording, index, text, ends, ahead, steps, behind, writer,
+        let done = put_chunk_at::<T, F, W>(
+            alloc, recording, index, text, ends, &mut ahead, steps, behind, writer,
         )?;
+        if !done {
+            drop(ahead);
+            ahead = put_chunk_again::<T, F, W>(
+                alloc, recording, index, text, ends, steps, behind, writer,
+            )?;
+        }
         if writer.failed() {
             return Ok(());
         }

@@ -2,6 +2,7 @@
 //! rows of characters.
 #![tactic(auto)]
 
+mod again;
 mod ahead;
 mod behind;
 mod chunk;
@@ -11,6 +12,7 @@ mod finding;
 mod foretold;
 pub mod laws;
 mod lines;
+mod room;
 mod sides;
 
 pub use finder::Finder;

@@ -104,7 +104,8 @@ pub(crate) fn put_less<W: Write>(
         one.now.rows.items one.now.places.items other.now.rows.items other.now.places.items)) }
 {
     gives_join::<W>();
-    if keeps_all(one, other) {
+    let none_went = keeps_all(one, other);
+    if none_went {
         return Ok(());
     }
     for at in 0..one.places.len() {

@@ -1,6 +1,6 @@
 //! What stands on a screen before some bytes and after them.
 
-ghost use Rattle.std.specs.Prelude.{◌≡◌, List, ℕ, IfOk, OnOk};
+ghost use Rattle.std.specs.Prelude.{◌≡◌, [], List, ℕ, IfOk, OnOk};
 ghost use Rattle.standings.specs.Rows.{Row};
 ghost use Rattle.standings.specs.Spans.{Stays};
 ghost use Rattle.text_find.specs.Lines.{AreBetween, AreStill, IsStill};
@@ -17,6 +17,28 @@ pub(crate) struct Sides {
     pub(crate) before: Standing,
     pub(crate) after: Standing,
     pub(crate) lag: Lag,
+}
+
+/// Sides of no rows. They take no memory.
+pub(crate) fn no_sides(alloc: Global) -> Sides
+    ensures before { result.before.rows.items ≡ [] }
+    ensures after { result.after.rows.items ≡ [] }
+{
+    Sides {
+        before: no_rows(alloc),
+        after: no_rows(alloc),
+        lag: Lag::none(),
+    }
+}
+
+/// A screen of no rows.
+fn no_rows(alloc: Global) -> Standing
+    ensures { result.rows.items ≡ [] }
+{
+    Standing {
+        rows: Vec::new(alloc),
+        places: Vec::new(alloc),
+    }
 }
 
 /// What stands on the screen of a terminal.

@@ -26,7 +26,7 @@ returns-in_err-put_from-clause-front g c = λ profile h h'.
     let still = c.in_ok-ends.ends.before in
     let are = c.in_ok-ends.ensures profile (first tape.chunks c.args.start) h' in
     let is = are.before in
-    let found = found_both g.T.Plays.shows g.F.Finder.screens profile tape.chunks text c.args.start c.args.ahead.now c.in_ok-ends.ends c.args.behind.now c.in_ok-steps.steps h' are h
+    let found = found_both g.T.Plays.shows g.F.Finder.screens profile tape.chunks text c.args.start c.args.ahead c.in_ok-ends.ends c.args.behind.now c.in_ok-steps.steps h' are h
     (c.in_ok-steps.ensures.sides profile (first tape.chunks c.args.start) h) c.in_ok-steps.ensures.none c.in_ok-steps.ensures.count in
     let high = c.max-end.ensures ∙ ap (λ n. max n c.args.start) c.due_count.ensures.count in
     let all = lines_in_two g.F.Finder.screens c.due_is_below_the_count.ensures profile tape c.args.from c.args.to text c.args.start c.max-end.result still.rows.items still.places.items
@@ -42,7 +42,7 @@ returns-in_err-put_between-clause-front g c = λ profile h h'.
     let still = c.in_ok-ends.ends.before in
     let are = c.in_ok-ends.ensures profile (first tape.chunks c.args.start) h' in
     let is = are.before in
-    let found = found_both g.T.Plays.shows g.F.Finder.screens profile tape.chunks text c.args.start c.args.ahead.now c.in_ok-ends.ends c.args.behind.now c.in_ok-steps.steps h' are h
+    let found = found_both g.T.Plays.shows g.F.Finder.screens profile tape.chunks text c.args.start c.args.ahead c.in_ok-ends.ends c.args.behind.now c.in_ok-steps.steps h' are h
     (c.in_ok-steps.ensures.sides profile (first tape.chunks c.args.start) h) c.in_ok-steps.ensures.none c.in_ok-steps.ensures.count in
     let high = c.max-end.ensures ∙ ap (λ n. max n c.args.start) c.due_count.ensures.count in
     let all = lines_in_two g.F.Finder.screens c.due_is_below_the_count.ensures profile tape c.args.from c.args.to text c.args.start c.max-end.result still.rows.items still.places.items
@@ -57,7 +57,7 @@ returns-clause-gave g c = λ profile h h'.
     let still = c.in_ok-ends.ends.before in
     let are = c.in_ok-ends.ensures profile (first tape.chunks c.args.start) h' in
     let is = are.before in
-    let found = found_both g.T.Plays.shows g.F.Finder.screens profile tape.chunks text c.args.start c.args.ahead.now c.in_ok-ends.ends c.args.behind.now c.in_ok-steps.steps h' are h
+    let found = found_both g.T.Plays.shows g.F.Finder.screens profile tape.chunks text c.args.start c.args.ahead c.in_ok-ends.ends c.args.behind.now c.in_ok-steps.steps h' are h
     (c.in_ok-steps.ensures.sides profile (first tape.chunks c.args.start) h) c.in_ok-steps.ensures.none c.in_ok-steps.ensures.count in
     let high = c.max-end.ensures ∙ ap (λ n. max n c.args.start) c.due_count.ensures.count in
     let all = lines_in_two g.F.Finder.screens c.due_is_below_the_count.ensures profile tape c.args.from c.args.to text c.args.start c.max-end.result still.rows.items still.places.items

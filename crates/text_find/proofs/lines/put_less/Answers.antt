@@ -6,13 +6,13 @@ use Rattle.text_find.proofs.BeganLemmas.{began_at, began_stays, first_more}
 use Rattle.text_find.proofs.LineLemmas.{none_less}
 use Rattle.text_find.proofs.lines.put_less.Goals as goal
 
-pub returns-then-keeps_all-clause-gave : goal.returns-then-keeps_all-clause-gave
-returns-then-keeps_all-clause-gave g c =
+pub returns-then-none_went-clause-gave : goal.returns-then-none_went-clause-gave
+returns-then-none_went-clause-gave g c =
     let one = c.args.one.now in
     let other = c.args.other.now in
     let m = c.args.moment in
     subst (λ t. Gave g.W.Write.contents c.args.writer.now c.args.writer.now t)
-    (sym (none_less c.args.sign m.index m.due m.len one.rows.items one.places.items other.rows.items other.places.items (c.keeps_all.ensures c.if-keeps_all.true)))
+    (sym (none_less c.args.sign m.index m.due m.len one.rows.items one.places.items other.rows.items other.places.items (c.keeps_all-none_went.ensures c.if-none_went.true)))
     (c.gives_join.ensures.nothing c.args.writer.now)
 
 pub returns-in_err-put_if_less-clause-front : goal.returns-in_err-put_if_less-clause-front
