@@ -11,7 +11,7 @@ use Rattle.xterm_term.proofs.Steps.{plays_in_parts, sends_in_parts}
 pub play_on : (x : Term) (bytes : List ℕ) (at n : ℕ) → play x (take (at + n) bytes) ≡ play (play x (take at bytes)) (take n (drop at bytes))
 play_on x bytes at n = ap (play x) (take-add at n bytes) ∙ plays_in_parts x (take at bytes) (take n (drop at bytes))
 
-sent_on : (x : Term) (bytes : List ℕ) (at n : ℕ)
+pub sent_on : (x : Term) (bytes : List ℕ) (at n : ℕ)
     → sent x (take (at + n) bytes) ≡ sent x (take at bytes) ++ sent (play x (take at bytes)) (take n (drop at bytes))
 sent_on x bytes at n = ap (sent x) (take-add at n bytes) ∙ sends_in_parts x (take at bytes) (take n (drop at bytes))
 

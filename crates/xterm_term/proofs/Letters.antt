@@ -24,7 +24,7 @@ use Rattle.xterm_term.proofs.Steps.{plays_in_parts, sends_in_parts}
 pub all_in_more : (p : ℕ → Bool) (xs : List ℕ) (x : ℕ) → list_all p xs ≡ true → p x ≡ true → list_all p (xs ++ x ∷ []) ≡ true
 all_in_more p xs x all is = list_all-append p xs (x ∷ []) ∙ simp (all, is) refl
 
-all_put_on : (first second : List ℕ) (s : Console) → all_put (first ++ second) s ≡ all_put second (all_put first s)
+pub all_put_on : (first second : List ℕ) (s : Console) → all_put (first ++ second) s ≡ all_put second (all_put first s)
 all_put_on first second s = fold-append (λ (t : Console) (character : ℕ). put character t) s first second
 
 -- the characters of bytes, and then those of as many of the rest of them
@@ -59,23 +59,31 @@ front_put letters n last s picture narrow some within is shown =
 
 -- ---- characters of several bytes
 
-spelled_behind : (bytes more : List ℕ) (characters : List ℕ) (character : ℕ) → SpellsEach bytes characters → Spells more character
-    → SpellsEach (bytes ++ more) (characters ++ character ∷ [])
-spelled_behind bytes more [] character none spells =
-    (more, [], ap (λ (l : List ℕ). l ++ more) none ∙ sym (append-nil more), spells, refl)
-spelled_behind bytes more (first ∷ characters) character spelled spells = (
+pub spelled_alone : (bytes : List ℕ) (character : ℕ) → Spells bytes character → SpellsEach bytes (character ∷ [])
+spelled_alone bytes character spells = (bytes, [], sym (append-nil bytes), spells, refl)
+
+both_spelled : (bytes more : List ℕ) (characters others : List ℕ) → SpellsEach bytes characters → SpellsEach more others
+    → SpellsEach (bytes ++ more) (characters ++ others)
+both_spelled bytes more [] others none spelled = subst (λ (l : List ℕ). SpellsEach (l ++ more) others) (sym none) spelled
+both_spelled bytes more (first ∷ characters) others spelled behind = (
   spelled.0,
   spelled.1 ++ more,
   ap (λ (l : List ℕ). l ++ more) spelled.2 ∙ append_assoc spelled.0 spelled.1 more,
   spelled.3,
-  spelled_behind spelled.1 more characters character spelled.4 spells,
+  both_spelled spelled.1 more characters others spelled.4 behind,
 )
+
+-- the first bytes, and as many of the rest of them
+pub spelled_in_parts : (bytes : List ℕ) (at n : ℕ) (characters others : List ℕ) → SpellsEach (take at bytes) characters
+    → SpellsEach (take n (drop at bytes)) others → SpellsEach (take (at + n) bytes) (characters ++ others)
+spelled_in_parts bytes at n characters others spelled behind =
+    subst (λ (l : List ℕ). SpellsEach l (characters ++ others)) (sym (take-add at n bytes))
+    (both_spelled (take at bytes) (take n (drop at bytes)) characters others spelled behind)
 
 pub spelled_on : (bytes : List ℕ) (at n : ℕ) (characters : List ℕ) (character : ℕ) → SpellsEach (take at bytes) characters
     → Spells (take n (drop at bytes)) character → SpellsEach (take (at + n) bytes) (characters ++ character ∷ [])
 spelled_on bytes at n characters character spelled spells =
-    subst (λ (l : List ℕ). SpellsEach l (characters ++ character ∷ [])) (sym (take-add at n bytes))
-    (spelled_behind (take at bytes) (take n (drop at bytes)) characters character spelled spells)
+    spelled_in_parts bytes at n characters (character ∷ []) spelled (spelled_alone (take n (drop at bytes)) character spells)
 
 brings_nothing : (s : Console) → Brings s s []
 unfolding play sent

@@ -14,6 +14,7 @@ pub mod Ran
 pub mod Taken
 pub mod Idle
 pub mod Letters
+pub mod Found
 pub mod Sizes
 pub mod Rowless
 pub mod Ahead

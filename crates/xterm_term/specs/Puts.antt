@@ -17,6 +17,10 @@ shown_with wide character s = record s {
 abbrev pub is_c1 : ℕ → Bool
 is_c1 character = nat_le 0x80 character && nat_le character 0x9F
 
+-- Private: the columns of a character that is put; none where it puts nothing
+abbrev pub columns_of : ℕ → Option ℕ
+columns_of character = if is_c1 character then None else Some (width character)
+
 -- by its width
 abbrev pub put_by_width : ℕ → ℕ → Console → Console
 put_by_width zero character s = on_picture (mark_joined character) s

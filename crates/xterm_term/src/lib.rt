@@ -21,6 +21,7 @@ mod replies;
 mod saved;
 mod sequences;
 mod sets;
+mod spelled;
 mod terminal;
 
 pub use measure::Size;

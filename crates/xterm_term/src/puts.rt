@@ -1,9 +1,9 @@
 //! Characters that are put.
-ghost use Rattle.std.specs.Prelude.{◌≡◌, ◌<◌, ◌≤◌, length, map, take, true};
+ghost use Rattle.std.specs.Prelude.{◌≡◌, ◌<◌, ◌≤◌, [], length, map, take, true};
 ghost use Rattle.std.specs.List.{list_all};
 ghost use Rattle.xterm_term.specs.Ahead.{is_narrow};
 ghost use Rattle.xterm_term.specs.Console.{console_of};
-ghost use Rattle.xterm_term.specs.Puts.{put, put_by_width, all_put, shown_with, character_for, put_times, last_repeated};
+ghost use Rattle.xterm_term.specs.Puts.{put, put_by_width, columns_of, all_put, shown_with, character_for, put_times, last_repeated};
 ghost use Rattle.xterm_term.specs.Sets.{character_of, set_in_use};
 ghost use Rattle.vt_parser.specs.Syntax.{is_graphic};
 ghost use Rattle.xterm_screen.specs.Picture.{KeepsTold};
@@ -34,6 +34,20 @@ impl Console {
         }
     }
 
+    /// Puts a character of so many columns.
+    #[inline(always)]
+    pub(crate) fn put_known(&mut self, columns: Option<u8>, character: char)
+        requires { columns ≡ columns_of character }
+        ensures done { console_of self.new ≡ put character (console_of self.old) }
+        ensures told { KeepsTold self.old.screen self.new.screen }
+    {
+        match columns {
+            Some(width) => self.put_by_width(width, character),
+            None => self.last = None,
+        }
+    }
+
+    #[inline(always)]
     fn put_by_width(&mut self, width: u8, character: char)
         ensures done { console_of self.new ≡ put_by_width width character (console_of self.old) }
         ensures told { KeepsTold self.old.screen self.new.screen }
@@ -47,7 +61,7 @@ impl Console {
     }
 
     // Shows a character of one or two columns.
-    fn show(&mut self, wide: bool, character: char)
+    pub(crate) fn show(&mut self, wide: bool, character: char)
         ensures done { console_of self.new ≡ shown_with wide character (console_of self.old) }
         ensures told { KeepsTold self.old.screen self.new.screen }
     {
@@ -119,17 +133,16 @@ impl Console {
             ≡ all_put (map (character_of set) bytes.now) (console_of self.old) }
         ensures told { KeepsTold self.old.screen self.new.screen }
     {
-        let mut letters = Letters::new();
         let mut rest = bytes;
         while !rest.is_empty() {
-            let taken = self.put_some(set, rest, &mut letters);
+            let taken = self.put_some(set, rest);
             rest = &rest[taken..];
         }
     }
 
-    // Puts the characters of some of the bytes, at least one, and says of how many: as many as are of one column go at once.
-    // The list is room for them.
-    fn put_some(&mut self, set: CharacterSet, bytes: &[u8], letters: &mut Letters) -> usize
+    // Puts the characters of some of the bytes, at least one, and says of how many. As many as are of one column go at once,
+    // but one alone, or one that is inserted.
+    fn put_some(&mut self, set: CharacterSet, bytes: &[u8]) -> usize
         requires some { 0 < length bytes.now }
         requires graphic { list_all is_graphic bytes.now ≡ true }
         ensures some { 0 < result }
@@ -138,13 +151,16 @@ impl Console {
             ≡ all_put (map (character_of set) (take result bytes.now)) (console_of self.old) }
         ensures told { KeepsTold self.old.screen self.new.screen }
     {
-        spell(set, bytes, letters);
-        if letters.is_empty() {
-            self.put(set.character(bytes[0]));
-            return 1;
+        if bytes.len() > 1 && !self.modes.insert {
+            let mut letters = Letters::new();
+            spell(set, bytes, &mut letters);
+            if !letters.is_empty() {
+                self.put_letters(letters.as_slice());
+                return letters.len();
+            }
         }
-        self.put_letters(letters.as_slice());
-        letters.len()
+        self.put(set.character(bytes[0]));
+        1
     }
 
     /// Puts characters of one column, one after another.
@@ -193,21 +209,33 @@ impl Console {
         ensures done { console_of self.new ≡ put_times n character (console_of self.old) }
         ensures told { KeepsTold self.old.screen self.new.screen }
     {
+        let columns = columns_of(character);
         for step in 0..n {
-            self.put(character);
+            self.put_known(columns, character);
         }
+    }
+}
+
+/// The columns of a character that is put; none where it puts nothing.
+#[inline(always)]
+pub(crate) fn columns_of(character: char) -> Option<u8>
+    ensures { result ≡ columns_of character }
+{
+    match character {
+        '\u{80}'..='\u{9F}' => None,
+        _ => Some(width(character)),
     }
 }
 
 // Writes down the characters of these bytes, as many of the first ones as are of one column and have room.
 fn spell(set: CharacterSet, bytes: &[u8], letters: &mut Letters)
-    requires { list_all is_graphic bytes.now ≡ true }
+    requires graphic { list_all is_graphic bytes.now ≡ true }
+    requires none { letters.old.items ≡ [] }
     ensures within { length letters.new.items ≤ length bytes.now }
     ensures spelled { letters.new.items
         ≡ map (character_of set) (take (length letters.new.items) bytes.now) }
     ensures narrow { list_all is_narrow letters.new.items ≡ true }
 {
-    letters.clear();
     for &byte in bytes {
         let character = set.character(byte);
         if letters.is_full() || !is_narrow(character) {

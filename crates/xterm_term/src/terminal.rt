@@ -1,10 +1,9 @@
 //! The terminal: a decoder and a parser before a console.
-ghost use Rattle.std.specs.Prelude.{◌≡◌, ◌≤◌, ◌<◌, [], ◌∷◌, length, take, true, false, IsOk, IfOk, OnOk, OnErr, IfSome};
+ghost use Rattle.std.specs.Prelude.{◌≡◌, ◌≤◌, ◌<◌, [], ◌∷◌, length, take, true, false, IsOk, IfOk, OnOk, OnErr};
 ghost use Rattle.std.specs.List.{list_all};
 ghost use Rattle.vt_parser.specs.Syntax.{is_graphic, is_within};
-ghost use Rattle.characters.specs.Utf8.{Spells, bytes_of};
-ghost use Rattle.xterm_term.specs.Ahead.{is_narrow};
-ghost use Rattle.xterm_term.specs.Reading.{GoesOn, SpellsEach};
+ghost use Rattle.characters.specs.Utf8.{bytes_of};
+ghost use Rattle.xterm_term.specs.Reading.{GoesOn};
 
 mod ahead;
 mod erases;
@@ -14,10 +13,9 @@ mod styling;
 
 use crate::below::laws_below;
 use crate::console::Console;
-use crate::puts::Letters;
 use crate::reading::{ESC, is_effective, is_graphic, is_ground_state, is_open, read_byte};
 use crate::{Modes, OutOfMemory, Reports, Saved, Sets, Size};
-use characters::{Begun, Decoder, begins, character_at};
+use characters::{Begun, Decoder, character_at};
 pub use moving::MovedLines;
 pub use packed::PackedTerminal;
 use sheet::Rendition;
@@ -244,25 +242,36 @@ impl Terminal {
         ensures size { SameSize self.old.console self.new.console }
         ensures told { KeepsTold self.old self.new }
     {
-        if is_graphic(bytes[0]) {
-            let run = printable_run(bytes);
-            self.take_run(&bytes[..run]);
-            return run;
-        }
-        if is_effective(bytes[0]) {
+        // Most bytes are graphic, so that is asked first.
+        if !is_graphic(bytes[0]) && is_effective(bytes[0]) {
             self.take_control(bytes[0]);
             return 1;
         }
-        match character_at(bytes) {
-            Some((character, len)) => {
-                if len < bytes.len() && begins(bytes[len]) && is_narrow(character) {
-                    return self.take_letters(bytes);
-                }
-                self.take_character(character, &bytes[..len]);
-                len
-            }
-            None => 0,
+        self.take_text(bytes)
+    }
+
+    // Takes characters: those of several bytes that come first, and a run of graphic ones behind them.
+    #[inline]
+    fn take_text(&mut self, bytes: &[u8]) -> usize
+        requires some { 0 < length bytes.now }
+        requires title { self.old.console.title ≡ false }
+        requires state { self.old.state ≡ ParserState.Ground }
+        requires character { self.old.character ≡ [] }
+        ensures within { result ≤ length bytes.now }
+        ensures shows { (x : Term) → Shows self.old x
+            → Shows self.new (play x (take result bytes.now)) }
+        ensures silent { (x : Term) → Shows self.old x → sent x (take result bytes.now) ≡ [] }
+        ensures size { SameSize self.old.console self.new.console }
+        ensures told { KeepsTold self.old self.new }
+    {
+        let taken = self.take_characters(bytes);
+        let rest = &bytes[taken..];
+        if rest.is_empty() || !is_graphic(rest[0]) {
+            return taken;
         }
+        let run = printable_run(rest);
+        self.take_run(&rest[..run]);
+        taken + run
     }
 
     // Puts the characters of a run.
@@ -298,26 +307,11 @@ impl Terminal {
         self.console.forget_if(true);
     }
 
-    // Puts the character that these bytes are.
+    // Puts characters of several bytes that come first, and says how many bytes they are: none where another byte comes, or
+    // one that isn't whole. Nothing is pending then.
     #[inline]
-    fn take_character(&mut self, character: char, bytes: &[u8])
-        requires spelled { Spells bytes.now character }
-        requires title { self.old.console.title ≡ false }
-        requires state { self.old.state ≡ ParserState.Ground }
-        requires character { self.old.character ≡ [] }
-        ensures shows { (x : Term) → Shows self.old x → Shows self.new (play x bytes.now) }
-        ensures silent { (x : Term) → Shows self.old x → sent x bytes.now ≡ [] }
-        ensures size { SameSize self.old.console self.new.console }
-        ensures told { KeepsTold self.old self.new }
-    {
-        laws_below();
-        let _bytes = bytes;
-        self.console.put(character);
-    }
-
-    // Puts the characters of one column that the first of the bytes are, each of several bytes, and says how many bytes these
-    // are.
-    fn take_letters(&mut self, bytes: &[u8]) -> usize
+    fn take_characters(&mut self, bytes: &[u8]) -> usize
+        requires some { 0 < length bytes.now }
         requires title { self.old.console.title ≡ false }
         requires state { self.old.state ≡ ParserState.Ground }
         requires character { self.old.character ≡ [] }
@@ -327,12 +321,18 @@ impl Terminal {
         ensures silent { (x : Term) → Shows self.old x → sent x (take result bytes.now) ≡ [] }
         ensures size { SameSize self.old.console self.new.console }
         ensures told { KeepsTold self.old self.new }
+        ensures title { self.new.console.title ≡ false }
+        ensures state { self.new.state ≡ ParserState.Ground }
+        ensures character { self.new.character ≡ [] }
     {
         laws_below();
-        let mut letters = Letters::new();
-        let taken = gather(bytes, &mut letters);
-        self.console.put_letters(letters.as_slice());
-        taken
+        if is_graphic(bytes[0]) {
+            return 0;
+        }
+        match character_at(bytes) {
+            Some((first, len)) => len + self.console.put_spelled(first, &bytes[len..]),
+            None => 0,
+        }
     }
 
     // How many bytes begin a sequence or go on one at once: ESC and the graphic characters behind it, or those of the text
@@ -488,41 +488,5 @@ impl Terminal {
         ensures { result ≡ self.now.console.alternate_saved }
     {
         self.console.alternate_saved
-    }
-}
-
-// Writes down the characters of one column that the first of the bytes are, each of several bytes, as many as have room, and
-// says how many bytes these are.
-fn gather(bytes: &[u8], letters: &mut Letters) -> usize
-    requires { letters.old.items ≡ [] }
-    ensures within { result ≤ length bytes.now }
-    ensures narrow { list_all is_narrow letters.new.items ≡ true }
-    ensures spelled { SpellsEach (take result bytes.now) letters.new.items }
-{
-    let mut taken = 0;
-    while !letters.is_full() {
-        match narrow_at(&bytes[taken..]) {
-            Some((letter, len)) => {
-                letters.push(letter);
-                taken += len;
-            }
-            None => return taken,
-        }
-    }
-    taken
-}
-
-// The character of one column and several bytes that these begin with, and how many it takes.
-#[inline]
-fn narrow_at(bytes: &[u8]) -> Option<(char, usize)>
-    ensures within { IfSome result (λ found. found.1 ≤ length bytes.now) }
-    ensures narrow { IfSome result (λ found. is_narrow found.0 ≡ true) }
-    ensures spelled { IfSome result (λ found. Spells (take found.1 bytes.now) found.0) }
-{
-    let (character, len) = character_at(bytes)?;
-    if is_narrow(character) {
-        Some((character, len))
-    } else {
-        None
     }
 }

@@ -47,6 +47,21 @@ const SETS: &[(&str, &str)] = &[
         "1: ││ at 1 4 G0 SpecialGraphics last │",
     ),
     ("\x1b(A##a#", "1:££a£ at 1 5 G0 Uk last £"),
+    // One alone.
+    ("\x1b(0q", "1:─ at 1 2 G0 SpecialGraphics last ─"),
+    (
+        "\x1b(0q\x1b(Bq\x1b(0x",
+        "1:─q│ at 1 4 G0 SpecialGraphics last │",
+    ),
+    ("\x1b(0q\x1b[2b", "1:─── at 1 4 G0 SpecialGraphics"),
+    (
+        "ab\r\x1b[4h\x1b(0q",
+        "1:─ab at 1 2 IRM G0 SpecialGraphics last ─",
+    ),
+    (
+        "12345678901\x1b(0qx",
+        "1:12345678901─ 2:│ at 2 2 G0 SpecialGraphics last │",
+    ),
     (
         "\x1b[1m\x1b(0qx",
         "1:[B]─│ at 1 3 G0 SpecialGraphics [B] last │",
@@ -90,6 +105,35 @@ const LETTERS: &[(&str, &str)] = &[
     ("日本\x1b[1;2Héà", "1: éà at 1 4 last à"),
     ("\x1b[31;1méà", "1:[Bi1]éà at 1 3 [Bi1] last à"),
     ("\x1bkéà\x07ü", "1:ü at 1 2 last ü"),
+    // One of one column, and another behind it.
+    ("é日\x1b[2b", "1:é日日日 at 1 8"),
+    ("é\u{301}\x1b[2b", "1:é\u{301}éé at 1 4"),
+    ("é\u{85}ü", "1:éü at 1 3 last ü"),
+    ("é\u{85}\x1b[b", "1:é at 1 2"),
+    ("\u{301}é日", "1:é日 at 1 4 last 日"),
+    ("1234567890é日", "1:1234567890é 2:日 at 2 3 last 日"),
+    ("12345678901é日", "1:12345678901é 2:日 at 2 3 last 日"),
+    (
+        "12345678901é\u{301}",
+        "1:12345678901é\u{301} at 1 12 wrap last é",
+    ),
+    (
+        "\x1b[?7l1234567890é日\x1b[b",
+        "1:1234567890é at 1 12 no DECAWM",
+    ),
+    (
+        "\x1b[?7l12345678901é日\x1b[b",
+        "1:12345678901é at 1 12 no DECAWM",
+    ),
+    ("ab\r\x1b[4hé日", "1:é日ab at 1 4 IRM last 日"),
+    ("ab\r\x1b[4hé\u{301}à", "1:é\u{301}àab at 1 3 IRM last à"),
+    // Two of one column, and another behind them.
+    ("éà日\x1b[b", "1:éà日日 at 1 7"),
+    ("123456789éà日", "1:123456789éà 2:日 at 2 3 last 日"),
+    (
+        "1234567890éà\u{301}",
+        "1:1234567890éà\u{301} at 1 12 wrap last à",
+    ),
 ];
 
 #[test]
@@ -191,4 +235,36 @@ fn cut(rt: HostRuntime) -> Result<(), Fail> {
     }
     let text = cycle(rt.alloc(), 130)?;
     assert_same_when_cut(&rt, text.as_bytes())
+}
+
+// How many of one column are put at once, and one more or less, and what stands behind them: a wide character, a mark, one
+// that shows nothing, one of ASCII, one that isn't finished, and one that is broken.
+const COUNTS: [usize; 7] = [1, 2, 3, 63, 64, 65, 66];
+
+const BEHIND: &[&[u8]] = &[
+    b"\xe6\x97\xa5",
+    b"\xcc\x81",
+    b"\xc2\x85",
+    b"a",
+    b"\xd0",
+    b"\xff",
+];
+
+fn assert_same_behind(rt: &(impl Abort + AllocGlobal), count: usize) -> Result<(), Fail> {
+    for behind in BEHIND {
+        let mut bytes = Vec::new(rt.alloc());
+        bytes.extend_from_slice(cycle(rt.alloc(), count)?.as_bytes())?;
+        bytes.extend_from_slice(behind)?;
+        bytes.extend_from_slice("é".as_bytes())?;
+        assert_same_when_cut(rt, bytes.as_slice())?;
+    }
+    Ok(())
+}
+
+#[test]
+fn behind_many(rt: HostRuntime) -> Result<(), Fail> {
+    for count in COUNTS {
+        assert_same_behind(&rt, count)?;
+    }
+    Ok(())
 }
