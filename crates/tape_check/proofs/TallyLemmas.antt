@@ -345,6 +345,11 @@ idle_stays t bytes is graphic = by t.title t.sequence t.character is
     by false (begun ∷ rest) character is = absurd (false≢true is)
     by true sequence character is = absurd (false≢true is)
 
+-- one byte more
+pub more_tallied : (t : Tally) (bytes : List ℕ) (at : ℕ) → at < length bytes
+    → fold tallied t (take (at + 1) bytes) ≡ tallied (fold tallied t (take at bytes)) (get_or bytes at 0)
+more_tallied t bytes at lt = ap (fold tallied t) (take_more bytes at 0 lt) ∙ fold-append tallied t (take at bytes) (get_or bytes at 0 ∷ [])
+
 -- ---- chunks
 
 pub chunk_more : (t : Tally) (chunks : List Chunk) (i : ℕ) (d : Chunk) → i < length chunks

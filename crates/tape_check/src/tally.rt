@@ -61,19 +61,25 @@ fn title_behind(token: &Token, title: bool) -> bool
     }
 }
 
-// How many bytes stand together for the control syntax: the first, and, where it is ESC or a sequence is open, graphic
-// characters behind it.
-#[inline]
+// How many bytes stand together for the control syntax: the first, and, where the text of a control sequence begins or
+// goes on with it, graphic characters behind it.
+#[inline(always)]
 fn syntax_front(open: bool, bytes: &[u8]) -> usize
     requires { 0 < length bytes.now }
     ensures some { 0 < result }
     ensures within { result ≤ length bytes.now }
     ensures graphic { list_all is_graphic (drop 1 (take result bytes.now)) ≡ true }
 {
-    if !open && bytes[0] != ESC {
+    if !open && !begins_control_sequence(bytes) {
         return 1;
     }
     1 + printable_run(&bytes[1..bytes.len().min(MOST_TOGETHER)])
+}
+
+// Whether they begin with ESC `[`.
+#[inline(always)]
+fn begins_control_sequence(bytes: &[u8]) -> bool {
+    bytes.len() > 1 && bytes[0] == ESC && bytes[1] == b'['
 }
 
 /// The unplayed sequences of chunks, and how many parts of them are no UTF-8.
@@ -143,15 +149,37 @@ impl Reader {
         ensures taken { (t : Tally) → IsAt self.old t
             → IfOk result (λ n. IsAt self.new (fold tallied t (take n bytes.now))) }
     {
+        if self.title || self.decoder.is_pending() || bytes[0] >= 128 {
+            return self.take_others(bytes);
+        }
         let plain = self.plain_run(bytes);
         if plain > 0 {
             return Ok(plain);
         }
-        if self.title || self.decoder.is_pending() || bytes[0] >= 128 {
-            self.take_byte(bytes[0])?;
-            return Ok(1);
-        }
         self.read_syntax(&bytes[..syntax_front(self.is_open(), bytes)])
+    }
+
+    // Takes the first of these bytes, and those behind it up to one that the control syntax reads.
+    fn take_others(&mut self, bytes: &[u8]) -> Result<usize, AllocError>
+        requires { 0 < length bytes.now }
+        ensures some { IfOk result (λ n. 0 < n) }
+        ensures within { IfOk result (λ n. n ≤ length bytes.now) }
+        ensures taken { (t : Tally) → IsAt self.old t
+            → IfOk result (λ n. IsAt self.new (fold tallied t (take n bytes.now))) }
+    {
+        self.take_byte(bytes[0])?;
+        let mut at: usize = 1;
+        while at < bytes.len() && self.is_other(bytes[at]) {
+            self.take_byte(bytes[at])?;
+            at += 1;
+        }
+        Ok(at)
+    }
+
+    // Whether a character or a title goes on with a byte, or one from 128 on comes.
+    #[inline(always)]
+    fn is_other(&self, byte: u8) -> bool {
+        self.decoder.is_pending() || self.title || byte >= 128
     }
 
     // How many of these bytes at least count nothing and leave the reader as it is.
@@ -176,6 +204,7 @@ impl Reader {
         !self.title && self.is_on_ground() && !self.decoder.is_pending()
     }
 
+    #[inline(always)]
     fn take_byte(&mut self, byte: u8) -> Result<(), AllocError>
         ensures { (t : Tally) → IsAt self.old t → OnOk result (IsAt self.new (tallied t byte)) }
     {
@@ -186,6 +215,7 @@ impl Reader {
     }
 
     // A byte behind those of a character.
+    #[inline(always)]
     fn go_on(&mut self, byte: u8) -> Result<(), AllocError>
         requires { 0 < length self.old.decoder }
         ensures { (t : Tally) → IsAt self.old t
@@ -212,6 +242,7 @@ impl Reader {
     }
 
     // A byte where no character is pending.
+    #[inline(always)]
     fn read(&mut self, byte: u8) -> Result<(), AllocError>
         requires { self.old.decoder ≡ [] }
         ensures { (t : Tally) → IsAt self.old t → OnOk result (IsAt self.new (read t byte)) }
@@ -223,6 +254,18 @@ impl Reader {
         if self.is_upper(byte) {
             return self.read_upper(byte);
         }
+        self.read_alone(byte)
+    }
+
+    // A byte of the control syntax, by itself: it comes seldom.
+    #[inline(never)]
+    fn read_alone(&mut self, byte: u8) -> Result<(), AllocError>
+        requires title { self.old.title ≡ false }
+        requires character { self.old.decoder ≡ [] }
+        requires syntax { (t : Tally) → IsAt self.old t
+            → (is_ground t.sequence && nat_le 128 byte) ≡ false }
+        ensures { (t : Tally) → IsAt self.old t → OnOk result (IsAt self.new (tallied t byte)) }
+    {
         self.read_syntax(&[byte])?;
         Ok(())
     }
@@ -234,14 +277,12 @@ impl Reader {
         matches!(self.parser.state(), ParserState::Ground)
     }
 
-    // Whether a sequence goes on by graphic characters, and no string is skipped.
+    // Whether the text of a control sequence is read.
+    #[inline(always)]
     fn is_open(&self) -> bool {
         matches!(
             self.parser.state(),
-            ParserState::CsiStart
-                | ParserState::Csi { .. }
-                | ParserState::Escape
-                | ParserState::EscapeOne(_)
+            ParserState::CsiStart | ParserState::Csi { .. }
         )
     }
 
@@ -278,6 +319,8 @@ impl Reader {
     }
 
     // Takes some bytes of the control syntax, and says how many.
+    // Inlined always, so that the loop over bytes has a copy of the parser of its own.
+    #[inline(always)]
     fn read_syntax(&mut self, bytes: &[u8]) -> Result<usize, AllocError>
         requires some { 0 < length bytes.now }
         requires title { self.old.title ≡ false }

@@ -185,6 +185,8 @@ impl Counts {
     }
 
     /// Counts what is unplayed of a token.
+    // Inlined always: most tokens are nothing here, and would else be written to memory for the call.
+    #[inline(always)]
     pub(crate) fn count_token(&mut self, played: PlayedAs, token: &Token) -> Result<(), AllocError>
         ensures { OnOk result
             (entries_of self.new ≡ fold counted (entries_of self.old)

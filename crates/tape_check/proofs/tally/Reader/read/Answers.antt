@@ -3,7 +3,6 @@ use Rattle.std.specs.Prelude.{OnOk}
 use Rattle.tape_check.specs.Tally.{Tally}
 use Rattle.tape_check.specs.Tallying.{IsAt}
 use Rattle.tape_check.proofs.TallyLemmas.{read_titled, read_as_upper, tallied_anew}
-use Rattle.tape_check.proofs.TallyTokens.{one_taken}
 use Rattle.tape_check.proofs.tally.Reader.read.Goals as goal
 
 pub returns-then-self : goal.returns-then-self
@@ -18,7 +17,5 @@ returns-then-is_upper c t at =
 
 pub returns : goal.returns
 returns c t at =
-    let byte = c.args.byte in
-    let n = c.in_ok-read_syntax.field-0 in
-    subst (IsAt c.read_syntax.new.self) (one_taken t byte n c.in_ok-read_syntax.ensures.some ∙ tallied_anew t byte (at.character ∙ c.requires))
-    (c.in_ok-read_syntax.ensures.taken t at)
+    subst (λ (o : Tally). OnOk c.read_alone.result (IsAt c.read_alone.new.self o)) (tallied_anew t c.args.byte (at.character ∙ c.requires))
+    (c.read_alone.ensures t at)
