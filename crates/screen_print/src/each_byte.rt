@@ -25,7 +25,7 @@ ghost use Rattle.std.specs.Prelude.{
 };
 ghost use Rattle.std.specs.List.{flat_map, range_with_len};
 ghost use Rattle.tape_core.specs.Devices.{Gave, Took, has_failed, has_written, is_flushed};
-ghost use Rattle.tape_core.specs.Due.{due_count};
+ghost use Rattle.tape_core.specs.Due.{bytes_at, due_count};
 ghost use Rattle.tape_seek.specs.Moments.{up_to};
 ghost use Rattle.tape_seek.specs.State.{KeepsHistory, Leaves};
 ghost use Rattle.chunk_walk.specs.Stops.{OnlySeeks, first_asked};
@@ -281,6 +281,8 @@ struct Kept {
     last: Still,
     stills: Stills,
     current: bool,
+    /// Whether the next chunk is one that keys don't pass.
+    tried: bool,
     /// Where the text stood at the last look.
     seen: Place,
 }
@@ -294,8 +296,99 @@ struct Played<'a> {
     terminal: &'a Terminal,
 }
 
-/// The same by how the text begins, and by its keys.
+/// The same by how the text begins, and by its keys. Stills are made only from the first chunk on in which the text may
+/// stand.
 fn put_each<W: Write>(
+    recording: &Recording,
+    start: usize,
+    end: usize,
+    text: &[char],
+    begins: &Start,
+    keys: &Keys<'_>,
+    terminal: &mut Terminal,
+    scratch: &mut Reports,
+    writer: &mut Watched<W>,
+)
+    requires rising { start ≤ end }
+    requires within { end ≤ length recording.now.chunks }
+    requires begins { IsStart text.now begins.now }
+    requires keys { AreKeysOf text.now keys.now }
+    requires scratch { SCRATCH ≤ length scratch.old.bytes }
+    ensures { (profile : Profile) → Shows terminal.old (up_to profile recording.now.chunks start)
+        → Gave W.contents writer.old writer.new
+        (flat_map (chunk_lines_at text.now profile recording.now)
+        (range_with_len start (end - start))) }
+{
+    gives_join::<W>();
+    gives_end::<W>();
+    if writer.failed() {
+        return;
+    }
+    let index = pass_some(recording, start, end, text, begins, keys, terminal, scratch);
+    if index == end {
+        return;
+    }
+    put_rest(
+        recording, index, end, text, begins, keys, terminal, scratch, writer,
+    );
+}
+
+/// Plays chunks as long as keys show that the text stands nowhere before them and after each of their bytes, and tells where
+/// the next one is.
+fn pass_some(
+    recording: &Recording,
+    start: usize,
+    end: usize,
+    text: &[char],
+    begins: &Start,
+    keys: &Keys<'_>,
+    terminal: &mut Terminal,
+    scratch: &mut Reports,
+) -> usize
+    requires rising { start ≤ end }
+    requires within { end ≤ length recording.now.chunks }
+    requires keys { AreKeysOf text.now keys.now }
+    requires scratch { SCRATCH ≤ length scratch.old.bytes }
+    ensures low { start ≤ result }
+    ensures high { result ≤ end }
+    ensures nothing { (profile : Profile) → Shows terminal.old (up_to profile recording.now.chunks start)
+        → flat_map (chunk_lines_at text.now profile recording.now)
+        (range_with_len start (result - start)) ≡ [] }
+    ensures shows { (profile : Profile) → Shows terminal.old (up_to profile recording.now.chunks start)
+        → Shows terminal.new (up_to profile recording.now.chunks result) }
+    ensures scratch { SCRATCH ≤ length scratch.new.bytes }
+{
+    first_grows_by_a_chunk();
+    plays_in_parts();
+    let mut second = Terminal::reset();
+    let mut seen = Place::default();
+    let mut known = None;
+    for index in start..end {
+        let Some(key) = known_or_found(text, begins, keys, known, &mut seen, terminal) else {
+            return index;
+        };
+        second.copy_from(terminal);
+        let bytes = bytes_of(recording, index);
+        let Some(next) = passes(text, keys, key, bytes, terminal, scratch) else {
+            terminal.copy_from(&second);
+            return index;
+        };
+        known = Some(next);
+    }
+    end
+}
+
+/// The bytes of a chunk.
+fn bytes_of(recording: &Recording, index: usize) -> &[u8]
+    requires { index < length recording.now.chunks }
+    ensures { result.now ≡ bytes_at recording.now.chunks index }
+{
+    recording.chunks()[index].bytes.as_slice()
+}
+
+/// The same by stills, from a chunk on in which the text may stand. They take room on the stack only then.
+#[inline(never)]
+fn put_rest<W: Write>(
     recording: &Recording,
     start: usize,
     end: usize,
@@ -345,6 +438,7 @@ fn kept_of(terminal: &Terminal) -> Kept
             after: Still::of(terminal),
         },
         current: true,
+        tried: true,
         seen: Place::default(),
     }
 }
@@ -385,7 +479,7 @@ fn put_chunk_at<'k, 'a, W: Write>(
         due: recording.due_time(index),
         len: text.len(),
     };
-    let bytes = recording.chunks()[index].bytes.as_slice();
+    let bytes = bytes_of(recording, index);
     put_or_pass(
         text, start, &chunk, bytes, keys, known, terminal, kept, scratch, writer,
     )
@@ -419,15 +513,41 @@ fn put_or_pass<'k, 'a, W: Write>(
     ensures scratch { SCRATCH ≤ length scratch.new.bytes }
 {
     gives_join::<W>();
-    let first = known_or_found(text, start, keys, known, &mut kept.seen, terminal);
+    let first = untried_key(text, start, keys, known, kept, terminal);
     follow_terminal(kept, terminal);
-    if let Some(key) = pass_or_stay(text, keys, first, bytes, terminal, &kept.terminal, scratch) {
-        kept.current = false;
-        return Some(key);
+    if let Some(key) = first {
+        if let Some(next) = passes(text, keys, key, bytes, terminal, scratch) {
+            kept.current = false;
+            return Some(next);
+        }
+        terminal.copy_from(&kept.terminal);
     }
     follow_stills(kept, terminal);
     put_next(text, start, chunk, bytes, terminal, kept, scratch, writer);
     None
+}
+
+/// The key that the screen of a terminal is known to lack, or else one that it is seen to lack. None is looked for where the
+/// chunk at hand was tried.
+fn untried_key<'k, 'a>(
+    text: &[char],
+    start: &Start,
+    keys: &'k Keys<'a>,
+    known: Option<&'k Key<'a>>,
+    kept: &mut Kept,
+    terminal: &Terminal,
+) -> Option<&'k Key<'a>>
+    requires keys { AreKeysOf text.now keys.now }
+    requires known { IfSome known (λ key. IsLacked text.now key.now terminal.now.console.picture) }
+    requires kept { IsKeptOf terminal.now kept.old }
+    ensures lacked { IfSome result (λ key. IsLacked text.now key.now terminal.now.console.picture) }
+    ensures kept { IsKeptOf terminal.now kept.new }
+{
+    if kept.tried {
+        kept.tried = false;
+        return None;
+    }
+    known_or_found(text, start, keys, known, &mut kept.seen, terminal)
 }
 
 /// The second terminal becomes like the first one, if it isn't yet.
@@ -458,40 +578,6 @@ fn follow_stills(kept: &mut Kept, terminal: &Terminal)
     kept.stills.before.catch_up(terminal, lines);
     kept.stills.after.catch_up(terminal, lines);
     kept.current = true;
-}
-
-/// Plays a chunk, and answers a key that the screen lacks then, where keys show that the text stands nowhere before it and
-/// after each of its bytes. Where they don't, or none is lacked before it, the terminal shows what it showed, as does the
-/// one that is kept.
-fn pass_or_stay<'k, 'a>(
-    text: &[char],
-    keys: &'k Keys<'a>,
-    first: Option<&'k Key<'a>>,
-    bytes: &[u8],
-    terminal: &mut Terminal,
-    kept: &Terminal,
-    scratch: &mut Reports,
-) -> Option<&'k Key<'a>>
-    requires keys { AreKeysOf text.now keys.now }
-    requires first { IfSome first (λ key. IsLacked text.now key.now terminal.old.console.picture) }
-    requires like { IsLike terminal.old kept.now }
-    requires scratch { SCRATCH ≤ length scratch.old.bytes }
-    ensures nowhere { IfSome result (λ _. (x : Term) → Shows terminal.old x
-        → NowhereIn text.now x bytes.now) }
-    ensures shows { IfSome result (λ _. (x : Term) → Shows terminal.old x
-        → Shows terminal.new (play x bytes.now)) }
-    ensures known { IfSome result (λ key. IsLacked text.now key.now terminal.new.console.picture) }
-    ensures stays { result ≡ None → IsLike terminal.old terminal.new }
-    ensures scratch { SCRATCH ≤ length scratch.new.bytes }
-{
-    let Some(key) = first else {
-        return None;
-    };
-    if let Some(next) = passes(text, keys, key, bytes, terminal, scratch) {
-        return Some(next);
-    }
-    terminal.copy_from(kept);
-    None
 }
 
 /// Plays a chunk before which the screen lacks a key, and answers one that it lacks then, where keys show that it lacks one

@@ -7,7 +7,7 @@ use Rattle.screen_print.specs.EachByte.{chunk_lines_at}
 use Rattle.screen_print.specs.Kept.{IsKeptOf}
 use Rattle.screen_print.specs.Skim.{IsLacked}
 use Rattle.chunk_walk.proofs.TextLemmas.{texts_from}
-use Rattle.screen_print.proofs.each_byte.put_each.Given as goal
+use Rattle.screen_print.proofs.each_byte.put_rest.Given as goal
 
 -- the chunks so far were played, and their lines have gone out
 abbrev pub invariant-loop-index : goal.invariant-loop-index
