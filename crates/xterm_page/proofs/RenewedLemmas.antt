@@ -1,6 +1,6 @@
 -- The lines that are told as changed, in a list.
-use Rattle.std.proofs.Common.{◌≡◌, ◌≢◌, ℕ, zero, suc, ◌+◌, ◌-◌, ◌<◌, ◌≤◌, All, Bool, true, false, not, cond, List, [], ◌∷◌, ◌++◌, filter, length, map, get_or, take, refl, ap, sym, ◌∙◌, arith, append-nil, inl, inr}
-use Rattle.std.specs.Prelude.{◌&&◌, ◌||◌, ◌==◌}
+use Rattle.std.proofs.Common.{◌≡◌, ◌≢◌, ℕ, zero, suc, ◌+◌, ◌-◌, ◌<◌, ◌≤◌, All, Bool, true, false, not, cond, List, None, [], ◌∷◌, ◌++◌, filter, length, map, get_or, set, take, refl, ap, sym, ◌∙◌, arith, append-nil, inl, inr}
+use Rattle.std.specs.Prelude.{◌&&◌, ◌||◌, ◌==◌, nat_eq}
 use Rattle.std.specs.List.{flat_map, range_with_len}
 use Rattle.std.proofs.lemmas.Bool.{cases_Bool, cases_eq}
 use Rattle.std.proofs.lemmas.Bool.Decides.{nat_tests}
@@ -10,10 +10,11 @@ use Rattle.std.proofs.lemmas.List.Elements.{All-filter, All-from_get_or, All-map
 use Rattle.std.proofs.lemmas.List.FromFn.{get_or-range_with_len, length-range_with_len}
 use Rattle.sheet.specs.Cells.{Cell}
 use Rattle.sheet.specs.Grid.{is_touched, row_at}
-use Rattle.xterm_print.proofs.KeptLemmas.{passing_more, passing_none}
-use Rattle.xterm_page.specs.Parts.{AreLines, is_renewed, renewed, renewed_lines, renewed_of, renewed_to}
+use Rattle.xterm_print.proofs.KeptLemmas.{passing_more, passing_none, row_set_other}
+use Rattle.xterm_page.specs.Parts.{AreLines, AreTold, is_renewed, renewed, renewed_lines, renewed_of, renewed_to}
 use Rattle.xterm_page.specs.declared.kept.Renewed.{Renewed}
 use Rattle.xterm_page.specs.Same.{same_row}
+use Rattle.xterm_page.proofs.KeptLemmas.{row_written, stays}
 
 -- ---- how they are told
 
@@ -86,6 +87,10 @@ texts_taken text xs at d within =
     ap (flat_map text) (take_more xs at d within) ∙ flat_map-append text (take at xs) (get_or xs at d ∷ [])
     ∙ ap (λ t. flat_map text (take at xs) ++ t) (append-nil (text (get_or xs at d)))
 
+-- no line, of which nothing is known
+abbrev pub no_line : ℕ × Renewed
+no_line = (0, record { number = 0; was = None })
+
 -- ---- which they are
 
 -- a number is among others
@@ -140,3 +145,41 @@ pub holds_taken : (k at : ℕ) (xs : List ℕ) (x : ℕ) → at < length xs → 
     → holds k (take (at + 1) xs) ≡ (holds k (take at xs) || (x == k))
 holds_taken k at xs x within is =
     ap (holds k) (take_more xs at 0 within ∙ ap (λ n. take at xs ++ n ∷ []) (sym is)) ∙ holds_more k (take at xs) x
+
+-- where the others are told, a line has its row of after, renewed or not
+pub told_or_stays : (touched : List Bool) (line : ℕ) (before after : List (List Cell)) → AreTold before touched after
+    → cond (is_renewed touched (row_at before line) (row_at after line) line) (row_at after line) (row_at before line) ≡ row_at after line
+told_or_stays touched line before after told =
+    elim (cases_Bool (is_renewed touched (row_at before line) (row_at after line) line)) [
+      | inl t ↦ ap (λ b. cond b (row_at after line) (row_at before line)) t
+      | inr f ↦ ap (λ b. cond b (row_at after line) (row_at before line)) f ∙ stays touched line before after told f
+    ]
+
+or_false : (b : Bool) → (b || false) ≡ b
+or_false true = refl
+or_false false = refl
+
+or_true : (b : Bool) → (b || true) ≡ true
+or_true true = refl
+or_true false = refl
+
+-- what a line has where a row was written: that row in its line, and its own in the others
+pub written_told : (names : List ℕ) (at line k : ℕ) (rows before after : List (List Cell)) (row : List Cell) (columns : ℕ)
+    → at < length names → line ≡ get_or names at 0 → 1 ≤ line → line ≤ length rows → 1 ≤ k → row ≡ row_at after line → length row ≡ columns
+    → (row_at rows k ≡ cond (holds k (take at names)) (row_at after k) (row_at before k)) × (length (row_at rows k) ≡ columns)
+    → (row_at (set rows (line - 1) row) k ≡ cond (holds k (take (at + 1) names)) (row_at after k) (row_at before k))
+    × (length (row_at (set rows (line - 1) row) k) ≡ columns)
+written_told names at line k rows before after row columns within named low high here is long told =
+    let more = holds_taken k at names line within named in
+    elim (cases_eq line k) [
+      | inl e ↦
+          let now : row_at (set rows (line - 1) row) k ≡ row = ap (row_at (set rows (line - 1) row)) (sym e) ∙ row_written rows line row low high in
+          let hit : holds k (take (at + 1) names) ≡ true =
+          more ∙ ap (λ n. holds k (take at names) || (line == n)) (sym e) ∙ ap (λ b. holds k (take at names) || b) (itself_is line) ∙ or_true (holds k (take at names)) in
+          (now ∙ is ∙ ap (row_at after) e ∙ sym (ap (λ b. cond b (row_at after k) (row_at before k)) hit), ap length now ∙ long)
+      | inr ne ↦
+          let other = row_set_other rows line k row low here (λ same. ne (sym same)) in
+          let miss : holds k (take (at + 1) names) ≡ holds k (take at names) =
+          more ∙ ap (λ b. holds k (take at names) || b) (other_is line k ne) ∙ or_false (holds k (take at names)) in
+          (other ∙ told.0 ∙ sym (ap (λ b. cond b (row_at after k) (row_at before k)) miss), ap length other ∙ told.1)
+    ]

@@ -1,8 +1,8 @@
 -- Rows that are read, a row, a cell and a character more.
-use Rattle.std.proofs.Common.{◌≡◌, ℕ, suc, ◌+◌, ◌-◌, ◌<◌, ◌≤◌, false, List, [], ◌∷◌, ◌++◌, append_assoc, append-nil, drop, get_or, inl, inr, length, map, min, subst, take, ap, ap₂, sym, ◌∙◌, add-one, arith, refl, replicate}
+use Rattle.std.proofs.Common.{◌≡◌, ℕ, suc, ◌+◌, ◌-◌, ◌<◌, ◌≤◌, false, List, [], ◌∷◌, ◌++◌, append_assoc, append-nil, drop, get_or, inl, inr, length, map, min, set, subst, take, ap, ap₂, sym, ◌∙◌, add-one, arith, refl, replicate}
 use Rattle.std.specs.List.{flat_map, range_with_len}
 use Rattle.std.proofs.lemmas.Bool.{cases_Bool, cases_lt}
-use Rattle.std.proofs.lemmas.List.{ext_get_or, get_or-append-add, get_or-drop, get_or-map, get_or-take, get_or_append_left, get_or_default, get_or_past, length-append, length-drop, length-map, length-take, length-take-le, map-append, same_lists, take-append-drop, take_more}
+use Rattle.std.proofs.lemmas.List.{ext_get_or, get_or-append-add, get_or-drop, get_or-map, get_or-take, get_or_append_left, get_or_default, get_or_past, length-append, length-drop, length-map, length-take, length-take-le, map-append, same_lists, take-append-drop, take_more, take_more_set}
 use Rattle.sheet.specs.declared.rendition.Colour.TheVariants.{Default}
 use Rattle.std.proofs.Math.Seq.{take-add}
 use Rattle.std.proofs.lemmas.List.Concat.{flat_map-append}
@@ -58,6 +58,24 @@ pub characters_more : (cells : List Cell) (at : ℕ) (d : Cell) → at < length 
 characters_more cells at d lt =
     ap (flat_map characters) (take_more cells at d lt) ∙ flat_map-append characters (take at cells) (get_or cells at d ∷ [])
     ∙ ap (λ l. flat_map characters (take at cells) ++ l) (append-nil (characters (get_or cells at d)))
+
+-- a cell more without marks, whose character is written over another one
+pub characters_over : (row : List ℕ) (cells : List Cell) (at : ℕ) (d : Cell) → at < length row → at < length cells → take at row ≡ flat_map characters (take at cells)
+    → characters (get_or cells at d) ≡ (get_or cells at d).character ∷ []
+    → take (at + 1) (set row at (get_or cells at d).character) ≡ flat_map characters (take (at + 1) cells)
+characters_over row cells at d lt lt' so_far plain =
+    let character = (get_or cells at d).character in
+    take_more_set row at character lt ∙ ap (λ l. l ++ character ∷ []) so_far
+    ∙ ap (λ l. flat_map characters (take at cells) ++ l) (sym plain) ∙ sym (characters_more cells at d lt')
+
+pub columns_over : (row : List ℕ) (cells : List Cell) (at : ℕ) (d : Cell) → at < length row → at < length cells → take at row ≡ columns_from 1 (take at cells)
+    → characters (get_or cells at d) ≡ (get_or cells at d).character ∷ [] → take (at + 1) (set row at (at + 1)) ≡ columns_from 1 (take (at + 1) cells)
+columns_over row cells at d lt lt' so_far plain =
+    let here : at + 1 ≡ 1 + at = omega arith in
+    take_more_set row at (at + 1) lt ∙ ap (λ l. l ++ (at + 1) ∷ []) so_far
+    ∙ ap (λ l. columns_from 1 (take at cells) ++ map (λ _. at + 1) l) (sym plain)
+    ∙ ap (λ n. columns_from 1 (take at cells) ++ map (λ _. n) (characters (get_or cells at d))) here
+    ∙ sym (columns_more 1 cells at d lt')
 
 -- some cells more
 pub columns_on : (cells : List Cell) (n m : ℕ) → n ≤ length cells

@@ -63,14 +63,6 @@ letter_printed rendition cell is =
     let few : length cell.marks ≤ 0 = omega (arith, ap (λ (marks : List ℕ). length marks) is.alone) in
     sym (printed_open cell 0 (ap covered_kind is.kind) few) ∙ append-nil (encode_utf8 c) ∙ encode_ascii c is.low
 
--- so the letters so far and one more
-pub letters_more : (cells : List Cell) (n : ℕ) (cell : Cell) → n < length cells → cell ≡ get_or cells n cell → IsLetter cell.rendition cell
-    → flat_map printed (take (n + 1) cells) ≡ flat_map printed (take n cells) ++ cell.character ∷ []
-letters_more cells n cell below here is =
-    first_more printed cells n cell below
-    ∙ ap (λ (x : Cell). flat_map printed (take n cells) ++ printed x) (sym here)
-    ∙ ap (λ t. flat_map printed (take n cells) ++ t) (letter_printed cell.rendition cell is)
-
 -- what is left of a list, as a slice is
 pub rest_whole : {X : Type 0} (xs : List X) (n : ℕ) → take (length xs - n) (drop n xs) ≡ drop n xs
 rest_whole xs n = take_all (length xs - n) (drop n xs) (omega (arith, length-drop n xs))

@@ -1,9 +1,9 @@
 //! The rows of the sheet that is shown, as a text is looked for in them.
 
-ghost use Rattle.std.specs.Prelude.{◌≡◌, ◌+◌, ◌-◌, ◌≤◌, ◌<◌, ◌++◌, [], List, ℕ, false, true, if◌then◌else◌, length, map, slice_index_or, take, IfOk, OnOk};
+ghost use Rattle.std.specs.Prelude.{◌≡◌, ◌+◌, ◌-◌, ◌≤◌, ◌<◌, ◌++◌, ◌∷◌, [], List, ℕ, false, true, if◌then◌else◌, length, map, slice_index_or, take, IfOk, OnOk};
 ghost use Rattle.std.specs.List.{flat_map};
 ghost use Rattle.sheet.specs.Cells.{Cell, blank};
-ghost use Rattle.sheet.specs.Grid.{IsUsed, row_at};
+ghost use Rattle.sheet.specs.Grid.{IsUsed, is_touched, row_at};
 ghost use Rattle.standings.specs.Spans.{Stays};
 ghost use Rattle.xterm_screen.specs.Picture.{Told};
 ghost use Rattle.xterm_rows.specs.RowText.{characters, is_space};
@@ -91,11 +91,28 @@ fn next_unlike(screen: &Screen, line: u16) -> u16
         ≡ row_read (row_at screen.now.picture.rows k) (row_at screen.now.picture.rows (k + 1)) }
 {
     let _cursor = screen.cursor();
-    let touched = screen.next_touched(line);
+    let touched = next_touched(screen, line);
     if line < touched && touched <= screen.lines() && heeds_next(screen.row(touched - 1)) {
         return touched - 1;
     }
     touched
+}
+
+/// The first line from one on that was touched; one behind the last where none was. Where many were it mostly is that line
+/// itself: so it is looked at before the others, which are looked at in blocks.
+#[inline]
+fn next_touched(screen: &Screen, line: u16) -> u16
+    requires low { 1 ≤ line }
+    requires high { line ≤ screen.now.picture.lines + 1 }
+    ensures low { line ≤ result }
+    ensures high { result ≤ screen.now.picture.lines + 1 }
+    ensures between { (k : ℕ) → line ≤ k → k < result → is_touched screen.now.touched k ≡ false }
+    ensures touched { result ≤ screen.now.picture.lines → is_touched screen.now.touched result ≡ true }
+{
+    if line <= screen.lines() && screen.is_touched(line) {
+        return line;
+    }
+    screen.next_touched(line)
 }
 
 /// Whether how a row is read depends on the next one.
@@ -158,8 +175,14 @@ fn read_kept(row: &mut Row, cells: &[Cell], used: usize, runs_on: bool) -> Resul
     if spell(row, cells, used, runs_on)? {
         return Ok(());
     }
-    row.restart(runs_on);
-    push_cells(row, &cells[..used])?;
+    let in_use = &cells[..used];
+    let plain = if cells.len() > AT_ONCE {
+        write_over(row, in_use)
+    } else {
+        0
+    };
+    row.cut(plain, runs_on);
+    push_cells(row, in_use, plain)?;
     push_blanks(row, cells, used)
 }
 
@@ -186,6 +209,31 @@ fn spell(row: &mut Row, cells: &[Cell], used: usize, runs_on: bool) -> Result<bo
     }
     row.respell(letters, runs_on)?;
     Ok(true)
+}
+
+/// Writes the characters of the first cells, each one character and without marks, over those of a row, as far as it has so
+/// many; says of how many. So rows of many columns are read again.
+fn write_over(row: &mut Row, cells: &[Cell]) -> usize
+    requires few { length cells.now ≤ MOST_COLUMNS }
+    ensures within { result ≤ length cells.now }
+    ensures characters { take result row.new.characters ≡ flat_map characters (take result cells.now) }
+    ensures columns { take result row.new.columns ≡ columns_from 1 (take result cells.now) }
+{
+    let end = row.count().min(cells.len());
+    let mut at = 0;
+    while at < end && is_alone(cells[at]) {
+        row.set(at, cells[at].character(), at as u16 + 1);
+        at += 1;
+    }
+    at
+}
+
+/// Whether a cell holds a character without marks.
+#[tactic(auto, unfolding(xterm_rows::specs::RowText::characters))]
+fn is_alone(cell: Cell) -> bool
+    ensures { result ≡ true → characters cell ≡ cell.character ∷ [] }
+{
+    !cell.is_covered() && cell.mark_count() == 0
 }
 
 /// Whether each cell is one of one column without marks.
@@ -246,16 +294,17 @@ fn is_space(cell: Cell) -> bool
     !cell.is_covered() && cell.character() == ' ' && cell.mark_count() == 0
 }
 
-/// Puts the characters of cells at the end of a row that has none.
-fn push_cells(row: &mut Row, cells: &[Cell]) -> Result<(), AllocError>
+/// Puts the characters of cells behind those of the first so many.
+fn push_cells(row: &mut Row, cells: &[Cell], from: usize) -> Result<(), AllocError>
     requires few { length cells.now ≤ MOST_COLUMNS }
-    requires characters { row.old.characters ≡ [] }
-    requires columns { row.old.columns ≡ [] }
+    requires within { from ≤ length cells.now }
+    requires characters { row.old.characters ≡ flat_map characters (take from cells.now) }
+    requires columns { row.old.columns ≡ columns_from 1 (take from cells.now) }
     ensures characters { OnOk result (row.new.characters ≡ flat_map characters cells.now) }
     ensures columns { OnOk result (row.new.columns ≡ columns_from 1 cells.now) }
     ensures runs_on { OnOk result (row.new.runs_on ≡ row.old.runs_on) }
 {
-    let mut at = 0;
+    let mut at = from;
     while at < cells.len() {
         at += push_some(row, &cells[at..], at as u16 + 1)?;
     }

@@ -138,12 +138,18 @@ pub fn catch_up(rows: &mut [KeptRow], screen: &Screen, changed: &mut ArrayVec<u1
 {
     changed.clear();
     let _cursor = screen.cursor();
-    let mut line = screen.next_touched(1);
-    while line <= screen.lines() {
-        if catch_up_line(rows, screen, line) {
-            changed.push(line);
+    let lines = screen.lines();
+    let mut line = 1;
+    while line <= lines {
+        // Where a line was touched, the next one mostly was too: the others are looked for in blocks.
+        if screen.is_touched(line) {
+            if catch_up_line(rows, screen, line) {
+                changed.push(line);
+            }
+            line += 1;
+        } else {
+            line = screen.next_touched(line);
         }
-        line = screen.next_touched(line + 1);
     }
 }
 

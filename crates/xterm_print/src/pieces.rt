@@ -15,7 +15,7 @@ ghost use Rattle.xterm_term.specs.Seen.{Shows};
 ghost use Rattle.xterm_term.specs.Term.{Term};
 ghost use Rattle.text_find.specs.declared.foretold.Foretold.TheVariants.{Writes};
 ghost use Rattle.xterm_print.specs.FindRows.{row_read};
-ghost use Rattle.xterm_print.specs.Pieces.{IsQuiet, NoneBetween, StaysOn, WritesOver, left_of_cursor, rows_after, rows_behind};
+ghost use Rattle.xterm_print.specs.Pieces.{EndsLeft, IsQuiet, NoneBetween, left_of_cursor, rows_after, rows_behind};
 
 use crate::erased::erased;
 use crate::runs::run_over;
@@ -26,6 +26,9 @@ use standings::{Row, Standing, ends_before};
 use text_find::{Foretold, LetterRun, Written};
 use xterm_term::{CharacterSet, Terminal, letter_at};
 
+/// The byte that opens a sequence.
+const ESC: u8 = 27;
+
 /// How many of the bytes to play at once: where a text stands nowhere before them and behind them, it stands nowhere in
 /// between.
 pub(crate) fn piece(terminal: &Terminal, bytes: &[u8]) -> usize
@@ -35,6 +38,9 @@ pub(crate) fn piece(terminal: &Terminal, bytes: &[u8]) -> usize
     ensures between { (text : List ℕ) (x : Term) → Shows terminal.now x
         → NoneBetween text x bytes.now result }
 {
+    if is_control(bytes[0]) {
+        return 1;
+    }
     let unshown = terminal.unshown(bytes);
     if unshown > 0 {
         return bytes.len().min(unshown + 1);
@@ -58,12 +64,50 @@ pub(crate) fn quiet_piece(
         → still.now.places.items ≡ standing text.now (rows_behind x [] 0)
         → IsQuiet text.now x bytes.now result }
 {
+    if is_control(bytes[0]) {
+        return 1;
+    }
     let unshown = terminal.unshown(bytes);
     if unshown > 0 {
         return (unshown + 1).min(bytes.len());
     }
+    if !may_be_letter(bytes) {
+        return 1;
+    }
+    quiet_letters(terminal, text, still, bytes)
+}
+
+/// The same of bytes that may begin with a letter.
+fn quiet_letters(terminal: &Terminal, text: &[char], still: &Standing, bytes: &[u8]) -> usize
+    requires { 0 < length bytes.now }
+    ensures some { 0 < result }
+    ensures within { result ≤ length bytes.now }
+    ensures quiet { (x : Term) → Shows terminal.now x
+        → still.now.rows.items ≡ rows_behind x [] 0
+        → still.now.places.items ≡ standing text.now (rows_behind x [] 0)
+        → IsQuiet text.now x bytes.now result }
+{
+    let Some(set) = set_quiet(terminal, text, still, bytes) else {
+        return 1;
+    };
     let mut letters = LetterRun::new();
-    quiet_run(terminal, text, still, bytes, &mut letters).max(1)
+    run_over(terminal, set, text, bytes, &mut letters).max(1)
+}
+
+/// Whether the first of the bytes may bring a character of one column: no control does, nor one of several bytes (C1).
+#[inline]
+fn may_be_letter(bytes: &[u8]) -> bool {
+    match bytes {
+        [0xC2, second, ..] => *second >= 0xA0,
+        [first, ..] => matches!(*first, 32..=126 | 0xC3..),
+        _ => false,
+    }
+}
+
+/// A control that opens no sequence: it is played by itself, whatever it does.
+#[inline]
+fn is_control(byte: u8) -> bool {
+    byte < 32 && byte != ESC || byte == 127
 }
 
 /// Whether the first of the bytes moves all rows up by one: how many spaces the row has that comes in below.
@@ -99,7 +143,8 @@ fn written(
         → still.now.places.items ≡ standing text.now (rows_behind x [] 0)
         → IfSome result (λ written. IsForetold text.now (rows_after x) [] bytes.now (Writes written) letters.new.items) }
 {
-    let taken = quiet_run(terminal, text, still, bytes, letters);
+    let set = set_quiet(terminal, text, still, bytes)?;
+    let taken = run_over(terminal, set, text, bytes, letters);
     if taken == 0 {
         return None;
     }
@@ -112,7 +157,8 @@ fn written(
 }
 
 /// What the first of the bytes surely do to the rows of a terminal that shows these rows, on which the text stands there;
-/// where they write, nothing of the text goes at them, and the letters become what they write.
+/// where they write, nothing of the text goes at them, and the letters become what they write. The first byte, and of a
+/// sequence its first ones, say which question is worth to be asked: of most bytes none is.
 pub(crate) fn foretold(
     terminal: &Terminal,
     text: &[char],
@@ -126,47 +172,58 @@ pub(crate) fn foretold(
         → still.now.places.items ≡ standing text.now (rows_behind x [] 0)
         → IfSome result (λ foretold. IsForetold text.now (rows_after x) [] bytes.now foretold letters.new.items) }
 {
+    match bytes {
+        [10..=12, ..] | [ESC, b'M', ..] | [ESC, b'[', b'L' | b'M', ..] => moved(terminal, bytes),
+        [ESC, b'[', b'0' | b'K', ..] => {
+            Some(Foretold::Writes(erased(terminal, text, still, bytes, letters)?))
+        }
+        _ if may_be_letter(bytes) => {
+            Some(Foretold::Writes(written(terminal, text, still, bytes, letters)?))
+        }
+        _ => None,
+    }
+}
+
+/// How rows move at the first of the bytes, if they do.
+fn moved(terminal: &Terminal, bytes: &[u8]) -> Option<Foretold>
+    ensures within { IfSome result (λ foretold. IsWithin foretold (length bytes.now)) }
+    ensures foretold { (text letters : List ℕ) (x : Term) → Shows terminal.now x
+        → IfSome result (λ foretold. IsForetold text (rows_after x) [] bytes.now foretold letters) }
+{
+    // Where none move between the margins all don't either.
+    let _moved = terminal.moves_within(bytes)?;
     if let Some(columns) = moved_up(terminal, bytes) {
         return Some(Foretold::MovesUp(columns));
     }
-    if let Some(region) = moved_within(terminal, bytes) {
-        return Some(Foretold::MovesWithin(region));
-    }
-    if let Some(run) = written(terminal, text, still, bytes, letters) {
-        return Some(Foretold::Writes(run));
-    }
-    Some(Foretold::Writes(erased(terminal, text, still, bytes, letters)?))
+    Some(Foretold::MovesWithin(moved_within(terminal, bytes)?))
 }
 
-/// How many of the bytes write letters over plain cells, and take nothing of the text away: the letters become these.
-fn quiet_run(
+/// The set in use, where the first of the bytes are a character that may be put, and nothing of the text goes at it.
+fn set_quiet(
     terminal: &Terminal,
     text: &[char],
     still: &Standing,
     bytes: &[u8],
-    letters: &mut LetterRun,
-) -> usize
-    ensures within { result ≤ length bytes.now }
-    ensures quiet { (x : Term) → Shows terminal.now x
+) -> Option<CharacterSet>
+    ensures written { IfSome result (λ set. (x : Term) → Shows terminal.now x → WritesStyled set x) }
+    ensures some { IfSome result (λ _. 0 < length text.now) }
+    ensures ends { (x : Term) → Shows terminal.now x
         → still.now.rows.items ≡ rows_behind x [] 0
         → still.now.places.items ≡ standing text.now (rows_behind x [] 0)
-        → StaysOn text.now x bytes.now result }
-    ensures written { 0 < result → (x : Term) → Shows terminal.now x
-        → WritesOver x bytes.now letters.new.items result }
+        → IfSome result (λ _. EndsLeft text.now x) }
 {
     if text.is_empty() {
-        return 0;
+        return None;
     }
-    let Some(set) = set_written(terminal, bytes) else {
-        return 0;
-    };
+    // Where none is put it isn't worth to look at all places.
+    let set = set_written(terminal, bytes)?;
     if !ends_left(terminal, text.len(), still) {
-        return 0;
+        return None;
     }
-    run_over(terminal, set, text, bytes, letters)
+    Some(set)
 }
 
-/// The set in use, where the first of the bytes are a character that may be put: else it isn't worth to look at all places.
+/// The set in use, where the first of the bytes are a character that may be put.
 fn set_written(terminal: &Terminal, bytes: &[u8]) -> Option<CharacterSet>
     ensures { IfSome result (λ set. (x : Term) → Shows terminal.now x → WritesStyled set x) }
 {

@@ -1,6 +1,6 @@
 //! Bytes that write characters of one column over plain cells, with sequences between them that select renditions.
 
-ghost use Rattle.std.specs.Prelude.{◌≡◌, ◌-◌, ◌%◌, ◌<◌, ◌≤◌, ◌++◌, Some, length, slice_index_or, take, true, false};
+ghost use Rattle.std.specs.Prelude.{◌≡◌, ◌+◌, ◌-◌, ◌%◌, ◌<◌, ◌≤◌, ◌++◌, ℕ, Some, length, slice_index_or, take, true, false};
 ghost use Rattle.xterm_rows.specs.Runs.{cell_behind};
 ghost use Rattle.xterm_term.specs.Ahead.{Letters, WritesStyled, letters_from, styling_behind};
 ghost use Rattle.xterm_term.specs.Seen.{Shows};
@@ -14,11 +14,16 @@ use xterm_term::{CharacterSet, Terminal, letter_at, styling_at};
 /// How many marks there are for the characters of a text.
 const MARKS: usize = 64;
 
-/// Marks of the characters that a text has behind its first one: most characters of a row have none.
-type Followers = [bool; MARKS];
+/// How many pairs of neighbours are looked at at once.
+const TOGETHER: usize = 8;
 
-/// The marks for a first letter, which has no letter before it: they aren't looked at.
-const NO_MARKS: Followers = [false; MARKS];
+/// Marks of the characters that a text has behind its first one: most characters of a row have none. They are made for a
+/// third letter, since that takes a walk through the text.
+#[derive(Drop)]
+struct Followers {
+    made: bool,
+    marks: [bool; MARKS],
+}
 
 /// How many of the bytes write letters over plain cells of the cursor's row, left of its last two, so that no two
 /// neighbours of the text come to stand on both sides of a border between new characters and old ones: the letters
@@ -48,8 +53,7 @@ pub(crate) fn run_over(
     run_on(&cells[from..room], set, text, bytes, letters)
 }
 
-/// How many of the bytes are letters to be put over these cells, and whole sequences, as far as they may be. The text's
-/// characters are marked only when more comes than one letter: a key that is typed doesn't cost the text's length.
+/// How many of the bytes are letters to be put over these cells, and whole sequences, as far as they may be.
 fn run_on(
     cells: &[Cell],
     set: CharacterSet,
@@ -64,16 +68,13 @@ fn run_on(
     ensures over { GoOver text.now cells.now letters.new.items }
 {
     letters.clear();
-    if bytes.is_empty() {
-        return 0;
-    }
-    let mut taken = step(letters, set, cells, text, &NO_MARKS, bytes);
-    if taken == 0 || taken == bytes.len() {
-        return taken;
-    }
-    let followers = followers_of(text);
+    let mut followers = Followers {
+        made: false,
+        marks: [false; MARKS],
+    };
+    let mut taken = 0;
     while taken < bytes.len() {
-        let more = step(letters, set, cells, text, &followers, &bytes[taken..]);
+        let more = step(letters, set, cells, text, &mut followers, &bytes[taken..]);
         if more == 0 {
             break;
         }
@@ -90,18 +91,19 @@ fn step(
     set: CharacterSet,
     cells: &[Cell],
     text: &[char],
-    followers: &Followers,
+    followers: &mut Followers,
     bytes: &[u8],
 ) -> usize
     requires some { 0 < length bytes.now }
     requires few { length cells.now ≤ LETTERS }
-    requires followers { 0 < length letters.old.items → AreFollowers text.now followers.now }
+    requires made { followers.old.made ≡ true → AreFollowers text.now followers.old.marks }
     requires over { GoOver text.now cells.now letters.old.items }
     ensures over { GoOver text.now cells.now letters.new.items }
     ensures within { result ≤ length bytes.now }
     ensures styled { styling_behind set Letters (take result bytes.now) ≡ Some Letters }
     ensures more { letters.new.items
         ≡ letters.old.items ++ letters_from set Letters (take result bytes.now) }
+    ensures made { followers.new.made ≡ true → AreFollowers text.now followers.new.marks }
 {
     let styled = styling_at(bytes);
     if styled > 0 {
@@ -119,26 +121,37 @@ fn step(
 
 /// Whether a character more may be put behind these.
 #[inline]
-fn may_go_on(cells: &[Cell], text: &[char], followers: &Followers, letters: &[char]) -> bool
-    requires { 0 < length letters.now → AreFollowers text.now followers.now }
+fn may_go_on(cells: &[Cell], text: &[char], followers: &mut Followers, letters: &[char]) -> bool
+    requires made { followers.old.made ≡ true → AreFollowers text.now followers.old.marks }
     ensures cells { result ≡ true → length letters.now < length cells.now }
     ensures plain { result ≡ true → IsPlain (cell_behind cells.now (length letters.now)) }
     ensures apart { result ≡ true → 0 < length letters.now → AreApart text.now
         (slice_index_or letters.now (length letters.now - 1) 0) (cell_behind cells.now (length letters.now)).character }
+    ensures made { followers.new.made ≡ true → AreFollowers text.now followers.new.marks }
 {
     let at = letters.len();
     at < cells.len()
         && cells[at].is_plain()
-        && (at == 0 || are_apart(text, followers, letters[at - 1], cells[at].character()))
+        && (at == 0 || are_apart(text, followers, letters, cells[at].character()))
 }
 
-/// Whether two characters surely aren't neighbours of the text.
+/// Whether the last of some letters and a character surely aren't neighbours of the text. The marks are asked from the
+/// third letter on.
 #[inline]
-fn are_apart(text: &[char], followers: &Followers, one: char, other: char) -> bool
-    requires { AreFollowers text.now followers.now }
-    ensures { result ≡ true → AreApart text.now one other }
+fn are_apart(text: &[char], followers: &mut Followers, letters: &[char], other: char) -> bool
+    requires some { 0 < length letters.now }
+    requires made { followers.old.made ≡ true → AreFollowers text.now followers.old.marks }
+    ensures apart { result ≡ true
+        → AreApart text.now (slice_index_or letters.now (length letters.now - 1) 0) other }
+    ensures made { followers.new.made ≡ true → AreFollowers text.now followers.new.marks }
 {
-    !followers[mark_of(other)] || !are_neighbours(text, one, other)
+    if letters.len() > 1 {
+        followers.make(text);
+        if !followers.marks[mark_of(other)] {
+            return true;
+        }
+    }
+    !are_neighbours(text, letters[letters.len() - 1], other)
 }
 
 /// The mark of a character.
@@ -150,8 +163,22 @@ fn mark_of(character: char) -> usize
     character as usize % MARKS
 }
 
+impl Followers {
+    /// Makes the marks, if they aren't yet.
+    #[inline]
+    fn make(&mut self, text: &[char])
+        requires { self.old.made ≡ true → AreFollowers text.now self.old.marks }
+        ensures { AreFollowers text.now self.new.marks }
+    {
+        if !self.made {
+            self.marks = marks_of(text);
+            self.made = true;
+        }
+    }
+}
+
 /// Which marks the characters of a text have that come behind its first one.
-fn followers_of(text: &[char]) -> Followers
+fn marks_of(text: &[char]) -> [bool; MARKS]
     ensures { AreFollowers text.now result }
 {
     let mut followers = [false; MARKS];
@@ -165,7 +192,36 @@ fn followers_of(text: &[char]) -> Followers
 fn are_neighbours(text: &[char], one: char, other: char) -> bool
     ensures { result ≡ false → AreApart text.now one other }
 {
-    for at in 1..text.len() {
+    let mut at = 0;
+    while text.len() - at > TOGETHER {
+        if are_together(text, at, one, other) {
+            return true;
+        }
+        at += TOGETHER;
+    }
+    are_behind(text, at, one, other)
+}
+
+/// Whether some of so many pairs of neighbours are these. It looks at all of them, which makes it code over vectors.
+fn are_together(text: &[char], from: usize, one: char, other: char) -> bool
+    requires { from + TOGETHER < length text.now }
+    ensures { result ≡ false → (k : ℕ) → from ≤ k → k < from + TOGETHER
+        → slice_index_or text.now k 0 ≡ one → slice_index_or text.now (k + 1) 0 ≡ other → ⊥ }
+{
+    let mut found = false;
+    for at in from..from + TOGETHER {
+        found |= (text[at] == one) & (text[at + 1] == other);
+    }
+    found
+}
+
+/// Whether two neighbours of the text behind so many characters are these.
+fn are_behind(text: &[char], from: usize, one: char, other: char) -> bool
+    requires { from ≤ length text.now }
+    ensures { result ≡ false → (k : ℕ) → from ≤ k → k + 1 < length text.now
+        → slice_index_or text.now k 0 ≡ one → slice_index_or text.now (k + 1) 0 ≡ other → ⊥ }
+{
+    for at in from + 1..text.len() {
         if text[at - 1] == one && text[at] == other {
             return true;
         }

@@ -14,4 +14,4 @@ put_used-requires-clause-spaces c = λ k lt.
 pub returns : goal.returns
 returns c = λ _.
     let plain : c.put_used.result ≡ true = grind (arith, nat_tests) in
-    row_plain c.respell.new.self c.args.cells.now c.put_used.new.letters c.args.runs_on (c.put_used.ensures.plain plain) c.put_used.ensures.letters c.in_ok-respell.ensures
+    row_plain c.respell.new.self c.args.cells.now c.put_used.new.letters c.args.runs_on (c.put_used.ensures.plain plain) c.put_used.ensures.letters c.in_ok-respell.ensures.spelt

@@ -1,8 +1,15 @@
-use Rattle.std.proofs.Common.{subst, arith, true, false, ◌≡◌, ◌≤◌, length}
+use Rattle.std.proofs.Common.{subst, ap, arith, sym, true, false, ◌≡◌, ◌≤◌, ◌∙◌, [], ◌∷◌, length}
 use Rattle.tape_core.specs.Devices.{Gave}
 use Rattle.sheet.specs.Cells.{is_covered}
-use Rattle.xterm_print.proofs.PlainLemmas.{printed_covered, printed_open}
+use Rattle.xterm_print.proofs.PlainLemmas.{letter_printed, printed_covered, printed_open}
 use Rattle.xterm_print.proofs.rows.put_cell.Goals as goal
+
+pub returns-then-is_letter : goal.returns-then-is_letter
+returns-then-is_letter g c =
+    let cell = c.args.cell in
+    let letter = c.is_letter.ensures c.if-is_letter.true in
+    subst (Gave g.W.Write.contents c.args.writer.now c.give.new.self)
+    (ap (λ byte. byte ∷ []) (c.ascii.ensures letter.low) ∙ sym (letter_printed cell.rendition cell letter)) c.give.ensures
 
 pub returns-then-is_covered : goal.returns-then-is_covered
 returns-then-is_covered g c =

@@ -23,4 +23,5 @@ loop-taken-preserved c =
       are = letters_more set bytes taken more kept.styled were then_ kept.are
           (subst (λ (l : List ℕ). then_ ≡ were ++ letters_from set Letters (take more l)) rest c.step-more.ensures.more);
       over = c.step-more.ensures.over;
+      made = c.step-more.ensures.made;
     }

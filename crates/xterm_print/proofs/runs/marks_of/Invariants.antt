@@ -1,6 +1,6 @@
 use Rattle.std.proofs.Common.{◌≡◌, ◌+◌, ◌%◌, ◌<◌, ℕ, false, length, true}
 use Rattle.std.specs.Prelude.{slice_index_or}
-use Rattle.xterm_print.proofs.runs.followers_of.Given as goal
+use Rattle.xterm_print.proofs.runs.marks_of.Given as goal
 
 -- those so far are marked
 abbrev pub invariant-loop-at : goal.invariant-loop-at
