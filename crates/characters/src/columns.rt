@@ -6,7 +6,7 @@ use ucd_category::GeneralCategory;
 use unicode_width::UnicodeWidthChar;
 
 /// The columns that a character takes in a terminal: 0 to 2.
-#[inline]
+#[inline(always)]
 #[tactic(auto, unfolding(crate::specs::Width::width))]
 pub fn width(c: char) -> u8
     ensures value { result ≡ width c }

@@ -14,7 +14,7 @@ pub mod Ran
 pub mod Taken
 pub mod Idle
 pub mod Letters
-pub mod Found
+pub mod SpelledLemmas
 pub mod Sizes
 pub mod Rowless
 pub mod Ahead

@@ -19,4 +19,4 @@ pub mod Packed
 pub mod Reading
 pub mod Law
 pub mod Ahead
-pub mod Found
+pub mod Spelled

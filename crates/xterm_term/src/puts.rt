@@ -19,7 +19,7 @@ use characters::width;
 const LETTERS: usize = 64;
 
 /// Room for those.
-pub(crate) type Letters = ArrayVec<char, LETTERS>;
+type Letters = ArrayVec<char, LETTERS>;
 
 impl Console {
     /// Puts a character.

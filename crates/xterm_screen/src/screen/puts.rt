@@ -82,6 +82,7 @@ impl Screen {
 
     /// A character of width 0 joins the one at the cursor where the wrap is pending, else the one left of it; where
     /// there is none, or it has two marks, nothing.
+    #[inline(always)]
     pub fn add_mark(&mut self, mark: char)
         ensures picture { self.new.picture ≡ mark_joined mark self.old.picture }
         ensures told { KeepsTold self.old self.new }

@@ -88,6 +88,7 @@ impl Terminal {
     }
 
     /// How many of the bytes at least show nothing: those of a sequence or a character without its last one.
+    #[inline(always)]
     pub fn unshown(&self, bytes: &[u8]) -> usize
         ensures shows { (x : Term) → Shows self.now x → (count : ℕ) → count ≤ result
             → (play x (take count bytes.now)).console.picture ≡ x.console.picture }

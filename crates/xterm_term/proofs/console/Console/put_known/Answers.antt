@@ -1,6 +1,6 @@
 use Rattle.std.proofs.Common.{sym, ◌∙◌}
 use Rattle.xterm_term.specs.Console.{console_of}
-use Rattle.xterm_term.proofs.Found.{known_put, none_put}
+use Rattle.xterm_term.proofs.SpelledLemmas.{known_put, none_put}
 use Rattle.xterm_term.proofs.console.Console.put_known.Goals as goal
 
 pub returns-in-Some-clause-done : goal.returns-in-Some-clause-done

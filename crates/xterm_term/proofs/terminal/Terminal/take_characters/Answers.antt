@@ -1,7 +1,7 @@
-use Rattle.std.proofs.Common.{◌+◌, List, ℕ, ap, refl, take, ◌∙◌}
+use Rattle.std.proofs.Common.{◌+◌, List, ℕ, refl, take}
 use Rattle.xterm_term.specs.Seen.{Seen, seen_of}
 use Rattle.xterm_term.specs.Term.{play, sent}
-use Rattle.xterm_term.proofs.Found.{first_brings, first_titled}
+use Rattle.xterm_term.proofs.SpelledLemmas.{first_brings, first_titled}
 use Rattle.xterm_term.proofs.Idle.{brought, brought_silent, brought_terminal, brought_size}
 use Rattle.xterm_term.proofs.terminal.Terminal.take_characters.Goals as goal
 

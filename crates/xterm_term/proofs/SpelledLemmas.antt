@@ -1,20 +1,18 @@
--- Characters of several bytes that are found one behind the other, and what putting them comes to.
+-- Characters of several bytes that stand one behind the other, and what putting them comes to.
 use Rattle.std.proofs.Common.{◌≡◌, ℕ, ◌+◌, ◌-◌, ◌≤◌, Bool, true, false, List, [], ◌∷◌, ◌++◌, length, take, drop, refl, sym, ap, subst, ◌∙◌, arith}
-use Rattle.std.specs.Prelude.{Option, None, Some, IfSome, unwrap_or, if◌then◌else◌, not, ◌&&◌, ◌==◌}
+use Rattle.std.specs.Prelude.{Option, None, Some, unwrap_or, if◌then◌else◌, not, ◌&&◌, ◌==◌}
 use Rattle.std.proofs.lemmas.List.{length-drop, take_rest}
-use Rattle.std.specs.List.{list_all}
 use Rattle.std.proofs.lemmas.Bool.Decides.{nat_tests}
 use Rattle.characters.specs.Utf8.{Spells}
 use Rattle.characters.specs.Width.{width}
-use Rattle.xterm_term.specs.declared.spelled.Found.{Found}
 use Rattle.xterm_term.specs.Ahead.{is_narrow}
 use Rattle.xterm_term.specs.Console.{Console, forgotten}
 use Rattle.xterm_term.specs.Puts.{all_put, columns_of, is_c1, put, put_by_width}
-use Rattle.xterm_term.specs.Found.{Finds, Gathers, PutsFound, PutsSpelled}
+use Rattle.xterm_term.specs.Spelled.{PutsSpelled}
 use Rattle.xterm_term.specs.Seen.{Seen}
 use Rattle.xterm_term.proofs.Idle.{Brings}
 use Rattle.xterm_term.proofs.Runs.{put_others}
-use Rattle.xterm_term.proofs.Letters.{all_in_more, all_put_on, letters_left, spelled_alone, spelled_in_parts, spelled_on}
+use Rattle.xterm_term.proofs.Letters.{all_put_on, letters_left, spelled_alone, spelled_in_parts}
 
 -- ---- characters whose columns are known
 
@@ -43,34 +41,18 @@ one_by_test false width_ is = grind (arith, nat_tests)
 pub one_is_narrow : (character : ℕ) → columns_of character ≡ Some 1 → is_narrow character ≡ true
 one_is_narrow character is = one_by_test (is_c1 character) (width character) is
 
--- ---- characters that are found
+narrow_by_test : (b : Bool) (width_ : ℕ) → (not b && (width_ == 1)) ≡ true → Some 1 ≡ (if b then None else Some width_)
+narrow_by_test true width_ is = absurd cc
+narrow_by_test false width_ is = let same : 1 ≡ width_ = grind (arith, nat_tests) in ap Some same
+
+pub narrow_is_one : (character : ℕ) → is_narrow character ≡ true → Some 1 ≡ columns_of character
+narrow_is_one character is = narrow_by_test (is_c1 character) (width character) is
+
+-- ---- characters behind others
 
 -- one behind the first bytes is within them all
 pub within_more : (bytes : List ℕ) (at : ℕ) (n : ℕ) → at ≤ length bytes → n ≤ length (drop at bytes) → at + n ≤ length bytes
 within_more bytes at n within more = let long = length-drop at bytes in omega (arith, long)
-
--- ---- characters of one column
-
-pub gathers_two : (first : ℕ) (bytes letters : List ℕ) (second : Found) → is_narrow first ≡ true → is_narrow second.character ≡ true → Finds bytes second
-    → letters ≡ first ∷ second.character ∷ [] → Gathers first bytes second.len letters
-gathers_two first bytes letters second narrow other finds same = record {
-  within = finds.within;
-  behind = second.character ∷ [];
-  is = same;
-  narrow = ap (list_all is_narrow) same ∙ simp (narrow, other);
-  spells = spelled_alone (take second.len bytes) second.character finds.spells;
-}
-
-pub gathers_more : (first : ℕ) (bytes : List ℕ) (at : ℕ) (letters more : List ℕ) (found : Found) → Gathers first bytes at letters
-    → Finds (drop at bytes) found → is_narrow found.character ≡ true → more ≡ letters ++ found.character ∷ []
-    → Gathers first bytes (at + found.len) more
-gathers_more first bytes at letters more found gathers finds narrow same = record {
-  within = within_more bytes at found.len gathers.within finds.within;
-  behind = gathers.behind ++ found.character ∷ [];
-  is = same ∙ ap (λ (l : List ℕ). l ++ found.character ∷ []) gathers.is;
-  narrow = ap (list_all is_narrow) same ∙ all_in_more is_narrow letters found.character gathers.narrow narrow;
-  spells = spelled_on bytes at found.len gathers.behind found.character gathers.spells finds.spells;
-}
 
 -- ---- what is put
 
@@ -87,23 +69,6 @@ puts_on bytes at n s t u one other = (
   spelled_in_parts bytes at n one.0 other.0 one.1 other.1,
   other.2 ∙ ap (all_put other.0) one.2 ∙ sym (all_put_on one.0 other.0 s),
 )
-
-pub puts_gathered : (first : ℕ) (bytes : List ℕ) (at : ℕ) (letters : List ℕ) (s t : Console) → Gathers first bytes at letters → t ≡ all_put letters s
-    → PutsSpelled (take at bytes) (put first s) t
-puts_gathered first bytes at letters s t gathers told = (gathers.behind, gathers.spells, told ∙ ap (λ (l : List ℕ). all_put l s) gathers.is)
-
--- the one that was found, if any
-pub puts_found : (bytes : List ℕ) (n : ℕ) (found : Option Found) (s t : Console) → IfSome found (λ found. Finds bytes found) → PutsFound found n s t
-    → PutsSpelled (take n bytes) s t
-puts_found bytes n None s t finds puts = subst (λ (k : ℕ). PutsSpelled (take k bytes) s t) (sym puts.0) (puts_none bytes s t puts.1)
-puts_found bytes n (Some found) s t finds puts =
-    subst (λ (k : ℕ). PutsSpelled (take k bytes) s t) (sym puts.0) (puts_one (take found.len bytes) found.character s t finds.spells puts.1)
-
-pub found_within : (bytes : List ℕ) (at n : ℕ) (found : Option Found) (t u : Console) → at ≤ length bytes
-    → IfSome found (λ found. Finds (drop at bytes) found) → PutsFound found n t u → at + n ≤ length bytes
-found_within bytes at n None t u within finds other = omega (arith, within, other.0)
-found_within bytes at n (Some found) t u within finds other =
-    let long = length-drop at bytes in omega (arith, long, within, finds.within, other.0)
 
 -- ---- what it is for a terminal
 
