@@ -12,6 +12,8 @@ mod fed;
 #[cfg(test)]
 mod find;
 #[cfg(test)]
+mod less;
+#[cfg(test)]
 mod page;
 #[cfg(test)]
 mod picture;

@@ -11,3 +11,7 @@ mod NearLemmas
 mod StayLemmas
 mod SpaceLemmas
 mod RegionLemmas
+mod PairLemmas
+mod LeftLemmas
+mod SurplusLemmas
+mod LessLemmas

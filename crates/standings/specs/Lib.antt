@@ -9,3 +9,4 @@ pub mod Lag
 pub mod Near
 pub mod Room
 pub mod Follow
+pub mod Less

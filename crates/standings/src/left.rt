@@ -1,7 +1,6 @@
 //! What of a text went between two screens, told by what stands left of it.
 
-ghost use Rattle.std.specs.Prelude.{◌≡◌, ◌≢◌, [], ◌+◌, ◌<◌, ◌≤◌, false, true, List, ℕ, drop, length, nat_eq, take, IfOk, OnErr, OnOk};
-ghost use Rattle.std.specs.Cmp.Lexicographic.{pointwise};
+ghost use Rattle.std.specs.Prelude.{◌≡◌, ◌≢◌, [], ◌+◌, ◌<◌, ◌≤◌, false, true, List, ℕ, drop, length, IfOk, OnErr, OnOk};
 ghost use Rattle.standings.specs.Kept.{EndBy, Keeps, room_in};
 ghost use Rattle.standings.specs.Lag.{Lags};
 ghost use Rattle.standings.specs.Moved.{moved_up};
@@ -273,30 +272,6 @@ pub fn is_lone(here: &Standing, one: &Standing, at: usize) -> bool
     count_left(here.rows.as_slice(), here.places.as_slice(), left) == 0
 }
 
-/// Whether surely some place on another screen, the one behind as many others, has the same to the left.
-#[tactic(auto, using(crate::proofs::CountLemmas::one_is_there))]
-pub fn has_twin(one: &Standing, at: usize, other: &Standing) -> bool
-    requires { at < length one.now.places.items }
-    ensures { result ≡ true → is_lone other.now.rows.items other.now.places.items
-        (left_of one.now.rows.items (place_at one.now.places.items at)) ≡ false }
-{
-    at < other.places.len() && has_same_left(other, at, one, at)
-}
-
-/// Whether each place of a screen surely has one on the other with the same to the left, so that none is less there. It
-/// goes over both in reading order, once.
-pub fn keeps_all(one: &Standing, other: &Standing) -> bool
-    ensures { result ≡ true → (left : List ℕ)
-        → count_left one.now.rows.items one.now.places.items left
-        ≤ count_left other.now.rows.items other.now.places.items left }
-{
-    let mut kept = 0;
-    for at in 0..other.places.len() {
-        kept = kept_behind(one, kept, other, at);
-    }
-    kept == one.places.len()
-}
-
 /// Whether a text of so many characters ends, at each place at which it stands, before what is written behind so many
 /// characters of a row: it ends there, or inside a row above, or stands in a row below.
 pub fn ends_before(still: &Standing, len: usize, above: usize, before: usize) -> bool
@@ -337,37 +312,6 @@ pub fn stays_moved(still: &Standing) -> bool
     still.places.is_empty() || still.places[0].above > 0
 }
 
-/// How many places of a screen were kept behind one more of the other.
-fn kept_behind(one: &Standing, kept: usize, other: &Standing, at: usize) -> usize
-    requires kept { kept ≤ length one.now.places.items }
-    requires within { at < length other.now.places.items }
-    ensures within { result ≤ length one.now.places.items }
-    ensures counts { (left : List ℕ)
-        → count_left one.now.rows.items (take kept one.now.places.items) left
-        ≤ count_left other.now.rows.items (take at other.now.places.items) left
-        → count_left one.now.rows.items (take result one.now.places.items) left
-        ≤ count_left other.now.rows.items (take (at + 1) other.now.places.items) left }
-{
-    if kept == one.places.len() {
-        return kept;
-    }
-    if has_same_left(one, kept, other, at) {
-        return kept + 1;
-    }
-    kept
-}
-
-/// Whether a place has the same to the left as one on another screen.
-fn has_same_left(one: &Standing, at: usize, other: &Standing, there: usize) -> bool
-    requires within { at < length one.now.places.items }
-    requires there { there < length other.now.places.items }
-    ensures { result ≡ pointwise nat_eq (left_of one.now.rows.items (place_at one.now.places.items at))
-        (left_of other.now.rows.items (place_at other.now.places.items there)) }
-{
-    left_of(one.rows.as_slice(), one.places[at])
-        == left_of(other.rows.as_slice(), other.places[there])
-}
-
 /// How many of the places have this to the left.
 fn count_left(rows: &[Row], places: &[Place], left: &[char]) -> usize
     ensures { result ≡ count_left rows.now places.now left.now }
@@ -382,7 +326,7 @@ fn count_left(rows: &[Row], places: &[Place], left: &[char]) -> usize
 }
 
 /// What stands left of a place in its row.
-fn left_of(rows: &[Row], place: Place) -> &[char]
+pub(crate) fn left_of(rows: &[Row], place: Place) -> &[char]
     ensures { result.now ≡ left_of rows.now place }
 {
     let characters = characters_below(rows, place.above);

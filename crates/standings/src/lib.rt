@@ -1,9 +1,11 @@
 //! Where a text stands on rows of characters, what of it came and went between two screens, and how that is written.
 #![tactic(auto)]
 
+mod alone;
 mod follow;
 mod lag;
 mod left;
+mod less;
 mod line;
 mod near;
 mod place;
@@ -11,8 +13,10 @@ mod region;
 mod row;
 mod span;
 
+pub use alone::keeps_all;
 pub use lag::Lag;
-pub use left::{Standing, ends_before, has_twin, is_less, is_lone, keeps_all, stays_moved};
+pub use left::{Standing, ends_before, is_less, is_lone, stays_moved};
+pub use less::{Less, may_pass};
 pub use line::{Moment, put_found};
 pub use place::{Place, standing};
 pub use row::Row;

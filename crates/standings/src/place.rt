@@ -231,17 +231,36 @@ fn reach_start(rows: &[Row], len: usize, above: usize) -> usize
     start
 }
 
-/// Whether a text begins in a row.
+/// Whether a text begins in a row. It passes over blocks of characters at which the text doesn't begin.
 fn begins_in(rows: &[Row], above: usize, text: &[char]) -> bool
     requires { above < length rows.now }
     ensures { result ≡ false → places_in text.now above (line_text (drop above rows.now)) (length (row_below rows.now above).characters) ≡ [] }
 {
-    let below = &rows[above..];
-    if !has_front(characters_below(below, 0), text) {
+    let characters = characters_below(rows, above);
+    if !has_front(characters, text) {
         return false;
     }
-    for before in 0..characters_below(below, 0).len() {
-        if begins(below, before, text) {
+    let mut from = 0;
+    while from < characters.len() {
+        let next = next_block(characters, from, text);
+        let last = next + BLOCK.min(characters.len() - next);
+        if begins_between(rows, above, next, last, text) {
+            return true;
+        }
+        from = last;
+    }
+    false
+}
+
+/// Whether a text begins at one of the characters of a row from one up to and without another.
+fn begins_between(rows: &[Row], above: usize, start: usize, end: usize, text: &[char]) -> bool
+    requires row { above < length rows.now }
+    requires within { end ≤ length (row_below rows.now above).characters }
+    ensures { result ≡ false → (before : ℕ) → start ≤ before → before < end
+        → begins text.now (line_text (drop above rows.now)) before ≡ false }
+{
+    for before in start..end {
+        if begins(&rows[above..], before, text) {
             return true;
         }
     }

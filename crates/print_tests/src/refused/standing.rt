@@ -1,6 +1,6 @@
 //! Refused growths in where a text stands on rows.
 
-use standings::{Lag, Place, Row, Span, Standing};
+use standings::{Lag, Less, Place, Row, Span, Standing, may_pass};
 use std::alloc::{AllocError, Global};
 use std::process::Abort;
 use std::rt::Runtime;
@@ -421,5 +421,27 @@ fn rows_that_lag(rt: HostRuntime) -> Result<(), Fail> {
         given.follow_lag(&other, lag)?;
     }
     assert!(rt; is_same(&given, &other), "follow_lag made something else");
+    Ok(())
+}
+
+/// How many places of a screen are less on the other.
+fn count_less(alloc: Global, one: &Standing, other: &Standing) -> usize {
+    let less = Less::of(alloc, one, other);
+    let mut count = 0usize;
+    for at in 0..one.places.len() {
+        count = count.saturating_add(usize::from(less.has(one, at, other)));
+    }
+    count
+}
+
+#[test]
+fn places_that_are_less(rt: HostRuntime) -> Result<(), Fail> {
+    let places = [(0, 0), (0, 1), (1, 1)];
+    let one = still(&rt, &[("aa", false), ("ba", false)], &places)?;
+    let other = still(&rt, &[("ba", false)], &[(0, 1)])?;
+    assert!(rt; count_less(rt.alloc(), &one, &other) == 2);
+    assert!(rt; count_less(rt.alloc(), &other, &one) == 0);
+    assert!(rt; may_pass(&other, &one, &other));
+    assert!(rt; !may_pass(&one, &one, &other));
     Ok(())
 }

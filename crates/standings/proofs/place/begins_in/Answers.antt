@@ -1,25 +1,39 @@
-use Rattle.std.proofs.Common.{◌≡◌, ℕ, ◌<◌, ◌∙◌, ◌++◌, List, [], ap, drop, false, length, nat_eq, subst, sym}
+use Rattle.std.proofs.Common.{◌≡◌, ℕ, ◌<◌, ◌++◌, List, ap, arith, drop, false, inl, inr, length, nat_eq, subst}
 use Rattle.std.specs.List.{starts_with}
-use Rattle.std.proofs.lemmas.List.{take_rest}
-use Rattle.standings.specs.Standing.{begins, line_text}
-use Rattle.standings.specs.Rows.{Row, row_below}
-use Rattle.standings.proofs.RowLemmas.{first_below, places_more}
-use Rattle.standings.proofs.SpanLemmas.{none_here}
+use Rattle.std.proofs.lemmas.Bool.{cases_lt}
+use Rattle.standings.specs.Rows.{row_below}
+use Rattle.standings.specs.Standing.{line_text}
+use Rattle.standings.proofs.SpanLemmas.{all_before, never_here, none_here}
 use Rattle.standings.proofs.place.begins_in.Goals as goal
 
 pub returns-then-not-has_front : goal.returns-then-not-has_front
 returns-then-not-has_front c = λ _.
-    let rows = c.args.rows.now in
-    let above = c.args.above in
-    let same : c.characters_below.result.now ≡ (row_below rows above).characters =
-    c.characters_below.ensures ∙ ap (λ l. (row_below l 0).characters) (take_rest rows above) ∙ ap (λ (r : Row). r.characters) (first_below rows above c.requires) in
-    none_here c.args.text.now rows above
-    (subst (λ l. (before : ℕ) → before < length l → (rest : List ℕ) → starts_with nat_eq (drop before l ++ rest) c.args.text.now ≡ false) same (c.has_front.ensures c.if-not-has_front.true))
+    none_here c.args.text.now c.args.rows.now c.args.above
+    (subst (λ l. (before : ℕ) → before < length l → (rest : List ℕ) → starts_with nat_eq (drop before l ++ rest) c.args.text.now ≡ false) c.characters_below-characters.ensures (c.has_front.ensures c.if-not-has_front.true))
 
-pub loop-before-preserved : goal.loop-before-preserved
-loop-before-preserved c =
+pub returns : goal.returns
+returns c = λ _.
     let rows = c.args.rows.now in
     let above = c.args.above in
-    places_more c.args.text.now above (line_text (drop above rows)) c.loop-before.before false
-    (sym c.if-begins.false ∙ c.begins.ensures ∙ ap (λ l. begins c.args.text.now (line_text l) c.loop-before.before) (take_rest rows above))
-    ∙ ap (λ l. l ++ []) c.loop-before.invariant
+    let same = c.characters_below-characters.ensures in
+    all_before c.args.text.now above (line_text (drop above rows)) (length (row_below rows above).characters) (λ k lt.
+    c.loop-from.invariant.none k (omega (arith, lt, c.loop-from-test.false, ap length same)))
+
+pub loop-from-preserved : goal.loop-from-preserved
+loop-from-preserved c =
+    let rows = c.args.rows.now in
+    let above = c.args.above in
+    let text = c.args.text.now in
+    let same = c.characters_below-characters.ensures in
+    record {
+      within = omega (arith, ap length same, c.next_block-next.ensures.within, c.min.ensures);
+      none = λ k lt. elim (cases_lt k c.next_block-next.result) [
+        | inr late ↦ c.begins_between.ensures c.if-begins_between.false k late lt
+        | inl early ↦ elim (cases_lt k c.loop-from.from) [
+          | inl passed ↦ c.loop-from.invariant.none k passed
+          | inr low ↦
+              never_here text rows above k (omega (arith, early, ap length same, c.next_block-next.ensures.within))
+              (subst (λ l. (rest : List ℕ) → starts_with nat_eq (drop k l ++ rest) text ≡ false) same (c.next_block-next.ensures.passed k low early))
+        ]
+      ];
+    }

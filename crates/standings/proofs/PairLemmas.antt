@@ -1,0 +1,88 @@
+-- Places of two screens that pair off.
+use Rattle.std.proofs.Common.{◌≡◌, ℕ, ◌+◌, ◌-◌, ◌<◌, ◌≤◌, List, ◌++◌, drop, length, nat_eq, take, cond, ap, ◌∙◌, arith}
+use Rattle.std.specs.Cmp.Lexicographic.{pointwise}
+use Rattle.std.proofs.lemmas.List.{take_all}
+use Rattle.standings.specs.Less.{PairOff}
+use Rattle.standings.specs.Rows.{Row, row_below}
+use Rattle.standings.specs.Standing.{count_left, left_of, place_at}
+use Rattle.standings.specs.declared.place.Place.{Place}
+use Rattle.standings.proofs.CountLemmas.{count_cut, count_on, count_rest, counted}
+
+-- none more do
+pub pair_none : (one other : List Row) (places others : List Place) (n m : ℕ)
+    → PairOff one (take (n + 0) places) other (take (m + 0) others) (take n places) (take m others)
+pair_none one other places others n m = λ left.
+    let here : n + 0 ≡ n = omega arith in
+    let there : m + 0 ≡ m = omega arith in
+    omega (arith, ap (λ k. count_left one (take k places) left) here, ap (λ k. count_left other (take k others) left) there)
+
+-- one more on each screen, in rows of the same characters, behind as many of them
+pub pair_more : (one other : List Row) (places others : List Place) (n m k : ℕ) (alone alones : List Place) → n + k < length places → m + k < length others
+    → (row_below one (place_at places (n + k)).above).characters ≡ (row_below other (place_at others (m + k)).above).characters
+    → (place_at places (n + k)).before ≡ (place_at others (m + k)).before
+    → PairOff one (take (n + k) places) other (take (m + k) others) alone alones
+    → PairOff one (take (n + (k + 1)) places) other (take (m + (k + 1)) others) alone alones
+pair_more one other places others n m k alone alones lt lt' row before pairs = λ left.
+    let here = left_of one (place_at places (n + k)) in
+    let there = left_of other (place_at others (m + k)) in
+    let same : here ≡ there =
+    ap (λ b. take b (row_below one (place_at places (n + k)).above).characters) before ∙ ap (take (place_at others (m + k)).before) row in
+    let both : cond {A = ℕ} (pointwise nat_eq here left) 1 0 ≡ cond (pointwise nat_eq there left) 1 0 =
+    ap {B = ℕ} (λ l. cond (pointwise nat_eq l left) 1 0) same in
+    let next : n + (k + 1) ≡ n + k + 1 = omega arith in
+    let next' : m + (k + 1) ≡ m + k + 1 = omega arith in
+    omega (
+      arith,
+      ap (λ i. count_left one (take i places) left) next,
+      ap (λ i. count_left other (take i others) left) next',
+      counted one places (n + k) left lt,
+      counted other others (m + k) left lt',
+      both,
+      pairs left,
+    )
+
+-- a row of the other screen stands alone
+pub pair_alone : (one other : List Row) (places others : List Place) (from to : ℕ) (alone alones : List Place) → from ≤ to
+    → PairOff one places other (take from others) alone alones
+    → PairOff one places other (take to others) alone (alones ++ take (to - from) (drop from others))
+pair_alone one other places others from to alone alones le pairs = λ left.
+    omega (arith, count_cut other others from to left le, count_on other alones (take (to - from) (drop from others)) left, pairs left)
+
+-- rows of the one stand alone, and then places pair off
+pub pair_next : (one other : List Row) (places others : List Place) (from at to there next : ℕ) (alone alones : List Place) → from ≤ at
+    → PairOff one (take to places) other (take next others) (take at places) (take there others)
+    → PairOff one (take from places) other (take there others) alone alones
+    → PairOff one (take to places) other (take next others) (alone ++ take (at - from) (drop from places)) alones
+pair_next one other places others from at to there next alone alones le more pairs = λ left.
+    omega (arith, count_cut one places from at left le, count_on one alone (take (at - from) (drop from places)) left, more left, pairs left)
+
+-- and the last ones
+pub pair_last : (one other : List Row) (places others : List Place) (from there : ℕ) (alone alones : List Place) → length others ≤ there
+    → PairOff one (take from places) other (take there others) alone alones
+    → PairOff one places other others (alone ++ drop from places) alones
+pair_last one other places others from there alone alones all pairs = λ left.
+    omega (
+      arith,
+      count_rest one places from left,
+      count_on one alone (drop from places) left,
+      ap (λ l. count_left other l left) (take_all there others all),
+      pairs left,
+    )
+
+-- ---- kept in reading order
+
+-- a place is kept by one on the other screen
+pub kept_more : (one other : List Row) (places others : List Place) (n m : ℕ) (left : List ℕ) → n < length places → m < length others
+    → left_of one (place_at places n) ≡ left_of other (place_at others m)
+    → count_left one (take n places) left ≤ count_left other (take m others) left
+    → count_left one (take (n + 1) places) left ≤ count_left other (take (m + 1) others) left
+kept_more one other places others n m left lt lt' same le =
+    let both : cond {A = ℕ} (pointwise nat_eq (left_of one (place_at places n)) left) 1 0 ≡ cond (pointwise nat_eq (left_of other (place_at others m)) left) 1 0 =
+    ap {B = ℕ} (λ l. cond (pointwise nat_eq l left) 1 0) same in
+    omega (arith, counted one places n left lt, counted other others m left lt', both, le)
+
+-- or the other has one more
+pub kept_past : (one other : List Row) (places others : List Place) (n m : ℕ) (left : List ℕ) → m < length others
+    → count_left one (take n places) left ≤ count_left other (take m others) left
+    → count_left one (take n places) left ≤ count_left other (take (m + 1) others) left
+kept_past one other places others n m left lt le = omega (arith, counted other others m left lt, le)

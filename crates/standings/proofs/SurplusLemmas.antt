@@ -1,0 +1,189 @@
+-- What is kept for each left part with which a row begins, a place further.
+use Rattle.std.proofs.Common.{◌≡◌, ℕ, suc, ◌+◌, ◌-◌, ◌*◌, ◌<◌, ◌&&◌, ◌||◌, Bool, false, true, List, drop, get_or, length, nat_eq, nat_le, set, take, cond, refl, ap, sym, ◌∙◌, arith, inl, inr}
+use Rattle.std.specs.Cmp.Lexicographic.{pointwise}
+use Rattle.std.specs.List.{starts_with}
+use Rattle.std.proofs.Math.Nat.{mul-suc}
+use Rattle.std.proofs.lemmas.Bool.{cases_Bool, cases_eq, cases_lt, le-leb, lt-leb}
+use Rattle.std.proofs.lemmas.List.{get_or-set_other, get_or-set_same}
+use Rattle.standings.specs.Less.{for_left, is_last}
+use Rattle.standings.specs.Rows.{Row}
+use Rattle.standings.specs.Standing.{count_left, left_of, place_at}
+use Rattle.standings.specs.declared.place.Place.{Place}
+use Rattle.standings.proofs.CountLemmas.{counted, counted_from}
+use Rattle.standings.proofs.LeftLemmas.{for_set, left_same, other_left, same_left}
+
+-- ---- counted
+
+pub count_more : (row counts : List ℕ) (rows : List Row) (places : List Place) (k len value : ℕ) (left : List ℕ) → k < length places → len < length counts
+    → len ≡ length (left_of rows (place_at places k)) → starts_with nat_eq row (left_of rows (place_at places k)) ≡ true → starts_with nat_eq row left ≡ true
+    → value ≡ get_or counts len 0 + 1 → for_left counts left ≡ count_left rows (take k places) left
+    → for_left (set counts len value) left ≡ count_left rows (take (k + 1) places) left
+count_more row counts rows places k len value left lt room many begins begins' is so_far =
+    let here = left_of rows (place_at places k) in
+    let step = for_set row counts len value (λ n. n + 1) here left room many begins begins' is in
+    let one = counted rows places k left lt in
+    elim (cases_Bool (pointwise nat_eq here left)) [
+      | inl t ↦ omega (arith, rw t at step, rw t at one, so_far)
+      | inr f ↦ omega (arith, rw f at step, rw f at one, so_far)
+    ]
+
+pub count_same : (row counts : List ℕ) (rows : List Row) (places : List Place) (k : ℕ) (left : List ℕ) → k < length places
+    → starts_with nat_eq row (left_of rows (place_at places k)) ≡ false → starts_with nat_eq row left ≡ true
+    → for_left counts left ≡ count_left rows (take k places) left
+    → for_left counts left ≡ count_left rows (take (k + 1) places) left
+count_same row counts rows places k left lt fails begins so_far =
+    let one = counted rows places k left lt in
+    omega (arith, rw (other_left row (left_of rows (place_at places k)) left fails begins) at one, so_far)
+
+-- ---- taken off
+
+off_more : (all each n : ℕ) → all - each * n - each ≡ all - each * (n + 1)
+off_more all each n =
+    let next : n + 1 ≡ suc n = omega arith in
+    omega (arith, ap (λ m. each * m) next, mul-suc each n)
+
+pub take_more_off : (row counts was : List ℕ) (rows : List Row) (places : List Place) (each k len value : ℕ) (left : List ℕ) → k < length places → len < length counts
+    → len ≡ length (left_of rows (place_at places k)) → starts_with nat_eq row (left_of rows (place_at places k)) ≡ true → starts_with nat_eq row left ≡ true
+    → value ≡ get_or counts len 0 - each → for_left counts left ≡ for_left was left - each * count_left rows (take k places) left
+    → for_left (set counts len value) left ≡ for_left was left - each * count_left rows (take (k + 1) places) left
+take_more_off row counts was rows places each k len value left lt room many begins begins' is so_far =
+    let here = left_of rows (place_at places k) in
+    let step = for_set row counts len value (λ n. n - each) here left room many begins begins' is in
+    let one = counted rows places k left lt in
+    let n = count_left rows (take k places) left in
+    elim (cases_Bool (pointwise nat_eq here left)) [
+      | inl t ↦
+          (rw t at step) ∙ ap (λ m. m - each) so_far ∙ off_more (for_left was left) each n
+          ∙ ap (λ m. for_left was left - each * m) (sym (rw t at one))
+      | inr f ↦
+          let none : count_left rows (take (k + 1) places) left ≡ n = omega (arith, rw f at one) in
+          (rw f at step) ∙ so_far ∙ ap (λ m. for_left was left - each * m) (sym none)
+    ]
+
+pub take_none_off : (row : List ℕ) (rows : List Row) (places : List Place) (each k all now : ℕ) (left : List ℕ) → k < length places
+    → starts_with nat_eq row (left_of rows (place_at places k)) ≡ false → starts_with nat_eq row left ≡ true
+    → now ≡ all - each * count_left rows (take k places) left
+    → now ≡ all - each * count_left rows (take (k + 1) places) left
+take_none_off row rows places each k all now left lt fails begins so_far =
+    let one = counted rows places k left lt in
+    let none : count_left rows (take (k + 1) places) left ≡ count_left rows (take k places) left =
+    omega (arith, rw (other_left row (left_of rows (place_at places k)) left fails begins) at one) in
+    so_far ∙ ap (λ m. all - each * m) (sym none)
+
+-- ---- taken off from the last place on, where those behind place k are those from the next one on
+
+-- where some are left
+pub last_off : (row counts was : List ℕ) (rows : List Row) (places : List Place) (k next len value : ℕ) (left : List ℕ) → k < length places → next ≡ k + 1 → len < length counts
+    → len ≡ length (left_of rows (place_at places k)) → starts_with nat_eq row (left_of rows (place_at places k)) ≡ true → starts_with nat_eq row left ≡ true
+    → value ≡ get_or counts len 0 - 1 → for_left counts left ≡ for_left was left - count_left rows (drop next places) left
+    → for_left (set counts len value) left ≡ for_left was left - count_left rows (drop k places) left
+last_off row counts was rows places k next len value left lt is_next room many begins begins' is so_far =
+    let here = left_of rows (place_at places k) in
+    let step = for_set row counts len value (λ n. n - 1) here left room many begins begins' is in
+    let one = counted_from rows places k left lt in
+    let behind = ap (λ n. count_left rows (drop n places) left) is_next in
+    elim (cases_Bool (pointwise nat_eq here left)) [
+      | inl t ↦ omega (arith, rw t at step, rw t at one, so_far, behind)
+      | inr f ↦ omega (arith, rw f at step, rw f at one, so_far, behind)
+    ]
+
+-- where none is
+pub last_spent : (row counts was : List ℕ) (rows : List Row) (places : List Place) (k next len : ℕ) (left : List ℕ) → k < length places → next ≡ k + 1
+    → len ≡ length (left_of rows (place_at places k))
+    → get_or counts len 0 ≡ 0 → for_left counts left ≡ for_left was left - count_left rows (drop next places) left
+    → for_left counts left ≡ for_left was left - count_left rows (drop k places) left
+last_spent row counts was rows places k next len left lt is_next many none so_far =
+    let here = left_of rows (place_at places k) in
+    let one = counted_from rows places k left lt in
+    let behind = ap (λ n. count_left rows (drop n places) left) is_next in
+    elim (cases_Bool (pointwise nat_eq here left)) [
+      | inl t ↦
+          let at : get_or counts len 0 ≡ for_left counts left = ap (λ n. get_or counts n 0) (many ∙ ap length (same_left here left t)) in
+          omega (arith, rw t at one, so_far, behind, at, none)
+      | inr f ↦ omega (arith, rw f at one, so_far, behind)
+    ]
+
+-- where the row doesn't begin so
+pub last_other : (row : List ℕ) (rows : List Row) (places : List Place) (k next all now : ℕ) (left : List ℕ) → k < length places → next ≡ k + 1
+    → starts_with nat_eq row (left_of rows (place_at places k)) ≡ false → starts_with nat_eq row left ≡ true
+    → now ≡ all - count_left rows (drop next places) left
+    → now ≡ all - count_left rows (drop k places) left
+last_other row rows places k next all now left lt is_next fails begins so_far =
+    let one = counted_from rows places k left lt in
+    let behind = ap (λ n. count_left rows (drop n places) left) is_next in
+    omega (arith, rw (other_left row (left_of rows (place_at places k)) left fails begins) at one, so_far, behind)
+
+-- ---- whether place k is among the last so many
+
+pub is_told : (row counts was : List ℕ) (rows : List Row) (places : List Place) (k next len : ℕ) → k < length places → next ≡ k + 1
+    → len ≡ length (left_of rows (place_at places k)) → starts_with nat_eq row (left_of rows (place_at places k)) ≡ true
+    → ((left : List ℕ) → starts_with nat_eq row left ≡ true → for_left counts left ≡ for_left was left - count_left rows (drop next places) left)
+    → is_last row rows places was k ≡ nat_le 1 (get_or counts len 0)
+is_told row counts was rows places k next len lt is_next many begins so_far =
+    let here = left_of rows (place_at places k) in
+    let one = counted_from rows places k here lt in
+    let own : cond {A = ℕ} (pointwise nat_eq here here) 1 0 ≡ 1 = rw (left_same here here refl) refl in
+    let behind = ap (λ n. count_left rows (drop n places) here) is_next in
+    let at : get_or counts len 0 ≡ for_left counts here = ap (λ n. get_or counts n 0) many in
+    let rest = so_far here begins in
+    rw begins (elim (cases_lt 0 (get_or counts len 0)) [
+      | inl some ↦
+          le-leb (count_left rows (drop k places) here) (for_left was here) (omega (arith, some, one, own, behind, at, rest))
+          ∙ sym (le-leb 1 (get_or counts len 0) (omega (arith, some)))
+      | inr none ↦
+          lt-leb (count_left rows (drop k places) here) (for_left was here) (omega (arith, none, one, own, behind, at, rest))
+          ∙ sym (lt-leb 1 (get_or counts len 0) (omega (arith, none)))
+    ])
+
+pub not_told : (row was : List ℕ) (rows : List Row) (places : List Place) (k : ℕ) → starts_with nat_eq row (left_of rows (place_at places k)) ≡ false → is_last row rows places was k ≡ false
+not_told row was rows places k fails = rw fails refl
+
+-- ---- what is told, a place further
+
+pub or_true : (b : Bool) → (b || true) ≡ true
+or_true true = refl
+or_true false = refl
+
+further : (k next n : ℕ) → next ≡ k + 1 → (n ≡ k → ⊥) → nat_le next n ≡ nat_le k n
+further k next n is_next apart = elim (cases_lt n k) [
+  | inl low ↦ lt-leb next n (omega (arith, low)) ∙ sym (lt-leb k n low)
+  | inr high ↦ le-leb next n (omega (arith, high, apart)) ∙ sym (le-leb k n high)
+]
+
+-- place k isn't
+pub told_same : (told was : List Bool) (last : ℕ → Bool) (k next n : ℕ) → next ≡ k + 1 → last k ≡ false
+    → get_or told n false ≡ (get_or was n false || (nat_le next n && last n))
+    → get_or told n false ≡ (get_or was n false || (nat_le k n && last n))
+told_same told was last k next n is_next fails so_far = elim (cases_eq n k) [
+  | inl is ↦
+      so_far ∙ ap (λ b. get_or was n false || (b && last n)) (lt-leb next n (omega (arith, is)))
+      ∙ ap (λ b. get_or was n false || b) (sym (rw (le-leb k n (omega (arith, is))) (ap last is ∙ fails)))
+  | inr apart ↦ so_far ∙ ap (λ b. get_or was n false || (b && last n)) (further k next n is_next apart)
+]
+
+-- place k is
+pub told_more : (told was : List Bool) (last : ℕ → Bool) (k next n : ℕ) → next ≡ k + 1 → k < length told → last k ≡ true
+    → get_or told n false ≡ (get_or was n false || (nat_le next n && last n))
+    → get_or (set told k true) n false ≡ (get_or was n false || (nat_le k n && last n))
+told_more told was last k next n is_next lt holds so_far = elim (cases_eq n k) [
+  | inl is ↦
+      ap (λ m. get_or (set told k true) m false) is ∙ get_or-set_same told k true false lt
+      ∙ sym (rw (le-leb k n (omega (arith, is))) (rw (ap last is ∙ holds) (or_true (get_or was n false))))
+  | inr apart ↦ get_or-set_other told k n true false apart ∙ so_far ∙ ap (λ b. get_or was n false || (b && last n)) (further k next n is_next apart)
+]
+
+-- where none has a surplus, none is
+or_false : (b : Bool) → (b || false) ≡ b
+or_false true = refl
+or_false false = refl
+
+pub none_told : (row surplus : List ℕ) (rows : List Row) (places : List Place) (told : Bool) (n : ℕ) → n < length places
+    → ((left : List ℕ) → for_left surplus left ≡ 0) → told ≡ (told || is_last row rows places surplus n)
+none_told row surplus rows places told n lt none =
+    let left = left_of rows (place_at places n) in
+    let own : cond {A = ℕ} (pointwise nat_eq left left) 1 0 ≡ 1 = rw (left_same left left refl) refl in
+    let last : is_last row rows places surplus n ≡ false = elim (cases_Bool (starts_with nat_eq row left)) [
+      | inl begins ↦ rw begins (lt-leb (count_left rows (drop n places) left) (for_left surplus left) (omega (arith, own, counted_from rows places n left lt, none left)))
+      | inr fails ↦ rw fails refl
+    ] in
+    sym (or_false told) ∙ ap (λ b. told || b) (sym last)

@@ -1,0 +1,37 @@
+use Rattle.std.proofs.Common.{◌-◌, ◌*◌, ◌∙◌, ap, arith, refl}
+use Rattle.std.proofs.lemmas.List.{take_all}
+use Rattle.standings.specs.Less.{for_left}
+use Rattle.standings.specs.Standing.{count_left, left_of, place_at}
+use Rattle.standings.proofs.LeftLemmas.{front_fits}
+use Rattle.standings.proofs.SurplusLemmas.{take_more_off, take_none_off}
+use Rattle.standings.proofs.less.take_off.Goals as goal
+use Rattle.standings.proofs.less.take_off.Goals.{in-Some, in_default}
+
+pub loop-place-preserved : goal.loop-place-preserved
+loop-place-preserved c =
+    let row = c.args.row.now in
+    let rows = c.args.rows.now in
+    let places = c.args.places.now in
+    let counts = c.loop-place.counts in
+    let was = c.args.counts.now in
+    let k = c.loop-place.place-index in
+    record {
+      agree = c.len_left.ensures.agree;
+      left = λ left begins. elim c.match-len_left.branch [
+        | in-Some w ↦
+            let here = w.in-Some.ensures.some in
+            ap (λ l. for_left l left) w.counts-is
+            ∙ take_more_off row counts was rows places c.args.each k w.in-Some.len w.saturating_sub.result left c.loop-place-test.true
+            (omega (arith, here.0, front_fits row (left_of rows (place_at places k)) here.1, c.requires, c.loop-place.auto.counts))
+            here.0 here.1 begins w.saturating_sub.ensures (c.loop-place.invariant.left left begins)
+        | in_default w ↦
+            ap (λ l. for_left l left) w.counts-is
+            ∙ take_none_off row rows places c.args.each k (for_left was left) (for_left counts left) left c.loop-place-test.true
+            (w.in_default.ensures.none refl) begins (c.loop-place.invariant.left left begins)
+      ];
+    }
+
+pub returns : goal.returns
+returns c = λ left begins.
+    c.loop-place.invariant.left left begins
+    ∙ ap (λ l. for_left c.args.counts.now left - c.args.each * count_left c.args.rows.now l left) (take_all c.loop-place.place-index c.args.places.now (omega (arith, c.loop-place-test.false)))

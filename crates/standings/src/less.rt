@@ -1,0 +1,276 @@
+//! Which places of a screen are less on another, told by the rows that stand alone.
+//!
+//! Of each left part one screen has as many places more than another as its rows that stand alone have more than those of
+//! the other. That surplus is kept for a row at a time, by the length of the left part, and the last so many places are less.
+
+ghost use Rattle.std.specs.Prelude.{◌≡◌, ◌+◌, ◌-◌, ◌*◌, ◌<◌, ◌≤◌, ◌&&◌, ◌||◌, false, true, List, ℕ, None, length, nat_eq, replicate, slice_index_or, IfOk, IfSome, OnOk};
+ghost use Rattle.std.specs.List.{starts_with};
+ghost use Rattle.standings.specs.Less.{Agree, IsSurplus, IsTold, PairOff, SomePass, for_left, is_last, may_pass};
+ghost use Rattle.standings.specs.Rows.{row_below};
+ghost use Rattle.standings.specs.Standing.{count_left, is_less, left_of, place_at};
+
+use crate::alone::{Alone, agreed_len, row_end};
+use crate::left::{Standing, is_less, is_lone, left_of};
+use crate::place::Place;
+use crate::row::{Row, characters_below};
+use std::alloc::{AllocError, Global};
+
+/// Which places of a screen are less on another. Where memory is refused it is told of none, and each is asked for alone.
+#[derive(Drop)]
+pub struct Less {
+    told: Option<Vec<bool>>,
+}
+
+impl Less {
+    /// Those of a screen that are less on the other.
+    pub fn of(alloc: Global, one: &Standing, other: &Standing) -> Self
+        ensures { IsTold result one.now.rows.items one.now.places.items other.now.rows.items
+            other.now.places.items }
+    {
+        Less {
+            told: tell(alloc, one, other).ok(),
+        }
+    }
+
+    /// Whether a place of the screen is less on the other.
+    pub fn has(&self, one: &Standing, at: usize, other: &Standing) -> bool
+        requires within { at < length one.now.places.items }
+        requires told { IsTold self.now one.now.rows.items one.now.places.items other.now.rows.items
+            other.now.places.items }
+        ensures { result ≡ is_less one.now.rows.items one.now.places.items other.now.rows.items
+            other.now.places.items at }
+    {
+        match &self.told {
+            Some(told) => told[at],
+            None => is_less(one, at, other),
+        }
+    }
+}
+
+/// For each place of a screen whether it is less on the other.
+fn tell(alloc: Global, one: &Standing, other: &Standing) -> Result<Vec<bool>, AllocError>
+    ensures len { IfOk result (λ told. length told.items ≡ length one.now.places.items) }
+    ensures told { IfOk result (λ told. (n : ℕ) → n < length one.now.places.items
+        → slice_index_or told.items n false ≡ is_less one.now.rows.items one.now.places.items
+        other.now.rows.items other.now.places.items n) }
+{
+    let alone = Alone::of(alloc, one, other)?;
+    let mut told = vec![in alloc; false; one.places.len()]?;
+    let mut surplus = Vec::new(alloc);
+    let mut at = 0;
+    while at < alone.one.len() {
+        let row = characters_below(one.rows.as_slice(), alone.one[at].above);
+        find_surplus(row, one, other, &alone, &mut surplus)?;
+        tell_last(row, one, surplus.as_mut_slice(), told.as_mut_slice());
+        at = row_end(alone.one.as_slice(), at);
+    }
+    Ok(told)
+}
+
+/// Whether some place of a screen is less on the other, and has nothing with the same to the left on a third one.
+pub fn may_pass(first: &Standing, one: &Standing, other: &Standing) -> bool
+    ensures { SomePass result first.now.rows.items first.now.places.items
+        one.now.rows.items one.now.places.items other.now.rows.items other.now.places.items }
+{
+    let alloc = *one.rows.allocator();
+    match some_pass(alloc, first, one, other) {
+        Ok(some) => some,
+        Err(_) => may_pass_plainly(first, one, other),
+    }
+}
+
+/// The same by the surplus of the rows that stand alone.
+fn some_pass(
+    alloc: Global,
+    first: &Standing,
+    one: &Standing,
+    other: &Standing,
+) -> Result<bool, AllocError>
+    ensures { IfOk result (λ some. SomePass some first.now.rows.items first.now.places.items
+        one.now.rows.items one.now.places.items other.now.rows.items other.now.places.items) }
+{
+    let alone = Alone::of(alloc, one, other)?;
+    let mut surplus = Vec::new(alloc);
+    let mut at = 0;
+    while at < alone.one.len() {
+        let row = characters_below(one.rows.as_slice(), alone.one[at].above);
+        if some_pass_with(row, first, one, other, &alone, &mut surplus)? {
+            return Ok(true);
+        }
+        at = row_end(alone.one.as_slice(), at);
+    }
+    Ok(false)
+}
+
+/// The same of the places with a left part that a row begins with.
+fn some_pass_with(
+    row: &[char],
+    first: &Standing,
+    one: &Standing,
+    other: &Standing,
+    alone: &Alone,
+    surplus: &mut Vec<usize>,
+) -> Result<bool, AllocError>
+    requires { PairOff one.now.rows.items one.now.places.items other.now.rows.items
+        other.now.places.items alone.now.one.items alone.now.other.items }
+    ensures none { IfOk result (λ some. some ≡ false → (n : ℕ) → n < length one.now.places.items
+        → starts_with nat_eq row.now (left_of one.now.rows.items (place_at one.now.places.items n)) ≡ true
+        → may_pass first.now.rows.items first.now.places.items one.now.rows.items one.now.places.items
+        other.now.rows.items other.now.places.items n ≡ false) }
+    ensures some { IfOk result (λ some. some ≡ true
+        → (n : ℕ) × (n < length one.now.places.items)
+        × (may_pass first.now.rows.items first.now.places.items one.now.rows.items one.now.places.items
+        other.now.rows.items other.now.places.items n ≡ true)) }
+{
+    find_surplus(row, one, other, alone, surplus)?;
+    let counts = surplus.as_mut_slice();
+    take_off(
+        row,
+        first.rows.as_slice(),
+        first.places.as_slice(),
+        usize::MAX,
+        counts,
+    );
+    Ok(!is_spent(counts))
+}
+
+/// The same place by place.
+fn may_pass_plainly(first: &Standing, one: &Standing, other: &Standing) -> bool
+    ensures { SomePass result first.now.rows.items first.now.places.items
+        one.now.rows.items one.now.places.items other.now.rows.items other.now.places.items }
+{
+    for at in 0..one.places.len() {
+        if is_less(one, at, other) && is_lone(first, one, at) {
+            return true;
+        }
+    }
+    false
+}
+
+/// How many places more one screen has than the other with each left part that a row begins with.
+fn find_surplus(
+    row: &[char],
+    one: &Standing,
+    other: &Standing,
+    alone: &Alone,
+    surplus: &mut Vec<usize>,
+) -> Result<(), AllocError>
+    ensures len { OnOk result (length surplus.new.items ≡ length row.now + 1) }
+    ensures surplus { OnOk result (IsSurplus row.now one.now.rows.items alone.now.one.items
+        other.now.rows.items alone.now.other.items surplus.new.items) }
+{
+    surplus.clear();
+    surplus.resize(row.len() + 1, 0)?;
+    let counts = surplus.as_mut_slice();
+    count_lefts(row, one.rows.as_slice(), alone.one.as_slice(), counts);
+    take_off(
+        row,
+        other.rows.as_slice(),
+        alone.other.as_slice(),
+        1,
+        counts,
+    );
+    Ok(())
+}
+
+/// Whether no left part has a surplus. It goes over all of them with no way out, since that is done many at a time.
+fn is_spent(surplus: &[usize]) -> bool
+    ensures none { result ≡ true → (left : List ℕ) → for_left surplus.now left ≡ 0 }
+    ensures some { result ≡ false
+        → (k : ℕ) × (k < length surplus.now) × (0 < slice_index_or surplus.now k 0) }
+{
+    let mut some = false;
+    for count in surplus {
+        some |= *count > 0;
+    }
+    !some
+}
+
+/// Counts how many places have each left part that a row begins with.
+fn count_lefts(row: &[char], rows: &[Row], places: &[Place], counts: &mut [usize])
+    requires { counts.old ≡ replicate (length row.now + 1) 0 }
+    ensures { (left : List ℕ) → starts_with nat_eq row.now left ≡ true
+        → for_left counts.new left ≡ count_left rows.now places.now left }
+{
+    let mut agreed = Agreed::with(row, rows, 0);
+    for place in places {
+        if let Some(len) = agreed.len_left(row, rows, *place) {
+            counts[len] += 1;
+        }
+    }
+}
+
+/// Takes so many off for each place with a left part that a row begins with.
+fn take_off(row: &[char], rows: &[Row], places: &[Place], each: usize, counts: &mut [usize])
+    requires { length row.now < length counts.old }
+    ensures { (left : List ℕ) → starts_with nat_eq row.now left ≡ true
+        → for_left counts.new left ≡ for_left counts.old left - each * count_left rows.now places.now left }
+{
+    let mut agreed = Agreed::with(row, rows, 0);
+    for place in places {
+        if let Some(len) = agreed.len_left(row, rows, *place) {
+            counts[len] = counts[len].saturating_sub(each);
+        }
+    }
+}
+
+/// Tells of the last so many places with each left part that a row begins with. Where no such part has a surplus, which is
+/// seen at once, it tells of none.
+fn tell_last(row: &[char], still: &Standing, surplus: &mut [usize], told: &mut [bool])
+    requires surplus { length row.now < length surplus.old }
+    requires told { length told.old ≡ length still.now.places.items }
+    ensures { (n : ℕ) → n < length still.now.places.items
+        → slice_index_or told.new n false ≡ (slice_index_or told.old n false
+        || is_last row.now still.now.rows.items still.now.places.items surplus.old n) }
+{
+    if is_spent(surplus) {
+        return;
+    }
+    let rows = still.rows.as_slice();
+    let mut agreed = Agreed::with(row, rows, 0);
+    let mut at = still.places.len();
+    while at > 0 {
+        at -= 1;
+        if let Some(len) = agreed.len_left(row, rows, still.places[at]) {
+            if surplus[len] > 0 {
+                surplus[len] -= 1;
+                told[at] = true;
+            }
+        }
+    }
+}
+
+/// With how many characters a row and the one below so many others begin alike.
+#[derive(Clone, Copy)]
+struct Agreed {
+    above: usize,
+    count: usize,
+}
+
+impl Agreed {
+    /// That of a row and the one below so many others.
+    fn with(row: &[char], rows: &[Row], above: usize) -> Self
+        ensures above { result.above ≡ above }
+        ensures agree { Agree row.now (row_below rows.now above).characters result.count }
+    {
+        let count = agreed_len(row, characters_below(rows, above));
+        Agreed { above, count }
+    }
+
+    /// How many characters stand left of a place, if a row begins with these. It is compared with the place's row where
+    /// that is another one than the last time.
+    #[inline(always)]
+    fn len_left(&mut self, row: &[char], rows: &[Row], place: Place) -> Option<usize>
+        requires { Agree row.now (row_below rows.now self.old.above).characters self.old.count }
+        ensures agree { Agree row.now (row_below rows.now self.new.above).characters self.new.count }
+        ensures some { IfSome result (λ len. (len ≡ length (left_of rows.now place))
+            × (starts_with nat_eq row.now (left_of rows.now place) ≡ true)) }
+        ensures none { result ≡ None → starts_with nat_eq row.now (left_of rows.now place) ≡ false }
+    {
+        if place.above != self.above {
+            *self = Agreed::with(row, rows, place.above);
+        }
+        let len = left_of(rows, place).len();
+        if len <= self.count { Some(len) } else { None }
+    }
+}
