@@ -158,20 +158,20 @@ none_less sign index due len one places other others kept =
     (λ n low high. rw (less_kept one places other others kept n (omega arith)) refl)
 
 -- nor where each place is kept, or has a left part that stands at the chunk's start
-pub none_at : (index due len : ℕ) (first : List Row) (firsts : List Place) (last : List Row) (lasts : List Place) (one : List Row) (places : List Place) (other : List Row) (others : List Place) (n : ℕ)
-    → (is_lone first firsts (left_of one (place_at places n)) ≡ false) ⊎ (is_less one places other others n ≡ false)
+none_at : (index due len : ℕ) (first : List Row) (firsts : List Place) (last : List Row) (lasts : List Place) (one : List Row) (places : List Place) (other : List Row) (others : List Place) (n : ℕ)
+    → (is_less one places other others n && is_lone first firsts (left_of one (place_at places n))) ≡ false
     → passed_line index due len first firsts last lasts one places other others n ≡ []
-none_at index due len first firsts last lasts one places other others n (inr kept) = rw kept refl
-none_at index due len first firsts last lasts one places other others n (inl known) = rw known (elim (cases_Bool (is_less one places other others n)) [
-  | inl t ↦ rw t refl
+none_at index due len first firsts last lasts one places other others n none = elim (cases_Bool (is_less one places other others n)) [
+  | inl t ↦ rw t (rw (rw t at none) refl)
   | inr f ↦ rw f refl
-])
+]
 
 pub none_of_all : (index due len : ℕ) (first : List Row) (firsts : List Place) (last : List Row) (lasts : List Place) (one : List Row) (places : List Place) (other : List Row) (others : List Place)
-    → ((n : ℕ) → n < length places → passed_line index due len first firsts last lasts one places other others n ≡ [])
+    → ((n : ℕ) → n < length places → (is_less one places other others n && is_lone first firsts (left_of one (place_at places n))) ≡ false)
     → passed_lines index due len first firsts last lasts one places other others ≡ []
 none_of_all index due len first firsts last lasts one places other others none =
-    none_from (passed_line index due len first firsts last lasts one places other others) 0 (length places) (λ n low high. none n (omega arith))
+    none_from (passed_line index due len first firsts last lasts one places other others) 0 (length places)
+    (λ n low high. none_at index due len first firsts last lasts one places other others n (none n (omega arith)))
 
 -- ---- the same lines, by what is kept of the screens
 

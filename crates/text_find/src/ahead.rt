@@ -9,7 +9,6 @@ use crate::finder::Finder;
 use crate::foretold::{LetterRun, play_foretold};
 use crate::lines::none_passes;
 use crate::sides::{Sides, catch_up};
-use arrayvec::ArrayVec;
 use plays::{OutOfMemory, Plays, Reports};
 use std::alloc::Global;
 
@@ -28,11 +27,13 @@ pub(crate) fn play<T: Plays>(
     terminal.feed(bytes, &mut sink)
 }
 
-/// Plays a chunk's bytes; says whether surely nothing of the text passes inside it.
+/// Plays a chunk's bytes; says whether surely nothing of the text passes inside it. The list of letters is room for those
+/// that they write.
 pub(crate) fn play_ahead<T: Plays, F: Finder<T>>(
     alloc: Global,
     text: &[char],
     bytes: &[u8],
+    letters: &mut LetterRun,
     ends: &mut Sides,
     steps: &mut Steps,
     ahead: &mut T,
@@ -54,7 +55,7 @@ pub(crate) fn play_ahead<T: Plays, F: Finder<T>>(
         → IfOk result (λ calm. calm ≡ true
         → IsCalm text.now (F.screens profile) before bytes.now (length bytes.now)) }
 {
-    let (taken, calm) = play_pieces::<T, F>(alloc, text, bytes, ends, steps, ahead)?;
+    let (taken, calm) = play_pieces::<T, F>(alloc, text, bytes, letters, ends, steps, ahead)?;
     if calm {
         return Ok(true);
     }
@@ -69,6 +70,7 @@ fn play_pieces<T: Plays, F: Finder<T>>(
     alloc: Global,
     text: &[char],
     bytes: &[u8],
+    letters: &mut LetterRun,
     ends: &mut Sides,
     steps: &mut Steps,
     ahead: &mut T,
@@ -89,11 +91,10 @@ fn play_pieces<T: Plays, F: Finder<T>>(
         → IfOk result (λ played. played.1 ≡ true
         → IsCalm text.now (F.screens profile) before bytes.now played.0) }
 {
-    let mut letters = ArrayVec::new();
     let mut taken = 0;
     while taken < bytes.len() {
         let rest = &bytes[taken..];
-        let (more, calm) = play_piece::<T, F>(alloc, text, rest, &mut letters, ends, steps, ahead)?;
+        let (more, calm) = play_piece::<T, F>(alloc, text, rest, letters, ends, steps, ahead)?;
         taken += more;
         if !calm {
             return Ok((taken, false));

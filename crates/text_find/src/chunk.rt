@@ -10,6 +10,7 @@ use crate::ahead::play_ahead;
 use crate::behind::{Steps, reach};
 use crate::each_byte::put_chunk;
 use crate::finder::Finder;
+use crate::foretold::LetterRun;
 use crate::lines::put_ends;
 use crate::sides::{Sides, settle};
 use plays::{OutOfMemory, Plays};
@@ -27,6 +28,7 @@ pub(crate) fn put_chunk_at<T: Plays, F: Finder<T>, W: Write>(
     recording: &Recording,
     index: usize,
     text: &[char],
+    letters: &mut LetterRun,
     ends: &mut Sides,
     ahead: &mut T,
     steps: &mut Steps,
@@ -54,7 +56,7 @@ pub(crate) fn put_chunk_at<T: Plays, F: Finder<T>, W: Write>(
 {
     first_grows_by_a_chunk();
     let bytes = recording.chunks()[index].bytes.as_slice();
-    let Ok(calm) = play_ahead::<T, F>(alloc, text, bytes, ends, steps, ahead) else {
+    let Ok(calm) = play_ahead::<T, F>(alloc, text, bytes, letters, ends, steps, ahead) else {
         return Ok(false);
     };
     if calm {

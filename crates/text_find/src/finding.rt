@@ -13,6 +13,7 @@ use crate::again::put_chunk_again;
 use crate::behind::{Steps, steps_of};
 use crate::chunk::put_chunk_at;
 use crate::finder::Finder;
+use crate::foretold::LetterRun;
 use crate::laws::nowhere_means_nowhere;
 use crate::lines::put_from;
 use crate::sides::{Sides, sides_of};
@@ -198,9 +199,19 @@ fn put_between<T: Plays, F: Finder<T>, W: Write>(
 {
     gives_join::<W>();
     gives_end::<W>();
+    let mut letters = LetterRun::new();
     for index in start..end {
         let done = put_chunk_at::<T, F, W>(
-            alloc, recording, index, text, ends, &mut ahead, steps, behind, writer,
+            alloc,
+            recording,
+            index,
+            text,
+            &mut letters,
+            ends,
+            &mut ahead,
+            steps,
+            behind,
+            writer,
         )?;
         if !done {
             drop(ahead);

@@ -1,7 +1,8 @@
 //! The lines of what stands on a screen, of what is less on another, and of what passed inside a chunk.
 
-ghost use Rattle.std.specs.Prelude.{◌≡◌, ◌<◌, ◌&&◌, ◌++◌, [], List, ℕ, false, length, true, OnErr, OnOk};
+ghost use Rattle.std.specs.Prelude.{◌≡◌, ◌<◌, ◌&&◌, ◌++◌, [], List, ℕ, length, true, OnErr, OnOk};
 ghost use Rattle.standings.specs.Found.{found_line};
+ghost use Rattle.standings.specs.Less.{IsTold};
 ghost use Rattle.standings.specs.Rows.{Row};
 ghost use Rattle.standings.specs.Standing.{is_lone, left_of, place_at};
 ghost use Rattle.standings.specs.declared.place.Place.{Place};
@@ -10,7 +11,7 @@ ghost use Rattle.text_find.specs.Lines.{Began, end_lines, from_lines, less_line,
 
 use crate::sides::Sides;
 use plays::OutOfMemory;
-use standings::{Moment, Standing, has_twin, is_less, is_lone, keeps_all, put_found};
+use standings::{Less, Moment, Standing, is_lone, keeps_all, may_pass, put_found};
 use std::alloc::Global;
 use std::io::Write;
 use tape_core::Watched;
@@ -108,8 +109,9 @@ pub(crate) fn put_less<W: Write>(
     if none_went {
         return Ok(());
     }
+    let less = Less::of(alloc, one, other);
     for at in 0..one.places.len() {
-        put_if_less(alloc, sign, moment, one, at, other, writer)?;
+        put_if_less(alloc, sign, moment, one, at, other, &less, writer)?;
     }
     Ok(())
 }
@@ -122,16 +124,19 @@ fn put_if_less<W: Write>(
     one: &Standing,
     at: usize,
     other: &Standing,
+    less: &Less,
     writer: &mut Watched<W>,
 ) -> Result<(), OutOfMemory>
     requires within { at < length one.now.places.items }
+    requires told { IsTold less.now one.now.rows.items one.now.places.items
+        other.now.rows.items other.now.places.items }
     ensures gave { OnOk result (Gave W.contents writer.old writer.new
         (less_line sign moment.index moment.due moment.len
         one.now.rows.items one.now.places.items other.now.rows.items other.now.places.items at)) }
     ensures refused { OnErr result (writer.new ≡ writer.old) }
 {
     gives_join::<W>();
-    if is_less(one, at, other) {
+    if less.has(one, at, other) {
         put_at(alloc, sign, moment, one, at, writer)?;
     }
     Ok(())
@@ -179,8 +184,9 @@ pub(crate) fn put_passed<W: Write>(
     if keeps_all(one, other) {
         return Ok(());
     }
+    let less = Less::of(alloc, one, other);
     for at in 0..one.places.len() {
-        put_if_passed(alloc, moment, ends, one, at, other, writer)?;
+        put_if_passed(alloc, moment, ends, one, at, other, &less, writer)?;
     }
     Ok(())
 }
@@ -194,9 +200,12 @@ fn put_if_passed<W: Write>(
     one: &Standing,
     at: usize,
     other: &Standing,
+    less: &Less,
     writer: &mut Watched<W>,
 ) -> Result<(), OutOfMemory>
     requires within { at < length one.now.places.items }
+    requires told { IsTold less.now one.now.rows.items one.now.places.items
+        other.now.rows.items other.now.places.items }
     ensures gave { OnOk result (Gave W.contents writer.old writer.new
         (passed_line moment.index moment.due moment.len
         ends.now.before.rows.items ends.now.before.places.items
@@ -205,7 +214,7 @@ fn put_if_passed<W: Write>(
     ensures refused { OnErr result (writer.new ≡ writer.old) }
 {
     gives_join::<W>();
-    if is_less(one, at, other) && stood_at_neither(ends, one, at) {
+    if less.has(one, at, other) && stood_at_neither(ends, one, at) {
         put_at(alloc, b'~', moment, one, at, writer)?;
     }
     Ok(())
@@ -228,26 +237,5 @@ pub(crate) fn none_passes(first: &Standing, one: &Standing, other: &Standing) ->
         → passed_lines index due len first.now.rows.items first.now.places.items last lasts
         one.now.rows.items one.now.places.items other.now.rows.items other.now.places.items ≡ [] }
 {
-    if keeps_all(one, other) {
-        return true;
-    }
-    for at in 0..one.places.len() {
-        if may_pass(first, one, at, other) {
-            return false;
-        }
-    }
-    true
-}
-
-/// Whether a place may have gone, and have nothing with the same to the left on a third screen.
-fn may_pass(first: &Standing, one: &Standing, at: usize, other: &Standing) -> bool
-    requires { at < length one.now.places.items }
-    ensures { result ≡ false → (index due len : ℕ) (last : List Row) (lasts : List Place)
-        → passed_line index due len first.now.rows.items first.now.places.items last lasts
-        one.now.rows.items one.now.places.items other.now.rows.items other.now.places.items at ≡ [] }
-{
-    if has_twin(one, at, first) {
-        return false;
-    }
-    is_lone(first, one, at) && is_less(one, at, other)
+    keeps_all(one, other) || !may_pass(first, one, other)
 }

@@ -74,6 +74,7 @@ pub(crate) fn sides_of<T: Plays, F: Finder<T>>(
 
 /// What stands after is what stands on a terminal that has played more bytes. Says which rows may differ from those that
 /// stood after before.
+#[inline(always)]
 pub(crate) fn catch_up<T: Plays, F: Finder<T>>(
     sides: &mut Sides,
     terminal: &T,
@@ -87,6 +88,9 @@ pub(crate) fn catch_up<T: Plays, F: Finder<T>>(
         → OnOk result (AreBetween text.now (F.screens profile first) (F.screens profile after) sides.new) }
 {
     let span = F::catch_up(&mut sides.after.rows, terminal)?;
+    if span.is_none() {
+        return Ok(span);
+    }
     sides.after.look_again(text, span)?;
     sides.lag = sides.lag.widened(span);
     Ok(span)
@@ -98,6 +102,9 @@ pub(crate) fn settle(sides: &mut Sides) -> Result<(), OutOfMemory>
         → OnOk result (AreStill text other sides.new) }
 {
     let lag = sides.lag;
+    if lag.is_none() {
+        return Ok(());
+    }
     sides.before.follow_lag(&sides.after, lag)?;
     sides.lag = Lag::none();
     Ok(())

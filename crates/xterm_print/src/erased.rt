@@ -18,6 +18,7 @@ use xterm_term::Terminal;
 
 /// What a sequence that erases the rest of the cursor's row comes to: spaces over the characters from the cursor up to the
 /// end of those in use, so that nothing of the text goes. The letters become these spaces.
+#[inline(never)]
 pub(crate) fn erased(
     terminal: &Terminal,
     text: &[char],

@@ -76,6 +76,7 @@ impl Finder<Terminal> for Sheets {
         Ok(rows_read(alloc, screen)?)
     }
 
+    #[inline(always)]
     fn catch_up(rows: &mut Vec<Row>, terminal: &Terminal) -> Result<Span, OutOfMemory> {
         size_stays();
         stays_safe();

@@ -47,8 +47,25 @@ pub fn rows_read(alloc: Global, screen: &Screen) -> Result<Vec<Row>, AllocError>
 }
 
 /// Rows of before become those of the sheet that is shown. Only those on which touched lines bear are read; it says
-/// which.
+/// which. Mostly no line was touched, which is seen at once.
+#[inline(always)]
 pub fn read_touched(rows: &mut Vec<Row>, screen: &Screen) -> Result<Span, AllocError>
+    ensures rows { (before : List (List Cell)) → Told before screen.now
+        → length before ≡ screen.now.picture.lines
+        → rows.old.items ≡ rows_read screen.now.picture.lines before
+        → OnOk result (rows.new.items ≡ rows_read screen.now.picture.lines screen.now.picture.rows) }
+    ensures others { IfOk result (λ span. Stays span rows.old.items rows.new.items) }
+{
+    let _cursor = screen.cursor();
+    if !screen.any_touched() {
+        return Ok(Span::none());
+    }
+    read_lines(rows, screen)
+}
+
+/// The same of each line.
+#[inline(never)]
+fn read_lines(rows: &mut Vec<Row>, screen: &Screen) -> Result<Span, AllocError>
     ensures rows { (before : List (List Cell)) → Told before screen.now
         → length before ≡ screen.now.picture.lines
         → rows.old.items ≡ rows_read screen.now.picture.lines before
@@ -58,9 +75,6 @@ pub fn read_touched(rows: &mut Vec<Row>, screen: &Screen) -> Result<Span, AllocE
     let _cursor = screen.cursor();
     let mut span = Span::none();
     if rows.len() != screen.lines() as usize {
-        return Ok(span);
-    }
-    if !screen.any_touched() {
         return Ok(span);
     }
     let mut line = next_unlike(screen, 1);

@@ -31,6 +31,7 @@ const ESC: u8 = 27;
 
 /// How many of the bytes to play at once: where a text stands nowhere before them and behind them, it stands nowhere in
 /// between.
+#[inline(always)]
 pub(crate) fn piece(terminal: &Terminal, bytes: &[u8]) -> usize
     requires { 0 < length bytes.now }
     ensures some { 0 < result }
@@ -50,6 +51,7 @@ pub(crate) fn piece(terminal: &Terminal, bytes: &[u8]) -> usize
 
 /// How many of the bytes to play at once on a terminal that shows these rows, on which the text stands there: nothing of it
 /// goes at them but maybe at the last one, up to which the rows are the same then.
+#[inline(always)]
 pub(crate) fn quiet_piece(
     terminal: &Terminal,
     text: &[char],
@@ -78,6 +80,7 @@ pub(crate) fn quiet_piece(
 }
 
 /// The same of bytes that may begin with a letter.
+#[inline(never)]
 fn quiet_letters(terminal: &Terminal, text: &[char], still: &Standing, bytes: &[u8]) -> usize
     requires { 0 < length bytes.now }
     ensures some { 0 < result }
@@ -129,6 +132,7 @@ pub(crate) fn moved_up(terminal: &Terminal, bytes: &[u8]) -> Option<usize>
 
 /// Where the first of the bytes write letters over plain cells of the cursor's row, so that nothing of the text goes at
 /// them: the letters become these.
+#[inline(never)]
 fn written(
     terminal: &Terminal,
     text: &[char],
@@ -159,6 +163,7 @@ fn written(
 /// What the first of the bytes surely do to the rows of a terminal that shows these rows, on which the text stands there;
 /// where they write, nothing of the text goes at them, and the letters become what they write. The first byte, and of a
 /// sequence its first ones, say which question is worth to be asked: of most bytes none is.
+#[inline(always)]
 pub(crate) fn foretold(
     terminal: &Terminal,
     text: &[char],
@@ -185,6 +190,7 @@ pub(crate) fn foretold(
 }
 
 /// How rows move at the first of the bytes, if they do.
+#[inline(never)]
 fn moved(terminal: &Terminal, bytes: &[u8]) -> Option<Foretold>
     ensures within { IfSome result (λ foretold. IsWithin foretold (length bytes.now)) }
     ensures foretold { (text letters : List ℕ) (x : Term) → Shows terminal.now x

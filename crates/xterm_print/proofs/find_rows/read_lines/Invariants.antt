@@ -5,7 +5,7 @@ use Rattle.standings.specs.Rows.{row_below}
 use Rattle.standings.specs.Spans.{Stays}
 use Rattle.xterm_screen.specs.Picture.{Told}
 use Rattle.xterm_print.specs.FindRows.{row_read, rows_read}
-use Rattle.xterm_print.proofs.find_rows.read_touched.Given as goal
+use Rattle.xterm_print.proofs.find_rows.read_lines.Given as goal
 
 -- those so far are as they are read now, and the others are as they were
 abbrev pub invariant-loop-line : goal.invariant-loop-line
