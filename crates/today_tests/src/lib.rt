@@ -17,3 +17,5 @@ mod finds;
 mod pages;
 #[cfg(test)]
 mod pictures;
+#[cfg(test)]
+mod refused;
