@@ -8,7 +8,8 @@ has to return in time, with a status of the table: where the plain reader (plain
 and `redact` 3) and just that fault, nothing written; else 0, or 1 where `save` refuses a request line, `check` notes
 something or a text is left, and the text that the plain readers come to, where they know it (check_reader.py: of
 checks, and the note on standard error). What `save` writes is the pair that the plain reader's edits come to; what
-`redact` writes has * for each byte of a text that stood there.
+`redact` writes has * for each byte of a text that stood there. `mend` writes and tells of each pair what its plain
+reader (mend_reader.py) comes to.
 The last line is 'N passed, M failed'.
 """
 import concurrent.futures
@@ -21,6 +22,7 @@ import tempfile
 
 import check_reader
 import harm
+import mend_reader
 import plain_find
 import plain_reader as plain
 import plain_redact
@@ -111,6 +113,7 @@ class Damage:
     def everything(self, script, timing):
         self.write("s", script)
         self.write("t", timing)
+        self.mended(script, timing)
         recording = plain.read(script, timing)
         if isinstance(recording, str):
             return self.refused(plain.told(recording, script, timing))
@@ -122,6 +125,18 @@ class Damage:
         self.found_today(recording)
         self.edited(recording)
         self.redacted(recording, script)
+
+    def mended(self, script, timing):
+        """The pair mended: a fault of its header line alone is told as one."""
+        mended = mend_reader.mend("", script, timing)
+        if mended is None:
+            fault = plain.told("typescript has no header line", script, timing)
+            new_script, new_timing, wanted = b"", b"", (1, b"", fault)
+        else:
+            new_script, new_timing, told, status = mended
+            wanted = status, told.encode(), b""
+        self.expect("mend", self.run(["mend", "s", "t", "s4", "t4"]), wanted)
+        self.expect("what mend wrote", (self.text("s4"), self.text("t4")), (new_script, new_timing))
 
     def refused(self, errors):
         for words in (

@@ -119,9 +119,8 @@ def offered(shell, *words):
 
 def in_shells():
     texts, (front_flags, commands) = helps(), front()
-    for shell in ("bash", "fish"):
-        if skip.lacks(shell, f"what {shell} completes"):
-            continue
+    shells = [shell for shell in ("bash", "fish") if not skip.lacks(shell, f"what {shell} completes")]
+    for shell in shells:
         check(f"{shell}: commands", {word for word in offered(shell, "typetool", "") if word[0] != "-"}, commands)
         check(f"{shell}: flags", offered(shell, "typetool", "--"), front_flags)
         check(f"{shell}: what help is for", offered(shell, "typetool", "help", ""), set(texts))
@@ -137,10 +136,11 @@ def in_shells():
         check(f"bash: profiles of {command}", of_today, {"vt100", "vt102", "xterm"})
     check("bash: sizes", offered("bash", "typetool", "page", "--size", "1"), {"100x30", "120x40", "132x43", "160x50"})
     check("bash: --size=8", offered("bash", "typetool", "page", "--size", "=", "8"), {"80x24"})
-    check("fish: sizes", offered("fish", "typetool", "page", "--size", "8"), {"80x24"})
-    check("fish: --size=8", offered("fish", "typetool", "page", "--size=8"), {"--size=80x24"})
-    wanted = {"--profile=vt100", "--profile=vt102"}
-    check("fish: --profile=", offered("fish", "typetool", "screen", "--profile=vt"), wanted)
+    if "fish" in shells:
+        check("fish: sizes", offered("fish", "typetool", "page", "--size", "8"), {"80x24"})
+        check("fish: --size=8", offered("fish", "typetool", "page", "--size=8"), {"--size=80x24"})
+        wanted = {"--profile=vt100", "--profile=vt102"}
+        check("fish: --profile=", offered("fish", "typetool", "screen", "--profile=vt"), wanted)
     check("bash: files", "README.md" in offered("bash", "typetool", "info", "READ"), True)
     check("bash: no moments", offered("bash", "typetool", "due", "--at", ""), set())
 

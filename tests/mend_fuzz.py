@@ -4,11 +4,12 @@
     tests/mend_fuzz.py TYPETOOL [PAIRS [SEED]]
 
 Each pair is pieces of real recordings, in the classic or in the multi-stream format, with inputs in the typescript or
-in a log of their own, signals and header lines, one session behind another, with and without a header line; bytes of
-it were flipped, cut, doubled and dropped. `mend`, with each of its flags, has to write just the pair that the plain
-reader (mend_reader.py) comes to, and tell just that, with its status; where the typescript that is read has no LF, it
-has to say so and write nothing. What it wrote `info` and `check` have to read without a fault. The last line is
-'N passed, M failed'.
+in a log of their own, signals and header lines, lines that end in LF or CR LF, one session behind another, with and
+without a header line and script's closing line; bytes of it were flipped, cut, doubled and dropped. `mend`, with each
+of its flags, has to write just the pair that the plain reader (mend_reader.py) comes to, and tell just that, with its
+status; where the typescript that is read has no LF, it has to say so and write nothing. What it wrote `info` and
+`check` have to read without a fault, and `check` notes a trailer just where `mend` told of bytes without timing. The
+last line is 'N passed, M failed'.
 """
 import concurrent.futures
 import os
@@ -58,16 +59,23 @@ def streams(rng, chunks):
     return body, lines
 
 
+def ended(rng, lines):
+    """Lines with their ends: mostly LF alone, else CR LF everywhere, here and there, or with a CR too many."""
+    ends = rng.choice([[b"\n"]] * 6 + [[b"\r\n"], [b"\n", b"\r\n"], [b"\r\n", b"\r\r\n"]])
+    timing = b"".join(line + rng.choice(ends) for line in lines)
+    return timing if rng.random() < 0.9 else timing[:-1]
+
+
 def session(rng, whole):
     """A typescript and its timing."""
     header, chunks, trailer = harm.piece(rng, whole)
+    trailer = rng.choice([trailer] * 6 + [b"", b"\nScript done on X", b"\nScript done on X\n\n", b"more"])
     body, lines = rng.choice([classic, streams])(rng, chunks)
     if rng.random() < 0.1:
         lines.insert(
             rng.randint(0, len(lines)), rng.choice([b"", b" \t", b"O", b"0 1", b"X 0 1", b"I 0 1", b"0 1048577"])
         )
-    timing = b"\n".join(lines) + (b"\n" if rng.random() < 0.9 else b"")
-    return (header if rng.random() < 0.8 else b"") + body + trailer, timing
+    return (header if rng.random() < 0.8 else b"") + body + trailer, ended(rng, lines)
 
 
 def damaged(rng, whole):
@@ -120,8 +128,9 @@ class Mending:
         self.expect(f"mend {how}", got, (status, told.encode(), hint.encode()))
         self.expect("the new pair", (self.text("s2"), self.text("t2")), (new_script, new_timing))
         self.expect("what info says of it", self.run("info", "s2", "t2")[::2], (0, b""))
-        status, _, errors = self.run("check", "s2", "t2")
-        self.expect("what check says of it", (status in (0, 1), errors), (True, b""))
+        status, noted, errors = self.run("check", "s2", "t2")
+        trailer = (b"note trailer: " in noted, "have no timing" in told)
+        self.expect("what check says of it", (status in (0, 1), errors, trailer[0]), (True, b"", trailer[1]))
 
 
 def one(folder, number, whole):

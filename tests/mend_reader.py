@@ -4,8 +4,8 @@
     tests/mend_reader.py [--last|--headless] SCRIPT TIMING NEWSCRIPT NEWTIMING
 
 Nothing is shared with the crates: both formats of timing files are read anew here, as docs/FORMATS.md says. It writes
-the new pair, tells what was lost, and exits with 1 where a line or a chunk was left out or cut, and where the
-typescript has no header line.
+the new pair, tells what was lost, and exits with 1 where a line or a chunk was left out or cut, where bytes behind the
+last chunk have no timing, and where the typescript has no header line.
 """
 import re
 import sys
@@ -15,6 +15,8 @@ LONGEST_CHUNK = 1_048_576
 MOST_CHUNKS = 1_000_000
 LONGEST_BODY = 1_073_741_824
 OPENING = b"Script started on "
+# What script(1) leaves behind the last chunk.
+CLOSING = re.compile(rb"(?:\nScript done on [^\n]*\n?)?")
 DELAY = re.compile(rb"(-?)([0-9]+)(?:\.([0-9]*))?")
 
 
@@ -57,7 +59,8 @@ class Front:
         self.parts, self.inputs, self.signals = [], 0, 0
         self.waited, self.outputs, self.counted, self.logs = 0, 0, 0, {}
         self.left = None
-        lines = lines_of(timing)
+        # One CR at the end of a line isn't read.
+        lines = [line.removesuffix(b"\r") for line in lines_of(timing)]
         told = next((fields for fields in map(fields_of, lines) if fields), [b"0"])
         read = self.multi if begins_with_letter(told[0]) else self.classic
         for number, line in enumerate(lines, 1):
@@ -134,7 +137,7 @@ def cut(body, parts):
     return chunks, None, 0, body[at:]
 
 
-def told(front, cut_to, left):
+def told(front, cut_to, left, timing, trailer):
     if front.left:
         yield "timing line %d: %s, %d lines left out" % front.left
     if front.inputs or front.signals:
@@ -143,6 +146,15 @@ def told(front, cut_to, left):
         yield "chunk %d cut to %d of %d bytes" % cut_to
     if left:
         yield f"{left} chunks left out"
+    if any(line.endswith(b"\r") for line in lines_of(timing)):
+        yield "timing has CR LF"
+    if is_untimed(trailer):
+        yield f"{len(trailer)} bytes behind the last chunk have no timing"
+
+
+def is_untimed(trailer):
+    """Whether more stands behind the last chunk than script's closing line."""
+    return not CLOSING.fullmatch(trailer)
 
 
 def mend(how, script, timing):
@@ -155,8 +167,8 @@ def mend(how, script, timing):
     chunks, cut_to, left, trailer = cut(script[start:], front.parts)
     body = b"".join(taken for _, taken in chunks)
     lines = (f"{delay // 10**6}.{delay % 10**6:06} {len(taken)}\n" for delay, taken in chunks)
-    text = "".join(line + "\n" for line in told(front, cut_to, left))
-    damaged = bool(front.left or cut_to or left)
+    text = "".join(line + "\n" for line in told(front, cut_to, left, timing, trailer))
+    damaged = bool(front.left or cut_to or left or is_untimed(trailer))
     return script[:start] + body + trailer, "".join(lines).encode(), text, int(damaged)
 
 

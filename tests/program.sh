@@ -324,6 +324,11 @@ mended() {
     verdict "$1" "$2" $? "$3" "$4"
 }
 
+# untimed N: that so many bytes have no timing.
+untimed() {
+    printf '%s bytes behind the last chunk have no timing\\n' "$1"
+}
+
 printf '%baX' "$head" >cut.script
 printf '0.000000 1\n0.250000 1\n0.500000 1\n' >axb.timing
 mended 'a script that ends early' 1 '1 chunks left out\n' '' cut.script axb.timing
@@ -340,12 +345,16 @@ mended 'inputs in the typescript' 0 '1 inputs and 0 signals left out\n' '' aib.s
 holds 'inputs in the typescript' new.script "$head"ab
 holds 'inputs in the typescript' new.timing '0.500000 1\n0.500000 1\n'
 timing '0.5 1\nzero\n'
-mended 'a line that is none' 1 'timing line 2: multi-stream format, 1 lines left out\n' '' ab.script bad.timing
+mended 'a line that is none' 1 "timing line 2: multi-stream format, 1 lines left out\n$(untimed 1)" '' ab.script bad.timing
 holds 'a line that is none' new.script "$head"ab
 holds 'a line that is none' new.timing '0.500000 1\n'
-mended 'script and timing swapped' 1 'timing line 1: bad stream, 2 lines left out\n' "$(hint "$swapped")" ab.timing ab.script
+timing '0 1\r\n\r\n0.5 1\r\n'
+mended 'lines that end in CR LF' 0 'timing has CR LF\n' '' ab.script bad.timing
+holds 'lines that end in CR LF' new.timing '0.000000 1\n0.500000 1\n'
+lost="timing line 1: bad stream, 2 lines left out\n"
+mended 'script and timing swapped' 1 "$lost$(untimed 11)" "$(hint "$swapped")" ab.timing ab.script
 timing 'OX 0.5 1\nO 0.1 1\n'
-mended 'a stream that is none' 1 'timing line 1: bad stream, 2 lines left out\n' '' ab.script bad.timing
+mended 'a stream that is none' 1 "$lost$(untimed 2)" '' ab.script bad.timing
 mended 'a whole pair' 0 '' '' ab.script ab.timing
 holds 'a whole pair' new.script "$head"ab
 holds 'a whole pair' new.timing '0.000000 1\n0.500000 1\n'
@@ -354,7 +363,7 @@ holds 'no header line' new.script ''
 holds 'no header line' new.timing ''
 absent 'no header line' new.script.part
 mended 'an empty script' 1 '' "typetool: typescript has no header line\n$(hint "$interrupted")" /dev/null ab.timing
-mended 'a header that is made' 0 '' '' headless.script ab.timing --headless
+mended 'a header that is made' 1 "$(untimed 5)" '' headless.script ab.timing --headless
 holds 'a header that is made' new.script 'Script started\nno line'
 printf '%bold\nScript done on X\n%bab' "$head" 'Script started on Y\n' >appended.script
 mended 'a typescript that was appended to' 0 '' '' appended.script ab.timing --last

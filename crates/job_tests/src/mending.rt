@@ -12,7 +12,7 @@ type Pair<'a> = (&'a [u8], &'a [u8], Header);
 /// The new pair, what is told, and the outcome.
 type Wanted<'a> = (&'a [u8], &'a [u8], &'a [u8], Outcome);
 
-/// A line or a chunk was left out or cut.
+/// A line or a chunk was left out or cut, or bytes have no timing.
 const DAMAGED: Outcome = Outcome {
     status: 1,
     fault: None,
@@ -32,7 +32,7 @@ const APPENDED: &[u8] =
     b"Script started on X\nold\nScript done on X\nScript started on Y\nab\nScript done on Y\n";
 
 /// Pairs, and what they are mended to.
-const ROWS: [(Pair<'static>, Wanted<'static>); 12] = [
+const ROWS: [(Pair<'static>, Wanted<'static>); 13] = [
     (
         (
             b"Script started on X\naXb",
@@ -101,11 +101,20 @@ const ROWS: [(Pair<'static>, Wanted<'static>); 12] = [
         ),
     ),
     (
-        (APPENDED, b"1 3\n", Header::Last),
+        (APPENDED, b"1 2\n", Header::Last),
         (
             b"Script started on Y\nab\nScript done on Y\n",
-            b"1.000000 3\n",
+            b"1.000000 2\n",
             b"",
+            DONE,
+        ),
+    ),
+    (
+        (b"h\nab\nScript done on X", b"0 1\r\n0 1\r\n", Header::Kept),
+        (
+            b"h\nab\nScript done on X",
+            b"0.000000 1\n0.000000 1\n",
+            b"timing has CR LF\n",
             DONE,
         ),
     ),
@@ -120,6 +129,62 @@ const ROWS: [(Pair<'static>, Wanted<'static>); 12] = [
     ((b"ab", b"0 1\n", Header::Kept), (b"", b"", b"", REFUSED)),
     ((b"ab", b"bad\n", Header::Last), (b"", b"", b"", REFUSED)),
     ((b"", b"", Header::Kept), (b"", b"", b"", REFUSED)),
+];
+
+/// Pairs with bytes that have no timing, what they are mended to, and what is told of that.
+const UNTIMED: [(Pair<'static>, Wanted<'static>, &[u8]); 5] = [
+    (
+        (b"h\nab", b"0.5 1\nzero\n", Header::Kept),
+        (
+            b"h\nab",
+            b"0.500000 1\n",
+            b"timing line 2: multi-stream format, 1 lines left out\n\
+                1 bytes behind the last chunk have no timing\n",
+            DAMAGED,
+        ),
+        b"1 bytes behind the last chunk have no timing\n",
+    ),
+    (
+        (APPENDED, b"1 3\n", Header::Last),
+        (
+            b"Script started on Y\nab\nScript done on Y\n",
+            b"1.000000 3\n",
+            b"17 bytes behind the last chunk have no timing\n",
+            DAMAGED,
+        ),
+        b"17 bytes behind the last chunk have no timing\n",
+    ),
+    (
+        (b"h\na\nScript done on X\n\n", b"1 1\n", Header::Kept),
+        (
+            b"h\na\nScript done on X\n\n",
+            b"1.000000 1\n",
+            b"19 bytes behind the last chunk have no timing\n",
+            DAMAGED,
+        ),
+        b"19 bytes behind the last chunk have no timing\n",
+    ),
+    (
+        (b"ab", b"", Header::Made),
+        (
+            b"Script started\nab",
+            b"",
+            b"2 bytes behind the last chunk have no timing\n",
+            DAMAGED,
+        ),
+        b"2 bytes behind the last chunk have no timing\n",
+    ),
+    (
+        (b"h\nabc", b"O 0 1\r\nI 0 1\r\nX\r\n", Header::Kept),
+        (
+            b"h\nabc",
+            b"0.000000 1\n",
+            b"timing line 3: bad stream, 1 lines left out\n1 inputs and 0 signals left out\n\
+                timing has CR LF\n2 bytes behind the last chunk have no timing\n",
+            DAMAGED,
+        ),
+        b"2 bytes behind the last chunk have no timing\n",
+    ),
 ];
 
 /// Mends a pair by the call `mend`, and compares what came out.
@@ -169,7 +234,15 @@ fn pairs_are_mended(rt: HostRuntime) {
     }
 }
 
-/// What was mended is mended to the same, and nothing is told of it.
+#[test]
+fn bytes_without_timing_are_told(rt: HostRuntime) {
+    for (pair, wanted, _) in &UNTIMED {
+        compare_mended(&rt, *pair, *wanted);
+        compare_job(&rt, *pair, *wanted);
+    }
+}
+
+/// What was mended is mended to the same, and nothing is told of it but bytes without timing.
 #[test]
 fn what_was_mended_stays(rt: HostRuntime) {
     for (_, (script, timing, _, outcome)) in &ROWS {
@@ -177,5 +250,9 @@ fn what_was_mended_stays(rt: HostRuntime) {
             let pair = (*script, *timing, Header::Kept);
             compare_mended(&rt, pair, (script, timing, b"", DONE));
         }
+    }
+    for (_, (script, timing, _, _), told) in &UNTIMED {
+        let pair = (*script, *timing, Header::Kept);
+        compare_mended(&rt, pair, (script, timing, told, DAMAGED));
     }
 }

@@ -1,6 +1,7 @@
 //! The call `redact` over texts in memory: rows by hand, of the new pair and of what is told.
 use crate::in_memory::{DONE, do_job_beside};
 use command_line::{Job, Player};
+use std::io;
 use std::process::Abort;
 use std::test::Fail;
 use tape_core::{Fault, Watched};
@@ -274,6 +275,34 @@ fn redact_keeps_the_size_of_a_terminal_of_today(rt: HostRuntime) -> Result<(), F
         ),
     );
     Ok(())
+}
+
+/// A writer of find lines that took bytes before doesn't change the status.
+#[test]
+fn redact_goes_by_its_own_lines(rt: HostRuntime) {
+    let typed = b"Script started on X\nsecret sex\x08cret".as_slice();
+    let untyped = b"Script started on X\nsecret, no more".as_slice();
+    let mut found = Watched::new(Vec::new(rt.alloc()));
+    for (script, status) in [(typed, 1), (untyped, 0), (typed, 1)] {
+        assert!(rt; !found.failed(), "a vector takes every byte");
+        let outcome = redact(
+            rt.alloc(),
+            Player::Vt(Profile::Vt100),
+            SECRET,
+            &mut Watched::new(script),
+            &mut Watched::new(b"0 15\n".as_slice()),
+            &mut Watched::new(io::sink()),
+            &mut Watched::new(io::sink()),
+            &mut Watched::new(io::sink()),
+            &mut found,
+            &mut Watched::new(io::sink()),
+        );
+        assert_eq!(rt; (outcome.status, outcome.fault), (status, None));
+    }
+    assert_eq!(rt;
+        found.into_inner().as_slice(),
+        b"+ 0 0.000000 1 8 ****** secret\n+ 0 0.000000 1 8 ****** secret\n".as_slice()
+    );
 }
 
 /// The job of that name writes the same pair, and has the same status.

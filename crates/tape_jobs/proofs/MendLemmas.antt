@@ -7,7 +7,7 @@ use Rattle.tape_core.specs.declared.fault.Fault.{Fault}
 use Rattle.tape_core.specs.declared.fault.Fault.TheVariants.{NoHeader, ReadFault, WriteFault}
 use Rattle.tape_jobs.proofs.JobLemmas.{comes_by, is_not, stops}
 use Rattle.tape_jobs.specs.Endings.{Device, HasFailed, TookBoth, TookPartOfBoth, Writers}
-use Rattle.tape_jobs.specs.Mending.{AWriterFailed, IsRead, IsSilent, MendEnds, OnPair, Pair, StoppedInThree, ThreeEnd, told_by}
+use Rattle.tape_jobs.specs.Mending.{AWriterFailed, IsRead, IsSilent, MendEnds, OnPair, Pair, StoppedInThree, ThreeEnd, told_by, told_of}
 use Rattle.tape_jobs.specs.Output.{Comes, Done, Files, done_mending, mended_by, mends, outcome_by, refused_in, refused_with}
 use Rattle.tape_jobs.specs.declared.job.Ending.{Ending}
 use Rattle.command_line.specs.declared.job.Job.{Job}
@@ -15,7 +15,6 @@ use Rattle.command_line.specs.declared.job.Job.TheVariants as jobs
 use Rattle.tape_jobs.specs.declared.job.JobFault.{JobFault}
 use Rattle.tape_jobs.specs.declared.job.JobFault.TheVariants.{File}
 use Rattle.tape_mend.specs.Mended.{Remains, mended, seen}
-use Rattle.tape_mend.specs.Told.{losses_text}
 use Rattle.tape_mend.specs.declared.opening.Header.{Header}
 
 -- where a writer of both files stopped, it has failed
@@ -53,10 +52,8 @@ module _ (how : Header) (script timing : List ℕ) where
     remade =
         ap (λ b. if b then done_mending (mended how script timing) else refused_with (File NoHeader)) some ∙ ap done_mending e
 
-    pub retold : told_by how script timing ≡ losses_text remains.losses
-    retold =
-        ap (λ b. if b then losses_text (mended how script timing).losses else []) some
-        ∙ ap (λ (r : Remains). losses_text r.losses) e
+    pub retold : told_by how script timing ≡ told_of remains
+    retold = ap (λ b. if b then told_of (mended how script timing) else []) some ∙ ap told_of e
 
 -- what the job comes to on files
 pub comes_remade : (job : Job) (how : Header) (files : Files) (remains : Remains) → mends job ≡ Some how
@@ -108,13 +105,13 @@ module _ {S T O P L : Type 0} (pair : Pair S T) (writers : Writers O P) (told : 
       → pair.timing.bytes (inner_of pair.timing.old) ≡ Some t
       → (has_header (seen how s) ≡ true) × (mended how s t ≡ remains))
       (read : IsRead pair) where
-    on_pair : (Is : Done → List ℕ → Type 0) → Is (done_mending remains) (losses_text remains.losses) → OnPair pair how Is
+    on_pair : (Is : Done → List ℕ → Type 0) → Is (done_mending remains) (told_of remains) → OnPair pair how Is
     on_pair Is is = λ s t held held_timing.
         let known = on s t held held_timing in
         subst (λ d. Is d (told_by how s t)) (sym (remade how s t remains known.0 known.1))
         (subst (λ x. Is (done_mending remains) x) (sym (retold how s t remains known.0 known.1)) is)
 
-    at_writer : AWriterFailed writers told → StoppedInThree writers told (done_mending remains) (losses_text remains.losses)
+    at_writer : AWriterFailed writers told → StoppedInThree writers told (done_mending remains) (told_of remains)
         → MendEnds pair writers told how (outcome_by (Err (File WriteFault)))
     at_writer failed stopped = record {
       done = λ e. absurd (cc);

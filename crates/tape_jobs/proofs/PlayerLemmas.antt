@@ -6,20 +6,18 @@ use Rattle.chunk_walk.specs.Walk.{asked_texts}
 use Rattle.tape_core.specs.Due.{due}
 use Rattle.tape_core.specs.Tape.{Tape}
 use Rattle.tape_jobs.specs.Moment.{drawn_at, drawn_today, hex_line, printed_at, sent_at, told_at, told_by}
-use Rattle.tape_jobs.specs.Player.{NowhereFor, NowhereMeansNowhere, changes_of, found_of, measure_of, played_size, today_at, today_lines, told_measure, today_shown, settled, usual_measure, within}
-use Rattle.command_line.specs.Measures.{is_size, within_of}
+use Rattle.tape_jobs.specs.Player.{NowhereMeansNowhere, changes_of, found_of, measure_of, played_size, today_at, today_lines, told_measure, today_shown, settled, usual_measure, within}
+use Rattle.command_line.specs.Measures.{is_size}
 use Rattle.tape_jobs.specs.declared.answers.Asked.{Asked}
 use Rattle.tape_jobs.specs.declared.answers.Asked.TheVariants as asks
 use Rattle.tape_jobs.specs.declared.answers.Question.{Question}
 use Rattle.command_line.specs.declared.player.Measure.{Measure}
 use Rattle.command_line.specs.declared.player.Player.TheVariants.{Vt, Today}
-use Rattle.command_line.specs.declared.player.Player.{Player}
 use Rattle.xterm_escaped.specs.EscapedText.{escaped_text}
 use Rattle.screen_print.specs.EachByte.{NowhereMeansNowhere as NowhereOnVt, has_ink}
 use Rattle.text_find.specs.FindLines.{NowhereOn, all_found, found_from, found_in, lines_found}
 use Rattle.xterm_print.specs.ChangeLines.{change_lines}
-use Rattle.xterm_print.specs.FindLines.{NowhereMeansNowhere as NowhereOnToday, StandsNowhere, find_lines}
-use Rattle.xterm_print.specs.FindRows.{rows_shown}
+use Rattle.xterm_print.specs.FindLines.{NowhereMeansNowhere as NowhereOnToday, find_lines}
 use Rattle.xterm_print.specs.Moments.{term_at}
 use Rattle.xterm_print.specs.PlainText.{plain_text}
 use Rattle.xterm_term.specs.Size.{IsSize}

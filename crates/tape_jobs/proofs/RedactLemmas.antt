@@ -1,21 +1,19 @@
 -- What taking a text out of a pair of files comes to, and how it ends.
-use Rattle.std.proofs.Common.{◌≡◌, ◌≢◌, ◌⊎◌, ℕ, Bool, true, false, List, refl, sym, ap, ◌∙◌, subst, inl, inr, length, nat_lt, ◌||◌, Option, None, Some, Result, Ok, Err}
+use Rattle.std.proofs.Common.{◌≡◌, ◌≢◌, ◌⊎◌, ℕ, Bool, true, false, List, refl, sym, ap, ◌∙◌, subst, inl, inr, None, Some, Result, Ok, Err}
 use Rattle.tape_check.specs.Lines.{note_line}
-use Rattle.tape_core.specs.Devices.{Took, has_written, inner_of}
+use Rattle.tape_core.specs.Devices.{inner_of}
 use Rattle.tape_core.specs.Faults.{is_stop}
 use Rattle.tape_core.specs.Reading.{fault_of, reads}
 use Rattle.tape_core.specs.Seconds.{last_moment}
 use Rattle.tape_core.specs.Tape.{Tape}
-use Rattle.tape_core.specs.Written.{script_text, timing_text}
-use Rattle.tape_core.specs.declared.devices.Watched.{Watched}
 use Rattle.tape_core.specs.declared.fault.Fault.{Fault}
 use Rattle.tape_core.specs.declared.fault.Fault.TheVariants as fault
 use Rattle.tape_jobs.proofs.JobLemmas.{is_not, stops}
 use Rattle.tape_jobs.proofs.NowhereLemmas.{no_text}
-use Rattle.tape_jobs.specs.Endings.{AsksNothing, Device, HasFailed, TookBoth, TookPartOfBoth, Writers}
+use Rattle.tape_jobs.specs.Endings.{AsksNothing, Device, HasFailed, Writers}
 use Rattle.tape_jobs.specs.Mending.{IsRead, Pair}
 use Rattle.tape_jobs.specs.Notes.{IsTold, is_write_fault}
-use Rattle.tape_jobs.specs.Output.{IsDoneStatus, done_redacting, done_with, ending_of_redact, is_fit, lines_left, outcome_in, status_after, without_text}
+use Rattle.tape_jobs.specs.Output.{IsDoneStatus, done_redacting, ending_of_redact, lines_left, outcome_in, status_after, without_text}
 use Rattle.tape_jobs.specs.Player.{NowhereFor, NowhereMeansNowhere, played_of, settled}
 use Rattle.tape_jobs.specs.Redacting.{FourEnd, IsUntold, OnRecording, RedactEnds, StoppedInFour, TookFour}
 use Rattle.tape_jobs.specs.declared.job.Ending.{Ending}
@@ -44,34 +42,6 @@ done_status player WithNotes = inr refl
 done_status player WithLosses = inr refl
 done_status player WithNothing = inr refl
 done_status player WithTraces = inr refl
-
--- whether a writer that had taken nothing has taken a byte of a text
-wrote_some : {W : Type 0} (contents : W → Option (List ℕ)) (old new : Watched W) (text : List ℕ) → has_written old ≡ false
-    → Took contents old new text → has_written new ≡ nat_lt 0 (length text)
-wrote_some contents old new text unwritten took = took.written ∙ ap (λ b. b || nat_lt 0 (length text)) unwritten
-
-module _ (player : Player) (text : List ℕ) (tape : Tape) where
-  -- how it ends, by what was written of the find lines
-  pub ends_so : {W : Type 0} (contents : W → Option (List ℕ)) (old new : Watched W) (ending : Ending) (fit : Bool)
-      → ending ≡ ending_of_redact fit (has_written new) → fit ≡ is_fit text tape → has_written old ≡ false
-      → Took contents old new (lines_left player text tape)
-      → outcome_in (Redact player) (Ok ending) ≡ (done_redacting player text tape).outcome
-  ends_so contents old new ending fit is well unwritten took =
-      ap (λ e. outcome_in (Redact player) (Ok e)) (is ∙ ap (λ b. ending_of_redact b (has_written new)) well
-      ∙ ap (ending_of_redact (is_fit text tape)) (wrote_some contents old new (lines_left player text tape) unwritten took))
-
-  -- both files, of a recording that is the one without the text
-  module _ {O P : Type 0} (writers : Writers O P) (made : Tape) (same : made ≡ without_text text tape) where
-    pub took_pair : TookBoth writers (done_with (script_text made) (timing_text made)) → TookBoth writers (done_redacting player text tape)
-    took_pair took = record {
-      text = subst (λ t. Took writers.out.bytes writers.out.old writers.out.new (script_text t)) same took.text;
-      timing = subst (λ t. Took writers.out_timing.bytes writers.out_timing.old writers.out_timing.new (timing_text t)) same took.timing;
-    }
-
-    pub stopped_pair : TookPartOfBoth writers (done_with (script_text made) (timing_text made)) true
-        → TookPartOfBoth writers (done_redacting player text tape) true
-    stopped_pair stopped =
-        subst (λ t. TookPartOfBoth writers (done_with (script_text t) (timing_text t)) true) same stopped
 
 module _ {S T O P L F N : Type 0} (pair : Pair S T) (writers : Writers O P) (told : Device L) (found : Device F) (notes : Device N)
     (player : Player) (text : List ℕ) where

@@ -1,6 +1,7 @@
 -- What mending a pair of files comes to beside the pair, and how it ends (ours). A mending has the readers of the pair
 -- alone, and three writers: of the new pair, and of what is told of it.
-use Rattle.std.specs.Prelude.{◌≡◌, ℕ, ◌⊎◌, true, List, [], Some, None, MatchOption, Result, MatchResult, if◌then◌else◌}
+use Rattle.std.specs.Prelude.{◌≡◌, ℕ, ◌⊎◌, ◌++◌, true, List, [], ◌∷◌, length, codes, decimal, Some, None, MatchOption, Result, MatchResult, if◌then◌else◌}
+use Rattle.tape_check.specs.Trailer.{is_usual}
 use Rattle.tape_core.specs.Devices.{Took, TookPart, inner_of, is_flushed}
 use Rattle.tape_core.specs.Reading.{has_header}
 use Rattle.tape_core.specs.declared.fault.Fault.TheVariants as fault
@@ -16,10 +17,20 @@ use Rattle.tape_mend.specs.Told.{losses_text}
 use Rattle.tape_mend.specs.declared.mended.Mended.{Mended}
 use Rattle.tape_mend.specs.declared.opening.Header.{Header}
 
--- what is told of a pair of files that is mended: what was lost of it; nothing where it isn't mended (ours)
+-- how many bytes behind the last chunk have no timing, where they are more than script's closing line (ours)
+abbrev pub untimed_line : ℕ → List ℕ
+untimed_line count = decimal count ++ (codes " bytes behind the last chunk have no timing" ++ 10 ∷ [])
+
+abbrev pub untimed_text : List ℕ → List ℕ
+untimed_text trailer = if is_usual trailer then [] else untimed_line (length trailer)
+
+-- what is told of what is left: what was lost, and then the bytes that have no timing (ours)
+abbrev pub told_of : Remains → List ℕ
+told_of remains = losses_text remains.losses ++ untimed_text remains.tape.trailer
+
+-- what is told of a pair of files that is mended; nothing where it isn't (ours)
 abbrev pub told_by : Header → List ℕ → List ℕ → List ℕ
-told_by how script timing =
-    if has_header (seen how script) then losses_text (mended how script timing).losses else []
+told_by how script timing = if has_header (seen how script) then told_of (mended how script timing) else []
 
 -- Private: what was read, as a plain value (ours)
 abbrev pub remains_of : Mended → Remains
@@ -71,13 +82,13 @@ abbrev pub AWriterFailed : {O P L : Type 0} → Writers O P → Device L → Typ
 AWriterFailed writers told =
     HasFailed writers.out ⊎ (HasFailed writers.out_timing ⊎ HasFailed told)
 
--- Private: how writing what was read and telling what was lost of it ends (ours)
+-- Private: how writing what was read and telling of it ends (ours)
 abbrev pub ThreeEnd : {O P L : Type 0} → Writers O P → Device L → Header → Remains → Result Ending JobFault → Type 0
 ThreeEnd writers told how remains result = MatchResult result
     (λ ending. IsDone writers (Mend how) (done_mending remains) ending
-    × Took told.bytes told.old told.new (losses_text remains.losses) × (is_flushed told.new ≡ true))
+    × Took told.bytes told.old told.new (told_of remains) × (is_flushed told.new ≡ true))
     (λ f. (f ≡ File fault.WriteFault) × AWriterFailed writers told
-    × StoppedInThree writers told (done_mending remains) (losses_text remains.losses))
+    × StoppedInThree writers told (done_mending remains) (told_of remains))
 
 -- how a mending ends: done, refused where no line can be the header, for want of memory, or as a device fails; and its
 -- status (ours)

@@ -1,5 +1,5 @@
 -- What a job comes to: a function of its files, with no device and no want of memory in it.
-use Rattle.std.specs.Prelude.{◌≡◌, ℕ, ◌⊎◌, ◌==◌, ◌&&◌, Bool, true, false, not, List, [], length, nat_lt, encode_utf8_all, Option, Some, None, MatchOption, Result, Ok, Err, if◌then◌else◌}
+use Rattle.std.specs.Prelude.{◌≡◌, ℕ, ◌⊎◌, ◌==◌, ◌&&◌, ◌||◌, Bool, true, false, not, List, [], length, nat_lt, encode_utf8_all, Option, Some, None, MatchOption, Result, Ok, Err, if◌then◌else◌}
 use Rattle.tape_check.specs.Header.{told_size}
 use Rattle.tape_check.specs.Lines.{check_text, is_noted}
 use Rattle.tape_check.specs.Trailer.{is_usual}
@@ -105,9 +105,9 @@ ending_by refused = if refused then WithRefusals else Clean
 abbrev pub ending_of_check : Bool → Ending
 ending_of_check noted = if noted then WithNotes else Clean
 
--- how mending ends, by whether a line or a chunk was left out or cut (ours)
+-- how mending ends, by whether something is lacking (ours)
 abbrev pub ending_of_mend : Bool → Ending
-ending_of_mend damaged = if damaged then WithLosses else Clean
+ending_of_mend lacking = if lacking then WithLosses else Clean
 
 -- how a search ends, by whether a line was written (ours)
 abbrev pub ending_of_find : Bool → Ending
@@ -203,13 +203,18 @@ done_on (Session every player) tape requests text =
     let start = started (settled player tape) tape in
     done_ending (answered start (lines_of requests)) (ending_by (any_refused start (lines_of requests)))
 
+-- of what is left of a pair of files something is lacking: a line or a chunk, or a part of one, or the timing of bytes
+-- behind the last chunk, which are more than script's closing line (ours)
+abbrev pub is_lacking : Remains → Bool
+is_lacking remains = is_damaged remains.losses || not (is_usual remains.tape.trailer)
+
 -- what `mend` comes to on a pair of files: both anew of all that can be read of them; and where no line of the
 -- typescript can be its header, the fault of that, with nothing written (ours)
 abbrev pub done_mending : Remains → Done
 done_mending remains = record {
   text = script_text remains.tape;
   timing = timing_text remains.tape;
-  outcome = record { status = status_after (ending_of_mend (is_damaged remains.losses)); fault = None };
+  outcome = record { status = status_after (ending_of_mend (is_lacking remains)); fault = None };
 }
 
 abbrev pub mended_by : Header → List ℕ → List ℕ → Done

@@ -1,6 +1,6 @@
 -- What taking a text out of a pair of files comes to, and how it ends (ours). It has the readers of the pair alone, and
 -- four writers: of the new pair, of how often the text was taken out, and of where it still stands.
-use Rattle.std.specs.Prelude.{◌≡◌, ℕ, ◌⊎◌, ◌++◌, Bool, true, false, List, [], ◌∷◌, codes, decimal, Option, Some, None, MatchOption, Result, Ok, Err, MatchResult}
+use Rattle.std.specs.Prelude.{◌≡◌, ℕ, ◌⊎◌, ◌++◌, Bool, true, false, List, [], ◌∷◌, codes, decimal, Option, Some, None, MatchOption, Result, Ok, MatchResult}
 use Rattle.screen_print.specs.EachByte.{has_ink}
 use Rattle.tape_check.specs.Lines.{note_line}
 use Rattle.tape_core.specs.Devices.{Took, TookPart, inner_of, is_flushed}
@@ -12,7 +12,7 @@ use Rattle.tape_core.specs.declared.fault.Fault.TheVariants as fault
 use Rattle.tape_jobs.specs.Endings.{AsksNothing, Device, HasFailed, IsUnwritten, TookBoth, TookPartOfBoth, Writers, is_of_input}
 use Rattle.tape_jobs.specs.Mending.{IsRead, Pair}
 use Rattle.tape_jobs.specs.Notes.{IsTold, was_read}
-use Rattle.tape_jobs.specs.Output.{Done, IsDoneStatus, count_of_text, done_redacting, done_with, lines_left, outcome_in, status_in, without_text}
+use Rattle.tape_jobs.specs.Output.{IsDoneStatus, count_of_text, done_redacting, done_with, lines_left, outcome_in, status_in, without_text}
 use Rattle.tape_jobs.specs.Player.{NowhereFor, played_of, settled}
 use Rattle.tape_jobs.specs.declared.job.Ending.{Ending}
 use Rattle.command_line.specs.declared.job.Job.TheVariants.{Redact}

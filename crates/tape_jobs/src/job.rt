@@ -45,7 +45,7 @@ pub enum Ending {
     WithRefusals,
     /// A check has noted something, or found what isn't played.
     WithNotes,
-    /// Of a pair of files that was mended a line or a chunk was left out or cut.
+    /// Of a pair of files that was mended a line or a chunk was left out or cut, or bytes have no timing.
     WithLosses,
     /// A search has found nothing.
     WithNothing,

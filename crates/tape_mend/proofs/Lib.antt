@@ -4,4 +4,5 @@ mod OpeningLemmas
 mod TakenLemmas
 mod ToldLemmas
 mod MendedLemmas
+mod LinesLemmas
 mod WholeLemmas

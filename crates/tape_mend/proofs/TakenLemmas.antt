@@ -9,7 +9,6 @@ use Rattle.tape_core.specs.declared.chunk.Chunk.{Chunk}
 use Rattle.tape_core.specs.declared.timing.Entry.{Entry}
 use Rattle.tape_core.specs.Reading.{has_header, header_len}
 use Rattle.tape_core.specs.Tape.{IsHeader, body_len, fits, longest_body, longest_chunk, longest_delay, most_chunks}
-use Rattle.tape_core.specs.Text.{lines_of}
 use Rattle.tape_mend.specs.declared.counting.Behind.{Behind}
 use Rattle.tape_mend.specs.declared.counting.Piece.{Piece}
 use Rattle.tape_mend.specs.declared.counting.Piece.TheVariants as piece
@@ -21,6 +20,7 @@ use Rattle.tape_mend.specs.declared.line.Stream.TheVariants.{Header, Input, Outp
 use Rattle.tape_mend.specs.declared.opening.Header.{Header as How}
 use Rattle.tape_mend.specs.Counting.{Logs, are_shared, limited, line_pieces, logs_behind, stream_pieces, with_line}
 use Rattle.tape_mend.specs.Front.{Front, at_first, format_of, front, front_of, no_logs}
+use Rattle.tape_mend.specs.Lines.{timing_lines}
 use Rattle.tape_mend.specs.Mended.{mended, seen}
 use Rattle.tape_mend.specs.Steps.{IsPiece, IsSound}
 use Rattle.tape_mend.specs.Streams.{said_by}
@@ -118,7 +118,7 @@ nothing_counts = record {
 }
 
 timing_counts : (timing : List ℕ) → FrontCounts (front_of timing)
-timing_counts timing = front_counts (format_of (lines_of timing)) [] at_first no_logs (lines_of timing) nothing_counts
+timing_counts timing = front_counts (format_of (timing_lines timing)) [] at_first no_logs (timing_lines timing) nothing_counts
 
 -- there is room for the pieces behind the chunks
 pub record Room (chunks : List Chunk) (pieces : List Piece) : Type 0 where

@@ -1,7 +1,7 @@
 -- What is read without a fault is mended as it is.
 use Rattle.std.proofs.Common.{◌≡◌, ℕ, ◌+◌, ◌<◌, ◌≤◌, ◌==◌, Bool, true, false, cond, List, [], ◌∷◌, ◌++◌, length, take, drop, filter, map, All, Some, None, Ok, Err, nat_lt, nat_le, refl, ap, sym, ◌∙◌, arith, append-nil, append_assoc, length-append}
 use Rattle.std.specs.List.{position_or_len}
-use Rattle.std.proofs.lemmas.Bool.{le-ltb, lt-leb, le-leb, lt-ltb}
+use Rattle.std.proofs.lemmas.Bool.{le-ltb, lt-leb, le-leb}
 use Rattle.std.proofs.lemmas.List.{drop_at, get_or_append_left, take_at}
 use Rattle.std.proofs.lemmas.List.Concat.{flat_map-cons}
 use Rattle.std.proofs.lemmas.List.Elements.{All-head, All-tail}
@@ -27,9 +27,7 @@ use Rattle.tape_mend.specs.Streams.{classic_line, said_by}
 use Rattle.tape_mend.specs.Taken.{Taken, taken}
 use Rattle.tape_core.proofs.ReadBackLemmas.{timing_line_read}
 use Rattle.tape_mend.proofs.FrontLemmas.{front_more}
-
-abbrev has_fields : List ℕ → Bool
-has_fields text = nat_lt 0 (length (fields text))
+use Rattle.tape_mend.proofs.LinesLemmas.{has_fields, lines_stay, no_cr_lf, some_fields}
 
 abbrev entry_for : Chunk → Entry
 entry_for c = record { delay = c.delay; count = length c.bytes }
@@ -65,9 +63,6 @@ unlettered first rest e h = by (begins_with_letter first) refl h
         → begins_with_letter first ≡ false
     by true is h = absurd (cc)
     by false is h = is
-
-some_fields : (text first : List ℕ) (others : List (List ℕ)) → fields text ≡ first ∷ others → has_fields text ≡ true
-some_fields text first others is = ap (λ fs. nat_lt 0 (length fs)) is ∙ lt-ltb 0 (length (first ∷ others)) (omega arith)
 
 is_classic : (lines : List (List ℕ)) (chunks : List Chunk) → Limits chunks → AreTimed (filter has_fields lines) chunks
     → format_of lines ≡ Classic
@@ -207,11 +202,14 @@ whole_stays script timing tape r =
       limits = limits;
     } in
     let format = is_classic lines tape.chunks limits r.timed in
-    let front_is : front_of timing ≡ front Classic [] at_first no_logs lines = ap (λ f. front f [] at_first no_logs lines) format in
+    let front_is : front_of timing ≡ front Classic [] at_first no_logs lines =
+    ap (λ ls. front (format_of ls) [] at_first no_logs ls) (lines_stay timing tape.chunks r.timed) ∙ ap (λ f. front f [] at_first no_logs lines) format in
     let whole = front_whole lines tape.chunks no_logs r.timed [] at_first room in
     let f = front Classic [] at_first no_logs lines in
-    ap (λ f. remains script f (taken [] (drop (header_len script) script) f.pieces)) front_is
-    ∙ ap (λ b. remains script f (taken [] b f.pieces)) rest
-    ∙ ap (λ ps. remains script f (taken [] behind ps)) whole.pieces
-    ∙ ap (remains script f) (taken_whole tape.chunks [] tape.trailer)
+    ap (λ cr_lf. remains script cr_lf (front_of timing) (taken [] (drop (header_len script) script) (front_of timing).pieces))
+    (no_cr_lf timing tape.chunks r.timed)
+    ∙ ap (λ f. remains script false f (taken [] (drop (header_len script) script) f.pieces)) front_is
+    ∙ ap (λ b. remains script false f (taken [] b f.pieces)) rest
+    ∙ ap (λ ps. remains script false f (taken [] behind ps)) whole.pieces
+    ∙ ap (remains script false f) (taken_whole tape.chunks [] tape.trailer)
     ∙ rw (header, whole.fault, whole.inputs, whole.signals) refl

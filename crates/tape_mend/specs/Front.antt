@@ -1,6 +1,6 @@
 -- The front of a timing file: its lines before the first that has a fault.
 use Rattle.std.specs.Prelude.{ℕ, ◌+◌, List, [], ◌∷◌, ◌++◌, length, Option, Some, None, Result, Ok, Err, if◌then◌else◌}
-use Rattle.tape_core.specs.Text.{fields, lines_of}
+use Rattle.tape_core.specs.Text.{fields}
 use Rattle.tape_core.specs.Timing.{begins_with_letter}
 use Rattle.tape_mend.specs.declared.counting.Behind.{Behind}
 use Rattle.tape_mend.specs.declared.counting.Piece.{Piece}
@@ -9,6 +9,7 @@ use Rattle.tape_mend.specs.declared.line.Format.TheVariants.{Classic, Streams}
 use Rattle.tape_mend.specs.declared.line.Line.{Line}
 use Rattle.tape_mend.specs.declared.line.LineFault.{LineFault}
 use Rattle.tape_mend.specs.Counting.{Logs, are_shared, limited, line_pieces, logs_behind, with_line}
+use Rattle.tape_mend.specs.Lines.{timing_lines}
 use Rattle.tape_mend.specs.Streams.{said_by}
 
 -- The format of a timing file: multi-stream where the first field of its first line that isn't blank begins with a
@@ -53,4 +54,4 @@ abbrev pub no_logs : Logs
 no_logs = record { output = None; input = None }
 
 abbrev pub front_of : List ℕ → Front
-front_of timing = let lines = lines_of timing in front (format_of lines) [] at_first no_logs lines
+front_of timing = let lines = timing_lines timing in front (format_of lines) [] at_first no_logs lines

@@ -1,5 +1,6 @@
 pub mod Streams
 pub mod Counting
+pub mod Lines
 pub mod Front
 pub mod Taken
 pub mod Mended

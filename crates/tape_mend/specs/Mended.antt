@@ -1,5 +1,5 @@
 -- A pair of files, mended: the recording of all that can be read, and what was lost.
-use Rattle.std.specs.Prelude.{ℕ, ◌+◌, Bool, List, [], ◌∷◌, ◌++◌, length, take, drop, fold, codes, nat_eq, Option, Some, None, if◌then◌else◌}
+use Rattle.std.specs.Prelude.{ℕ, ◌+◌, Bool, false, List, [], ◌∷◌, ◌++◌, length, take, drop, fold, codes, nat_eq, Option, Some, None, if◌then◌else◌}
 use Rattle.std.specs.List.{range_with_len, starts_with}
 use Rattle.tape_core.specs.Reading.{header_len}
 use Rattle.tape_core.specs.Tape.{Tape}
@@ -9,6 +9,7 @@ use Rattle.tape_mend.specs.declared.line.LineFault.{LineFault}
 use Rattle.tape_mend.specs.declared.opening.Header.{Header}
 use Rattle.tape_mend.specs.declared.opening.Header.TheVariants.{Kept, Last, Made}
 use Rattle.tape_mend.specs.Front.{Front, front_of}
+use Rattle.tape_mend.specs.Lines.{has_cr_lf}
 use Rattle.tape_mend.specs.Taken.{Taken, taken}
 
 -- Behind the LF at this place a line begins as script(1) begins a session.
@@ -39,19 +40,20 @@ abbrev pub lines_left : ℕ → Option LineFault → ℕ → Option LinesLeft
 lines_left line None count = None
 lines_left line (Some fault) count = Some (record { line = line; fault = fault; count = count })
 
--- What was lost.
-abbrev pub losses_of : Front → Taken → Losses
-losses_of front taken = record {
+-- What was lost, and whether the timing has CR LF.
+abbrev pub losses_of : Bool → Front → Taken → Losses
+losses_of cr_lf front taken = record {
   lines = lines_left (front.behind.lines + 1) front.fault front.left;
   inputs = front.behind.inputs;
   signals = front.behind.signals;
   cut = taken.cut;
   chunks = taken.left;
+  cr_lf = cr_lf;
 }
 
 -- Nothing was lost.
 abbrev pub nothing_lost : Losses
-nothing_lost = record { lines = None; inputs = 0; signals = 0; cut = None; chunks = 0 }
+nothing_lost = record { lines = None; inputs = 0; signals = 0; cut = None; chunks = 0; cr_lf = false }
 
 -- A recording, and what was lost of it.
 pub record Remains : Type 0 where
@@ -59,14 +61,14 @@ pub record Remains : Type 0 where
   pub losses : Losses
 
 -- What is left of a typescript and a timing file.
-abbrev pub remains : List ℕ → Front → Taken → Remains
-remains typescript front taken = record {
+abbrev pub remains : List ℕ → Bool → Front → Taken → Remains
+remains typescript cr_lf front taken = record {
   tape = record { header = take (header_len typescript) typescript; chunks = taken.chunks; trailer = taken.rest };
-  losses = losses_of front taken;
+  losses = losses_of cr_lf front taken;
 }
 
 abbrev pub mended : Header → List ℕ → List ℕ → Remains
 mended how script timing =
     let typescript = seen how script in
     let front = front_of timing in
-    remains typescript front (taken [] (drop (header_len typescript) typescript) front.pieces)
+    remains typescript (has_cr_lf timing) front (taken [] (drop (header_len typescript) typescript) front.pieces)

@@ -54,7 +54,11 @@ chunks_line count = joined (decimal count ∷ ended (codes " chunks left out") �
 abbrev pub chunks_text : ℕ → List ℕ
 chunks_text count = if count == 0 then [] else chunks_line count
 
--- All of it, in this order: what the timing has lost, and what the body has.
+-- That lines of the timing end in CR LF, where some do.
+abbrev pub cr_lf_text : Bool → List ℕ
+cr_lf_text cr_lf = if cr_lf then ended (codes "timing has CR LF") else []
+
+-- All of it, in this order: what the timing has lost, what the body has, and what else is told of the timing.
 abbrev pub timing_losses : Losses → List ℕ
 timing_losses losses = lines_text losses.lines ++ streams_text losses.inputs losses.signals
 
@@ -62,8 +66,8 @@ abbrev pub body_losses : Losses → List ℕ
 body_losses losses = cut_text losses.cut ++ chunks_text losses.chunks
 
 unfoldable pub losses_text : Losses → List ℕ
-losses_text losses = timing_losses losses ++ body_losses losses
+losses_text losses = timing_losses losses ++ body_losses losses ++ cr_lf_text losses.cr_lf
 
--- A line or a chunk was left out or cut, and not just inputs and signals.
+-- A line or a chunk was left out or cut, and not just inputs and signals, or a CR.
 abbrev pub is_damaged : Losses → Bool
 is_damaged losses = is_some losses.lines || is_some losses.cut || not (losses.chunks == 0)

@@ -1,15 +1,16 @@
 //! The front of a timing file: its lines before the first that has a fault.
 ghost use Rattle.std.specs.Prelude.{◌≡◌, ◌≤◌, ◌++◌, IfOk, IfSome, OnOk, length};
-ghost use Rattle.tape_core.specs.Text.{lines_of};
 ghost use Rattle.tape_mend.specs.Counting.{line_pieces};
 ghost use Rattle.tape_mend.specs.Front.{format_of, front_of};
+ghost use Rattle.tape_mend.specs.Lines.{timing_lines};
 ghost use Rattle.tape_mend.specs.Steps.{IsSmall, IsSound};
 
 use crate::counting::{Behind, Piece};
 use crate::line::{Format, Line, LineFault, read_line};
+use crate::lines::{count_lines, next_timing_line};
 use crate::logs::Logs;
 use std::alloc::{AllocError, Global};
-use tape_core::text::{next_field, next_line};
+use tape_core::text::next_field;
 use tape_core::timing::has_letter_first;
 
 /// What was read before the first fault: the parts of the body, what the lines come to, the fault, and how many lines
@@ -24,11 +25,11 @@ pub struct Front {
 
 /// The format of a timing file: the first field of the first line that isn't blank tells it.
 fn format_of_timing(timing: &[u8]) -> Format
-    ensures { result ≡ format_of (lines_of timing.now) }
+    ensures { result ≡ format_of (timing_lines timing.now) }
 {
     let mut rest = timing;
     while !rest.is_empty() {
-        let (line, after) = next_line(rest);
+        let (line, after) = next_timing_line(rest);
         if let Some((first, _)) = next_field(line) {
             return if has_letter_first(first) {
                 Format::Streams
@@ -39,19 +40,6 @@ fn format_of_timing(timing: &[u8]) -> Format
         rest = after;
     }
     Format::Classic
-}
-
-/// How many lines a text has.
-fn count_lines(text: &[u8]) -> u64
-    ensures { result ≡ length (lines_of text.now) }
-{
-    let mut count = 0;
-    let mut rest = text;
-    while !rest.is_empty() {
-        rest = next_line(rest).1;
-        count += 1;
-    }
-    count
 }
 
 /// Adds the part of the body that a line counts, if it does.
@@ -86,11 +74,12 @@ pub fn read_front(alloc: Global, timing: &[u8]) -> Result<Front, AllocError>
     let mut logs = Logs {
         output: None,
         input: None,
+        shared: false,
     };
     let mut rest = timing;
     while !rest.is_empty() {
-        let (text, after) = next_line(rest);
-        let shared = logs.are_shared();
+        let (text, after) = next_timing_line(rest);
+        let shared = logs.shared;
         let said = match behind.limited(shared, read_line(format, text)) {
             Ok(said) => said,
             Err(fault) => {

@@ -6,6 +6,7 @@ mod counting;
 mod front;
 pub mod laws;
 mod line;
+mod lines;
 mod logs;
 mod losses;
 mod mended;

@@ -4,16 +4,18 @@ ghost use Rattle.std.specs.Cmp.Lexicographic.{pointwise};
 ghost use Rattle.std.specs.Option.{option_map};
 ghost use Rattle.tape_core.specs.Text.{fields};
 ghost use Rattle.tape_mend.specs.Counting.{are_shared, log_of, logs_behind};
-ghost use Rattle.tape_mend.specs.Seen.{fields_at, logs_of};
+ghost use Rattle.tape_mend.specs.Seen.{IsAsked, fields_at, logs_of};
 
 use crate::line::Format;
 use tape_core::text::next_field;
 
-/// What stands behind the name in the first header line of each log that has a field there.
+/// What stands behind the name in the first header line of each log that has a field there, and whether both are one
+/// file. That is asked once, when both are known: names may be long, and lines many.
 #[derive(Clone, Copy, Debug)]
 pub struct Logs<'t> {
     pub output: Option<&'t [u8]>,
     pub input: Option<&'t [u8]>,
+    pub shared: bool,
 }
 
 /// What a header line has behind this name, if it is that of a log.
@@ -52,19 +54,28 @@ fn have_same_fields(one: &[u8], other: &[u8]) -> bool
 impl<'t> Logs<'t> {
     /// The logs that are known behind a line.
     pub fn behind(self, format: Format, text: &'t [u8]) -> Logs<'t>
-        ensures { logs_of result ≡ logs_behind format (logs_of self.entry) text.now }
+        requires { IsAsked self }
+        ensures logs { logs_of result ≡ logs_behind format (logs_of self.entry) text.now }
+        ensures asked { IsAsked result }
     {
-        match format {
-            Format::Classic => self,
-            Format::Streams => Logs {
-                output: self.output.or(named_log(b"OUTPUT_LOG", text)),
-                input: self.input.or(named_log(b"INPUT_LOG", text)),
-            },
+        match (format, self.output, self.input) {
+            (Format::Classic, _, _) | (_, Some(_), Some(_)) => self,
+            (Format::Streams, output, input) => {
+                let logs = Logs {
+                    output: output.or(named_log(b"OUTPUT_LOG", text)),
+                    input: input.or(named_log(b"INPUT_LOG", text)),
+                    shared: false,
+                };
+                Logs {
+                    shared: logs.are_shared(),
+                    ..logs
+                }
+            }
         }
     }
 
     /// Whether both are one file.
-    pub fn are_shared(self) -> bool
+    fn are_shared(self) -> bool
         ensures { result ≡ are_shared (logs_of self.entry) }
     {
         match (self.output, self.input) {

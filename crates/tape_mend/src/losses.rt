@@ -2,7 +2,7 @@
 ghost use Rattle.std.specs.Prelude.{◌≡◌, false};
 ghost use Rattle.tape_core.specs.Devices.{Gave, Puts, has_failed};
 ghost use Rattle.tape_mend.specs.Steps.{what_is_wrong};
-ghost use Rattle.tape_mend.specs.Told.{body_losses, chunks_line, chunks_text, cut_text, is_damaged, lines_text, losses_text, streams_line, streams_text, timing_losses};
+ghost use Rattle.tape_mend.specs.Told.{body_losses, chunks_line, chunks_text, cr_lf_text, cut_text, is_damaged, lines_text, losses_text, streams_line, streams_text, timing_losses};
 
 use crate::line::LineFault;
 use itoa::Buffer;
@@ -28,7 +28,7 @@ pub struct Cut {
 }
 
 /// What was lost: lines of the timing; inputs and signals, for which the classic format has no place; bytes of the last
-/// chunk; chunks.
+/// chunk; chunks; and whether lines of the timing end in CR LF, which loses nothing.
 #[derive(Clone, Copy, Debug)]
 pub struct Losses {
     pub lines: Option<LinesLeft>,
@@ -36,10 +36,11 @@ pub struct Losses {
     pub signals: u64,
     pub cut: Option<Cut>,
     pub chunks: u64,
+    pub cr_lf: bool,
 }
 
 impl Losses {
-    /// Whether a line or a chunk was left out or cut, and not just inputs and signals.
+    /// Whether a line or a chunk was left out or cut, and not just inputs and signals, or a CR.
     pub fn is_damaged(&self) -> bool
         ensures { result ≡ is_damaged self.now }
     {
@@ -75,6 +76,7 @@ pub fn put_losses<W: Write>(losses: &Losses, writer: &mut Watched<W>) -> Result<
     gives_join::<W>();
     put_timing_losses(losses, writer);
     put_body_losses(losses, writer);
+    put_cr_lf(losses.cr_lf, writer);
     writer.ask()
 }
 
@@ -175,4 +177,14 @@ fn put_chunks_line<W: Write>(count: u64, writer: &mut Watched<W>)
         Buffer::new().format(count).as_bytes(),
         b" chunks left out\n",
     ]);
+}
+
+/// Writes that lines of the timing end in CR LF, where some do.
+fn put_cr_lf<W: Write>(cr_lf: bool, writer: &mut Watched<W>)
+    ensures { Gave W.contents writer.old writer.new (cr_lf_text cr_lf) }
+{
+    gives_join::<W>();
+    if cr_lf {
+        writer.give(b"timing has CR LF\n");
+    }
 }

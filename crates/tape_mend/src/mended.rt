@@ -6,6 +6,7 @@ ghost use Rattle.tape_mend.specs.Mended.{lines_left, mended, seen};
 
 use crate::front::read_front;
 use crate::line::LineFault;
+use crate::lines::has_cr_lf;
 use crate::losses::{LinesLeft, Losses};
 use crate::opening::{Header, open_at};
 use crate::taken::take_pieces;
@@ -56,6 +57,7 @@ pub fn mend(alloc: Global, script: Vec<u8>, timing: &[u8], how: Header) -> Resul
         signals: front.behind.signals,
         cut: taken.cut,
         chunks: taken.left,
+        cr_lf: has_cr_lf(timing),
     };
     Ok(Mended { recording, losses })
 }

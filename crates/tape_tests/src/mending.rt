@@ -38,6 +38,13 @@ const SHORT: Pair<'static> = (
     Header::Kept,
 );
 
+/// The same with lines that end in CR LF.
+const SHORT_CR_LF: Pair<'static> = (
+    b"Script started on X\naX",
+    b"0.000000 1\r\n0.250000 1\r\n0.500000 1\r\n",
+    Header::Kept,
+);
+
 /// Pairs of the classic format, and headers that are found or made.
 const CLASSIC: [(Pair<'static>, Told<'static>); 8] = [
     (
@@ -195,6 +202,59 @@ const STREAMS: [(Pair<'static>, Told<'static>); 9] = [
     ),
 ];
 
+/// Pairs whose timing has lines that end in CR LF: one CR isn't read, be it in a line that is left out or in a name.
+const CR_LF: [(Pair<'static>, Told<'static>); 5] = [
+    (
+        (b"h\nab", b"0.5 1\r\n\r\n0.25 1\r", Header::Kept),
+        (
+            b"h\nab",
+            b"0.500000 1\n0.250000 1\n",
+            b"timing has CR LF\n",
+            false,
+        ),
+    ),
+    (
+        (b"h\nab", b"0 1\n0 1\r\r\n", Header::Kept),
+        (
+            b"h\nab",
+            b"0.000000 1\n",
+            b"timing line 2: bad count, 1 lines left out\ntiming has CR LF\n",
+            true,
+        ),
+    ),
+    (
+        (b"h\nab", b"0 1\n0 1\r \n", Header::Kept),
+        (
+            b"h\nab",
+            b"0.000000 1\n",
+            b"timing line 2: bad count, 1 lines left out\n",
+            true,
+        ),
+    ),
+    (
+        (b"h\na", b"0 1\nzero\n0 1\r\n", Header::Kept),
+        (
+            b"h\na",
+            b"0.000000 1\n",
+            b"timing line 2: multi-stream format, 2 lines left out\ntiming has CR LF\n",
+            true,
+        ),
+    ),
+    (
+        (
+            b"h\naib",
+            b"\r\nH 0 OUTPUT_LOG x\r\nH 0 INPUT_LOG x\nO 0 1\r\nI 0 1\r\nO 0 9\r\n",
+            Header::Kept,
+        ),
+        (
+            b"h\nab",
+            b"0.000000 1\n0.000000 1\n",
+            b"1 inputs and 0 signals left out\nchunk 1 cut to 1 of 9 bytes\ntiming has CR LF\n",
+            true,
+        ),
+    ),
+];
+
 /// Mends a pair and compares what is written of it.
 fn compare_mended(
     rt: &(impl Runtime<A = Global> + Abort),
@@ -230,6 +290,14 @@ fn pairs_of_the_multi_stream_format(rt: HostRuntime) -> Result<(), Fail> {
 }
 
 #[test]
+fn timings_with_cr_lf(rt: HostRuntime) -> Result<(), Fail> {
+    for (pair, wanted) in CR_LF {
+        compare_mended(&rt, pair, wanted)?;
+    }
+    Ok(())
+}
+
+#[test]
 fn no_header_line(rt: HostRuntime) -> Result<(), Fail> {
     let rows: [Pair; 3] = [
         (b"", b"O 0 1", Header::Kept),
@@ -245,9 +313,9 @@ fn no_header_line(rt: HostRuntime) -> Result<(), Fail> {
 
 #[test]
 fn losses_to_a_writer_that_fails(rt: HostRuntime) -> Result<(), Fail> {
-    let mended = mended(rt.alloc(), SHORT)?;
-    let whole = b"1 chunks left out\n".as_slice();
-    for room in 0..20 {
+    let mended = mended(rt.alloc(), SHORT_CR_LF)?;
+    let whole = b"1 chunks left out\ntiming has CR LF\n".as_slice();
+    for room in 0..40 {
         let mut writer = Watched::new(small_writer(rt.alloc(), room, false));
         let answer = put_losses(&mended.losses, &mut writer);
         let writing = Writing::of(answer, writer);

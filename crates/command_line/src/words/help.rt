@@ -86,8 +86,10 @@ const MEND_DETAILS: &str =
     its trailer. Input and signals have no place in it, and are left out.\n\n\
     Both new files are created before anything is read, and must not exist. Then it is told, each only\n\
     where it is so: timing line N: FAULT, K lines left out; N inputs and M signals left out; chunk I cut\n\
-    to B of C bytes; K chunks left out. Status 1 where a line or a chunk was left out or cut, or where\n\
-    the typescript has no header line (then nothing is written).\n\n\
+    to B of C bytes; K chunks left out; timing has CR LF (one CR at the end of a line isn't read); N bytes\n\
+    behind the last chunk have no timing (unless they are script's closing line). Status 1 where a line or\n\
+    a chunk was left out or cut, where bytes have no timing, or where the typescript has no header line\n\
+    (then nothing is written).\n\n\
     No one can bring back bytes that a file no longer has, when bytes came that no line counts or only one\n\
     behind a fault, and what a lost first line said.\n\n\
     Example: typetool mend demo.script demo.timing new.script new.timing\n\n\

@@ -10,14 +10,15 @@ use tape_core::{Fault, Watched};
 use tape_jobs::{Outcome, mend};
 use tape_mend::Header;
 
-/// A recording of two chunks, the second of which is cut.
+/// A recording of a chunk, behind which a line is left out, and a byte has no timing.
 const SCRIPT: &[u8] = b"Script started on X\nab";
 
-const TIMING: &[u8] = b"0 1\n0.5 9\n";
+const TIMING: &[u8] = b"0 1\n0.5 x\n";
 
-const NEW_TIMING: &[u8] = b"0.000000 1\n0.500000 1\n";
+const NEW_TIMING: &[u8] = b"0.000000 1\n";
 
-const TOLD: &[u8] = b"chunk 1 cut to 1 of 9 bytes\n";
+const TOLD: &[u8] =
+    b"timing line 2: bad count, 1 lines left out\n1 bytes behind the last chunk have no timing\n";
 
 /// How mending over slow devices ended, and what became of them.
 #[derive(Drop)]

@@ -67,14 +67,35 @@ fn write_lines<T: Answers, O: Write>(
 {
     let session = open_session::<T>(alloc, recording, EVERY, profile)?;
     let mut session = ManuallyDrop::new(session);
+    let found = put_lines(alloc, &mut *session, from, to, text, out)?;
+    Ok(ending_of(found))
+}
+
+/// Writes the find lines of a session, flushes, and tells whether there is one. Where memory is refused, a beginning of
+/// them has gone out.
+pub fn put_lines<T: Answers, O: Write>(
+    alloc: Global,
+    session: &mut Session<T>,
+    from: Option<u64>,
+    to: u64,
+    text: &[char],
+    out: &mut Watched<O>,
+) -> Result<bool, JobFault>
+    requires { has_failed out.old ≡ false }
+    ensures puts { JobPuts O.contents out.old out.new
+        (found_of (T.player session.old.profile) session.old.recording from to text.now) result }
+    ensures found { IfOk result (λ found. found ≡ is_some_text
+        (found_of (T.player session.old.profile) session.old.recording from to text.now)) }
+    ensures flushed { OnOk result (is_flushed out.new ≡ true) }
+{
     // A writer that took bytes before doesn't tell whether it takes any now.
     let known = if out.written() {
-        Some(finds(alloc, &mut *session, from, to, text)?)
+        Some(finds(alloc, session, from, to, text)?)
     } else {
         None
     };
-    T::put_found(alloc, &mut session, from, to, text, out)?;
-    Ok(ending_of(known.unwrap_or(out.written())))
+    T::put_found(alloc, session, from, to, text, out)?;
+    Ok(known.unwrap_or(out.written()))
 }
 
 /// Whether the search writes a line, by doing it over a writer of its own. That takes all, so only want of memory stops it.

@@ -1,32 +1,34 @@
 //! The job `mend`: both files anew of all that can be read of them, and then what was lost.
 
 ghost use Rattle.std.specs.Prelude.{◌≡◌, ◌⊎◌, ◌≢◌, ℕ, List, OnOk, Some, false, true, IfErr, IfOk};
-ghost use Rattle.tape_core.specs.Devices.{Puts, has_failed, inner_of, is_flushed};
+ghost use Rattle.tape_core.specs.Devices.{Gave, Puts, has_failed, inner_of, is_flushed};
 ghost use Rattle.tape_core.specs.Faults.{is_stop};
 ghost use Rattle.tape_core.specs.Reading.{has_header};
 ghost use Rattle.tape_core.specs.declared.fault.Fault.TheVariants as fault;
 ghost use Rattle.tape_jobs.specs.Endings.{JobEnds, TookPartOfBoth, used, writers_of};
-ghost use Rattle.tape_jobs.specs.Mending.{MendEnds, ThreeEnd, pair_of, remains_of};
-ghost use Rattle.tape_jobs.specs.Output.{done_mending, ending_of_mend};
+ghost use Rattle.tape_jobs.specs.Mending.{MendEnds, ThreeEnd, pair_of, remains_of, told_of, untimed_line, untimed_text};
+ghost use Rattle.tape_jobs.specs.Output.{done_mending, ending_of_mend, is_lacking};
 ghost use Rattle.tape_mend.specs.Mended.{mended, seen};
-ghost use Rattle.tape_mend.specs.Told.{losses_text};
 ghost use Rattle.tape_mend.specs.declared.opening.Header.{Header as How};
 
 use crate::job::{Ending, JobFault, Outcome, outcome_of};
 use command_line::Job;
+use itoa::Buffer;
 use std::alloc::Global;
 use std::io::{Read, Write};
 use std::mem::ManuallyDrop;
+use tape_check::is_usual;
+use tape_core::laws::gives_join;
 use tape_core::{Fault, Watched, slurp, write_script, write_timing};
-use tape_mend::{Header, Losses, Mended, put_losses};
+use tape_mend::{Header, Mended, put_losses};
 
-/// Mends a pair of files: reads both whole, writes the typescript anew and then its timing, and tells what was lost
-/// behind them.
+/// Mends a pair of files: reads both whole, writes the typescript anew and then its timing, and tells what was lost, and
+/// how many bytes have no timing, behind them.
 ///
-/// It is done, with status 1 where a line or a chunk was left out or cut; or refused, where no line of the typescript can
-/// be its header: then nothing is written. It ends for want of memory, or as a device fails: then a beginning of the three
-/// texts has gone out, the timing not before the typescript is whole, and what is told not before both files are; and
-/// nothing, where it ended while the files were read. No fault is retried.
+/// It is done, with status 1 where a line or a chunk was left out or cut, or bytes behind the last chunk have no timing; or
+/// refused, where no line of the typescript can be its header: then nothing is written. It ends for want of memory, or as
+/// a device fails: then a beginning of the three texts has gone out, the timing not before the typescript is whole, and
+/// what is told not before both files are; and nothing, where it ended while the files were read. No fault is retried.
 pub fn mend<S: Read, T: Read, O: Write, P: Write, L: Write>(
     alloc: Global,
     header: Header,
@@ -97,21 +99,28 @@ pub fn write_remains<O: Write, P: Write>(
 {
     write_script(&mended.recording, out)?;
     write_timing(&mended.recording, out_timing)?;
-    Ok(ending_of(mended.losses.is_damaged()))
+    Ok(ending_of(is_lacking(mended)))
 }
 
-/// How mending ends, by whether a line or a chunk was left out or cut.
-fn ending_of(damaged: bool) -> Ending
-    ensures { result ≡ ending_of_mend damaged }
+/// Whether a line or a chunk was left out or cut, or bytes behind the last chunk have no timing.
+fn is_lacking(mended: &Mended) -> bool
+    ensures { result ≡ is_lacking (remains_of mended.now) }
 {
-    if damaged {
+    mended.losses.is_damaged() || !is_usual(mended.recording.trailer())
+}
+
+/// How mending ends, by whether something is lacking.
+fn ending_of(lacking: bool) -> Ending
+    ensures { result ≡ ending_of_mend lacking }
+{
+    if lacking {
         Ending::WithLosses
     } else {
         Ending::Clean
     }
 }
 
-/// Writes both files, and when they are whole tells what was lost.
+/// Writes both files, and when they are whole tells what was lost, and how many bytes have no timing.
 fn write_and_tell<O: Write, P: Write, L: Write>(
     mended: &Mended,
     out: &mut Watched<O>,
@@ -126,16 +135,37 @@ fn write_and_tell<O: Write, P: Write, L: Write>(
         ThreeEnd writers (used L.contents told.old told.new) how (remains_of mended.now) result }
 {
     let ending = write_remains(mended, out, out_timing)?;
-    tell(&mended.losses, told)?;
+    tell(mended, told)?;
     Ok(ending)
 }
 
-/// Tells what was lost, and flushes.
-fn tell<L: Write>(losses: &Losses, told: &mut Watched<L>) -> Result<(), Fault>
+/// Tells what was lost, and how many bytes have no timing, and flushes.
+fn tell<L: Write>(mended: &Mended, told: &mut Watched<L>) -> Result<(), Fault>
     requires { has_failed told.old ≡ false }
-    ensures puts { Puts L.contents told.old told.new (losses_text losses.now) result }
+    ensures puts { Puts L.contents told.old told.new (told_of (remains_of mended.now)) result }
     ensures flushed { OnOk result (is_flushed told.new ≡ true) }
 {
-    put_losses(losses, told)?;
+    put_losses(&mended.losses, told)?;
+    put_untimed(mended.recording.trailer(), told);
     told.settle()
+}
+
+/// Writes how many bytes behind the last chunk have no timing, where they are more than script's closing line.
+fn put_untimed<L: Write>(trailer: &[u8], told: &mut Watched<L>)
+    ensures { Gave L.contents told.old told.new (untimed_text trailer.now) }
+{
+    gives_join::<L>();
+    if !is_usual(trailer) {
+        put_untimed_line(trailer.len(), told);
+    }
+}
+
+/// Writes how many bytes have no timing.
+fn put_untimed_line<L: Write>(count: usize, told: &mut Watched<L>)
+    ensures { Gave L.contents told.old told.new (untimed_line count) }
+{
+    told.give_all(&[
+        Buffer::new().format(count).as_bytes(),
+        b" bytes behind the last chunk have no timing\n",
+    ]);
 }

@@ -2,7 +2,7 @@
 
 ghost use Rattle.std.specs.Prelude.{◌≡◌, ◌⊎◌, ◌≢◌, ◌&&◌, ℕ, List, None, OnOk, Some, encode_utf8_all, false, nat_lt, string_bytes, true, IfErr, IfOk};
 ghost use Rattle.command_line.specs.declared.player.Player.{Player as Played};
-ghost use Rattle.tape_core.specs.Devices.{Puts, has_failed, has_written, inner_of, is_flushed};
+ghost use Rattle.tape_core.specs.Devices.{Puts, has_failed, inner_of, is_flushed};
 ghost use Rattle.tape_core.specs.Faults.{is_stop};
 ghost use Rattle.tape_core.specs.Reading.{fault_of, reads};
 ghost use Rattle.tape_check.specs.Header.{told_size};
@@ -18,7 +18,7 @@ ghost use Rattle.tape_jobs.specs.Redacting.{FourEnd, PairPuts, RedactEnds, count
 
 use crate::answers::Answers;
 use crate::job::{Ending, JobFault, Outcome, outcome_in};
-use crate::jobs::find::finds;
+use crate::jobs::find::{finds, put_lines};
 use crate::jobs::note::tell_note;
 use crate::laws::nowhere_means_nowhere;
 use crate::player::played_size;
@@ -60,7 +60,6 @@ pub fn redact<S: Read, T: Read, O: Write, P: Write, L: Write, F: Write, N: Write
     requires out_timing { has_failed out_timing.old ≡ false }
     requires told { has_failed told.old ≡ false }
     requires found { has_failed found.old ≡ false }
-    requires unwritten { has_written found.old ≡ false }
     requires notes { has_failed notes.old ≡ false }
     ensures { let pair = pair_of (used S.remaining script.old script.new)
         (used T.remaining timing.old timing.new) in
@@ -125,7 +124,6 @@ fn write_and_tell<O: Write, P: Write, L: Write, F: Write>(
     requires out_timing { has_failed out_timing.old ≡ false }
     requires told { has_failed told.old ≡ false }
     requires found { has_failed found.old ≡ false }
-    requires unwritten { has_written found.old ≡ false }
     ensures { let writers = writers_of (used O.contents out.old out.new)
         (used P.contents out_timing.old out_timing.new) in
         FourEnd writers (used L.contents told.old told.new) (used F.contents found.old found.new)
@@ -159,7 +157,6 @@ fn write_four<T: Answers, O: Write, P: Write, L: Write, F: Write>(
     requires out_timing { has_failed out_timing.old ≡ false }
     requires told { has_failed told.old ≡ false }
     requires found { has_failed found.old ≡ false }
-    requires unwritten { has_written found.old ≡ false }
     ensures { (player : Played) → settled player recording ≡ T.player profile
         → (let writers = writers_of (used O.contents out.old out.new)
         (used P.contents out_timing.old out_timing.new) in
@@ -171,8 +168,8 @@ fn write_four<T: Answers, O: Write, P: Write, L: Write, F: Write>(
     let count = cleared.count;
     write_pair(cleared.session.recording(), out, out_timing)?;
     tell_count(count, told)?;
-    T::put_found(alloc, &mut cleared.session, None, LAST_MOMENT, text, found)?;
-    Ok(ending_of(cleared.fit, found.written()))
+    let found = put_lines(alloc, &mut cleared.session, None, LAST_MOMENT, text, found)?;
+    Ok(ending_of(cleared.fit, found))
 }
 
 /// Writes both files, and tells nothing of them. It takes all its memory before.

@@ -1,4 +1,4 @@
-use Rattle.std.proofs.Common.{◌≡◌, false, true, ap, sym, inl, inr, ◌∙◌, refl, rules, subst, true≢false, Some, None, Err}
+use Rattle.std.proofs.Common.{◌≡◌, ap, sym, inl, inr, ◌∙◌, refl, rules, subst, true≢false, Some, None, Err}
 use Rattle.tape_core.proofs.DeviceLemmas.{took_none}
 use Rattle.tape_jobs.specs.Endings.{JobEnds, RunEnds, readers_of, used, writers_of}
 use Rattle.tape_jobs.specs.Mending.{remains_of}

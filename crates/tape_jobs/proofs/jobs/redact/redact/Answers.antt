@@ -1,5 +1,4 @@
-use Rattle.std.proofs.Common.{◌≡◌, refl, rules, subst}
-use Rattle.tape_check.specs.Lines.{note_line}
+use Rattle.std.proofs.Common.{refl}
 use Rattle.tape_jobs.proofs.RedactLemmas.{redact_unread, redact_written}
 use Rattle.tape_jobs.specs.Endings.{used, writers_of}
 use Rattle.tape_jobs.specs.Mending.{pair_of}

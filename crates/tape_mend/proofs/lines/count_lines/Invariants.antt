@@ -1,11 +1,11 @@
 use Rattle.std.proofs.Common.{◌≡◌, ◌+◌, ◌≤◌, length}
-use Rattle.tape_core.specs.Text.{lines_of}
-use Rattle.tape_mend.proofs.front.count_lines.Given as goal
+use Rattle.tape_mend.specs.Lines.{timing_lines}
+use Rattle.tape_mend.proofs.lines.count_lines.Given as goal
 
 abbrev pub invariant-loop-rest : goal.invariant-loop-rest
 invariant-loop-rest l = record {
-  all : l.count + length (lines_of l.rest) ≡ length (lines_of l.text);
-  fits : l.count + length l.rest ≤ length l.text;
+  all : l.count + length (timing_lines l.rest) ≡ length (timing_lines l.timing);
+  fits : l.count + length l.rest ≤ length l.timing;
 }
 
 abbrev pub decreases-loop-rest : goal.decreases-loop-rest
