@@ -67,6 +67,12 @@ def resets(n):
     return [b"\x1bc\x1b#8"] * n
 
 
+def named(n):
+    """Outputs behind logs of long names, in the multi-stream format: a pair of files."""
+    names = b"".join(b"H 0 %s_LOG%s\n" % (log, b" name" * n) for log in (b"OUTPUT", b"INPUT"))
+    return HEADER + b"x" * n, names + b"O 0.001 1\n" * n
+
+
 def wide(n):
     """Wide characters with marks in colours."""
     return ["\x1b[38;5;%dm日e\u0301".encode() % (at % 256) for at in range(n)]
@@ -98,14 +104,21 @@ RUNS = [
     (("cast",), reversals, 30),
     (("cast", *TODAY), wide, 8000),
     (("mend",), cells, 20000),
+    (("mend",), named, 2000),
 ]
+
+
+def files_of(parts):
+    """The pair of a recording of these parts, or that which was made."""
+    if isinstance(parts, tuple):
+        return parts
+    return plain_reader.files_of((HEADER, [(1000, part) for part in parts], b""))
 
 
 def counted(folder, words, parts):
     """How many instructions the program takes on a recording of these parts."""
-    recording = (HEADER, [(1000, part) for part in parts], b"")
     paths = [os.path.join(folder, f"made.{kind}") for kind in ("script", "timing")]
-    for path, text in zip(paths, plain_reader.files_of(recording)):
+    for path, text in zip(paths, files_of(parts)):
         with open(path, "wb") as file:
             file.write(text)
     new = [os.path.join(folder, f"new.{kind}") for kind in ("script", "timing")]

@@ -73,14 +73,14 @@ COMMANDS = [
     (["check", "s", "t"], b""),
     (["changes", "--to", "99", "s", "t"], b""),
     (["find", "line 5", "s", "t"], b""),
-    # Only what is short: where the text stands, each byte costs a look at the rows that it touched.
-    (["find", "--profile", "xterm", "--to", "0.3", "line 5", "s", "t"], b""),
+    (["find", "--profile", "xterm", "line 5", "s", "t"], b""),
     (["reports", "--at", "99", "s", "t"], b""),
     (["page", "s", "t"], b""),
     (["cast", "s", "t"], b""),
     (["save", "s", "t", "s2", "t2"], REQUESTS),
     (["mend", "s", "t", "s2", "t2"], b""),
     (["redact", "line 5", "s", "t", "s2", "t2"], b""),
+    (["redact", "--profile", "xterm", "line 5", "s", "t", "s2", "t2"], b""),
     (["session", "s", "t"], REQUESTS + QUESTIONS),
     (["session", "--profile", "xterm", "s", "t"], REQUESTS + QUESTIONS),
 ]

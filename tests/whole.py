@@ -60,6 +60,7 @@ JOBS = [
     (["save"], EDITS, saved),
     (["mend"], b"", mended),
     (["redact", "started on"], b"", redacted),
+    (["redact", "--profile", "xterm", "started on"], b"", redacted),
 ]
 # How many chunks a job is killed over; redact looks at the screen after each byte.
 CHUNKS = {"save": 40_000, "mend": 40_000, "redact": 4_000}
@@ -97,6 +98,9 @@ class Place:
 
     def path(self, name):
         return os.path.join(self.folder, name)
+
+    def check(self, name, good, what=""):
+        check(f"{' '.join(self.words)}, {name}", good, what)
 
     def command(self):
         name, *flags = self.words
@@ -156,8 +160,8 @@ class Place:
         """Counts a run, after which the pair is refused or whole and the old one as it was."""
         left = self.left()
         old = tuple(self.text(old) for old in ("old.script", "old.timing"))
-        check(
-            f"{self.words[0]}, {name}",
+        self.check(
+            name,
             left in ("none", "refused", "whole") and old == self.old and self.is_private() and also,
             f"{left} {what}",
         )
@@ -175,7 +179,7 @@ def whole(job, old):
     status, told = place.run()
     bits = [place.mode(name) for name in NEW]
     good = status == 0 and told == b"" and place.left() == "whole" and not place.parts() and bits == [0o640, 0o604]
-    check(f"{place.words[0]}, undisturbed", good, f"{status} {told} {place.left()} {bits}")
+    place.check("undisturbed", good, f"{status} {told} {place.left()} {bits}")
     place.gone()
 
 
@@ -205,9 +209,10 @@ def at_random(pool):
     for job in JOBS:
         old = recording(random.Random(seed), CHUNKS[job[0][0]])
         shares = [instants // 4 + (n < instants % 4) for n in range(4)]
-        runs = [pool.submit(killed, job, old, share, f"{job[0][0]} {n}") for n, share in enumerate(shares)]
+        name = " ".join(job[0])
+        runs = [pool.submit(killed, job, old, share, f"{name} {n}") for n, share in enumerate(shares)]
         counts = sum((run.result() for run in runs), collections.Counter())
-        print(f"{job[0][0]}: " + ", ".join(f"{count} {left}" for left, count in sorted(counts.items())), flush=True)
+        print(f"{name}: " + ", ".join(f"{count} {left}" for left, count in sorted(counts.items())), flush=True)
 
 
 def traces():
@@ -232,7 +237,7 @@ def at_each_call(job, old):
     """Killed before each call, and each call failing in its turn."""
     place = Place(job, old)
     calls, seen = calls_of(place), collections.Counter()
-    check(f"{place.words[0]}, calls", {"write", "fchmod", "fsync"} <= set(calls), calls)
+    place.check("calls", {"write", "fchmod", "fsync"} <= set(calls), calls)
     for call in calls:
         seen[call] += 1
         at = f"{call} {seen[call]}"
