@@ -67,6 +67,16 @@ def resets(n):
     return [b"\x1bc\x1b#8"] * n
 
 
+def keys(n):
+    """A letter and a bell a chunk."""
+    return [b"x\a"] * n
+
+
+def overwritten(n):
+    """A screen full of a text, written over by marked letters in one chunk."""
+    return [b"ab" * (43 * 66), b"\x1b[H" + "e\u0301".encode() * n]
+
+
 def named(n):
     """Outputs behind logs of long names, in the multi-stream format: a pair of files."""
     names = b"".join(b"H 0 %s_LOG%s\n" % (log, b" name" * n) for log in (b"OUTPUT", b"INPUT"))
@@ -96,6 +106,9 @@ RUNS = [
     (("find", "x"), cells, 12000),
     (("find", "0"), zeros, 200),
     (("find", "same"), equal_lines, 2000),
+    (("find", "x", "--profile", "xterm", "--size", "20x10"), keys, 1000),
+    (("find", "ab", *TODAY), overwritten, 60),
+    (("find", "a", *TODAY), scrolls, 300),
     (("page",), cells, 4000),
     (("page",), scrolls, 600),
     (("page",), reversals, 100),
@@ -139,7 +152,7 @@ def one(run):
         start, once, twice = (counted(folder, words, made(parts)) for parts in (1, n, 2 * n))
         beside = ""
         if words[0] == "find":
-            first, last = (counted(folder, ("screen", "--at", END), made(parts)) for parts in (1, n))
+            first, last = (counted(folder, ("screen", "--at", END, *words[2:]), made(parts)) for parts in (1, n))
             beside = f", {(once - start) / (last - first):.1f} times `screen`"
     return run, once - start, (twice - start) / (once - start), beside
 
