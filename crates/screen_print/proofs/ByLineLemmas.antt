@@ -2,22 +2,23 @@
 use Rattle.std.proofs.Common.{◌≡◌, ℕ, zero, suc, ◌+◌, ◌-◌, ◌<◌, ◌≤◌, Bool, true, false, List, [], ◌∷◌, ◌++◌, ◌&&◌, max, length, get_or, set, take, drop, nat_eq, nat_le, nat_lt, refl, ap, sym, ◌∙◌, subst, arith, append_assoc, append-nil, cond, inl, inr}
 use Rattle.std.specs.Cmp.Lexicographic.{pointwise}
 use Rattle.std.specs.List.{All, count_by, flat_map, list_any, range_with_len}
-use Rattle.std.proofs.lemmas.Bool.{and_from, and_left, and_parts, and_right, eq-eqb, false≢true, or_from, or_parts, cases_Bool, cases_eq, cases_lt, false_from_ne_true, le-leb, le-ltb, lt-leb, lt-ltb, ltb-true}
+use Rattle.std.proofs.lemmas.Bool.{and_from, and_left, and_parts, and_right, eq-eqb, false≢true, or_from, or_parts, cases_Bool, cases_eq, cases_lt, false_from_ne_true, le-leb, le-ltb, lt-leb, lt-ltb, ltb-true, ne_eqb}
 use Rattle.std.proofs.lemmas.Bool.Decides.{Decides-eqb}
 use Rattle.std.proofs.lemmas.Slice.Eq.{slice_eq-Decides}
-use Rattle.std.proofs.lemmas.List.{get_or_append_left, get_or_push, get_or-map, get_or-set_other, get_or-set_same, get_or-take, length-append, length-map, length-take, length-take-le, length_push, take-append-le, take-map, take-take, take_at}
+use Rattle.std.proofs.lemmas.List.{get_or_append_left, get_or_push, get_or-map, get_or-set_other, get_or-set_same, get_or-take, length-append, length-map, length-take, length-take-le, length_push, drop-map, take-append-le, take-map, take-take, take_all, take_at}
+use Rattle.std.proofs.Math.Seq.{take-add}
 use Rattle.std.proofs.lemmas.List.Concat.{flat_map-append}
 use Rattle.std.proofs.lemmas.List.Elements.{All-nil, All-push}
 use Rattle.std.proofs.lemmas.List.Sums.{sum_by-append}
 use Rattle.vt_screen.specs.declared.cell.Cell.{Cell}
 use Rattle.screen_rows.specs.Glyphs.{character}
-use Rattle.screen_rows.specs.RowText.{characters}
+use Rattle.screen_rows.specs.RowText.{characters, row_text}
 use Rattle.screen_print.specs.declared.standing.Place.{Place}
-use Rattle.screen_print.specs.ByLine.{AreCommon, AreKept, AreLost, DifferIn, IsApart, IsCommon, IsKept, IsOnScreen, begins_on, count_above, lines_by, place_line, places_above, places_to, row_on, stands_so}
+use Rattle.screen_print.specs.ByLine.{AreCommon, AreKept, AreLost, DifferIn, IsApart, IsCommon, IsKept, IsOnScreen, NonePasses, begins_on, count_above, lines_by, place_line, places_above, places_to, row_on, stands_so}
 use Rattle.screen_print.specs.EachByte.{is_lone, passed_lines}
 use Rattle.screen_print.specs.FindLines.{begins, count_left, ends_line, found_line, left_of, less_lines, line_text_from, place_in, places_from, row_texts, standing}
 use Rattle.screen_print.specs.Stills.{Still}
-use Rattle.screen_print.proofs.FindLemmas.{first_more, places_more, standing_all, standing_more, texts_at}
+use Rattle.screen_print.proofs.FindLemmas.{first_more, line_ends, places_more, standing_all, standing_more, texts_at}
 use Rattle.chunk_walk.proofs.TextLemmas.{texts_from}
 use Rattle.screen_print.proofs.QuietLemmas.{front_alike, itself, line_is}
 use Rattle.screen_print.proofs.StillLemmas.{IsIn, differs_or_same}
@@ -497,6 +498,23 @@ front_kept text one other line there same column whole whole' low high low' high
       left = sym (take-take (column - 1) same row short) ∙ ap (take (column - 1)) alike ∙ take-take (column - 1) same row' short;
     }
 
+-- a row that ends its line, and that the other screen has too, keeps all its places
+pub ended_kept : (text : List ℕ) (one other : Still) (line there end : ℕ) → length one.rows ≡ 24 → length other.rows ≡ 24 → 1 ≤ line → line ≤ 24 → 1 ≤ there → there ≤ 24
+    → one.wide ≡ other.wide → row_at one.rows line ≡ row_at other.rows there → ends_line (row_on one line) ≡ true → AreKept text one line other there end
+ended_kept text one other line there end whole whole' low high low' high' wide same ends column left right within stands =
+    let row = row_on one line in
+    let row' = row_on other there in
+    let alike : row ≡ row' = ap (λ w. row_text w (row_at one.rows line)) wide ∙ ap (row_text other.wide) same in
+    let here : line_text_from (drop (line - 1) (row_texts one)) ≡ row =
+    ap line_text_from (texts_at one line whole low high) ∙ sym (line_ends row (drop line (row_texts one)) ends) in
+    let here' : line_text_from (drop (there - 1) (row_texts other)) ≡ row' =
+    ap line_text_from (texts_at other there whole' low' high') ∙ sym (line_ends row' (drop there (row_texts other)) (ap ends_line (sym alike) ∙ ends)) in
+    record {
+      within = omega (arith, ap length alike, within);
+      begins = ap (λ l. begins text l column) (here' ∙ sym alike ∙ sym here) ∙ stands;
+      left = ap (take (column - 1)) alike;
+    }
+
 -- where a text begins nowhere in a row, whatever stands behind it, it begins nowhere in the line
 pub none_begun : (text : List ℕ) (still : Still) (line column : ℕ) → length still.rows ≡ 24 → 1 ≤ line → line ≤ 24
     → ((rest : List ℕ) → begins text (row_on still line ++ rest) column ≡ false) → begins_on text still line column ≡ false
@@ -506,13 +524,6 @@ none_begun text still line column whole low high none =
     ap (λ l. begins text (line_text_from l) column) (texts_at still line whole low high)
     ∙ ap (λ l. begins text l column) (line_is row rows)
     ∙ none (cond (ends_line row) [] (line_text_from rows))
-
--- so it keeps all its places
-pub none_are_kept : (text : List ℕ) (one : Still) (line : ℕ) (other : Still) (there end : ℕ)
-    → ((column : ℕ) → 1 ≤ column → column ≤ length (row_on one line) → begins_on text one line column ≡ false)
-    → AreKept text one line other there end
-none_are_kept text one line other there end none column low high within begins =
-    elim (false≢true (sym (none column low within) ∙ begins)) [ ]
 
 -- a column more
 pub kept_more : (text : List ℕ) (one : Still) (line : ℕ) (other : Still) (there end : ℕ) → AreKept text one line other there end
@@ -581,35 +592,50 @@ so_past text still line left past =
     sym (and_left (nat_lt (length chars) (length row)) (pointwise nat_eq (take (length chars) row) chars && begins_on text still line (length chars + 1))
     (le-ltb (length chars) (length row) (omega (arith, past, length-map left read))))
 
-pub so_not : (text : List ℕ) (still : Still) (line : ℕ) (left : List Cell) → begins_on text still line (length left + 1) ≡ false → false ≡ stands_so text still line (characters left)
+pub so_unlike : (text : List ℕ) (still : Still) (line : ℕ) (cells left : List Cell) → characters cells ≡ row_on still line
+    → (take (length left) (characters cells) ≡ take (length left) (characters left) → ⊥) → false ≡ stands_so text still line (characters left)
 unfolding stands_so
-so_not text still line left none =
-    let read : Cell → ℕ = λ cell. character cell.glyph in
-    let row = row_on still line in
-    let chars = characters left in
-    sym (and_right (nat_lt (length chars) (length row)) (pointwise nat_eq (take (length chars) row) chars && begins_on text still line (length chars + 1))
-    (and_right (pointwise nat_eq (take (length chars) row) chars) (begins_on text still line (length chars + 1))
-    (ap (λ n. begins_on text still line (n + 1)) (length-map left read) ∙ none)))
-
-with_yes : (b : Bool) → (b && true) ≡ b
-with_yes true = refl
-with_yes false = refl
-
-pub so_alike : (text : List ℕ) (still : Still) (line : ℕ) (cells left : List Cell) (alike : Bool) → length left < length (row_on still line)
-    → begins_on text still line (length left + 1) ≡ true → characters cells ≡ row_on still line → alike ≡ pointwise nat_eq (characters (take (length left) cells)) (characters left)
-    → alike ≡ stands_so text still line (characters left)
-unfolding stands_so
-so_alike text still line cells left alike within begins same is =
+so_unlike text still line cells left is differs =
     let read : Cell → ℕ = λ cell. character cell.glyph in
     let row = row_on still line in
     let chars = characters left in
     let long : length chars ≡ length left = length-map left read in
-    let here : pointwise nat_eq (characters (take (length left) cells)) chars ≡ pointwise nat_eq (take (length chars) row) chars =
-    ap (λ l. pointwise nat_eq l chars) (sym (take-map read (length left) cells) ∙ ap (take (length left)) same ∙ ap (λ n. take n row) (sym long)) in
-    is ∙ here
-    ∙ sym (with_yes (pointwise nat_eq (take (length chars) row) chars))
-    ∙ ap (λ b. pointwise nat_eq (take (length chars) row) chars && b) (sym (ap (λ n. begins_on text still line (n + 1)) long ∙ begins))
+    sym (and_right (nat_lt (length chars) (length row)) (pointwise nat_eq (take (length chars) row) chars && begins_on text still line (length chars + 1))
+    (and_left (pointwise nat_eq (take (length chars) row) chars) (begins_on text still line (length chars + 1))
+    (unequal (take (length chars) row) chars
+    (λ same. differs (ap (take (length left)) is ∙ ap (λ n. take n row) (sym long) ∙ same ∙ sym (take_all (length left) chars (omega (arith, long))))))))
+
+pub so_alike : (text : List ℕ) (still : Still) (line : ℕ) (cells left : List Cell) (here : Bool) → length left < length (row_on still line) → characters cells ≡ row_on still line
+    → take (length left) (characters cells) ≡ take (length left) (characters left) → here ≡ begins_on text still line (length left + 1) → here ≡ stands_so text still line (characters left)
+unfolding stands_so
+so_alike text still line cells left here within is alike begins =
+    let read : Cell → ℕ = λ cell. character cell.glyph in
+    let row = row_on still line in
+    let chars = characters left in
+    let long : length chars ≡ length left = length-map left read in
+    let front : take (length chars) row ≡ chars =
+    ap (λ n. take n row) long ∙ ap (take (length left)) (sym is) ∙ alike ∙ take_all (length left) chars (omega (arith, long)) in
+    let same : pointwise nat_eq (take (length chars) row) chars ≡ true = ap (λ l. pointwise nat_eq l chars) front ∙ itself chars in
+    begins ∙ ap (λ n. begins_on text still line (n + 1)) (sym long)
+    ∙ ap (λ b. b && begins_on text still line (length chars + 1)) (sym same)
     ∙ ap (λ b. b && (pointwise nat_eq (take (length chars) row) chars && begins_on text still line (length chars + 1))) (sym (lt-ltb (length chars) (length row) (omega (arith, within, long))))
+
+-- cells that are read alike, and more of them
+pub alike_behind : (one other : List Cell) (at n : ℕ) → take at (characters one) ≡ take at (characters other)
+    → characters (take n (drop at one)) ≡ characters (take n (drop at other)) → take (at + n) (characters one) ≡ take (at + n) (characters other)
+alike_behind one other at n before here =
+    let read : Cell → ℕ = λ cell. character cell.glyph in
+    let part : (cells : List Cell) → take n (drop at (characters cells)) ≡ characters (take n (drop at cells)) =
+    λ cells. ap (take n) (drop-map read at cells) ∙ take-map read n (drop at cells) in
+    take-add at n (characters one)
+    ∙ ap (λ l. l ++ take n (drop at (characters one))) before
+    ∙ ap (λ l. take at (characters other) ++ l) (part one ∙ here ∙ sym (part other))
+    ∙ sym (take-add at n (characters other))
+
+-- a place that isn't told, since its left part stands at an end
+pub not_both : (a b : Bool) → (a && b) ≡ false → a ≡ true → b ≡ false
+not_both true b none is = none
+not_both false b none is = absurd (false≢true is)
 
 pub left_is : (still : Still) (place : Place) (cells : List Cell) → characters cells ≡ row_on still place.line → characters (take (place.column - 1) cells) ≡ left_of still place
 left_is still place cells same =
@@ -709,6 +735,48 @@ unfolding place_line
 not_kept text one other write keep before place none =
     let less = nat_le (count_left other (standing text other) (left_of one place)) (count_left one before (left_of one place)) in
     sym (ap (λ b. cond less (cond b (write place) []) []) none ∙ neither less)
+
+-- ---- what stood at an end
+
+-- what stands in a line stands on the screen
+pub not_lone : (text : List ℕ) (still : Still) (line : ℕ) (left : List ℕ) → length still.rows ≡ 24 → 1 ≤ line → line ≤ 24
+    → stands_so text still line left ≡ true → is_lone still (standing text still) left ≡ false
+not_lone text still line left whole low high stands =
+    let one = counted (stands_so text still line left) true stands in
+    let more = count_more text still line left low in
+    let rest = count_rises text still (line + 1) 25 left (omega arith) (omega arith) in
+    let all = count_all text still left whole in
+    ne_eqb (count_left still (standing text still) left) 0 (λ e. omega (arith, e, one, more, rest, all))
+
+-- and so does what stands in the line of another one whose row ends its line, and is the same
+pub ended_not_lone : (text : List ℕ) (one other : Still) (line there column : ℕ) → length one.rows ≡ 24 → length other.rows ≡ 24 → 1 ≤ line → line ≤ 24 → 1 ≤ there → there ≤ 24
+    → one.wide ≡ other.wide → row_at one.rows line ≡ row_at other.rows there → ends_line (row_on one line) ≡ true
+    → 1 ≤ column → column ≤ length (row_on one line) → begins_on text one line column ≡ true
+    → is_lone other (standing text other) (take (column - 1) (row_on one line)) ≡ false
+ended_not_lone text one other line there column whole whole' low high low' high' wide same ends left right begins =
+    let kept = ended_kept text one other line there (column + 1) whole whole' low high low' high' wide same ends column left (omega arith) right begins in
+    ap (is_lone other (standing text other)) kept.left
+    ∙ not_lone text other there (take (column - 1) (row_on other there)) whole' low' high' (stands_at text other there column left kept.within kept.begins)
+
+-- where no left part passes the test nothing is written
+none_pass : (text : List ℕ) (one other : Still) (write : Place → List ℕ) (keep : List ℕ → Bool) (n : ℕ) → n ≤ 24
+    → ((line : ℕ) → 1 ≤ line → line ≤ 24 → NonePasses text one keep line) → lines_by text one other write keep (places_above text one (n + 1)) ≡ []
+none_pass text one other write keep zero high none = lines_none text one other write keep
+none_pass text one other write keep (suc n) high none =
+    let line = suc n in
+    let above = places_above text one line in
+    let f = place_line text one other write keep above in
+    let next : n + 1 ≡ line = omega arith in
+    lines_more text one other write keep line (omega arith)
+    ∙ ap (λ l. l ++ flat_map f (places_to text one line (length (row_on one line))))
+    (ap (λ k. lines_by text one other write keep (places_above text one k)) (sym next) ∙ none_pass text one other write keep n (omega arith) none)
+    ∙ quiet_behind text one line 0 (length (row_on one line)) f (omega arith)
+    (λ column low within begins. sym (not_kept text one other write keep above (place_in line column) (none line (omega arith) high column (omega arith) within begins)))
+
+pub none_told : (text : List ℕ) (one other : Still) (write : Place → List ℕ) (keep : List ℕ → Bool) → length one.rows ≡ 24
+    → ((line : ℕ) → 1 ≤ line → line ≤ 24 → NonePasses text one keep line) → [] ≡ lines_by text one other write keep (standing text one)
+none_told text one other write keep whole none =
+    sym (ap (lines_by text one other write keep) (sym (all_above text one whole)) ∙ none_pass text one other write keep 24 (omega arith) none)
 
 -- ---- the lines of find
 

@@ -203,25 +203,6 @@ pub itself : (l : List ℕ) → pointwise nat_eq l l ≡ true
 itself [] = refl
 itself (x ∷ xs) = rw (eq-eqb x x refl) (itself xs)
 
--- cells that are read apart, and alike
-pub reads_apart : (one other : List Cell) (k : ℕ) (d e : Cell) → k < length one → k < length other
-    → (character (get_or one k d).glyph ≡ character (get_or other k e).glyph → ⊥) → false ≡ pointwise nat_eq (characters one) (characters other)
-reads_apart one other k d e lt lt' differs =
-    let read : Cell → ℕ = λ cell. character cell.glyph in
-    let decided = slice_eq-Decides Decides-eqb (characters one) (characters other) (pointwise nat_eq (characters one) (characters other)) refl in
-    elim (cases_Bool (pointwise nat_eq (characters one) (characters other))) [
-      | inl t ↦ absurd (differs (sym (get_or-map read one k d 0 lt) ∙ ap (λ (l : List ℕ). get_or l k 0) (decided.0 t) ∙ get_or-map read other k e 0 lt'))
-      | inr f ↦ sym f
-    ]
-
-pub reads_alike : (one other : List Cell) (k : ℕ) → length one ≤ k → length one ≡ length other → take k (characters one) ≡ take k (characters other)
-    → true ≡ pointwise nat_eq (characters one) (characters other)
-reads_alike one other k whole long same =
-    let read : Cell → ℕ = λ cell. character cell.glyph in
-    let are : characters other ≡ characters one =
-    sym (take_all k (characters other) (omega (arith, length-map other read, long))) ∙ sym same ∙ take_all k (characters one) (omega (arith, length-map one read)) in
-    sym (ap (pointwise nat_eq (characters one)) are ∙ itself (characters one))
-
 -- what stands left of a place
 pub left_read : (still : Still) (place : Place) (cells : List Cell) (wide : Bool) (row : Row) (n : ℕ) → characters cells ≡ row_text wide row → wide ≡ still.wide
     → row ≡ row_at still.rows place.line → n ≡ place.column - 1 → characters (take n cells) ≡ left_of still place

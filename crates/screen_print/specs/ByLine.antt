@@ -1,5 +1,5 @@
 -- Private: where a text stands line by line, and what of it is less on another screen.
-use Rattle.std.specs.Prelude.{◌≡◌, ℕ, ◌+◌, ◌-◌, ◌<◌, ◌≤◌, ◌&&◌, ◌==◌, Bool, true, false, List, [], None, Option, Some, drop, if◌then◌else◌, length, nat_eq, nat_le, nat_lt, slice_index, slice_index_or, take}
+use Rattle.std.specs.Prelude.{◌≡◌, ℕ, ◌+◌, ◌-◌, ◌<◌, ◌≤◌, ◌&&◌, ◌==◌, Bool, true, false, List, [], IfSome, None, Option, Some, drop, if◌then◌else◌, length, nat_eq, nat_le, nat_lt, slice_index, slice_index_or, take}
 use Rattle.std.specs.Borrow.{Bor}
 use Rattle.std.specs.Cmp.Lexicographic.{pointwise}
 use Rattle.std.specs.List.{All, flat_map, list_any, range_with_len}
@@ -53,12 +53,20 @@ unfoldable pub lines_by : List ℕ → Still → Still → (Place → List ℕ) 
 lines_by text one other write keep places =
     flat_map (λ n. place_line text one other write keep (take n places) (slice_index_or places n (place_in 1 1))) (range_with_len 0 (length places))
 
+-- whether a text stands on neither of two screens with this to the left
+abbrev pub stands_on_neither : List ℕ → Still → Still → List ℕ → Bool
+stands_on_neither text first last left = is_lone first (standing text first) left && is_lone last (standing text last) left
+
 -- whether a text stands at no end of a chunk with this to the left, where they are given
 abbrev pub stands_at_no_end : List ℕ → Option (Bor Ends) → List ℕ → Bool
 stands_at_no_end text None left = true
-stands_at_no_end text (Some ends) left =
-    is_lone ends.now.first.now (standing text ends.now.first.now) left
-    && is_lone ends.now.last.now (standing text ends.now.last.now) left
+stands_at_no_end text (Some ends) left = stands_on_neither text ends.now.first.now ends.now.last.now left
+
+-- of all that stands in a line of a screen no left part passes a test
+abbrev pub NonePasses : List ℕ → Still → (List ℕ → Bool) → ℕ → Type 0
+NonePasses text one keep line =
+    (column : ℕ) → 1 ≤ column → column ≤ length (row_on one line) → begins_on text one line column ≡ true
+    → keep (take (column - 1) (row_on one line)) ≡ false
 
 -- ---- lines from which a text may have gone
 
@@ -105,7 +113,7 @@ IsCommon row these len = (n : ℕ) → n ≤ length these → pointwise nat_eq (
 abbrev pub AreCommon : Still → ℕ → List ℕ → List ℕ → Type 0
 AreCommon still end these lens = (line : ℕ) → 1 ≤ line → line < end → IsCommon (row_on still line) these (slice_index lens (line - 1))
 
--- a line's row against those above it, and against all of another screen
+-- a line's row against all of another screen, and against those above it where that is known
 pub record AreFronts (one : Still) (line : ℕ) (other : Still) (fronts : Fronts) : Type 0 where
-  pub above : AreCommon one line (row_on one line) fronts.above
+  pub above : IfSome fronts.above (λ lens. AreCommon one line (row_on one line) lens)
   pub there : AreCommon other (line_count + 1) (row_on one line) fronts.there

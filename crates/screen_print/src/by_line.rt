@@ -2,19 +2,18 @@
 
 ghost use Rattle.std.specs.Prelude.{
   ◌≡◌,
-  ◌≢◌,
   ◌≤◌,
   ◌<◌,
   ◌+◌,
   ◌-◌,
+  ◌&&◌,
   All,
+  Bool,
   IfSome,
+  List,
   ℕ,
-  [],
-  cond,
   false,
   length,
-  nat_eq,
   nat_le,
   take,
   true,
@@ -43,26 +42,31 @@ ghost use Rattle.screen_print.specs.ByLine.{
   stands_so,
 };
 ghost use Rattle.screen_print.specs.EachByte.{is_lone};
-ghost use Rattle.screen_print.specs.FindLines.{count_left, found_line, left_of, place_in, standing};
+ghost use Rattle.screen_print.specs.FindLines.{count_left, ends_line, found_line, left_of, standing};
 ghost use Rattle.screen_print.specs.Places.{IsPlace};
 ghost use Rattle.screen_print.specs.Start.{IsStart};
-ghost use Rattle.screen_rows.specs.Glyphs.{character};
 ghost use Rattle.screen_rows.specs.RowText.{characters};
+ghost use Rattle.screen_rows.specs.SameRows.{same_cell};
 ghost use Rattle.vt_screen.specs.Cells.{row_at};
 
+use crate::alike::{BLOCK, alike_len};
 use crate::find_lines::{Chunk, put_found};
 use crate::quiet::{may_begin, same_len};
-use crate::standing::{Place, begins};
+use crate::standing::{Place, begins, ends_line};
 use crate::start::Start;
 use crate::still::{ROWS, Still};
+use crate::stood::all_stood;
 use arrayvec::ArrayVec;
 use screen_rows::laws::same_rows_are_equal;
-use screen_rows::{character, same_row};
+use screen_rows::{same_first, same_row};
 use std::io::Write;
 use tape_core::Watched;
 use tape_core::laws::gives_join;
 use vt_screen::Cell;
 use vt_screen::limits::{LINES, WIDE_COLUMNS};
+
+/// In more lines than so many a screen mostly differs because rows moved.
+pub(crate) const FEW: usize = 4;
 
 /// A text that is looked for, and how it begins.
 #[derive(Drop)]
@@ -94,11 +98,11 @@ struct Lost {
     next: u8,
 }
 
-/// How many characters a row of one screen has in common with each line above it, and with each of the other screen. So
-/// what stands left of a column is compared once for all columns.
+/// How many characters a row of one screen has in common with each line of the other, and with each line above it, once
+/// that was asked for. So what stands left of a column is compared once for all columns.
 #[derive(Drop)]
 struct Fronts {
-    above: [u8; ROWS],
+    above: Option<[u8; ROWS]>,
     there: [u8; ROWS],
 }
 
@@ -109,9 +113,24 @@ impl Fronts {
         requires high { line ≤ LINES }
         ensures { AreFronts pair.now.one.now line pair.now.other.now result }
     {
-        let above = in_common(pair.one, line, pair.one, line);
         let there = in_common(pair.one, line, pair.other, LINES + 1);
-        Fronts { above, there }
+        Fronts { above: None, there }
+    }
+
+    /// How many characters the row has in common with each line above it.
+    fn above(&mut self, pair: &Pair<'_>, line: u8) -> [u8; ROWS]
+        requires low { 1 ≤ line }
+        requires high { line ≤ LINES }
+        requires fronts { AreFronts pair.now.one.now line pair.now.other.now self.old }
+        ensures above { AreCommon pair.now.one.now line (row_on pair.now.one.now line) result }
+        ensures fronts { AreFronts pair.now.one.now line pair.now.other.now self.new }
+    {
+        if let Some(above) = self.above {
+            return above;
+        }
+        let above = in_common(pair.one, line, pair.one, line);
+        self.above = Some(above);
+        above
     }
 }
 
@@ -152,6 +171,9 @@ pub(crate) fn put_less<W: Write>(
 {
     gives_join::<W>();
     pair.one.sound();
+    if all_stood(sought, pair, ends) {
+        return;
+    }
     let mut lost = Lost {
         places: ArrayVec::new(),
         next: 1,
@@ -174,10 +196,39 @@ fn push_lost(sought: &Sought<'_>, pair: &Pair<'_>, line: u8, lost: &mut Lost)
     ensures { AreLost sought.now.text.now pair.now.one.now (line + 1)
         pair.now.other.now lost.new.next lost.new.places.items }
 {
+    if let Some(there) = same_line(pair, line, lost.next) {
+        push_same(sought, pair, line, there, lost);
+        return;
+    }
+    if is_bare(sought, pair.one, line) {
+        return;
+    }
     match partner(pair, line, lost.next) {
         Some(found) => push_changed(sought, pair, line, found.there, found.same, lost),
         None => push_alone(sought, pair, line, lost),
     }
+}
+
+/// The same by a line of the other screen that has the same row: where it ends its line, its places stand there.
+fn push_same(sought: &Sought<'_>, pair: &Pair<'_>, line: u8, there: u8, lost: &mut Lost)
+    requires start { IsStart sought.now.text.now sought.now.start.now }
+    requires low { 1 ≤ line }
+    requires high { line ≤ LINES }
+    requires next { lost.old.next ≤ there }
+    requires there { there ≤ LINES }
+    requires same { row_at pair.now.one.now.rows line ≡ row_at pair.now.other.now.rows there }
+    requires before { AreLost sought.now.text.now pair.now.one.now line
+        pair.now.other.now lost.old.next lost.old.places.items }
+    ensures { AreLost sought.now.text.now pair.now.one.now (line + 1)
+        pair.now.other.now lost.new.next lost.new.places.items }
+{
+    pair.one.sound();
+    pair.other.sound();
+    if ends_its_line(pair, line) {
+        lost.next = there + 1;
+        return;
+    }
+    push_changed(sought, pair, line, there, true, lost);
 }
 
 /// Puts the first place of a line that no line of the other screen is taken for.
@@ -190,14 +241,32 @@ fn push_alone(sought: &Sought<'_>, pair: &Pair<'_>, line: u8, lost: &mut Lost)
     ensures { AreLost sought.now.text.now pair.now.one.now (line + 1)
         pair.now.other.now lost.new.next lost.new.places.items }
 {
-    if is_bare(sought, pair, line) {
-        return;
-    }
     let columns = pair.one.cells(line).len() as u8;
     let column = first_standing(sought, pair.one, line, 1, columns);
     if column <= columns {
         lost.places.push(Place { line, column });
     }
+}
+
+/// A line of the other screen with the same row, where one is in sight: the first of those from one on, since rows mostly
+/// move together, or the line itself, where it doesn't differ.
+fn same_line(pair: &Pair<'_>, line: u8, next: u8) -> Option<u8>
+    requires lines { DifferIn pair.now.lines.now pair.now.one.now pair.now.other.now }
+    requires low { 1 ≤ line }
+    requires high { line ≤ LINES }
+    requires next { 1 ≤ next }
+    ensures low { IfSome result (λ there. next ≤ there) }
+    ensures high { IfSome result (λ there. there ≤ LINES) }
+    ensures same { IfSome result (λ there.
+        row_at pair.now.one.now.rows line ≡ row_at pair.now.other.now.rows there) }
+{
+    if pair.lines.len() > FEW && next <= LINES && is_same(pair, line, next) {
+        return Some(next);
+    }
+    if line >= next && !pair.lines.contains(&line) {
+        return Some(line);
+    }
+    None
 }
 
 /// A line of the other screen, and whether it surely has the same row.
@@ -207,10 +276,9 @@ struct Counterpart {
     same: bool,
 }
 
-/// The line of the other screen, from one on, where the row of a line came to stand, or else the line itself. It has
-/// none where that line is taken by the row below, which moved up.
+/// The line of the other screen, from one on, where the row of a line that differs came to stand, or else the line itself.
+/// It has none where that line is taken by a row from below.
 fn partner(pair: &Pair<'_>, line: u8, next: u8) -> Option<Counterpart>
-    requires lines { DifferIn pair.now.lines.now pair.now.one.now pair.now.other.now }
     requires low { 1 ≤ line }
     requires high { line ≤ LINES }
     requires next { 1 ≤ next }
@@ -219,41 +287,76 @@ fn partner(pair: &Pair<'_>, line: u8, next: u8) -> Option<Counterpart>
     ensures same { IfSome result (λ found. found.same ≡ true
         → row_at pair.now.one.now.rows line ≡ row_at pair.now.other.now.rows found.there) }
 {
-    if !pair.lines.contains(&line) {
-        return at_least(line, next, true);
-    }
     if pair.lines.len() < 2 {
-        return at_least(line, next, false);
+        return at_least(line, next);
     }
-    if line > next && is_same(pair, line, line - 1) {
-        return Some(Counterpart {
-            there: line - 1,
-            same: true,
-        });
+    if let Some(there) = same_from(pair, line, next) {
+        return Some(Counterpart { there, same: true });
     }
-    if line < LINES && line >= next {
-        if is_same(pair, line, line + 1) {
-            return Some(Counterpart {
-                there: line + 1,
-                same: true,
-            });
-        }
-        if is_same(pair, line + 1, line) {
-            return None;
-        }
+    if is_taken(pair, line) {
+        return None;
     }
-    at_least(line, next, false)
+    at_least(line, next)
 }
 
-/// A line, if it isn't above another one.
-fn at_least(line: u8, next: u8, same: bool) -> Option<Counterpart>
+/// A line whose row may be another one, if it isn't above a line.
+fn at_least(line: u8, next: u8) -> Option<Counterpart>
     ensures { IfSome result (λ found.
-        (found.there ≡ line) × (next ≤ found.there) × (found.same ≡ same)) }
+        (found.there ≡ line) × (next ≤ found.there) × (found.same ≡ false)) }
 {
     if line < next {
         return None;
     }
-    Some(Counterpart { there: line, same })
+    Some(Counterpart {
+        there: line,
+        same: false,
+    })
+}
+
+/// The first line of the other screen, from one on, that has the row of a line.
+fn same_from(pair: &Pair<'_>, line: u8, next: u8) -> Option<u8>
+    requires low { 1 ≤ line }
+    requires high { line ≤ LINES }
+    requires next { 1 ≤ next }
+    ensures low { IfSome result (λ there. next ≤ there) }
+    ensures high { IfSome result (λ there. there ≤ LINES) }
+    ensures same { IfSome result (λ there.
+        row_at pair.now.one.now.rows line ≡ row_at pair.now.other.now.rows there) }
+{
+    for there in next..LINES + 1 {
+        if begins_same(pair, line, there) && is_same(pair, line, there) {
+            return Some(there);
+        }
+    }
+    None
+}
+
+/// Whether a line of the other screen has the row of a line below that one.
+fn is_taken(pair: &Pair<'_>, line: u8) -> bool
+    requires low { 1 ≤ line }
+    requires high { line ≤ LINES }
+    ensures { result ≡ true → (below : ℕ) × (line < below)
+        × (row_at pair.now.one.now.rows below ≡ row_at pair.now.other.now.rows line) }
+{
+    for below in line + 1..LINES + 1 {
+        if begins_same(pair, below, line) && is_same(pair, below, line) {
+            return true;
+        }
+    }
+    false
+}
+
+/// Whether a line of one screen begins as a line of the other does.
+fn begins_same(pair: &Pair<'_>, line: u8, there: u8) -> bool
+    requires low { 1 ≤ line }
+    requires high { line ≤ LINES }
+    requires there_low { 1 ≤ there }
+    requires there_high { there ≤ LINES }
+    ensures { result ≡ pointwise same_cell
+        (take BLOCK (row_at pair.now.one.now.rows line).cells)
+        (take BLOCK (row_at pair.now.other.now.rows there).cells) }
+{
+    same_first::<BLOCK>(&pair.one.row(line).cells, &pair.other.row(there).cells)
 }
 
 /// Whether a line of one screen has the row of a line of the other.
@@ -266,7 +369,8 @@ fn is_same(pair: &Pair<'_>, line: u8, there: u8) -> bool
         → row_at pair.now.one.now.rows line ≡ row_at pair.now.other.now.rows there }
 {
     same_rows_are_equal();
-    same_row(pair.one.row(line), pair.other.row(there), false)
+    let narrow = !(pair.one.is_wide() || pair.other.is_wide());
+    same_row(pair.one.row(line), pair.other.row(there), narrow)
 }
 
 /// The same by the line of the other screen.
@@ -314,9 +418,6 @@ fn first_lost(sought: &Sought<'_>, pair: &Pair<'_>, line: u8, there: u8, same: b
     pair.one.sound();
     pair.other.sound();
     let cells = pair.one.cells(line);
-    if !same && is_bare(sought, pair, line) {
-        return cells.len() as u8 + 1;
-    }
     let shared = shared_len(pair, line, there, same);
     let behind = (shared + 1).saturating_sub(sought.text.len().max(1));
     for at in behind..cells.len() {
@@ -328,16 +429,29 @@ fn first_lost(sought: &Sought<'_>, pair: &Pair<'_>, line: u8, there: u8, same: b
     cells.len() as u8 + 1
 }
 
+/// Whether a row surely ends its line, and goes to the same margin on both screens.
+fn ends_its_line(pair: &Pair<'_>, line: u8) -> bool
+    requires low { 1 ≤ line }
+    requires high { line ≤ LINES }
+    ensures wide { result ≡ true → pair.now.one.now.wide ≡ pair.now.other.now.wide }
+    ensures ends { result ≡ true → ends_line (row_on pair.now.one.now line) ≡ true }
+{
+    if pair.one.is_wide() != pair.other.is_wide() {
+        return false;
+    }
+    ends_line(pair.one.cells(line))
+}
+
 /// Whether a line surely shows nothing of the text.
-fn is_bare(sought: &Sought<'_>, pair: &Pair<'_>, line: u8) -> bool
+pub(crate) fn is_bare(sought: &Sought<'_>, still: &Still, line: u8) -> bool
     requires start { IsStart sought.now.text.now sought.now.start.now }
     requires low { 1 ≤ line }
     requires high { line ≤ LINES }
-    ensures { result ≡ true → (column : ℕ) → 1 ≤ column → column ≤ length (row_on pair.now.one.now line)
-        → begins_on sought.now.text.now pair.now.one.now line column ≡ false }
+    ensures { result ≡ true → (column : ℕ) → 1 ≤ column → column ≤ length (row_on still.now line)
+        → begins_on sought.now.text.now still.now line column ≡ false }
 {
-    pair.one.sound();
-    if may_begin(sought.start, pair.one.is_wide(), pair.one.row(line)) {
+    still.sound();
+    if may_begin(sought.start, still.is_wide(), still.row(line)) {
         return false;
     }
     true
@@ -395,6 +509,7 @@ fn is_kept(
 }
 
 /// Whether the text stands at a column of a line.
+#[inline(always)]
 fn stands(sought: &Sought<'_>, still: &Still, line: u8, column: u8) -> bool
     requires start { IsStart sought.now.text.now sought.now.start.now }
     requires low { 1 ≤ line }
@@ -438,16 +553,78 @@ fn put_line<W: Write>(
     gives_join::<W>();
     pair.other.sound();
     let (near, last) = reach(pair.one, line, lost.places.as_slice());
-    let first = first_standing(sought, pair.one, line, near, last);
+    if near > last {
+        return;
+    }
+    let first = first_told(sought, pair.one, line, near, last, ends);
     if first > last {
         return;
     }
-    let fronts = Fronts::of(pair, line);
-    for column in first..last + 1 {
-        put_if_less(
-            sign, chunk, sought, pair, &fronts, line, column, ends, writer,
-        );
+    let mut fronts = Fronts::of(pair, line);
+    let mut column = first;
+    while column <= last {
+        let place = Place { line, column };
+        put_if_less(sign, chunk, sought, pair, &mut fronts, place, writer);
+        column = first_told(sought, pair.one, line, column + 1, last, ends);
     }
+}
+
+/// The first of these columns of a line at which the text stands and its left part at no end. Where there is none it's
+/// the one behind them.
+fn first_told(
+    sought: &Sought<'_>,
+    still: &Still,
+    line: u8,
+    near: u8,
+    last: u8,
+    ends: Option<&Ends<'_>>,
+) -> u8
+    requires start { IsStart sought.now.text.now sought.now.start.now }
+    requires low { 1 ≤ line }
+    requires high { line ≤ LINES }
+    requires left { 1 ≤ near }
+    requires near { near ≤ last + 1 }
+    requires right { last ≤ length (row_on still.now line) }
+    ensures from { near ≤ result }
+    ensures within { result ≤ last + 1 }
+    ensures before { (column : ℕ) → near ≤ column → column < result
+        → begins_on sought.now.text.now still.now line column ≡ true
+        → stands_at_no_end sought.now.text.now ends.entry (take (column - 1) (row_on still.now line)) ≡ false }
+    ensures begins { result ≤ last → begins_on sought.now.text.now still.now line result ≡ true }
+    ensures alone { result ≤ last
+        → stands_at_no_end sought.now.text.now ends.entry (take (result - 1) (row_on still.now line)) ≡ true }
+{
+    let _cells = still.cells(line);
+    let end = last + 1;
+    for column in near..end {
+        if is_told(sought, still, line, column, ends) {
+            return column;
+        }
+    }
+    end
+}
+
+/// Whether the text stands at a column of a line and its left part at no end.
+fn is_told(
+    sought: &Sought<'_>,
+    still: &Still,
+    line: u8,
+    column: u8,
+    ends: Option<&Ends<'_>>,
+) -> bool
+    requires start { IsStart sought.now.text.now sought.now.start.now }
+    requires low { 1 ≤ line }
+    requires high { line ≤ LINES }
+    requires left { 1 ≤ column }
+    requires right { column ≤ length (row_on still.now line) }
+    ensures { result ≡ (begins_on sought.now.text.now still.now line column
+        && stands_at_no_end sought.now.text.now ends.entry (take (column - 1) (row_on still.now line))) }
+{
+    if !stands(sought, still, line, column) {
+        return false;
+    }
+    let left = &still.cells(line)[..column as usize - 1];
+    is_at_no_end(sought, ends, left)
 }
 
 /// The first of these columns of a line at which the text stands. Where there is none it's one behind them.
@@ -498,72 +675,28 @@ fn reach(still: &Still, line: u8, lost: &[Place]) -> (u8, u8)
     (first, last)
 }
 
-/// Writes the line of what stands at a column of a line, where it does and is less on the other screen.
+/// Writes the line of a place whose left part stands at no end, where it is less on the other screen.
 fn put_if_less<W: Write>(
     sign: u8,
     chunk: &Chunk,
     sought: &Sought<'_>,
     pair: &Pair<'_>,
-    fronts: &Fronts,
-    line: u8,
-    column: u8,
-    ends: Option<&Ends<'_>>,
-    writer: &mut Watched<W>,
-)
-    requires start { IsStart sought.now.text.now sought.now.start.now }
-    requires fronts { AreFronts pair.now.one.now line pair.now.other.now fronts.now }
-    requires low { 1 ≤ line }
-    requires high { line ≤ LINES }
-    requires left { 1 ≤ column }
-    requires right { column ≤ length (row_on pair.now.one.now line) }
-    ensures { Gave W.contents writer.old writer.new
-        (cond (begins_on sought.now.text.now pair.now.one.now line column)
-        (place_line sought.now.text.now pair.now.one.now pair.now.other.now
-        (found_line sign chunk.now.index chunk.now.due chunk.now.len pair.now.one.now)
-        (stands_at_no_end sought.now.text.now ends.entry) (places_above sought.now.text.now pair.now.one.now line)
-        (place_in line column)) []) }
-{
-    gives_join::<W>();
-    if stands(sought, pair.one, line, column) {
-        put_place(
-            sign,
-            chunk,
-            sought,
-            pair,
-            fronts,
-            Place { line, column },
-            ends,
-            writer,
-        );
-    }
-}
-
-/// Writes the line of a place, where it is less on the other screen and its left part stands at no end.
-fn put_place<W: Write>(
-    sign: u8,
-    chunk: &Chunk,
-    sought: &Sought<'_>,
-    pair: &Pair<'_>,
-    fronts: &Fronts,
+    fronts: &mut Fronts,
     place: Place,
-    ends: Option<&Ends<'_>>,
     writer: &mut Watched<W>,
 )
     requires start { IsStart sought.now.text.now sought.now.start.now }
-    requires fronts { AreFronts pair.now.one.now place.line pair.now.other.now fronts.now }
+    requires fronts { AreFronts pair.now.one.now place.line pair.now.other.now fronts.old }
     requires place { IsPlace pair.now.one.now place }
-    ensures { Gave W.contents writer.old writer.new
+    ensures gave { (keep : List ℕ → Bool) → keep (left_of pair.now.one.now place) ≡ true
+        → Gave W.contents writer.old writer.new
         (place_line sought.now.text.now pair.now.one.now pair.now.other.now
-        (found_line sign chunk.now.index chunk.now.due chunk.now.len pair.now.one.now)
-        (stands_at_no_end sought.now.text.now ends.entry)
+        (found_line sign chunk.now.index chunk.now.due chunk.now.len pair.now.one.now) keep
         (places_above sought.now.text.now pair.now.one.now place.line) place) }
+    ensures fronts { AreFronts pair.now.one.now place.line pair.now.other.now fronts.new }
 {
     gives_join::<W>();
     if !is_less(sought, pair, fronts, place) {
-        return;
-    }
-    let left = &pair.one.cells(place.line)[..place.column as usize - 1];
-    if !is_at_no_end(sought, ends, left) {
         return;
     }
     put_found(sign, chunk, pair.one, place, writer);
@@ -571,25 +704,24 @@ fn put_place<W: Write>(
 
 /// Whether as often as a text stands on the other screen with the same to the left as a place, it stands above it
 /// already.
-fn is_less(sought: &Sought<'_>, pair: &Pair<'_>, fronts: &Fronts, place: Place) -> bool
+fn is_less(sought: &Sought<'_>, pair: &Pair<'_>, fronts: &mut Fronts, place: Place) -> bool
     requires start { IsStart sought.now.text.now sought.now.start.now }
     requires place { IsPlace pair.now.one.now place }
-    requires fronts { AreFronts pair.now.one.now place.line pair.now.other.now fronts.now }
-    ensures { let text = sought.now.text.now in
+    requires fronts { AreFronts pair.now.one.now place.line pair.now.other.now fronts.old }
+    ensures less { let text = sought.now.text.now in
         let left = left_of pair.now.one.now place in
         result ≡ nat_le (count_left pair.now.other.now (standing text pair.now.other.now) left)
         (count_left pair.now.one.now (places_above text pair.now.one.now place.line) left) }
+    ensures fronts { AreFronts pair.now.one.now place.line pair.now.other.now fronts.new }
 {
     pair.other.sound();
-    let there = count_above(
-        sought,
-        pair.other,
-        LINES + 1,
-        pair.one,
-        place,
-        &fronts.there,
-    );
-    let before = count_above(sought, pair.one, place.line, pair.one, place, &fronts.above);
+    let end = LINES + 1;
+    let there = count_above(sought, pair.other, end, pair.one, place, &fronts.there);
+    if there == 0 {
+        return true;
+    }
+    let above = fronts.above(pair, place.line);
+    let before = count_above(sought, pair.one, place.line, pair.one, place, &above);
     there <= before
 }
 
@@ -687,61 +819,8 @@ fn stands_so(sought: &Sought<'_>, still: &Still, line: u8, left: &[Cell]) -> boo
     if at >= cells.len() {
         return false;
     }
-    if !stands(sought, still, line, at as u8 + 1) {
+    if alike_len(cells, left) < at {
         return false;
     }
-    reads_alike(&cells[..at], left)
-}
-
-/// Whether cells are read alike.
-fn reads_alike(one: &[Cell], other: &[Cell]) -> bool
-    requires { length one.now ≡ length other.now }
-    ensures { result ≡ pointwise nat_eq (characters one.now) (characters other.now) }
-{
-    if has_same_glyphs(one, other) {
-        return true;
-    }
-    for at in 0..one.len() {
-        if !read_alike(one[at].glyph, other[at].glyph) {
-            return false;
-        }
-    }
-    true
-}
-
-/// Whether cells have the same glyphs. Each is compared, whatever those before it came to, so that many are compared at
-/// once.
-fn has_same_glyphs(one: &[Cell], other: &[Cell]) -> bool
-    requires { length one.now ≡ length other.now }
-    ensures { result ≡ true → characters one.now ≡ characters other.now }
-{
-    let mut same = true;
-    for at in 0..one.len() {
-        same &= one[at].glyph == other[at].glyph;
-    }
-    same
-}
-
-/// How many cells are read alike from the first on.
-fn alike_len(one: &[Cell], other: &[Cell]) -> usize
-    ensures same { take result (characters one.now) ≡ take result (characters other.now) }
-    ensures most { (k : ℕ) → result < k → k ≤ length one.now
-        → take k (characters one.now) ≢ take k (characters other.now) }
-    ensures here { result ≤ length one.now }
-{
-    let least = one.len().min(other.len());
-    for at in 0..least {
-        if !read_alike(one[at].glyph, other[at].glyph) {
-            return at;
-        }
-    }
-    least
-}
-
-/// Whether two glyphs are read alike.
-fn read_alike(one: u8, other: u8) -> bool
-    ensures yes { result ≡ true → character one ≡ character other }
-    ensures no { result ≡ false → character one ≢ character other }
-{
-    one == other || character(one) == character(other)
+    stands(sought, still, line, at as u8 + 1)
 }

@@ -1,6 +1,7 @@
 //! Prints what a terminal shows as text.
 #![tactic(auto)]
 
+mod alike;
 mod by_line;
 mod change_lines;
 mod each_byte;
@@ -18,6 +19,7 @@ mod skim;
 mod standing;
 mod start;
 mod still;
+mod stood;
 mod walk;
 
 pub use change_lines::changes;

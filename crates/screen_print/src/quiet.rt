@@ -278,6 +278,7 @@ pub(crate) fn may_begin_between(text: &[char], cells: &[Cell], behind: usize, en
 }
 
 /// Whether cells are read as a text begins, as far as both go.
+#[inline(always)]
 pub(crate) fn agrees(text: &[char], cells: &[Cell]) -> bool
     ensures no { result ≡ false → (rest : List ℕ)
         → starts_with nat_eq (characters cells.now ++ rest) text.now ≡ false }

@@ -99,6 +99,7 @@ fn push_begun(
 }
 
 /// Whether a text begins in a line at a column of its first row, which has these cells.
+#[inline(always)]
 pub(crate) fn begins(
     still: &Still,
     text: &[char],
@@ -120,6 +121,21 @@ pub(crate) fn begins(
     if !start.may_begin_at(cells[column as usize - 1]) {
         return false;
     }
+    begins_here(still, text, line, cells, column)
+}
+
+/// The same, where the first character may stand there.
+#[inline(never)]
+fn begins_here(still: &Still, text: &[char], line: u8, cells: &[Cell], column: u8) -> bool
+    requires low { 1 ≤ line }
+    requires high { line ≤ LINES }
+    requires left { 1 ≤ column }
+    requires right { column ≤ length cells.now }
+    requires cells { characters cells.now ≡ row_text still.now.wide (row_at still.now.rows line) }
+    ensures { result
+        ≡ begins text.now (line_text_from (drop (line - 1) (row_texts still.now))) column }
+{
+    still.sound();
     let cells = &cells[column as usize - 1..];
     if !agrees(text, cells) {
         return false;
@@ -202,7 +218,7 @@ fn rows_reaching(still: &Still, line: u8, least: u128) -> ArrayVec<char, CELLS>
 }
 
 /// Whether a row ends its line.
-fn ends_line(row: &[Cell]) -> bool
+pub(crate) fn ends_line(row: &[Cell]) -> bool
     requires { 1 ≤ length row.now }
     ensures { result ≡ ends_line (characters row.now) }
 {

@@ -1,11 +1,6 @@
 use Rattle.std.proofs.Common.{arith}
-use Rattle.screen_print.proofs.ByLineLemmas.{front_kept, kept_more, none_are_kept}
+use Rattle.screen_print.proofs.ByLineLemmas.{front_kept, kept_more}
 use Rattle.screen_print.proofs.by_line.first_lost.Goals as goal
-
-pub returns-then-is_bare-clause-kept : goal.returns-then-is_bare-clause-kept
-returns-then-is_bare-clause-kept c =
-    none_are_kept c.args.sought.now.text.now c.args.pair.now.one.now c.args.line c.args.pair.now.other.now c.args.there _
-    (c.is_bare.ensures c.if-is_bare.true)
 
 pub loop-at-init : goal.loop-at-init
 loop-at-init c = λ column low high within begins.

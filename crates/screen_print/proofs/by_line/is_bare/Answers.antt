@@ -6,7 +6,7 @@ use Rattle.screen_print.proofs.by_line.is_bare.Goals as goal
 
 pub returns : goal.returns
 returns c = λ _ column low within.
-    let still = c.args.pair.now.one.now in
+    let still = c.args.still.now in
     let text = c.args.sought.now.text.now in
     let none = subst (BeginsUpTo text 0) (ap (λ wide. row_text wide c.row.result.now) c.is_wide.ensures ∙ ap (row_text still.wide) c.row.ensures.value)
     (c.may_begin.ensures c.if-may_begin.false text c.requires.start) in

@@ -2,8 +2,18 @@ use Rattle.std.proofs.Common.{◌≡◌, ◌∙◌, ap, arith, subst, sym}
 use Rattle.tape_core.specs.Devices.{Gave}
 use Rattle.screen_print.specs.ByLine.{AreLost, lines_by, places_above, stands_at_no_end}
 use Rattle.screen_print.specs.FindLines.{found_line}
-use Rattle.screen_print.proofs.ByLineLemmas.{all_above, lines_more, lines_none, lost_none}
+use Rattle.screen_print.proofs.ByLineLemmas.{all_above, lines_more, lines_none, lost_none, none_told}
 use Rattle.screen_print.proofs.by_line.put_less.Goals as goal
+
+pub returns-then-all_stood : goal.returns-then-all_stood
+returns-then-all_stood g c =
+    let text = c.args.sought.now.text.now in
+    let one = c.args.pair.now.one.now in
+    let chunk = c.args.chunk.now in
+    subst (Gave g.W.Write.contents c.args.writer.now c.args.writer.now)
+    (none_told text one c.args.pair.now.other.now (found_line c.args.sign chunk.index chunk.due chunk.len one) (stands_at_no_end text c.args.ends) c.sound.ensures.whole
+    (c.all_stood.ensures c.if-all_stood.true))
+    (c.gives_join.ensures.nothing c.args.writer.now)
 
 pub loop-line-init : goal.loop-line-init
 loop-line-init g c =

@@ -1,9 +1,9 @@
-use Rattle.std.proofs.Common.{◌∙◌, ◌≡◌, ◌+◌, ap, arith, false, sym, true}
-use Rattle.std.proofs.lemmas.Bool.{eq-eqb, ne_eqb}
+use Rattle.std.proofs.Common.{◌∙◌, ◌≡◌, ap, arith, false, sym}
+use Rattle.std.proofs.lemmas.Bool.{eq-eqb}
 use Rattle.screen_rows.specs.RowText.{characters}
 use Rattle.screen_print.specs.ByLine.{count_above, stands_so}
 use Rattle.screen_print.specs.FindLines.{count_left, standing}
-use Rattle.screen_print.proofs.ByLineLemmas.{count_all, count_more, count_none, count_rises, counted}
+use Rattle.screen_print.proofs.ByLineLemmas.{count_all, count_more, count_none, counted, not_lone}
 use Rattle.screen_print.proofs.by_line.stands_nowhere.Goals as goal
 
 pub loop-line-init : goal.loop-line-init
@@ -11,15 +11,8 @@ loop-line-init c = count_none c.args.sought.now.text.now c.args.still.now (chara
 
 pub returns-then-stands_so : goal.returns-then-stands_so
 returns-then-stands_so c =
-    let text = c.args.sought.now.text.now in
-    let still = c.args.still.now in
-    let left = characters c.args.left.now in
-    let line = c.loop-line.line in
-    let one = counted (stands_so text still line left) true (sym c.stands_so.ensures ∙ c.if-stands_so.true) in
-    let more = count_more text still line left (omega arith) in
-    let rest = count_rises text still (line + 1) 25 left (omega arith) (omega arith) in
-    let all = count_all text still left c.sound.ensures.whole in
-    sym (ne_eqb (count_left still (standing text still) left) 0 (λ e. omega (arith, e, one, more, rest, all)))
+    sym (not_lone c.args.sought.now.text.now c.args.still.now c.loop-line.line (characters c.args.left.now) c.sound.ensures.whole (omega arith) (omega arith)
+    (sym c.stands_so.ensures ∙ c.if-stands_so.true))
 
 pub loop-line-preserved : goal.loop-line-preserved
 loop-line-preserved c =

@@ -5,7 +5,7 @@ use Rattle.vt_screen.specs.declared.cell.Cell.{Cell}
 use Rattle.screen_rows.specs.Glyphs.{character}
 use Rattle.screen_rows.specs.RowText.{characters}
 use Rattle.screen_print.proofs.QuietLemmas.{alike_more}
-use Rattle.screen_print.proofs.by_line.has_same_glyphs.Goals as goal
+use Rattle.screen_print.proofs.alike.has_same_glyphs.Goals as goal
 
 pub loop-at-preserved : goal.loop-at-preserved
 loop-at-preserved c = λ same.

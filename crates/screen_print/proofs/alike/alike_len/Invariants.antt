@@ -1,6 +1,6 @@
 use Rattle.std.proofs.Common.{◌≡◌, take}
 use Rattle.screen_rows.specs.RowText.{characters}
-use Rattle.screen_print.proofs.by_line.reads_alike.Given as goal
+use Rattle.screen_print.proofs.alike.alike_len.Given as goal
 
 -- the cells so far are read alike
 abbrev pub invariant-loop-at : goal.invariant-loop-at

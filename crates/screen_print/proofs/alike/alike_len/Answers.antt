@@ -1,7 +1,7 @@
 use Rattle.std.proofs.Common.{arith}
 use Rattle.screen_print.proofs.ByLineLemmas.{longer_differs, longer_ends}
 use Rattle.screen_print.proofs.QuietLemmas.{alike_more}
-use Rattle.screen_print.proofs.by_line.alike_len.Goals as goal
+use Rattle.screen_print.proofs.alike.alike_len.Goals as goal
 
 pub returns-then-not-read_alike-clause-most : goal.returns-then-not-read_alike-clause-most
 returns-then-not-read_alike-clause-most c = λ k low high same.
