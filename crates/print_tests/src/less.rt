@@ -2,7 +2,7 @@
 
 ghost use Rattle.std.specs.Prelude.{◌<◌};
 
-use standings::{Less, Row, Standing, is_less, is_lone, keeps_all, may_pass};
+use standings::{Less, Passed, Row, Standing, is_less, is_lone, keeps_all, may_pass};
 use std::alloc::{AllocError, Global};
 use std::process::Abort;
 use std::rt::Runtime;
@@ -71,11 +71,16 @@ fn is_as_told(
     found: &mut usize,
 ) -> bool {
     let less = Less::of(alloc, one, other);
+    let passed = Passed::of(alloc, first, other, one, other);
     let mut passes = false;
     let mut some = false;
     for at in 0..one.places.len() {
         let is = is_less(one, at, other);
         if less.has(one, at, other) != is {
+            return false;
+        }
+        let stood = !is_lone(first, one, at) || !is_lone(other, one, at);
+        if passed.has(first, other, one, at, other) != (is && !stood) {
             return false;
         }
         *found = found.saturating_add(usize::from(is));

@@ -1,5 +1,6 @@
 -- The places that are less, by the surplus of the rows that stand alone.
 use Rattle.std.proofs.Common.{◌≡◌, ℕ, zero, suc, ◌-◌, ◌*◌, ◌<◌, ◌≤◌, ◌&&◌, ◌||◌, ◌==◌, Bool, false, true, List, drop, length, nat_eq, nat_le, slice_index_or, take, cond, refl, ap, subst, sym, ◌∙◌, arith, inl, inr}
+use Rattle.std.specs.Cmp.{second_so}
 use Rattle.std.specs.Cmp.Lexicographic.{pointwise}
 use Rattle.std.specs.List.{starts_with}
 use Rattle.std.proofs.lemmas.Bool.{cases_Bool, cases_lt, eq-eqb, false≢true, le-leb, leb-true, lt-leb, ne_eqb}
@@ -62,45 +63,64 @@ last_is_less row surplus one other places others alone alones n lt pairs are beg
     let left = left_of one (place_at places n) in
     rw begins (ap (nat_le (count_left one (drop n places) left)) (are left begins) ∙ less_is_last one other places others alone alones n lt pairs)
 
--- what is told of is less
-pub right_told : (row surplus : List ℕ) (one other : List Row) (places others alone alones : List Place) (told was : Bool) (n : ℕ) → n < length places
+-- where a surplus is left of left parts that stand at no end, it is told of exactly those that are less and stand at none
+pub last_is_wanted : (row surplus spent : List ℕ) (away : List ℕ → Bool) (one other : List Row) (places others alone alones : List Place) (n : ℕ) → n < length places
     → PairOff one places other others alone alones → IsSurplus row one alone other alones surplus
-    → told ≡ (was || is_last row one places surplus n)
-    → (was ≡ true → is_less one places other others n ≡ true)
-    → told ≡ true → is_less one places other others n ≡ true
-right_told row surplus one other places others alone alones told was n lt pairs are is before holds = elim (cases_Bool was) [
+    → ((left : List ℕ) → starts_with nat_eq row left ≡ true → away left ≡ true → for_left spent left ≡ for_left surplus left)
+    → ((left : List ℕ) → starts_with nat_eq row left ≡ true → away left ≡ false → for_left spent left ≡ 0)
+    → starts_with nat_eq row (left_of one (place_at places n)) ≡ true
+    → is_last row one places spent n ≡ (away (left_of one (place_at places n)) && is_less one places other others n)
+last_is_wanted row surplus spent away one other places others alone alones n lt pairs are kept gone begins =
+    let left = left_of one (place_at places n) in
+    let here : cond {A = ℕ} (pointwise nat_eq left left) 1 0 ≡ 1 = rw (left_same left left refl) refl in
+    elim (cases_Bool (away left)) [
+      | inl holds ↦
+          rw holds (rw begins (ap (nat_le (count_left one (drop n places) left)) (kept left begins holds ∙ are left begins) ∙ less_is_last one other places others alone alones n lt pairs))
+      | inr fails ↦
+          rw fails (rw begins (ap (nat_le (count_left one (drop n places) left)) (gone left begins fails)
+          ∙ lt-leb (count_left one (drop n places) left) 0 (omega (arith, here, counted_from one places n left lt))))
+    ]
+
+-- what is told of is wanted
+pub right_told : (row spent : List ℕ) (one : List Row) (places : List Place) (told was wanted : Bool) (n : ℕ)
+    → (starts_with nat_eq row (left_of one (place_at places n)) ≡ true → is_last row one places spent n ≡ wanted)
+    → told ≡ (was || is_last row one places spent n)
+    → (was ≡ true → wanted ≡ true)
+    → told ≡ true → wanted ≡ true
+right_told row spent one places told was wanted n last is before holds = elim (cases_Bool was) [
   | inl t ↦ before t
   | inr f ↦
-      let last : is_last row one places surplus n ≡ true = sym (rw f at is) ∙ holds in
+      let so : is_last row one places spent n ≡ true = sym (rw f at is) ∙ holds in
       elim (cases_Bool (starts_with nat_eq row (left_of one (place_at places n)))) [
-        | inl begins ↦ sym (last_is_less row surplus one other places others alone alones n lt pairs are begins) ∙ last
-        | inr kept ↦ absurd (false≢true (sym (rw kept refl) ∙ last))
+        | inl begins ↦ sym (last begins) ∙ so
+        | inr kept ↦ absurd (false≢true (sym (rw kept refl) ∙ so))
       ]
 ]
 
--- and where it is less, and its left part is one of the row, it is told of
-pub whole_told : (row surplus : List ℕ) (one other : List Row) (places others alone alones : List Place) (told was : Bool) (n : ℕ) → n < length places
-    → PairOff one places other others alone alones → IsSurplus row one alone other alones surplus
-    → told ≡ (was || is_last row one places surplus n)
+-- and where it is wanted, and its left part is one of the row, it is told of
+pub whole_told : (row spent : List ℕ) (one : List Row) (places : List Place) (told was wanted : Bool) (n : ℕ)
+    → (starts_with nat_eq row (left_of one (place_at places n)) ≡ true → is_last row one places spent n ≡ wanted)
+    → told ≡ (was || is_last row one places spent n)
     → starts_with nat_eq row (left_of one (place_at places n)) ≡ true
-    → is_less one places other others n ≡ true → told ≡ true
-whole_told row surplus one other places others alone alones told was n lt pairs are is begins less =
-    is ∙ ap (λ b. was || b) (last_is_less row surplus one other places others alone alones n lt pairs are begins ∙ less) ∙ or_true was
+    → wanted ≡ true → told ≡ true
+whole_told row spent one places told was wanted n last is begins holds =
+    is ∙ ap (λ b. was || b) (last begins ∙ holds) ∙ or_true was
 
 -- and it stays told of
 pub still_told : (told was last : Bool) → told ≡ (was || last) → was ≡ true → told ≡ true
 still_told told was last is holds = is ∙ ap (λ b. b || last) holds
 
--- it is told of all that are less, where it is of those with a left part of some place alone
-pub all_told : (one other : List Row) (places others alone alones : List Place) (told : Bool) (n : ℕ) → n < length places
+-- it is told of all that are wanted, which are less, where it is of those with a left part of some place alone
+pub all_told : (one other : List Row) (places others alone alones : List Place) (told away : Bool) (n : ℕ) → n < length places
     → PairOff one places other others alone alones
-    → (told ≡ true → is_less one places other others n ≡ true)
-    → ((m : ℕ) → m < length alone → left_of one (place_at places n) ≡ left_of one (place_at alone m) → is_less one places other others n ≡ true → told ≡ true)
-    → told ≡ is_less one places other others n
-all_told one other places others alone alones told n lt pairs right whole = elim (cases_Bool (is_less one places other others n)) [
-  | inl less ↦
-      let m = less_is_alone one other places others alone alones n lt pairs less in
-      whole m.0 m.1 (sym m.2) less ∙ sym less
+    → (told ≡ true → (away && is_less one places other others n) ≡ true)
+    → ((m : ℕ) → m < length alone → left_of one (place_at places n) ≡ left_of one (place_at alone m)
+    → (away && is_less one places other others n) ≡ true → told ≡ true)
+    → told ≡ (away && is_less one places other others n)
+all_told one other places others alone alones told away n lt pairs right whole = elim (cases_Bool (away && is_less one places other others n)) [
+  | inl wanted ↦
+      let m = less_is_alone one other places others alone alones n lt pairs (second_so away (is_less one places other others n) wanted) in
+      whole m.0 m.1 (sym m.2) wanted ∙ sym wanted
   | inr kept ↦ elim (cases_Bool told) [
     | inl holds ↦ absurd (false≢true (sym kept ∙ right holds))
     | inr fails ↦ fails ∙ sym kept

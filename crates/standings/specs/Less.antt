@@ -1,9 +1,12 @@
 -- Private: what of a text is less on another screen, told by the rows that stand alone.
-use Rattle.std.specs.Prelude.{◌≡◌, ◌≢◌, ℕ, ◌+◌, ◌-◌, ◌<◌, ◌≤◌, ◌&&◌, Bool, false, true, List, drop, length, nat_eq, nat_le, slice_index_or, take, IfSome}
+use Rattle.std.specs.Prelude.{◌≡◌, ◌≢◌, ℕ, ◌+◌, ◌-◌, ◌<◌, ◌≤◌, ◌&&◌, Bool, false, true, List, Option, Some, None, drop, length, nat_eq, nat_le, slice_index_or, take, IfSome}
+use Rattle.std.specs.Borrow.{Bor}
 use Rattle.std.specs.List.{starts_with}
 use Rattle.standings.specs.Rows.{Row}
 use Rattle.standings.specs.Standing.{count_left, is_less, is_lone, left_of, place_at}
+use Rattle.standings.specs.declared.less.Ends.{Ends}
 use Rattle.standings.specs.declared.less.Less.{Less}
+use Rattle.standings.specs.declared.less.Passed.{Passed}
 use Rattle.standings.specs.declared.place.Place.{Place}
 
 -- all places of two screens pair off but for these: of each left part one screen has as many more than the other as of these
@@ -39,6 +42,25 @@ abbrev pub IsTold : Less → List Row → List Place → List Row → List Place
 IsTold less one places other others =
     IfSome less.told (λ told. (length told.items ≡ length places)
     × ((n : ℕ) → n < length places → slice_index_or told.items n false ≡ is_less one places other others n))
+
+-- whether nothing at the ends of a chunk has this to the left, where they are given
+abbrev pub is_away : Option (Bor Ends) → List ℕ → Bool
+is_away None left = true
+is_away (Some ends) left =
+    is_lone ends.now.first.now.rows.items ends.now.first.now.places.items left
+    && is_lone ends.now.last.now.rows.items ends.now.last.now.places.items left
+
+-- whether nothing has the same to the left as place n on a first screen and a last, and it is less on another
+abbrev pub has_passed : List Row → List Place → List Row → List Place → List Row → List Place → List Row → List Place → ℕ → Bool
+has_passed first firsts last lasts one places other others n =
+    let left = left_of one (place_at places n) in
+    (is_lone first firsts left && is_lone last lasts left) && is_less one places other others n
+
+-- it is told of each place whether it passed, or of none
+abbrev pub ArePassed : Passed → List Row → List Place → List Row → List Place → List Row → List Place → List Row → List Place → Type 0
+ArePassed passed first firsts last lasts one places other others =
+    IfSome passed.told (λ told. (length told.items ≡ length places)
+    × ((n : ℕ) → n < length places → slice_index_or told.items n false ≡ has_passed first firsts last lasts one places other others n))
 
 -- whether place n is less on the other screen, and nothing has the same to the left on a third one
 abbrev pub may_pass : List Row → List Place → List Row → List Place → List Row → List Place → ℕ → Bool

@@ -5,7 +5,7 @@
 
 ghost use Rattle.std.specs.Prelude.{◌≡◌, ◌+◌, ◌-◌, ◌*◌, ◌<◌, ◌≤◌, ◌&&◌, ◌||◌, false, true, List, ℕ, None, length, nat_eq, replicate, slice_index_or, IfOk, IfSome, OnOk};
 ghost use Rattle.std.specs.List.{starts_with};
-ghost use Rattle.standings.specs.Less.{Agree, IsSurplus, IsTold, PairOff, SomePass, for_left, is_last, may_pass};
+ghost use Rattle.standings.specs.Less.{Agree, ArePassed, IsSurplus, IsTold, PairOff, SomePass, for_left, has_passed, is_away, is_last, may_pass};
 ghost use Rattle.standings.specs.Rows.{row_below};
 ghost use Rattle.standings.specs.Standing.{count_left, is_less, left_of, place_at};
 
@@ -28,7 +28,7 @@ impl Less {
             other.now.places.items }
     {
         Less {
-            told: tell(alloc, one, other).ok(),
+            told: tell(alloc, None, one, other).ok(),
         }
     }
 
@@ -47,12 +47,75 @@ impl Less {
     }
 }
 
-/// For each place of a screen whether it is less on the other.
-fn tell(alloc: Global, one: &Standing, other: &Standing) -> Result<Vec<bool>, AllocError>
+/// Which places of a screen passed: they are less on another, and have nothing with the same to the left on two further
+/// ones. Where memory is refused it is told of none, and each is asked for alone.
+#[derive(Drop)]
+pub struct Passed {
+    told: Option<Vec<bool>>,
+}
+
+impl Passed {
+    /// Those of a screen that are less on the other, and so on neither the first screen nor the last.
+    pub fn of(
+        alloc: Global,
+        first: &Standing,
+        last: &Standing,
+        one: &Standing,
+        other: &Standing,
+    ) -> Self
+        ensures { ArePassed result first.now.rows.items first.now.places.items
+            last.now.rows.items last.now.places.items one.now.rows.items one.now.places.items
+            other.now.rows.items other.now.places.items }
+    {
+        let ends = Ends { first, last };
+        Passed {
+            told: tell(alloc, Some(&ends), one, other).ok(),
+        }
+    }
+
+    /// Whether a place of the screen passed.
+    pub fn has(
+        &self,
+        first: &Standing,
+        last: &Standing,
+        one: &Standing,
+        at: usize,
+        other: &Standing,
+    ) -> bool
+        requires within { at < length one.now.places.items }
+        requires told { ArePassed self.now first.now.rows.items first.now.places.items
+            last.now.rows.items last.now.places.items one.now.rows.items one.now.places.items
+            other.now.rows.items other.now.places.items }
+        ensures { result ≡ has_passed first.now.rows.items first.now.places.items
+            last.now.rows.items last.now.places.items one.now.rows.items one.now.places.items
+            other.now.rows.items other.now.places.items at }
+    {
+        match &self.told {
+            Some(told) => told[at],
+            None => { is_lone(first, one, at) && is_lone(last, one, at) && is_less(one, at, other) }
+        }
+    }
+}
+
+/// The screens at the ends of a chunk.
+#[derive(Drop)]
+struct Ends<'a> {
+    first: &'a Standing,
+    last: &'a Standing,
+}
+
+/// For each place of a screen whether it is less on the other, and stands so at no end, where they are given.
+fn tell(
+    alloc: Global,
+    ends: Option<&Ends<'_>>,
+    one: &Standing,
+    other: &Standing,
+) -> Result<Vec<bool>, AllocError>
     ensures len { IfOk result (λ told. length told.items ≡ length one.now.places.items) }
     ensures told { IfOk result (λ told. (n : ℕ) → n < length one.now.places.items
-        → slice_index_or told.items n false ≡ is_less one.now.rows.items one.now.places.items
-        other.now.rows.items other.now.places.items n) }
+        → slice_index_or told.items n false
+        ≡ (is_away ends.entry (left_of one.now.rows.items (place_at one.now.places.items n))
+        && is_less one.now.rows.items one.now.places.items other.now.rows.items other.now.places.items n)) }
 {
     let alone = Alone::of(alloc, one, other)?;
     let mut told = vec![in alloc; false; one.places.len()]?;
@@ -61,10 +124,43 @@ fn tell(alloc: Global, one: &Standing, other: &Standing) -> Result<Vec<bool>, Al
     while at < alone.one.len() {
         let row = characters_below(one.rows.as_slice(), alone.one[at].above);
         find_surplus(row, one, other, &alone, &mut surplus)?;
+        spend(row, ends, surplus.as_mut_slice());
         tell_last(row, one, surplus.as_mut_slice(), told.as_mut_slice());
         at = row_end(alone.one.as_slice(), at);
     }
     Ok(told)
+}
+
+/// Leaves no surplus of a left part that stands at an end, where they are given.
+fn spend(row: &[char], ends: Option<&Ends<'_>>, surplus: &mut [usize])
+    requires many { length row.now < length surplus.old }
+    requires few { (left : List ℕ) → starts_with nat_eq row.now left ≡ true
+        → for_left surplus.old left ≤ usize.MAX }
+    ensures away { (left : List ℕ) → starts_with nat_eq row.now left ≡ true → is_away ends.entry left ≡ true
+        → for_left surplus.new left ≡ for_left surplus.old left }
+    ensures spent { (left : List ℕ) → starts_with nat_eq row.now left ≡ true → is_away ends.entry left ≡ false
+        → for_left surplus.new left ≡ 0 }
+{
+    if let Some(ends) = ends {
+        take_all_off(row, ends.first, surplus);
+        take_all_off(row, ends.last, surplus);
+    }
+}
+
+/// Leaves no surplus of a left part that a place of a screen has.
+fn take_all_off(row: &[char], still: &Standing, surplus: &mut [usize])
+    requires { length row.now < length surplus.old }
+    ensures { (left : List ℕ) → starts_with nat_eq row.now left ≡ true
+        → for_left surplus.new left ≡ for_left surplus.old left
+        - usize.MAX * count_left still.now.rows.items still.now.places.items left }
+{
+    take_off(
+        row,
+        still.rows.as_slice(),
+        still.places.as_slice(),
+        usize::MAX,
+        surplus,
+    );
 }
 
 /// Whether some place of a screen is less on the other, and has nothing with the same to the left on a third one.
@@ -124,13 +220,7 @@ fn some_pass_with(
 {
     find_surplus(row, one, other, alone, surplus)?;
     let counts = surplus.as_mut_slice();
-    take_off(
-        row,
-        first.rows.as_slice(),
-        first.places.as_slice(),
-        usize::MAX,
-        counts,
-    );
+    take_all_off(row, first, counts);
     Ok(!is_spent(counts))
 }
 

@@ -16,7 +16,7 @@ mod span;
 pub use alone::keeps_all;
 pub use lag::Lag;
 pub use left::{Standing, ends_before, is_less, is_lone, stays_moved};
-pub use less::{Less, may_pass};
+pub use less::{Less, Passed, may_pass};
 pub use line::{Moment, put_found};
 pub use place::{Place, standing};
 pub use row::Row;

@@ -1,5 +1,5 @@
 -- What is written of a chunk that is played byte by byte.
-use Rattle.std.proofs.Common.{◌≡◌, ◌⊎◌, ℕ, zero, suc, true, false, ◌+◌, ◌-◌, ◌<◌, ◌≤◌, Bool, ◌&&◌, cond, max, List, [], ◌∷◌, ◌++◌, append-nil, filter, length, get_or, map, nat_eq, take, Option, None, Some, refl, ap, subst, sym, ◌∙◌, arith, inl, inr}
+use Rattle.std.proofs.Common.{◌≡◌, ℕ, zero, suc, true, false, ◌+◌, ◌-◌, ◌<◌, ◌≤◌, Bool, ◌&&◌, cond, max, List, [], ◌∷◌, ◌++◌, append-nil, filter, length, get_or, map, nat_eq, take, Option, None, Some, refl, ap, subst, sym, ◌∙◌, arith, inl, inr}
 use Rattle.std.specs.List.{count_by, flat_map, range_with_len}
 use Rattle.std.proofs.lemmas.Bool.{cases_Bool, eq-eqb, lt-leb}
 use Rattle.std.proofs.lemmas.List.{drop_more}

@@ -1,17 +1,17 @@
 //! The lines of what stands on a screen, of what is less on another, and of what passed inside a chunk.
 
-ghost use Rattle.std.specs.Prelude.{◌≡◌, ◌<◌, ◌&&◌, ◌++◌, [], List, ℕ, length, true, OnErr, OnOk};
+ghost use Rattle.std.specs.Prelude.{◌≡◌, ◌<◌, ◌++◌, [], List, ℕ, length, true, OnErr, OnOk};
 ghost use Rattle.standings.specs.Found.{found_line};
-ghost use Rattle.standings.specs.Less.{IsTold};
+ghost use Rattle.standings.specs.Less.{ArePassed, IsTold};
 ghost use Rattle.standings.specs.Rows.{Row};
-ghost use Rattle.standings.specs.Standing.{is_lone, left_of, place_at};
+ghost use Rattle.standings.specs.Standing.{place_at};
 ghost use Rattle.standings.specs.declared.place.Place.{Place};
 ghost use Rattle.tape_core.specs.Devices.{Gave};
 ghost use Rattle.text_find.specs.Lines.{Began, end_lines, from_lines, less_line, less_lines, passed_line, passed_lines, standing_lines};
 
 use crate::sides::Sides;
 use plays::OutOfMemory;
-use standings::{Less, Moment, Standing, is_lone, keeps_all, may_pass, put_found};
+use standings::{Less, Moment, Passed, Standing, keeps_all, may_pass, put_found};
 use std::alloc::Global;
 use std::io::Write;
 use tape_core::Watched;
@@ -184,9 +184,9 @@ pub(crate) fn put_passed<W: Write>(
     if keeps_all(one, other) {
         return Ok(());
     }
-    let less = Less::of(alloc, one, other);
+    let passed = Passed::of(alloc, &ends.before, &ends.after, one, other);
     for at in 0..one.places.len() {
-        put_if_passed(alloc, moment, ends, one, at, other, &less, writer)?;
+        put_if_passed(alloc, moment, ends, one, at, other, &passed, writer)?;
     }
     Ok(())
 }
@@ -200,12 +200,13 @@ fn put_if_passed<W: Write>(
     one: &Standing,
     at: usize,
     other: &Standing,
-    less: &Less,
+    passed: &Passed,
     writer: &mut Watched<W>,
 ) -> Result<(), OutOfMemory>
     requires within { at < length one.now.places.items }
-    requires told { IsTold less.now one.now.rows.items one.now.places.items
-        other.now.rows.items other.now.places.items }
+    requires told { ArePassed passed.now ends.now.before.rows.items ends.now.before.places.items
+        ends.now.after.rows.items ends.now.after.places.items
+        one.now.rows.items one.now.places.items other.now.rows.items other.now.places.items }
     ensures gave { OnOk result (Gave W.contents writer.old writer.new
         (passed_line moment.index moment.due moment.len
         ends.now.before.rows.items ends.now.before.places.items
@@ -214,20 +215,10 @@ fn put_if_passed<W: Write>(
     ensures refused { OnErr result (writer.new ≡ writer.old) }
 {
     gives_join::<W>();
-    if less.has(one, at, other) && stood_at_neither(ends, one, at) {
+    if passed.has(&ends.before, &ends.after, one, at, other) {
         put_at(alloc, b'~', moment, one, at, writer)?;
     }
     Ok(())
-}
-
-/// Whether neither end has anything with the same to the left.
-fn stood_at_neither(ends: &Sides, one: &Standing, at: usize) -> bool
-    requires within { at < length one.now.places.items }
-    ensures { let left = left_of one.now.rows.items (place_at one.now.places.items at) in
-        result ≡ (is_lone ends.now.before.rows.items ends.now.before.places.items left
-        && is_lone ends.now.after.rows.items ends.now.after.places.items left) }
-{
-    is_lone(&ends.before, one, at) && is_lone(&ends.after, one, at)
 }
 
 /// Whether surely no line tells of what went between two screens inside a chunk that begins with a third one, whatever its

@@ -1,6 +1,6 @@
 //! Refused growths in where a text stands on rows.
 
-use standings::{Lag, Less, Place, Row, Span, Standing, may_pass};
+use standings::{Lag, Less, Passed, Place, Row, Span, Standing, may_pass};
 use std::alloc::{AllocError, Global};
 use std::process::Abort;
 use std::rt::Runtime;
@@ -434,6 +434,22 @@ fn count_less(alloc: Global, one: &Standing, other: &Standing) -> usize {
     count
 }
 
+/// How many places of a screen are less on another and stand so at neither end.
+fn count_passed(
+    alloc: Global,
+    first: &Standing,
+    last: &Standing,
+    one: &Standing,
+    other: &Standing,
+) -> usize {
+    let passed = Passed::of(alloc, first, last, one, other);
+    let mut count: usize = 0;
+    for at in 0..one.places.len() {
+        count = count.saturating_add(usize::from(passed.has(first, last, one, at, other)));
+    }
+    count
+}
+
 #[test]
 fn places_that_are_less(rt: HostRuntime) -> Result<(), Fail> {
     let places = [(0, 0), (0, 1), (1, 1)];
@@ -443,5 +459,7 @@ fn places_that_are_less(rt: HostRuntime) -> Result<(), Fail> {
     assert!(rt; count_less(rt.alloc(), &other, &one) == 0);
     assert!(rt; may_pass(&other, &one, &other));
     assert!(rt; !may_pass(&one, &one, &other));
+    assert!(rt; count_passed(rt.alloc(), &other, &other, &one, &other) == 2);
+    assert!(rt; count_passed(rt.alloc(), &other, &one, &one, &other) == 0);
     Ok(())
 }
