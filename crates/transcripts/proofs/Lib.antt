@@ -1,0 +1,4 @@
+pub mod RowLemmas
+pub mod ToldLemmas
+mod LeftLemmas
+mod Telling
