@@ -1,13 +1,14 @@
 #!/usr/bin/env python3
-"""Sees that docs/READING.md and docs/READING_TODAY.md list just the definitions that the headline rests on, and
-docs/READING_FIND.md and docs/READING_FIND_TODAY.md those that *nowhere means nowhere* does.
+"""Sees that docs/READING.md and docs/READING_TODAY.md list just the definitions that the headline rests on,
+docs/READING_FIND.md and docs/READING_FIND_TODAY.md those that *nowhere means nowhere* does, and
+docs/READING_TRANSCRIPT.md those that a transcript does.
 
     tests/reading.py [--write]
 
 The lists are computed: every name that a clause of `Session::seek` cites, every name that those definitions cite, and
 so on, by the `use` lines of the specs/ folders; for the terminal of today, what the ghost members cite by which it
-plays, and for find its clause `nowhere`, each without what the lists have that it builds on. A record, a data type and
-its constructors count as one; so does a type of the code that the definitions speak of. With --write a page gets its
+plays, for find its clause `nowhere`, and for a transcript its clauses with the rows that leave and stand, each without
+what the lists have that it builds on. A record, a data type and its constructors count as one; so does a type of the code that the definitions speak of. With --write a page gets its
 lists anew, a row for each file with the names that it has: the headings and their order stay, names that went are
 dropped, new ones stand behind the definition that stands before them in their file, and one that moved to another file
 keeps its place.
@@ -24,6 +25,7 @@ PAGE = "docs/READING.md"
 TODAY = "docs/READING_TODAY.md"
 FIND = "docs/READING_FIND.md"
 FIND_TODAY = "docs/READING_FIND_TODAY.md"
+TRANSCRIPT = "docs/READING_TRANSCRIPT.md"
 NAME = r"[^\W\d]\w*(?:\.\w+)*"
 USE = re.compile(r"^\s*(?:ghost )?use (Rattle\.[\w.]+?)(?:\.\{([^}]*)\}| as (\w+))?;?$", re.M)
 HEAD = re.compile(r"^(?:abbrev |unfoldable )?pub (?:record |data )?(\w+)", re.M)
@@ -206,12 +208,26 @@ def clause_of_find(path):
     return path, text, re.search(r"^pub fn find<.*?^    ensures nowhere (\{.*?\})\n", text, re.M | re.S)[1]
 
 
-def rests_on(contract):
-    """The definitions that a contract cites, and those that they cite, each once."""
+def contract_of_transcript():
+    """The file of `transcript`, and its contract."""
+    path = "crates/transcripts/src/print.rt"
+    text = read(path)
+    return path, text, re.search(r"^pub fn transcript<.*?^\{", text, re.M | re.S)[0]
+
+
+def rows_told(path):
+    """The file in which a terminal tells its rows, and which leave and stand."""
+    text = read(path)
+    return path, text, " ".join(re.findall(r"^    ghost (?:leaving|standing) = \{.*?\};", text, re.M | re.S))
+
+
+def rests_on(*contracts):
+    """The definitions that contracts cite, and those that they cite, each once."""
     book = Book()
-    _, text, clause = contract
-    names, _ = imports(text)
-    found, waiting = {}, [book.find(*names[word]) for word in re.findall(r"\w+", clause) if word in names]
+    found, waiting = {}, []
+    for _, text, clause in contracts:
+        names, _ = imports(text)
+        waiting += [book.find(*names[word]) for word in re.findall(r"\w+", clause) if word in names]
     while waiting:
         one = waiting.pop()
         if one and (one.name, one.place) not in found:
@@ -292,6 +308,8 @@ def pages():
     yield FIND, {key: one for key, one in more.items() if key not in found}, book
     more, book = rests_on(clause_of_find("crates/xterm_print/src/find_lines.rt"))
     yield FIND_TODAY, {key: one for key, one in more.items() if key not in found and key not in today}, book
+    more, book = rests_on(contract_of_transcript(), rows_told("crates/screen_transcript/src/transcribes.rt"))
+    yield TRANSCRIPT, {key: one for key, one in more.items() if key not in found}, book
 
 
 def main():

@@ -1,0 +1,9 @@
+mod PartLemmas
+mod ViewLemmas
+mod CommandLemmas
+mod RunLemmas
+mod PieceLemmas
+mod RowLemmas
+mod PassLemmas
+mod PlainRows
+mod PlainSteps
