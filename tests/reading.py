@@ -8,10 +8,10 @@ docs/READING_TRANSCRIPT.md those that a transcript does.
 The lists are computed: every name that a clause of `Session::seek` cites, every name that those definitions cite, and
 so on, by the `use` lines of the specs/ folders; for the terminal of today, what the ghost members cite by which it
 plays, for find its clause `nowhere`, and for a transcript its clauses with the rows that leave and stand, each without
-what the lists have that it builds on. A record, a data type and its constructors count as one; so does a type of the code that the definitions speak of. With --write a page gets its
-lists anew, a row for each file with the names that it has: the headings and their order stay, names that went are
-dropped, new ones stand behind the definition that stands before them in their file, and one that moved to another file
-keeps its place.
+what the lists have that it builds on. A record, a data type and its constructors count as one; so does a type of the
+code that the definitions speak of. With --write a page gets its lists anew, a row for each file with the names that it
+has: the headings and their order stay, names that went are dropped, new ones stand behind the definition that stands
+before them in their file, and one that moved to another file keeps its place.
 """
 import glob
 import itertools
