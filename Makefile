@@ -39,7 +39,7 @@ demo: bin/typetool
 # A look over shell, Python, layout, the pages and the edits, in seconds and without the program.
 LINTS := tests/edits_apply.py tests/reading.py tests/pages.py 'assets/make_page.py --check' \
 	'assets/make_outlines.py --check' tests/manual.py \
-	tests/runs.sh tests/lint.sh
+	tests/plain_import.py tests/runs.sh tests/lint.sh
 
 lint:
 	tests/run.py $(LINTS)
