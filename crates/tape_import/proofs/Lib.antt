@@ -1,1 +1,5 @@
+mod DateLemmas
+mod FactsLemmas
+mod HeaderLemmas
+mod ImportedLemmas
 mod TtyrecLemmas

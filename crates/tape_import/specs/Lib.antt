@@ -1,3 +1,8 @@
 pub mod Outputs
+pub mod Dates
+pub mod Facts
+pub mod Told
 pub mod Ttyrec
-mod Kept
+pub mod Form
+pub mod Imported
+pub mod Kept

@@ -1,6 +1,7 @@
 //! Outputs become chunks, each due when it came.
 ghost use Rattle.std.specs.Prelude.{◌≡◌, ◌≤◌, ◌<◌, None, OnErr, OnOk, Some, length};
 ghost use Rattle.tape_core.specs.Seconds.{last_moment};
+ghost use Rattle.tape_import.specs.Kept.{AreWithin};
 ghost use Rattle.tape_import.specs.Outputs.{none_yet, output_fault, passed, with_output};
 
 use crate::fault::EventFault;
@@ -75,6 +76,21 @@ impl Timeline {
         ensures { result ≡ length self.now.chunks }
     {
         self.chunks.len() as u64
+    }
+
+    /// How many delays were cut.
+    pub fn slow(&self) -> u64
+        ensures { result ≡ self.now.slow }
+    {
+        self.slow
+    }
+
+    /// The chunks, which are within the limits of a recording.
+    pub fn into_chunks(self) -> Vec<Chunk>
+        ensures chunks { result.items ≡ self.chunks }
+        ensures within { AreWithin self.chunks }
+    {
+        self.chunks
     }
 
     /// Takes an output that has no fault at this moment. Nothing changes where memory is refused.

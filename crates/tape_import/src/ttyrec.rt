@@ -1,7 +1,12 @@
 //! A ttyrec: records one behind another, each of a head and bytes. ttyrec(1).
-ghost use Rattle.std.specs.Prelude.{◌≡◌, ◌+◌, ◌<◌, ◌≤◌, ◌^◌, IfOk, IsNone, OnOk, None, drop, length};
-ghost use Rattle.tape_import.specs.Ttyrec.{at_first, clock_of, cut_of, data_of, fault_at, head_len, moved, number_at, record_fault, told_of, ttyrec_of, with_record};
+ghost use Rattle.std.specs.Prelude.{◌≡◌, ◌+◌, ◌<◌, ◌≤◌, ◌^◌, IfOk, IfSome, IsNone, OnOk, None, drop, length};
+ghost use Rattle.tape_import.specs.Dates.{dated, last_second};
+ghost use Rattle.tape_import.specs.Facts.{reported_size};
+ghost use Rattle.tape_import.specs.Kept.{IsSize};
+ghost use Rattle.tape_import.specs.Ttyrec.{at_first, clock_of, cut_of, data_of, fault_at, head_len, moved, number_at, record_fault, seconds_of, told_of, ttyrec_of, with_record};
 
+use crate::date::dated;
+use crate::facts::{Size, reported_size};
 use crate::fault::EventFault;
 use crate::losses::Cut;
 use crate::timeline::Timeline;
@@ -11,7 +16,7 @@ use tape_core::Bytes;
 use tape_core::limits::LONGEST_CHUNK;
 
 /// How many bytes a head has.
-const HEAD_LEN: usize = 12;
+pub const HEAD_LEN: usize = 12;
 
 /// What was read so far: the outputs, the clock of the last record in microseconds, how many records there were, and the
 /// chunk whose data ended early.
@@ -33,7 +38,7 @@ pub struct Front {
 }
 
 /// The number of four bytes at a place, the least byte first.
-fn number_at(text: &[u8], at: usize) -> u64
+pub fn number_at(text: &[u8], at: usize) -> u64
     requires { at + 4 ≤ length text.now }
     ensures value { result ≡ number_at at text.now }
     ensures small { result < 2 ^ 32 }
@@ -84,6 +89,24 @@ fn record_fault(text: &[u8]) -> Option<EventFault>
         return Some(EventFault::BadEvent);
     }
     None
+}
+
+/// The second of the first clock, where it is one that a header tells.
+pub fn first_date(file: &[u8]) -> Option<u64>
+    requires { head_len ≤ length file.now }
+    ensures second { result ≡ dated (seconds_of file.now) }
+    ensures last { IfSome result (λ s. s ≤ last_second) }
+{
+    dated(number_at(file, 0))
+}
+
+/// The size that the bytes of the first record ask for.
+pub fn first_size(file: &[u8]) -> Option<Size>
+    requires { head_len ≤ length file.now }
+    ensures size { result ≡ reported_size (data_of file.now) }
+    ensures small { IfSome result IsSize }
+{
+    reported_size(&file[HEAD_LEN..HEAD_LEN + data_len(file)])
 }
 
 /// How far the clock has moved since the record before, in microseconds.

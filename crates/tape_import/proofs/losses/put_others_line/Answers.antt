@@ -1,0 +1,7 @@
+use Rattle.std.proofs.Common.{◌∙◌}
+use Rattle.tape_import.proofs.losses.put_others_line.Goals as goal
+
+pub returns : goal.returns
+returns g c =
+    rw (← (c.as_bytes.ensures.value ∙ c.format.ensures.text), ← (c.as_bytes-2.ensures.value ∙ c.format-2.ensures.text), ← (c.as_bytes-3.ensures.value ∙ c.format-3.ensures.text), ← (c.as_bytes-4.ensures.value ∙ c.format-4.ensures.text))
+    c.give_all.ensures

@@ -1,0 +1,49 @@
+-- The pair that a recording of another form is imported as, and what was lost.
+use Rattle.std.specs.Prelude.{◌≡◌, ℕ, List, [], Option, Some, None, ◌==◌, if◌then◌else◌}
+use Rattle.tape_core.specs.Tape.{Tape, fits}
+use Rattle.tape_import.specs.Dates.{dated}
+use Rattle.tape_import.specs.Facts.{IsHeaderOf, reported_size}
+use Rattle.tape_import.specs.Ttyrec.{data_of, seconds_of, ttyrec_of}
+use Rattle.tape_import.specs.declared.facts.Facts.{Facts}
+use Rattle.tape_import.specs.declared.fault.EventFault.{EventFault}
+use Rattle.tape_import.specs.declared.losses.Left.{Left}
+use Rattle.tape_import.specs.declared.losses.Losses.{Losses}
+use Rattle.tape_import.specs.declared.losses.Others.{Others}
+use Rattle.tape_import.specs.declared.losses.Place.TheVariants as place
+use Rattle.tape_import.specs.declared.ttyrec.Front.{Front}
+
+-- No event was left out.
+abbrev pub no_others : Others
+no_others = record { inputs = 0; markers = 0; resizes = 0; others = 0 }
+
+-- What is left out from a record on.
+abbrev pub bytes_left : ℕ → Option EventFault → ℕ → Option Left
+bytes_left number None count = None
+bytes_left number (Some fault) count =
+    Some (record { place = place.Event; number = number; fault = fault; count = count })
+
+-- What was lost of a ttyrec.
+abbrev pub ttyrec_losses : Front → Losses
+ttyrec_losses front = record {
+  first = None;
+  left = bytes_left front.read.count front.fault front.left;
+  cut = front.read.cut;
+  slow = front.read.outputs.slow;
+  others = no_others;
+}
+
+-- What a ttyrec tells of itself: the first clock, and the size that its first record asks for, where that is read.
+abbrev pub ttyrec_facts : List ℕ → Front → Facts
+ttyrec_facts file front = record {
+  date = dated (seconds_of file);
+  term = None;
+  size = if front.read.count == 0 then None else reported_size (data_of file);
+}
+
+-- A ttyrec is imported as this recording, which fits the limits, and this was lost.
+pub record ImportsTtyrec (file : List ℕ) (tape : Tape) (losses : Losses) : Type 0 where
+  pub fitting : fits tape
+  pub header : IsHeaderOf (ttyrec_facts file (ttyrec_of file)) tape.header
+  pub chunks : tape.chunks ≡ (ttyrec_of file).read.outputs.chunks
+  pub trailer : tape.trailer ≡ []
+  pub lost : losses ≡ ttyrec_losses (ttyrec_of file)
