@@ -18,7 +18,16 @@ import sys
 top = os.path.join(os.path.dirname(os.path.abspath(__file__)), "..")
 chosen = [int(number) for number in sys.argv[1:]]
 workers = os.cpu_count() or 1
-CRATES = ["vt_tests", "xterm_tests", "tape_tests", "seek_tests", "print_tests", "today_tests", "device_tests"]
+CRATES = [
+    "vt_tests",
+    "xterm_tests",
+    "tape_tests",
+    "import_tests",
+    "seek_tests",
+    "print_tests",
+    "today_tests",
+    "device_tests",
+]
 
 
 def refuse(crate, number):

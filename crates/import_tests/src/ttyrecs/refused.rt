@@ -11,9 +11,12 @@ fn a_ttyrec_that_is_imported(rt: HostRuntime) -> Result<(), Fail> {
         (86_400, 0, 11, b"\x1b[8;30;100t".as_slice()),
         (86_401, 0, 9, b"bc".as_slice()),
     ];
-    let Ok(file) = file_of(rt.alloc(), &records, b"") else {
-        println!(rt; "refused: a file")?;
-        return Ok(());
+    let file = match file_of(rt.alloc(), &records, b"") {
+        Ok(file) => file,
+        Err(_) => {
+            println!(rt; "refused: a file")?;
+            file_of(rt.alloc(), &records, b"")?
+        }
     };
     let imported = match import_ttyrec(rt.alloc(), &file, 0) {
         Ok(imported) => imported,
