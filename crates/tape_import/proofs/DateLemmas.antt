@@ -1,5 +1,5 @@
 -- Days since the beginning of 1970.
-use Rattle.std.proofs.Common.{◌≡◌, ℕ, ℤ, pos, refl}
+use Rattle.std.proofs.Common.{◌≡◌, pos, refl}
 use Rattle.jiff.specs.Types.{Date}
 use Rattle.jiff.specs.Words.{IsYmd, epoch_day}
 use Rattle.jiff.proofs.OnLiterals.{jiff_on_literals}

@@ -1,12 +1,11 @@
 -- Records one behind another.
-use Rattle.std.proofs.Common.{◌≡◌, ℕ, zero, suc, ◌+◌, ◌-◌, ◌<◌, ◌≤◌, List, [], ◌∷◌, length, take, drop, min, Option, Some, None, refl, ap, sym, ◌∙◌, arith, inl, inr}
+use Rattle.std.proofs.Common.{◌≡◌, ℕ, zero, suc, ◌+◌, ◌<◌, List, [], ◌∷◌, length, take, drop, min, Some, None, refl, ap, sym, ◌∙◌, arith, inl, inr}
 use Rattle.std.proofs.lemmas.List.{drop-drop, length-take, take_all}
 use Rattle.std.proofs.lemmas.Bool.{cases_lt}
 use Rattle.std.proofs.Math.ListN.{drop_of_length-le}
 use Rattle.tape_import.specs.declared.fault.EventFault.{EventFault}
-use Rattle.tape_import.specs.declared.ttyrec.Front.{Front}
 use Rattle.tape_import.specs.declared.ttyrec.Reading.{Reading}
-use Rattle.tape_import.specs.Ttyrec.{data_of, fault_at, go_on, head_len, records, told_of, with_record}
+use Rattle.tape_import.specs.Ttyrec.{data_of, fault_at, head_len, records, told_of, with_record}
 
 -- as many items as there are of the first n are the first n
 pub take_again : (n : ℕ) (xs : List ℕ) → take (length (take n xs)) xs ≡ take n xs

@@ -1,9 +1,9 @@
 -- A ttyrec: records one behind another. ttyrec(1).
-use Rattle.std.specs.Prelude.{ℕ, zero, suc, ◌+◌, ◌-◌, ◌*◌, ◌&&◌, Bool, List, [], ◌∷◌, length, take, drop, nat_lt, ◌==◌, Option, Some, None, if◌then◌else◌}
+use Rattle.std.specs.Prelude.{ℕ, zero, suc, ◌+◌, ◌-◌, ◌*◌, ◌&&◌, List, [], ◌∷◌, length, take, drop, nat_lt, ◌==◌, Option, Some, None, if◌then◌else◌}
 use Rattle.std.specs.Int.{from_le_bytes, w32}
 use Rattle.std.specs.Option.{option_or}
 use Rattle.tape_core.specs.Tape.{longest_chunk}
-use Rattle.tape_import.specs.Outputs.{Outputs, none_yet, output_fault, passed, with_output}
+use Rattle.tape_import.specs.Outputs.{none_yet, output_fault, passed, with_output}
 use Rattle.tape_import.specs.declared.fault.EventFault.{EventFault}
 use Rattle.tape_import.specs.declared.fault.EventFault.TheVariants as event
 use Rattle.tape_import.specs.declared.losses.Cut.{Cut}

@@ -1,4 +1,4 @@
-use Rattle.std.proofs.Common.{◌≡◌, ◌/◌, ◌%◌, ◌++◌, ◌∷◌, [], List, ℕ, codes, ap, ◌∙◌}
+use Rattle.std.proofs.Common.{◌≡◌, ◌%◌, ◌++◌, ◌∷◌, [], codes, ap, ◌∙◌}
 use Rattle.jiff.specs.Words.{date_text}
 use Rattle.tape_import.specs.Dates.{clock_text}
 use Rattle.tape_import.proofs.HeaderLemmas.{date_grouped}

@@ -1,7 +1,7 @@
 use Rattle.std.proofs.Common.{◌≡◌, ◌+◌, ◌-◌, ◌<◌, length, take, drop, ap, sym, ◌∙◌, arith}
 use Rattle.std.proofs.lemmas.List.{drop-drop, length-drop, take_rest}
-use Rattle.tape_import.specs.Ttyrec.{data_of, fault_at, head_len, records, with_record}
-use Rattle.tape_import.proofs.TtyrecLemmas.{ended, one_more}
+use Rattle.tape_import.specs.Ttyrec.{data_of, fault_at, head_len}
+use Rattle.tape_import.proofs.TtyrecLemmas.{one_more}
 use Rattle.tape_import.proofs.ttyrec.read_records.Goals as goal
 
 pub loop-at-preserved : goal.loop-at-preserved

@@ -1,4 +1,4 @@
-use Rattle.std.proofs.Common.{◌≡◌, ◌+◌, ◌-◌, length, take, drop, ap, sym, refl, ◌∙◌}
+use Rattle.std.proofs.Common.{◌≡◌, ◌-◌, length, take, drop, ap, sym, refl, ◌∙◌}
 use Rattle.std.proofs.lemmas.List.{drop-drop, take_rest}
 use Rattle.tape_import.specs.Ttyrec.{data_of, head_len, told_of}
 use Rattle.tape_import.proofs.TtyrecLemmas.{take_again}
