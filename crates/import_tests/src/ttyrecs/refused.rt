@@ -1,8 +1,10 @@
 //! Refused growths. `tests/refused.py` runs this with the first, second, .. growth of memory refused, until none is, and
 //! counts the lines `refused: WHAT`. After a refusal the same call answers.
 use super::file_of;
+use std::process::Abort;
 use std::rt::Runtime;
 use std::test::Fail;
+use tape_import::form::is_ttyrec;
 use tape_import::import_ttyrec;
 
 #[test]
@@ -18,6 +20,7 @@ fn a_ttyrec_that_is_imported(rt: HostRuntime) -> Result<(), Fail> {
             file_of(rt.alloc(), &records, b"")?
         }
     };
+    assert!(rt; is_ttyrec(&file));
     let imported = match import_ttyrec(rt.alloc(), &file, 0) {
         Ok(imported) => imported,
         Err(_) => {
