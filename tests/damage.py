@@ -21,11 +21,13 @@ import sys
 import tempfile
 
 import check_reader
+import commands
 import harm
 import mend_reader
 import plain_find
 import plain_reader as plain
 import plain_redact
+import plain_transcript
 
 program = os.path.abspath(sys.argv[1])
 pairs = int(sys.argv[2]) if len(sys.argv) > 2 else 200
@@ -139,20 +141,7 @@ class Damage:
         self.expect("what mend wrote", (self.text("s4"), self.text("t4")), (new_script, new_timing))
 
     def refused(self, errors):
-        for words in (
-            ["due", "--at", "1"],
-            ["info"],
-            ["screen", "--at", "1"],
-            ["picture", "--at", "1"],
-            ["changes", "--to", "1"],
-            ["find", "a"],
-            ["find", "--profile", "xterm", "a"],
-            ["check"],
-            ["page"],
-            ["cast"],
-            ["reports", "--at", "1"],
-            ["session"],
-        ):
+        for words in (*commands.reading(), ["find", "--profile", "xterm", "a"]):
             status = 3 if words[0] == "find" else 1
             self.expect(words[0], self.run([*words, "s", "t"], b"info\n"), (status, b"", errors))
         self.expect("save", self.run(["save", "s", "t", "s2", "t2"], b"cap 1\n"), (1, b"", errors))
@@ -172,7 +161,15 @@ class Damage:
         for words in (["picture", "--at", at], ["find", "a"], ["page"], ["cast"]):
             status, text, errors = self.run([*words, "s", "t"])
             self.expect(words[0], (status, errors), (0 if text else 1, self.note))
+        self.told_as_text(recording)
         self.changed(recording, at, us)
+
+    def told_as_text(self, recording):
+        """The transcript; of a long recording whether it ends."""
+        status, text, errors = self.run(["transcript", "s", "t"])
+        self.expect("transcript", (status, errors), (0, self.note))
+        if sum(len(chunk) for _, chunk in recording[1]) < 10_000:
+            self.expect("the text", text, plain_transcript.transcript(recording[1], "vt100").encode())
 
     def found_today(self, recording):
         """What find tells of the terminal of today; of a long recording whether it ends."""

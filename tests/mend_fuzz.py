@@ -1,10 +1,10 @@
 #!/usr/bin/env python3
-"""Mends damaged pairs of both formats and compares with a plain reading of what that comes to.
+"""Mends damaged pairs of all formats and compares with a plain reading of what that comes to.
 
     tests/mend_fuzz.py TYPETOOL [PAIRS [SEED]]
 
-Each pair is pieces of real recordings, in the classic or in the multi-stream format, with inputs in the typescript or
-in a log of their own, signals and header lines, lines that end in LF or CR LF, one session behind another, with and
+Each pair is pieces of real recordings, in the classic, the multi-stream or sudo's format, with inputs in the typescript
+or in a log of their own, signals and header lines, lines that end in LF or CR LF, one session behind another, with and
 without a header line and script's closing line; bytes of it were flipped, cut, doubled and dropped. `mend`, with each
 of its flags, has to write just the pair that the plain reader (mend_reader.py) comes to, and tell just that, with its
 status; where the typescript that is read has no LF, it has to say so and write nothing. What it wrote `info` and
@@ -59,6 +59,17 @@ def streams(rng, chunks):
     return body, lines
 
 
+def sudo(rng, chunks):
+    """The same as sudo logs it, with events of all kinds between."""
+    lines = []
+    for delay, text in chunks:
+        event = rng.choice([b"0 0.5 3", b"3 0.100000000 1", b"1 0.1 9", b"2 0.25 0", b"5 1.5 24 80", b"7 0.1 TSTP"])
+        lines += [event] if rng.random() < 0.3 else []
+        decimals = b"%d.%09d" % divmod(1000 * delay + rng.randrange(1000), 10**9)
+        lines.append(b"%s %s %d" % (rng.choice([b"4", b"4", b"6"]), decimals, len(text)))
+    return b"".join(text for _, text in chunks), lines
+
+
 def ended(rng, lines):
     """Lines with their ends: mostly LF alone, else CR LF everywhere, here and there, or with a CR too many."""
     ends = rng.choice([[b"\n"]] * 6 + [[b"\r\n"], [b"\n", b"\r\n"], [b"\r\n", b"\r\r\n"]])
@@ -70,7 +81,7 @@ def session(rng, whole):
     """A typescript and its timing."""
     header, chunks, trailer = harm.piece(rng, whole)
     trailer = rng.choice([trailer] * 6 + [b"", b"\nScript done on X", b"\nScript done on X\n\n", b"more"])
-    body, lines = rng.choice([classic, streams])(rng, chunks)
+    body, lines = rng.choice([classic, streams, sudo])(rng, chunks)
     if rng.random() < 0.1:
         lines.insert(
             rng.randint(0, len(lines)), rng.choice([b"", b" \t", b"O", b"0 1", b"X 0 1", b"I 0 1", b"0 1048577"])

@@ -3,9 +3,9 @@
 
     tests/mend_reader.py [--last|--headless] SCRIPT TIMING NEWSCRIPT NEWTIMING
 
-Nothing is shared with the crates: both formats of timing files are read anew here, as docs/FORMATS.md says. It writes
-the new pair, tells what was lost, and exits with 1 where a line or a chunk was left out or cut, where bytes behind the
-last chunk have no timing, and where the typescript has no header line.
+Nothing is shared with the crates: all formats of timing files are read anew here, as docs/FORMATS.md says. It writes
+the new pair, tells what was lost, and exits with 1 where a line, a chunk, an output to a pipe or a resize was left out,
+a chunk was cut, bytes behind the last chunk have no timing, and where the typescript has no header line.
 """
 import re
 import sys
@@ -17,6 +17,8 @@ LONGEST_BODY = 1_073_741_824
 OPENING = b"Script started on "
 # What script(1) leaves behind the last chunk.
 CLOSING = re.compile(rb"(?:\nScript done on [^\n]*\n?)?")
+# What sudo's events log: outputs, inputs, outputs to pipes, resizes and signals.
+EVENTS = dict(zip("01234567", "IPPIOROS"))
 DELAY = re.compile(rb"(-?)([0-9]+)(?:\.([0-9]*))?")
 
 
@@ -52,17 +54,22 @@ def begins_with_letter(field):
     return re.match(rb"[A-Za-z]", field) is not None
 
 
+def is_sudos(fields):
+    """Whether a line is one of sudo's."""
+    return len(fields) > 2 and re.fullmatch(rb"[0-7] [0-9]+\.[0-9]+", b" ".join(fields[:2])) is not None
+
+
 class Front:
     """The lines before the first that has a fault."""
 
     def __init__(self, timing):
-        self.parts, self.inputs, self.signals = [], 0, 0
+        self.parts, self.counts = [], dict.fromkeys("HIOPRS", 0)
         self.waited, self.outputs, self.counted, self.logs = 0, 0, 0, {}
         self.left = None
         # One CR at the end of a line isn't read.
         lines = [line.removesuffix(b"\r") for line in lines_of(timing)]
         told = next((fields for fields in map(fields_of, lines) if fields), [b"0"])
-        read = self.multi if begins_with_letter(told[0]) else self.classic
+        read = self.multi if begins_with_letter(told[0]) else self.sudo if is_sudos(told) else self.classic
         for number, line in enumerate(lines, 1):
             try:
                 if fields_of(line):
@@ -88,9 +95,18 @@ class Front:
         if stream == "H" and len(fields) > 3:
             self.logs.setdefault(fields[2], fields[3:])
 
+    def sudo(self, fields):
+        stream = EVENTS.get(fields[0].decode("latin-1"))
+        if not stream:
+            raise Bad("bad stream")
+        if len(fields) < 2:
+            raise Bad("bad delay")
+        delay = delay_of(fields[1])
+        self.take(stream, delay, count_of(fields[2:]) if stream in "IOP" else 0)
+
     def take(self, stream, delay, count):
         shared = self.logs.get(b"OUTPUT_LOG", []) == self.logs.get(b"INPUT_LOG", None)
-        lying = count if stream == "O" or shared else 0
+        lying = count if stream == "O" or shared and stream == "I" else 0
         if self.waited + delay > LONGEST_DELAY:
             raise Bad("delay too large")
         if count > LONGEST_CHUNK:
@@ -101,15 +117,12 @@ class Front:
             raise Bad("too many bytes")
         self.waited += delay
         self.counted += lying
+        self.counts[stream] += 1
         if stream == "O":
             self.parts.append((self.waited, count))
             self.waited, self.outputs = 0, self.outputs + 1
-        elif stream == "I":
-            self.inputs += 1
-            if shared:
-                self.parts.append((None, count))
-        elif stream == "S":
-            self.signals += 1
+        elif stream == "I" and shared:
+            self.parts.append((None, count))
 
 
 def seen(how, script):
@@ -140,8 +153,10 @@ def cut(body, parts):
 def told(front, cut_to, left, timing, trailer):
     if front.left:
         yield "timing line %d: %s, %d lines left out" % front.left
-    if front.inputs or front.signals:
-        yield f"{front.inputs} inputs and {front.signals} signals left out"
+    if front.counts["I"] or front.counts["S"]:
+        yield f"{front.counts['I']} inputs and {front.counts['S']} signals left out"
+    if front.counts["P"] or front.counts["R"]:
+        yield f"{front.counts['P']} outputs to pipes and {front.counts['R']} resizes left out"
     if cut_to:
         yield "chunk %d cut to %d of %d bytes" % cut_to
     if left:
@@ -168,7 +183,7 @@ def mend(how, script, timing):
     body = b"".join(taken for _, taken in chunks)
     lines = (f"{delay // 10**6}.{delay % 10**6:06} {len(taken)}\n" for delay, taken in chunks)
     text = "".join(line + "\n" for line in told(front, cut_to, left, timing, trailer))
-    damaged = bool(front.left or cut_to or left or is_untimed(trailer))
+    damaged = bool(front.left or front.counts["P"] or front.counts["R"] or cut_to or left or is_untimed(trailer))
     return script[:start] + body + trailer, "".join(lines).encode(), text, int(damaged)
 
 

@@ -10,7 +10,7 @@ use Rattle.tape_mend.specs.declared.line.Line.{Line}
 use Rattle.tape_mend.specs.declared.line.LineFault.{LineFault}
 use Rattle.tape_mend.specs.declared.line.LineFault.TheVariants as fault
 use Rattle.tape_mend.specs.declared.line.Stream.{Stream}
-use Rattle.tape_mend.specs.declared.line.Stream.TheVariants.{Header, Input, Output, Signal}
+use Rattle.tape_mend.specs.declared.line.Stream.TheVariants.{Header, Input, Output, Pipe, Resize, Signal}
 use Rattle.tape_mend.specs.Counting.{Logs, are_shared, is_output, limited, line_pieces, logs_behind, lying, with_line, with_stream, within}
 use Rattle.tape_mend.specs.Front.{front}
 use Rattle.tape_mend.specs.Steps.{IsSound, capped}
@@ -62,6 +62,8 @@ sound_with behind shared Output delay count s p = record {
   waited = omega arith;
   inputs = omega arith;
   signals = omega arith;
+  pipes = omega arith;
+  resizes = omega arith;
 }
 sound_with behind shared Input delay count s p = record {
   outputs = s.outputs;
@@ -69,6 +71,8 @@ sound_with behind shared Input delay count s p = record {
   waited = p.delay;
   inputs = omega arith;
   signals = omega arith;
+  pipes = omega arith;
+  resizes = omega arith;
 }
 sound_with behind shared Header delay count s p = record {
   outputs = s.outputs;
@@ -76,6 +80,26 @@ sound_with behind shared Header delay count s p = record {
   waited = p.delay;
   inputs = omega arith;
   signals = omega arith;
+  pipes = omega arith;
+  resizes = omega arith;
+}
+sound_with behind shared Pipe delay count s p = record {
+  outputs = s.outputs;
+  bytes = p.bytes;
+  waited = p.delay;
+  inputs = omega arith;
+  signals = omega arith;
+  pipes = omega arith;
+  resizes = omega arith;
+}
+sound_with behind shared Resize delay count s p = record {
+  outputs = s.outputs;
+  bytes = p.bytes;
+  waited = p.delay;
+  inputs = omega arith;
+  signals = omega arith;
+  pipes = omega arith;
+  resizes = omega arith;
 }
 sound_with behind shared Signal delay count s p = record {
   outputs = s.outputs;
@@ -83,6 +107,8 @@ sound_with behind shared Signal delay count s p = record {
   waited = p.delay;
   inputs = omega arith;
   signals = omega arith;
+  pipes = omega arith;
+  resizes = omega arith;
 }
 
 -- what lines come to stays within the limits
@@ -91,7 +117,7 @@ pub sound_more : (behind : Behind) (shared : Bool) (r : Result (Option Line) Lin
 sound_more behind shared (Err f) said s h = absurd (cc)
 sound_more behind shared (Ok None) said s h =
     let none : said ≡ None = cc in
-    rw none (record { outputs = s.outputs; bytes = s.bytes; waited = s.waited; inputs = omega arith; signals = omega arith })
+    rw none (record { outputs = s.outputs; bytes = s.bytes; waited = s.waited; inputs = omega arith; signals = omega arith; pipes = omega arith; resizes = omega arith })
 sound_more behind shared (Ok (Some line)) said s h =
     let p = passes behind shared line said h in
     rw (p.0) (sound_with behind shared line.stream line.delay line.count s p.1)
@@ -101,6 +127,8 @@ lines_with behind waited bytes Header = refl
 lines_with behind waited bytes Input = refl
 lines_with behind waited bytes Output = refl
 lines_with behind waited bytes Signal = refl
+lines_with behind waited bytes Pipe = refl
+lines_with behind waited bytes Resize = refl
 
 -- each line counts in their number
 pub one_line_more : (behind : Behind) (shared : Bool) (said : Option Line) → (with_line behind shared said).lines ≡ behind.lines + 1

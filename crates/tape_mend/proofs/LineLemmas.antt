@@ -8,30 +8,33 @@ use Rattle.tape_core.proofs.ReadBackLemmas.{delay_read}
 use Rattle.tape_core.proofs.WordLemmas.{number_spelled}
 use Rattle.tape_mend.specs.declared.line.Line.{Line}
 use Rattle.tape_mend.specs.declared.line.Stream.{Stream}
-use Rattle.tape_mend.specs.declared.line.Stream.TheVariants.{Header, Input, Output, Signal}
+use Rattle.tape_mend.specs.declared.line.Stream.TheVariants.{Header, Input, Output, Pipe, Resize, Signal}
 use Rattle.tape_mend.specs.Streams.{CountText, StreamLine, count_of, counted, delayed, letter_of, named, stream_line, stream_of, stream_of_letter}
 
 -- a letter names its stream, and no other does
-of_letter : (s : Stream) → stream_of (letter_of s ∷ []) ≡ Some s
-of_letter Header = refl
-of_letter Input = refl
-of_letter Output = refl
-of_letter Signal = refl
+of_letter : (s : Stream) (letter : ℕ) → letter_of s ≡ Some letter → stream_of (letter ∷ []) ≡ Some s
+of_letter Header letter is = let same : 72 ≡ letter = cc in subst (λ l. stream_of_letter l ≡ Some Header) same refl
+of_letter Input letter is = let same : 73 ≡ letter = cc in subst (λ l. stream_of_letter l ≡ Some Input) same refl
+of_letter Output letter is = let same : 79 ≡ letter = cc in subst (λ l. stream_of_letter l ≡ Some Output) same refl
+of_letter Signal letter is = let same : 83 ≡ letter = cc in subst (λ l. stream_of_letter l ≡ Some Signal) same refl
+of_letter Pipe letter is = absurd (cc)
+of_letter Resize letter is = absurd (cc)
 
-letter_is : (b : ℕ) (s : Stream) → stream_of_letter b ≡ Some s → b ≡ letter_of s
+letter_is : (b : ℕ) (s : Stream) → stream_of_letter b ≡ Some s → letter_of s ≡ Some b
 letter_is b s is = letters (nat_eq b 72) (nat_eq b 73) (nat_eq b 79) (nat_eq b 83) refl refl refl refl is
   where
     letters : (h i o g : Bool) → nat_eq b 72 ≡ h → nat_eq b 73 ≡ i → nat_eq b 79 ≡ o → nat_eq b 83 ≡ g
-        → cond h (Some Header) (cond i (Some Input) (cond o (Some Output) (cond g (Some Signal) None))) ≡ Some s → b ≡ letter_of s
-    letters true i o g eh ei eo eg e = let same : Header ≡ s = cc in eqb-true b 72 eh ∙ ap letter_of same
-    letters false true o g eh ei eo eg e = let same : Input ≡ s = cc in eqb-true b 73 ei ∙ ap letter_of same
-    letters false false true g eh ei eo eg e = let same : Output ≡ s = cc in eqb-true b 79 eo ∙ ap letter_of same
-    letters false false false true eh ei eo eg e = let same : Signal ≡ s = cc in eqb-true b 83 eg ∙ ap letter_of same
+        → cond h (Some Header) (cond i (Some Input) (cond o (Some Output) (cond g (Some Signal) None))) ≡ Some s → letter_of s ≡ Some b
+    letters true i o g eh ei eo eg e = let same : Header ≡ s = cc in ap letter_of (sym same) ∙ ap Some (sym (eqb-true b 72 eh))
+    letters false true o g eh ei eo eg e = let same : Input ≡ s = cc in ap letter_of (sym same) ∙ ap Some (sym (eqb-true b 73 ei))
+    letters false false true g eh ei eo eg e = let same : Output ≡ s = cc in ap letter_of (sym same) ∙ ap Some (sym (eqb-true b 79 eo))
+    letters false false false true eh ei eo eg e = let same : Signal ≡ s = cc in ap letter_of (sym same) ∙ ap Some (sym (eqb-true b 83 eg))
     letters false false false false eh ei eo eg e = absurd (cc)
 
-field_is : (first : List ℕ) (s : Stream) → stream_of first ≡ Some s → first ≡ letter_of s ∷ []
+field_is : (first : List ℕ) (s : Stream) → stream_of first ≡ Some s
+    → (letter : ℕ) × (first ≡ letter ∷ []) × (letter_of s ≡ Some letter)
 field_is [] s is = absurd (cc)
-field_is (b ∷ []) s is = ap (λ x. x ∷ []) (letter_is b s is)
+field_is (b ∷ []) s is = (b, refl, letter_is b s is)
 field_is (b ∷ c ∷ rest) s is = absurd (cc)
 
 -- a number that is spelled is read
@@ -56,17 +59,21 @@ count_text Output rest count is = one_count rest count is
 count_text Input rest count is = one_count rest count is
 count_text Header rest count is = let none : 0 ≡ count = cc in sym none
 count_text Signal rest count is = let none : 0 ≡ count = cc in sym none
+count_text Pipe rest count is = one_count rest count is
+count_text Resize rest count is = let none : 0 ≡ count = cc in sym none
 
 count_read : (s : Stream) (rest : List (List ℕ)) (count : ℕ) → CountText s rest count → count_of s rest ≡ Some count
 count_read Output rest count (text, e, is) = rw e (number_read text count is)
 count_read Input rest count (text, e, is) = rw e (number_read text count is)
 count_read Header rest count is = ap Some (sym is)
 count_read Signal rest count is = ap Some (sym is)
+count_read Pipe rest count (text, e, is) = rw e (number_read text count is)
+count_read Resize rest count is = ap Some (sym is)
 
 -- what a line says is read
 pub said_read : (text : List ℕ) (said : Line) → StreamLine text said → stream_line (fields text) ≡ Ok (Some said)
 said_read text said l =
-    ap stream_line l.cut ∙ ap (λ o. named o (l.second ∷ l.rest)) (of_letter said.stream)
+    ap stream_line l.cut ∙ ap (λ o. named o (l.second ∷ l.rest)) (of_letter said.stream l.letter l.named)
     ∙ ap (λ o. delayed said.stream o l.rest) (delay_read l.second said.delay l.delayed).read
     ∙ ap (counted said.stream said.delay) (count_read said.stream l.rest said.count l.counted)
 
@@ -79,10 +86,13 @@ read_said text said is = by_fields (fields text) refl is
     by_count s first second rest d None cut name delay count e = absurd (cc)
     by_count s first second rest d (Some n) cut name delay count e =
         let same : ◌≡◌ {A = Line} (record { stream = s; delay = d; count = n }) said = cc in
+        let field = field_is first s name in
         subst (StreamLine text) same (record {
+          letter = field.0;
           second = second;
           rest = rest;
-          cut = cut ∙ ap (λ x. x ∷ second ∷ rest) (field_is first s name);
+          named = field.2;
+          cut = cut ∙ ap (λ x. x ∷ second ∷ rest) field.1;
           delayed = delay_text second d delay;
           counted = count_text s rest n count;
         })

@@ -16,7 +16,7 @@ use Rattle.tape_mend.specs.declared.line.Format.{Format}
 use Rattle.tape_mend.specs.declared.line.Line.{Line}
 use Rattle.tape_mend.specs.declared.line.LineFault.{LineFault}
 use Rattle.tape_mend.specs.declared.line.Stream.{Stream}
-use Rattle.tape_mend.specs.declared.line.Stream.TheVariants.{Header, Input, Output, Signal}
+use Rattle.tape_mend.specs.declared.line.Stream.TheVariants.{Header, Input, Output, Pipe, Resize, Signal}
 use Rattle.tape_mend.specs.declared.opening.Header.{Header as How}
 use Rattle.tape_mend.specs.Counting.{Logs, are_shared, limited, line_pieces, logs_behind, stream_pieces, with_line}
 use Rattle.tape_mend.specs.Front.{Front, at_first, format_of, front, front_of, no_logs}
@@ -73,6 +73,18 @@ counts_with pieces behind shared Signal delay count s p = rw (none_more pieces) 
   each = s.each;
   sound = sound_with behind shared Signal delay count s.sound p;
 })
+counts_with pieces behind shared Pipe delay count s p = rw (none_more pieces) (record {
+  chunks = s.chunks;
+  bytes = omega (arith, s.bytes);
+  each = s.each;
+  sound = sound_with behind shared Pipe delay count s.sound p;
+})
+counts_with pieces behind shared Resize delay count s p = rw (none_more pieces) (record {
+  chunks = s.chunks;
+  bytes = omega (arith, s.bytes);
+  each = s.each;
+  sound = sound_with behind shared Resize delay count s.sound p;
+})
 
 counts_more : (pieces : List Piece) (behind : Behind) (shared : Bool) (r : Result (Option Line) LineFault) (said : Option Line) → Counts pieces behind
     → limited behind shared r ≡ Ok said → Counts (pieces ++ line_pieces behind shared said) (with_line behind shared said)
@@ -114,7 +126,7 @@ nothing_counts = record {
   chunks = refl;
   bytes = refl;
   each = All-nil IsPiece;
-  sound = record { outputs = omega arith; bytes = omega arith; waited = omega arith; inputs = omega arith; signals = omega arith };
+  sound = record { outputs = omega arith; bytes = omega arith; waited = omega arith; inputs = omega arith; signals = omega arith; pipes = omega arith; resizes = omega arith };
 }
 
 timing_counts : (timing : List ℕ) → FrontCounts (front_of timing)

@@ -1,5 +1,5 @@
 -- What is read without a fault is mended as it is.
-use Rattle.std.proofs.Common.{◌≡◌, ℕ, ◌+◌, ◌<◌, ◌≤◌, ◌==◌, Bool, true, false, cond, List, [], ◌∷◌, ◌++◌, length, take, drop, filter, map, All, Some, None, Ok, Err, nat_lt, nat_le, refl, ap, sym, ◌∙◌, arith, append-nil, append_assoc, length-append}
+use Rattle.std.proofs.Common.{◌≡◌, ℕ, ◌+◌, ◌<◌, ◌≤◌, ◌==◌, Bool, true, false, cond, List, [], ◌∷◌, ◌++◌, length, take, drop, filter, map, All, Option, Some, None, Ok, Err, nat_lt, nat_le, refl, ap, sym, ◌∙◌, arith, append-nil, append_assoc, length-append}
 use Rattle.std.specs.List.{position_or_len}
 use Rattle.std.proofs.lemmas.Bool.{le-ltb, lt-leb, le-leb}
 use Rattle.std.proofs.lemmas.List.{drop_at, get_or_append_left, take_at}
@@ -21,7 +21,7 @@ use Rattle.tape_mend.specs.declared.line.Line.{Line}
 use Rattle.tape_mend.specs.declared.line.Stream.TheVariants.{Output}
 use Rattle.tape_mend.specs.declared.opening.Header.TheVariants.{Kept}
 use Rattle.tape_mend.specs.Counting.{Logs, are_shared, limited, with_line, within}
-use Rattle.tape_mend.specs.Front.{Front, at_first, format_of, front, front_of, no_logs}
+use Rattle.tape_mend.specs.Front.{Front, at_first, format_of, front, front_of, is_event_line, no_logs}
 use Rattle.tape_mend.specs.Mended.{mended, nothing_lost, remains}
 use Rattle.tape_mend.specs.Streams.{classic_line, said_by}
 use Rattle.tape_mend.specs.Taken.{Taken, taken}
@@ -64,6 +64,17 @@ unlettered first rest e h = by (begins_with_letter first) refl h
     by true is h = absurd (cc)
     by false is h = is
 
+-- and has one count, so that it is no line of sudo's
+unsudoed : (first : List ℕ) (rest : List (List ℕ)) (e : Entry) → entry_of_fields (first ∷ rest) ≡ Ok (Some e) → is_event_line (first ∷ rest) ≡ false
+unsudoed first [] e h = refl
+unsudoed first (second ∷ []) e h = refl
+unsudoed first (second ∷ third ∷ more) e h = absurd (by (begins_with_letter first) (delay_of first) h)
+  where
+    by : (t : Bool) (d : Option ℕ) → cond t (Err entry.MultiStream) (delayed d None) ≡ Ok (Some e) → ⊥
+    by true d h = cc
+    by false None h = cc
+    by false (Some n) h = cc
+
 is_classic : (lines : List (List ℕ)) (chunks : List Chunk) → Limits chunks → AreTimed (filter has_fields lines) chunks
     → format_of lines ≡ Classic
 is_classic [] chunks l timed = refl
@@ -76,7 +87,7 @@ is_classic (text ∷ rest) chunks l timed = by (fields text) chunks refl l timed
     by (first ∷ others) (c ∷ cs) is l timed more =
         let line = rw (some_fields text first others is) at timed in
         let said : entry_of_fields (first ∷ others) ≡ Ok (Some (entry_for c)) = ap entry_of_fields (sym is) ∙ timing_line_read text (entry_for c) line.0 (first_within c cs l) in
-        rw (is, unlettered first others (entry_for c) said) refl
+        rw (is, unlettered first others (entry_for c) said, unsudoed first others (entry_for c) said) refl
 
 -- a chunk's line is within the limits behind others
 within_behind : (behind : Behind) (shared : Bool) (c : Chunk) → behind.waited ≡ 0 → IsWithin (entry_for c) → behind.outputs < most_chunks
@@ -101,6 +112,8 @@ pub record Whole (f : Front) (parts : List Piece) (behind : Behind) : Type 0 whe
   pub fault : f.fault ≡ None
   pub inputs : f.behind.inputs ≡ behind.inputs
   pub signals : f.behind.signals ≡ behind.signals
+  pub pipes : f.behind.pipes ≡ behind.pipes
+  pub resizes : f.behind.resizes ≡ behind.resizes
 
 -- nothing is left out of these lines, which time these chunks
 abbrev StaysWhole : Logs → List (List ℕ) → List Chunk → Type 0
@@ -137,12 +150,14 @@ whole_chunk text rest c cs logs line more pieces behind room =
       fault = whole.fault;
       inputs = whole.inputs;
       signals = whole.signals;
+      pipes = whole.pipes;
+      resizes = whole.resizes;
     })
 
 front_whole : (lines : List (List ℕ)) (chunks : List Chunk) (logs : Logs) → AreTimed (filter has_fields lines) chunks
     → StaysWhole logs lines chunks
 front_whole [] [] logs timed pieces behind room =
-    record { pieces = sym (append-nil pieces); fault = refl; inputs = refl; signals = refl }
+    record { pieces = sym (append-nil pieces); fault = refl; inputs = refl; signals = refl; pipes = refl; resizes = refl }
 front_whole [] (c ∷ cs) logs timed pieces behind room = absurd timed
 front_whole (text ∷ rest) chunks logs timed pieces behind room =
     by (fields text) chunks refl timed (λ chunks timed. front_whole rest chunks logs timed) pieces behind room
@@ -154,7 +169,7 @@ front_whole (text ∷ rest) chunks logs timed pieces behind room =
         let whole = more chunks (rw is at timed) pieces (record behind { lines = behind.lines + 1 })
         (record { waited = room.waited; few = room.few; bytes = room.bytes; limits = room.limits }) in
         whole_blank text rest chunks pieces behind logs is
-        (record { pieces = whole.pieces; fault = whole.fault; inputs = whole.inputs; signals = whole.signals })
+        (record { pieces = whole.pieces; fault = whole.fault; inputs = whole.inputs; signals = whole.signals; pipes = whole.pipes; resizes = whole.resizes })
     by (first ∷ others) [] is timed more pieces behind room = absurd (rw (some_fields text first others is) at timed)
     by (first ∷ others) (c ∷ cs) is timed more pieces behind room =
         let line = rw (some_fields text first others is) at timed in
@@ -212,4 +227,4 @@ whole_stays script timing tape r =
     ∙ ap (λ b. remains script false f (taken [] b f.pieces)) rest
     ∙ ap (λ ps. remains script false f (taken [] behind ps)) whole.pieces
     ∙ ap (remains script false f) (taken_whole tape.chunks [] tape.trailer)
-    ∙ rw (header, whole.fault, whole.inputs, whole.signals) refl
+    ∙ rw (header, whole.fault, whole.inputs, whole.signals, whole.pipes, whole.resizes) refl

@@ -8,13 +8,12 @@ use Rattle.tape_mend.specs.declared.counting.Behind.{Behind}
 use Rattle.tape_mend.specs.declared.counting.Piece.{Piece}
 use Rattle.tape_mend.specs.declared.counting.Piece.TheVariants as piece
 use Rattle.tape_mend.specs.declared.line.Format.{Format}
-use Rattle.tape_mend.specs.declared.line.Format.TheVariants.{Classic, Streams}
+use Rattle.tape_mend.specs.declared.line.Format.TheVariants.{Classic, Streams, Sudo}
 use Rattle.tape_mend.specs.declared.line.Line.{Line}
 use Rattle.tape_mend.specs.declared.line.LineFault.{LineFault}
 use Rattle.tape_mend.specs.declared.line.LineFault.TheVariants as line
 use Rattle.tape_mend.specs.declared.line.Stream.{Stream}
-use Rattle.tape_mend.specs.declared.line.Stream.TheVariants.{Header, Input, Output, Signal}
-use Rattle.tape_mend.specs.Streams.{letter_of}
+use Rattle.tape_mend.specs.declared.line.Stream.TheVariants.{Header, Input, Output, Pipe, Resize, Signal}
 
 -- The files into which outputs and inputs were logged: what stands behind the name in the first header line of each
 -- name that has a field there. script(1).
@@ -25,12 +24,13 @@ pub record Logs : Type 0 where
 -- What a header line has behind this name: its fields are the letter H, a delay, the name, and one more at least.
 abbrev pub log_of : List ℕ → List (List ℕ) → Option (List (List ℕ))
 log_of name (letter ∷ delay ∷ first ∷ next ∷ more) =
-    if pointwise nat_eq letter (letter_of Header ∷ []) && pointwise nat_eq first name then Some (next ∷ more) else None
+    if pointwise nat_eq letter (codes "H") && pointwise nat_eq first name then Some (next ∷ more) else None
 log_of name _ = None
 
--- The logs that are known behind a line: the first ones stay. The classic format names none.
+-- The logs that are known behind a line: the first ones stay. Only the multi-stream format names any.
 abbrev pub logs_behind : Format → Logs → List ℕ → Logs
 logs_behind Classic logs text = logs
+logs_behind Sudo logs text = logs
 logs_behind Streams logs text = record {
   output = option_or logs.output (log_of (codes "OUTPUT_LOG") (fields text));
   input = option_or logs.input (log_of (codes "INPUT_LOG") (fields text));
@@ -48,7 +48,9 @@ are_shared logs = same_log logs.output logs.input
 abbrev pub lying_of : Bool → Stream → ℕ → ℕ
 lying_of shared Output count = count
 lying_of shared Input count = if shared then count else 0
+lying_of shared Pipe count = 0
 lying_of shared Header count = 0
+lying_of shared Resize count = 0
 lying_of shared Signal count = 0
 
 abbrev pub lying : Bool → Line → ℕ
@@ -79,7 +81,11 @@ with_stream behind waited bytes Output =
     record behind { lines = behind.lines + 1; outputs = behind.outputs + 1; bytes = bytes; waited = 0 }
 with_stream behind waited bytes Input =
     record behind { lines = behind.lines + 1; inputs = behind.inputs + 1; bytes = bytes; waited = waited }
+with_stream behind waited bytes Pipe =
+    record behind { lines = behind.lines + 1; pipes = behind.pipes + 1; bytes = bytes; waited = waited }
 with_stream behind waited bytes Header = record behind { lines = behind.lines + 1; bytes = bytes; waited = waited }
+with_stream behind waited bytes Resize =
+    record behind { lines = behind.lines + 1; resizes = behind.resizes + 1; bytes = bytes; waited = waited }
 with_stream behind waited bytes Signal =
     record behind { lines = behind.lines + 1; signals = behind.signals + 1; bytes = bytes; waited = waited }
 
@@ -92,7 +98,9 @@ with_line behind shared (Some said) =
 abbrev pub stream_pieces : Bool → ℕ → ℕ → Stream → List Piece
 stream_pieces shared waited count Output = piece.Output (record { delay = waited; count = count }) ∷ []
 stream_pieces shared waited count Input = if shared then piece.Input count ∷ [] else []
+stream_pieces shared waited count Pipe = []
 stream_pieces shared waited count Header = []
+stream_pieces shared waited count Resize = []
 stream_pieces shared waited count Signal = []
 
 abbrev pub line_pieces : Behind → Bool → Option Line → List Piece

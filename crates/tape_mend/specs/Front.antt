@@ -1,22 +1,36 @@
 -- The front of a timing file: its lines before the first that has a fault.
-use Rattle.std.specs.Prelude.{ℕ, ◌+◌, List, [], ◌∷◌, ◌++◌, length, Option, Some, None, Result, Ok, Err, if◌then◌else◌}
-use Rattle.tape_core.specs.Text.{fields}
+use Rattle.std.specs.Prelude.{ℕ, ◌+◌, ◌==◌, Bool, false, ◌&&◌, List, [], ◌∷◌, ◌++◌, length, Option, Some, None, is_some, Result, Ok, Err, if◌then◌else◌}
+use Rattle.std.specs.List.{after_first, before_first}
+use Rattle.tape_core.specs.Text.{fields, number_of}
 use Rattle.tape_core.specs.Timing.{begins_with_letter}
 use Rattle.tape_mend.specs.declared.counting.Behind.{Behind}
 use Rattle.tape_mend.specs.declared.counting.Piece.{Piece}
 use Rattle.tape_mend.specs.declared.line.Format.{Format}
-use Rattle.tape_mend.specs.declared.line.Format.TheVariants.{Classic, Streams}
+use Rattle.tape_mend.specs.declared.line.Format.TheVariants.{Classic, Streams, Sudo}
 use Rattle.tape_mend.specs.declared.line.Line.{Line}
 use Rattle.tape_mend.specs.declared.line.LineFault.{LineFault}
 use Rattle.tape_mend.specs.Counting.{Logs, are_shared, limited, line_pieces, logs_behind, with_line}
 use Rattle.tape_mend.specs.Lines.{timing_lines}
-use Rattle.tape_mend.specs.Streams.{said_by}
+use Rattle.tape_mend.specs.Streams.{event_of, said_by}
 
--- The format of a timing file: multi-stream where the first field of its first line that isn't blank begins with a
--- letter (ours).
+-- Digits, a point and digits.
+abbrev pub is_point : ℕ → Bool
+is_point b = b == 46
+
+abbrev pub is_decimal : List ℕ → Bool
+is_decimal text = is_some (number_of (before_first is_point text)) && is_some (number_of (after_first is_point text))
+
+-- A line is sudo's by its fields: the digit of an event, a delay with decimals, and one field more at least (ours).
+abbrev pub is_event_line : List (List ℕ) → Bool
+is_event_line (first ∷ second ∷ third ∷ rest) = is_some (event_of first) && is_decimal second
+is_event_line _ = false
+
+-- The format of a timing file, by its first line that isn't blank: multi-stream where that begins with a letter, sudo's
+-- where it is a line of sudo's, else classic (ours).
 abbrev pub format_by : List (List ℕ) → Format → Format
 format_by [] other = other
-format_by (first ∷ rest) other = if begins_with_letter first then Streams else Classic
+format_by (first ∷ rest) other =
+    if begins_with_letter first then Streams else if is_event_line (first ∷ rest) then Sudo else Classic
 
 abbrev pub format_of : List (List ℕ) → Format
 format_of [] = Classic
@@ -48,7 +62,7 @@ front format pieces behind logs (text ∷ rest) =
 
 -- Nothing is read yet.
 abbrev pub at_first : Behind
-at_first = record { lines = 0; outputs = 0; bytes = 0; waited = 0; inputs = 0; signals = 0 }
+at_first = record { lines = 0; outputs = 0; bytes = 0; waited = 0; inputs = 0; signals = 0; pipes = 0; resizes = 0 }
 
 abbrev pub no_logs : Logs
 no_logs = record { output = None; input = None }

@@ -46,6 +46,8 @@ losses_of cr_lf front taken = record {
   lines = lines_left (front.behind.lines + 1) front.fault front.left;
   inputs = front.behind.inputs;
   signals = front.behind.signals;
+  pipes = front.behind.pipes;
+  resizes = front.behind.resizes;
   cut = taken.cut;
   chunks = taken.left;
   cr_lf = cr_lf;
@@ -53,7 +55,7 @@ losses_of cr_lf front taken = record {
 
 -- Nothing was lost.
 abbrev pub nothing_lost : Losses
-nothing_lost = record { lines = None; inputs = 0; signals = 0; cut = None; chunks = 0; cr_lf = false }
+nothing_lost = record { lines = None; inputs = 0; signals = 0; pipes = 0; resizes = 0; cut = None; chunks = 0; cr_lf = false }
 
 -- A recording, and what was lost of it.
 pub record Remains : Type 0 where

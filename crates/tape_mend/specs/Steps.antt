@@ -31,6 +31,8 @@ pub record IsSound (behind : Behind) : Type 0 where
   pub waited : behind.waited ≤ longest_delay
   pub inputs : behind.inputs ≤ behind.lines
   pub signals : behind.signals ≤ behind.lines
+  pub pipes : behind.pipes ≤ behind.lines
+  pub resizes : behind.resizes ≤ behind.lines
 
 -- A part of the body is within the limits of a chunk (ours).
 abbrev pub IsPiece : Piece → Type 0

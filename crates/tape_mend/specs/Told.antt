@@ -40,6 +40,14 @@ streams_line inputs signals =
 abbrev pub streams_text : ℕ → ℕ → List ℕ
 streams_text inputs signals = if inputs == 0 && signals == 0 then [] else streams_line inputs signals
 
+-- The outputs to pipes and changes of the size, where there are any.
+abbrev pub pipes_line : ℕ → ℕ → List ℕ
+pipes_line pipes resizes =
+    joined (decimal pipes ∷ codes " outputs to pipes and " ∷ decimal resizes ∷ ended (codes " resizes left out") ∷ [])
+
+abbrev pub pipes_text : ℕ → ℕ → List ℕ
+pipes_text pipes resizes = if pipes == 0 && resizes == 0 then [] else pipes_line pipes resizes
+
 -- The chunk that was cut.
 abbrev pub cut_text : Option Cut → List ℕ
 cut_text None = []
@@ -60,7 +68,8 @@ cr_lf_text cr_lf = if cr_lf then ended (codes "timing has CR LF") else []
 
 -- All of it, in this order: what the timing has lost, what the body has, and what else is told of the timing.
 abbrev pub timing_losses : Losses → List ℕ
-timing_losses losses = lines_text losses.lines ++ streams_text losses.inputs losses.signals
+timing_losses losses =
+    lines_text losses.lines ++ streams_text losses.inputs losses.signals ++ pipes_text losses.pipes losses.resizes
 
 abbrev pub body_losses : Losses → List ℕ
 body_losses losses = cut_text losses.cut ++ chunks_text losses.chunks
@@ -68,6 +77,8 @@ body_losses losses = cut_text losses.cut ++ chunks_text losses.chunks
 unfoldable pub losses_text : Losses → List ℕ
 losses_text losses = timing_losses losses ++ body_losses losses ++ cr_lf_text losses.cr_lf
 
--- A line or a chunk was left out or cut, and not just inputs and signals, or a CR.
+-- A line, a chunk, an output to a pipe or a change of the size was left out, or a chunk was cut, and not just inputs and
+-- signals, or a CR.
 abbrev pub is_damaged : Losses → Bool
-is_damaged losses = is_some losses.lines || is_some losses.cut || not (losses.chunks == 0)
+is_damaged losses =
+    is_some losses.lines || is_some losses.cut || not (losses.chunks == 0) || not (losses.pipes == 0 && losses.resizes == 0)

@@ -9,8 +9,9 @@ use crate::line::{Line, LineFault, Stream};
 use tape_core::limits::{LONGEST_BODY, LONGEST_CHUNK, LONGEST_DELAY, MOST_CHUNKS};
 use tape_core::timing::Entry;
 
-/// What the lines so far come to: how many they are, blank ones among them; how many outputs, inputs and signals are
-/// among them; how many bytes they count that lie in the typescript; and the microseconds since the last output.
+/// What the lines so far come to: how many they are, blank ones among them; how many outputs, inputs, signals, outputs to
+/// pipes and changes of the size are among them; how many bytes they count that lie in the typescript; and the
+/// microseconds since the last output.
 #[derive(Clone, Copy, Debug)]
 pub struct Behind {
     pub lines: u64,
@@ -19,6 +20,8 @@ pub struct Behind {
     pub waited: u64,
     pub inputs: u64,
     pub signals: u64,
+    pub pipes: u64,
+    pub resizes: u64,
 }
 
 /// A part of the body.
@@ -62,6 +65,8 @@ impl Behind {
             waited: 0,
             inputs: 0,
             signals: 0,
+            pipes: 0,
+            resizes: 0,
         }
     }
 
@@ -130,8 +135,22 @@ impl Behind {
                 waited,
                 ..self
             },
+            Stream::Pipe => Behind {
+                lines,
+                pipes: self.pipes + 1,
+                bytes,
+                waited,
+                ..self
+            },
             Stream::Header => Behind {
                 lines,
+                bytes,
+                waited,
+                ..self
+            },
+            Stream::Resize => Behind {
+                lines,
+                resizes: self.resizes + 1,
                 bytes,
                 waited,
                 ..self

@@ -1,16 +1,18 @@
 //! The front of a timing file: its lines before the first that has a fault.
-ghost use Rattle.std.specs.Prelude.{◌≡◌, ◌≤◌, ◌++◌, IfOk, IfSome, OnOk, length};
+ghost use Rattle.std.specs.Prelude.{◌≡◌, ◌≤◌, ◌++◌, ◌∷◌, IfOk, IfSome, OnOk, length};
+ghost use Rattle.tape_mend.specs.declared.line.Format.{Format};
 ghost use Rattle.tape_mend.specs.Counting.{line_pieces};
-ghost use Rattle.tape_mend.specs.Front.{format_of, front_of};
+ghost use Rattle.tape_core.specs.Text.{fields};
+ghost use Rattle.tape_mend.specs.Front.{format_by, format_of, front_of, is_decimal, is_event_line};
 ghost use Rattle.tape_mend.specs.Lines.{timing_lines};
 ghost use Rattle.tape_mend.specs.Steps.{IsSmall, IsSound};
 
 use crate::counting::{Behind, Piece};
-use crate::line::{Format, Line, LineFault, read_line};
+use crate::line::{Format, Line, LineFault, event_named, read_line};
 use crate::lines::{count_lines, next_timing_line};
 use crate::logs::Logs;
 use std::alloc::{AllocError, Global};
-use tape_core::text::next_field;
+use tape_core::text::{next_field, position_of, read_number};
 use tape_core::timing::has_letter_first;
 
 /// What was read before the first fault: the parts of the body, what the lines come to, the fault, and how many lines
@@ -30,16 +32,46 @@ fn format_of_timing(timing: &[u8]) -> Format
     let mut rest = timing;
     while !rest.is_empty() {
         let (line, after) = next_timing_line(rest);
-        if let Some((first, _)) = next_field(line) {
-            return if has_letter_first(first) {
-                Format::Streams
-            } else {
-                Format::Classic
-            };
+        if let Some((first, behind)) = next_field(line) {
+            return format_by(first, behind);
         }
         rest = after;
     }
     Format::Classic
+}
+
+/// The format by the first line that isn't blank: its first field, and what stands behind it.
+fn format_by(first: &[u8], behind: &[u8]) -> Format
+    ensures { (other : Format) → result ≡ format_by (first.now ∷ fields behind.now) other }
+{
+    if has_letter_first(first) {
+        Format::Streams
+    } else if is_event_line(first, behind) {
+        Format::Sudo
+    } else {
+        Format::Classic
+    }
+}
+
+/// Whether a line is sudo's, by its first field and what stands behind it.
+fn is_event_line(first: &[u8], behind: &[u8]) -> bool
+    ensures { result ≡ is_event_line (first.now ∷ fields behind.now) }
+{
+    let Some((second, rest)) = next_field(behind) else {
+        return false;
+    };
+    next_field(rest).is_some() && event_named(first).is_some() && is_decimal(second)
+}
+
+/// Whether a text is digits, a point and digits.
+fn is_decimal(text: &[u8]) -> bool
+    ensures { result ≡ is_decimal text.now }
+{
+    let point = position_of(text, b'.');
+    if point == text.len() {
+        return false;
+    }
+    read_number(&text[..point]).is_some() && read_number(&text[point + 1..]).is_some()
 }
 
 /// Adds the part of the body that a line counts, if it does.

@@ -59,7 +59,7 @@ impl<'t> Logs<'t> {
         ensures asked { IsAsked result }
     {
         match (format, self.output, self.input) {
-            (Format::Classic, _, _) | (_, Some(_), Some(_)) => self,
+            (Format::Classic | Format::Sudo, _, _) | (_, Some(_), Some(_)) => self,
             (Format::Streams, output, input) => {
                 let logs = Logs {
                     output: output.or(named_log(b"OUTPUT_LOG", text)),

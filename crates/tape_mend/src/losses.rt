@@ -2,7 +2,7 @@
 ghost use Rattle.std.specs.Prelude.{◌≡◌, false};
 ghost use Rattle.tape_core.specs.Devices.{Gave, Puts, has_failed};
 ghost use Rattle.tape_mend.specs.Steps.{what_is_wrong};
-ghost use Rattle.tape_mend.specs.Told.{body_losses, chunks_line, chunks_text, cr_lf_text, cut_text, is_damaged, lines_text, losses_text, streams_line, streams_text, timing_losses};
+ghost use Rattle.tape_mend.specs.Told.{body_losses, chunks_line, chunks_text, cr_lf_text, cut_text, is_damaged, lines_text, losses_text, pipes_line, pipes_text, streams_line, streams_text, timing_losses};
 
 use crate::line::LineFault;
 use itoa::Buffer;
@@ -27,24 +27,31 @@ pub struct Cut {
     pub counted: u64,
 }
 
-/// What was lost: lines of the timing; inputs and signals, for which the classic format has no place; bytes of the last
-/// chunk; chunks; and whether lines of the timing end in CR LF, which loses nothing.
+/// What was lost: lines of the timing; inputs and signals, for which the classic format has no place; outputs to pipes and
+/// changes of the size, which sudo logs; bytes of the last chunk; chunks; and whether lines of the timing end in CR LF,
+/// which loses nothing.
 #[derive(Clone, Copy, Debug)]
 pub struct Losses {
     pub lines: Option<LinesLeft>,
     pub inputs: u64,
     pub signals: u64,
+    pub pipes: u64,
+    pub resizes: u64,
     pub cut: Option<Cut>,
     pub chunks: u64,
     pub cr_lf: bool,
 }
 
 impl Losses {
-    /// Whether a line or a chunk was left out or cut, and not just inputs and signals, or a CR.
+    /// Whether a line, a chunk, an output to a pipe or a change of the size was left out, or a chunk was cut, and not just
+    /// inputs and signals, or a CR.
     pub fn is_damaged(&self) -> bool
         ensures { result ≡ is_damaged self.now }
     {
-        self.lines.is_some() || self.cut.is_some() || self.chunks != 0
+        self.lines.is_some()
+            || self.cut.is_some()
+            || self.chunks != 0
+            || !(self.pipes == 0 && self.resizes == 0)
     }
 }
 
@@ -87,6 +94,7 @@ fn put_timing_losses<W: Write>(losses: &Losses, writer: &mut Watched<W>)
     gives_join::<W>();
     put_lines(losses.lines, writer);
     put_streams(losses.inputs, losses.signals, writer);
+    put_pipes(losses.pipes, losses.resizes, writer);
 }
 
 /// Writes what the body has lost.
@@ -136,6 +144,29 @@ fn put_streams_line<W: Write>(inputs: u64, signals: u64, writer: &mut Watched<W>
         b" inputs and ",
         Buffer::new().format(signals).as_bytes(),
         b" signals left out\n",
+    ]);
+}
+
+/// Writes how many outputs to pipes and changes of the size were left out, where any were.
+fn put_pipes<W: Write>(pipes: u64, resizes: u64, writer: &mut Watched<W>)
+    ensures { Gave W.contents writer.old writer.new (pipes_text pipes resizes) }
+{
+    gives_join::<W>();
+    if pipes == 0 && resizes == 0 {
+        return;
+    }
+    put_pipes_line(pipes, resizes, writer);
+}
+
+/// Writes how many outputs to pipes and changes of the size were left out.
+fn put_pipes_line<W: Write>(pipes: u64, resizes: u64, writer: &mut Watched<W>)
+    ensures { Gave W.contents writer.old writer.new (pipes_line pipes resizes) }
+{
+    writer.give_all(&[
+        Buffer::new().format(pipes).as_bytes(),
+        b" outputs to pipes and ",
+        Buffer::new().format(resizes).as_bytes(),
+        b" resizes left out\n",
     ]);
 }
 

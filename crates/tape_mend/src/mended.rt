@@ -35,7 +35,7 @@ fn lines_left(line: u64, fault: Option<LineFault>, count: u64) -> Option<LinesLe
     fault.map(|fault| LinesLeft { line, fault, count })
 }
 
-/// Reads what can be read of a typescript, which the chunks then share, and of its timing file in either format: the
+/// Reads what can be read of a typescript, which the chunks then share, and of its timing file in any of its formats: the
 /// lines before the first that has a fault, and as much of what they count as stands in the typescript. Written, the
 /// recording is read again without a fault. Refused where the typescript has no header line, and for want of memory.
 pub fn mend(alloc: Global, script: Vec<u8>, timing: &[u8], how: Header) -> Result<Mended, Fault>
@@ -55,6 +55,8 @@ pub fn mend(alloc: Global, script: Vec<u8>, timing: &[u8], how: Header) -> Resul
         lines: lines_left(front.behind.lines + 1, front.fault, front.left),
         inputs: front.behind.inputs,
         signals: front.behind.signals,
+        pipes: front.behind.pipes,
+        resizes: front.behind.resizes,
         cut: taken.cut,
         chunks: taken.left,
         cr_lf: has_cr_lf(timing),

@@ -202,6 +202,68 @@ const STREAMS: [(Pair<'static>, Told<'static>); 9] = [
     ),
 ];
 
+/// Logs of sudo, whose file of what the terminal got has no header line; and lines that come close to one of its.
+const SUDO: [(Pair<'static>, Told<'static>); 6] = [
+    (
+        (
+            b"abcde",
+            b"4 0.500000001 2\n7 0.25 TSTP\n7 1.25 CONT\n3 0.1 1\n5 0.1 30 100\n4 0.000000999 1\n1 0 9\n6 1 2\n",
+            Header::Made,
+        ),
+        (
+            b"Script started\nabcde",
+            b"0.500000 2\n1.700000 1\n1.000000 2\n",
+            b"1 inputs and 2 signals left out\n1 outputs to pipes and 1 resizes left out\n",
+            true,
+        ),
+    ),
+    (
+        (b"abc", b"4 0.1 1\n8 0.2 2\n", Header::Made),
+        (
+            b"Script started\nabc",
+            b"0.100000 1\n",
+            b"timing line 2: bad stream, 1 lines left out\n",
+            true,
+        ),
+    ),
+    (
+        (b"a", b"\n0 0.1 3\n4 0.2 1\n2 0.5 x\n", Header::Made),
+        (
+            b"Script started\na",
+            b"0.300000 1\n",
+            b"timing line 4: bad count, 1 lines left out\n1 inputs and 0 signals left out\n",
+            true,
+        ),
+    ),
+    (
+        (b"a", b"3 0.1 3\n4 0.2 1\n", Header::Made),
+        (
+            b"Script started\na",
+            b"0.300000 1\n",
+            b"1 inputs and 0 signals left out\n",
+            false,
+        ),
+    ),
+    (
+        (b"h\na", b"4 0.1\n", Header::Kept),
+        (
+            b"h\na",
+            b"",
+            b"timing line 1: bad count, 1 lines left out\n",
+            true,
+        ),
+    ),
+    (
+        (b"h\na", b"4 1 1\n", Header::Kept),
+        (
+            b"h\na",
+            b"",
+            b"timing line 1: bad count, 1 lines left out\n",
+            true,
+        ),
+    ),
+];
+
 /// Pairs whose timing has lines that end in CR LF: one CR isn't read, be it in a line that is left out or in a name.
 const CR_LF: [(Pair<'static>, Told<'static>); 5] = [
     (
@@ -284,6 +346,14 @@ fn pairs_of_the_classic_format(rt: HostRuntime) -> Result<(), Fail> {
 #[test]
 fn pairs_of_the_multi_stream_format(rt: HostRuntime) -> Result<(), Fail> {
     for (pair, wanted) in STREAMS {
+        compare_mended(&rt, pair, wanted)?;
+    }
+    Ok(())
+}
+
+#[test]
+fn logs_of_sudo(rt: HostRuntime) -> Result<(), Fail> {
+    for (pair, wanted) in SUDO {
         compare_mended(&rt, pair, wanted)?;
     }
     Ok(())
