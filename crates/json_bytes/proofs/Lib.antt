@@ -1,0 +1,6 @@
+mod MemberLemmas
+mod NumberLemmas
+mod ScalarLemmas
+mod StringLemmas
+mod TripleLemmas
+mod ValueLemmas

@@ -1,0 +1,5 @@
+pub mod Marks
+pub mod Strings
+pub mod Numbers
+pub mod Values
+pub mod Shown

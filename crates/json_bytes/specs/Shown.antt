@@ -1,0 +1,32 @@
+-- Private: what the parts of a number show, and how it is scaled.
+use Rattle.std.specs.Prelude.{ℕ, ◌+◌, ◌-◌, length, min}
+use Rattle.std.specs.Char.{is_ascii_digit}
+use Rattle.std.specs.List.{AllPass}
+use Rattle.json_bytes.specs.Numbers.{Decimal, lowers, raises}
+use Rattle.json_bytes.specs.declared.numbers.Parts.{Parts}
+
+-- The number that they are.
+abbrev pub shown : Parts → Decimal
+shown parts = record {
+  negative = parts.negative;
+  whole = parts.whole.now;
+  fraction = parts.fraction.now;
+  falls = parts.falls;
+  exponent = parts.exponent.now;
+}
+
+-- They are digits.
+pub record IsOfDigits (parts : Parts) : Type 0 where
+  pub whole : AllPass is_ascii_digit parts.whole.now
+  pub fraction : AllPass is_ascii_digit parts.fraction.now
+  pub exponent : AllPass is_ascii_digit parts.exponent.now
+
+-- How many of its digits count where it is scaled by a power of ten and cut, and how many zeros stand behind them.
+abbrev pub kept_digits : ℕ → Decimal → ℕ
+kept_digits decimals number =
+    min (length number.whole + length number.fraction)
+    (length number.whole + length number.fraction + (decimals + raises number)
+    - (length number.fraction + lowers number))
+
+abbrev pub kept_zeros : ℕ → Decimal → ℕ
+kept_zeros decimals number = decimals + raises number - (length number.fraction + lowers number)

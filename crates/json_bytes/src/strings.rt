@@ -1,0 +1,205 @@
+//! Strings: their text between quotes, and the bytes that it means.
+ghost use Rattle.std.specs.Prelude.{◌≡◌, ℕ, ◌+◌, ◌<◌, ◌≤◌, ◌++◌, IfOk, IfSome, OnOk, length};
+ghost use Rattle.std.specs.Option.{option_map};
+ghost use Rattle.json_bytes.specs.Strings.{alone, bytes_of, character_at, escaped, hex_at, hex_digit, is_high, is_low, item_at, paired, string_at, unit_at};
+ghost use Rattle.json_bytes.specs.Values.{behind, found, string_of, value};
+
+use crate::marks::begins;
+use std::alloc::{AllocError, Global};
+
+/// What stands in a string's text: a byte by itself, or a character by its units of UTF-16.
+#[derive(Clone, Copy)]
+pub enum Meaning {
+    Byte(u8),
+    Character(char),
+}
+
+/// The value of a hexadecimal digit.
+fn hex_digit(b: u8) -> Option<u32>
+    ensures value { result ≡ hex_digit b }
+    ensures small { IfSome result (λ n. n < 16) }
+{
+    match b {
+        b'0'..=b'9' => Some(u32::from(b - b'0')),
+        b'A'..=b'F' => Some(u32::from(b - b'A') + 10),
+        b'a'..=b'f' => Some(u32::from(b - b'a') + 10),
+        _ => None,
+    }
+}
+
+/// The number that four hexadecimal digits write.
+fn hex_at(at: usize, text: &[u8]) -> Option<u32>
+    requires { at + 4 ≤ length text.now }
+    ensures value { result ≡ hex_at at text.now }
+    ensures small { IfSome result (λ n. n < 65536) }
+{
+    let a = hex_digit(text[at])?;
+    let b = hex_digit(text[at + 1])?;
+    let c = hex_digit(text[at + 2])?;
+    let d = hex_digit(text[at + 3])?;
+    Some(4096 * a + 256 * b + 16 * c + d)
+}
+
+/// The unit of UTF-16 that the front of a text writes.
+fn unit_at(text: &[u8]) -> Option<u32>
+    ensures value { result ≡ unit_at text.now }
+    ensures small { IfSome result (λ n. n < 65536) }
+    ensures within { IfSome result (λ n. 6 ≤ length text.now) }
+{
+    if text.starts_with(b"\\u") && text.len() >= 6 {
+        hex_at(2, text)
+    } else {
+        None
+    }
+}
+
+/// The first half of a pair of surrogates.
+fn is_high(unit: u32) -> bool
+    ensures { result ≡ is_high unit }
+{
+    (0xD800..=0xDBFF).contains(&unit)
+}
+
+/// The second half.
+fn is_low(unit: u32) -> bool
+    ensures { result ≡ is_low unit }
+{
+    (0xDC00..=0xDFFF).contains(&unit)
+}
+
+/// The character of a unit alone.
+fn alone(unit: u32) -> char
+    requires { unit < 65536 }
+    ensures { result ≡ alone unit }
+{
+    match char::from_u32(unit) {
+        Some(character) => character,
+        None => '\u{fffd}',
+    }
+}
+
+/// The character of a pair.
+fn paired(high: u32, low: u32) -> char
+    requires high { 55296 ≤ high }
+    requires high_end { high ≤ 56319 }
+    requires low { 56320 ≤ low }
+    requires low_end { low ≤ 57343 }
+    ensures { result ≡ paired high low }
+{
+    match char::from_u32(0x1_0000 + 1024 * (high - 0xD800) + (low - 0xDC00)) {
+        Some(character) => character,
+        None => unreachable!(),
+    }
+}
+
+/// The character at the front that is written by its units, and how many bytes it has.
+fn character_at(text: &[u8]) -> Option<(Meaning, usize)>
+    ensures value { result ≡ character_at text.now }
+    ensures within { IfSome result (λ found. found.1 ≤ length text.now) }
+    ensures some { IfSome result (λ found. 0 < found.1) }
+{
+    let first = unit_at(text)?;
+    match unit_at(&text[6..]) {
+        Some(second) if is_high(first) && is_low(second) => {
+            Some((Meaning::Character(paired(first, second)), 12))
+        }
+        _ => Some((Meaning::Character(alone(first)), 6)),
+    }
+}
+
+/// The byte that is meant by one behind a backslash.
+fn escaped(b: u8) -> Option<u8>
+    ensures { result ≡ escaped b }
+{
+    match b {
+        b'"' | b'\\' | b'/' => Some(b),
+        b'b' => Some(8),
+        b'f' => Some(12),
+        b'n' => Some(b'\n'),
+        b'r' => Some(b'\r'),
+        b't' => Some(b'\t'),
+        _ => None,
+    }
+}
+
+/// What the front of a string's text means, and how many bytes say so.
+fn item_at(text: &[u8]) -> Option<(Meaning, usize)>
+    requires { 0 < length text.now }
+    ensures value { result ≡ item_at text.now }
+    ensures within { IfSome result (λ found. found.1 ≤ length text.now) }
+    ensures some { IfSome result (λ found. 0 < found.1) }
+{
+    if text.starts_with(b"\\u") {
+        return character_at(text);
+    }
+    match text[0] {
+        b'\\' if text.len() > 1 => Some((Meaning::Byte(escaped(text[1])?), 2)),
+        b'\\' => None,
+        first if first < 32 => None,
+        first => Some((Meaning::Byte(first), 1)),
+    }
+}
+
+/// Adds the bytes that are meant.
+fn push_meaning(bytes: &mut Vec<u8>, meaning: Meaning) -> Result<(), AllocError>
+    ensures { OnOk result (bytes.new.items ≡ bytes.old.items ++ bytes_of meaning) }
+{
+    match meaning {
+        Meaning::Byte(byte) => Ok(bytes.push(byte)?),
+        Meaning::Character(character) => {
+            bytes.extend_from_slice(character.encode_utf8(&mut [0; 4]).as_bytes())
+        }
+    }
+}
+
+/// What stands behind the string at the front.
+pub fn string_end(text: &[u8]) -> Option<&[u8]>
+    ensures { option_map (λ r. r.now) result ≡ behind (string_at text.now) }
+{
+    if !begins(b'"', text) {
+        return None;
+    }
+    let mut rest = &text[1..];
+    while !rest.is_empty() {
+        if rest[0] == b'"' {
+            return Some(&rest[1..]);
+        }
+        let (_, len) = item_at(rest)?;
+        rest = rest.split_at(len).1;
+    }
+    None
+}
+
+/// The string at the front, by the bytes that it means, and what stands behind it.
+pub fn read_string(alloc: Global, text: &[u8]) -> Result<Option<(Vec<u8>, &[u8])>, AllocError>
+    ensures { IfOk result (λ read. option_map (λ r. (r.0.items, r.1.now)) read
+        ≡ string_at text.now) }
+{
+    let mut bytes = Vec::new(alloc);
+    if !begins(b'"', text) {
+        return Ok(None);
+    }
+    let mut rest = &text[1..];
+    while !rest.is_empty() {
+        if rest[0] == b'"' {
+            return Ok(Some((bytes, &rest[1..])));
+        }
+        let Some((meaning, len)) = item_at(rest) else {
+            return Ok(None);
+        };
+        push_meaning(&mut bytes, meaning)?;
+        rest = rest.split_at(len).1;
+    }
+    Ok(None)
+}
+
+/// The string that stands at the front as a value, by the bytes that it means.
+pub fn string_in(alloc: Global, text: &[u8]) -> Result<Option<Vec<u8>>, AllocError>
+    ensures { IfOk result (λ bytes. (depth : ℕ)
+        → option_map (λ b. b.items) bytes ≡ string_of (found (value depth text.now))) }
+{
+    match read_string(alloc, text)? {
+        Some((bytes, _rest)) => Ok(Some(bytes)),
+        None => Ok(None),
+    }
+}

@@ -1,0 +1,201 @@
+//! Values: where they end, and what stands in them.
+ghost use Rattle.std.specs.Prelude.{◌≡◌, ◌+◌, None, Some, IfOk, MatchOption, is_some, true};
+ghost use Rattle.std.specs.Option.{option_and_then, option_map};
+ghost use Rattle.json_bytes.specs.Values.{array_at, behind, found, json_of, member_of, nested_at, object_at, triple_of, tripled, value, word_at};
+
+use crate::marks::{begins, past_mark, past_space};
+use crate::numbers::number_end;
+use crate::strings::{read_string, string_end};
+use std::alloc::{AllocError, Global};
+
+/// How deep arrays and objects may be, the outermost one counted.
+pub const DEEPEST: u32 = 64;
+
+/// What stands behind `true`, `false` or `null` at the front.
+fn word_end(text: &[u8]) -> Option<&[u8]>
+    ensures { option_map (λ r. r.now) result ≡ behind (word_at text.now) }
+{
+    if text.starts_with(b"true") || text.starts_with(b"null") {
+        Some(&text[4..])
+    } else if text.starts_with(b"false") {
+        Some(&text[5..])
+    } else {
+        None
+    }
+}
+
+/// What stands behind the value at the front, which has arrays and objects at most so deep.
+#[cycle(values)]
+fn value_end(text: &[u8], depth: u32) -> Option<&[u8]>
+    ensures { option_map (λ r. r.now) result ≡ behind (value depth text.now) }
+{
+    if begins(b'"', text) {
+        return string_end(text);
+    }
+    if let Some(rest) = number_end(text) {
+        return Some(rest);
+    }
+    if depth == 0 {
+        return word_end(text);
+    }
+    nested_end(text, depth - 1)
+}
+
+/// What stands behind the array or the object at the front, whose values have such at most so deep, or behind a word.
+#[cycle(values)]
+fn nested_end(text: &[u8], depth: u32) -> Option<&[u8]>
+    ensures { option_map (λ r. r.now) result ≡ behind (nested_at (value depth) text.now) }
+{
+    if begins(b'[', text) {
+        array_end(text, depth)
+    } else if begins(b'{', text) {
+        object_end(text, depth)
+    } else {
+        word_end(text)
+    }
+}
+
+/// What stands behind the array at the front, whose values have arrays and objects at most so deep.
+#[cycle(values)]
+fn array_end(text: &[u8], depth: u32) -> Option<&[u8]>
+    ensures { option_map (λ r. r.now) result ≡ behind (array_at (value depth) text.now) }
+{
+    let inner = past_mark(b'[', text)?;
+    if let Some(rest) = past_mark(b']', inner) {
+        return Some(rest);
+    }
+    let mut at = inner;
+    for _ in 0..inner.len() {
+        let rest = value_end(at, depth)?;
+        if let Some(rest) = past_mark(b']', rest) {
+            return Some(rest);
+        }
+        at = past_mark(b',', rest)?;
+    }
+    None
+}
+
+/// What stands behind the object at the front, whose values have arrays and objects at most so deep.
+#[cycle(values)]
+fn object_end(text: &[u8], depth: u32) -> Option<&[u8]>
+    ensures { option_map (λ r. r.now) result ≡ behind (object_at (value depth) text.now) }
+{
+    let inner = past_mark(b'{', text)?;
+    if let Some(rest) = past_mark(b'}', inner) {
+        return Some(rest);
+    }
+    let mut at = inner;
+    for _ in 0..inner.len() {
+        let value = past_mark(b':', string_end(at)?)?;
+        let rest = value_end(value, depth)?;
+        if let Some(rest) = past_mark(b'}', rest) {
+            return Some(rest);
+        }
+        at = past_mark(b',', rest)?;
+    }
+    None
+}
+
+/// The value that a whole text is: where it stands in the text.
+pub fn whole_value(text: &[u8]) -> Option<&[u8]>
+    ensures { json_of text.now ≡ option_and_then (λ at. found (value 64 at.now)) result }
+{
+    let value = past_space(text);
+    let rest = value_end(value, DEEPEST)?;
+    if past_space(rest).is_empty() {
+        Some(value)
+    } else {
+        None
+    }
+}
+
+/// The value of the last member of this name in the object at the front, whose values have arrays and objects at most
+/// so deep: where it stands in the text. None where no such object stands there.
+pub fn member<'a>(
+    alloc: Global,
+    text: &'a [u8],
+    name: &[u8],
+    depth: u32,
+) -> Result<Option<&'a [u8]>, AllocError>
+    ensures { IfOk result (λ place. member_of name.now (found (value (depth + 1) text.now))
+        ≡ option_and_then (λ at. found (value depth at.now)) place) }
+{
+    if !begins(b'{', text) {
+        return Ok(None);
+    }
+    let Some(inner) = past_mark(b'{', text) else {
+        return Ok(None);
+    };
+    if let Some(_end) = past_mark(b'}', inner) {
+        return Ok(None);
+    }
+    let mut place = None;
+    let mut at = inner;
+    for _ in 0..inner.len() {
+        let Some((other, rest)) = read_string(alloc, at)? else {
+            return Ok(None);
+        };
+        let Some(value) = past_mark(b':', rest) else {
+            return Ok(None);
+        };
+        let Some(rest) = value_end(value, depth) else {
+            return Ok(None);
+        };
+        if other.as_slice() == name {
+            place = Some(value);
+        }
+        if let Some(_end) = past_mark(b'}', rest) {
+            return Ok(place);
+        }
+        let Some(next) = past_mark(b',', rest) else {
+            return Ok(None);
+        };
+        at = next;
+    }
+    Ok(None)
+}
+
+/// The three values of a text that is an array of exactly three: where they stand in the text.
+pub fn whole_triple(text: &[u8]) -> Option<(&[u8], &[u8], &[u8])>
+    ensures { MatchOption result (triple_of (json_of text.now) ≡ None)
+        (λ at. (triple_of (json_of text.now) ≡ tripled (found (value 63 at.0.now))
+        (found (value 63 at.1.now)) (found (value 63 at.2.now)))
+        × (is_some (triple_of (json_of text.now)) ≡ true)) }
+{
+    let array = past_space(text);
+    if !begins(b'[', array) {
+        return None;
+    }
+    let Some(first) = past_mark(b'[', array) else {
+        return None;
+    };
+    if let Some(_end) = past_mark(b']', first) {
+        return None;
+    }
+    if first.len() < 3 {
+        return None;
+    }
+    let Some(behind_first) = value_end(first, DEEPEST - 1) else {
+        return None;
+    };
+    let Some(second) = past_mark(b',', behind_first) else {
+        return None;
+    };
+    let Some(behind_second) = value_end(second, DEEPEST - 1) else {
+        return None;
+    };
+    let Some(third) = past_mark(b',', behind_second) else {
+        return None;
+    };
+    let Some(behind_third) = value_end(third, DEEPEST - 1) else {
+        return None;
+    };
+    let Some(rest) = past_mark(b']', behind_third) else {
+        return None;
+    };
+    if past_space(rest).is_empty() {
+        Some((first, second, third))
+    } else {
+        None
+    }
+}
