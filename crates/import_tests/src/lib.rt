@@ -2,6 +2,8 @@
 #![tactic(auto)]
 
 #[cfg(test)]
+mod asciicasts;
+#[cfg(test)]
 mod forms;
 #[cfg(test)]
 mod told;

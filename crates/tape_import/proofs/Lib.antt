@@ -1,3 +1,4 @@
+mod CastLemmas
 mod DateLemmas
 mod FactsLemmas
 mod HeaderLemmas

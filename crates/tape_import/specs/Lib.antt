@@ -6,3 +6,6 @@ pub mod Ttyrec
 pub mod Form
 pub mod Imported
 pub mod Kept
+pub mod Asciicast
+pub mod ImportedCast
+pub mod KeptCast

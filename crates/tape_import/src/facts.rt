@@ -48,7 +48,7 @@ pub fn size_of(columns: Option<u64>, lines: Option<u64>) -> Option<Size>
 }
 
 /// What stands before and behind the first such byte, where there is one.
-fn parted(text: &[u8], byte: u8) -> Option<(&[u8], &[u8])>
+pub fn parted(text: &[u8], byte: u8) -> Option<(&[u8], &[u8])>
     ensures { MatchOption result (parted byte text.now ≡ None)
         (λ cut. parted byte text.now ≡ Some (cut.0.now, cut.1.now)) }
 {

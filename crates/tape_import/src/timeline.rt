@@ -2,7 +2,7 @@
 ghost use Rattle.std.specs.Prelude.{◌≡◌, ◌≤◌, ◌<◌, None, OnErr, OnOk, Some, length};
 ghost use Rattle.tape_core.specs.Seconds.{last_moment};
 ghost use Rattle.tape_import.specs.Kept.{AreWithin};
-ghost use Rattle.tape_import.specs.Outputs.{none_yet, output_fault, passed, with_output};
+ghost use Rattle.tape_import.specs.Outputs.{none_yet, output_fault, passed, reached, with_output};
 
 use crate::fault::EventFault;
 use std::alloc::{AllocError, Global};
@@ -52,6 +52,13 @@ impl Timeline {
         ensures { self.new ≡ passed us self.old }
     {
         self.moment = self.moment.saturating_add(us).min(LAST_MOMENT);
+    }
+
+    /// Waits for a moment, unless it has come.
+    pub fn reach(&mut self, us: u64)
+        ensures { self.new ≡ reached us self.old }
+    {
+        self.moment = self.moment.max(us.min(LAST_MOMENT));
     }
 
     /// The fault of an output of so many bytes, if it has one.
