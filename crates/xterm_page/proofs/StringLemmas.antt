@@ -15,7 +15,7 @@ use Rattle.xterm_rows.specs.RowText.{printed}
 use Rattle.xterm_rows.specs.Letters.{AreLetters, IsLetter}
 use Rattle.xterm_rows.specs.Runs.{begins, cell_behind}
 use Rattle.xterm_rows.proofs.LetterLemmas.{none_begin}
-use Rattle.xterm_print.proofs.PlainLemmas.{printed_open}
+use Rattle.xterm_rows.proofs.TextLemmas.{printed_open}
 use Rattle.screen_page.specs.EntryText.{comma_number, string_byte}
 use Rattle.screen_page.proofs.StringLemmas.{narrow_character, wide_character}
 use Rattle.xterm_page.specs.EntryText.{numbers_text}

@@ -10,6 +10,5 @@ mod StylingLemmas
 mod RunLemmas
 mod PieceLemmas
 mod ErasedLemmas
-mod TrimmedLemmas
 mod MovedLemmas
 mod WithinLemmas

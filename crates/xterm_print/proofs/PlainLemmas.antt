@@ -1,16 +1,13 @@
--- The plain print line by line, and a cell character by character.
-use Rattle.std.proofs.Common.{◌≡◌, ℕ, zero, suc, ◌+◌, ◌-◌, ◌≤◌, ◌<◌, List, [], ◌∷◌, ◌++◌, length, take, drop, get_or, sym, ◌∙◌, ap, append-nil, arith, encode_utf8, true, false, if◌then◌else◌}
+-- The plain print line by line.
+use Rattle.std.proofs.Common.{◌≡◌, ℕ, zero, suc, ◌+◌, ◌-◌, ◌≤◌, ◌<◌, List, [], ◌∷◌, ◌++◌, length, take, drop, get_or, sym, ◌∙◌, ap, append-nil, arith}
 use Rattle.std.specs.List.{flat_map}
 use Rattle.std.proofs.lemmas.List.{length-drop, take_more, take_all}
 use Rattle.std.proofs.lemmas.Grind.{flat_map-append}
-use Rattle.std.proofs.lemmas.Str.{encode_ascii}
 use Rattle.std.proofs.Math.Seq.{take-add}
-use Rattle.sheet.specs.declared.rendition.Rendition.{Rendition}
-use Rattle.sheet.specs.Cells.{Cell, covered_kind, is_covered}
+use Rattle.sheet.specs.Cells.{Cell}
 use Rattle.sheet.specs.Grid.{row_at}
 use Rattle.sheet.specs.Table.{nth}
-use Rattle.xterm_rows.specs.Letters.{IsLetter}
-use Rattle.xterm_rows.specs.RowText.{characters, printed, printed_line}
+use Rattle.xterm_rows.specs.RowText.{printed_line}
 
 -- the text of the first elements of a list
 abbrev pub first_texts : {X : Type 0} → (X → List ℕ) → List X → ℕ → List ℕ
@@ -41,27 +38,6 @@ first_lines_more rows line low high =
 -- all elements
 pub first_all : {X : Type 0} (f : X → List ℕ) (xs : List X) (n : ℕ) → length xs ≤ n → first_texts f xs n ≡ flat_map f xs
 first_all f xs n all = ap (flat_map f) (take_all n xs all)
-
--- a right half has no text ..
-pub printed_covered : (cell : Cell) → is_covered cell ≡ true → [] ≡ printed cell
-unfolding printed characters
-printed_covered cell e = sym (ap (λ b. flat_map encode_utf8 (if b then [] else cell.character ∷ cell.marks)) e)
-
--- .. and another cell that of its character and its marks
-pub printed_open : (cell : Cell) (n : ℕ) → is_covered cell ≡ false → length cell.marks ≤ n
-    → encode_utf8 cell.character ++ flat_map encode_utf8 (take n cell.marks) ≡ printed cell
-unfolding printed characters
-printed_open cell n e all =
-    ap (λ t. encode_utf8 cell.character ++ t) (first_all encode_utf8 cell.marks n all)
-    ∙ sym (ap (λ b. flat_map encode_utf8 (if b then [] else cell.character ∷ cell.marks)) e)
-
--- a letter has its one byte
-pub letter_printed : (rendition : Rendition) (cell : Cell) → IsLetter rendition cell → printed cell ≡ cell.character ∷ []
-unfolding is_covered
-letter_printed rendition cell is =
-    let c = cell.character in
-    let few : length cell.marks ≤ 0 = omega (arith, ap (λ (marks : List ℕ). length marks) is.alone) in
-    sym (printed_open cell 0 (ap covered_kind is.kind) few) ∙ append-nil (encode_utf8 c) ∙ encode_ascii c is.low
 
 -- what is left of a list, as a slice is
 pub rest_whole : {X : Type 0} (xs : List X) (n : ℕ) → take (length xs - n) (drop n xs) ≡ drop n xs

@@ -13,7 +13,7 @@ use tape_core::laws::gives_join;
 use xterm_rows::{is_letter, trimmed};
 
 /// Prints a row in UTF-8 without the spaces at its end, and LF. Behind so many cells all are blank, so they are spaces.
-#[tactic(auto, using(crate::proofs::TrimmedLemmas::trimmed_used), unfolding(xterm_rows::specs::RowText::printed_line))]
+#[tactic(auto, using(xterm_rows::proofs::TrimmedLemmas::trimmed_used), unfolding(xterm_rows::specs::RowText::printed_line))]
 pub fn put_row<W: Write>(cells: &[Cell], used: usize, writer: &mut Watched<W>)
     requires { IsUsed cells.now used }
     ensures { Gave W.contents writer.old writer.new (printed_line cells.now) }

@@ -3,3 +3,5 @@ pub mod GroupLemmas
 pub mod RunLemmas
 pub mod BitLemmas
 pub mod LetterLemmas
+pub mod TextLemmas
+pub mod TrimmedLemmas

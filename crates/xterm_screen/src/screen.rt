@@ -5,6 +5,7 @@ ghost use Rattle.sheet.specs.Cells.{Cell};
 ghost use Rattle.sheet.specs.Grid.{IsUsed, is_touched, row_at};
 ghost use Rattle.sheet.specs.Halves.{Whole};
 ghost use Rattle.xterm_screen.specs.Picture.{KeepsTold, Sound, Told, first_tabs, reset};
+ghost use Rattle.xterm_screen.specs.Sheets.{main_rows};
 ghost use Rattle.xterm_screen.specs.Tabs.{stop_at};
 
 mod cells;
@@ -153,6 +154,39 @@ impl Screen {
         ensures { IsUsed (row_at self.now.picture.rows line) result }
     {
         self.shown.used(line)
+    }
+
+    /// The cells of a line of the main sheet, whichever is shown.
+    pub fn main_row(&self, line: u16) -> &[Cell]
+        requires low { 1 ≤ line }
+        requires high { line ≤ self.now.picture.lines }
+        ensures value { result.now ≡ row_at (main_rows self.now.picture) line }
+        ensures columns { length result.now ≡ self.now.picture.columns }
+        ensures whole { Whole result.now }
+    {
+        self.main_sheet().row(line)
+    }
+
+    /// How many of its first cells may be in use: behind them all are blank.
+    pub fn main_used(&self, line: u16) -> usize
+        requires low { 1 ≤ line }
+        requires high { line ≤ self.now.picture.lines }
+        ensures { IsUsed (row_at (main_rows self.now.picture) line) result }
+    {
+        self.main_sheet().used(line)
+    }
+
+    // The main sheet, whichever is shown.
+    fn main_sheet(&self) -> &Sheet
+        ensures rows { result.now.rows ≡ main_rows self.now.picture }
+        ensures columns { result.now.columns ≡ self.now.picture.columns }
+        ensures lines { result.now.lines ≡ self.now.picture.lines }
+    {
+        if self.alternate {
+            &self.other
+        } else {
+            &self.shown
+        }
     }
 
     /// The cursor's line and column.

@@ -22,3 +22,4 @@ pub mod LettersAt
 pub mod Styled
 pub mod Moving
 pub mod Erases
+pub mod BetweenLemmas

@@ -91,14 +91,14 @@ left_by command s sequence = forgotten_if (is_ground sequence) (effect_of effect
 no_control : (byte : ℕ) → is_graphic byte ≡ true → is_control byte ≡ false
 no_control byte is = grind (arith, nat_tests)
 
-no_upper : (sequence : List ℕ) (byte : ℕ) → is_ground sequence ≡ false → (is_ground sequence && nat_le 128 byte) ≡ false
+pub no_upper : (sequence : List ℕ) (byte : ℕ) → is_ground sequence ≡ false → (is_ground sequence && nat_le 128 byte) ≡ false
 no_upper sequence byte pending = simp pending
 
 pub read_here : (s : Console) (sequence : List ℕ) (byte : ℕ) → s.title ≡ false → (is_ground sequence && nat_le 128 byte) ≡ false
     → outcome_of s sequence [] byte ≡ syntax_read s sequence byte
 read_here s sequence byte title low = sym (other s sequence byte title low ∙ first s sequence [] byte refl)
 
-ends_here : (sequence : List ℕ) (byte : ℕ) → is_ground sequence ≡ false → is_graphic byte ≡ true
+pub ends_here : (sequence : List ℕ) (byte : ℕ) → is_ground sequence ≡ false → is_graphic byte ≡ true
     → ends_last sequence byte ≡ is_ground (pending_after Ansi sequence byte)
 ends_here sequence byte pending graphic = let control = no_control byte graphic in simp (control, pending)
 
@@ -125,7 +125,7 @@ begins_in Ground = refl
 begins_in Sequence = refl
 begins_in Text = refl
 
-begins_sequence : (sequence : List ℕ) → (command_of Ansi sequence escape ≡ None) × (pending_after Ansi sequence escape ≡ escape ∷ [])
+pub begins_sequence : (sequence : List ℕ) → (command_of Ansi sequence escape ≡ None) × (pending_after Ansi sequence escape ≡ escape ∷ [])
 unfolding command_of pending_after
 begins_sequence sequence =
     let begin = begins_in (context_of Ansi sequence) in (
@@ -170,25 +170,25 @@ record Played (s : Console) (sequence reports bytes : List ℕ) (command : Optio
       (reports ++ reply_of reply command s)
   sends : sent (behind s sequence reports) bytes ≡ reply_of reply command s
 
-same_mode : (byte : ℕ) → mode_after Ansi Ansi byte ≡ Ansi
+pub same_mode : (byte : ℕ) → mode_after Ansi Ansi byte ≡ Ansi
 same_mode byte = either_mode (byte == escape)
 
-many_modes : (bytes : List ℕ) → mode_after_bytes Ansi Ansi bytes ≡ Ansi
+pub many_modes : (bytes : List ℕ) → mode_after_bytes Ansi Ansi bytes ≡ Ansi
 many_modes [] = refl
 many_modes (byte ∷ rest) = ap (λ (m : Mode). mode_after_bytes Ansi m rest) (same_mode byte) ∙ many_modes rest
 
-pending_on : (sequence rest : List ℕ) (byte : ℕ)
+pub pending_on : (sequence rest : List ℕ) (byte : ℕ)
     → pending_after_bytes Ansi Ansi sequence (byte ∷ rest) ≡ pending_after_bytes Ansi Ansi (pending_after Ansi sequence byte) rest
 pending_on sequence rest byte = ap (λ (m : Mode). pending_after_bytes Ansi m (pending_after Ansi sequence byte) rest) (same_mode byte)
 
-gives_on : (sequence rest : List ℕ) (byte : ℕ) (command : Option Command) → Gives Ansi (mode_after Ansi Ansi byte) (pending_after Ansi sequence byte) rest command
+pub gives_on : (sequence rest : List ℕ) (byte : ℕ) (command : Option Command) → Gives Ansi (mode_after Ansi Ansi byte) (pending_after Ansi sequence byte) rest command
     → Gives Ansi Ansi (pending_after Ansi sequence byte) rest command
 gives_on sequence rest byte command gives =
     subst (λ (m : Mode). Gives Ansi m (pending_after Ansi sequence byte) rest command) (same_mode byte) gives
 
 module _ (laws : LawsBelow) where
   -- on ground a graphic character would be shown
-  none_shown : (sequence rest : List ℕ) (byte : ℕ) (command : Option Command) → is_ground sequence ≡ true → is_graphic byte ≡ true
+  pub none_shown : (sequence rest : List ℕ) (byte : ℕ) (command : Option Command) → is_ground sequence ≡ true → is_graphic byte ≡ true
       → Gives Ansi Ansi sequence (byte ∷ rest) command → IsNoShow command → ⊥
   none_shown [] [] byte command ground graphic gives none =
       subst IsNoShow (sym gives ∙ (laws.graphic_is_shown Ansi byte graphic).0) none
@@ -269,7 +269,7 @@ module _ (laws : LawsBelow) where
   -- ---- tokens
 
   -- ground can't go on by graphic characters
-  no_run : (sequence bytes run : List ℕ) (state : ParserState) → Stands sequence state → GoesOn state bytes → IsRun sequence bytes run → ⊥
+  pub no_run : (sequence bytes run : List ℕ) (state : ParserState) → Stands sequence state → GoesOn state bytes → IsRun sequence bytes run → ⊥
   no_run sequence [] run state stands goes is = goes
   no_run sequence (byte ∷ rest) run state stands goes is =
       let graphic = (and_parts (is_graphic byte) (list_all is_graphic rest) is.graphic).0 in

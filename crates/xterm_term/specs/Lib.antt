@@ -20,3 +20,4 @@ pub mod Reading
 pub mod Law
 pub mod Ahead
 pub mod Spelled
+pub mod Between

@@ -6,6 +6,7 @@ ghost use Rattle.characters.specs.Utf8.{bytes_of};
 ghost use Rattle.xterm_term.specs.Reading.{GoesOn};
 
 mod ahead;
+mod between;
 mod erases;
 mod moving;
 mod packed;

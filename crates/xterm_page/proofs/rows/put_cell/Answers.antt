@@ -4,7 +4,7 @@ use Rattle.std.proofs.lemmas.List.Concat.{flat_map-append}
 use Rattle.held.specs.Held.{Wrote}
 use Rattle.sheet.specs.Cells.{is_covered}
 use Rattle.screen_page.specs.EntryText.{string_byte}
-use Rattle.xterm_print.proofs.PlainLemmas.{printed_covered, printed_open}
+use Rattle.xterm_rows.proofs.TextLemmas.{printed_covered, printed_open}
 use Rattle.xterm_page.proofs.StringLemmas.{text_more}
 use Rattle.held.proofs.HeldLemmas.{wrote_both, wrote_none}
 use Rattle.xterm_page.proofs.rows.put_cell.Goals as goal

@@ -1,7 +1,7 @@
 use Rattle.std.proofs.Common.{subst, ap, arith, sym, true, false, ◌≡◌, ◌≤◌, ◌∙◌, [], ◌∷◌, length}
 use Rattle.tape_core.specs.Devices.{Gave}
 use Rattle.sheet.specs.Cells.{is_covered}
-use Rattle.xterm_print.proofs.PlainLemmas.{letter_printed, printed_covered, printed_open}
+use Rattle.xterm_rows.proofs.TextLemmas.{letter_printed, printed_covered, printed_open}
 use Rattle.xterm_print.proofs.rows.put_cell.Goals as goal
 
 pub returns-then-is_letter : goal.returns-then-is_letter
