@@ -5,3 +5,5 @@
 
 #[cfg(test)]
 mod vt100;
+#[cfg(test)]
+mod xterm;

@@ -5,10 +5,11 @@ use Rattle.chunk_walk.specs.Stops.{StopsPrint}
 use Rattle.chunk_walk.specs.declared.stop.WalkFault.{WalkFault}
 use Rattle.chunk_walk.specs.declared.stop.WalkFault.TheVariants as stops
 use Rattle.held.specs.Held.{Holds, Wrote}
+use Rattle.held.proofs.HeldLemmas.{wrote_both}
 use Rattle.tape_core.specs.declared.devices.Watched.{Watched}
 use Rattle.tape_core.specs.Devices.{Gave, TookPart, has_failed}
 use Rattle.tape_core.proofs.GaveLemmas.{gave_early}
-use Rattle.transcripts.specs.Told.{Back, StopsIn, Tells, TellsFront, Told}
+use Rattle.transcripts.specs.Told.{Back, BeginsRow, EndsRow, PutsPart, StopsIn, Tells, TellsFront, Told}
 use Rattle.transcripts.specs.Transcript.{text_of, without_blank_end}
 use Rattle.transcripts.proofs.RowLemmas.{blank_ends, ink_ends, text_blank, text_front, text_ink}
 
@@ -48,6 +49,28 @@ module _ {W : Type 0} {contents : W → Option (List ℕ)} where
       → Wrote contents a x.held b y.held (replicate x.blank 10 ++ (text ++ 10 ∷ [])) → Tells contents a x b y (text ∷ [])
   tells_text a b x y [] some none wrote = absurd (omega arith)
   tells_text a b x y (byte ∷ text) some none wrote = tells_ink a b x y byte text none wrote
+
+  -- ---- a row in parts
+
+  pub puts_none : (a : Watched W) (x : Back) → PutsPart contents a x a x []
+  puts_none a x start back text begun = subst (BeginsRow contents start back a x) (sym (append-nil text)) begun
+
+  pub puts_both : {a b c : Watched W} {x y z : Back} {s t : List ℕ} → PutsPart contents b y c z t → PutsPart contents a x b y s
+      → PutsPart contents a x c z (s ++ t)
+  puts_both {a} {b} {c} {x} {y} {z} {s} {t} second first start back text begun =
+      subst (BeginsRow contents start back c z) (append_assoc text s t) (second start back (text ++ s) (first start back text begun))
+
+  pub puts_behind : (a b : Watched W) (x y : Back) (part : List ℕ) → y.blank ≡ x.blank → Wrote contents a x.held b y.held part
+      → PutsPart contents a x b y part
+  puts_behind a b x y part same wrote start back text begun = record {
+    wrote = subst (Wrote contents start back.held b y.held) (append_assoc (replicate back.blank 10) text part) (wrote_both wrote begun.wrote);
+    none = same ∙ begun.none;
+  }
+
+  pub ends_behind : (a b : Watched W) (x y : Back) → y.blank ≡ x.blank → Wrote contents a x.held b y.held (10 ∷ []) → EndsRow contents a x b y
+  ends_behind a b x y same wrote start back text some begun =
+      tells_text start b back y text some (same ∙ begun.none)
+      (subst (Wrote contents start back.held b y.held) (append_assoc (replicate back.blank 10) text (10 ∷ [])) (wrote_both wrote begun.wrote))
 
   -- ---- beginnings
 

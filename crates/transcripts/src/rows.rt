@@ -2,7 +2,7 @@
 ghost use Rattle.std.specs.Prelude.{◌≡◌, ◌+◌, ◌∷◌, [], replicate, OnErr, OnOk};
 ghost use Rattle.held.specs.Held.{Wrote};
 ghost use Rattle.tape_core.specs.Devices.{Gave};
-ghost use Rattle.transcripts.specs.Told.{Tells};
+ghost use Rattle.transcripts.specs.Told.{BeginsRow, EndsRow, PutsPart, Tells};
 
 use arrayvec::ArrayVec;
 use held::{HELD, let_out, put, put_byte};
@@ -53,6 +53,27 @@ impl Rows {
         put(text, &mut self.held, writer);
         put_byte(b'\n', &mut self.held, writer);
         Ok(())
+    }
+
+    /// Begins a row that isn't blank. Its text is put behind this, part by part, and then the row is ended.
+    pub fn begin_row<W: Write>(&mut self, writer: &mut Watched<W>)
+        ensures { BeginsRow W.contents writer.old self.old writer.new self.new [] }
+    {
+        self.begin(writer);
+    }
+
+    /// Puts a part of the text of a row that was begun.
+    pub fn put_part<W: Write>(&mut self, part: &[u8], writer: &mut Watched<W>)
+        ensures { PutsPart W.contents writer.old self.old writer.new self.new part.now }
+    {
+        put(part, &mut self.held, writer);
+    }
+
+    /// Ends a row that was begun, of which some text was put.
+    pub fn end_row<W: Write>(&mut self, writer: &mut Watched<W>)
+        ensures { EndsRow W.contents writer.old self.old writer.new self.new }
+    {
+        put(b"\n", &mut self.held, writer);
     }
 
     /// Tells a blank row.

@@ -1,0 +1,9 @@
+mod PartLemmas
+mod CommandLemmas
+mod PutLemmas
+mod PieceLemmas
+mod RepeatLemmas
+mod RowLemmas
+mod PassLemmas
+mod PlainRows
+mod PlainSteps

@@ -1,0 +1,14 @@
+use Rattle.std.proofs.Common.{subst}
+use Rattle.std.specs.Prelude.{OnErr, OnOk}
+use Rattle.transcripts.specs.Told.{Tells, TellsFront}
+use Rattle.xterm_transcript.proofs.rows.tell_inked.Goals as goal
+
+pub returns-clause-tells : goal.returns-clause-tells
+returns-clause-tells g c =
+    subst (λ rows. OnOk c.tell_rows.result (Tells g.W.Write.contents c.args.writer.now c.args.rows.now c.tell_rows.new.writer c.tell_rows.new.rows rows))
+    c.inked_count.ensures.value c.tell_rows.ensures.tells
+
+pub returns-clause-front : goal.returns-clause-front
+returns-clause-front g c =
+    subst (λ rows. OnErr c.tell_rows.result (TellsFront g.W.Write.contents c.args.writer.now c.args.rows.now c.tell_rows.new.writer c.tell_rows.new.rows rows))
+    c.inked_count.ensures.value c.tell_rows.ensures.front
