@@ -39,7 +39,7 @@ demo: bin/typetool
 # A look over shell, Python, layout, the pages and the edits, in seconds and without the program.
 LINTS := tests/edits_apply.py tests/reading.py tests/pages.py 'assets/make_page.py --check' \
 	'assets/make_outlines.py --check' tests/manual.py \
-	tests/plain_import.py tests/runs.sh tests/lint.sh
+	tests/plain_import.py tests/plain_transcript.py tests/runs.sh tests/lint.sh
 
 lint:
 	tests/run.py $(LINTS)
@@ -61,6 +61,7 @@ test:
 		'tests/make_recordings.py bin/typetool' \
 		'tests/fuzz.py bin/typetool 2000' \
 		'tests/today_fuzz.py bin/typetool 1000' \
+		'tests/transcripts.py bin/typetool 1000' \
 		'tests/today_recordings.py bin/typetool' \
 		'tests/linear.py bin/typetool' \
 		'tests/pictures.py bin/typetool' \
@@ -86,6 +87,7 @@ soak: bin/typetool
 		'tests/whole.py bin/typetool 1000' \
 		'tests/fuzz.py bin/typetool 20000' \
 		'tests/today_fuzz.py bin/typetool 10000' \
+		'tests/transcripts.py bin/typetool 3000' \
 		'tests/archive.py bin/typetool' \
 		tests/refused.py \
 		tests/edits.sh

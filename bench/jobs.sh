@@ -1,10 +1,10 @@
 #!/usr/bin/env bash
 # Processor times of the jobs on 64 MiB of the shipped recordings in chunks of 80 bytes, each over another job's on the
 # same pair: `changes` over the whole recording over `screen` at its end, `find` over `changes` for a text that never
-# stands there and for one that comes and goes, `picture` and `check` over `screen`, `page` and `cast` over `changes`,
-# `info` over reading the pair (`due` at a moment before its first chunk), `save` without edits over `due` at the end,
-# and `screen` at the end over a session that stores no terminals. Last it counts what `find` takes where its text stands
-# often, which takes valgrind. Usage: bench/jobs.sh [PROGRAM]
+# stands there and for one that comes and goes, `picture`, `transcript` and `check` over `screen`, `page` and `cast` over
+# `changes`, `info` over reading the pair (`due` at a moment before its first chunk), `save` without edits over `due` at
+# the end, and `screen` at the end over a session that stores no terminals. Last it counts what `find` takes where its
+# text stands often, which takes valgrind. Usage: bench/jobs.sh [PROGRAM]
 set -euo pipefail
 here=$(realpath "$(dirname "$0")")
 program=$(realpath "${1:-$here/../bin/typetool}")
@@ -31,6 +31,7 @@ for _ in 1 2 3 4 5; do
     measure find_none end.requests "$program" find 'nowhere' big.script big.timing
     measure find_some end.requests "$program" find 'Seek to' big.script big.timing
     measure picture end.requests "$program" picture "${end[@]}"
+    measure transcript end.requests "$program" transcript big.script big.timing
     measure page end.requests "$program" page big.script big.timing
     measure cast end.requests "$program" cast big.script big.timing
     # It ends with 1, since it notes sequences that nothing plays, and with nothing else.
@@ -53,6 +54,7 @@ ratio changes screen 1.25
 ratio find_none changes 1.5
 ratio find_some changes 1.5
 ratio picture screen 1.05
+ratio transcript screen 2
 ratio page changes 2.5
 ratio cast changes 2.5
 ratio check screen 1

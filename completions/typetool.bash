@@ -1,19 +1,11 @@
 # shellcheck shell=bash
-# Completion of typetool's command line for bash.
+# Completion of typetool's command line for bash: the commands and flags that its help tells.
 _typetool() {
-    local word=${COMP_WORDS[COMP_CWORD]} last=${COMP_WORDS[COMP_CWORD - 1]} flags
-    local -A taken=(
-        [due]='--at --help' [info]='--help' [check]='--profile --size --help' [screen]='--at --escaped --profile --size --help' [save]='--help'
-        [picture]='--at --profile --size --help' [page]='--profile --size --title --help' [cast]='--profile --size --help'
-        [mend]='--last --headless --help' [redact]='--profile --size --help'
-        [changes]='--from --to --profile --size --help' [find]='--from --to --profile --size --help' [reports]='--at --profile --size --help' [session]='--every --profile --size --help'
-    )
-    if [ "$COMP_CWORD" = 1 ]; then
-        mapfile -t COMPREPLY < <(compgen -W "${!taken[*]} help --help --version" -- "$word")
-        return
-    fi
-    if [ "${COMP_WORDS[1]}" = help ]; then
-        mapfile -t COMPREPLY < <(compgen -W "${!taken[*]}" -- "$word")
+    local word=${COMP_WORDS[COMP_CWORD]} last=${COMP_WORDS[COMP_CWORD - 1]} command=${COMP_WORDS[1]} words
+    if [ "$COMP_CWORD" = 1 ] || [ "$command" = help ]; then
+        words=$(typetool help 2>/dev/null | sed -n '/^Commands:/,/^$/s/^  \([a-z]*\) .*/\1/p')
+        if [ "$COMP_CWORD" = 1 ]; then words="$words --help --version"; else words=${words//help/}; fi
+        mapfile -t COMPREPLY < <(compgen -W "$words" -- "$word")
         return
     fi
     # bash cuts a word at its =, as in --profile=vt100
@@ -27,9 +19,9 @@ _typetool() {
     --size) mapfile -t COMPREPLY < <(compgen -W '80x24 100x30 120x40 132x43 160x50' -- "$word") ;;
     --at | --from | --to | --every | --title) COMPREPLY=() ;;
     *)
-        flags=${taken[${COMP_WORDS[1]}]-}
         if [[ $word == -* ]]; then
-            mapfile -t COMPREPLY < <(compgen -W "$flags" -- "$word")
+            words=$(typetool help "$command" 2>/dev/null | sed -n 's/^  *\(-h, \)\{0,1\}\(--[a-z]*\) .*/\2/p')
+            mapfile -t COMPREPLY < <(compgen -W "$words" -- "$word")
         else
             mapfile -t COMPREPLY < <(compgen -f -- "$word")
         fi

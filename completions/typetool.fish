@@ -1,31 +1,23 @@
-# Completion of typetool's command line for fish.
-set -l commands due info check screen picture changes find reports page cast save mend redact session
-set -l alone "not __fish_seen_subcommand_from $commands help"
+# Completion of typetool's command line for fish: the commands that its help tells, with their sentences, and their flags.
+function __typetool_commands
+    typetool help 2>/dev/null | string match -rg '^  ([a-z]+  .*)' | string replace -r '  +' \t
+end
+function __typetool_has
+    set -l words (commandline -opc)
+    test (count $words) -gt 1; and typetool help $words[2] 2>/dev/null | string match -qr "^ +(-h, )?--$argv[1] "
+end
+set -l alone 'test (count (commandline -opc)) = 1'
 complete -c typetool -n 'not __fish_seen_subcommand_from help' -s h -l help -d 'Print help'
 complete -c typetool -n $alone -s V -l version -d 'Print version'
-complete -c typetool -n $alone -f -a help -d 'Help of a command'
-complete -c typetool -n '__fish_seen_subcommand_from help' -f -a "$commands"
-complete -c typetool -n $alone -f -a due -d 'Raw bytes by a moment'
-complete -c typetool -n $alone -f -a info -d 'Chunks, bytes and length'
-complete -c typetool -n $alone -f -a check -d 'What the recording says of itself'
-complete -c typetool -n $alone -f -a screen -d 'The screen at a moment'
-complete -c typetool -n $alone -f -a picture -d 'The screen at a moment, as SVG'
-complete -c typetool -n $alone -f -a changes -d 'Lines that each chunk changes'
-complete -c typetool -n $alone -f -a find -d 'When a text stood on the screen'
-complete -c typetool -n $alone -f -a reports -d 'What the terminal has answered'
-complete -c typetool -n $alone -f -a page -d 'The recording as an HTML file'
-complete -c typetool -n $alone -f -a cast -d 'The recording as an asciicast'
-complete -c typetool -n $alone -f -a save -d 'Edits, written back'
-complete -c typetool -n $alone -f -a mend -d 'All that can be read, written anew'
-complete -c typetool -n $alone -f -a redact -d 'Both files without a text'
-complete -c typetool -n $alone -f -a session -d 'Answers to requests'
-complete -c typetool -n '__fish_seen_subcommand_from due screen picture reports' -x -l at -d 'The moment, in seconds'
-complete -c typetool -n '__fish_seen_subcommand_from screen' -l escaped -d 'A text that draws the screen again'
-complete -c typetool -n '__fish_seen_subcommand_from mend' -l last -d 'Begin at the last session'
-complete -c typetool -n '__fish_seen_subcommand_from mend' -l headless -d 'Put a header line before the typescript'
-complete -c typetool -n '__fish_seen_subcommand_from changes find' -x -l from -d 'Chunks that are due after this, in seconds'
-complete -c typetool -n '__fish_seen_subcommand_from changes find' -x -l to -d 'Chunks that are due by this, in seconds'
-complete -c typetool -n '__fish_seen_subcommand_from check screen picture changes find reports page cast redact session' -x -l profile -a 'vt100 vt102 xterm' -d 'Which terminal plays'
-complete -c typetool -n '__fish_seen_subcommand_from check screen picture changes find reports page cast redact session' -x -l size -a '80x24 100x30 120x40 132x43 160x50' -d 'Columns, x and lines of the terminal of today'
-complete -c typetool -n '__fish_seen_subcommand_from page' -x -l title -d 'The title of the page'
-complete -c typetool -n '__fish_seen_subcommand_from session' -x -l every -d 'Chunks between terminals that are kept'
+complete -c typetool -n $alone -f -a '(__typetool_commands)'
+complete -c typetool -n '__fish_seen_subcommand_from help' -f -a '(__typetool_commands | string match -v "help*")'
+complete -c typetool -n '__typetool_has at' -x -l at -d 'The moment, in seconds'
+complete -c typetool -n '__typetool_has escaped' -l escaped -d 'A text that draws the screen again'
+complete -c typetool -n '__typetool_has last' -l last -d 'Begin at the last session'
+complete -c typetool -n '__typetool_has headless' -l headless -d 'Put a header line before the typescript'
+complete -c typetool -n '__typetool_has from' -x -l from -d 'Chunks that are due after this, in seconds'
+complete -c typetool -n '__typetool_has to' -x -l to -d 'Chunks that are due by this, in seconds'
+complete -c typetool -n '__typetool_has profile' -x -l profile -a 'vt100 vt102 xterm' -d 'Which terminal plays'
+complete -c typetool -n '__typetool_has size' -x -l size -a '80x24 100x30 120x40 132x43 160x50' -d 'Columns, x and lines of the terminal of today'
+complete -c typetool -n '__typetool_has title' -x -l title -d 'The title of the page'
+complete -c typetool -n '__typetool_has every' -x -l every -d 'Chunks between terminals that are kept'

@@ -338,6 +338,14 @@ def try_table(archive):
     check("a table", told, tagged(rows.items()))
 
 
+def try_transcripts(archive):
+    asked = archive.asked("transcript")
+    rows = {name: enumerate(out.split("\n")[:-1], 1) for name, (_, out, _) in asked.items()}
+    found = {name: "".join(f"{number}:{row}\n" for number, row in told if "err" in row) for name, told in rows.items()}
+    check("transcripts: status", archive.run(5), min(sum(map(bool, archive.told.values())), 101))
+    check("transcripts: what was found", lines_of(archive.file("found")), tagged(found.items()))
+
+
 def try_wrong(program):
     """A folder that can't be read, a timing that is missing, a full disk: each is told by name, and so is the rest."""
     with tempfile.TemporaryDirectory(prefix="archive-") as place:
@@ -393,6 +401,7 @@ def main():
             try_parallel(archive, asked)
             try_resumed(archive, asked)
             try_table(archive)
+            try_transcripts(archive)
             try_wrong(program)
             try_elsewhere(archive, asked)
     return skip.end(passed, failed)
@@ -404,7 +413,7 @@ def try_elsewhere(archive, asked):
         skip.skip("asking on several machines", "openssh-server")
     else:
         with machines(archive):
-            compare(archive, "machines", archive.run(5), asked)
+            compare(archive, "machines", archive.run(6), asked)
             hosts = {line.split("\t")[1] for line in archive.file("log").splitlines()[1:]}
             check("machines: who was asked", hosts, {"alpha", "beta"})
     missing = [name for name in ("munged", "slurmctld", "slurmd", "sbatch") if shutil.which(name, path=SBIN) is None]
@@ -412,7 +421,7 @@ def try_elsewhere(archive, asked):
         skip.skip("asking on a cluster", " and ".join(missing))
         return
     with cluster(archive):
-        status = archive.run(6)
+        status = archive.run(7)
     for name in ("found", "told"):
         texts = [read(path) for path in sorted(glob.glob(f"{archive.place}/{name}-*"))]
         check(f"a cluster: tasks that {name}", len(texts), 8)

@@ -83,6 +83,21 @@ def named(n):
     return HEADER + b"x" * n, names + b"O 0.001 1\n" * n
 
 
+def erased(n):
+    """A letter on the last line and an erased display by turns, in one chunk."""
+    return [b"\x1b[24;1H" + b"a\x1b[2J" * n]
+
+
+def repeated(n):
+    """Letters that are repeated by a few bytes."""
+    return [b"x\x1b[9999b"] * n
+
+
+def moved_up(n):
+    """A letter and a whole screen that moves up by turns."""
+    return [b"a\x1b[99S"] * n
+
+
 def wide(n):
     """Wide characters with marks in colours."""
     return ["\x1b[38;5;%dm日e\u0301".encode() % (at % 256) for at in range(n)]
@@ -99,6 +114,11 @@ RUNS = [
     (("screen", "--at", END, *TODAY), wide, 8000),
     (("screen", "--at", END, *TODAY), resets, 200),
     (("reports", "--at", END, *TODAY), cells, 20000),
+    (("transcript",), cells, 20000),
+    (("transcript",), scrolls, 4000),
+    (("transcript",), erased, 1000),
+    (("transcript", *TODAY), repeated, 50),
+    (("transcript", *TODAY), moved_up, 500),
     (("changes", "--to", END), cells, 8000),
     (("changes", "--to", END), scrolls, 1500),
     (("find", "no such text"), zeros, 300),

@@ -5,8 +5,8 @@
 
 The page has each command with its sentence, each flag and each argument with its text, each request and fault, and
 no command or flag besides, and the sections that people look for; man finds nothing wrong with it. Each help text ends
-with where the page is found. bash and fish offer just the commands, and for each command just its flags. The last line
-is 'N passed, M failed'.
+with where the page is found. bash, fish and zsh offer just the commands, and for each command just its flags. The last
+line is 'N passed, M failed'.
 """
 import glob
 import os
@@ -102,13 +102,29 @@ def warnings():
     check("man's warnings", (told.returncode, told.stderr), (0, ""))
 
 
-# How a shell is asked for what it offers behind some words; each prints a word a line.
+# How a shell is asked for what it offers behind some words; each prints a word a line. The help is that of tests/help.
 BASH = """
+typetool() { cat "tests/help/${2:-typetool}.txt"; }
 source completions/typetool.bash
 COMP_WORDS=("$@"); COMP_CWORD=$(($# - 1)); _typetool
 printf '%s\\n' "${COMPREPLY[@]}"
 """
-FISH = "source completions/typetool.fish; complete --do-complete (string join ' ' -- $argv)"
+FISH = """
+function typetool
+    cat tests/help/(test (count $argv) -gt 1; and echo $argv[2]; or echo typetool).txt
+end
+source completions/typetool.fish
+complete --do-complete (string join ' ' -- $argv)
+"""
+# zsh's own functions need a terminal: these print what they are given.
+ZSH = """
+typetool() { cat "tests/help/${2:-typetool}.txt" }
+_describe() { print -l -- ${(P)2} }
+_arguments() { if [[ $1 == -C ]]; then state=$asked[1] line=($asked[2]); else print -l -- "$@"; fi }
+asked=("$@")
+complete_words() { source completions/_typetool }
+complete_words
+"""
 
 
 def offered(shell, *words):
@@ -131,7 +147,7 @@ def in_shells():
     for words, wanted in ((["="], {"vt100", "vt102", "xterm"}), (["=", "vt"], {"vt100", "vt102"})):
         got = offered("bash", "typetool", "find", "--profile", *words)
         check(f"bash: --profile{''.join(words)}", got, wanted)
-    for command in "check", "screen", "picture", "changes", "find", "reports", "page", "cast", "redact", "session":
+    for command in (command for command, text in texts.items() if "--profile" in flags_of(text)):
         of_today = offered("bash", "typetool", command, "--profile", "")
         check(f"bash: profiles of {command}", of_today, {"vt100", "vt102", "xterm"})
     check("bash: sizes", offered("bash", "typetool", "page", "--size", "1"), {"100x30", "120x40", "132x43", "160x50"})
@@ -145,19 +161,29 @@ def in_shells():
     check("bash: no moments", offered("bash", "typetool", "due", "--at", ""), set())
 
 
+def told_to_zsh(*asked):
+    """What zsh's functions are given where so much of a line was read."""
+    told = subprocess.run(["zsh", "-f", "-c", ZSH, "zsh", *asked], cwd=TOP, capture_output=True, text=True)
+    return told.stdout + told.stderr
+
+
 def in_zsh():
-    """zsh's completion needs a terminal to be tried; its text has the commands and the flags."""
-    text = read(os.path.join(TOP, "completions", "_typetool"))
-    for command, words in helps().items():
-        arm = re.search(rf"^    {command}\)(.*?);;", text, flags=re.MULTILINE | re.DOTALL)
-        said = arm[1] if arm else ""
-        flags = set(re.findall(r"--[a-z]+", said)) | {"--help"} | ({"--profile", "--size"} if "$any" in said else set())
-        check(f"zsh: {command}", flags, flags_of(words))
-        check(f"zsh: {command} is described", f"'{command}:" in text, True)
+    text, commands = read(os.path.join(TOP, "completions", "_typetool")), front()[1]
     check("zsh: sizes", "--size=[columns, x and lines, with --profile xterm]:size:(80x24 " in text, True)
-    if not skip.lacks("zsh", "whether zsh reads its completions"):
-        told = subprocess.run(["zsh", "-n", "completions/_typetool"], cwd=TOP, capture_output=True, text=True)
-        check("zsh: reads", (told.returncode, told.stderr), (0, ""))
+    if skip.lacks("zsh", "what zsh completes"):
+        return
+    told = subprocess.run(["zsh", "-n", "completions/_typetool"], cwd=TOP, capture_output=True, text=True)
+    check("zsh: reads", (told.returncode, told.stderr), (0, ""))
+    for asked in (["command"], ["argument", "help"]):
+        described = dict(line.split(":", 1) for line in told_to_zsh(*asked).splitlines())
+        check("zsh: commands", set(described), commands)
+        check("zsh: what a command does", [name for name, said in described.items() if not said], [])
+    for command, words in helps().items():
+        told = told_to_zsh("argument", command)
+        check(f"zsh: {command}", set(re.findall(r"--[a-z]+", told)), flags_of(words))
+        files = re.findall(r"^  <([A-Z]+)> ", words, flags=re.MULTILINE)
+        places = re.findall(r"^(\d+):", told, flags=re.MULTILINE)
+        check(f"zsh: the words of {command}", places, [str(number + 1) for number in range(len(files))])
 
 
 in_page()

@@ -13,6 +13,8 @@ import subprocess
 import sys
 import tempfile
 
+import commands
+
 program = os.path.abspath(sys.argv[1])
 step = 1024 * (int(sys.argv[2]) if len(sys.argv) > 2 else 256)
 HEADER = b"Script started on X\n"
@@ -66,17 +68,8 @@ def recording(folder):
 REQUESTS = b"insert 0 0.5 %s\ndelete 1 3\nreplace 2 1b5b366e\nretime 1 0.25\ncap 0.5\n" % (b"41" * 100_000)
 QUESTIONS = b"screen 99\nreports 99\nchanges - 99\nscreen 0\nlog\ninfo\n"
 COMMANDS = [
-    (["due", "--at", "99", "s", "t"], b""),
-    (["info", "s", "t"], b""),
-    (["screen", "--at", "99", "s", "t"], b""),
-    (["picture", "--at", "99", "s", "t"], b""),
-    (["check", "s", "t"], b""),
-    (["changes", "--to", "99", "s", "t"], b""),
-    (["find", "line 5", "s", "t"], b""),
+    *(([*words, "s", "t"], b"") for words in commands.reading("99", "line 5") if words != ["session"]),
     (["find", "--profile", "xterm", "line 5", "s", "t"], b""),
-    (["reports", "--at", "99", "s", "t"], b""),
-    (["page", "s", "t"], b""),
-    (["cast", "s", "t"], b""),
     (["save", "s", "t", "s2", "t2"], REQUESTS),
     (["mend", "s", "t", "s2", "t2"], b""),
     (["redact", "line 5", "s", "t", "s2", "t2"], b""),

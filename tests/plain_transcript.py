@@ -1,3 +1,4 @@
+#!/usr/bin/env python3
 """A plain reading of the session as text: the rows that left the screen at its top, and those that stand there.
 
 It is written from docs/TRANSCRIPT.md alone and shares nothing with the program. The terminals are those of
@@ -17,18 +18,18 @@ class Leaving:
 
     def __init__(self, *setup):
         super().__init__(*setup)
-        self.left = []
+        self.rows_left = []
         self.behind_home = False
         self.went_home = False
 
     def leave(self, count):
         """The first rows leave."""
         if self.is_main_shown():
-            self.left += self.main_texts()[:count]
+            self.rows_left += self.main_texts()[:count]
 
     def take_all(self):
         """All rows of the main sheet to the last that isn't blank leave."""
-        self.left += without_blank_end(self.main_texts())
+        self.rows_left += without_blank_end(self.main_texts())
 
     def put(self, *character):
         super().put(*character)
@@ -62,7 +63,7 @@ class Leaving:
 
     def transcript(self):
         """The rows that left, and those that stand."""
-        return self.left + self.main_texts()
+        return self.rows_left + self.main_texts()
 
 
 class Today(Leaving, plain_today.Terminal):
@@ -130,7 +131,7 @@ def transcript(chunks, profile, size=(80, 24), first=None, last=None):
     start = 0 if first is None else min(due_count(chunks, first), end)
     terminal = terminal_of(profile, size)
     terminal.feed(b"".join(data for _, data in chunks[:start]))
-    told = len(terminal.left)
+    told = len(terminal.rows_left)
     terminal.feed(b"".join(data for _, data in chunks[start:end]))
     return "".join(text + "\n" for text in without_blank_end(terminal.transcript()[told:]))
 

@@ -105,11 +105,15 @@ missing='no such file or directory'
 seconds=$(hint 'SECONDS is digits, and a point and digits where wanted: 12.5')
 unwritten="typetool: write fault\n$(hint 'writing standard output')"
 
+# The commands that read a pair and write to standard output alone, as their help tells them, each with what it must have.
+mapfile -t reading < <(sed -n 's/^Usage: typetool \(.*\) <SCRIPT> <TIMING>$/\1/p' "$texts"/*.txt |
+    sed 's/ \[OPTIONS\]//; s/<SECONDS>/1/; s/<TEXT>/a/')
+
 # refused NAME STATUS FAULT HINT SCRIPT TIMING: a damaged pair, which is only told, whatever the command. That of find is
 # no answer.
 refused() {
     local command words wanted
-    for command in 'due --at 1' info 'screen --at 1' 'picture --at 1' check 'changes --to 1' 'find a' 'reports --at 1' page cast session; do
+    for command in "${reading[@]}"; do
         read -ra words <<<"$command"
         wanted=$2
         [ "${words[0]}" != find ] || wanted=3
@@ -446,6 +450,16 @@ printf '%b%b' "$head" "a${E}[m${E}[3;1Hb" >three.script
 printf '0 1\n0 3\n1.5 7\n' >three.timing
 check 'changes by a moment' 0 '0 0.000000 1\n2 1.500000 3\n' '' changes --to 2 three.script three.timing
 
+check 'the session as text' 0 'a\n\nb\n' '' transcript three.script three.timing
+check 'the session as text, by a moment' 0 'a\n' '' transcript --to 1 three.script three.timing
+# On 24 lines the first row leaves at the LF behind 24, the next one at that behind 25, and the others as all is erased.
+printf '%b%b' "$head" "$(printf '%d\\r\\n' $(seq 25))26${E}[2J" >left.script
+printf '0 87\n1 6\n1 4\n' >left.timing
+check 'rows that left' 0 "$(printf '%d\\n' $(seq 26))" '' transcript left.script left.timing
+check 'rows that left after a moment' 0 "$(printf '%d\\n' $(seq 3 26))" '' transcript --from 1.5 left.script left.timing
+check 'rows between two moments' 0 "$(printf '%d\\n' $(seq 2 26))" '' transcript --from 0.5 --to 1 left.script left.timing
+check 'no row' 0 '' '' transcript --to 0 empty.script empty.timing
+
 check 'a text that came' 0 '+ 0 0.000000 1 1 a\n' '' find a three.script three.timing
 check 'a text that came later' 0 '+ 2 1.500000 3 1 b\n' '' find --from 1 --to 1.5 b three.script three.timing
 check 'a text that never came' 1 '' '' find c three.script three.timing
@@ -572,6 +586,7 @@ grep -a '^\[[0-9[]' today.html >out.txt
 verdict 'a page of today' 0 $status \
     '[[12,2],\n[0.000000,0,1,1],\n[0.500000,0,2,6,1,[0,"Tokyo ",512,"東京"],2,[0,"naïve"]]]\n' ''
 check 'changes of today' 0 '0 0.500000 1 2\n' '' changes --to 1 --profile xterm today.script today.timing
+check 'the session as text of today' 0 'Tokyo 東京\nnaïve\n' '' transcript --profile xterm today.script today.timing
 check 'what a terminal of today has answered' 0 '1b5b323b3652\n' '' reports --at 1 --profile xterm today.script today.timing
 asked 'a session of today' 0 'screen 1\nreports 1\nchanges - 1\ninsert 0 0 e697a50d0a\nscreen 0\nscreen 1\nlog\n' \
     'Tokyo 東京\nnaïve\n1b5b323b3652\n0 0.500000 1 2\nend\nok\n日\n\nTokyo 東京\nnaïve\ninsert 0 0.000000 e697a50d0a\nend\n' \
@@ -603,40 +618,17 @@ verdict 'a session without an input to read' 3 $? '' "$unread"
 "$program" session empty.script ab.timing 0>>there >out.txt 2>err.txt
 verdict 'an input is read before the recording' 3 $? '' "$unread"
 : >out.txt
-printf 'info\n' | "$program" session ab.script ab.timing >/dev/full 2>err.txt
-verdict 'a session into a full device' 3 $? '' "$unwritten"
-"$program" changes --to 1 ab.script ab.timing >/dev/full 2>err.txt
-verdict 'changes into a full device' 3 $? '' "$unwritten"
-"$program" picture --at 1 ab.script ab.timing >/dev/full 2>err.txt
-verdict 'a picture into a full device' 3 $? '' "$unwritten"
-"$program" page ab.script ab.timing >/dev/full 2>err.txt
-verdict 'a page into a full device' 3 $? '' "$unwritten"
-"$program" cast ab.script ab.timing >/dev/full 2>err.txt
-verdict 'a cast into a full device' 3 $? '' "$unwritten"
-"$program" find a ab.script ab.timing >/dev/full 2>err.txt
-verdict 'find into a full device' 3 $? '' "$unwritten"
-"$program" find a ab.script ab.timing >&- 2>err.txt
-verdict 'find into a closed output' 3 $? '' "$unwritten"
-printf 'info\n' | "$program" session ab.script ab.timing >&- 2>err.txt
-verdict 'a session into a closed output' 3 $? '' "$unwritten"
-"$program" changes --to 1 ab.script ab.timing >&- 2>err.txt
-verdict 'changes into a closed output' 3 $? '' "$unwritten"
+printf 'info\n' >one.request
+for command in "${reading[@]}"; do
+    read -ra words <<<"$command"
+    "$program" "${words[@]}" ab.script ab.timing <one.request >/dev/full 2>err.txt
+    verdict "${words[0]} into a full device" 3 $? '' "$unwritten"
+    "$program" "${words[@]}" ab.script ab.timing <one.request >&- 2>err.txt
+    verdict "${words[0]} into a closed output" 3 $? '' "$unwritten"
+done
 yes 'screen 9' | head -n 400 >many.requests
 (ulimit -f 1; trap '' XFSZ; exec "$program" session ab.script ab.timing <many.requests >limited.txt 2>err.txt)
 verdict 'a session and a limit on file size' 3 $? '' "$unwritten"
-
-"$program" due --at 1 ab.script ab.timing >/dev/full 2>err.txt
-got=$?
-: >out.txt
-verdict 'a full device' 3 $got '' "$unwritten"
-"$program" screen --at 1 ab.script ab.timing >/dev/full 2>err.txt
-got=$?
-: >out.txt
-verdict 'a screen on a full device' 3 $got '' "$unwritten"
-"$program" due --at 1 ab.script ab.timing >&- 2>err.txt
-got=$?
-: >out.txt
-verdict 'a closed standard output' 3 $got '' "$unwritten"
 
 # Where whoever reads standard output is gone nothing is told.
 # gone NAME WORD..: the status is 3, and nothing stands on standard error.
@@ -647,9 +639,10 @@ gone() {
     : >out.txt
     verdict "nobody reads: $name" 3 "$(cat got)" '' ''
 }
-for words in 'due --at 1' 'screen --at 1' 'picture --at 1' check page cast session; do
-    read -ra words <<<"$words"
-    gone "${words[0]}" "${words[@]}" wide.script wide.timing
+printf 'Script started on X [TERM="xterm" COLUMNS="120" LINES="40"]\nab' >noted.script
+for command in "${reading[@]}"; do
+    read -ra words <<<"$command"
+    gone "${words[0]}" "${words[@]}" noted.script ab.timing
 done
 rm -f new.script new.timing
 gone mend mend cut.script axb.timing new.script new.timing

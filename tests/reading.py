@@ -308,8 +308,9 @@ def pages():
     yield FIND, {key: one for key, one in more.items() if key not in found}, book
     more, book = rests_on(clause_of_find("crates/xterm_print/src/find_lines.rt"))
     yield FIND_TODAY, {key: one for key, one in more.items() if key not in found and key not in today}, book
-    more, book = rests_on(contract_of_transcript(), rows_told("crates/screen_transcript/src/transcribes.rt"))
-    yield TRANSCRIPT, {key: one for key, one in more.items() if key not in found}, book
+    rows = (rows_told(f"crates/{crate}/src/transcribes.rt") for crate in ("screen_transcript", "xterm_transcript"))
+    more, book = rests_on(contract_of_transcript(), *rows)
+    yield TRANSCRIPT, {key: one for key, one in more.items() if key not in found and key not in today}, book
 
 
 def main():

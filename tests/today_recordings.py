@@ -6,10 +6,13 @@
 Each is made by script(1) on a terminal of its own, of a size of its own, in UTF-8 under xterm-256color, while keys are
 typed. At moments spread over it the plain reading (plain_today.py) is compared with tmux (characters and renditions),
 with xterm where there is Xvfb (characters), and with `typetool screen --profile xterm` where the program is named
-(`''` names none). With a FOLDER the recordings stay there as NAME.script and NAME.timing.
+(`''` names none). At the end the plain transcript (plain_transcript.py) is compared with what tmux has kept of the
+session, and with `typetool transcript`. With a FOLDER the recordings stay there as NAME.script and
+NAME.timing.
 
 It takes Debian's tmux, vim, less, mc, dialog, htop, xterm and xvfb. The last line is 'N passed, M failed'.
 """
+import difflib
 import fcntl
 import itertools
 import os
@@ -26,6 +29,7 @@ import time
 import unicodedata
 
 import plain_today
+import plain_transcript
 import skip
 
 program = os.path.abspath(sys.argv[1]) if len(sys.argv) > 1 and sys.argv[1] else None
@@ -244,12 +248,14 @@ def wait_for(path):
         time.sleep(0.02)
 
 
-def screen_of_tmux(data, columns, lines):
+def screen_of_tmux(data, columns, lines, *from_where):
+    """What tmux shows once it has had these bytes, or has kept from somewhere on."""
     tmux = ["tmux", "-u", "-f", "/dev/null", "-L", f"typetool{os.getpid()}.{next(count)}"]
     with tempfile.TemporaryDirectory() as folder:
         command, done = fed(folder, data)
         # Without a status line the window has all lines.
-        words = ["start-server", ";", "set", "-g", "status", "off", ";", "new-session", "-d"]
+        words = ["start-server", ";", "set", "-g", "status", "off", ";", "set", "-g", "history-limit", "100000", ";"]
+        words += ["new-session", "-d"]
         words += ["-x", str(columns), "-y", str(lines), command]
         environ = environment(folder)
         try:
@@ -257,9 +263,10 @@ def screen_of_tmux(data, columns, lines):
             wait_for(done)
             time.sleep(0.2)
             captured = subprocess.run(
-                [*tmux, "capture-pane", "-p", "-e", "-N"], check=True, capture_output=True, env=environ
+                [*tmux, "capture-pane", "-p", "-e", "-N", *from_where], check=True, capture_output=True, env=environ
             )
-            return rows_of(captured.stdout.split(b"\n"), columns, lines)
+            printed = captured.stdout.split(b"\n")
+            return rows_of(printed, columns, len(printed) if from_where else lines)
         finally:
             subprocess.run([*tmux, "kill-server"], capture_output=True, env=environ)
 
@@ -322,6 +329,22 @@ def compare(name, moment, ours, theirs):
         raise Wrong(f"at {moment} {len(differ)} lines differ from {name}, the first is {differ[0] + 1}: {told}")
 
 
+def compare_transcripts(path, columns, lines):
+    """The transcript beside the rows that tmux keeps of the main sheet, without ED with 3, which wipes them there."""
+    data = b"".join(text for _, text in chunks_of(path))
+    kept = screen_of_tmux(data.replace(b"\x1b[3J", b"") + b"\x1b[?1047l", columns, lines, "-S", "-")
+    theirs = plain_transcript.without_blank_end([plain_today.row_text(row) for row in kept])
+    ours = plain_transcript.transcript([(0, data)], "xterm", (columns, lines)).split("\n")[:-1]
+    if ours != theirs:
+        differ = [row for row in difflib.unified_diff(theirs, ours, "tmux", "the transcript", n=0, lineterm="")]
+        raise Wrong("the transcript differs from tmux: " + " / ".join(differ[:9]))
+    if program:
+        words = [program, "transcript", "--profile", "xterm", "--size", f"{columns}x{lines}"]
+        written = subprocess.run([*words, f"{path}.script", f"{path}.timing"], capture_output=True, timeout=PATIENCE)
+        if (written.returncode, written.stdout.decode().split("\n")[:-1]) != (0, ours):
+            raise Wrong(f"typetool has the transcript {written}, wanted {ours}")
+
+
 def moments_of(chunks):
     """Some chunks, spread over all, the last with it."""
     moments = min(MOMENTS, len(chunks))
@@ -369,6 +392,7 @@ def main():
             try:
                 record(folder, name, columns, lines, command, keys)
                 judged(os.path.join(folder, name), columns, lines, server.display)
+                compare_transcripts(os.path.join(folder, name), columns, lines)
                 passed += 1
             except Wrong as wrong:
                 failed += 1

@@ -163,19 +163,7 @@ with_all_subcommands a subs i all le e =
 pub first_named : (s : Subcommand) → find (λ t. bytes_eq (name_in t) (name_in s)) subcommands_in_order ≡ Some s
 unfolding name_in
 first_named Due = refl
-first_named Info = refl
-first_named Check = refl
-first_named Screen = refl
-first_named Picture = refl
-first_named Changes = refl
-first_named Find = refl
-first_named Reports = refl
-first_named Page = refl
-first_named Cast = refl
-first_named Save = refl
-first_named Mend = refl
-first_named Redact = refl
-first_named Session = refl
+first_named s = refl
 
 -- what words mean by the subcommand that clap finds in them
 pub means : (words : List Text) (s : Subcommand) (rows : List Row)
@@ -214,60 +202,32 @@ fails_unread words unread.Size taken meant = (taken, meant)
 fails_unread words unread.Text taken meant = (taken, meant)
 fails_unread words unread.Headers taken meant = (taken, meant)
 
--- a job from a value that was read
-after_read : {A : Type 0} (read : Result A Unreadable) (next : A → Result Job Unreadable) (job : Job) (n : ℕ)
-    → ((x : A) → next x ≡ Ok job → path_count job ≤ n) → after read next ≡ Ok job → path_count job ≤ n
-after_read (Ok x) next job n few e = few x e
-after_read (Err fault) next job n few e = absurd (cc)
+-- whatever job is read, it has at most so many paths
+abbrev HasFew : Result Job Unreadable → ℕ → Type 0
+HasFew read n = (job : Job) → read ≡ Ok job → path_count job ≤ n
 
--- a job of a value that was read
-of_value : {A : Type 0} (read : Result A Unreadable) (job_of : A → Job) (job : Job) (n : ℕ)
-    → ((x : A) → path_count (job_of x) ≤ n) → after read (λ x. Ok (job_of x)) ≡ Ok job → path_count job ≤ n
-of_value (Ok x) job_of job n few e =
-    let same : job_of x ≡ job = cc in
-    subst (λ j. path_count j ≤ n) same (few x)
-of_value (Err fault) job_of job n few e = absurd (cc)
+few_of : (job : Job) (n : ℕ) → path_count job ≤ n → HasFew (Ok job) n
+few_of job n few other e =
+    let same : job ≡ other = cc in
+    subst (λ j. path_count j ≤ n) same few
+
+few_after : {A : Type 0} (read : Result A Unreadable) (next : A → Result Job Unreadable) (n : ℕ)
+    → ((x : A) → HasFew (next x) n) → HasFew (after read next) n
+few_after (Ok x) next n few = few x
+few_after (Err fault) next n few = λ job e. absurd (cc)
+
+-- and no job has more than four
+at_most_four : (job : Job) → path_count job ≤ 4
+at_most_four jobs.Save = lit≤ tt
+at_most_four job = lit≤ tt
 
 -- each subcommand has the paths that its job needs
-pub enough_paths : (s : Subcommand) (rows : List Row) (job : Job) → job_in s rows ≡ Ok job
-    → path_count job ≤ length (paths_in s)
+pub enough_paths : (s : Subcommand) (rows : List Row) → HasFew (job_in s rows) (length (paths_in s))
 unfolding paths_in job_in
-enough_paths Due rows job e = of_value _ (λ at. jobs.Due at) job 2 (λ at. lit≤ tt) e
-enough_paths Info rows job e = let same : jobs.Info ≡ job = cc in subst (λ j. path_count j ≤ 2) same (lit≤ tt)
-enough_paths Check rows job e = of_value _ (λ player. jobs.Check player) job 2 (λ player. lit≤ tt) e
-enough_paths Page rows job e = of_value _ (λ player. jobs.Page player) job 2 (λ player. lit≤ tt) e
-enough_paths Cast rows job e = of_value _ (λ profile. jobs.Cast profile) job 2 (λ profile. lit≤ tt) e
-enough_paths Screen rows job e =
-    let escaped = switch_in (id_in Escaped) rows in
-    after_read (moment_in (id_in At) rows)
-    (λ at. after (player_in rows) (λ player. Ok (jobs.Screen at (print_by escaped player)))) job 2
-    (λ at later. of_value (player_in rows) (λ player. jobs.Screen at (print_by escaped player)) job 2 (λ player. lit≤ tt) later) e
-enough_paths Picture rows job e =
-    after_read (moment_in (id_in At) rows) (λ at. after (player_in rows) (λ p. Ok (jobs.Picture at p))) job 2
-    (λ at later. of_value (player_in rows) (λ p. jobs.Picture at p) job 2 (λ p. lit≤ tt) later) e
-enough_paths Changes rows job e =
-    after_read (moment_given_in (id_in From) rows)
-    (λ from. after (moment_in (id_in To) rows) (λ to. after (player_in rows) (λ p. Ok (jobs.Changes from to p)))) job 2
-    (λ from later. after_read (moment_in (id_in To) rows) (λ to. after (player_in rows) (λ p. Ok (jobs.Changes from to p))) job 2
-    (λ to last. of_value (player_in rows) (λ p. jobs.Changes from to p) job 2 (λ p. lit≤ tt) last) later) e
-enough_paths Find rows job e =
-    let searched = λ (from : Option ℕ) (to : ℕ) (player : Player). after (searched_in rows) (λ text. Ok (jobs.Find from to player)) in
-    after_read (moment_given_in (id_in From) rows)
-    (λ from. after (moment_or_last_in (id_in Until) rows) (λ to. after (player_in rows) (searched from to))) job 2
-    (λ from later. after_read (moment_or_last_in (id_in Until) rows) (λ to. after (player_in rows) (searched from to)) job 2
-    (λ to last. after_read (player_in rows) (searched from to) job 2
-    (λ player end. of_value (searched_in rows) (λ text. jobs.Find from to player) job 2 (λ text. lit≤ tt) end) last) later) e
-enough_paths Reports rows job e =
-    after_read (moment_in (id_in At) rows) (λ at. after (player_in rows) (λ p. Ok (jobs.Reports at p))) job 2
-    (λ at later. of_value (player_in rows) (λ p. jobs.Reports at p) job 2 (λ p. lit≤ tt) later) e
-enough_paths Session rows job e =
-    after_read (every_in rows) (λ every. after (player_in rows) (λ p. Ok (jobs.Session every p))) job 2
-    (λ every later. of_value (player_in rows) (λ p. jobs.Session every p) job 2 (λ p. lit≤ tt) later) e
-enough_paths Mend rows job e = of_value _ (λ how. jobs.Mend how) job 4 (λ how. lit≤ tt) e
-enough_paths Redact rows job e =
-    after_read (player_in rows) (λ player. after (secret_in rows) (λ text. Ok (jobs.Redact player))) job 4
-    (λ player later. of_value (secret_in rows) (λ text. jobs.Redact player) job 4 (λ text. lit≤ tt) later) e
-enough_paths Save rows job e = let same : jobs.Save ≡ job = cc in subst (λ j. path_count j ≤ 4) same (lit≤ tt)
+enough_paths Save rows = λ job e. at_most_four job
+enough_paths Mend rows = λ job e. at_most_four job
+enough_paths Redact rows = λ job e. at_most_four job
+enough_paths s rows = search (few_after, few_of, lit≤) depth 12 fits 20000
 
 -- a name that is none of those in a list is named by none of their commands
 unnamed_in : (name : Option Text) (subs : List Subcommand)

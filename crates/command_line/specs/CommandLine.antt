@@ -25,7 +25,7 @@ use Rattle.command_line.specs.declared.words.WordsFault.TheVariants.{Clap, Memor
 use Rattle.command_line.specs.declared.words.table.Argument.{Argument}
 use Rattle.command_line.specs.declared.words.table.Argument.TheVariants.{At, From, To, Until, Every, Profile, Size, Escaped, Last, Headless, Title, Sought, Secret, Script, Timing, AnyTiming, NewScript, NewTiming}
 use Rattle.command_line.specs.declared.words.table.Subcommand.{Subcommand}
-use Rattle.command_line.specs.declared.words.table.Subcommand.TheVariants.{Due, Info, Check, Screen, Picture, Changes, Find, Reports, Page, Cast, Save, Mend, Redact, Session}
+use Rattle.command_line.specs.declared.words.table.Subcommand.TheVariants.{Due, Info, Check, Screen, Picture, Transcript, Changes, Find, Reports, Page, Cast, Save, Mend, Redact, Session}
 use Rattle.command_line.specs.declared.words.values.Unreadable.{Unreadable}
 use Rattle.command_line.specs.declared.words.values.Unreadable.TheVariants as unread
 use Rattle.tape_mend.specs.declared.opening.Header.{Header}
@@ -38,7 +38,7 @@ use Rattle.vt_term.specs.declared.profile.Profile.TheVariants.{Vt100, Vt102}
 
 -- the subcommands, in the order in which help tells them (ours)
 abbrev pub subcommands_in_order : List Subcommand
-subcommands_in_order = Due ∷ Info ∷ Check ∷ Screen ∷ Picture ∷ Changes ∷ Find ∷ Reports ∷ Page ∷ Cast ∷ Save ∷ Mend ∷ Redact ∷ Session ∷ []
+subcommands_in_order = Due ∷ Info ∷ Check ∷ Screen ∷ Picture ∷ Transcript ∷ Changes ∷ Find ∷ Reports ∷ Page ∷ Cast ∷ Save ∷ Mend ∷ Redact ∷ Session ∷ []
 
 -- the name of a subcommand (ours)
 unfoldable pub name_in : Subcommand → Text
@@ -47,6 +47,7 @@ name_in Info = codes "info"
 name_in Check = codes "check"
 name_in Screen = codes "screen"
 name_in Picture = codes "picture"
+name_in Transcript = codes "transcript"
 name_in Changes = codes "changes"
 name_in Find = codes "find"
 name_in Reports = codes "reports"
@@ -64,6 +65,7 @@ flags_in Info = []
 flags_in Check = Profile ∷ Size ∷ []
 flags_in Screen = At ∷ Escaped ∷ Profile ∷ Size ∷ []
 flags_in Picture = At ∷ Profile ∷ Size ∷ []
+flags_in Transcript = From ∷ Until ∷ Profile ∷ Size ∷ []
 flags_in Changes = From ∷ To ∷ Profile ∷ Size ∷ []
 flags_in Find = From ∷ Until ∷ Profile ∷ Size ∷ []
 flags_in Reports = At ∷ Profile ∷ Size ∷ []
@@ -82,20 +84,10 @@ texts_in _ = []
 
 -- the paths of a subcommand, in the line's order (ours)
 unfoldable pub paths_in : Subcommand → List Argument
-paths_in Due = Script ∷ Timing ∷ []
-paths_in Info = Script ∷ Timing ∷ []
-paths_in Check = Script ∷ Timing ∷ []
-paths_in Screen = Script ∷ Timing ∷ []
-paths_in Picture = Script ∷ Timing ∷ []
-paths_in Changes = Script ∷ Timing ∷ []
-paths_in Find = Script ∷ Timing ∷ []
-paths_in Reports = Script ∷ Timing ∷ []
-paths_in Page = Script ∷ Timing ∷ []
-paths_in Cast = Script ∷ Timing ∷ []
 paths_in Save = Script ∷ Timing ∷ NewScript ∷ NewTiming ∷ []
 paths_in Mend = Script ∷ AnyTiming ∷ NewScript ∷ NewTiming ∷ []
 paths_in Redact = Script ∷ Timing ∷ NewScript ∷ NewTiming ∷ []
-paths_in Session = Script ∷ Timing ∷ []
+paths_in _ = Script ∷ Timing ∷ []
 
 -- the name of an argument (ours)
 unfoldable pub id_in : Argument → Text
@@ -307,6 +299,9 @@ job_in Screen rows =
 job_in Picture rows =
     after (moment_in (id_in At) rows) (λ at. after (player_in rows) (λ player.
     Ok (job.Picture at player)))
+job_in Transcript rows =
+    after (moment_given_in (id_in From) rows) (λ from. after (moment_given_in (id_in Until) rows) (λ to.
+    after (player_in rows) (λ player. Ok (job.Transcript from to player))))
 job_in Changes rows =
     after (moment_given_in (id_in From) rows) (λ from. after (moment_in (id_in To) rows) (λ to.
     after (player_in rows) (λ player. Ok (job.Changes from to player))))
@@ -424,20 +419,29 @@ meaning_read words =
 
 -- how many paths a job has (ours)
 abbrev pub path_count : Job → ℕ
-path_count (job.Due at) = 2
-path_count job.Info = 2
-path_count (job.Check player) = 2
-path_count (job.Screen at print) = 2
-path_count (job.Picture at player) = 2
-path_count (job.Changes from to player) = 2
-path_count (job.Find from to player) = 2
-path_count (job.Reports at player) = 2
-path_count (job.Page player) = 2
-path_count (job.Cast player) = 2
 path_count job.Save = 4
 path_count (job.Mend how) = 4
 path_count (job.Redact player) = 4
-path_count (job.Session every player) = 2
+path_count _ = 2
+
+-- which terminal a screen is of (ours)
+abbrev pub player_of : Print → Player
+player_of (Plain player) = player
+player_of (print.Escaped player) = player
+
+-- which terminal plays the recording for a job, if it plays it (ours)
+abbrev pub played_by : Job → Option Player
+played_by (job.Screen at print) = Some (player_of print)
+played_by (job.Picture at player) = Some player
+played_by (job.Transcript from to player) = Some player
+played_by (job.Changes from to player) = Some player
+played_by (job.Find from to player) = Some player
+played_by (job.Reports at player) = Some player
+played_by (job.Page player) = Some player
+played_by (job.Cast player) = Some player
+played_by (job.Redact player) = Some player
+played_by (job.Session every player) = Some player
+played_by _ = None
 
 -- Private: the fault of words that clap takes and that aren't readable (ours)
 abbrev pub fault_of_unread : Unreadable → WordsFault

@@ -1,5 +1,8 @@
 //! What is asked for: a job over a recording.
 
+ghost use Rattle.std.specs.Prelude.{◌≡◌};
+ghost use Rattle.command_line.specs.CommandLine.{played_by, player_of};
+
 use crate::player::{Player, Print};
 use tape_mend::Header;
 
@@ -24,6 +27,13 @@ pub enum Job {
     /// Write the screen of a moment as a picture.
     Picture {
         at: u64,
+        player: Player,
+    },
+    /// Write every row that left the screen at its top, in order, and then those that stand there: of the chunks that are
+    /// due by `to` (None: of all), and of the rows that left those that had not yet by `from` (None: all).
+    Transcript {
+        from: Option<u64>,
+        to: Option<u64>,
         player: Player,
     },
     /// Write which lines of the screen each chunk changes, of those that are due after `from` (None: from chunk 0 on) and
@@ -69,4 +79,34 @@ pub enum Job {
         every: usize,
         player: Player,
     },
+}
+
+impl Job {
+    /// Which terminal plays the recording for the job, if it plays it.
+    pub fn player(self) -> Option<Player>
+        ensures { result ≡ played_by self }
+    {
+        match self {
+            Job::Screen { print, .. } => Some(player_of(print)),
+            Job::Picture { player, .. }
+            | Job::Transcript { player, .. }
+            | Job::Changes { player, .. }
+            | Job::Find { player, .. }
+            | Job::Reports { player, .. }
+            | Job::Page { player }
+            | Job::Cast { player }
+            | Job::Redact { player }
+            | Job::Session { player, .. } => Some(player),
+            Job::Due { .. } | Job::Info | Job::Check { .. } | Job::Save | Job::Mend { .. } => None,
+        }
+    }
+}
+
+/// Which terminal a screen is of.
+fn player_of(print: Print) -> Player
+    ensures { result ≡ player_of print }
+{
+    match print {
+        Print::Plain(player) | Print::Escaped(player) => player,
+    }
 }

@@ -46,6 +46,18 @@ pub fn plain_lines_are_read()
         → (size : Text) (measure : Measure) → size_named size ≡ Some measure
         → LineAsks (codes "picture") (codes "--at" ∷ at ∷ sized_words size)
         (job.Picture moment (Today (Some measure))) }
+    ensures transcript { (profile : Option Profile) → LineAsks (codes "transcript")
+        (profile_words profile) (job.Transcript None None (Vt (profile_or_first profile))) }
+    ensures transcript_today { LineAsks (codes "transcript") today_words
+        (job.Transcript None None (Today None)) }
+    ensures transcript_sized { (size : Text) (measure : Measure) → size_named size ≡ Some measure
+        → LineAsks (codes "transcript") (sized_words size)
+        (job.Transcript None None (Today (Some measure))) }
+    ensures transcript_between { (from : Text) (start : ℕ) → seconds_of from ≡ Some start
+        → (to : Text) (end : ℕ) → seconds_of to ≡ Some end
+        → (profile : Option Profile) → LineAsks (codes "transcript")
+        (codes "--from" ∷ from ∷ codes "--to" ∷ to ∷ profile_words profile)
+        (job.Transcript (Some start) (Some end) (Vt (profile_or_first profile))) }
     ensures changes { (to : Text) (moment : ℕ) → seconds_of to ≡ Some moment
         → (profile : Option Profile) → LineAsks (codes "changes")
         (codes "--to" ∷ to ∷ profile_words profile)

@@ -155,6 +155,31 @@ fn reads_other_jobs(rt: HostRuntime) -> Result<(), Fail> {
     Ok(())
 }
 
+#[test]
+fn reads_transcripts(rt: HostRuntime) -> Result<(), Fail> {
+    let transcript = |from, to, player| Job::Transcript { from, to, player };
+    let (vt100, vt102) = (Player::Vt(Profile::Vt100), Player::Vt(Profile::Vt102));
+    let rows = [
+        ("typetool transcript s t", transcript(None, None, vt100)),
+        (
+            "typetool transcript s --from=0.5 t",
+            transcript(Some(500_000), None, vt100),
+        ),
+        (
+            "typetool transcript --to 12. s t --profile vt102",
+            transcript(None, Some(12_000_000), vt102),
+        ),
+        (
+            "typetool transcript --to=1 --from 2 --profile=xterm -- s t",
+            transcript(Some(2_000_000), Some(1_000_000), Player::Today(None)),
+        ),
+    ];
+    for (line, job) in &rows {
+        compare_job(&rt, line, *job)?;
+    }
+    Ok(())
+}
+
 /// What words that clap takes are told: the job, or why they are none.
 pub fn told(alloc: Global, words: &[String]) -> Result<String, AllocError> {
     match read_words(alloc, words) {
@@ -179,12 +204,15 @@ fn refuses_unreadable_seconds(rt: HostRuntime) -> Result<(), Fail> {
 }
 
 #[test]
-fn refuses_unreadable_seconds_of_changes(rt: HostRuntime) -> Result<(), Fail> {
+fn refuses_unreadable_seconds_of_stretches(rt: HostRuntime) -> Result<(), Fail> {
     for line in [
         "typetool changes --from=- --to=1 s t",
         "typetool changes --from= --to=1 s t",
         "typetool changes --from=1 --to=.5 s t",
         "typetool changes --to=-1 s t",
+        "typetool transcript --from=- s t",
+        "typetool transcript --from=1 --to= s t",
+        "typetool transcript --to=1e3 s t",
     ] {
         let words = words_of(rt.alloc(), line)?;
         let told = told(rt.alloc(), words.as_slice())?;
@@ -217,7 +245,7 @@ pub fn compare_left(rt: &(impl Runtime<A = Global> + Abort), line: &str) -> Resu
 }
 
 /// Lines that are none of the program's.
-const MISTAKES: [&str; 40] = [
+const MISTAKES: [&str; 43] = [
     "typetool",
     "typetool dew",
     "typetool help dew",
@@ -246,6 +274,9 @@ const MISTAKES: [&str; 40] = [
     "typetool changes --at 1 --to 1 s t",
     "typetool changes --from=1 --from=1 --to=1 s t",
     "typetool changes --to=1 s t u",
+    "typetool transcript s",
+    "typetool transcript --at 1 s t",
+    "typetool transcript --to=1 --to=1 s t",
     "typetool page s",
     "typetool page --at 1 s t",
     "typetool page s t u",

@@ -126,7 +126,7 @@ fn plain_case<'a>(job: Job, text: &'a [u8]) -> Case<'a> {
 const END: u64 = 500_000;
 
 /// Each job at the end of the recording.
-fn cases() -> [Case<'static>; 15] {
+fn cases() -> [Case<'static>; 17] {
     let profile = Profile::Vt100;
     let player = Player::Vt(profile);
     let screen = Job::Screen {
@@ -154,6 +154,8 @@ fn cases() -> [Case<'static>; 15] {
             b"ab\n\n\n\n\n\n\n\n\n\n\n\n\n\n\n\n\n\n\n\n\n\n\n\n",
         ),
         plain_case(picture, AB_PICTURE.as_bytes()),
+        transcript_case(player),
+        transcript_case(Player::Today(None)),
         plain_case(changes, b"0 0.000000 1\n1 0.500000 1\n"),
         find_case(player),
         find_case(Player::Today(None)),
@@ -171,6 +173,16 @@ fn cases() -> [Case<'static>; 15] {
         session_case(Player::Vt(profile)),
         session_case(Player::Today(None)),
     ]
+}
+
+/// What stands at the end.
+fn transcript_case(player: Player) -> Case<'static> {
+    let job = Job::Transcript {
+        from: None,
+        to: Some(END),
+        player,
+    };
+    plain_case(job, b"ab\n")
 }
 
 /// The second chunk's character.

@@ -226,6 +226,27 @@ fn run_changes(rt: HostRuntime) -> Result<(), Fail> {
     compare(&rt, plain_case(job, text))
 }
 
+/// The whole session.
+fn transcript(player: Player) -> Job {
+    Job::Transcript {
+        from: None,
+        to: None,
+        player,
+    }
+}
+
+#[test]
+fn run_transcript(rt: HostRuntime) -> Result<(), Fail> {
+    let job = transcript(Player::Vt(Profile::Vt100));
+    compare(&rt, plain_case(job, b"eb\n\ncd\n"))
+}
+
+#[test]
+fn run_transcript_of_today(rt: HostRuntime) -> Result<(), Fail> {
+    let job = transcript(Player::Today(None));
+    compare(&rt, plain_case(job, b"eb\n\ncd\n"))
+}
+
 #[test]
 fn run_find(rt: HostRuntime) -> Result<(), Fail> {
     let job = Job::Find {

@@ -84,21 +84,10 @@ comes_done job files tape reading h =
 -- where a job takes no request lines, it comes to the same whatever they are
 same_lines : (job : Job) (tape : Tape) (one other text : List ℕ) → (takes_requests job ≡ true → one ≡ other)
     → done_on job tape one text ≡ done_on job tape other text
-same_lines (jobs.Due at) tape one other text same = refl
-same_lines jobs.Info tape one other text same = refl
-same_lines (jobs.Check player) tape one other text same = refl
-same_lines (jobs.Screen at print) tape one other text same = refl
-same_lines (jobs.Picture at player) tape one other text same = refl
-same_lines (jobs.Changes from to player) tape one other text same = refl
-same_lines (jobs.Find from to profile) tape one other text same = refl
-same_lines (jobs.Reports at player) tape one other text same = refl
-same_lines (jobs.Page player) tape one other text same = refl
-same_lines (jobs.Cast player) tape one other text same = refl
-same_lines (jobs.Mend how) tape one other text same = refl
-same_lines (jobs.Redact profile) tape one other text same = refl
 same_lines jobs.Save tape one other text same = ap (λ r. done_on jobs.Save tape r text) (same refl)
 same_lines (jobs.Session every player) tape one other text same =
     ap (λ r. done_on (jobs.Session every player) tape r text) (same refl)
+same_lines job tape one other text same = refl
 
 -- and beside the same text
 same_done : (job : Job) (tape : Tape) (one other text same_text : List ℕ) → (takes_requests job ≡ true → one ≡ other)

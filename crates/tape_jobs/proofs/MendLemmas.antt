@@ -27,20 +27,8 @@ one_failed writers told done stopped = elim stopped [
 
 -- the one job that mends
 pub is_mend : (job : Job) (how : Header) → mends job ≡ Some how → job ≡ jobs.Mend how
-is_mend (jobs.Due at) how e = absurd (cc)
-is_mend jobs.Info how e = absurd (cc)
-is_mend (jobs.Check player) how e = absurd (cc)
-is_mend (jobs.Screen at print) how e = absurd (cc)
-is_mend (jobs.Picture at player) how e = absurd (cc)
-is_mend (jobs.Changes from to player) how e = absurd (cc)
-is_mend (jobs.Find from to profile) how e = absurd (cc)
-is_mend (jobs.Reports at player) how e = absurd (cc)
-is_mend (jobs.Page player) how e = absurd (cc)
-is_mend (jobs.Cast player) how e = absurd (cc)
-is_mend jobs.Save how e = absurd (cc)
 is_mend (jobs.Mend other) how e = let same : other ≡ how = cc in ap (λ h. jobs.Mend h) same
-is_mend (jobs.Redact profile) how e = absurd (cc)
-is_mend (jobs.Session every player) how e = absurd (cc)
+is_mend job how e = absurd (cc)
 
 module _ (how : Header) (script timing : List ℕ) where
   -- where no line can be the header

@@ -31,31 +31,8 @@ unfaulted_save (Err refused) g e =
 -- on a recording that was read no job has a fault of the files
 unfaulted : (job : Job) (tape : Tape) (lines text : List ℕ) (g : Fault)
     → done_on job tape lines text ≡ refused_in job (File g) → ⊥
-unfaulted (jobs.Due at) tape lines text g e = unfaulted_done (jobs.Due at) (done_on (jobs.Due at) tape lines text) g refl e
-unfaulted jobs.Info tape lines text g e = unfaulted_done jobs.Info (done_on jobs.Info tape lines text) g refl e
-unfaulted (jobs.Check player) tape lines text g e =
-    unfaulted_done (jobs.Check player) (done_on (jobs.Check player) tape lines text) g refl e
-unfaulted (jobs.Screen at print) tape lines text g e =
-    unfaulted_done (jobs.Screen at print) (done_on (jobs.Screen at print) tape lines text) g refl e
-unfaulted (jobs.Picture at player) tape lines text g e =
-    unfaulted_done (jobs.Picture at player) (done_on (jobs.Picture at player) tape lines text) g refl e
-unfaulted (jobs.Changes from to player) tape lines text g e =
-    unfaulted_done (jobs.Changes from to player) (done_on (jobs.Changes from to player) tape lines text) g refl e
-unfaulted (jobs.Find from to profile) tape lines text g e =
-    unfaulted_done (jobs.Find from to profile) (done_on (jobs.Find from to profile) tape lines text) g refl e
-unfaulted (jobs.Reports at player) tape lines text g e =
-    unfaulted_done (jobs.Reports at player) (done_on (jobs.Reports at player) tape lines text) g refl e
-unfaulted (jobs.Page player) tape lines text g e =
-    unfaulted_done (jobs.Page player) (done_on (jobs.Page player) tape lines text) g refl e
-unfaulted (jobs.Cast player) tape lines text g e =
-    unfaulted_done (jobs.Cast player) (done_on (jobs.Cast player) tape lines text) g refl e
-unfaulted (jobs.Mend how) tape lines text g e =
-    unfaulted_done (jobs.Mend how) (done_on (jobs.Mend how) tape lines text) g refl e
-unfaulted (jobs.Redact profile) tape lines text g e =
-    unfaulted_done (jobs.Redact profile) (done_on (jobs.Redact profile) tape lines text) g refl e
 unfaulted jobs.Save tape lines text g e = unfaulted_save (saved 1 (started (Vt Vt100) tape) (lines_of lines)) g e
-unfaulted (jobs.Session every player) tape lines text g e =
-    unfaulted_done (jobs.Session every player) (done_on (jobs.Session every player) tape lines text) g refl e
+unfaulted job tape lines text g e = unfaulted_done job (done_on job tape lines text) g refl e
 
 module _ (job : Job) (tape : Tape) (lines text : List ℕ) where
   refused_after : (f : JobFault) → done_on job tape lines text ≡ refused_in job f → was_read (Some f) ≡ true

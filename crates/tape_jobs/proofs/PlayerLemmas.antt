@@ -6,7 +6,7 @@ use Rattle.chunk_walk.specs.Walk.{asked_texts}
 use Rattle.tape_core.specs.Due.{due}
 use Rattle.tape_core.specs.Tape.{Tape}
 use Rattle.tape_jobs.specs.Moment.{drawn_at, drawn_today, hex_line, printed_at, sent_at, told_at, told_by}
-use Rattle.tape_jobs.specs.Player.{NowhereMeansNowhere, changes_of, found_of, measure_of, played_size, today_at, today_lines, told_measure, today_shown, settled, usual_measure, within}
+use Rattle.tape_jobs.specs.Player.{NowhereMeansNowhere, changes_of, found_of, measure_of, played_size, today_at, today_leaving, today_lines, today_standing, told_measure, today_shown, transcript_of, settled, usual_measure, within}
 use Rattle.command_line.specs.Measures.{is_size}
 use Rattle.tape_jobs.specs.declared.answers.Asked.{Asked}
 use Rattle.tape_jobs.specs.declared.answers.Asked.TheVariants as asks
@@ -23,6 +23,8 @@ use Rattle.xterm_print.specs.PlainText.{plain_text}
 use Rattle.xterm_term.specs.Size.{IsSize}
 use Rattle.xterm_term.specs.Term.{Term, play, reset_term}
 use Rattle.xterm_term.specs.declared.measure.Size.{Size}
+use Rattle.xterm_transcript.specs.Transcribed.{leaving_rows, standing_rows}
+use Rattle.transcripts.specs.Transcript.{left_between, transcript}
 
 -- a size is within the limits
 size_fits : (size : Size) → is_size (measure_of size) ≡ true
@@ -47,6 +49,14 @@ pub found_of_size : (size : Size) (tape : Tape) (from : Option ℕ) (to : ℕ) (
     → found_of (Today (Some (measure_of size))) tape from to text ≡ find_lines size tape from to text
 unfolding found_of find_lines lines_found all_found found_from found_in
 found_of_size size tape from to text = ap (λ m. lines_found today_shown m tape from to text) (size_stays size tape)
+
+-- a terminal of the size that a recording settles has its transcript
+pub transcript_settled : (size : Size) (asked : Option Measure) (tape : Tape) (from to : Option ℕ)
+    → measure_of size ≡ played_size asked tape
+    → transcript leaving_rows standing_rows size tape from to ≡ transcript_of (Today asked) tape from to
+unfolding transcript_of transcript left_between standing_rows
+transcript_settled size asked tape from to e =
+    ap (λ m. transcript today_leaving today_standing m tape from to) e
 
 -- a size that a recording settles
 module _ (size : Size) (asked : Option Measure) (tape : Tape) (e : measure_of size ≡ played_size asked tape) where

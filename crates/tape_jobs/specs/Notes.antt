@@ -10,31 +10,11 @@ use Rattle.tape_core.specs.declared.fault.Fault.TheVariants as fault
 use Rattle.tape_jobs.specs.Endings.{AsksNothing, Device, HoldFiles, Readers}
 use Rattle.tape_jobs.specs.Output.{Files}
 use Rattle.tape_jobs.specs.Player.{played_of}
+use Rattle.command_line.specs.CommandLine.{played_by}
 use Rattle.command_line.specs.declared.job.Job.{Job}
-use Rattle.command_line.specs.declared.job.Job.TheVariants.{Screen, Picture, Changes, Find, Reports, Page, Cast, Redact, Session}
 use Rattle.tape_jobs.specs.declared.job.JobFault.{JobFault}
 use Rattle.tape_jobs.specs.declared.job.JobFault.TheVariants.{File}
 use Rattle.command_line.specs.declared.player.Player.{Player}
-use Rattle.command_line.specs.declared.player.Print.{Print}
-use Rattle.command_line.specs.declared.player.Print.TheVariants.{Plain, Escaped}
-
--- which terminal a screen is of (ours)
-abbrev pub player_of : Print → Player
-player_of (Plain player) = player
-player_of (Escaped player) = player
-
--- which terminal plays the recording for a job, if it plays it (ours)
-abbrev pub played_by : Job → Option Player
-played_by (Screen at print) = Some (player_of print)
-played_by (Picture at player) = Some player
-played_by (Changes from to player) = Some player
-played_by (Find from to player) = Some player
-played_by (Reports at player) = Some player
-played_by (Page player) = Some player
-played_by (Cast player) = Some player
-played_by (Redact player) = Some player
-played_by (Session every player) = Some player
-played_by _ = None
 
 -- whether a recording was read: of the faults of files, only a write fault comes behind that (ours)
 abbrev pub is_write_fault : Fault → Bool

@@ -19,13 +19,13 @@ use Rattle.vt_term.specs.declared.profile.Profile.TheVariants.{Vt100}
 use Rattle.tape_seek.specs.declared.edits.EditFault.{EditFault}
 use Rattle.tape_jobs.specs.Info.{info_text}
 use Rattle.tape_jobs.specs.Moment.{drawn_at, printed_at, sent_at}
-use Rattle.tape_jobs.specs.Player.{cast_of, changes_of, found_of, page_of, played_of, settled}
+use Rattle.tape_jobs.specs.Player.{cast_of, changes_of, found_of, page_of, played_of, settled, transcript_of}
 use Rattle.command_line.specs.declared.player.Player.{Player}
 use Rattle.command_line.specs.declared.player.Player.TheVariants.{Vt}
 use Rattle.tape_jobs.specs.Requests.{saved, started}
 use Rattle.tape_jobs.specs.Session.{answered, any_refused}
 use Rattle.command_line.specs.declared.job.Job.{Job}
-use Rattle.command_line.specs.declared.job.Job.TheVariants.{Due, Info, Check, Screen, Picture, Changes, Find, Reports, Page, Cast, Save, Mend, Redact, Session}
+use Rattle.command_line.specs.declared.job.Job.TheVariants.{Due, Info, Check, Screen, Picture, Transcript, Changes, Find, Reports, Page, Cast, Save, Mend, Redact, Session}
 use Rattle.tape_jobs.specs.declared.job.Ending.{Ending}
 use Rattle.tape_jobs.specs.declared.job.Ending.TheVariants.{Clean, WithRefusals, WithNotes, WithLosses, WithNothing, WithTraces}
 use Rattle.tape_jobs.specs.declared.job.JobFault.{JobFault}
@@ -96,6 +96,11 @@ done_saving (Err refused) = refused_with (Line refused.0 refused.1)
 -- what `save` comes to on a recording and request lines (ours)
 abbrev pub saved_by : Tape → List ℕ → Done
 saved_by tape requests = done_saving (saved 1 (started (Vt Vt100) tape) (lines_of requests))
+
+-- Private: how a job ends that only writes, where it is done (ours)
+abbrev pub clean_by : {A : Type 0} → Result A JobFault → Result Ending JobFault
+clean_by (Ok done) = Ok Clean
+clean_by (Err f) = Err f
 
 -- how a session ends, by whether any line was refused (ours)
 abbrev pub ending_by : Bool → Ending
@@ -189,6 +194,7 @@ done_on (Check player) tape requests text =
     done_ending (check_text (played_of player tape) tape) (ending_of_check (is_noted (played_of player tape) tape))
 done_on (Screen at print) tape requests text = done_with (printed_at print tape at) []
 done_on (Picture at player) tape requests text = done_with (drawn_at player tape at) []
+done_on (Transcript from to player) tape requests text = done_with (transcript_of player tape from to) []
 done_on (Changes from to player) tape requests text = done_with (changes_of player tape from to) []
 done_on (Find from to player) tape requests text =
     let lines = found_of player tape from to text in
@@ -231,6 +237,7 @@ TakesMemory _ = Unit {0}
 
 -- the jobs that take all their memory before they write anything: the others write as they go (ours)
 abbrev pub writes_last : Job → Bool
+writes_last (Transcript from to player) = false
 writes_last (Changes from to player) = false
 writes_last (Find from to player) = false
 writes_last (Page player) = false

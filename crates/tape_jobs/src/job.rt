@@ -6,7 +6,7 @@ ghost use Rattle.tape_core.specs.Faults.{is_stop};
 ghost use Rattle.tape_core.specs.Reading.{fault_of, reads};
 ghost use Rattle.tape_jobs.specs.Endings.{JobEnds, RunEnds, readers_of, used, writers_of};
 ghost use Rattle.tape_jobs.specs.Notes.{NoteEnds};
-ghost use Rattle.tape_jobs.specs.Output.{answers_by_status, done_on, mends, outcome_by, outcome_in, status_after, status_of, takes_requests, writes_timing};
+ghost use Rattle.tape_jobs.specs.Output.{answers_by_status, clean_by, done_on, mends, outcome_by, outcome_in, status_after, status_of, takes_requests, writes_timing};
 
 use crate::jobs::cast::write_cast;
 use crate::jobs::changes::write_changes;
@@ -21,6 +21,7 @@ use crate::jobs::page::write_page;
 use crate::jobs::redact::write_redacted;
 use crate::jobs::save::write_edited;
 use crate::jobs::session::write_answers;
+use crate::jobs::transcript::write_transcript;
 use crate::shared::name_of;
 use chunk_walk::WalkFault;
 use command_line::{Job, Player, Print};
@@ -281,31 +282,48 @@ fn perform<O: Write, P: Write>(
         requests,
     } = given;
     match job {
-        Job::Due { at } => write_due(&ManuallyDrop::new(recording), at, out)?,
-        Job::Info => write_info(&ManuallyDrop::new(recording), out)?,
-        Job::Check { player } => {
-            return write_checked(alloc, &ManuallyDrop::new(recording), player, out);
+        Job::Due { at } => {
+            write_due(&ManuallyDrop::new(recording), at, out)?;
+            Ok(Ending::Clean)
         }
-        Job::Screen { at, print } => write_screen(alloc, recording, print, at, out)?,
-        Job::Picture { at, player } => write_picture(alloc, recording, player, at, out)?,
+        Job::Info => {
+            write_info(&ManuallyDrop::new(recording), out)?;
+            Ok(Ending::Clean)
+        }
+        Job::Check { player } => write_checked(alloc, &ManuallyDrop::new(recording), player, out),
+        Job::Screen { at, print } => clean(write_screen(alloc, recording, print, at, out)),
+        Job::Picture { at, player } => clean(write_picture(alloc, recording, player, at, out)),
+        Job::Transcript { from, to, player } => clean(write_transcript(
+            alloc,
+            &ManuallyDrop::new(recording),
+            player,
+            from,
+            to,
+            out,
+        )),
         Job::Changes { from, to, player } => {
-            write_changes(alloc, recording, player, from, to, out)?
+            clean(write_changes(alloc, recording, player, from, to, out))
         }
         Job::Find { from, to, player } => {
-            return write_found(alloc, recording, player, from, to, text, out);
+            write_found(alloc, recording, player, from, to, text, out)
         }
-        Job::Reports { at, player } => write_reports(alloc, recording, player, at, out)?,
-        Job::Page { player } => write_page(alloc, recording, player, text, out)?,
-        Job::Cast { player } => write_cast(alloc, recording, player, out)?,
-        Job::Save => return write_edited(alloc, recording, &requests, out, out_timing),
+        Job::Reports { at, player } => clean(write_reports(alloc, recording, player, at, out)),
+        Job::Page { player } => clean(write_page(alloc, recording, player, text, out)),
+        Job::Cast { player } => clean(write_cast(alloc, recording, player, out)),
+        Job::Save => write_edited(alloc, recording, &requests, out, out_timing),
         Job::Mend { .. } => unreachable!(),
-        Job::Redact { player } => {
-            return write_redacted(alloc, recording, player, text, out, out_timing);
-        }
+        Job::Redact { player } => write_redacted(alloc, recording, player, text, out, out_timing),
         Job::Session { every, player } => {
-            return write_answers(alloc, recording, player, every, &requests, out);
+            write_answers(alloc, recording, player, every, &requests, out)
         }
     }
+}
+
+/// How a job ends that only writes, where it is done.
+fn clean(done: Result<(), JobFault>) -> Result<Ending, JobFault>
+    ensures { result ≡ clean_by done }
+{
+    done?;
     Ok(Ending::Clean)
 }
 

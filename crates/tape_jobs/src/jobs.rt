@@ -13,3 +13,4 @@ pub mod page;
 pub mod redact;
 pub mod save;
 pub mod session;
+pub mod transcript;

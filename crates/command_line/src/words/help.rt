@@ -18,6 +18,8 @@ pub fn about_of<'a>(subcommand: Subcommand) -> &'a str {
             "Tell what the recording says of itself, and what this terminal can't show of it",
         Subcommand::Screen => "Write the screen as it is at a moment, as lines of text",
         Subcommand::Picture => "Draw the screen as it is at a moment, as one SVG file",
+        Subcommand::Transcript =>
+            "Write the session as text: the lines that left the screen, and those that stand there",
         Subcommand::Changes => "Tell which lines of the screen each chunk changes",
         Subcommand::Find => "Tell when a text came to stand on the screen, and when it went",
         Subcommand::Reports => {
@@ -80,16 +82,18 @@ const CHECK_DETAILS: &str =
 /// What `mend` reads, what it tells, and its status.
 const MEND_DETAILS: &str =
     "For recordings that the other commands refuse: a timing file in the multi-stream format (of script's\n\
-    -B, -I, or -m advanced), a typescript that was cut short, appended to (-a) or kept without its first\n\
-    line, a timing file that is damaged. Reading ends before the first line with a fault. The new pair is\n\
-    in the classic format, and is read without a fault; what stands behind the last byte taken becomes\n\
-    its trailer. Input and signals have no place in it, and are left out.\n\n\
+    -B, -I, or -m advanced) or in sudo's, a typescript that was cut short, appended to (-a) or kept without\n\
+    its first line, a timing file that is damaged. Reading ends before the first line with a fault. The new\n\
+    pair is in the classic format, and is read without a fault; what stands behind the last byte taken\n\
+    becomes its trailer. Input, signals, outputs to pipes and changes of the size have no place in it, and\n\
+    are left out.\n\n\
     Both new files are created before anything is read, and must not exist. Then it is told, each only\n\
-    where it is so: timing line N: FAULT, K lines left out; N inputs and M signals left out; chunk I cut\n\
-    to B of C bytes; K chunks left out; timing has CR LF (one CR at the end of a line isn't read); N bytes\n\
-    behind the last chunk have no timing (unless they are script's closing line). Status 1 where a line or\n\
-    a chunk was left out or cut, where bytes have no timing, or where the typescript has no header line\n\
-    (then nothing is written).\n\n\
+    where it is so: timing line N: FAULT, K lines left out; N inputs and M signals left out; P outputs to\n\
+    pipes and R resizes left out; chunk I cut to B of C bytes; K chunks left out; timing has CR LF (one CR\n\
+    at the end of a line isn't read); N bytes behind the last chunk have no timing (unless they are\n\
+    script's closing line). Status 1 where a line, a chunk, an output to a pipe or a change of the size was\n\
+    left out, a chunk was cut, bytes have no timing, or the typescript has no header line (then nothing is\n\
+    written).\n\n\
     No one can bring back bytes that a file no longer has, when bytes came that no line counts or only one\n\
     behind a fault, and what a lost first line said.\n\n\
     Example: typetool mend demo.script demo.timing new.script new.timing\n\n\
@@ -176,6 +180,16 @@ const PICTURE_DETAILS: &str =
     Example: typetool picture --at 12.5 demo.script demo.timing >screen.svg\n\n\
     The long form: man typetool";
 
+/// Which rows a transcript has.
+const TRANSCRIPT_DETAILS: &str =
+    "Every row that left the screen at its top, in order, and then what stands there; what a program drew over\n\
+    is no row. Blank rows at the end are left out. Nothing leaves the alternate screen of xterm. With --from\n\
+    the rows that had left by then are left out.\n\n\
+    A pager that draws on the main screen and pages back shows rows twice, as it did; Ctrl-L leaves a copy of\n\
+    the prompt; a wrapped line is as many rows as it stood on.\n\n\
+    Example: typetool transcript demo.script demo.timing | less\n\n\
+    The long form: man typetool";
+
 /// The lines that `changes` writes.
 const CHANGES_DETAILS: &str =
     "A line for each chunk that changes the screen: the chunk (counted from 0), when it is due (seconds),\n\
@@ -196,6 +210,7 @@ pub fn details_of<'a>(subcommand: Subcommand) -> &'a str {
         Subcommand::Check => CHECK_DETAILS,
         Subcommand::Screen => SCREEN_DETAILS,
         Subcommand::Picture => PICTURE_DETAILS,
+        Subcommand::Transcript => TRANSCRIPT_DETAILS,
         Subcommand::Changes => CHANGES_DETAILS,
         Subcommand::Find => FIND_DETAILS,
         Subcommand::Reports => REPORTS_DETAILS,
@@ -268,7 +283,7 @@ pub fn help_of<'a>(argument: Argument) -> &'a str {
             "Its timing file, in the classic format: a line of a delay and a count for each chunk. \
              (A typescript given here is told as 'multi-stream format'.)"
         }
-        Argument::AnyTiming => "Its timing file, in the classic or in the multi-stream format",
+        Argument::AnyTiming => "Its timing file, in the classic, the multi-stream or sudo's format",
         Argument::NewScript => "The typescript to be written; it must not exist",
         Argument::NewTiming => "Its timing file, to be written; it must not exist",
     }

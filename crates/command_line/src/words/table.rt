@@ -11,6 +11,7 @@ pub enum Subcommand {
     Check,
     Screen,
     Picture,
+    Transcript,
     Changes,
     Find,
     Reports,
@@ -64,7 +65,7 @@ pub enum Argument {
 }
 
 /// The subcommands, in the order in which help tells them.
-pub fn subcommands() -> [Subcommand; 14]
+pub fn subcommands() -> [Subcommand; 15]
     ensures { result ≡ subcommands_in_order }
 {
     [
@@ -73,6 +74,7 @@ pub fn subcommands() -> [Subcommand; 14]
         Subcommand::Check,
         Subcommand::Screen,
         Subcommand::Picture,
+        Subcommand::Transcript,
         Subcommand::Changes,
         Subcommand::Find,
         Subcommand::Reports,
@@ -96,6 +98,7 @@ pub fn name_of<'a>(subcommand: Subcommand) -> &'a str
         Subcommand::Check => "check",
         Subcommand::Screen => "screen",
         Subcommand::Picture => "picture",
+        Subcommand::Transcript => "transcript",
         Subcommand::Changes => "changes",
         Subcommand::Find => "find",
         Subcommand::Reports => "reports",
@@ -131,7 +134,7 @@ pub fn flags_of(subcommand: Subcommand) -> &'static [Argument]
             Argument::Profile,
             Argument::Size,
         ],
-        Subcommand::Find => &[
+        Subcommand::Transcript | Subcommand::Find => &[
             Argument::From,
             Argument::Until,
             Argument::Profile,
@@ -154,18 +157,7 @@ pub fn texts_of(subcommand: Subcommand) -> &'static [Argument]
     match subcommand {
         Subcommand::Find => &[Argument::Sought],
         Subcommand::Redact => &[Argument::Secret],
-        Subcommand::Due
-        | Subcommand::Info
-        | Subcommand::Check
-        | Subcommand::Screen
-        | Subcommand::Picture
-        | Subcommand::Changes
-        | Subcommand::Reports
-        | Subcommand::Page
-        | Subcommand::Cast
-        | Subcommand::Save
-        | Subcommand::Mend
-        | Subcommand::Session => &[],
+        _ => &[],
     }
 }
 
@@ -175,17 +167,6 @@ pub fn paths_of(subcommand: Subcommand) -> &'static [Argument]
     ensures { result.now ≡ paths_in subcommand }
 {
     match subcommand {
-        Subcommand::Due
-        | Subcommand::Info
-        | Subcommand::Check
-        | Subcommand::Screen
-        | Subcommand::Picture
-        | Subcommand::Changes
-        | Subcommand::Find
-        | Subcommand::Reports
-        | Subcommand::Page
-        | Subcommand::Cast
-        | Subcommand::Session => &[Argument::Script, Argument::Timing],
         Subcommand::Save | Subcommand::Redact => &[
             Argument::Script,
             Argument::Timing,
@@ -198,6 +179,7 @@ pub fn paths_of(subcommand: Subcommand) -> &'static [Argument]
             Argument::NewScript,
             Argument::NewTiming,
         ],
+        _ => &[Argument::Script, Argument::Timing],
     }
 }
 

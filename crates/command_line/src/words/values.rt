@@ -6,7 +6,7 @@ ghost use Rattle.std.specs.Char.{is_control};
 ghost use Rattle.std.specs.List.{list_all, list_any};
 ghost use Rattle.clap.specs.Words.{first_of, found_of, rows_of};
 ghost use Rattle.command_line.specs.CommandLine.{every_allowed, every_in, every_of, header_in, id_in, is_searchable, is_secret, is_today, job_in, player_in, print_by, size_cut, size_named, today_if, vt_if, moment_in, moment_given_in, moment_or_last_in, paths_in, profile_named, stem_of, switch_in, text_in, title_in, value_in};
-ghost use Rattle.command_line.specs.declared.words.table.Subcommand.TheVariants.{Find as find, Redact as redact, Screen as screen};
+ghost use Rattle.command_line.specs.declared.words.table.Subcommand.TheVariants.{Find as find, Redact as redact, Screen as screen, Transcript as transcript};
 
 use super::table::{Argument, Subcommand, id_of, paths_of};
 use crate::job::Job;
@@ -59,6 +59,7 @@ pub fn read_job(subcommand: Subcommand, values: &ArgMatches<'_>) -> Result<Job, 
             at: read_moment(values, Argument::At)?,
             player: read_player(values)?,
         }),
+        Subcommand::Transcript => read_transcript(values),
         Subcommand::Changes => Ok(Job::Changes {
             from: read_moment_given(values, Argument::From)?,
             to: read_moment(values, Argument::To)?,
@@ -123,6 +124,21 @@ fn read_screen(values: &ArgMatches<'_>) -> Result<Job, Unreadable>
     let player = read_player(values)?;
     let print = print_by(is_given(values, Argument::Escaped), player);
     Ok(Job::Screen { at, print })
+}
+
+/// The job `transcript` that the values mean.
+#[tactic(auto, unfolding(crate::specs::CommandLine::job_in))]
+fn read_transcript(values: &ArgMatches<'_>) -> Result<Job, Unreadable>
+    ensures { result ≡ job_in transcript (rows_of (found_of values.now)) }
+{
+    let start = read_moment_given(values, Argument::From)?;
+    let end = read_moment_given(values, Argument::Until)?;
+    let player = read_player(values)?;
+    Ok(Job::Transcript {
+        from: start,
+        to: end,
+        player,
+    })
 }
 
 /// The job `find` that the values mean.

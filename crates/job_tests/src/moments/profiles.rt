@@ -1,7 +1,7 @@
-//! The jobs `screen`, `reports` and `changes` of a VT102, and the escaped print.
+//! The jobs `screen`, `reports` and `changes` of a VT102, the escaped print, and the job `transcript` of each terminal.
 use super::{one_chunk, screen_text};
 use crate::comparison::{compare, done};
-use command_line::{Job, Player, Print};
+use command_line::{Job, Measure, Player, Print};
 use std::process::Abort;
 use std::test::Fail;
 use vt_term::Profile;
@@ -95,6 +95,72 @@ fn changes_of_a_vt102(rt: HostRuntime) -> Result<(), Fail> {
         };
         let fed = "a\r\nb\x1b[H\x1b[M";
         compare(&rt, &done(changes, fed, "0 4\n0.5 6\n", lines))?;
+    }
+    Ok(())
+}
+
+/// From and to which moment, and what left then of three chunks, half a second apart, and what stands.
+const STRETCHES: [(Option<u64>, Option<u64>, &str); 7] = [
+    (None, None, "a\n b\n  c\n"),
+    (Some(0), None, " b\n  c\n"),
+    (Some(999_999), None, "  c\n"),
+    (None, Some(500_000), "a\n b\n"),
+    (Some(0), Some(500_000), " b\n"),
+    (Some(500_000), Some(0), ""),
+    (None, Some(0), "a\n"),
+];
+
+/// The display is erased at the end of the first two chunks.
+#[test]
+fn transcripts_of_stretches(rt: HostRuntime) -> Result<(), Fail> {
+    for (from, to, text) in STRETCHES {
+        let transcript = Job::Transcript {
+            from,
+            to,
+            player: Player::Vt(Profile::Vt100),
+        };
+        let fed = "a\x1b[2Jb\x1b[2Jc";
+        let timing = "0 5\n0.5 5\n0.5 1\n";
+        compare(&rt, &done(transcript, fed, timing, text))?;
+    }
+    Ok(())
+}
+
+/// A terminal of today of 10 columns and 4 lines.
+const TODAY: Player = Player::Today(Some(Measure {
+    columns: 10,
+    lines: 4,
+}));
+
+/// What each terminal is fed, and what it tells.
+const TOLD: [(Player, &str, &str); 6] = [
+    (Player::Vt(Profile::Vt100), "a\r\nb\x1b[H\x1b[Mc", "c\nb\n"),
+    (Player::Vt(Profile::Vt102), "a\r\nb\x1b[H\x1b[Mc", "c\n"),
+    (
+        TODAY,
+        "one\r\ntwo\r\n\r\nfour\r\nfive\r\nsix\r\n\r\n",
+        "one\ntwo\n\nfour\nfive\nsix\n",
+    ),
+    // Of the alternate screen nothing leaves.
+    (
+        TODAY,
+        "$ vi\r\n\x1b[?1049h1\r\n2\r\n3\r\n4\r\n5\x1b[2J\x1b[?1049l$ ",
+        "$ vi\n$\n",
+    ),
+    (TODAY, "1\r\n2\r\n3\r\n4\x1b[2Sx", "1\n2\n3\n4\n\n x\n"),
+    (TODAY, "abcdefghi日本\r\nab", "abcdefghi\n日本\nab\n"),
+];
+
+#[test]
+fn transcripts_of_each_terminal(rt: HostRuntime) -> Result<(), Fail> {
+    for (player, body, text) in TOLD {
+        let transcript = Job::Transcript {
+            from: None,
+            to: None,
+            player,
+        };
+        let timing = one_chunk(rt.alloc(), body)?;
+        compare(&rt, &done(transcript, body, timing.as_str(), text))?;
     }
     Ok(())
 }
