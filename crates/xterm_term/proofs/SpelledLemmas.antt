@@ -70,14 +70,19 @@ puts_on bytes at n s t u one other = (
   other.2 ∙ ap (all_put other.0) one.2 ∙ sym (all_put_on one.0 other.0 s),
 )
 
+-- the same of the slice of the bytes behind
+pub puts_behind : (bytes : List ℕ) (at n : ℕ) (s t u : Console) → PutsSpelled (take at bytes) s t
+    → PutsSpelled (take n (take (length bytes - at) (drop at bytes))) t u → PutsSpelled (take (at + n) bytes) s u
+puts_behind bytes at n s t u one other =
+    puts_on bytes at n s t u one (subst (λ (l : List ℕ). PutsSpelled (take n l) t u) (take_rest bytes at) other)
+
 -- ---- what it is for a terminal
 
 -- a first character, and as many bytes of those behind it
-first_puts : (bytes : List ℕ) (len n first : ℕ) (s t : Console) → Spells (take len bytes) first
+pub first_puts : (bytes : List ℕ) (len n first : ℕ) (s t : Console) → Spells (take len bytes) first
     → PutsSpelled (take n (take (length bytes - len) (drop len bytes))) (put first s) t → PutsSpelled (take (len + n) bytes) s t
 first_puts bytes len n first s t spells puts =
-    puts_on bytes len n s (put first s) t (puts_one (take len bytes) first s (put first s) spells refl)
-    (subst (λ (l : List ℕ). PutsSpelled (take n l) (put first s) t) (take_rest bytes len) puts)
+    puts_behind bytes len n s (put first s) t (puts_one (take len bytes) first s (put first s) spells refl) puts
 
 pub first_brings : (before now_ : Seen) (bytes : List ℕ) (len n first : ℕ) (t : Console) → before ≡ now_ → now_.console.title ≡ false
     → Spells (take len bytes) first → PutsSpelled (take n (take (length bytes - len) (drop len bytes))) (put first before.console) t
