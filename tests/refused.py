@@ -48,29 +48,41 @@ def refuse(crate, number):
 
 
 def batches():
-    """The growths to refuse, as many at once as there are workers: those chosen, or one after the other, endlessly."""
-    numbers = iter(chosen) if chosen else itertools.count(1)
+    """The growths to refuse: all that were chosen, or as many at once as there are workers, endlessly."""
+    if chosen:
+        yield chosen
+        return
+    numbers = itertools.count(1)
     while batch := list(itertools.islice(numbers, workers)):
         yield batch
 
 
-def try_crate(crate):
+def try_crate(pool, crate):
     """Goes on until no test met a refusal, or all chosen growths were refused. Whether all passed and each met some."""
     counts = collections.Counter()
-    with concurrent.futures.ThreadPoolExecutor(workers) as pool:
-        for batch in batches():
-            tried = list(zip(batch, pool.map(lambda number: refuse(crate, number), batch)))
-            for number, (passed, met, said) in tried:
-                if not passed:
-                    print(f"{crate}: growth {number} refused: FAILED\n{said}")
-                    return False
-                counts.update(met)
-            if not chosen and not all(sum(met.values()) for _, (_, met, _) in tried):
-                break
+    for batch in batches():
+        tried = list(zip(batch, pool.map(lambda number: refuse(crate, number), batch)))
+        for number, (passed, met, said) in tried:
+            if not passed:
+                print(f"{crate}: growth {number} refused: FAILED\n{said}", flush=True)
+                return False
+            counts.update(met)
+        if not chosen and not all(sum(met.values()) for _, (_, met, _) in tried):
+            break
     for test, count in sorted(counts.items()):
         print(f"{crate}: {test}: {count} refused", flush=True)
     return bool(counts) and all(counts.values())
 
 
-if not all([try_crate(crate) for crate in CRATES]):
-    sys.exit("refused growths: a test failed, or met no refusal")
+def main():
+    """Tries all crates side by side, so that no worker is idle while another crate has runs left."""
+    with (
+        concurrent.futures.ThreadPoolExecutor(workers) as pool,
+        concurrent.futures.ThreadPoolExecutor(len(CRATES)) as crates,
+    ):
+        tried = list(crates.map(lambda crate: try_crate(pool, crate), CRATES))
+    if not all(tried):
+        sys.exit("refused growths: a test failed, or met no refusal")
+
+
+main()
