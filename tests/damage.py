@@ -13,6 +13,7 @@ reader (mend_reader.py) comes to.
 The last line is 'N passed, M failed'.
 """
 import concurrent.futures
+import functools
 import os
 import random
 import re
@@ -263,7 +264,7 @@ def piece_of(rng, script):
     return text if text.strip(b" ") else b"e"
 
 
-def one(folder, number, whole):
+def one(folder, whole, number):
     damage = Damage(folder, number)
     script, timing = damaged(damage.rng, whole)
     try:
@@ -279,8 +280,8 @@ def one(folder, number, whole):
 def main():
     whole, runs, failed = harm.recordings(), 0, 0
     folder = tempfile.mkdtemp(prefix="damage-")
-    with concurrent.futures.ThreadPoolExecutor(os.cpu_count()) as pool:
-        for number, done, problems in pool.map(lambda n: one(folder, n, whole), range(pairs)):
+    with concurrent.futures.ProcessPoolExecutor(os.cpu_count()) as pool:
+        for number, done, problems in pool.map(functools.partial(one, folder, whole), range(pairs), chunksize=8):
             runs += done
             failed += bool(problems)
             for problem in problems:
@@ -291,4 +292,5 @@ def main():
     return failed > 0
 
 
-sys.exit(main())
+if __name__ == "__main__":
+    sys.exit(main())

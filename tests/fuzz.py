@@ -174,8 +174,8 @@ def one(number):
 
 def main():
     failed = 0
-    with concurrent.futures.ThreadPoolExecutor(os.cpu_count()) as pool:
-        for number, problems in pool.map(one, range(count)):
+    with concurrent.futures.ProcessPoolExecutor(os.cpu_count()) as pool:
+        for number, problems in pool.map(one, range(count), chunksize=8):
             failed += bool(problems)
             for problem in problems:
                 print(f"FAILED recording {number}: {problem}")
@@ -183,4 +183,5 @@ def main():
     return failed > 0
 
 
-sys.exit(main())
+if __name__ == "__main__":
+    sys.exit(main())

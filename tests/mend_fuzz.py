@@ -12,6 +12,7 @@ status; where the typescript that is read has no LF, it has to say so and write 
 last line is 'N passed, M failed'.
 """
 import concurrent.futures
+import functools
 import os
 import random
 import subprocess
@@ -144,7 +145,7 @@ class Mending:
         self.expect("what check says of it", (status in (0, 1), errors, trailer[0]), (True, b"", trailer[1]))
 
 
-def one(folder, number, whole):
+def one(folder, whole, number):
     mending = Mending(folder, number)
     script, timing = damaged(mending.rng, whole)
     try:
@@ -160,8 +161,8 @@ def one(folder, number, whole):
 def main():
     whole, failed = harm.recordings(), 0
     folder = tempfile.mkdtemp(prefix="mending-")
-    with concurrent.futures.ThreadPoolExecutor(os.cpu_count()) as pool:
-        for number, problems in pool.map(lambda n: one(folder, n, whole), range(pairs)):
+    with concurrent.futures.ProcessPoolExecutor(os.cpu_count()) as pool:
+        for number, problems in pool.map(functools.partial(one, folder, whole), range(pairs), chunksize=8):
             failed += bool(problems)
             for problem in problems:
                 print(f"FAILED pair {number} in {folder}: {problem}")
@@ -171,4 +172,5 @@ def main():
     return failed > 0
 
 
-sys.exit(main())
+if __name__ == "__main__":
+    sys.exit(main())

@@ -248,8 +248,8 @@ def rows_judged():
 
 def main():
     passed, failed = rows_judged()
-    with concurrent.futures.ThreadPoolExecutor(os.cpu_count()) as pool:
-        for number, problem in pool.map(one, range(count)):
+    with concurrent.futures.ProcessPoolExecutor(os.cpu_count()) as pool:
+        for number, problem in pool.map(one, range(count), chunksize=8):
             passed += not problem
             failed += bool(problem)
             if problem:

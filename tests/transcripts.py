@@ -99,8 +99,8 @@ def one(number):
 
 def main():
     passed, failed = 0, 0
-    with concurrent.futures.ThreadPoolExecutor(os.cpu_count()) as pool:
-        for number, problems in pool.map(one, range(count)):
+    with concurrent.futures.ProcessPoolExecutor(os.cpu_count()) as pool:
+        for number, problems in pool.map(one, range(count), chunksize=8):
             passed += not problems
             failed += bool(problems)
             for problem in problems:
