@@ -19,16 +19,14 @@ use Rattle.std.specs.Option.{option_and_then}
 use Rattle.std.specs.Str.{bytes_eq}
 use Rattle.std.proofs.lemmas.List.{get_or_default, map-append, take_all, take_more}
 use Rattle.std.proofs.lemmas.List.Sums.{fold_more}
-use Rattle.command_line.specs.CommandLine.{typetool_app, clap_faults, clap_takes, subcommand_in, subcommands_in_order, app_in, after, every_in, fault_of_unread, id_in, job_in, meaning_in, meaning_of, meaning_of_words, moment_given_in, moment_in, moment_or_last_in, name_in, path_count, paths_in, rule_in, searched_in, secret_in, switch_in, text_in, texts_in, top_app, value_in, with_rules, with_subcommands, flags_in, FailsFor, IsNamed, player_in, print_by}
+use Rattle.command_line.specs.CommandLine.{typetool_app, clap_faults, clap_takes, subcommand_in, subcommands_in_order, app_in, after, fault_of_unread, id_in, job_in, meaning_in, meaning_of, meaning_of_words, name_in, path_count, paths_in, rule_in, text_in, texts_in, top_app, value_in, with_rules, with_subcommands, flags_in, FailsFor, IsNamed}
 use Rattle.command_line.specs.declared.job.Job.{Job}
 use Rattle.command_line.specs.declared.job.Job.TheVariants as jobs
 use Rattle.command_line.specs.declared.words.table.Argument.{Argument}
-use Rattle.command_line.specs.declared.words.table.Argument.TheVariants.{At, Escaped, From, To, Until}
 use Rattle.command_line.specs.declared.words.table.Subcommand.{Subcommand}
-use Rattle.command_line.specs.declared.words.table.Subcommand.TheVariants.{Due, Info, Check, Screen, Picture, Changes, Find, Reports, Page, Cast, Save, Mend, Redact, Session}
+use Rattle.command_line.specs.declared.words.table.Subcommand.TheVariants.{Due, Save, Mend, Redact}
 use Rattle.command_line.specs.declared.words.values.Unreadable.{Unreadable}
 use Rattle.command_line.specs.declared.words.values.Unreadable.TheVariants as unread
-use Rattle.command_line.specs.declared.player.Player.{Player}
 
 -- clap says what such a command's matches are
 pub is_simple_app : is_simple typetool_app ≡ true

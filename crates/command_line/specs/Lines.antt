@@ -1,12 +1,13 @@
--- What a plain command line means: each line of the synopsis, its flags in the order of help (ours).
-use Rattle.std.specs.Prelude.{◌≡◌, ℕ, chars, ◌==◌, ◌++◌, Bool, true, false, List, [], ◌∷◌, Option, Some, None, Ok, codes}
-use Rattle.clap.specs.Words.{Text}
-use Rattle.command_line.specs.CommandLine.{clap_takes, is_searchable, is_secret, meaning_of_words}
-use Rattle.command_line.specs.declared.job.Job.{Job}
-use Rattle.tape_mend.specs.declared.opening.Header.{Header}
-use Rattle.tape_mend.specs.declared.opening.Header.TheVariants.{Kept, Last, Made}
-use Rattle.vt_term.specs.declared.profile.Profile.{Profile}
-use Rattle.vt_term.specs.declared.profile.Profile.TheVariants.{Vt100, Vt102}
+-- What a plain command line means: the program's name, a job's, and then what the job's row of the table has, in its order:
+-- options, of which those may be left out that need not be given, texts and paths (ours).
+use Rattle.std.specs.Prelude.{◌≡◌, ◌==◌, ◌++◌, Bool, true, false, not, List, [], ◌∷◌, Option, Some, None, Result, codes}
+use Rattle.clap.specs.Words.{Row, Rule, Text}
+use Rattle.clap.specs.declared.builder.value_parser.Reading.TheVariants.{AsWritten}
+use Rattle.clap.specs.declared.parser.matches.ValueSource.TheVariants.{CommandLine}
+use Rattle.command_line.specs.CommandLine.{Meaning, clap_takes, flags_in, id_in, meaning_of_words, paths_in, rule_in, texts_in}
+use Rattle.command_line.specs.declared.words.table.Argument.{Argument}
+use Rattle.command_line.specs.declared.words.table.Subcommand.{Subcommand}
+use Rattle.command_line.specs.declared.words.values.Unreadable.{Unreadable}
 
 -- a word that no parser can take for a flag: it doesn't begin with a hyphen (ours)
 abbrev pub begins_with_hyphen : Text → Bool
@@ -16,71 +17,68 @@ begins_with_hyphen (c ∷ rest) = c == 45
 abbrev pub IsPlain : Text → Type 0
 IsPlain word = begins_with_hyphen word ≡ false
 
--- `--escaped`, where it is asked for (ours)
-abbrev pub escaped_words : Bool → List Text
-escaped_words true = codes "--escaped" ∷ []
-escaped_words false = []
+-- the arguments of a subcommand, in the order of its line: flags, texts, paths (ours)
+abbrev pub arguments_in : Subcommand → List Argument
+arguments_in s = flags_in s ++ (texts_in s ++ paths_in s)
 
--- the name of a profile (ours)
-abbrev pub profile_name : Profile → Text
-profile_name Vt100 = codes "vt100"
-profile_name Vt102 = codes "vt102"
+-- whether an argument has a value of its own: a flag such as `--escaped` has none (ours)
+abbrev pub has_value : Rule → Bool
+has_value rule = not (rule.value_names == 0)
 
--- `--profile` and a name, where one is given (ours)
-abbrev pub profile_words : Option Profile → List Text
-profile_words None = []
-profile_words (Some profile) = codes "--profile" ∷ profile_name profile ∷ []
+-- a value that is given: a plain word, and `true`, as clap tells it, of a flag without one (ours)
+abbrev pub IsValue : Bool → Text → Type 0
+IsValue true value = IsPlain value
+IsValue false value = value ≡ codes "true"
 
--- the profile that is given, and a VT100 where none is (ours)
-abbrev pub profile_or_first : Option Profile → Profile
-profile_or_first None = Vt100
-profile_or_first (Some profile) = profile
+-- what may be given of an argument: nothing, where it need not be given, or such a value (ours)
+abbrev pub MayBeGiven : Rule → Option Text → Type 0
+MayBeGiven rule None = rule.required ≡ false
+MayBeGiven rule (Some value) = IsValue (has_value rule) value
 
--- `--profile xterm` (ours)
-abbrev pub today_words : List Text
-today_words = codes "--profile" ∷ codes "xterm" ∷ []
+-- what may be given of each of these arguments, in turn (ours)
+abbrev pub AreGiven : List Argument → List (Option Text) → Type 0
+AreGiven [] [] = Unit {0}
+AreGiven (argument ∷ rest) (given ∷ more) = MayBeGiven (rule_in argument) given × AreGiven rest more
+AreGiven _ _ = ⊥
 
--- the same with `--size` and a size (ours)
-abbrev pub sized_words : Text → List Text
-sized_words size = codes "--profile" ∷ codes "xterm" ∷ codes "--size" ∷ size ∷ []
+-- the word of a flag (ours)
+abbrev pub flag_words : Option Text → List Text
+flag_words None = []
+flag_words (Some name) = (codes "--" ++ name) ∷ []
 
--- the flag that says which line mending takes as the header (ours)
-abbrev pub header_words : Header → List Text
-header_words Kept = []
-header_words Last = codes "--last" ∷ []
-header_words Made = codes "--headless" ∷ []
+-- the word of a value (ours)
+abbrev pub value_words : Bool → Text → List Text
+value_words true value = value ∷ []
+value_words false value = []
 
--- clap takes these words, and they mean this job over these paths, with this text beside it: so they are read as that,
--- or memory is refused (ours)
-pub record Asks (words : List Text) (job : Job) (text : List ℕ) (paths : List Text) : Type 0 where
+-- the words of what is given of an argument (ours)
+abbrev pub words_by : Rule → Option Text → List Text
+words_by rule None = []
+words_by rule (Some value) = flag_words rule.long ++ value_words (has_value rule) value
+
+-- the words of what is given of each of these arguments (ours)
+abbrev pub words_given : List Argument → List (Option Text) → List Text
+words_given (argument ∷ rest) (given ∷ more) = words_by (rule_in argument) given ++ words_given rest more
+words_given _ _ = []
+
+-- what is found of an argument: its value, where it is given (clap)
+abbrev pub rows_by : Argument → Option Text → List Row
+rows_by argument None = []
+rows_by argument (Some value) = record {
+  id = id_in argument;
+  values = value ∷ [];
+  count = None;
+  source = Some CommandLine;
+  reading = AsWritten;
+} ∷ []
+
+-- what is found of each of these arguments (clap)
+abbrev pub rows_given : List Argument → List (Option Text) → List Row
+rows_given (argument ∷ rest) (given ∷ more) = rows_by argument given ++ rows_given rest more
+rows_given _ _ = []
+
+-- clap takes these words, and they mean this: so they are read as that, or refused as that isn't readable, or memory is
+-- refused (ours)
+pub record Means (words : List Text) (meaning : Result Meaning Unreadable) : Type 0 where
   pub taken : clap_takes words ≡ true
-  pub meaning : meaning_of_words words ≡ Some (Ok (record { job = job; text = text; paths = paths }))
-
--- a line that asks for this job: the program's name, the subcommand's, these flags, a script and a timing (ours)
-abbrev pub LineAsks : Text → List Text → Job → Type 0
-LineAsks name flags job = (program script timing : Text) → IsPlain script → IsPlain timing
-    → Asks (program ∷ name ∷ (flags ++ script ∷ timing ∷ [])) job [] (script ∷ timing ∷ [])
-
--- a line that asks for a page, with the title that it has by the script: the program's name, the subcommand's, these
--- flags, a script and a timing (ours)
-abbrev pub PageAsks : List Text → (Text → Text) → Job → Type 0
-PageAsks flags title job = (program script timing : Text) → IsPlain script → IsPlain timing
-    → Asks (program ∷ codes "page" ∷ (flags ++ script ∷ timing ∷ [])) job (chars (title script))
-    (script ∷ timing ∷ [])
-
--- a line that asks where a text came to stand, of characters that can be looked for: the program's name, the
--- subcommand's, these flags, the text, a script and a timing (ours)
-abbrev pub FindAsks : List Text → Job → Type 0
-FindAsks flags job = (text : Text) → IsPlain text → is_searchable (chars text) ≡ true
-    → (program script timing : Text) → IsPlain script → IsPlain timing
-    → Asks (program ∷ codes "find" ∷ (flags ++ text ∷ script ∷ timing ∷ [])) job (chars text)
-    (script ∷ timing ∷ [])
-
--- a line that asks to take out a text, of characters that can be taken out: the program's name, the subcommand's, these
--- flags, the text, a script and a timing, and the new ones (ours)
-abbrev pub RedactAsks : List Text → Job → Type 0
-RedactAsks flags job = (text : Text) → IsPlain text → is_secret (chars text) ≡ true
-    → (program script timing : Text) → IsPlain script → IsPlain timing
-    → (new_script new_timing : Text) → IsPlain new_script → IsPlain new_timing
-    → Asks (program ∷ codes "redact" ∷ (flags ++ text ∷ script ∷ timing ∷ new_script ∷ new_timing ∷ [])) job
-    (chars text) (script ∷ timing ∷ new_script ∷ new_timing ∷ [])
+  pub meant : meaning_of_words words ≡ Some meaning
