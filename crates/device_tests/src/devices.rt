@@ -1,6 +1,7 @@
 //! Every job over devices that take or tell one byte a call, each of which fails in turn.
-use command_line::{Job, Player, Print};
-use job_tests::in_memory::{AB_PICTURE, DONE, do_job};
+use crate::refused::{Case, SCRIPT, TIMING, cases, plain_case};
+use command_line::{Job, Player};
+use job_tests::in_memory::{DONE, do_job};
 use std::io;
 use std::io::{ErrorKind, Read, Write};
 use std::process::Abort;
@@ -91,155 +92,6 @@ impl Write for SlowWriter {
             Failure::EachFlush => Err(io::Error::from(ErrorKind::Other)),
             _ => Ok(()),
         }
-    }
-}
-
-const SCRIPT: &[u8] = b"Script started on X\nab";
-
-const TIMING: &[u8] = b"0.000000 1\n0.500000 1\n";
-
-/// A job with the text beside it and its request lines, over two chunks of a byte each: whether it reads the lines, and
-/// both texts.
-#[derive(Clone, Copy)]
-struct Case<'a> {
-    job: Job,
-    sought: &'static [char],
-    requests: &'static [u8],
-    reads_requests: bool,
-    text: &'a [u8],
-    new_timing: &'static [u8],
-}
-
-/// A job that reads no request lines and writes one text.
-fn plain_case<'a>(job: Job, text: &'a [u8]) -> Case<'a> {
-    Case {
-        job,
-        sought: &[],
-        requests: b"left alone",
-        reads_requests: false,
-        text,
-        new_timing: b"",
-    }
-}
-
-/// The end of the recording.
-const END: u64 = 500_000;
-
-/// Each job at the end of the recording.
-fn cases() -> [Case<'static>; 17] {
-    let profile = Profile::Vt100;
-    let player = Player::Vt(profile);
-    let screen = Job::Screen {
-        at: END,
-        print: Print::Plain(Player::Vt(profile)),
-    };
-    let picture = Job::Picture {
-        at: END,
-        player: Player::Vt(profile),
-    };
-    let changes = Job::Changes {
-        from: None,
-        to: END,
-        player: Player::Vt(profile),
-    };
-    [
-        plain_case(Job::Due { at: END }, b"ab"),
-        plain_case(
-            Job::Info,
-            b"chunks 2\nbytes 2\nlength 0.500000\nheader 20\ntrailer 0\n",
-        ),
-        plain_case(Job::Check { player }, b"started X\n"),
-        plain_case(
-            screen,
-            b"ab\n\n\n\n\n\n\n\n\n\n\n\n\n\n\n\n\n\n\n\n\n\n\n\n",
-        ),
-        plain_case(picture, AB_PICTURE.as_bytes()),
-        transcript_case(player),
-        transcript_case(Player::Today(None)),
-        plain_case(changes, b"0 0.000000 1\n1 0.500000 1\n"),
-        find_case(player),
-        find_case(Player::Today(None)),
-        plain_case(
-            Job::Reports {
-                at: END,
-                player: Player::Vt(profile),
-            },
-            b"\n",
-        ),
-        cast_case(profile),
-        save_case(),
-        redact_case(player),
-        redact_case(Player::Today(None)),
-        session_case(Player::Vt(profile)),
-        session_case(Player::Today(None)),
-    ]
-}
-
-/// What stands at the end.
-fn transcript_case(player: Player) -> Case<'static> {
-    let job = Job::Transcript {
-        from: None,
-        to: Some(END),
-        player,
-    };
-    plain_case(job, b"ab\n")
-}
-
-/// The second chunk's character.
-fn find_case(player: Player) -> Case<'static> {
-    let job = Job::Find {
-        from: None,
-        to: END,
-        player,
-    };
-    Case {
-        sought: &['b'],
-        ..plain_case(job, b"+ 1 0.500000 1 2 ab\n")
-    }
-}
-
-/// Both chunks draw the first line.
-fn cast_case(profile: Profile) -> Case<'static> {
-    plain_case(
-        Job::Cast {
-            player: Player::Vt(profile),
-        },
-        b"{\"version\": 2, \"width\": 80, \"height\": 24}\n\
-            [0.000000, \"o\", \"\\u001b[1;1H\\u001b[0m\\u001b[2K\\u001b[0ma\\u001b[0m\\u001b[1;2H\"]\n\
-            [0.500000, \"o\", \"\\u001b[1;1H\\u001b[0m\\u001b[2K\\u001b[0mab\\u001b[0m\\u001b[1;3H\"]\n",
-    )
-}
-
-/// Another chunk goes in, and both files are written.
-fn save_case() -> Case<'static> {
-    Case {
-        job: Job::Save,
-        sought: &[],
-        requests: b"insert 1 0.25 58\n",
-        reads_requests: true,
-        text: b"Script started on X\naXb",
-        new_timing: b"0.000000 1\n0.250000 1\n0.500000 1\n",
-    }
-}
-
-/// The second chunk's character is taken out.
-fn redact_case(player: Player) -> Case<'static> {
-    Case {
-        sought: &['b'],
-        new_timing: TIMING,
-        ..plain_case(Job::Redact { player }, b"Script started on X\na*")
-    }
-}
-
-/// A chunk goes out, and what is left is told.
-fn session_case(player: Player) -> Case<'static> {
-    Case {
-        job: Job::Session { every: 1, player },
-        sought: &[],
-        requests: b"delete 0 1\n\ninfo",
-        reads_requests: true,
-        text: b"ok\nchunks 1\nbytes 1\nlength 0.500000\nheader 20\ntrailer 0\n",
-        new_timing: b"",
     }
 }
 
@@ -550,17 +402,40 @@ fn compare_first<R: Abort + AllocGlobal>(rt: &R, case: &Case<'_>, failure: Failu
 #[test]
 fn a_writer_that_fails_stops_the_job(rt: HostRuntime) {
     for case in &cases() {
-        compare_calls(&rt, case);
+        compare_errors(&rt, case);
     }
 }
 
-/// A run for each of some calls of the first writer, which fails at it.
+#[test]
+fn a_writer_that_takes_nothing_stops_the_job(rt: HostRuntime) {
+    for case in &cases() {
+        compare_refusals(&rt, case);
+    }
+}
+
+/// Both of these.
 fn compare_calls<R: Abort + AllocGlobal>(rt: &R, case: &Case<'_>) {
-    let step = case.text.len() / 60 + 1;
-    for call in (0..case.text.len()).step_by(step) {
+    compare_errors(rt, case);
+    compare_refusals(rt, case);
+}
+
+/// A run for each of some calls of the first writer, which is an error.
+fn compare_errors<R: Abort + AllocGlobal>(rt: &R, case: &Case<'_>) {
+    for call in (0..case.text.len()).step_by(step_over(case)) {
         compare_first(rt, case, Failure::Write(call), call);
+    }
+}
+
+/// A run for each of some calls of the first writer, which takes nothing.
+fn compare_refusals<R: Abort + AllocGlobal>(rt: &R, case: &Case<'_>) {
+    for call in (0..case.text.len()).step_by(step_over(case)) {
         compare_first(rt, case, Failure::TakesNothing(call), call);
     }
+}
+
+/// From one such call to the next.
+fn step_over(case: &Case<'_>) -> usize {
+    case.text.len() / 60 + 1
 }
 
 /// A page's text is long, and what it is to be stands in page.rt.

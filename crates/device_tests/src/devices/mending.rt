@@ -1,10 +1,10 @@
 //! The call `mend` over such devices, and the job of its name.
 use super::{
-    Case, Failing, Failure, NEVER, NONE_FAILS, SlowWriter, compare_begun, compare_calls,
-    compare_second_calls, compare_sound, compare_unflushed, compare_unread, plain_case,
-    slow_reader, slow_writer, stopped,
+    Failing, Failure, NEVER, NONE_FAILS, SlowWriter, compare_begun, compare_calls,
+    compare_second_calls, compare_sound, compare_unflushed, compare_unread, slow_reader,
+    slow_writer, stopped,
 };
-use command_line::Job;
+use crate::refused;
 use std::process::Abort;
 use tape_core::{Fault, Watched};
 use tape_jobs::{Outcome, mend};
@@ -127,27 +127,18 @@ fn a_writer_that_fails_stops_mending(rt: HostRuntime) {
     }
 }
 
-/// The job, of a pair that is whole: both files are written as they were.
-fn whole_case() -> Case<'static> {
-    let job = Job::Mend {
-        header: Header::Kept,
-    };
-    Case {
-        new_timing: super::TIMING,
-        ..plain_case(job, super::SCRIPT)
-    }
-}
-
-/// Both files have 22 bytes, each a call, and the 23rd call finds the end.
+/// Each byte of both files is a call, and one more finds the end.
 #[test]
 fn a_reader_that_fails_stops_the_job_mend(rt: HostRuntime) {
-    let case = whole_case();
-    for call in 0..=22 {
+    let case = refused::mend();
+    for call in 0..=refused::SCRIPT.len() {
         let script = Failing {
             script: call,
             ..NONE_FAILS
         };
         compare_unread(&rt, &case, script);
+    }
+    for call in 0..=refused::TIMING.len() {
         let timing = Failing {
             timing: call,
             ..NONE_FAILS
@@ -158,7 +149,7 @@ fn a_reader_that_fails_stops_the_job_mend(rt: HostRuntime) {
 
 #[test]
 fn a_writer_that_fails_stops_the_job_mend(rt: HostRuntime) {
-    let case = whole_case();
+    let case = refused::mend();
     compare_sound(&rt, &case);
     compare_calls(&rt, &case);
     compare_unflushed(&rt, &case, Failure::FirstFlush);
