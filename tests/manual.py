@@ -56,7 +56,8 @@ def flags_of(text):
 
 def front():
     """The flags and the commands of the help text of the whole program."""
-    text = read(os.path.join(TOP, "tests", "help", "typetool.txt"))
+    told = subprocess.run([os.path.join(TOP, "tests", "front.sh")], capture_output=True, text=True, check=True)
+    text = told.stdout
     listed = re.search(r"^Commands:\n(.*?)^$", text, flags=re.MULTILINE | re.DOTALL)[1]
     return flags_of(text), set(re.findall(r"^  ([a-z]+) ", listed, flags=re.MULTILINE))
 
@@ -104,21 +105,21 @@ def warnings():
 
 # How a shell is asked for what it offers behind some words; each prints a word a line. The help is that of tests/help.
 BASH = """
-typetool() { cat "tests/help/${2:-typetool}.txt"; }
+typetool() { if [ -n "$2" ]; then cat "tests/help/$2.txt"; else tests/front.sh; fi; }
 source completions/typetool.bash
 COMP_WORDS=("$@"); COMP_CWORD=$(($# - 1)); _typetool
 printf '%s\\n' "${COMPREPLY[@]}"
 """
 FISH = """
 function typetool
-    cat tests/help/(test (count $argv) -gt 1; and echo $argv[2]; or echo typetool).txt
+    if test (count $argv) -gt 1; cat tests/help/$argv[2].txt; else; tests/front.sh; end
 end
 source completions/typetool.fish
 complete --do-complete (string join ' ' -- $argv)
 """
 # zsh's own functions need a terminal: these print what they are given.
 ZSH = """
-typetool() { cat "tests/help/${2:-typetool}.txt" }
+typetool() { if [[ -n $2 ]]; then cat "tests/help/$2.txt"; else tests/front.sh; fi }
 _describe() { print -l -- ${(P)2} }
 _arguments() { if [[ $1 == -C ]]; then state=$asked[1] line=($asked[2]); else print -l -- "$@"; fi }
 asked=("$@")

@@ -6,6 +6,7 @@ set -u
 program=$(realpath "$1")
 examples=$(realpath "$(dirname "$0")/../examples")
 texts=$(realpath "$(dirname "$0")/help")
+front=$("$(dirname "$0")/front.sh")
 # The newest release that the changelog has.
 version=$(sed -n 's/^## \([0-9][^ ,]*\).*/\1/p' "$(dirname "$0")/../CHANGELOG.md" | head -n 1)
 place=$(mktemp -d)
@@ -169,8 +170,13 @@ status() {
 # Each help text whole, as tests/help has it: people read those against docs/COMMANDS.md and docs/FORMATS.md.
 for text in "$texts"/*.txt; do
     command=$(basename "$text" .txt)
-    if [ "$command" = typetool ]; then words=(); else words=("$command"); fi
-    cp "$text" want.bin
+    if [ "$command" = typetool ]; then
+        words=()
+        printf '%s\n' "$front" >want.bin
+    else
+        words=("$command")
+        cp "$text" want.bin
+    fi
     same "help: $command" "${words[@]}" --help
     same "short help: $command" "${words[@]}" -h
     same "help of: $command" help "${words[@]}"
@@ -179,7 +185,7 @@ done
 check 'the version' 0 "typetool $version\n" '' --version
 check 'the version by a letter' 0 "typetool $version\n" '' -V
 "$program" >out.txt 2>err.txt
-verdict 'no command: the help' 2 $? '' "$(cat "$texts/typetool.txt")\n"
+verdict 'no command: the help' 2 $? '' "$front\n"
 status 'help of an unknown command' 2 help play
 status 'an unknown command' 2 play
 status 'a missing path' 2 due --at 1 ab.script
