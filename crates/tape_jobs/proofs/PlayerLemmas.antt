@@ -6,7 +6,8 @@ use Rattle.chunk_walk.specs.Walk.{asked_texts}
 use Rattle.tape_core.specs.Due.{due}
 use Rattle.tape_core.specs.Tape.{Tape}
 use Rattle.tape_jobs.specs.Moment.{drawn_at, drawn_today, hex_line, printed_at, sent_at, told_at, told_by}
-use Rattle.tape_jobs.specs.Player.{NowhereMeansNowhere, changes_of, found_of, measure_of, played_size, today_at, today_leaving, today_lines, today_standing, told_measure, today_shown, transcript_of, settled, usual_measure, within}
+use Rattle.tape_jobs.specs.Player.{NowhereMeansNowhere, changes_of, found_of, measure_of, played_size, today_at, today_lines, told_measure, today_shown, settled, usual_measure, within}
+use Rattle.tape_jobs.specs.Texts.{today_leaving, today_standing, transcript_of}
 use Rattle.command_line.specs.Measures.{is_size}
 use Rattle.tape_jobs.specs.declared.answers.Asked.{Asked}
 use Rattle.tape_jobs.specs.declared.answers.Asked.TheVariants as asks

@@ -23,9 +23,10 @@ use Rattle.tape_core.specs.declared.devices.Watched.{Watched}
 use Rattle.tape_core.specs.Reading.{reads}
 use Rattle.tape_core.specs.Tape.{Tape}
 use Rattle.tape_core.specs.declared.fault.Fault.TheVariants as fault
-use Rattle.tape_jobs.specs.Output.{Comes, Done, Files, IsDoneStatus, TakesMemory, is_stopped, outcome_by, refused_in, status_after, status_in, takes_requests, writes_last, writes_timing}
+use Rattle.tape_jobs.specs.Output.{Comes, Done, Files, IsDoneStatus, TakesMemory, is_stopped, outcome_by, refused_in, status_after, status_in, takes_requests, writes_timing}
 use Rattle.tape_jobs.specs.declared.job.Ending.{Ending}
 use Rattle.tape_jobs.specs.Player.{NowhereFor}
+use Rattle.tape_jobs.specs.Texts.{writes_last}
 use Rattle.command_line.specs.declared.job.Job.{Job}
 use Rattle.command_line.specs.declared.job.Job.TheVariants.{Find}
 use Rattle.command_line.specs.declared.player.Player.{Player}

@@ -8,3 +8,4 @@ pub mod Player
 pub mod Redacting
 pub mod Requests
 pub mod Session
+pub mod Texts

@@ -3,7 +3,6 @@ use Rattle.std.specs.Prelude.{◌≡◌, ℕ, ◌⊎◌, ◌==◌, ◌&&◌, ◌
 use Rattle.tape_check.specs.Header.{told_size}
 use Rattle.tape_check.specs.Lines.{check_text, is_noted}
 use Rattle.tape_check.specs.Trailer.{is_usual}
-use Rattle.tape_core.specs.Due.{due}
 use Rattle.tape_core.specs.Faults.{is_stop}
 use Rattle.tape_core.specs.Reading.{fault_of, has_header, reads}
 use Rattle.tape_core.specs.Seconds.{last_moment}
@@ -17,15 +16,14 @@ use Rattle.tape_mend.specs.declared.opening.Header.{Header}
 use Rattle.tape_redact.specs.Recording.{taken_out, without}
 use Rattle.vt_term.specs.declared.profile.Profile.TheVariants.{Vt100}
 use Rattle.tape_seek.specs.declared.edits.EditFault.{EditFault}
-use Rattle.tape_jobs.specs.Info.{info_text}
-use Rattle.tape_jobs.specs.Moment.{drawn_at, printed_at, sent_at}
-use Rattle.tape_jobs.specs.Player.{cast_of, changes_of, found_of, page_of, played_of, settled, transcript_of}
+use Rattle.tape_jobs.specs.Player.{found_of, played_of, settled}
 use Rattle.command_line.specs.declared.player.Player.{Player}
 use Rattle.command_line.specs.declared.player.Player.TheVariants.{Vt}
 use Rattle.tape_jobs.specs.Requests.{saved, started}
 use Rattle.tape_jobs.specs.Session.{answered, any_refused}
+use Rattle.tape_jobs.specs.Texts.{text_of}
 use Rattle.command_line.specs.declared.job.Job.{Job}
-use Rattle.command_line.specs.declared.job.Job.TheVariants.{Due, Info, Check, Screen, Picture, Transcript, Changes, Find, Reports, Page, Cast, Save, Mend, Redact, Session}
+use Rattle.command_line.specs.declared.job.Job.TheVariants.{Due, Info, Check, Find, Save, Mend, Redact, Session}
 use Rattle.tape_jobs.specs.declared.job.Ending.{Ending}
 use Rattle.tape_jobs.specs.declared.job.Ending.TheVariants.{Clean, WithRefusals, WithNotes, WithLosses, WithNothing, WithTraces}
 use Rattle.tape_jobs.specs.declared.job.JobFault.{JobFault}
@@ -182,32 +180,22 @@ done_redacting player text tape = record {
   };
 }
 
--- what a job comes to on a recording, request lines and a text: the bytes that are due, what the recording holds, what
--- it says of itself and isn't played of it, what the terminal shows, as text or as a picture, which lines of it each chunk
--- changes, where the text came to stand and where it went, what the terminal has sent by then, the
--- page of which the text is the title, the asciicast, both files anew, with the edits or without the text, or the answers
--- to the lines (ours)
+-- what a job comes to on a recording, request lines and a text: what the recording says of itself and isn't played of it,
+-- where the text came to stand and where it went, both files anew, with the edits or without the text, the answers to the
+-- lines, or else a text alone (ours)
 abbrev pub done_on : Job → Tape → List ℕ → List ℕ → Done
-done_on (Due at) tape requests text = done_with (due tape.chunks at) []
-done_on Info tape requests text = done_with (info_text tape) []
 done_on (Check player) tape requests text =
     done_ending (check_text (played_of player tape) tape) (ending_of_check (is_noted (played_of player tape) tape))
-done_on (Screen at print) tape requests text = done_with (printed_at print tape at) []
-done_on (Picture at player) tape requests text = done_with (drawn_at player tape at) []
-done_on (Transcript from to player) tape requests text = done_with (transcript_of player tape from to) []
-done_on (Changes from to player) tape requests text = done_with (changes_of player tape from to) []
 done_on (Find from to player) tape requests text =
     let lines = found_of player tape from to text in
     done_ending lines (ending_of_find (is_some_text lines))
-done_on (Reports at player) tape requests text = done_with (sent_at player tape at) []
-done_on (Page player) tape requests text = done_with (page_of text player tape) []
-done_on (Cast player) tape requests text = done_with (cast_of player tape) []
 done_on Save tape requests text = saved_by tape requests
 done_on (Mend how) tape requests text = done_with (script_text tape) (timing_text tape)
 done_on (Redact player) tape requests text = done_redacting player text tape
 done_on (Session every player) tape requests text =
     let start = started (settled player tape) tape in
     done_ending (answered start (lines_of requests)) (ending_by (any_refused start (lines_of requests)))
+done_on job tape requests text = done_with (text_of job tape text) []
 
 -- of what is left of a pair of files something is lacking: a line or a chunk, or a part of one, or the timing of bytes
 -- behind the last chunk, which are more than script's closing line (ours)
@@ -234,16 +222,6 @@ TakesMemory (Due at) = ⊥
 TakesMemory Info = ⊥
 TakesMemory (Mend how) = ⊥
 TakesMemory _ = Unit {0}
-
--- the jobs that take all their memory before they write anything: the others write as they go (ours)
-abbrev pub writes_last : Job → Bool
-writes_last (Transcript from to player) = false
-writes_last (Changes from to player) = false
-writes_last (Find from to player) = false
-writes_last (Page player) = false
-writes_last (Cast player) = false
-writes_last (Session every player) = false
-writes_last _ = true
 
 -- a job comes to this on these files: what mending them comes to, where it mends; else the fault of the pair where it
 -- has one, and else what it comes to on the recording (ours)

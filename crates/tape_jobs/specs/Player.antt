@@ -1,14 +1,9 @@
 -- Which terminal plays a recording, and of which size.
 use Rattle.std.specs.Prelude.{◌≡◌, ℕ, List, [], true, false, unwrap_or, Option, Some, None}
 use Rattle.std.specs.Option.{option_map, option_or}
-use Rattle.output_cast.specs.Cast.{cast_text as output_text}
-use Rattle.screen_cast.specs.Cast.{cast_text}
-use Rattle.screen_page.specs.Page.{page_text}
 use Rattle.screen_print.specs.ChangeLines.{change_lines}
 use Rattle.screen_print.specs.EachByte.{StandsNowhere, find_lines, has_ink}
-use Rattle.screen_transcript.specs.Transcribed.{leaving_rows, standing_rows}
 use Rattle.standings.specs.Rows.{Row}
-use Rattle.transcripts.specs.Transcript.{transcript}
 use Rattle.tape_check.specs.Header.{told_size}
 use Rattle.tape_check.specs.declared.played.PlayedAs.{PlayedAs}
 use Rattle.tape_check.specs.declared.played.PlayedAs.TheVariants as played
@@ -16,9 +11,6 @@ use Rattle.tape_core.specs.Due.{due}
 use Rattle.tape_core.specs.Tape.{Tape}
 use Rattle.xterm_term.specs.declared.measure.Size.{Size}
 use Rattle.xterm_term.specs.Term.{Term, reset_term, play}
-use Rattle.xterm_transcript.specs.Rows.{all_rows}
-use Rattle.xterm_transcript.specs.Transcribed.{Transcribed, left, play_on}
-use Rattle.xterm_page.specs.Page.{page_text as today_page}
 use Rattle.text_find.specs.FindLines.{NowhereOn, lines_found}
 use Rattle.xterm_print.specs.ChangeLines.{changed_lines}
 use Rattle.xterm_print.specs.FindRows.{rows_read}
@@ -69,34 +61,6 @@ today_at asked tape at =
     let size = played_size asked tape in
     play (reset_term size.columns size.lines) (due tape.chunks at)
 
--- the recorded output as an asciicast, of the size of that terminal
-abbrev pub today_cast : Option Measure → Tape → List ℕ
-today_cast asked tape =
-    let size = played_size asked tape in
-    output_text size.columns size.lines tape
-
--- a recording as an asciicast: what a VT shows, or for a terminal of today the output itself (ours)
-unfoldable pub cast_of : Player → Tape → List ℕ
-cast_of (Vt profile) tape = cast_text profile tape
-cast_of (Today asked) tape = today_cast asked tape
-
--- such a terminal at its start, of which the rows that leave are told
-abbrev pub today_reset : Measure → Transcribed
-today_reset size = record { term = reset_term size.columns size.lines; home = false }
-
--- the rows that leave it at the latter bytes, and those that stand behind bytes
-abbrev pub today_leaving : Measure → List ℕ → List ℕ → List (List ℕ)
-today_leaving size before bytes = left (play_on (today_reset size) before) bytes
-
-abbrev pub today_standing : Measure → List ℕ → List (List ℕ)
-today_standing size bytes = all_rows (play_on (today_reset size) bytes).term.console.picture
-
--- the session as text: the rows that left the screen after the one moment and by the other, and those that stand (ours)
-unfoldable pub transcript_of : Player → Tape → Option ℕ → Option ℕ → List ℕ
-transcript_of (Vt profile) tape from to = transcript leaving_rows standing_rows profile tape from to
-transcript_of (Today asked) tape from to =
-    transcript today_leaving today_standing (played_size asked tape) tape from to
-
 -- the rows of a terminal of today of a size once these bytes were played
 abbrev pub today_rows : Measure → List ℕ → List (List Cell)
 today_rows size bytes = (play (reset_term size.columns size.lines) bytes).console.picture.rows
@@ -134,10 +98,3 @@ abbrev pub NowhereMeansNowhere : Type 0
 NowhereMeansNowhere =
     (player : Player) (tape : Tape) (from : Option ℕ) (to : ℕ) (text : List ℕ) → has_ink text ≡ true
     → found_of player tape from to text ≡ [] → NowhereFor player tape from to text
-
--- a recording as a page with a title: what a VT or a terminal of today shows (ours)
-unfoldable pub page_of : List ℕ → Player → Tape → List ℕ
-page_of title (Vt profile) tape = page_text title profile tape
-page_of title (Today asked) tape =
-    let size = played_size asked tape in
-    today_page title size.columns size.lines tape

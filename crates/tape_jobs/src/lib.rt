@@ -3,11 +3,10 @@
 
 mod answers;
 mod job;
-mod jobs;
 pub mod laws;
 mod player;
 mod shared;
 
+pub use job::mend::mend;
+pub use job::redact::redact;
 pub use job::{Ending, JobFault, Outcome, run, run_with};
-pub use jobs::mend::mend;
-pub use jobs::redact::redact;

@@ -1,0 +1,31 @@
+use Rattle.std.proofs.Common.{◌≡◌, refl, rules, subst}
+use Rattle.tape_jobs.proofs.MendLemmas.{mend_unread, mend_written}
+use Rattle.tape_jobs.specs.Endings.{used, writers_of}
+use Rattle.tape_jobs.specs.Mending.{ThreeEnd, pair_of, remains_of}
+use Rattle.tape_jobs.proofs.job.mend.mend.Goals as goal
+
+pub returns-in-Ok : goal.returns-in-Ok
+returns-in-Ok g c =
+    let pair = pair_of (used g.S.Read.remaining c.args.script.now c.read_remains.new.script)
+    (used g.T.Read.remaining c.args.timing.now c.read_remains.new.timing) in
+    let writers = writers_of (used g.O.Write.contents c.args.out.now c.write_and_tell.new.out)
+    (used g.P.Write.contents c.args.out_timing.now c.write_and_tell.new.out_timing) in
+    let told = used g.L.Write.contents c.args.told.now c.write_and_tell.new.told in
+    let same : c.deref.result.now ≡ c.in-Ok.mended = search rules in
+    let ends = subst (λ m. ThreeEnd writers told c.args.header (remains_of m) c.write_and_tell.result) same
+    (c.write_and_tell.ensures.ends c.args.header) in
+    rw c.outcome_of.ensures
+    (mend_written pair writers told c.args.header (remains_of c.in-Ok.mended) c.in-Ok.ensures.ok
+    (c.in-Ok.ensures.sound (λ e. absurd (cc))) c.write_and_tell.result ends)
+
+pub returns-in-Err : goal.returns-in-Err
+returns-in-Err g c =
+    let pair = pair_of (used g.S.Read.remaining c.args.script.now c.read_remains.new.script)
+    (used g.T.Read.remaining c.args.timing.now c.read_remains.new.timing) in
+    let writers = writers_of (used g.O.Write.contents c.args.out.now c.args.out.now)
+    (used g.P.Write.contents c.args.out_timing.now c.args.out_timing.now) in
+    let told = used g.L.Write.contents c.args.told.now c.args.told.now in
+    rw c.outcome_of-in-Err.ensures
+    (mend_unread pair writers told c.args.header c.in-Err.fault c.in-Err.ensures.fault
+    (λ other. c.in-Err.ensures.sound (λ e. other (cc))) c.in-Err.ensures.read_fault c.in-Err.ensures.no_write_fault
+    ((refl, refl), refl))
