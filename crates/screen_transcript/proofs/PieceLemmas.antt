@@ -21,13 +21,13 @@ use Rattle.vt_screen.specs.Picture.{Picture}
 use Rattle.vt_term.specs.Console.{Console}
 use Rattle.vt_term.specs.Seen.{Seen, Shows}
 use Rattle.vt_term.specs.Term.{mode_of}
-use Rattle.screen_transcript.specs.declared.home.After.{After}
-use Rattle.screen_transcript.specs.declared.home.After.TheVariants.{Elsewhere}
-use Rattle.screen_transcript.specs.declared.home.Place.{Place}
+use Rattle.transcripts.specs.declared.home.After.{After}
+use Rattle.transcripts.specs.declared.home.After.TheVariants.{Elsewhere}
+use Rattle.transcripts.specs.declared.home.Place.{Place}
 use Rattle.screen_transcript.specs.declared.leaving.Leaving.{Leaving}
 use Rattle.screen_transcript.specs.declared.leaving.Leaving.TheVariants.{NoRow}
 use Rattle.screen_transcript.specs.declared.transcriber.Transcriber.{Transcriber}
-use Rattle.screen_transcript.specs.Acting.{place_in}
+use Rattle.transcripts.specs.Acting.{place_in}
 use Rattle.screen_transcript.specs.Home.{acts, is_empty, is_home, places}
 use Rattle.screen_transcript.specs.Leaving.{at_put, leaving, rows_of}
 use Rattle.screen_transcript.specs.Playing.{Comes, HasRoom, IsPlayed, after_acting, after_command, after_placing, home_by}

@@ -15,7 +15,7 @@ use Rattle.vt_screen.specs.declared.cell.Size.TheVariants.{Single}
 use Rattle.vt_screen.specs.Cells.{blank, cell_at}
 use Rattle.vt_screen.specs.Picture.{margin_of}
 use Rattle.vt_screen.specs.Table.{nth}
-use Rattle.screen_transcript.specs.PlainText.{without_spaces}
+use Rattle.transcripts.specs.PlainText.{without_spaces}
 use Rattle.screen_transcript.specs.Rows.{row_printed}
 use Rattle.screen_transcript.proofs.RowLemmas.{ascii_all}
 

@@ -21,6 +21,7 @@ use Rattle.vt_screen.specs.Cells.{blank, blank_cells, blank_row, cell_at, row_at
 use Rattle.vt_screen.specs.Moves.{moved_to_left, on_line}
 use Rattle.vt_screen.specs.Picture.{Picture, margin_of, right_margin}
 use Rattle.vt_screen.specs.Puts.{put, with_cell, with_row, wrap_taken}
+use Rattle.vt_screen.specs.Limits.{narrow_columns}
 use Rattle.vt_screen.specs.Scrolls.{indexed, scrolled_up}
 use Rattle.vt_screen.specs.Table.{nth, table}
 use Rattle.vt_screen.proofs.SoundRows.{blank_at, right_margin_low}
@@ -36,7 +37,8 @@ use Rattle.vt_term.specs.Sets.{first_sets, glyph_of, set_in_use}
 use Rattle.vt_term.specs.Term.{mode_of}
 use Rattle.screen_transcript.specs.declared.leaving.Leaving.TheVariants.{FirstRow, NoRow}
 use Rattle.screen_transcript.specs.Leaving.{at_feed, leaving, rows_of}
-use Rattle.screen_transcript.specs.PlainText.{IsPlainLine, PlainTextComesOut, with_line_ends, without_spaces}
+use Rattle.screen_transcript.specs.PlainText.{PlainTextComesOut}
+use Rattle.transcripts.specs.PlainText.{IsPlainLine, with_line_ends, without_spaces}
 use Rattle.screen_transcript.specs.Rows.{all_rows, row_printed}
 use Rattle.screen_transcript.specs.Transcribed.{Transcribed, left, left_at, leaving_by, leaving_rows, play_on, reset_as, standing_rows, step_on}
 use Rattle.screen_transcript.proofs.PartLemmas.{left_parts, plays_parts}
@@ -537,7 +539,8 @@ pub record Lines (x : Transcribed) (gone done lines : List (List ℕ)) (bytes : 
   pub left : left x bytes ≡ map without_spaces away
 
 pub typed_lines : (x : Transcribed) (gone rows done : List (List ℕ)) (line : List ℕ) (rest : List (List ℕ)) → Typed x gone rows done []
-    → IsPlainLine line → AllByRecursion IsPlainLine rest → Lines x gone done (line ∷ rest) (with_line_ends line rest)
+    → IsPlainLine narrow_columns line → AllByRecursion (IsPlainLine narrow_columns) rest
+    → Lines x gone done (line ∷ rest) (with_line_ends line rest)
 typed_lines x gone rows done line [] typed plain others =
     let text = typed_text x gone rows done [] line typed plain.graphic (omega (arith, plain.short)) in
     record {
@@ -632,7 +635,7 @@ pub comes_out : PlainTextComesOut
 unfolding transcript left_between standing_rows left text_of play_on
 comes_out profile line rest tape plain others is =
     let bytes = with_line_ends line rest in
-    let all = typed_lines (reset_as profile) [] (replicate 24 []) [] line rest (typed_nothing profile) plain (recursion_from_All IsPlainLine rest others) in
+    let all = typed_lines (reset_as profile) [] (replicate 24 []) [] line rest (typed_nothing profile) plain (recursion_from_All (IsPlainLine narrow_columns) rest others) in
     let p = (play_on (reset_as profile) bytes).term.console.picture in
     let below = 24 - p.line in
     let stands = page_rows p all.rows all.typed.page in

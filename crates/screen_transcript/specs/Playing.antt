@@ -1,7 +1,7 @@
 -- Private: how the code's terminal, and the parser beside it, follow a terminal of which the rows that leave are told.
 use Rattle.std.specs.Prelude.{◌≡◌, ℕ, ◌+◌, ◌≤◌, Bool, true, false, List, Some}
-use Rattle.screen_transcript.specs.declared.home.After.{After}
-use Rattle.screen_transcript.specs.declared.home.After.TheVariants.{Kept, Elsewhere, Placed}
+use Rattle.transcripts.specs.declared.home.After.{After}
+use Rattle.transcripts.specs.declared.home.After.TheVariants.{Kept, Elsewhere, Placed}
 use Rattle.screen_transcript.specs.declared.transcriber.Piece.{Piece}
 use Rattle.screen_transcript.specs.declared.transcriber.Transcriber.{Transcriber}
 use Rattle.screen_transcript.specs.Home.{is_home, places}

@@ -1,44 +1,14 @@
 //! What comes directly behind home.
 ghost use Rattle.std.specs.Prelude.{◌≡◌, ℕ, List};
-ghost use Rattle.screen_transcript.specs.Acting.{place_in};
+ghost use Rattle.transcripts.specs.Acting.{place_in};
 ghost use Rattle.screen_transcript.specs.Home.{acts, is_empty, is_home, places};
 ghost use Rattle.screen_transcript.specs.Playing.{after_command};
-ghost use Rattle.vt_parser.specs.Machine.{context_in};
 ghost use Rattle.vt_parser.specs.Syntax.{action_of};
 ghost use Rattle.vt_parser.specs.Token.{command_of_token};
 
-use vt_parser::{ParserState, Token};
+use transcripts::{After, Place};
+use vt_parser::Token;
 use vt_screen::Screen;
-
-/// Where a byte comes.
-#[derive(Clone, Copy)]
-pub(crate) enum Place {
-    Ground,
-    Sequence,
-    Text,
-}
-
-/// What bytes do to being directly behind home.
-#[derive(Clone, Copy)]
-pub(crate) enum After {
-    /// It stays.
-    Kept,
-    /// What comes next comes elsewhere.
-    Elsewhere,
-    /// A command moved the cursor to a place.
-    Placed,
-}
-
-/// Where the next byte comes.
-pub(crate) fn place_of(state: &ParserState) -> Place
-    ensures { place_in result ≡ context_in state.now }
-{
-    match state {
-        ParserState::Ground => Place::Ground,
-        ParserState::Text => Place::Text,
-        _ => Place::Sequence,
-    }
-}
 
 /// Whether a byte acts, by where it comes and by whether nothing is pending then.
 pub(crate) fn acts(place: Place, byte: u8, done: bool) -> bool

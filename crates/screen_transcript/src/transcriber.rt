@@ -1,7 +1,7 @@
 //! A VT100 of which the rows that leave are told.
 ghost use Rattle.std.specs.Prelude.{◌≡◌, ◌<◌, ◌≤◌, List, OnOk, ℕ, false, length, slice_index, take, true};
 ghost use Rattle.std.specs.List.{list_all};
-ghost use Rattle.screen_transcript.specs.Acting.{place_in};
+ghost use Rattle.transcripts.specs.Acting.{place_in};
 ghost use Rattle.screen_transcript.specs.Home.{acts, is_empty};
 ghost use Rattle.screen_transcript.specs.Playing.{Comes, HasRoom, IsPlayed, after_acting, home_by};
 ghost use Rattle.screen_transcript.specs.Transcribed.{Transcribed, play_on};
@@ -9,9 +9,10 @@ ghost use Rattle.vt_parser.specs.declared.states.ParserState.TheVariants.{Ground
 ghost use Rattle.vt_parser.specs.Syntax.{action_of, is_graphic};
 ghost use Rattle.vt_term.specs.Seen.{Shows};
 
-use crate::home::{After, Place, acts, after_token, is_home, place_of};
+use crate::home::{acts, after_token, is_home};
 use crate::leaving::{Leaving, at_put, leaving_at};
 use plays::{OutOfMemory, Reports};
+use transcripts::{After, Place, place_of};
 use vt_parser::{Parser, ParserState, printable_run};
 use vt_screen::Screen;
 use vt_term::Terminal;

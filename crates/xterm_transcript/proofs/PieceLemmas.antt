@@ -34,14 +34,14 @@ use Rattle.xterm_term.specs.Term.{Term, ends_last, is_control, is_ground, play, 
 use Rattle.xterm_term.proofs.Parts.{ground_shown}
 use Rattle.xterm_term.proofs.Runs.{all_in_parts}
 use Rattle.xterm_term.proofs.Taken.{IsNoShow, gives_on, goes_front, many_modes, pending_on, same_mode}
-use Rattle.xterm_transcript.specs.declared.home.After.{After}
-use Rattle.xterm_transcript.specs.declared.home.After.TheVariants.{Elsewhere, Kept}
-use Rattle.xterm_transcript.specs.declared.home.Place.{Place}
+use Rattle.transcripts.specs.declared.home.After.{After}
+use Rattle.transcripts.specs.declared.home.After.TheVariants.{Elsewhere, Kept}
+use Rattle.transcripts.specs.declared.home.Place.{Place}
 use Rattle.xterm_transcript.specs.declared.leaving.Leaving.{Leaving}
 use Rattle.xterm_transcript.specs.declared.leaving.Leaving.TheVariants.{NoRow}
 use Rattle.xterm_transcript.specs.declared.transcriber.Piece.{Piece}
 use Rattle.xterm_transcript.specs.declared.transcriber.Transcriber.{Transcriber}
-use Rattle.xterm_transcript.specs.Acting.{place_in}
+use Rattle.transcripts.specs.Acting.{place_in}
 use Rattle.xterm_transcript.specs.Home.{acts, went_home}
 use Rattle.xterm_transcript.specs.Leaving.{leaving, leaving_first, put_leaves}
 use Rattle.xterm_transcript.specs.Playing.{Comes, HasRoom, IsPlayed, PlaysAlike, after_acting, after_command, after_put, home_by, repeated_off, told_by}

@@ -13,7 +13,7 @@ use Rattle.sheet.specs.Table.{nth}
 use Rattle.vt_parser.specs.Syntax.{is_graphic}
 use Rattle.xterm_rows.specs.RowText.{is_space, printed}
 use Rattle.xterm_rows.proofs.TextLemmas.{letter_printed}
-use Rattle.xterm_transcript.specs.PlainText.{without_spaces}
+use Rattle.transcripts.specs.PlainText.{without_spaces}
 use Rattle.xterm_transcript.specs.Rows.{row_printed}
 
 -- a character of one column alone, in some rendition

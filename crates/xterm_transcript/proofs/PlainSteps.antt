@@ -43,7 +43,8 @@ use Rattle.xterm_term.specs.Term.{Term, play}
 use Rattle.xterm_term.proofs.Idle.{control_brings}
 use Rattle.xterm_term.proofs.Runs.{ascii_is_narrow as narrow_here, on_ground, put_narrow}
 use Rattle.xterm_transcript.specs.Leaving.{at_control, feed_leaves, first_if, leaving, leaving_first, put_leaves, rows_of}
-use Rattle.xterm_transcript.specs.PlainText.{IsPlainLine, PlainTextComesOut, with_line_ends, without_spaces}
+use Rattle.xterm_transcript.specs.PlainText.{PlainTextComesOut}
+use Rattle.transcripts.specs.PlainText.{IsPlainLine, with_line_ends, without_spaces}
 use Rattle.xterm_transcript.specs.Rows.{all_rows, row_printed}
 use Rattle.xterm_transcript.specs.Transcribed.{Coming, Transcribed, coming_at, left, leaving_rows, play_on, reset_of, standing_rows, step_on}
 use Rattle.xterm_transcript.proofs.CommandLemmas.{at_made, came_one, made}

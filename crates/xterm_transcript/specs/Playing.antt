@@ -17,8 +17,8 @@ use Rattle.xterm_term.specs.Puts.{is_c1, last_repeated, put_times}
 use Rattle.xterm_term.specs.Seen.{Seen, Shows}
 use Rattle.xterm_term.specs.Sets.{set_in_use}
 use Rattle.xterm_term.specs.Term.{Term, play}
-use Rattle.xterm_transcript.specs.declared.home.After.{After}
-use Rattle.xterm_transcript.specs.declared.home.After.TheVariants.{Kept, Elsewhere, Placed}
+use Rattle.transcripts.specs.declared.home.After.{After}
+use Rattle.transcripts.specs.declared.home.After.TheVariants.{Kept, Elsewhere, Placed}
 use Rattle.xterm_transcript.specs.declared.leaving.Leaving.{Leaving}
 use Rattle.xterm_transcript.specs.declared.leaving.Leaving.TheVariants.{Repeated}
 use Rattle.xterm_transcript.specs.declared.transcriber.Piece.{Piece}

@@ -6,7 +6,7 @@ use Rattle.vt_parser.specs.Machine.{context_in}
 use Rattle.vt_parser.specs.Syntax.{action_of, is_graphic}
 use Rattle.vt_parser.specs.Token.{command_of_token, Leads, TellsOf}
 use Rattle.vt_term.specs.declared.modes.Modes.{Modes}
-use Rattle.screen_transcript.specs.Acting.{place_in}
+use Rattle.transcripts.specs.Acting.{place_in}
 use Rattle.screen_transcript.specs.Home.{acts}
 use Rattle.screen_transcript.specs.Leaving.{leaving}
 use Rattle.screen_transcript.specs.Playing.{after_acting}

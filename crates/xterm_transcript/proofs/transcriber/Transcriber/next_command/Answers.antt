@@ -8,7 +8,7 @@ use Rattle.vt_parser.specs.Machine.{context_in}
 use Rattle.vt_parser.specs.Syntax.{action_of, is_graphic}
 use Rattle.vt_parser.specs.Token.{Leads, TellsOf}
 use Rattle.xterm_term.specs.Reading.{GoesOn}
-use Rattle.xterm_transcript.specs.Acting.{place_in}
+use Rattle.transcripts.specs.Acting.{place_in}
 use Rattle.xterm_transcript.specs.Home.{acts}
 use Rattle.xterm_transcript.specs.Playing.{after_acting}
 use Rattle.xterm_transcript.proofs.PieceLemmas.{comes_command, comes_nothing, first_of, many_of}

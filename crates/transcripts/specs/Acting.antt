@@ -1,6 +1,6 @@
 -- Private: where a byte comes, as the code says it.
-use Rattle.xterm_transcript.specs.declared.home.Place.{Place}
-use Rattle.xterm_transcript.specs.declared.home.Place.TheVariants.{Ground, Sequence, Text}
+use Rattle.transcripts.specs.declared.home.Place.{Place}
+use Rattle.transcripts.specs.declared.home.Place.TheVariants.{Ground, Sequence, Text}
 use Rattle.vt_parser.specs.declared.syntax.Context.{Context}
 use Rattle.vt_parser.specs.declared.syntax.Context.TheVariants as context
 
