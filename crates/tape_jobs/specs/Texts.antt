@@ -12,7 +12,7 @@ use Rattle.xterm_term.specs.Term.{reset_term}
 use Rattle.xterm_transcript.specs.Rows.{all_rows}
 use Rattle.xterm_transcript.specs.Transcribed.{Transcribed, left, play_on}
 use Rattle.command_line.specs.declared.job.Job.{Job}
-use Rattle.command_line.specs.declared.job.Job.TheVariants.{Due, Info, Screen, Picture, Transcript, Changes, Find, Reports, Page, Cast, Session}
+use Rattle.command_line.specs.declared.job.Job.TheVariants.{Due, Info, Check, Screen, Picture, Transcript, Changes, Find, Reports, Page, Cast, Save, Mend, Redact, Session}
 use Rattle.command_line.specs.declared.player.Measure.{Measure}
 use Rattle.command_line.specs.declared.player.Player.{Player}
 use Rattle.command_line.specs.declared.player.Player.TheVariants.{Vt, Today}
@@ -69,6 +69,16 @@ text_of (Reports at player) tape text = sent_at player tape at
 text_of (Page player) tape text = page_of text player tape
 text_of (Cast player) tape text = cast_of player tape
 text_of _ tape text = []
+
+-- the jobs that are done once that text is written (ours)
+abbrev pub only_writes : Job → Bool
+only_writes (Check player) = false
+only_writes (Find from to player) = false
+only_writes Save = false
+only_writes (Mend how) = false
+only_writes (Redact player) = false
+only_writes (Session every player) = false
+only_writes _ = true
 
 -- the jobs that take all their memory before they write anything: the others write as they go (ours)
 abbrev pub writes_last : Job → Bool

@@ -1,12 +1,13 @@
 //! The jobs: each reads its files whole and then writes its text.
 
-ghost use Rattle.std.specs.Prelude.{[], ◌≡◌, ◌⊎◌, ◌≢◌, ℕ, List, true, false, Some, IfOk, IfErr};
-ghost use Rattle.tape_core.specs.Devices.{inner_of, has_failed};
+ghost use Rattle.std.specs.Prelude.{[], ◌≡◌, ◌⊎◌, ◌≢◌, ℕ, List, true, false, Some, IfOk, IfErr, OnOk};
+ghost use Rattle.tape_jobs.specs.Texts.{only_writes, text_of, writes_last};
+ghost use Rattle.tape_core.specs.Devices.{inner_of, has_failed, is_flushed};
 ghost use Rattle.tape_core.specs.Faults.{is_stop};
 ghost use Rattle.tape_core.specs.Reading.{fault_of, reads};
-ghost use Rattle.tape_jobs.specs.Endings.{JobEnds, RunEnds, readers_of, used, writers_of};
+ghost use Rattle.tape_jobs.specs.Endings.{JobEnds, JobPuts, RunEnds, readers_of, used, writers_of};
 ghost use Rattle.tape_jobs.specs.Notes.{NoteEnds};
-ghost use Rattle.tape_jobs.specs.Output.{answers_by_status, clean_by, done_on, mends, outcome_by, outcome_in, status_after, status_of, takes_requests, writes_timing};
+ghost use Rattle.tape_jobs.specs.Output.{TakesMemory, answers_by_status, clean_by, done_on, mends, outcome_by, outcome_in, status_after, status_of, takes_requests, writes_timing};
 
 mod cast;
 mod changes;
@@ -296,41 +297,67 @@ fn perform<O: Write, P: Write>(
         recording,
         requests,
     } = given;
+    if only_writes(job) {
+        return clean(write_text(alloc, job, text, recording, out));
+    }
     match job {
-        Job::Due { at } => {
-            write_due(&ManuallyDrop::new(recording), at, out)?;
-            Ok(Ending::Clean)
-        }
-        Job::Info => {
-            write_info(&ManuallyDrop::new(recording), out)?;
-            Ok(Ending::Clean)
-        }
         Job::Check { player } => write_checked(alloc, &ManuallyDrop::new(recording), player, out),
-        Job::Screen { at, print } => clean(write_screen(alloc, recording, print, at, out)),
-        Job::Picture { at, player } => clean(write_picture(alloc, recording, player, at, out)),
-        Job::Transcript { from, to, player } => clean(write_transcript(
-            alloc,
-            &ManuallyDrop::new(recording),
-            player,
-            from,
-            to,
-            out,
-        )),
-        Job::Changes { from, to, player } => {
-            clean(write_changes(alloc, recording, player, from, to, out))
-        }
         Job::Find { from, to, player } => {
             write_found(alloc, recording, player, from, to, text, out)
         }
-        Job::Reports { at, player } => clean(write_reports(alloc, recording, player, at, out)),
-        Job::Page { player } => clean(write_page(alloc, recording, player, text, out)),
-        Job::Cast { player } => clean(write_cast(alloc, recording, player, out)),
         Job::Save => write_edited(alloc, recording, &requests, out, out_timing),
-        Job::Mend { .. } => unreachable!(),
         Job::Redact { player } => write_redacted(alloc, recording, player, text, out, out_timing),
         Job::Session { every, player } => {
             write_answers(alloc, recording, player, every, &requests, out)
         }
+        _ => unreachable!(),
+    }
+}
+
+/// Whether a job is done once its text is written.
+fn only_writes(job: Job) -> bool
+    ensures { result ≡ only_writes job }
+{
+    !matches!(
+        job,
+        Job::Check { .. }
+            | Job::Find { .. }
+            | Job::Save
+            | Job::Mend { .. }
+            | Job::Redact { .. }
+            | Job::Session { .. }
+    )
+}
+
+/// Writes the text of a job that is done with it, and flushes. Nothing is written where memory is refused to a job that takes
+/// it all before.
+fn write_text<O: Write>(
+    alloc: Global,
+    job: Job,
+    text: &[char],
+    recording: Recording,
+    out: &mut Watched<O>,
+) -> Result<(), JobFault>
+    requires only { only_writes job ≡ true }
+    requires out { has_failed out.old ≡ false }
+    ensures puts { JobPuts O.contents out.old out.new (text_of job recording text.now) result }
+    ensures flushed { OnOk result (is_flushed out.new ≡ true) }
+    ensures takes { result ≡ Err JobFault.Memory → TakesMemory job }
+    ensures unwritten { result ≡ Err JobFault.Memory → writes_last job ≡ true → out.new ≡ out.old }
+{
+    match job {
+        Job::Due { at } => Ok(write_due(&ManuallyDrop::new(recording), at, out)?),
+        Job::Info => Ok(write_info(&ManuallyDrop::new(recording), out)?),
+        Job::Screen { at, print } => write_screen(alloc, recording, print, at, out),
+        Job::Picture { at, player } => write_picture(alloc, recording, player, at, out),
+        Job::Transcript { from, to, player } => {
+            write_transcript(alloc, &ManuallyDrop::new(recording), player, from, to, out)
+        }
+        Job::Changes { from, to, player } => write_changes(alloc, recording, player, from, to, out),
+        Job::Reports { at, player } => write_reports(alloc, recording, player, at, out),
+        Job::Page { player } => write_page(alloc, recording, player, text, out),
+        Job::Cast { player } => write_cast(alloc, recording, player, out),
+        _ => unreachable!(),
     }
 }
 
