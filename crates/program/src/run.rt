@@ -2,8 +2,8 @@
 
 ghost use Rattle.std.specs.Prelude.{◌≡◌, ◌⊎◌, ◌≢◌, ◌≤◌, IfErr, IfOk};
 ghost use Rattle.clap.specs.Words.{kind_of};
-ghost use Rattle.typetool.specs.Hints.{hint_of_stop};
-ghost use Rattle.typetool.specs.Program.{IsOutcome, stop_status};
+ghost use Rattle.program.specs.Hints.{hint_of_stop};
+ghost use Rattle.program.specs.Program.{IsOutcome, stop_status};
 
 use crate::cleaning::cleaned_words;
 use crate::hints::{Device, Hint, tell_hint};
@@ -39,7 +39,7 @@ pub enum Stop {
 
 impl From<AllocError> for Stop {
     ghost use Rattle.std.specs.Prelude.{◌≡◌};
-    ghost use Rattle.typetool.specs.declared.program.Stop.TheVariants.{Memory};
+    ghost use Rattle.program.specs.declared.run.Stop.TheVariants.{Memory};
 
     ghost from_gives = { λ _ stop. stop ≡ Memory };
 

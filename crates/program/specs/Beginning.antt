@@ -1,9 +1,9 @@
 -- What a text begins with, as far as a hint depends on it.
 use Rattle.std.specs.Prelude.{◌==◌, ◌+◌, ℕ, Bool, true, false, List, Option, Some, None, cond, ◌&&◌, ◌||◌, not, nat_lt, slice_index, codes, is_none}
-use Rattle.typetool.specs.declared.beginning.Beginning.{Beginning}
-use Rattle.typetool.specs.declared.beginning.Begun.{Begun}
-use Rattle.typetool.specs.declared.beginning.FirstField.{FirstField}
-use Rattle.typetool.specs.declared.beginning.FirstField.TheVariants.{Awaited, Letter, Stream, Other}
+use Rattle.program.specs.declared.beginning.Beginning.{Beginning}
+use Rattle.program.specs.declared.beginning.Begun.{Begun}
+use Rattle.program.specs.declared.beginning.FirstField.{FirstField}
+use Rattle.program.specs.declared.beginning.FirstField.TheVariants.{Awaited, Letter, Stream, Other}
 
 -- the bytes with which a typescript begins. script(1)
 abbrev pub session : List ℕ

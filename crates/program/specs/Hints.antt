@@ -7,14 +7,14 @@ use Rattle.command_line.specs.declared.job.Job.{Job}
 use Rattle.command_line.specs.declared.job.Job.TheVariants as jobs
 use Rattle.tape_jobs.specs.declared.job.JobFault.{JobFault}
 use Rattle.tape_jobs.specs.declared.job.JobFault.TheVariants as of_job
-use Rattle.typetool.specs.Beginning.{is_empty, is_streams, is_typescript}
-use Rattle.typetool.specs.declared.beginning.Beginnings.{Beginnings}
-use Rattle.typetool.specs.declared.hints.Device.{Device}
-use Rattle.typetool.specs.declared.hints.Hint.{Hint}
-use Rattle.typetool.specs.declared.program.Stop.{Stop}
-use Rattle.typetool.specs.declared.program.Stop.TheVariants as stop
+use Rattle.program.specs.Beginning.{is_empty, is_streams, is_typescript}
+use Rattle.program.specs.declared.beginning.Beginnings.{Beginnings}
+use Rattle.program.specs.declared.hints.Device.{Device}
+use Rattle.program.specs.declared.hints.Hint.{Hint}
+use Rattle.program.specs.declared.run.Stop.{Stop}
+use Rattle.program.specs.declared.run.Stop.TheVariants as stop
 use Rattle.command_line.specs.declared.words.WordsFault.TheVariants as words
-use Rattle.typetool.specs.declared.hints.Hint.TheVariants as hint
+use Rattle.program.specs.declared.hints.Hint.TheVariants as hint
 
 -- the fault is one of the timing's first line (ours)
 abbrev pub is_of_line_one : Fault → Bool

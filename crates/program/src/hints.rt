@@ -1,7 +1,7 @@
 //! What to do about a fault: the line that follows it on standard error.
 
 ghost use Rattle.std.specs.Prelude.{◌≡◌};
-ghost use Rattle.typetool.specs.Hints.{device_of, hint_after, hint_at_end, hint_of_mend, hint_of_pair, is_of_line_one};
+ghost use Rattle.program.specs.Hints.{device_of, hint_after, hint_at_end, hint_of_mend, hint_of_pair, is_of_line_one};
 
 use crate::beginning::Beginnings;
 use crate::cleaning::cleaned;

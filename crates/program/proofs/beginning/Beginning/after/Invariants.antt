@@ -1,7 +1,7 @@
 use Rattle.std.proofs.Common.{◌≡◌, take}
 use Rattle.std.specs.Prelude.{fold}
-use Rattle.typetool.specs.Beginning.{after_byte}
-use Rattle.typetool.proofs.beginning.Beginning.after.Given as goal
+use Rattle.program.specs.Beginning.{after_byte}
+use Rattle.program.proofs.beginning.Beginning.after.Given as goal
 
 -- the bytes so far have come
 abbrev pub invariant-loop-byte : goal.invariant-loop-byte

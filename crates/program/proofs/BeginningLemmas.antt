@@ -3,10 +3,10 @@ use Rattle.std.proofs.Common.{◌≡◌, ℕ, Bool, true, false, List, Option, S
 use Rattle.std.proofs.lemmas.Bool.Decides.{nat_tests}
 use Rattle.std.proofs.lemmas.List.Folds.{fold_stays}
 use Rattle.std.specs.Prelude.{fold}
-use Rattle.typetool.specs.Beginning.{after_byte, is_settled}
-use Rattle.typetool.specs.declared.beginning.Beginning.{Beginning}
-use Rattle.typetool.specs.declared.beginning.FirstField.{FirstField}
-use Rattle.typetool.specs.declared.beginning.FirstField.TheVariants.{Awaited, Letter, Stream, Other}
+use Rattle.program.specs.Beginning.{after_byte, is_settled}
+use Rattle.program.specs.declared.beginning.Beginning.{Beginning}
+use Rattle.program.specs.declared.beginning.FirstField.{FirstField}
+use Rattle.program.specs.declared.beginning.FirstField.TheVariants.{Awaited, Letter, Stream, Other}
 
 abbrev of_parts : Bool → Option ℕ → FirstField → Beginning
 of_parts e s f = record { empty = e; session = s; first = f }

@@ -2,7 +2,7 @@
 
 ghost use Rattle.std.specs.Prelude.{◌≡◌, false, fold};
 ghost use Rattle.tape_core.specs.Devices.{has_failed};
-ghost use Rattle.typetool.specs.Beginning.{after_byte, field_after, is_empty, is_settled, is_streams, is_typescript, nothing, remaining_of, session_after};
+ghost use Rattle.program.specs.Beginning.{after_byte, field_after, is_empty, is_settled, is_streams, is_typescript, nothing, remaining_of, session_after};
 
 use std::io;
 use std::io::Read;

@@ -4,8 +4,8 @@ use Rattle.tape_jobs.specs.Output.{Files, is_stopped}
 use Rattle.command_line.specs.declared.job.Job.{Job}
 use Rattle.tape_jobs.specs.declared.job.JobFault.{JobFault}
 use Rattle.tape_jobs.specs.declared.job.Outcome.{Outcome}
-use Rattle.typetool.specs.Program.{IsAnswer}
-use Rattle.typetool.proofs.running.print.Goals as goal
+use Rattle.program.specs.Program.{IsAnswer}
+use Rattle.program.proofs.running.print.Goals as goal
 
 -- a run that nothing stopped is done or refused
 answered : {S T R O P : Type 0} (readers : Readers S T R) (writers : Writers O P) (job : Job) (outcome : Outcome)

@@ -5,15 +5,15 @@ ghost use Rattle.tape_core.specs.Devices.{has_failed};
 ghost use Rattle.command_line.specs.CommandLine.{path_count};
 ghost use Rattle.tape_jobs.specs.Endings.{HoldFiles, readers_of, used};
 ghost use Rattle.tape_jobs.specs.Output.{Files as Given, is_stopped};
-ghost use Rattle.typetool.specs.Beginning.{remaining_of};
-ghost use Rattle.typetool.specs.Program.{IsAnswer, IsOutcome, stop_status};
+ghost use Rattle.program.specs.Beginning.{remaining_of};
+ghost use Rattle.program.specs.Program.{IsAnswer, IsOutcome, stop_status};
 
 use crate::beginning::Sources;
 use crate::devices::{Outlet, buffered, released};
 use crate::files::open;
 use crate::hints::{Device, Hint, first_failed, hint_at_end};
 use crate::pair::{New, NewPair, create_pair};
-use crate::program::Stop;
+use crate::run::Stop;
 use command_line::{Job, Player, Words};
 use std::io;
 use std::rt::Files;

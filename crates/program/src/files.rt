@@ -2,10 +2,10 @@
 
 ghost use Rattle.std.specs.Prelude.{◌≡◌, IfErr, IfOk, bit_and, string_bytes};
 ghost use Rattle.std.specs.Fs.{metadata_mode};
-ghost use Rattle.typetool.specs.Program.{IsNotCreated, IsNotOpen, part_of};
+ghost use Rattle.program.specs.Program.{IsNotCreated, IsNotOpen, part_of};
 
 use crate::cleaning::cleaned;
-use crate::program::Stop;
+use crate::run::Stop;
 use std::alloc::AllocError;
 use std::fs;
 use std::fs::{Metadata, OpenFile, OpenOptions};

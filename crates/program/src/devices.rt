@@ -3,7 +3,7 @@
 ghost use Rattle.std.specs.Prelude.{◌≡◌, IfErr, IfOk, false};
 ghost use Rattle.tape_core.specs.Devices.{has_failed, has_written};
 
-use crate::program::Stop;
+use crate::run::Stop;
 use std::io;
 use std::io::{BufWriter, ErrorKind, Write};
 use tape_core::Watched;

@@ -5,12 +5,12 @@
 
 ghost use Rattle.std.specs.Prelude.{◌≡◌, IfErr, IfOk, false, true};
 ghost use Rattle.tape_core.specs.Devices.{has_failed};
-ghost use Rattle.typetool.specs.Pair.{is_in_place, is_safe};
-ghost use Rattle.typetool.specs.Program.{IsNoPair, IsNotCreated, part_of};
+ghost use Rattle.program.specs.Pair.{is_in_place, is_safe};
+ghost use Rattle.program.specs.Program.{IsNoPair, IsNotCreated, part_of};
 
 use crate::devices::{buffered, released};
 use crate::files::{create, create_private, mode_of, part_of};
-use crate::program::Stop;
+use crate::run::Stop;
 use std::fs::{OpenFile, Permissions};
 use std::io::BufWriter;
 use std::os::unix::fs::PermissionsExt;

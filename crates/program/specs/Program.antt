@@ -6,9 +6,9 @@ use Rattle.clap.specs.declared.error.ErrorKind.TheVariants.{DisplayHelp, Display
 use Rattle.tape_jobs.specs.Output.{Comes, Done, Files, IsDoneStatus, status_in, status_of}
 use Rattle.command_line.specs.declared.job.Job.{Job}
 use Rattle.tape_jobs.specs.declared.job.Outcome.{Outcome}
-use Rattle.typetool.specs.Cleaning.{cleaned}
-use Rattle.typetool.specs.declared.program.Stop.{Stop}
-use Rattle.typetool.specs.declared.program.Stop.TheVariants.{Words, NotText, Memory, CannotOpen, CannotCreate, Job as of_job}
+use Rattle.program.specs.Cleaning.{cleaned}
+use Rattle.program.specs.declared.run.Stop.{Stop}
+use Rattle.program.specs.declared.run.Stop.TheVariants.{Words, NotText, Memory, CannotOpen, CannotCreate, Job as of_job}
 use Rattle.command_line.specs.declared.words.WordsFault.TheVariants as words
 
 -- 0 where help is asked for, and 2 for a mistake (ours)
