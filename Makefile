@@ -68,11 +68,11 @@ test:
 		'tests/page_data.py bin/typetool' \
 		'tests/cast.py bin/typetool' \
 		'tests/archive.py bin/typetool 500' \
-		'tests/refused.py 1 12 13' \
+		'tests/refused.py 1 12 13' -- \
 		$(BROWSER)
 
-# Pages in Chromium.
-BROWSER := 'tests/browser.py bin/typetool' 'tests/browser_look.py bin/typetool' 'tests/browser_today.py bin/typetool'
+# Pages in Chromium, one script after the other, since they look at the clock.
+BROWSER := 'tests/browser.py bin/typetool' -- 'tests/browser_look.py bin/typetool' -- 'tests/browser_today.py bin/typetool'
 
 browser: bin/typetool
 	tests/run.py $(BROWSER)
@@ -88,8 +88,8 @@ soak: bin/typetool
 		'tests/fuzz.py bin/typetool 20000' \
 		'tests/today_fuzz.py bin/typetool 10000' \
 		'tests/transcripts.py bin/typetool 3000' \
-		'tests/archive.py bin/typetool' \
-		tests/refused.py \
+		'tests/archive.py bin/typetool' -- \
+		tests/refused.py -- \
 		tests/edits.sh
 
 # The program, its manual page, and what shells complete of its command line.
