@@ -1,4 +1,6 @@
 //! Every job over devices that take or tell one byte a call, each of which fails in turn.
+ghost use Rattle.std.specs.Prelude.{◌<◌};
+
 use crate::refused::{Case, SCRIPT, TIMING, cases, plain_case};
 use command_line::{Job, Player};
 use job_tests::in_memory::{DONE, do_job};
@@ -434,7 +436,9 @@ fn compare_refusals<R: Abort + AllocGlobal>(rt: &R, case: &Case<'_>) {
 }
 
 /// From one such call to the next.
-fn step_over(case: &Case<'_>) -> usize {
+fn step_over(case: &Case<'_>) -> usize
+    ensures { 0 < result }
+{
     case.text.len() / 60 + 1
 }
 
