@@ -1,7 +1,8 @@
 #!/usr/bin/env bash
-# Prints the help of the whole program as it is to be: that of tests/help/typetool.txt, with a line for each command, which is
-# the first one of its own help. They stand in the order of docs/COMMANDS.md.
-# Usage: tests/front.sh
+# Prints the help of the whole program as it is to be: that of tests/help/typetool.txt, with a line for each command,
+# which is the first one of its own help. They stand in the order of docs/COMMANDS.md.
+#
+#     tests/front.sh
 set -eu
 cd "$(dirname "$0")/.."
 mapfile -t names < <(sed -n 's/^## `typetool \([a-z]*\).*/\1/p' docs/COMMANDS.md)

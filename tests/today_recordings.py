@@ -7,8 +7,7 @@ Each is made by script(1) on a terminal of its own, of a size of its own, in UTF
 typed. At moments spread over it the plain reading (plain_today.py) is compared with tmux (characters and renditions),
 with xterm where there is Xvfb (characters), and with `typetool screen --profile xterm` where the program is named
 (`''` names none). At the end the plain transcript (plain_transcript.py) is compared with what tmux has kept of the
-session, and with `typetool transcript`. With a FOLDER the recordings stay there as NAME.script and
-NAME.timing.
+session, and with `typetool transcript`. With a FOLDER the recordings stay there as NAME.script and NAME.timing.
 
 It takes Debian's tmux, vim, less, mc, dialog, htop, xterm and xvfb. The last line is 'N passed, M failed'.
 """

@@ -70,7 +70,7 @@ text_of (Page player) tape text = page_of text player tape
 text_of (Cast player) tape text = cast_of player tape
 text_of _ tape text = []
 
--- the jobs that are done once that text is written (ours)
+-- Private: the jobs that are done once that text is written (ours)
 abbrev pub only_writes : Job → Bool
 only_writes (Check player) = false
 only_writes (Find from to player) = false
