@@ -11,6 +11,7 @@ that job alone. The last line is 'N passed, M failed'. It takes valgrind.
 import concurrent.futures
 import os
 import re
+import struct
 import subprocess
 import sys
 import tempfile
@@ -98,6 +99,43 @@ def moved_up(n):
     return [b"a\x1b[99S"] * n
 
 
+def outputs(n):
+    """An asciicast of one character an event."""
+    return b'{"version": 2}\n' + b"".join(b'[%d.5, "o", "x"]\n' % at for at in range(n))
+
+
+def members(n):
+    """One whose header has many members."""
+    return b"{" + b"".join(b'"%d": [%d], ' % (at, at) for at in range(n)) + b'"version": 3}\n'
+
+
+def escapes(n):
+    """One whose only output is spelled in escapes."""
+    return b'{"version": 2}\n[0, "o", "' + b"\\ud83d\\ude00\\u001b\\n" * n + b'"]\n'
+
+
+def entries(n):
+    """An asciicast of version 1, whose version comes last."""
+    return b'{"stdout": [' + b", ".join([b'[0.5, "x"]'] * n) + b'], "version": 1}'
+
+
+def records(n):
+    """A ttyrec of one character a record."""
+    return b"".join(struct.pack("<3I", at, 0, 1) + b"x" for at in range(n))
+
+
+def messages(n):
+    """Messages of tlog."""
+    line = b'{"ver": "2.3", "rec": "r", "id": %d, "pos": %d, "timing": "=80x24>1+9>1", "out_txt": "xy"}\n'
+    return b"".join(line % (at + 1, at) for at in range(n))
+
+
+def characters(n):
+    """One message whose timing takes them one by one, and bytes between."""
+    told = b'{"ver": "2.3", "id": 1, "pos": 0, "timing": "%s", "out_txt": "%s", "out_bin": [%s]}\n'
+    return told % (b">1+1]0/1" * n, b"x" * n, b", ".join([b"27"] * n))
+
+
 def wide(n):
     """Wide characters with marks in colours."""
     return ["\x1b[38;5;%dm日e\u0301".encode() % (at % 256) for at in range(n)]
@@ -137,25 +175,33 @@ RUNS = [
     (("cast",), reversals, 30),
     (("cast", *TODAY), wide, 8000),
     (("mend",), cells, 20000),
+    (("import",), outputs, 10000),
+    (("import",), members, 10000),
+    (("import",), escapes, 10000),
+    (("import",), entries, 10000),
+    (("import",), records, 20000),
+    (("import",), messages, 2000),
+    (("import",), characters, 5000),
     (("mend",), named, 2000),
 ]
 
 
 def files_of(parts):
-    """The pair of a recording of these parts, or that which was made."""
-    if isinstance(parts, tuple):
-        return parts
+    """The files of a recording of these parts, or those that were made: a pair, or one file of another form."""
+    if isinstance(parts, (tuple, bytes)):
+        return parts if isinstance(parts, tuple) else (parts,)
     return plain_reader.files_of((HEADER, [(1000, part) for part in parts], b""))
 
 
 def counted(folder, words, parts):
     """How many instructions the program takes on a recording of these parts."""
-    paths = [os.path.join(folder, f"made.{kind}") for kind in ("script", "timing")]
-    for path, text in zip(paths, files_of(parts)):
+    files = files_of(parts)
+    paths = [os.path.join(folder, f"made.{kind}") for kind in ("script", "timing")][: len(files)]
+    for path, text in zip(paths, files):
         with open(path, "wb") as file:
             file.write(text)
     new = [os.path.join(folder, f"new.{kind}") for kind in ("script", "timing")]
-    words = [*words, *paths, *(new if words[0] == "mend" else ())]
+    words = [*words, *paths, *(new if words[0] in ("mend", "import") else ())]
     done = subprocess.run(
         [*CALLGRIND, program, *words], capture_output=True, text=True, errors="replace", timeout=PATIENCE
     )

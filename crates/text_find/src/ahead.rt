@@ -147,6 +147,10 @@ fn play_where_none_stands<T: Plays, F: Finder<T>>(
 {
     let taken = F::play_some(alloc, ahead, text, bytes)?;
     let span = catch_up::<T, F>(ends, ahead, text)?;
+    if span.is_none() {
+        // No row changed, so it stands nowhere still.
+        return Ok((taken, true));
+    }
     steps.lag = steps.lag.widened(span);
     Ok((taken, ends.after.places.is_empty()))
 }
