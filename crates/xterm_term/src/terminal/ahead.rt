@@ -4,7 +4,6 @@ ghost use Rattle.vt_parser.specs.Syntax.{is_within};
 ghost use Rattle.xterm_term.specs.Ahead.{MovesUp, WritesOn, WritesStyled};
 
 use crate::below::laws_below;
-use crate::reading::is_ground_state;
 use crate::sets::CharacterSet;
 use crate::terminal::Terminal;
 use characters::character_at;
@@ -95,16 +94,15 @@ impl Terminal {
         ensures within { result ≤ length bytes.now }
     {
         laws_below();
+        if !bytes.is_empty() && self.is_idle(bytes[0]) {
+            let Some((_, len)) = character_at(bytes) else {
+                return 0;
+            };
+            return len - 1;
+        }
         if self.console.title || self.decoder.is_pending() {
             return 0;
         }
-        let waiting = waiting_run(self.parser.state(), bytes);
-        if waiting > 0 || !is_ground_state(self.parser.state()) {
-            return waiting;
-        }
-        match character_at(bytes) {
-            Some((_, len)) => len - 1,
-            None => 0,
-        }
+        waiting_run(self.parser.state(), bytes)
     }
 }
