@@ -1,47 +1,33 @@
 //! What asciicasts of version 2 and 3 are imported as: rows by hand.
-use std::alloc::Global;
+use crate::comparison::{Told, compare_imported};
+use std::alloc::{AllocError, Global};
 use std::process::Abort;
 use std::rt::Runtime;
 use std::test::Fail;
-use tape_core::{Fault, Watched, write_script, write_timing};
-use tape_import::form::asciicast_version;
-use tape_import::{Imported, import_asciicast, put_losses};
+use tape_import::form::{Form, form_of};
+use tape_import::{Version, import_asciicast};
 
 mod refused;
-
-/// The new pair, what is told of losses, and whether something was left out or cut.
-type Told<'a> = (&'a [u8], &'a str, &'a str, bool);
 
 /// The header of a version 2, and what a pair's header tells of it.
 const HEAD: &[u8] = b"{\"version\": 2, \"width\": 80, \"height\": 24}\n";
 
 const SIZED: &[u8] = b"Script started on unknown [COLUMNS=\"80\" LINES=\"24\"]\n";
 
+/// The version, where a file is an asciicast of version 2 or 3.
+fn version_of(alloc: Global, file: &[u8]) -> Result<Option<Version>, AllocError> {
+    match form_of(alloc, file)? {
+        Form::Asciicast(version) => Ok(Some(version)),
+        _ => Ok(None),
+    }
+}
+
 /// Imports a file and compares what is written of it.
 fn compare(rt: &(impl Runtime<A = Global> + Abort), file: &[u8], wanted: Told) -> Result<(), Fail> {
     let alloc = rt.alloc();
-    let version = asciicast_version(alloc, file)?.expect(rt, "a version");
+    let version = version_of(alloc, file)?.expect(rt, "a version");
     let imported = import_asciicast(alloc, version, file)?;
-    let (script, timing, told) = written(alloc, &imported)?;
-    let got = (
-        script.as_slice(),
-        str::from_utf8(timing.as_slice()).unwrap_or("no UTF-8"),
-        str::from_utf8(told.as_slice()).unwrap_or("no UTF-8"),
-        imported.losses.is_damaged(),
-    );
-    assert_eq!(rt; got, wanted, "{file:?}");
-    Ok(())
-}
-
-/// What is written of an imported recording.
-fn written(alloc: Global, imported: &Imported) -> Result<(Vec<u8>, Vec<u8>, Vec<u8>), Fault> {
-    let mut script = Watched::new(Vec::new(alloc));
-    let mut timing = Watched::new(Vec::new(alloc));
-    let mut told = Watched::new(Vec::new(alloc));
-    write_script(&imported.recording, &mut script)?;
-    write_timing(&imported.recording, &mut timing)?;
-    put_losses(&imported.losses, &mut told)?;
-    Ok((script.into_inner(), timing.into_inner(), told.into_inner()))
+    compare_imported(rt, file, &imported, wanted)
 }
 
 /// Compares events behind the header of 80 columns and 24 lines.
@@ -76,11 +62,7 @@ fn versions(rt: HostRuntime) -> Result<(), Fail> {
         (b"[2]", false),
     ];
     for (file, wanted) in rows {
-        assert_eq!(rt;
-            asciicast_version(rt.alloc(), file)?.is_some(),
-            wanted,
-            "{file:?}"
-        );
+        assert_eq!(rt; version_of(rt.alloc(), file)?.is_some(), wanted, "{file:?}");
     }
     Ok(())
 }
@@ -309,7 +291,7 @@ fn arrays_that_are_too_deep(rt: HostRuntime) -> Result<(), Fail> {
             file.push(b']')?;
         }
         file.extend_from_slice(b"]\n[0, \"o\", \"a\"]\n")?;
-        let version = asciicast_version(rt.alloc(), &file)?.expect(&rt, "a version");
+        let version = version_of(rt.alloc(), &file)?.expect(&rt, "a version");
         let imported = import_asciicast(rt.alloc(), version, &file)?;
         assert_eq!(rt;
             (imported.recording.length(), imported.losses.left.is_some()),

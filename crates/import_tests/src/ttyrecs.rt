@@ -1,12 +1,12 @@
 //! What ttyrecs are imported as: rows by hand.
+use crate::comparison::compare_imported;
 use std::alloc::{AllocError, Global};
 use std::process::Abort;
 use std::rc::Rc;
 use std::rt::Runtime;
 use std::test::Fail;
-use tape_core::{Fault, Watched, write_script, write_timing};
 use tape_import::form::is_ttyrec;
-use tape_import::{Imported, import_ttyrec, put_losses};
+use tape_import::import_ttyrec;
 
 mod refused;
 
@@ -45,26 +45,13 @@ fn compare(
     let file = file_of(alloc, records, behind)?;
     assert!(rt; is_ttyrec(&file));
     let imported = import_ttyrec(alloc, &file, 0)?;
-    let (script, timing, told) = written(alloc, &imported)?;
-    let got = (
-        str::from_utf8(script.as_slice()).unwrap_or("no UTF-8"),
-        str::from_utf8(timing.as_slice()).unwrap_or("no UTF-8"),
-        str::from_utf8(told.as_slice()).unwrap_or("no UTF-8"),
-        imported.losses.is_damaged(),
-    );
-    assert_eq!(rt; got, wanted);
-    Ok(())
-}
-
-/// What is written of an imported recording.
-fn written(alloc: Global, imported: &Imported) -> Result<(Vec<u8>, Vec<u8>, Vec<u8>), Fault> {
-    let mut script = Watched::new(Vec::new(alloc));
-    let mut timing = Watched::new(Vec::new(alloc));
-    let mut told = Watched::new(Vec::new(alloc));
-    write_script(&imported.recording, &mut script)?;
-    write_timing(&imported.recording, &mut timing)?;
-    put_losses(&imported.losses, &mut told)?;
-    Ok((script.into_inner(), timing.into_inner(), told.into_inner()))
+    let (script, timing, told, damaged) = wanted;
+    compare_imported(
+        rt,
+        &file,
+        &imported,
+        (script.as_bytes(), timing, told, damaged),
+    )
 }
 
 #[test]

@@ -1,3 +1,5 @@
+mod ArrayLemmas
+mod ListedLemmas
 mod MemberLemmas
 mod NumberLemmas
 mod ScalarLemmas

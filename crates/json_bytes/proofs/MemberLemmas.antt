@@ -51,7 +51,7 @@ either_mark [] is = cc
 either_mark (b ∷ bs) is = subst (λ n. begins 44 (n ∷ bs) ≡ false) (sym (first_byte 93 b bs is)) refl
 
 -- an object
-object_value : (depth : ℕ) (text : List ℕ) → begins 123 text ≡ true → value (suc depth) text ≡ as_part object (object_at (value depth) text)
+pub object_value : (depth : ℕ) (text : List ℕ) → begins 123 text ≡ true → value (suc depth) text ≡ as_part object (object_at (value depth) text)
 unfolding value
 object_value depth text is = let other = brace_alone text is in rw (other.0.0, other.0.1, other.1, is) refl
 

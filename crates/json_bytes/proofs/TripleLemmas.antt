@@ -140,7 +140,7 @@ too_few one (suc (suc zero)) at lt = few_read three_items (items one 1) (one at)
 too_few one (suc (suc (suc most))) at lt = absurd (omega arith)
 
 -- a text that begins with a bracket is an array
-array_value : (depth : ℕ) (text : List ℕ) → begins 91 text ≡ true → value (suc depth) text ≡ as_part array (array_at (value depth) text)
+pub array_value : (depth : ℕ) (text : List ℕ) → begins 91 text ≡ true → value (suc depth) text ≡ as_part array (array_at (value depth) text)
 unfolding value
 array_value depth text is = let other = bracket_alone text is in rw (other.0, other.1, is) refl
 

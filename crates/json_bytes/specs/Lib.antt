@@ -3,3 +3,5 @@ pub mod Strings
 pub mod Numbers
 pub mod Values
 pub mod Shown
+pub mod Listed
+pub mod Arrays

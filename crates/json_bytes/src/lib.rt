@@ -1,12 +1,16 @@
 //! JSON over bytes: which value a text is, found without a copy of the text. RFC 8259.
 #![tactic(auto)]
 
+mod arrays;
 mod marks;
+mod members;
 mod numbers;
 mod strings;
 mod values;
 
-pub use marks::{is_space, past_space};
-pub use numbers::{plain_digits, scaled_number};
-pub use strings::string_in;
-pub use values::{DEEPEST, member, whole_triple, whole_value};
+pub use arrays::bytes_in;
+pub use marks::{is_space, past_mark, past_space};
+pub use members::{Member, named, whole_members};
+pub use numbers::{plain_digits, read_number, scaled_number, split_digits};
+pub use strings::{read_string, string_in};
+pub use values::{DEEPEST, member, value_end, whole_triple, whole_value};

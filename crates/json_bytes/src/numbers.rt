@@ -4,9 +4,10 @@ ghost use Rattle.std.specs.Char.{is_ascii_digit};
 ghost use Rattle.std.specs.List.{AllPass, prefix_len};
 ghost use Rattle.std.specs.Option.{option_and_then, option_map};
 ghost use Rattle.std.specs.Str.Parse.{digits_value, digits_value_after};
+ghost use Rattle.json_bytes.specs.Arrays.{byte_at, byte_of};
 ghost use Rattle.json_bytes.specs.Numbers.{decimal_at, digits_len, digits_of, exponent_of, fraction_of, greatest, lowers, number_at, past_digits, past_exponent, past_fraction, past_minus, past_sign, plain_digits, raises, scaled, whole_len};
 ghost use Rattle.json_bytes.specs.Shown.{IsOfDigits, kept_digits, kept_zeros, shown};
-ghost use Rattle.json_bytes.specs.Values.{behind, found, number_of, value};
+ghost use Rattle.json_bytes.specs.Values.{as_part, behind, found, number_of, value};
 
 use crate::marks::begins;
 
@@ -32,7 +33,7 @@ fn digits_len(text: &[u8]) -> usize
 }
 
 /// The digits at the front, and what stands behind them.
-fn split_digits(text: &[u8]) -> (&[u8], &[u8])
+pub fn split_digits(text: &[u8]) -> (&[u8], &[u8])
     ensures digits { result.0.now ≡ digits_of text.now }
     ensures rest { result.1.now ≡ past_digits text.now }
     ensures all { AllPass is_ascii_digit result.0.now }
@@ -214,6 +215,42 @@ fn scaled(number: &Parts, decimals: u32) -> u64
     shifted(capped(before, &number.fraction[..kept - first]), zeros)
 }
 
+/// The number at the front, times a power of ten, cut to a whole number: at least 0, at most 10^18; and what stands
+/// behind it.
+pub fn read_number(text: &[u8], decimals: u32) -> Option<(u64, &[u8])>
+    ensures { option_map (λ r. (r.0, r.1.now)) result
+        ≡ as_part (scaled decimals) (number_at text.now) }
+{
+    let (number, rest) = number_at(text)?;
+    Some((scaled(&number, decimals), rest))
+}
+
+/// The digits of a number whose text is digits alone.
+fn whole_digits<'a>(number: &Parts<'a>) -> Option<&'a [u8]>
+    requires { IsOfDigits number.now }
+    ensures digits { option_map (λ r. r.now) result ≡ plain_digits (shown number.now) }
+    ensures all { IfSome result (λ digits. AllPass is_ascii_digit digits.now) }
+{
+    if !number.negative && number.fraction.is_empty() && number.exponent.is_empty() {
+        Some(number.whole)
+    } else {
+        None
+    }
+}
+
+/// The byte that a number of digits alone is.
+fn byte_of(number: &Parts) -> Option<u8>
+    requires { IsOfDigits number.now }
+    ensures { result ≡ byte_of (Some (shown number.now)) }
+{
+    let value = capped(0, whole_digits(number)?);
+    if value <= 255 {
+        Some(value as u8)
+    } else {
+        None
+    }
+}
+
 /// What stands behind the number at the front.
 pub fn number_end(text: &[u8]) -> Option<&[u8]>
     ensures { option_map (λ r. r.now) result ≡ behind (number_at text.now) }
@@ -228,11 +265,15 @@ pub fn plain_digits(text: &[u8]) -> Option<&[u8]>
         ≡ option_and_then plain_digits (number_of (found (value depth text.now))) }
 {
     let (number, _) = number_at(text)?;
-    if !number.negative && number.fraction.is_empty() && number.exponent.is_empty() {
-        Some(number.whole)
-    } else {
-        None
-    }
+    whole_digits(&number)
+}
+
+/// The byte at the front, as a number of digits alone, and what stands behind it.
+pub fn read_byte(text: &[u8]) -> Option<(u8, &[u8])>
+    ensures { option_map (λ r. (r.0, r.1.now)) result ≡ byte_at text.now }
+{
+    let (number, rest) = number_at(text)?;
+    Some((byte_of(&number)?, rest))
 }
 
 /// What the number at the front is worth, times a power of ten, cut to a whole number: at least 0, at most 10^18.

@@ -26,7 +26,7 @@ fn word_end(text: &[u8]) -> Option<&[u8]>
 
 /// What stands behind the value at the front, which has arrays and objects at most so deep.
 #[cycle(values)]
-fn value_end(text: &[u8], depth: u32) -> Option<&[u8]>
+pub fn value_end(text: &[u8], depth: u32) -> Option<&[u8]>
     ensures { option_map (λ r. r.now) result ≡ behind (value depth text.now) }
 {
     if begins(b'"', text) {

@@ -8,7 +8,7 @@ use Rattle.tape_core.specs.Text as digits
 use Rattle.tape_import.specs.Asciicast.{event_from, event_of, events, in_time, is_in_force, is_skipped, is_word, left_from, line_fault, resized, sided, what_of, with_found, with_line, with_resize, with_what}
 use Rattle.tape_import.specs.Facts.{parted, side, size_of}
 use Rattle.tape_import.specs.Kept.{IsSize}
-use Rattle.tape_import.specs.KeptCast.{HasSizes, IsCounted}
+use Rattle.tape_import.specs.KeptCast.{HasSizes, IsCounted, IsSized}
 use Rattle.tape_import.specs.declared.asciicast.Cast.{Cast}
 use Rattle.tape_import.specs.declared.event.Event.{Event}
 use Rattle.tape_import.specs.declared.event.What.{What}
@@ -52,13 +52,6 @@ resized_small None = tt
 resized_small (Some text) = sided_small (parted 120 text)
 
 -- what an event is has such a size
-abbrev pub IsSized : What → Type 0
-IsSized (what.Output bytes) = Unit {0}
-IsSized (what.Resize size) = IfSome size IsSize
-IsSized what.Input = Unit {0}
-IsSized what.Marker = Unit {0}
-IsSized what.Other = Unit {0}
-
 output_sized : (bytes : Option (List ℕ)) → IfSome (option_map what.Output bytes) IsSized
 output_sized None = tt
 output_sized (Some bytes) = tt

@@ -1,6 +1,8 @@
 mod CastLemmas
 mod DateLemmas
 mod FactsLemmas
+mod FormLemmas
 mod HeaderLemmas
 mod ImportedLemmas
 mod TtyrecLemmas
+mod TlogLemmas

@@ -69,21 +69,31 @@ abbrev pub term_by : Option (List ℕ) → Option (List ℕ)
 term_by None = None
 term_by (Some text) = if is_term text then Some text else None
 
+-- What the values tell that stand for a size, a terminal's name, and a second, which is cut to a whole one.
+abbrev pub sides_of : Option Json → Option Json → Option Size
+sides_of columns lines = size_of (side_of columns) (side_of lines)
+
+abbrev pub term_of : Option Json → Option (List ℕ)
+term_of value = term_by (string_of value)
+
+abbrev pub date_of : Option Json → Option ℕ
+date_of value = option_and_then dated (option_map (scaled 0) (number_of value))
+
 -- What the header tells: in version 2 `width`, `height` and the `TERM` of `env`, in version 3 `cols`, `rows` and `type`
--- of `term`; in both the second `timestamp`, cut to a whole one.
+-- of `term`; in both the second `timestamp`.
 abbrev pub told_size : Version → Option Json → Option Size
 told_size version.Two header =
-    size_of (side_of (member_of (codes "width") header)) (side_of (member_of (codes "height") header))
+    sides_of (member_of (codes "width") header) (member_of (codes "height") header)
 told_size version.Three header =
     let term = member_of (codes "term") header in
-    size_of (side_of (member_of (codes "cols") term)) (side_of (member_of (codes "rows") term))
+    sides_of (member_of (codes "cols") term) (member_of (codes "rows") term)
 
 abbrev pub told_term : Version → Option Json → Option (List ℕ)
-told_term version.Two header = term_by (string_of (member_of (codes "TERM") (member_of (codes "env") header)))
-told_term version.Three header = term_by (string_of (member_of (codes "type") (member_of (codes "term") header)))
+told_term version.Two header = term_of (member_of (codes "TERM") (member_of (codes "env") header))
+told_term version.Three header = term_of (member_of (codes "type") (member_of (codes "term") header))
 
 abbrev pub told_date : Option Json → Option ℕ
-told_date header = option_and_then dated (option_map (scaled 0) (number_of (member_of (codes "timestamp") header)))
+told_date header = date_of (member_of (codes "timestamp") header)
 
 -- A size as `80x24`.
 abbrev pub sided : Option (List ℕ × List ℕ) → Option Size

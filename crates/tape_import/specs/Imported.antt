@@ -1,6 +1,7 @@
 -- The pair that a recording of another form is imported as, and what was lost.
 use Rattle.std.specs.Prelude.{◌≡◌, ℕ, List, [], Option, Some, None, ◌==◌, if◌then◌else◌}
 use Rattle.tape_core.specs.Tape.{Tape, fits}
+use Rattle.tape_core.specs.declared.chunk.Chunk.{Chunk}
 use Rattle.tape_import.specs.Dates.{dated}
 use Rattle.tape_import.specs.Facts.{IsHeaderOf, reported_size}
 use Rattle.tape_import.specs.Ttyrec.{data_of, seconds_of, ttyrec_of}
@@ -11,6 +12,20 @@ use Rattle.tape_import.specs.declared.losses.Losses.{Losses}
 use Rattle.tape_import.specs.declared.losses.Others.{Others}
 use Rattle.tape_import.specs.declared.losses.Place.TheVariants as place
 use Rattle.tape_import.specs.declared.ttyrec.Front.{Front}
+
+-- What is read of a file: what it tells of itself, its outputs as chunks, and what was lost.
+pub record Import : Type 0 where
+  pub facts : Facts
+  pub chunks : List Chunk
+  pub losses : Losses
+
+-- It is imported as this recording, which fits the limits, and this was lost.
+pub record Imports (what : Import) (tape : Tape) (losses : Losses) : Type 0 where
+  pub fitting : fits tape
+  pub header : IsHeaderOf what.facts tape.header
+  pub chunks : tape.chunks ≡ what.chunks
+  pub trailer : tape.trailer ≡ []
+  pub lost : losses ≡ what.losses
 
 -- No event was left out.
 abbrev pub no_others : Others
@@ -40,10 +55,10 @@ ttyrec_facts file front = record {
   size = if front.read.count == 0 then None else reported_size (data_of file);
 }
 
--- A ttyrec is imported as this recording, which fits the limits, and this was lost.
-pub record ImportsTtyrec (file : List ℕ) (tape : Tape) (losses : Losses) : Type 0 where
-  pub fitting : fits tape
-  pub header : IsHeaderOf (ttyrec_facts file (ttyrec_of file)) tape.header
-  pub chunks : tape.chunks ≡ (ttyrec_of file).read.outputs.chunks
-  pub trailer : tape.trailer ≡ []
-  pub lost : losses ≡ ttyrec_losses (ttyrec_of file)
+-- A ttyrec is imported so.
+abbrev pub import_of_ttyrec : List ℕ → Import
+import_of_ttyrec file = record {
+  facts = ttyrec_facts file (ttyrec_of file);
+  chunks = (ttyrec_of file).read.outputs.chunks;
+  losses = ttyrec_losses (ttyrec_of file);
+}

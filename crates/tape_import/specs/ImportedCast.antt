@@ -1,8 +1,9 @@
--- The pair that an asciicast is imported as, and what was lost.
-use Rattle.std.specs.Prelude.{◌≡◌, ℕ, List, [], None}
-use Rattle.tape_core.specs.Tape.{Tape, fits}
-use Rattle.tape_import.specs.Asciicast.{asciicast_of, header_of, told_date, told_term}
-use Rattle.tape_import.specs.Facts.{IsHeaderOf}
+-- What is read of an asciicast as a whole.
+use Rattle.std.specs.Prelude.{ℕ, List, codes, None}
+use Rattle.json_bytes.specs.Values.{member_of}
+use Rattle.tape_import.specs.Asciicast.{asciicast_of, date_of, header_of, sides_of, term_of, told_date, told_term}
+use Rattle.tape_import.specs.AsciicastOne.{Ending, Named}
+use Rattle.tape_import.specs.Imported.{Import, bytes_left, no_others}
 use Rattle.tape_import.specs.declared.asciicast.CastFront.{CastFront}
 use Rattle.tape_import.specs.declared.facts.Facts.{Facts}
 use Rattle.tape_import.specs.declared.losses.Losses.{Losses}
@@ -26,10 +27,36 @@ cast_facts version text front = record {
   size = front.cast.told;
 }
 
--- An asciicast of this version is imported as this recording, which fits the limits, and this was lost.
-pub record ImportsCast (version : Version) (text : List ℕ) (tape : Tape) (losses : Losses) : Type 0 where
-  pub fitting : fits tape
-  pub header : IsHeaderOf (cast_facts version text (asciicast_of version text)) tape.header
-  pub chunks : tape.chunks ≡ (asciicast_of version text).cast.outputs.chunks
-  pub trailer : tape.trailer ≡ []
-  pub lost : losses ≡ cast_losses (asciicast_of version text)
+-- An asciicast of version 2 or 3 is imported so.
+abbrev pub import_of_cast : Version → List ℕ → Import
+import_of_cast version text = record {
+  facts = cast_facts version text (asciicast_of version text);
+  chunks = (asciicast_of version text).cast.outputs.chunks;
+  losses = cast_losses (asciicast_of version text);
+}
+
+-- What the members of version 1 tell is what a header of version 2 does, without a change of size.
+abbrev pub one_facts : Named → Facts
+one_facts named = record {
+  date = date_of named.timestamp;
+  term = term_of (member_of (codes "TERM") named.env);
+  size = sides_of named.width named.height;
+}
+
+-- What was lost of it: entries are counted, and bytes.
+abbrev pub one_losses : Ending → Losses
+one_losses front = record {
+  first = None;
+  left = bytes_left front.read.count front.fault front.left;
+  cut = None;
+  slow = front.read.outputs.slow;
+  others = no_others;
+}
+
+-- An asciicast of version 1 is imported so.
+abbrev pub import_of_one : Ending → Import
+import_of_one front = record {
+  facts = one_facts front.read.named;
+  chunks = front.read.outputs.chunks;
+  losses = one_losses front;
+}

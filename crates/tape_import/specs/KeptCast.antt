@@ -2,6 +2,8 @@
 use Rattle.std.specs.Prelude.{ℕ, ◌≤◌, IfSome}
 use Rattle.tape_import.specs.Kept.{IsSize}
 use Rattle.tape_import.specs.declared.asciicast.Cast.{Cast}
+use Rattle.tape_import.specs.declared.event.What.{What}
+use Rattle.tape_import.specs.declared.event.What.TheVariants as what
 
 -- The counts of events that are left out are at most a number.
 pub record IsCounted (most : ℕ) (cast : Cast) : Type 0 where
@@ -13,3 +15,11 @@ pub record IsCounted (most : ℕ) (cast : Cast) : Type 0 where
 -- Its sizes can be told.
 pub record HasSizes (cast : Cast) : Type 0 where
   pub told : IfSome cast.told IsSize
+
+-- So can the size that an event tells.
+abbrev pub IsSized : What → Type 0
+IsSized (what.Output bytes) = Unit {0}
+IsSized (what.Resize size) = IfSome size IsSize
+IsSized what.Input = Unit {0}
+IsSized what.Marker = Unit {0}
+IsSized what.Other = Unit {0}

@@ -9,3 +9,11 @@ pub mod Kept
 pub mod Asciicast
 pub mod ImportedCast
 pub mod KeptCast
+pub mod AsciicastOne
+pub mod ShownOne
+pub mod ImportedFile
+pub mod TlogTiming
+pub mod TlogMessage
+pub mod Tlog
+pub mod TlogImported
+pub mod KeptTlog

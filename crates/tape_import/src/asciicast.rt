@@ -54,7 +54,7 @@ fn is_in_force(size: Size, now: Option<Size>) -> bool
 
 impl Cast {
     /// Behind the header nothing was read yet. Takes no memory.
-    fn at_header(alloc: Global, size: Option<Size>) -> Cast
+    pub fn at_header(alloc: Global, size: Option<Size>) -> Cast
         ensures { result ≡ at_header size }
     {
         Cast {
@@ -66,7 +66,7 @@ impl Cast {
     }
 
     /// The fault of an event, if it has one.
-    fn fault_of(&self, what: &What) -> Option<EventFault>
+    pub fn fault_of(&self, what: &What) -> Option<EventFault>
         ensures { result ≡ what_fault what.now self.now.outputs }
     {
         match what {
@@ -122,7 +122,7 @@ impl Cast {
     }
 
     /// Takes an event that has no fault.
-    fn take(&mut self, version: Version, event: Event) -> Result<(), AllocError>
+    pub fn take(&mut self, version: Version, event: Event) -> Result<(), AllocError>
         requires sound { what_fault event.what self.old.outputs ≡ None }
         requires few { IsCounted (2 ^ 63) self.old }
         ensures { OnOk result (self.new ≡ with_event version event self.old) }
@@ -159,7 +159,7 @@ impl Cast {
 }
 
 /// What is left out from a line on that has a fault, behind so many others.
-fn left_from(number: u64, text: &[u8], fault: EventFault) -> Option<Left>
+pub fn left_from(number: u64, text: &[u8], fault: EventFault) -> Option<Left>
     requires { number + 1 < 2 ^ 64 }
     ensures { result ≡ Some (left_from (number + 1) (length (lines_of text.now)) fault) }
 {

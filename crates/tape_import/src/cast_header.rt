@@ -2,9 +2,9 @@
 ghost use Rattle.std.specs.Prelude.{◌≡◌, ◌&&◌, ℕ, ◌≤◌, ◌+◌, IfOk, IfSome, Some, codes, length, nat_le};
 ghost use Rattle.std.specs.List.{AllPass, list_all};
 ghost use Rattle.std.specs.Option.{option_and_then};
-ghost use Rattle.json_bytes.specs.Values.{found, json_of, member_of, number_of, string_of, value};
+ghost use Rattle.json_bytes.specs.Values.{found, json_of, member_of, number_of, value};
 ghost use Rattle.tape_core.specs.Text.{lines_of};
-ghost use Rattle.tape_import.specs.Asciicast.{header_line, header_of, is_term, past_header, side_of, term_by, told_date, told_size, told_term, version_by, version_of};
+ghost use Rattle.tape_import.specs.Asciicast.{date_of, header_line, header_of, is_term, past_header, side_of, term_by, term_of, told_date, told_size, told_term, version_by, version_of};
 ghost use Rattle.tape_import.specs.Dates.{last_second};
 ghost use Rattle.tape_import.specs.Facts.{is_term_byte};
 ghost use Rattle.tape_import.specs.Kept.{IsSize};
@@ -40,7 +40,11 @@ pub fn split_header(text: &[u8]) -> (&[u8], &[u8], u64)
 }
 
 /// The value of the header's member of this name.
-fn told<'a>(alloc: Global, header: &'a [u8], name: &[u8]) -> Result<Option<&'a [u8]>, AllocError>
+pub fn told<'a>(
+    alloc: Global,
+    header: &'a [u8],
+    name: &[u8],
+) -> Result<Option<&'a [u8]>, AllocError>
     ensures { IfOk result (λ place. option_and_then (λ at. found (value 63 at.now)) place
         ≡ member_of name.now (json_of header.now)) }
 {
@@ -90,7 +94,7 @@ fn side_inside(alloc: Global, header: &[u8], name: &[u8]) -> Result<Option<u64>,
 }
 
 /// The columns or lines that the value at the front of a text tells.
-fn side_at(text: &[u8]) -> Option<u64>
+pub fn side_at(text: &[u8]) -> Option<u64>
     ensures side { (depth : ℕ) → result ≡ side_of (found (value depth text.now)) }
     ensures small { IfSome result (λ n. n ≤ 9999) }
 {
@@ -167,7 +171,7 @@ fn is_term(text: &[u8]) -> bool
 }
 
 /// A text, where it may be a terminal's name.
-fn term_by(text: Vec<u8>) -> Option<Bytes>
+pub fn term_by(text: Vec<u8>) -> Option<Bytes>
     ensures term { result ≡ term_by (Some text.items) }
     ensures bytes { IfSome result (AllPass is_term_byte) }
 {
@@ -214,14 +218,22 @@ fn term_inside(
     name: &[u8],
 ) -> Result<Option<Bytes>, AllocError>
     ensures term { IfOk result (λ term. term
-        ≡ term_by (string_of (member_of name.now (member_of outer.now (json_of header.now))))) }
+        ≡ term_of (member_of name.now (member_of outer.now (json_of header.now)))) }
     ensures bytes { IfOk result (λ term. IfSome term (AllPass is_term_byte)) }
 {
-    let Some(place) = told_inside(alloc, header, outer, name)? else {
-        return Ok(None);
-    };
-    match string_in(alloc, place)? {
-        Some(text) => Ok(term_by(text)),
+    match told_inside(alloc, header, outer, name)? {
+        Some(place) => term_at(alloc, place),
+        None => Ok(None),
+    }
+}
+
+/// The name of a terminal that the value at the front of a text tells.
+pub fn term_at(alloc: Global, text: &[u8]) -> Result<Option<Bytes>, AllocError>
+    ensures term { IfOk result (λ term. (depth : ℕ) → term ≡ term_of (found (value depth text.now))) }
+    ensures bytes { IfOk result (λ term. IfSome term (AllPass is_term_byte)) }
+{
+    match string_in(alloc, text)? {
+        Some(name) => Ok(term_by(name)),
         None => Ok(None),
     }
 }
@@ -234,8 +246,13 @@ pub fn told_date(alloc: Global, header: &[u8]) -> Result<Option<u64>, AllocError
     let Some(place) = told(alloc, header, b"timestamp")? else {
         return Ok(None);
     };
-    match scaled_number(place, 0) {
-        Some(second) => Ok(dated(second)),
-        None => Ok(None),
-    }
+    Ok(date_at(place))
+}
+
+/// The second that the number at the front of a text tells.
+pub fn date_at(text: &[u8]) -> Option<u64>
+    ensures second { (depth : ℕ) → result ≡ date_of (found (value depth text.now)) }
+    ensures last { IfSome result (λ s. s ≤ last_second) }
+{
+    dated(scaled_number(text, 0)?)
 }

@@ -1,12 +1,24 @@
 //! Which form a file has.
-ghost use Rattle.std.specs.Prelude.{◌≡◌, ◌≤◌, IfOk, length};
+ghost use Rattle.std.specs.Prelude.{◌≡◌, ◌≤◌, IfOk, is_some, length};
+ghost use Rattle.json_bytes.specs.Values.{json_of, member_of, string_of};
 ghost use Rattle.tape_import.specs.Asciicast.{header_of, version_of};
-ghost use Rattle.tape_import.specs.Form.{is_compressed, is_ttyrec, mark_len};
+ghost use Rattle.tape_import.specs.Form.{form_of, form_of_line, is_compressed, is_message, is_ttyrec, mark_len};
 
-use crate::cast_header::{split_header, version_of};
+use crate::cast_header::{split_header, told, version_of};
 use crate::ttyrec::{HEAD_LEN, number_at};
 use crate::version::Version;
+use json_bytes::{past_space, string_in};
 use std::alloc::{AllocError, Global};
+
+/// The forms: a ttyrec, an asciicast by its version, messages of tlog, or none that is known.
+#[derive(Clone, Copy, Debug, PartialEq, Eq)]
+pub enum Form {
+    Ttyrec,
+    Asciicast(Version),
+    Tlog,
+    AsciicastOne,
+    Unknown,
+}
 
 /// Whether a file begins as a compressed one does.
 pub fn is_compressed(file: &[u8]) -> bool
@@ -38,10 +50,46 @@ pub fn is_ttyrec(file: &[u8]) -> bool
     file.len() >= HEAD_LEN && number_at(file, 4) < 1_000_000
 }
 
-/// The version, where the first line that isn't space alone is the header of an asciicast of version 2 or 3. Refused
-/// for want of memory alone.
-pub fn asciicast_version(alloc: Global, file: &[u8]) -> Result<Option<Version>, AllocError>
-    ensures { IfOk result (λ version. version ≡ version_of (header_of file.now)) }
+/// Whether the header's member of this name is a string.
+fn is_string_told(alloc: Global, header: &[u8], name: &[u8]) -> Result<bool, AllocError>
+    ensures { IfOk result (λ is. is ≡ is_some (string_of (member_of name.now (json_of header.now)))) }
 {
-    version_of(alloc, split_header(file).0)
+    let Some(place) = told(alloc, header, name)? else {
+        return Ok(false);
+    };
+    Ok(string_in(alloc, place)?.is_some())
+}
+
+/// Whether a line is a message of tlog.
+fn is_message(alloc: Global, line: &[u8]) -> Result<bool, AllocError>
+    ensures { IfOk result (λ is. is ≡ is_message (json_of line.now)) }
+{
+    Ok(is_string_told(alloc, line, b"ver")? && is_string_told(alloc, line, b"timing")?)
+}
+
+/// The form of a text that begins with a brace, by its first line that isn't space alone.
+fn form_of_line(alloc: Global, line: &[u8]) -> Result<Form, AllocError>
+    ensures { IfOk result (λ form. form ≡ form_of_line (json_of line.now)) }
+{
+    if let Some(version) = version_of(alloc, line)? {
+        return Ok(Form::Asciicast(version));
+    }
+    if is_message(alloc, line)? {
+        Ok(Form::Tlog)
+    } else {
+        Ok(Form::AsciicastOne)
+    }
+}
+
+/// The form of a file that isn't compressed, without such a mark. Refused for want of memory alone.
+pub fn form_of(alloc: Global, text: &[u8]) -> Result<Form, AllocError>
+    ensures { IfOk result (λ form. form ≡ form_of text.now) }
+{
+    if is_ttyrec(text) {
+        Ok(Form::Ttyrec)
+    } else if past_space(text).starts_with(b"{") {
+        form_of_line(alloc, split_header(text).0)
+    } else {
+        Ok(Form::Unknown)
+    }
 }

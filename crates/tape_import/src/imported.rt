@@ -1,7 +1,7 @@
 //! A recording of another form, imported.
 ghost use Rattle.std.specs.Prelude.{◌≡◌, ◌≤◌, IfOk, drop, length, true};
 ghost use Rattle.tape_import.specs.Form.{is_ttyrec};
-ghost use Rattle.tape_import.specs.Imported.{ImportsTtyrec, bytes_left, ttyrec_facts, ttyrec_losses};
+ghost use Rattle.tape_import.specs.Imported.{Import, Imports, bytes_left, import_of_ttyrec, ttyrec_facts, ttyrec_losses};
 ghost use Rattle.tape_import.specs.Kept.{CanBeTold};
 ghost use Rattle.tape_import.specs.Ttyrec.{head_len};
 
@@ -9,6 +9,7 @@ use crate::facts::Facts;
 use crate::fault::EventFault;
 use crate::header::header_of;
 use crate::losses::{Left, Losses, Others, Place};
+use crate::timeline::Timeline;
 use crate::ttyrec::{Front, first_date, first_size, read_records};
 use std::alloc::{AllocError, Global};
 use std::rc::Rc;
@@ -21,8 +22,8 @@ pub struct Imported {
     pub losses: Losses,
 }
 
-/// What is left out from a record on.
-fn bytes_left(number: u64, fault: Option<EventFault>, count: u64) -> Option<Left>
+/// What is left out from an entry or a record on, behind so many others.
+pub fn bytes_left(number: u64, fault: Option<EventFault>, count: u64) -> Option<Left>
     ensures { result ≡ bytes_left number fault count }
 {
     fault.map(|fault| Left {
@@ -67,6 +68,25 @@ fn losses_of(front: &Front) -> Losses
     }
 }
 
+/// A recording of outputs, under a header that tells these facts. Refused for want of memory alone.
+pub fn imported_of(
+    alloc: Global,
+    facts: &Facts,
+    outputs: Timeline,
+    losses: Losses,
+) -> Result<Imported, AllocError>
+    requires { CanBeTold facts.now }
+    ensures { IfOk result (λ imported.
+        let what : Import = record { facts = facts.now; chunks = outputs.chunks; losses = losses } in
+        Imports what imported.recording imported.losses) }
+{
+    let header = header_of(alloc, facts)?;
+    let chunks = outputs.into_chunks();
+    let trailer = Bytes::from_vec(Vec::new(alloc));
+    let recording = Recording::from_parts(alloc, header, chunks, trailer)?;
+    Ok(Imported { recording, losses })
+}
+
 /// Reads what can be read of a ttyrec that begins at a place of the file, which the chunks then share. Refused for want
 /// of memory alone.
 pub fn import_ttyrec(
@@ -76,14 +96,11 @@ pub fn import_ttyrec(
 ) -> Result<Imported, AllocError>
     requires within { start ≤ length file.now.value.items }
     requires form { is_ttyrec (drop start file.now.value.items) ≡ true }
-    ensures { IfOk result (λ imported.
-        ImportsTtyrec (drop start file.now.value.items) imported.recording imported.losses) }
+    ensures { IfOk result (λ imported. Imports (import_of_ttyrec (drop start file.now.value.items))
+        imported.recording imported.losses) }
 {
     let front = read_records(alloc, file, start)?;
-    let header = header_of(alloc, &facts_of(&file[start..], &front))?;
+    let facts = facts_of(&file[start..], &front);
     let losses = losses_of(&front);
-    let chunks = front.read.outputs.into_chunks();
-    let trailer = Bytes::from_vec(Vec::new(alloc));
-    let recording = Recording::from_parts(alloc, header, chunks, trailer)?;
-    Ok(Imported { recording, losses })
+    imported_of(alloc, &facts, front.read.outputs, losses)
 }

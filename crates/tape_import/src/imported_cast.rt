@@ -1,16 +1,15 @@
 //! An asciicast of version 2 or 3, imported.
 ghost use Rattle.std.specs.Prelude.{◌≡◌, IfOk};
-ghost use Rattle.tape_import.specs.ImportedCast.{ImportsCast, cast_losses};
+ghost use Rattle.tape_import.specs.Imported.{Imports};
+ghost use Rattle.tape_import.specs.ImportedCast.{cast_losses, import_of_cast};
 
 use crate::asciicast::{CastFront, read_cast};
 use crate::cast_header::{split_header, told_date, told_term};
 use crate::facts::Facts;
-use crate::header::header_of;
-use crate::imported::Imported;
+use crate::imported::{Imported, imported_of};
 use crate::losses::Losses;
 use crate::version::Version;
 use std::alloc::{AllocError, Global};
-use tape_core::{Bytes, Recording};
 
 /// What was lost of an asciicast.
 fn losses_of(front: &CastFront) -> Losses
@@ -31,8 +30,8 @@ pub fn import_asciicast(
     version: Version,
     text: &[u8],
 ) -> Result<Imported, AllocError>
-    ensures { IfOk result (λ imported.
-        ImportsCast version text.now imported.recording imported.losses) }
+    ensures { IfOk result (λ imported. Imports (import_of_cast version text.now)
+        imported.recording imported.losses) }
 {
     let front = read_cast(alloc, version, text)?;
     let first = split_header(text).0;
@@ -41,10 +40,6 @@ pub fn import_asciicast(
         term: told_term(alloc, version, first)?,
         size: front.cast.told,
     };
-    let header = header_of(alloc, &facts)?;
     let losses = losses_of(&front);
-    let chunks = front.cast.outputs.into_chunks();
-    let trailer = Bytes::from_vec(Vec::new(alloc));
-    let recording = Recording::from_parts(alloc, header, chunks, trailer)?;
-    Ok(Imported { recording, losses })
+    imported_of(alloc, &facts, front.cast.outputs, losses)
 }

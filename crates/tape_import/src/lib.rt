@@ -2,8 +2,10 @@
 #![tactic(auto)]
 
 mod asciicast;
+mod asciicast_one;
 mod cast_header;
 mod date;
+mod entry;
 mod event;
 mod facts;
 mod fault;
@@ -11,15 +13,25 @@ pub mod form;
 mod header;
 mod imported;
 mod imported_cast;
+mod imported_file;
+mod imported_one;
 mod lines;
 mod losses;
+mod places;
 mod timeline;
+mod tlog;
+mod tlog_import;
+mod tlog_message;
+mod tlog_timing;
 mod ttyrec;
 mod version;
 
 pub use facts::{Facts, Size};
-pub use fault::EventFault;
+pub use fault::{EventFault, ImportFault};
 pub use imported::{Imported, import_ttyrec};
 pub use imported_cast::import_asciicast;
+pub use imported_file::import;
+pub use imported_one::import_asciicast_one;
 pub use losses::{Cut, Left, Losses, Others, Place, put_losses};
+pub use tlog_import::import_tlog;
 pub use version::Version;

@@ -2,7 +2,7 @@
 use std::process::Abort;
 use std::rt::Runtime;
 use std::test::Fail;
-use tape_import::form::asciicast_version;
+use tape_import::form::{Form, form_of};
 use tape_import::{Version, import_asciicast};
 
 /// A header that tells all, and two outputs.
@@ -12,14 +12,14 @@ const FILE: &[u8] =
 
 #[test]
 fn an_asciicast_that_is_imported(rt: HostRuntime) -> Result<(), Fail> {
-    let version = match asciicast_version(rt.alloc(), FILE) {
-        Ok(version) => version,
+    let form = match form_of(rt.alloc(), FILE) {
+        Ok(form) => form,
         Err(_) => {
-            println!(rt; "refused: version")?;
-            asciicast_version(rt.alloc(), FILE)?
+            println!(rt; "refused: form")?;
+            form_of(rt.alloc(), FILE)?
         }
     };
-    assert_eq!(rt; version, Some(Version::Two));
+    assert_eq!(rt; form, Form::Asciicast(Version::Two));
     let imported = match import_asciicast(rt.alloc(), Version::Two, FILE) {
         Ok(imported) => imported,
         Err(_) => {
