@@ -23,9 +23,9 @@ use Rattle.command_line.specs.declared.words.Words.{Words}
 use Rattle.command_line.specs.declared.words.WordsFault.{WordsFault}
 use Rattle.command_line.specs.declared.words.WordsFault.TheVariants.{Clap, Memory, BadSeconds, BadEvery, BadProfile, BadSize, BadText, BothHeaders}
 use Rattle.command_line.specs.declared.words.table.Argument.{Argument}
-use Rattle.command_line.specs.declared.words.table.Argument.TheVariants.{At, From, To, Until, Every, Profile, Size, Escaped, Last, Headless, Title, Sought, Secret, Script, Timing, AnyTiming, NewScript, NewTiming}
+use Rattle.command_line.specs.declared.words.table.Argument.TheVariants.{At, From, To, Until, Every, Profile, Size, Escaped, Last, Headless, Title, Sought, Secret, Script, Timing, AnyTiming, Recording, NewScript, NewTiming}
 use Rattle.command_line.specs.declared.words.table.Subcommand.{Subcommand}
-use Rattle.command_line.specs.declared.words.table.Subcommand.TheVariants.{Due, Info, Check, Screen, Picture, Transcript, Changes, Find, Reports, Page, Cast, Save, Mend, Redact, Session}
+use Rattle.command_line.specs.declared.words.table.Subcommand.TheVariants.{Due, Info, Check, Screen, Picture, Transcript, Changes, Find, Reports, Page, Cast, Save, Mend, Import, Redact, Session}
 use Rattle.command_line.specs.declared.words.values.Unreadable.{Unreadable}
 use Rattle.command_line.specs.declared.words.values.Unreadable.TheVariants as unread
 use Rattle.tape_mend.specs.declared.opening.Header.{Header}
@@ -38,7 +38,7 @@ use Rattle.vt_term.specs.declared.profile.Profile.TheVariants.{Vt100, Vt102}
 
 -- the subcommands, in the order in which help tells them (ours)
 abbrev pub subcommands_in_order : List Subcommand
-subcommands_in_order = Due ∷ Info ∷ Check ∷ Screen ∷ Picture ∷ Transcript ∷ Changes ∷ Find ∷ Reports ∷ Page ∷ Cast ∷ Save ∷ Mend ∷ Redact ∷ Session ∷ []
+subcommands_in_order = Due ∷ Info ∷ Check ∷ Screen ∷ Picture ∷ Transcript ∷ Changes ∷ Find ∷ Reports ∷ Page ∷ Cast ∷ Save ∷ Mend ∷ Import ∷ Redact ∷ Session ∷ []
 
 -- the name of a subcommand (ours)
 unfoldable pub name_in : Subcommand → Text
@@ -55,6 +55,7 @@ name_in Page = codes "page"
 name_in Cast = codes "cast"
 name_in Save = codes "save"
 name_in Mend = codes "mend"
+name_in Import = codes "import"
 name_in Redact = codes "redact"
 name_in Session = codes "session"
 
@@ -73,6 +74,7 @@ flags_in Page = Profile ∷ Size ∷ Title ∷ []
 flags_in Cast = Profile ∷ Size ∷ []
 flags_in Save = []
 flags_in Mend = Last ∷ Headless ∷ []
+flags_in Import = []
 flags_in Redact = Profile ∷ Size ∷ []
 flags_in Session = Every ∷ Profile ∷ Size ∷ []
 
@@ -86,6 +88,7 @@ texts_in _ = []
 unfoldable pub paths_in : Subcommand → List Argument
 paths_in Save = Script ∷ Timing ∷ NewScript ∷ NewTiming ∷ []
 paths_in Mend = Script ∷ AnyTiming ∷ NewScript ∷ NewTiming ∷ []
+paths_in Import = Recording ∷ NewScript ∷ NewTiming ∷ []
 paths_in Redact = Script ∷ Timing ∷ NewScript ∷ NewTiming ∷ []
 paths_in _ = Script ∷ Timing ∷ []
 
@@ -107,6 +110,7 @@ id_in Secret = codes "text"
 id_in Script = codes "script"
 id_in Timing = codes "timing"
 id_in AnyTiming = codes "timing"
+id_in Recording = codes "recording"
 id_in NewScript = codes "new-script"
 id_in NewTiming = codes "new-timing"
 
@@ -145,6 +149,7 @@ rule_in Secret = positional_rule (id_in Secret)
 rule_in Script = positional_rule (id_in Script)
 rule_in Timing = positional_rule (id_in Timing)
 rule_in AnyTiming = positional_rule (id_in AnyTiming)
+rule_in Recording = positional_rule (id_in Recording)
 rule_in NewScript = positional_rule (id_in NewScript)
 rule_in NewTiming = positional_rule (id_in NewTiming)
 
@@ -316,6 +321,7 @@ job_in Page rows = after (player_in rows) (λ player. Ok (job.Page player))
 job_in Cast rows = after (player_in rows) (λ player. Ok (job.Cast player))
 job_in Save rows = Ok job.Save
 job_in Mend rows = after (header_in rows) (λ how. Ok (job.Mend how))
+job_in Import rows = Ok job.Import
 job_in Redact rows =
     after (player_in rows) (λ player. after (secret_in rows) (λ text.
     Ok (job.Redact player)))
@@ -421,6 +427,7 @@ meaning_read words =
 abbrev pub path_count : Job → ℕ
 path_count job.Save = 4
 path_count (job.Mend how) = 4
+path_count job.Import = 3
 path_count (job.Redact player) = 4
 path_count _ = 2
 

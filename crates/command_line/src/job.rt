@@ -69,6 +69,8 @@ pub enum Job {
     Mend {
         header: Header,
     },
+    /// Write a recording of another form as a pair of files, of all that can be read of it.
+    Import,
     /// Write both files anew without a text, with `*` over each byte of it. The text stands beside the job. What is told
     /// of it besides is told by `redact`.
     Redact {
@@ -97,7 +99,12 @@ impl Job {
             | Job::Cast { player }
             | Job::Redact { player }
             | Job::Session { player, .. } => Some(player),
-            Job::Due { .. } | Job::Info | Job::Check { .. } | Job::Save | Job::Mend { .. } => None,
+            Job::Due { .. }
+            | Job::Info
+            | Job::Check { .. }
+            | Job::Save
+            | Job::Mend { .. }
+            | Job::Import => None,
         }
     }
 }

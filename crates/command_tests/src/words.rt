@@ -8,6 +8,7 @@ use vt_term::Profile;
 mod every;
 mod find;
 mod flags;
+mod import;
 mod mend;
 mod redact;
 mod sizes;

@@ -11,6 +11,7 @@ use tape_core::{Fault, Watched};
 use tape_jobs::{JobFault, Outcome, run_with};
 use vt_term::Profile;
 
+mod importing;
 mod mending;
 mod redacting;
 

@@ -12,6 +12,8 @@ mod check;
 mod comparison;
 #[cfg(test)]
 mod find;
+#[cfg(test)]
+mod importing;
 pub mod in_memory;
 #[cfg(test)]
 mod jobs;

@@ -55,6 +55,8 @@ fn a_job_fault_has_the_text_of_its_fault(rt: HostRuntime) -> Result<(), Fail> {
             "timing line 22: bad delay",
         ),
         (JobFault::File(Fault::WriteFault), "write fault"),
+        (JobFault::Compressed, "recording is compressed"),
+        (JobFault::NoKnownForm, "recording of no known form"),
         (JobFault::Memory, "out of memory"),
     ];
     for (fault, wanted) in texts {

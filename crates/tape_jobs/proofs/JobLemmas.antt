@@ -10,14 +10,14 @@ use Rattle.tape_core.specs.Tape.{Tape}
 use Rattle.tape_core.specs.declared.fault.Fault.{Fault}
 use Rattle.tape_core.specs.declared.fault.Fault.TheVariants.{OutOfMemory, ReadFault, WriteFault}
 use Rattle.tape_jobs.specs.Endings.{AreRead, AreSound, AsksNothing, HasFailed, HoldFiles, IsDone, IsUndone, IsUnwritten, JobEnds, OnFiles, Readers, RunEnds, StopsIn, TookBoth, TookPartOfBoth, WantsMemory, Writers}
-use Rattle.tape_jobs.specs.Output.{Comes, ComesBy, Done, Files, IsDoneStatus, answers_by_status, done_on, done_with, is_stopped, mends, outcome_in, refused_in, takes_requests, writes_timing}
+use Rattle.tape_jobs.specs.Output.{Comes, ComesBy, Done, Files, IsDoneStatus, answers_by_status, done_on, done_with, is_stopped, outcome_in, refused_in, remakes, takes_requests, writes_timing}
+use Rattle.tape_jobs.specs.Output.{Remade}
 use Rattle.tape_jobs.specs.declared.job.Ending.{Ending}
 use Rattle.tape_jobs.specs.declared.job.Ending.TheVariants.{Clean}
 use Rattle.command_line.specs.declared.job.Job.{Job}
 use Rattle.command_line.specs.declared.job.Job.TheVariants as jobs
 use Rattle.tape_jobs.specs.declared.job.JobFault.{JobFault}
-use Rattle.tape_jobs.specs.declared.job.JobFault.TheVariants.{File, Line, Memory}
-use Rattle.tape_mend.specs.declared.opening.Header.{Header}
+use Rattle.tape_jobs.specs.declared.job.JobFault.TheVariants.{File, Compressed, NoKnownForm, Line, Memory}
 
 -- nothing of a text has gone out yet
 pub part_none : {T : Type 0} (contents : T → Option (List ℕ)) (a : Watched T) (text : List ℕ) → has_failed a ≡ false
@@ -59,13 +59,13 @@ clean_done {O} {P} writers job done text new took flushed same is status alone s
   flushed_timing = λ wrote. absurd (true≢false (sym wrote ∙ alone));
 }
 
--- what a job comes to that reads a recording, and what one comes to that mends
-pub comes_by : (job : Job) (files : Files) (done : Done) (o : Option Header) → mends job ≡ o → ComesBy o job files done
+-- what a job comes to that reads a recording, and what one comes to that doesn't
+pub comes_by : (job : Job) (files : Files) (done : Done) (o : Option Remade) → remakes job ≡ o → ComesBy o job files done
     → Comes job files done
 comes_by job files done o e comes = subst (λ x. ComesBy x job files done) (sym e) comes
 
 -- a pair with a fault
-pub comes_refused : (job : Job) (files : Files) (f : Fault) → mends job ≡ None → fault_of files.script files.timing ≡ Some f
+pub comes_refused : (job : Job) (files : Files) (f : Fault) → remakes job ≡ None → fault_of files.script files.timing ≡ Some f
     → Comes job files (refused_in job (File f))
 comes_refused job files f reading e =
     comes_by job files (refused_in job (File f)) None reading (subst (λ o. MatchOption o
@@ -73,7 +73,7 @@ comes_refused job files f reading e =
     (λ g. refused_in job (File f) ≡ refused_in job (File g))) (sym e) refl)
 
 -- a pair that is read
-comes_done : (job : Job) (files : Files) (tape : Tape) → mends job ≡ None → reads files.script files.timing tape
+comes_done : (job : Job) (files : Files) (tape : Tape) → remakes job ≡ None → reads files.script files.timing tape
     → Comes job files (done_on job tape files.requests files.text)
 comes_done job files tape reading h =
     let done = done_on job tape files.requests files.text in
@@ -96,7 +96,7 @@ same_done job tape one other text same_text same e =
     same_lines job tape one other text same ∙ ap (done_on job tape other) (sym e)
 
 -- what a job comes to on the recording that was read
-pub comes_read : {S T R : Type 0} {readers : Readers S T R} {job : Job} (tape : Tape) (lines : List ℕ) → mends job ≡ None
+pub comes_read : {S T R : Type 0} {readers : Readers S T R} {job : Job} (tape : Tape) (lines : List ℕ) → remakes job ≡ None
     → (files : Files) → HoldFiles readers job files
     → reads files.script files.timing tape × (takes_requests job ≡ true → lines ≡ files.requests)
     → Comes job files (done_on job tape lines readers.text)
@@ -116,6 +116,8 @@ stops f g stop same unstopped = true≢false (sym stop ∙ ap (λ x. is_stopped 
 refused_outcome : (job : Job) (f : JobFault) → is_stopped (Some f) ≡ false → outcome_in job (Err f) ≡ (refused_in job f).outcome
 refused_outcome job (File f) e =
     ap (λ b. record { status = if answers_by_status job then 3 else (if b then 3 else 1); fault = Some (File f) }) e
+refused_outcome job Compressed e = refl
+refused_outcome job NoKnownForm e = refl
 refused_outcome job (Line line f) e = refl
 refused_outcome job Memory e = absurd (cc)
 
@@ -136,25 +138,25 @@ module _ {O P : Type 0} {writers : Writers O P} (before : IsBefore writers) wher
   both_sound unwritten = ((took_none unwritten jobs.Info Memory).text.sound, (took_none unwritten jobs.Info Memory).timing.sound)
 
 module _ {S T R O P : Type 0} {readers : Readers S T R} {writers : Writers O P} {job : Job} (before : IsBefore writers) where
-  -- a job whose files aren't read
-  pub ends_unread : (f : Fault)
-      → (is_stop f ≡ false → (files : Files) → HoldFiles readers job files → Comes job files (refused_in job (File f)))
-      → (f ≢ ReadFault → AreRead readers)
-      → (f ≡ ReadFault → HasFailed readers.script ⊎ (HasFailed readers.timing ⊎ HasFailed readers.requests))
-      → f ≢ WriteFault
+  -- a job that is given nothing to work on
+  pub ends_ungiven : (f : JobFault)
+      → (is_stopped (Some f) ≡ false → (files : Files) → HoldFiles readers job files → Comes job files (refused_in job f))
+      → (f ≢ File ReadFault → AreRead readers)
+      → (f ≡ File ReadFault → HasFailed readers.script ⊎ (HasFailed readers.timing ⊎ HasFailed readers.requests))
+      → f ≢ File WriteFault → f ≢ Memory
       → (takes_requests job ≡ false → AsksNothing readers.requests) → IsUnwritten writers
-      → RunEnds readers writers job (outcome_in job (Err (File f)))
-  ends_unread f comes read failed other alone unwritten = record {
+      → RunEnds readers writers job (outcome_in job (Err f))
+  ends_ungiven f comes read failed other begun alone unwritten = record {
     done = λ e. absurd (cc);
     refused = λ e.
         let unstopped = is_not _ e in (
           record {
-            read = read (λ r. stops (File f) (File ReadFault) refl (ap (λ x. File x) r) unstopped);
+            read = read (λ r. stops f (File ReadFault) refl r unstopped);
             written = both_sound before unwritten;
             comes = λ files held. (
-              refused_in job (File f),
+              refused_in job f,
               comes unstopped files held,
-              (refused_outcome job (File f) unstopped, took_none before unwritten job (File f)),
+              (refused_outcome job f unstopped, took_none before unwritten job f),
             );
           },
           unwritten,
@@ -166,9 +168,9 @@ module _ {S T R O P : Type 0} {readers : Readers S T R} {writers : Writers O P} 
       ]);
       written = both_sound before unwritten;
       reading = λ _. unwritten;
-      takes = λ e. absurd (cc);
-      begun = λ e. absurd (cc);
-      unwritten = λ e. absurd (cc);
+      takes = λ e. absurd (begun (cc));
+      begun = λ e. absurd (begun (cc));
+      unwritten = λ e. absurd (begun (cc));
     };
     device = λ d. record {
       reader = λ e. failed (cc);
@@ -180,6 +182,18 @@ module _ {S T R O P : Type 0} {readers : Readers S T R} {writers : Writers O P} 
     requests = alone;
     out_timing = λ _. unwritten.1;
   }
+
+  -- a job whose files aren't read
+  pub ends_unread : (f : Fault)
+      → (is_stop f ≡ false → (files : Files) → HoldFiles readers job files → Comes job files (refused_in job (File f)))
+      → (f ≢ ReadFault → AreRead readers)
+      → (f ≡ ReadFault → HasFailed readers.script ⊎ (HasFailed readers.timing ⊎ HasFailed readers.requests))
+      → f ≢ WriteFault
+      → (takes_requests job ≡ false → AsksNothing readers.requests) → IsUnwritten writers
+      → RunEnds readers writers job (outcome_in job (Err (File f)))
+  ends_unread f comes read failed other =
+      ends_ungiven (File f) comes (λ unlike. read (λ e. unlike (ap (λ g. File g) e))) (λ e. failed (cc)) (λ e. other (cc))
+      (λ e. absurd (cc))
 
   -- a job whose files were read, which comes to this on them
   module _ (done : Done) (comes : (files : Files) → HoldFiles readers job files → Comes job files done)

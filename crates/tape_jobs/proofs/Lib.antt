@@ -1,3 +1,4 @@
+mod ImportLemmas
 mod JobLemmas
 mod MendLemmas
 mod NoteLemmas
@@ -6,3 +7,4 @@ mod RedactLemmas
 mod RequestLemmas
 mod SessionLemmas
 mod PlayerLemmas
+mod TellingLemmas

@@ -1,14 +1,17 @@
 -- What mending comes to, and how it ends.
-use Rattle.std.proofs.Common.{◌≡◌, ◌≢◌, ◌⊎◌, ℕ, true, false, List, [], refl, sym, ap, ◌∙◌, subst, inl, inr, Some, Result, Ok, Err, if◌then◌else◌}
-use Rattle.tape_core.specs.Devices.{Took, inner_of}
+use Rattle.std.proofs.Common.{◌≡◌, ◌≢◌, ℕ, true, false, List, [], refl, sym, ap, ◌∙◌, subst, Some, Result, Err, if◌then◌else◌}
+use Rattle.tape_core.specs.Devices.{inner_of}
 use Rattle.tape_core.specs.Faults.{is_stop}
 use Rattle.tape_core.specs.Reading.{has_header}
 use Rattle.tape_core.specs.declared.fault.Fault.{Fault}
 use Rattle.tape_core.specs.declared.fault.Fault.TheVariants.{NoHeader, ReadFault, WriteFault}
-use Rattle.tape_jobs.proofs.JobLemmas.{comes_by, is_not, stops}
-use Rattle.tape_jobs.specs.Endings.{Device, HasFailed, TookBoth, TookPartOfBoth, Writers}
-use Rattle.tape_jobs.specs.Mending.{AWriterFailed, IsRead, IsSilent, MendEnds, OnPair, Pair, StoppedInThree, ThreeEnd, told_by, told_of}
-use Rattle.tape_jobs.specs.Output.{Comes, Done, Files, done_mending, mended_by, mends, outcome_by, refused_in, refused_with}
+use Rattle.tape_jobs.proofs.JobLemmas.{comes_by}
+use Rattle.tape_jobs.proofs.TellingLemmas.{telling_unread, telling_written}
+use Rattle.tape_jobs.specs.Endings.{Device, Writers}
+use Rattle.tape_jobs.specs.Mending.{IsRead, IsUnread, MendEnds, OnPair, Pair, told_by, told_of}
+use Rattle.tape_jobs.specs.Output.{Comes, Done, Files, done_mending, mended_by, outcome_by, refused_in, refused_with, remakes}
+use Rattle.tape_jobs.specs.Output.Remade.{Remnants, Foreign}
+use Rattle.tape_jobs.specs.Telling.{IsSilent, ThreeEnd}
 use Rattle.tape_jobs.specs.declared.job.Ending.{Ending}
 use Rattle.command_line.specs.declared.job.Job.{Job}
 use Rattle.command_line.specs.declared.job.Job.TheVariants as jobs
@@ -17,16 +20,8 @@ use Rattle.tape_jobs.specs.declared.job.JobFault.TheVariants.{File}
 use Rattle.tape_mend.specs.Mended.{Remains, mended, seen}
 use Rattle.tape_mend.specs.declared.opening.Header.{Header}
 
--- where a writer of both files stopped, it has failed
-pub one_failed : {O P L : Type 0} (writers : Writers O P) (told : Device L) (done : Done) → TookPartOfBoth writers done true
-    → AWriterFailed writers told
-one_failed writers told done stopped = elim stopped [
-  | inl (first, stays) ↦ inl first.failing
-  | inr (whole, second) ↦ inr (inl second.failing)
-]
-
 -- the one job that mends
-pub is_mend : (job : Job) (how : Header) → mends job ≡ Some how → job ≡ jobs.Mend how
+pub is_mend : (job : Job) (how : Header) → remakes job ≡ Some (Remnants how) → job ≡ jobs.Mend how
 is_mend (jobs.Mend other) how e = let same : other ≡ how = cc in ap (λ h. jobs.Mend h) same
 is_mend job how e = absurd (cc)
 
@@ -44,17 +39,17 @@ module _ (how : Header) (script timing : List ℕ) where
     retold = ap (λ b. if b then told_of (mended how script timing) else []) some ∙ ap told_of e
 
 -- what the job comes to on files
-pub comes_remade : (job : Job) (how : Header) (files : Files) (remains : Remains) → mends job ≡ Some how
+pub comes_remade : (job : Job) (how : Header) (files : Files) (remains : Remains) → remakes job ≡ Some (Remnants how)
     → (has_header (seen how files.script) ≡ true) × (mended how files.script files.timing ≡ remains)
     → Comes job files (done_mending remains)
 comes_remade job how files remains asked known =
-    comes_by job files (done_mending remains) (Some how) asked
+    comes_by job files (done_mending remains) (Some (Remnants how)) asked
     (sym (remade how files.script files.timing remains known.0 known.1))
 
-pub comes_unmended : (job : Job) (how : Header) (files : Files) (f : Fault) → mends job ≡ Some how → f ≡ NoHeader
-    → has_header (seen how files.script) ≡ false → Comes job files (refused_in job (File f))
+pub comes_unmended : (job : Job) (how : Header) (files : Files) (f : Fault) → remakes job ≡ Some (Remnants how)
+    → f ≡ NoHeader → has_header (seen how files.script) ≡ false → Comes job files (refused_in job (File f))
 comes_unmended job how files f asked same none =
-    comes_by job files (refused_in job (File f)) (Some how) asked
+    comes_by job files (refused_in job (File f)) (Some (Remnants how)) asked
     (ap (λ j. refused_in j (File f)) (is_mend job how asked) ∙ ap (λ g. refused_with (File g)) same ∙ sym (unmended how files.script files.timing none))
 
 module _ {S T O P L : Type 0} (pair : Pair S T) (writers : Writers O P) (told : Device L) (how : Header) where
@@ -62,30 +57,17 @@ module _ {S T O P L : Type 0} (pair : Pair S T) (writers : Writers O P) (told : 
   pub mend_unread : (f : Fault)
       → (is_stop f ≡ false → (f ≡ NoHeader)
       × ((s : List ℕ) → pair.script.bytes (inner_of pair.script.old) ≡ Some s → has_header (seen how s) ≡ false))
-      → (f ≢ ReadFault → IsRead pair) → (f ≡ ReadFault → HasFailed pair.script ⊎ HasFailed pair.timing)
+      → (f ≢ ReadFault → IsRead pair) → (f ≡ ReadFault → IsUnread pair)
       → f ≢ WriteFault → IsSilent writers told → MendEnds pair writers told how (outcome_by (Err (File f)))
-  mend_unread f header read failed other silent = record {
-    done = λ e. absurd (cc);
-    refused = λ e.
-        let unstopped = is_not _ e in
-        let same = (header unstopped).0 in (
-          read (λ r. stops (File f) (File ReadFault) refl (ap (λ x. File x) r) unstopped),
-          silent,
-          ap (λ g. Some (File g)) same,
-          λ script timing held held_timing. ap (λ g. outcome_by (Err (File g))) same
-              ∙ ap (λ (d : Done). d.outcome) (sym (unmended how script timing ((header unstopped).1 script held))),
-        );
-    memory = λ m. (
-      read (λ r. elim m [
-        | inl e ↦ cc
-        | inr e ↦ cc
-      ]),
-      silent,
-    );
-    reader = λ e. (failed (cc), silent);
-    writer = λ e. absurd (other (cc));
-    status = refl;
-  }
+  mend_unread f header read failed other silent =
+      telling_unread (IsRead pair) (IsUnread pair) (OnPair pair how) (λ g. g ≡ Some (File NoHeader)) writers told (jobs.Mend how)
+      (File f) (λ unstopped.
+      let same = (header unstopped).0 in (
+        ap (λ g. Some (File g)) same,
+        λ script timing held held_timing. ap (λ g. outcome_by (Err (File g))) same
+            ∙ ap (λ (d : Done). d.outcome) (sym (unmended how script timing ((header unstopped).1 script held))),
+      ))
+      (λ unlike. read (λ e. unlike (ap (λ g. File g) e))) (λ e. failed (cc)) (λ e. other (cc)) silent
 
   -- one that is, and of which this is left
   module _ (remains : Remains)
@@ -99,39 +81,9 @@ module _ {S T O P L : Type 0} (pair : Pair S T) (writers : Writers O P) (told : 
         subst (λ d. Is d (told_by how s t)) (sym (remade how s t remains known.0 known.1))
         (subst (λ x. Is (done_mending remains) x) (sym (retold how s t remains known.0 known.1)) is)
 
-    at_writer : AWriterFailed writers told → StoppedInThree writers told (done_mending remains) (told_of remains)
-        → MendEnds pair writers told how (outcome_by (Err (File WriteFault)))
-    at_writer failed stopped = record {
-      done = λ e. absurd (cc);
-      refused = λ e. absurd (cc);
-      memory = λ m. elim m [
-        | inl e ↦ absurd (cc)
-        | inr e ↦ absurd (cc)
-      ];
-      reader = λ e. absurd (cc);
-      writer = λ _. (failed, on_pair (StoppedInThree writers told) stopped);
-      status = refl;
-    }
-
-    pub mend_written : (r : Result Ending JobFault) → ThreeEnd writers told how remains r
+    pub mend_written : (r : Result Ending JobFault)
+        → ThreeEnd writers told (jobs.Mend how) (done_mending remains) (told_of remains) r
         → MendEnds pair writers told how (outcome_by r)
-    mend_written (Ok ending) (is, took, flushed) = record {
-      done = λ _. record {
-        read = read;
-        wrote = on_pair
-            (λ done text. (outcome_by (Ok ending) ≡ done.outcome) × TookBoth writers done × Took told.bytes told.old told.new text)
-            (sym is.outcome, is.wrote, took);
-        flushed = (is.flushed, is.flushed_timing);
-        flushed_told = flushed;
-      };
-      refused = λ e. absurd (cc);
-      memory = λ m. elim m [
-        | inl e ↦ absurd (cc)
-        | inr e ↦ absurd (cc)
-      ];
-      reader = λ e. absurd (cc);
-      writer = λ e. absurd (cc);
-      status = is.status;
-    }
-    mend_written (Err f) (e, failed, stopped) =
-        subst (λ g. MendEnds pair writers told how (outcome_by (Err g))) (sym e) (at_writer failed stopped)
+    mend_written =
+        telling_written (IsRead pair) (IsUnread pair) (OnPair pair how) (λ g. g ≡ Some (File NoHeader)) writers told
+        (jobs.Mend how) (done_mending remains) (told_of remains) on_pair read

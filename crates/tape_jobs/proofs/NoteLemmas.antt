@@ -12,7 +12,7 @@ use Rattle.tape_jobs.specs.declared.job.Ending.{Ending}
 use Rattle.command_line.specs.declared.job.Job.{Job}
 use Rattle.command_line.specs.declared.job.Job.TheVariants as jobs
 use Rattle.tape_jobs.specs.declared.job.JobFault.{JobFault}
-use Rattle.tape_jobs.specs.declared.job.JobFault.TheVariants.{File, Line, Memory}
+use Rattle.tape_jobs.specs.declared.job.JobFault.TheVariants.{File, Compressed, NoKnownForm, Line, Memory}
 use Rattle.command_line.specs.declared.player.Player.TheVariants.{Vt}
 use Rattle.vt_term.specs.declared.profile.Profile.TheVariants.{Vt100}
 
@@ -37,6 +37,8 @@ unfaulted job tape lines text g e = unfaulted_done job (done_on job tape lines t
 module _ (job : Job) (tape : Tape) (lines text : List ℕ) where
   refused_after : (f : JobFault) → done_on job tape lines text ≡ refused_in job f → was_read (Some f) ≡ true
   refused_after (File g) same = absurd (unfaulted job tape lines text g same)
+  refused_after Compressed same = refl
+  refused_after NoKnownForm same = refl
   refused_after (Line line g) same = refl
   refused_after Memory same = refl
 

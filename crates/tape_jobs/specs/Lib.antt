@@ -1,4 +1,5 @@
 pub mod Endings
+pub mod Importing
 pub mod Info
 pub mod Mending
 pub mod Moment
@@ -8,4 +9,5 @@ pub mod Player
 pub mod Redacting
 pub mod Requests
 pub mod Session
+pub mod Telling
 pub mod Texts

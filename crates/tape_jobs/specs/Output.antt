@@ -9,7 +9,13 @@ use Rattle.tape_core.specs.Seconds.{last_moment}
 use Rattle.tape_core.specs.Tape.{Tape}
 use Rattle.tape_core.specs.Text.{lines_of}
 use Rattle.tape_core.specs.Written.{script_text, timing_text}
-use Rattle.tape_core.specs.declared.fault.Fault.TheVariants.{NoHeader}
+use Rattle.tape_core.specs.declared.fault.Fault.TheVariants.{NoHeader, OutOfMemory}
+use Rattle.tape_import.specs.Imported.{Import as Read, Imports}
+use Rattle.tape_import.specs.ImportedFile.{IsImported, import_of}
+use Rattle.tape_import.specs.Told.{is_damaged as is_lossy, losses_text}
+use Rattle.tape_import.specs.declared.fault.ImportFault.{ImportFault}
+use Rattle.tape_import.specs.declared.fault.ImportFault.TheVariants as of_import
+use Rattle.tape_import.specs.declared.losses.Losses.{Losses}
 use Rattle.tape_mend.specs.Mended.{Remains, mended, seen}
 use Rattle.tape_mend.specs.Told.{is_damaged}
 use Rattle.tape_mend.specs.declared.opening.Header.{Header}
@@ -23,11 +29,11 @@ use Rattle.tape_jobs.specs.Requests.{saved, started}
 use Rattle.tape_jobs.specs.Session.{answered, any_refused}
 use Rattle.tape_jobs.specs.Texts.{text_of}
 use Rattle.command_line.specs.declared.job.Job.{Job}
-use Rattle.command_line.specs.declared.job.Job.TheVariants.{Due, Info, Check, Find, Save, Mend, Redact, Session}
+use Rattle.command_line.specs.declared.job.Job.TheVariants.{Due, Info, Check, Find, Save, Mend, Import, Redact, Session}
 use Rattle.tape_jobs.specs.declared.job.Ending.{Ending}
 use Rattle.tape_jobs.specs.declared.job.Ending.TheVariants.{Clean, WithRefusals, WithNotes, WithLosses, WithNothing, WithTraces}
 use Rattle.tape_jobs.specs.declared.job.JobFault.{JobFault}
-use Rattle.tape_jobs.specs.declared.job.JobFault.TheVariants.{File, Line, Memory}
+use Rattle.tape_jobs.specs.declared.job.JobFault.TheVariants.{File, Compressed, NoKnownForm, Line, Memory}
 use Rattle.tape_jobs.specs.declared.job.Outcome.{Outcome}
 
 -- what a job is given: the texts of its files, and the characters of the text that stands beside it (ours)
@@ -53,13 +59,20 @@ takes_requests _ = false
 abbrev pub writes_timing : Job → Bool
 writes_timing Save = true
 writes_timing (Mend how) = true
+writes_timing Import = true
 writes_timing (Redact player) = true
 writes_timing _ = false
 
--- which line a job takes as the header that mends a pair of files, if it does; the others read a recording (ours)
-abbrev pub mends : Job → Option Header
-mends (Mend how) = Some how
-mends _ = None
+-- what a job makes a pair of, where it reads no recording: of what can be read of a pair of files, with the line that it
+-- takes as the header, or of a recording of another form (ours)
+pub data Remade : Type 0 where
+  Remnants : Header → Remade
+  Foreign : Remade
+
+abbrev pub remakes : Job → Option Remade
+remakes (Mend how) = Some (Remnants how)
+remakes Import = Some Foreign
+remakes _ = None
 
 -- what a job comes to that is done with these texts (ours)
 abbrev pub done_with : List ℕ → List ℕ → Done
@@ -108,7 +121,7 @@ ending_by refused = if refused then WithRefusals else Clean
 abbrev pub ending_of_check : Bool → Ending
 ending_of_check noted = if noted then WithNotes else Clean
 
--- how mending ends, by whether something is lacking (ours)
+-- how mending ends, and importing, by whether something is lacking (ours)
 abbrev pub ending_of_mend : Bool → Ending
 ending_of_mend lacking = if lacking then WithLosses else Clean
 
@@ -191,6 +204,7 @@ done_on (Find from to player) tape requests text =
     done_ending lines (ending_of_find (is_some_text lines))
 done_on Save tape requests text = saved_by tape requests
 done_on (Mend how) tape requests text = done_with (script_text tape) (timing_text tape)
+done_on Import tape requests text = done_with (script_text tape) (timing_text tape)
 done_on (Redact player) tape requests text = done_redacting player text tape
 done_on (Session every player) tape requests text =
     let start = started (settled player tape) tape in
@@ -215,29 +229,61 @@ abbrev pub mended_by : Header → List ℕ → List ℕ → Done
 mended_by how script timing =
     if has_header (seen how script) then done_mending (mended how script timing) else refused_with (File NoHeader)
 
+-- what `import` comes to on a recording of another form that was read so: both files, of all that can be read of it (ours)
+abbrev pub done_importing : Tape → Losses → Done
+done_importing tape losses = record {
+  text = script_text tape;
+  timing = timing_text tape;
+  outcome = record { status = status_after (ending_of_mend (is_lossy losses)); fault = None };
+}
+
+-- why nothing is imported, as a fault of a job (ours)
+abbrev pub fault_of_import : ImportFault → JobFault
+fault_of_import of_import.Compressed = Compressed
+fault_of_import of_import.NoKnownForm = NoKnownForm
+fault_of_import of_import.OutOfMemory = File OutOfMemory
+
+-- what importing comes to, with what is told of it, by what is read of the file; where that is nothing, the fault of it,
+-- with nothing written or told (ours)
+abbrev pub ComesOf : Result Read ImportFault → Done → List ℕ → Type 0
+ComesOf (Ok what) done told = (tape : Tape) × (losses : Losses) × Imports what tape losses
+    × (done ≡ done_importing tape losses) × (told ≡ losses_text losses)
+ComesOf (Err f) done told = (done ≡ refused_with (fault_of_import f)) × (told ≡ [])
+
+abbrev pub ComesImported : List ℕ → Done → List ℕ → Type 0
+ComesImported file done told = ComesOf (import_of file) done told
+
+-- Private: nothing is read of a file, for this fault (ours)
+abbrev pub HasNoForm : List ℕ → JobFault → Type 0
+HasNoForm file f = (why : ImportFault) × (import_of file ≡ Err why) × (f ≡ fault_of_import why)
+
 -- the jobs that may take memory once the recording is read: those that open a session, and the one that counts
 -- sequences (ours)
 abbrev pub TakesMemory : Job → Type 0
 TakesMemory (Due at) = ⊥
 TakesMemory Info = ⊥
 TakesMemory (Mend how) = ⊥
+TakesMemory Import = ⊥
 TakesMemory _ = Unit {0}
 
--- a job comes to this on these files: what mending them comes to, where it mends; else the fault of the pair where it
--- has one, and else what it comes to on the recording (ours)
-abbrev pub ComesBy : Option Header → Job → Files → Done → Type 0
-ComesBy (Some how) job files done = done ≡ mended_by how files.script files.timing
+-- a job comes to this on these files: what mending them comes to, or importing the one that is read as the script, where
+-- it does that; else the fault of the pair where it has one, and else what it comes to on the recording (ours)
+abbrev pub ComesBy : Option Remade → Job → Files → Done → Type 0
+ComesBy (Some (Remnants how)) job files done = done ≡ mended_by how files.script files.timing
+ComesBy (Some Foreign) job files done = (told : List ℕ) × ComesImported files.script done told
 ComesBy None job files done = MatchOption (fault_of files.script files.timing)
     ((tape : Tape) × reads files.script files.timing tape × (done ≡ done_on job tape files.requests files.text))
     (λ f. done ≡ refused_in job (File f))
 
 abbrev pub Comes : Job → Files → Done → Type 0
-Comes job files done = ComesBy (mends job) job files done
+Comes job files done = ComesBy (remakes job) job files done
 
 -- a device or want of memory stopped the job (ours)
 abbrev pub is_stopped : Option JobFault → Bool
 is_stopped None = false
 is_stopped (Some (File f)) = is_stop f
+is_stopped (Some Compressed) = false
+is_stopped (Some NoKnownForm) = false
 is_stopped (Some Memory) = true
 is_stopped (Some (Line line f)) = false
 
@@ -246,6 +292,7 @@ abbrev pub IsDoneStatus : Job → ℕ → Type 0
 IsDoneStatus (Session every player) status = (status ≡ 0) ⊎ (status ≡ 1)
 IsDoneStatus (Check player) status = (status ≡ 0) ⊎ (status ≡ 1)
 IsDoneStatus (Mend how) status = (status ≡ 0) ⊎ (status ≡ 1)
+IsDoneStatus Import status = (status ≡ 0) ⊎ (status ≡ 1)
 IsDoneStatus (Find from to player) status = (status ≡ 0) ⊎ (status ≡ 1)
 IsDoneStatus (Redact player) status = (status ≡ 0) ⊎ (status ≡ 1)
 IsDoneStatus _ status = status ≡ 0
@@ -253,6 +300,8 @@ IsDoneStatus _ status = status ≡ 0
 -- the status of the program where a job isn't done: 3 where a device or want of memory stopped it, and else 1 (ours)
 abbrev pub status_of : JobFault → ℕ
 status_of (File f) = if is_stop f then 3 else 1
+status_of Compressed = 1
+status_of NoKnownForm = 1
 status_of Memory = 3
 status_of (Line line f) = 1
 

@@ -10,7 +10,7 @@ use Rattle.tape_seek.specs.declared.edits.EditFault.TheVariants as fault
 use Rattle.tape_seek.specs.declared.requests.Request.{Request}
 use Rattle.tape_seek.specs.declared.requests.Request.TheVariants as asks
 use Rattle.tape_jobs.specs.declared.job.JobFault.{JobFault}
-use Rattle.tape_jobs.specs.declared.job.JobFault.TheVariants.{File, Line, Memory}
+use Rattle.tape_jobs.specs.declared.job.JobFault.TheVariants.{File, Compressed, NoKnownForm, Line, Memory}
 use Rattle.command_line.specs.declared.player.Player.{Player}
 
 -- where request lines have led: which terminal plays, the recording as edited, and the accepted edits in order. It is a
@@ -68,6 +68,8 @@ saved line course (text ∷ rest) =
 -- Private: the fault of a job whose request lines aren't all done: the first that is refused, or want of memory (ours)
 abbrev pub StopsEditing : Result Tape (ℕ × EditFault) → JobFault → Type 0
 StopsEditing saving (File f) = ⊥
+StopsEditing saving Compressed = ⊥
+StopsEditing saving NoKnownForm = ⊥
 StopsEditing saving (Line line f) = saving ≡ Err (line, f)
 StopsEditing saving Memory = Unit {0}
 

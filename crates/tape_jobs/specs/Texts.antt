@@ -12,7 +12,7 @@ use Rattle.xterm_term.specs.Term.{reset_term}
 use Rattle.xterm_transcript.specs.Rows.{all_rows}
 use Rattle.xterm_transcript.specs.Transcribed.{Transcribed, left, play_on}
 use Rattle.command_line.specs.declared.job.Job.{Job}
-use Rattle.command_line.specs.declared.job.Job.TheVariants.{Due, Info, Check, Screen, Picture, Transcript, Changes, Find, Reports, Page, Cast, Save, Mend, Redact, Session}
+use Rattle.command_line.specs.declared.job.Job.TheVariants.{Due, Info, Check, Screen, Picture, Transcript, Changes, Find, Reports, Page, Cast, Save, Mend, Import, Redact, Session}
 use Rattle.command_line.specs.declared.player.Measure.{Measure}
 use Rattle.command_line.specs.declared.player.Player.{Player}
 use Rattle.command_line.specs.declared.player.Player.TheVariants.{Vt, Today}
@@ -76,6 +76,7 @@ only_writes (Check player) = false
 only_writes (Find from to player) = false
 only_writes Save = false
 only_writes (Mend how) = false
+only_writes Import = false
 only_writes (Redact player) = false
 only_writes (Session every player) = false
 only_writes _ = true

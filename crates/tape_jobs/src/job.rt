@@ -7,13 +7,14 @@ ghost use Rattle.tape_core.specs.Faults.{is_stop};
 ghost use Rattle.tape_core.specs.Reading.{fault_of, reads};
 ghost use Rattle.tape_jobs.specs.Endings.{JobEnds, JobPuts, RunEnds, readers_of, used, writers_of};
 ghost use Rattle.tape_jobs.specs.Notes.{NoteEnds};
-ghost use Rattle.tape_jobs.specs.Output.{TakesMemory, answers_by_status, clean_by, done_on, mends, outcome_by, outcome_in, status_after, status_of, takes_requests, writes_timing};
+ghost use Rattle.tape_jobs.specs.Output.{TakesMemory, answers_by_status, clean_by, done_on, outcome_by, outcome_in, remakes, status_after, status_of, takes_requests, writes_timing};
 
 mod cast;
 mod changes;
 mod check;
 mod due;
 mod find;
+pub mod import;
 mod info;
 pub mod mend;
 mod moment;
@@ -32,6 +33,7 @@ use chunk_walk::WalkFault;
 use command_line::{Job, Player, Print};
 use due::write_due;
 use find::write_found;
+use import::{read_imported, write_imported};
 use info::write_info;
 use mend::{read_remains, write_remains};
 use moment::{write_picture, write_reports, write_screen};
@@ -47,6 +49,7 @@ use std::io::{Read, Write};
 use std::mem::ManuallyDrop;
 use tape_check::CheckFault;
 use tape_core::{Fault, Recording, Watched, read_recording_of, slurp};
+use tape_import::ImportFault;
 use tape_mend::Header;
 use tape_seek::EditFault;
 use thiserror::Error;
@@ -62,7 +65,8 @@ pub enum Ending {
     WithRefusals,
     /// A check has noted something, or found what isn't played.
     WithNotes,
-    /// Of a pair of files that was mended a line or a chunk was left out or cut, or bytes have no timing.
+    /// Of a pair of files that was mended a line or a chunk was left out or cut, or bytes have no timing; or of a recording
+    /// of another form something was left out or cut, and not just other events.
     WithLosses,
     /// A search has found nothing.
     WithNothing,
@@ -92,6 +96,12 @@ pub enum JobFault {
     /// The pair of files has a fault, memory was refused or a device failed.
     #[error("{0}")]
     File(Fault),
+    /// A recording of another form begins as a compressed file does.
+    #[error("recording is compressed")]
+    Compressed,
+    /// It has no form that is known.
+    #[error("recording of no known form")]
+    NoKnownForm,
     /// A request line was refused: its number, counted from 1 with the blank ones, and why.
     #[error("request line {line}: {}", name_of(*fault))]
     Line { line: u64, fault: EditFault },
@@ -108,6 +118,21 @@ impl From<Fault> for JobFault {
 
     fn from(fault: Fault) -> JobFault {
         JobFault::File(fault)
+    }
+}
+
+impl From<ImportFault> for JobFault {
+    ghost use Rattle.std.specs.Prelude.{◌≡◌};
+    ghost use Rattle.tape_jobs.specs.Output.{fault_of_import};
+
+    ghost from_gives = { λ stop fault. fault ≡ fault_of_import stop };
+
+    fn from(stop: ImportFault) -> JobFault {
+        match stop {
+            ImportFault::Compressed => JobFault::Compressed,
+            ImportFault::NoKnownForm => JobFault::NoKnownForm,
+            ImportFault::OutOfMemory => JobFault::File(Fault::OutOfMemory),
+        }
     }
 }
 
@@ -172,6 +197,7 @@ impl JobFault {
         match self {
             JobFault::File(Fault::OutOfMemory | Fault::ReadFault | Fault::WriteFault) => 3,
             JobFault::File(_) | JobFault::Line { .. } => 1,
+            JobFault::Compressed | JobFault::NoKnownForm => 1,
             JobFault::Memory => 3,
         }
     }
@@ -184,7 +210,8 @@ pub struct Outcome {
     pub fault: Option<JobFault>,
 }
 
-/// Does a job: reads the script and the timing whole, and then writes.
+/// Does a job: reads the script and the timing whole, and then writes. `import` reads its recording as the script, and no
+/// timing.
 ///
 /// It is done, or refused, for a fault of the pair of files or of a request line: then no device has failed, and what was
 /// written is what the job comes to on the files. It ends for want of memory, or as a device fails: then a beginning of
@@ -266,6 +293,17 @@ pub fn run_with<S: Read, T: Read, R: Read, O: Write, P: Write, N: Write>(
             Err(fault) => outcome_in(job, Err(JobFault::File(fault))),
         };
     }
+    if let Job::Import = job {
+        return match read_imported(alloc, script) {
+            Ok(imported) => {
+                outcome_in(
+                    job,
+                    write_imported(&ManuallyDrop::new(imported), out, out_timing),
+                )
+            }
+            Err(fault) => outcome_in(job, Err(fault)),
+        };
+    }
     match read_files(alloc, job, script, timing, requests) {
         Ok(given) => {
             tell_note(job, &given.recording, notes);
@@ -285,7 +323,7 @@ fn perform<O: Write, P: Write>(
     out: &mut Watched<O>,
     out_timing: &mut Watched<P>,
 ) -> Result<Ending, JobFault>
-    requires reads { mends job ≡ None }
+    requires reads { remakes job ≡ None }
     requires out { has_failed out.old ≡ false }
     requires out_timing { has_failed out_timing.old ≡ false }
     ensures ends { let writers = writers_of (used O.contents out.old out.new)
@@ -324,6 +362,7 @@ fn only_writes(job: Job) -> bool
             | Job::Find { .. }
             | Job::Save
             | Job::Mend { .. }
+            | Job::Import
             | Job::Redact { .. }
             | Job::Session { .. }
     )

@@ -7,6 +7,7 @@ pub mod laws;
 mod player;
 mod shared;
 
+pub use job::import::import;
 pub use job::mend::mend;
 pub use job::redact::redact;
 pub use job::{Ending, JobFault, Outcome, run, run_with};

@@ -109,6 +109,7 @@ fn arg_of<'a>(alloc: Global, argument: Argument) -> Arg<'a>
         | Argument::Script
         | Argument::Timing
         | Argument::AnyTiming
+        | Argument::Recording
         | Argument::NewScript
         | Argument::NewTiming => positional(
             alloc,

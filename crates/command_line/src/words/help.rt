@@ -32,6 +32,8 @@ pub fn about_of<'a>(subcommand: Subcommand) -> &'a str {
             "Make the edits that standard input asks for, and write both files anew",
         Subcommand::Mend =>
             "Write both files anew of all that can be read of them, and tell what was lost",
+        Subcommand::Import =>
+            "Write a recording of another form as a pair of files, and tell what was lost",
         Subcommand::Redact =>
             "Write both files anew without a text, and tell whether it may still be seen",
         Subcommand::Session => "Answer the requests of standard input, each in turn",
@@ -97,6 +99,23 @@ const MEND_DETAILS: &str =
     No one can bring back bytes that a file no longer has, when bytes came that no line counts or only one\n\
     behind a fault, and what a lost first line said.\n\n\
     Example: typetool mend demo.script demo.timing new.script new.timing\n\n\
+    The long form: man typetool";
+
+/// What `import` reads, what it tells, and its status.
+const IMPORT_DETAILS: &str =
+    "For recordings by other makers: an asciicast (version 1, 2 or 3), a ttyrec, or messages of tlog, which\n\
+    their first bytes tell apart. Reading ends before the first event with a fault. The new pair is in the\n\
+    classic format, and is read without a fault; its first line tells when the recording began, under which\n\
+    terminal and at which size, where that is known (a size that is set before any output counts). Input,\n\
+    markers, other changes of the size and other events have no place in it, and are left out.\n\n\
+    Both new files are created before anything is read, and must not exist. Then it is told, each only\n\
+    where it is so: first message is number N; recording line N: FAULT, K lines left out (of a ttyrec and\n\
+    of version 1: recording event N: FAULT, B bytes left out); chunk I cut to B of C bytes; N delays cut to\n\
+    1000000 seconds; N inputs, M markers, R resizes and U others left out. Status 1 where one of the first\n\
+    four is told or a change of the size was left out, and where the recording is compressed or of no known\n\
+    form (then nothing is written).\n\n\
+    A log of sudo is read by mend.\n\n\
+    Example: typetool import demo.cast demo.script demo.timing\n\n\
     The long form: man typetool";
 
 /// What `redact` tells, its status, and what it can't do.
@@ -218,6 +237,7 @@ pub fn details_of<'a>(subcommand: Subcommand) -> &'a str {
         Subcommand::Cast => CAST_DETAILS,
         Subcommand::Save => SAVE_DETAILS,
         Subcommand::Mend => MEND_DETAILS,
+        Subcommand::Import => IMPORT_DETAILS,
         Subcommand::Redact => REDACT_DETAILS,
         Subcommand::Session => SESSION_DETAILS,
     }
@@ -234,6 +254,7 @@ pub fn value_name_of<'a>(argument: Argument) -> &'a str {
         Argument::Title | Argument::Sought | Argument::Secret => "TEXT",
         Argument::Script => "SCRIPT",
         Argument::Timing | Argument::AnyTiming => "TIMING",
+        Argument::Recording => "RECORDING",
         Argument::NewScript => "NEWSCRIPT",
         Argument::NewTiming => "NEWTIMING",
     }
@@ -284,6 +305,8 @@ pub fn help_of<'a>(argument: Argument) -> &'a str {
              (A typescript given here is told as 'multi-stream format'.)"
         }
         Argument::AnyTiming => "Its timing file, in the classic, the multi-stream or sudo's format",
+        Argument::Recording =>
+            "A recording of another form: an asciicast, a ttyrec, or messages of tlog",
         Argument::NewScript => "The typescript to be written; it must not exist",
         Argument::NewTiming => "Its timing file, to be written; it must not exist",
     }

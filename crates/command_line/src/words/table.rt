@@ -19,6 +19,7 @@ pub enum Subcommand {
     Cast,
     Save,
     Mend,
+    Import,
     Redact,
     Session,
 }
@@ -58,6 +59,8 @@ pub enum Argument {
     Timing,
     /// Its timing file, in either format.
     AnyTiming,
+    /// A recording of another form.
+    Recording,
     /// The typescript that is to be written.
     NewScript,
     /// The timing file that is to be written.
@@ -65,7 +68,7 @@ pub enum Argument {
 }
 
 /// The subcommands, in the order in which help tells them.
-pub fn subcommands() -> [Subcommand; 15]
+pub fn subcommands() -> [Subcommand; 16]
     ensures { result ≡ subcommands_in_order }
 {
     [
@@ -82,6 +85,7 @@ pub fn subcommands() -> [Subcommand; 15]
         Subcommand::Cast,
         Subcommand::Save,
         Subcommand::Mend,
+        Subcommand::Import,
         Subcommand::Redact,
         Subcommand::Session,
     ]
@@ -106,6 +110,7 @@ pub fn name_of<'a>(subcommand: Subcommand) -> &'a str
         Subcommand::Cast => "cast",
         Subcommand::Save => "save",
         Subcommand::Mend => "mend",
+        Subcommand::Import => "import",
         Subcommand::Redact => "redact",
         Subcommand::Session => "session",
     }
@@ -145,7 +150,7 @@ pub fn flags_of(subcommand: Subcommand) -> &'static [Argument]
         }
         Subcommand::Mend => &[Argument::Last, Argument::Headless],
         Subcommand::Session => &[Argument::Every, Argument::Profile, Argument::Size],
-        Subcommand::Info | Subcommand::Save => &[],
+        Subcommand::Info | Subcommand::Save | Subcommand::Import => &[],
     }
 }
 
@@ -179,6 +184,11 @@ pub fn paths_of(subcommand: Subcommand) -> &'static [Argument]
             Argument::NewScript,
             Argument::NewTiming,
         ],
+        Subcommand::Import => &[
+            Argument::Recording,
+            Argument::NewScript,
+            Argument::NewTiming,
+        ],
         _ => &[Argument::Script, Argument::Timing],
     }
 }
@@ -202,6 +212,7 @@ pub fn id_of<'a>(argument: Argument) -> &'a str
         Argument::Sought | Argument::Secret => "text",
         Argument::Script => "script",
         Argument::Timing | Argument::AnyTiming => "timing",
+        Argument::Recording => "recording",
         Argument::NewScript => "new-script",
         Argument::NewTiming => "new-timing",
     }

@@ -80,6 +80,7 @@ pub fn read_job(subcommand: Subcommand, values: &ArgMatches<'_>) -> Result<Job, 
         Subcommand::Mend => Ok(Job::Mend {
             header: read_header(values)?,
         }),
+        Subcommand::Import => Ok(Job::Import),
         Subcommand::Redact => read_redact(values),
         Subcommand::Session => Ok(Job::Session {
             every: read_every(values)?,

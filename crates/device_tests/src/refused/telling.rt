@@ -7,7 +7,7 @@ use std::process::Abort;
 use std::rt::Runtime;
 use std::test::Fail;
 use tape_core::{Fault, Watched};
-use tape_jobs::{JobFault, Outcome, mend, redact};
+use tape_jobs::{JobFault, Outcome, import, mend, redact};
 use tape_mend::Header;
 
 /// Mends a pair that ends inside its last chunk, by the call that tells so: what is told stands as the note.
@@ -61,6 +61,57 @@ fn mend_and_tell(rt: HostRuntime) -> Result<(), Fail> {
     };
     let told = b"chunk 2 cut to 7 of 9 bytes\n";
     compare_told(&rt, &ended, damaged, [SCRIPT, WRITTEN, told]);
+    Ok(())
+}
+
+/// Imports an asciicast whose last line is no event: what is told stands as the note.
+fn import_cut(rt: &impl Runtime<A = Global>) -> Result<Ended, Fail> {
+    let mut out = Watched::new(room(rt)?);
+    let mut out_timing = Watched::new(room(rt)?);
+    let mut told = Watched::new(room(rt)?);
+    let file = b"{\"version\": 2, \"env\": {\"TERM\": \"xterm\"}, \"timestamp\": 86400}\n\
+        [0.5, \"o\", \"a\\u00e9\"]\n[1, \"m\", \"\"]\n[2, \"o\", \"b\"]\n[3, \"o\"";
+    let outcome = import(
+        rt.alloc(),
+        &mut Watched::new(file.as_slice()),
+        &mut out,
+        &mut out_timing,
+        &mut told,
+    );
+    Ok(Ended {
+        outcome,
+        text: out.into_inner(),
+        new_timing: out_timing.into_inner(),
+        note: told.into_inner(),
+    })
+}
+
+/// Where memory is refused to it, nothing goes out.
+#[test]
+fn import_and_tell(rt: HostRuntime) -> Result<(), Fail> {
+    let mut ended = import_cut(&rt)?;
+    if ended.outcome.fault.is_some() {
+        println!(rt; "refused: import")?;
+        let refused = Outcome {
+            status: 3,
+            fault: Some(JobFault::File(Fault::OutOfMemory)),
+        };
+        compare_told(&rt, &ended, refused, [b"", b"", b""]);
+        ended = import_cut(&rt)?;
+    }
+    let damaged = Outcome {
+        status: 1,
+        fault: None,
+    };
+    let script = b"Script started on 1970-01-02 00:00:00+00:00 [TERM=\"xterm\"]\na\xc3\xa9b";
+    let told = b"recording line 5: bad event, 1 lines left out\n\
+        0 inputs, 1 markers, 0 resizes and 0 others left out\n";
+    compare_told(
+        &rt,
+        &ended,
+        damaged,
+        [script, b"0.500000 3\n1.500000 1\n", told],
+    );
     Ok(())
 }
 

@@ -6,8 +6,9 @@ ghost use Rattle.tape_core.specs.Faults.{is_stop};
 ghost use Rattle.tape_core.specs.Reading.{has_header};
 ghost use Rattle.tape_core.specs.declared.fault.Fault.TheVariants as fault;
 ghost use Rattle.tape_jobs.specs.Endings.{JobEnds, TookPartOfBoth, used, writers_of};
-ghost use Rattle.tape_jobs.specs.Mending.{MendEnds, ThreeEnd, pair_of, remains_of, told_of, untimed_line, untimed_text};
+ghost use Rattle.tape_jobs.specs.Mending.{MendEnds, pair_of, remains_of, told_of, untimed_line, untimed_text};
 ghost use Rattle.tape_jobs.specs.Output.{done_mending, ending_of_mend, is_lacking};
+ghost use Rattle.tape_jobs.specs.Telling.{ThreeEnd};
 ghost use Rattle.tape_mend.specs.Mended.{mended, seen};
 ghost use Rattle.tape_mend.specs.declared.opening.Header.{Header as How};
 
@@ -109,8 +110,8 @@ fn is_lacking(mended: &Mended) -> bool
     mended.losses.is_damaged() || !is_usual(mended.recording.trailer())
 }
 
-/// How mending ends, by whether something is lacking.
-fn ending_of(lacking: bool) -> Ending
+/// How mending ends, and importing, by whether something is lacking.
+pub fn ending_of(lacking: bool) -> Ending
     ensures { result ≡ ending_of_mend lacking }
 {
     if lacking {
@@ -132,7 +133,8 @@ fn write_and_tell<O: Write, P: Write, L: Write>(
     requires told { has_failed told.old ≡ false }
     ensures ends { (how : How) → let writers = writers_of (used O.contents out.old out.new)
         (used P.contents out_timing.old out_timing.new) in
-        ThreeEnd writers (used L.contents told.old told.new) how (remains_of mended.now) result }
+        ThreeEnd writers (used L.contents told.old told.new) (Job.Mend how)
+        (done_mending (remains_of mended.now)) (told_of (remains_of mended.now)) result }
 {
     let ending = write_remains(mended, out, out_timing)?;
     tell(mended, told)?;

@@ -1,7 +1,10 @@
 use Rattle.std.proofs.Common.{◌≡◌, refl, rules, subst}
 use Rattle.tape_jobs.proofs.MendLemmas.{mend_unread, mend_written}
 use Rattle.tape_jobs.specs.Endings.{used, writers_of}
-use Rattle.tape_jobs.specs.Mending.{ThreeEnd, pair_of, remains_of}
+use Rattle.tape_jobs.specs.Mending.{pair_of, remains_of, told_of}
+use Rattle.tape_jobs.specs.Output.{done_mending}
+use Rattle.tape_jobs.specs.Telling.{ThreeEnd}
+use Rattle.command_line.specs.declared.job.Job.TheVariants as jobs
 use Rattle.tape_jobs.proofs.job.mend.mend.Goals as goal
 
 pub returns-in-Ok : goal.returns-in-Ok
@@ -12,7 +15,7 @@ returns-in-Ok g c =
     (used g.P.Write.contents c.args.out_timing.now c.write_and_tell.new.out_timing) in
     let told = used g.L.Write.contents c.args.told.now c.write_and_tell.new.told in
     let same : c.deref.result.now ≡ c.in-Ok.mended = search rules in
-    let ends = subst (λ m. ThreeEnd writers told c.args.header (remains_of m) c.write_and_tell.result) same
+    let ends = subst (λ m. ThreeEnd writers told (jobs.Mend c.args.header) (done_mending (remains_of m)) (told_of (remains_of m)) c.write_and_tell.result) same
     (c.write_and_tell.ensures.ends c.args.header) in
     rw c.outcome_of.ensures
     (mend_written pair writers told c.args.header (remains_of c.in-Ok.mended) c.in-Ok.ensures.ok

@@ -1,6 +1,6 @@
 use Rattle.std.proofs.Common.{ap, inl, inr, refl}
 use Rattle.std.proofs.lemmas.Result.{err_from_is_err_and}
-use Rattle.tape_jobs.proofs.MendLemmas.{one_failed}
+use Rattle.tape_jobs.proofs.TellingLemmas.{one_failed}
 use Rattle.tape_jobs.specs.Endings.{used, writers_of}
 use Rattle.tape_jobs.specs.Mending.{remains_of}
 use Rattle.tape_jobs.specs.Output.{done_mending}
