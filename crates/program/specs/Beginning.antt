@@ -19,12 +19,17 @@ is_stream byte = byte == 72 || byte == 73 || byte == 79 || byte == 83
 
 -- of the empty text (ours)
 abbrev pub nothing : Beginning
-nothing = record { empty = true; session = Some 0; first = Awaited }
+nothing = record { empty = true; session = Some 0; started = false; first = Awaited }
 
 -- how many bytes are a typescript's first ones, behind one more: none are, once another byte stood there (ours)
 abbrev pub session_after : Option ℕ → ℕ → Option ℕ
 session_after None byte = None
 session_after (Some n) byte = cond (nat_lt n 18) (cond (slice_index session n == byte) (Some (n + 1)) None) (Some n)
+
+-- they are just its first two words, `Script started` (ours)
+abbrev pub is_two_words : Option ℕ → Bool
+is_two_words None = false
+is_two_words (Some n) = n == 14
 
 -- the first field, behind one more byte (ours)
 abbrev pub field_after : FirstField → ℕ → FirstField
@@ -38,6 +43,7 @@ abbrev pub after_byte : Beginning → ℕ → Beginning
 after_byte beginning byte = record {
   empty = false;
   session = session_after beginning.session byte;
+  started = is_two_words (session_after beginning.session byte) || beginning.started;
   first = field_after beginning.first byte;
 }
 
@@ -52,6 +58,10 @@ is_all (Some n) = n == 18
 
 abbrev pub is_typescript : Beginning → Bool
 is_typescript beginning = is_all beginning.session
+
+-- it begins with the first two words of these (ours)
+abbrev pub is_started : Beginning → Bool
+is_started beginning = beginning.started
 
 -- its first field is the letter of a stream (ours)
 abbrev pub is_letter : FirstField → Bool

@@ -7,7 +7,8 @@ use Rattle.command_line.specs.declared.job.Job.{Job}
 use Rattle.command_line.specs.declared.job.Job.TheVariants as jobs
 use Rattle.tape_jobs.specs.declared.job.JobFault.{JobFault}
 use Rattle.tape_jobs.specs.declared.job.JobFault.TheVariants as of_job
-use Rattle.program.specs.Beginning.{is_empty, is_streams, is_typescript}
+use Rattle.program.specs.Beginning.{is_empty, is_started, is_streams, is_typescript}
+use Rattle.program.specs.declared.beginning.Beginning.{Beginning}
 use Rattle.program.specs.declared.beginning.Beginnings.{Beginnings}
 use Rattle.program.specs.declared.hints.Device.{Device}
 use Rattle.program.specs.declared.hints.Hint.{Hint}
@@ -40,12 +41,20 @@ hint_of_pair f files =
     cond (is_of_line_one f && is_typescript files.timing) hint.Swapped
     (cond (is_multi_stream f && is_streams files.timing) hint.Streams hint.Mendable)
 
--- after the fault of a job: what wasn't read or written; nothing, where memory is wanted (ours)
+-- where a recording has no form that is known: it is a typescript, of which the timing is missing, or else which forms
+-- are read (ours)
+abbrev pub hint_of_form : Beginning → Hint
+hint_of_form recording = cond (is_started recording) hint.Untimed hint.Forms
+
+-- after the fault of a job: what wasn't read or written, what to do with the file that has no form that is read; nothing,
+-- where memory is wanted (ours)
 abbrev pub hint_after : JobFault → Beginnings → Option Device → Option Hint
 hint_after (of_job.File fault.ReadFault) files failed = option_map (λ device. hint.Reading device) failed
 hint_after (of_job.File fault.WriteFault) files failed = option_map (λ device. hint.Writing device) failed
 hint_after (of_job.File fault.OutOfMemory) files failed = None
 hint_after (of_job.File f) files failed = Some (hint_of_pair f files)
+hint_after of_job.Compressed files failed = Some hint.Compressed
+hint_after of_job.NoKnownForm files failed = Some (hint_of_form files.script)
 hint_after (of_job.Line line f) files failed = Some hint.Stay
 hint_after of_job.Memory files failed = None
 

@@ -2,7 +2,7 @@
 
 ghost use Rattle.std.specs.Prelude.{◌≡◌, false, fold};
 ghost use Rattle.tape_core.specs.Devices.{has_failed};
-ghost use Rattle.program.specs.Beginning.{after_byte, field_after, is_empty, is_settled, is_streams, is_typescript, nothing, remaining_of, session_after};
+ghost use Rattle.program.specs.Beginning.{after_byte, field_after, is_empty, is_settled, is_started, is_streams, is_two_words, is_typescript, nothing, remaining_of, session_after};
 
 use std::io;
 use std::io::Read;
@@ -10,6 +10,9 @@ use tape_core::Watched;
 
 /// With which bytes script(1) begins a typescript.
 const SESSION: &[u8] = b"Script started on ";
+
+/// How many of them its first two words have.
+const TWO_WORDS: usize = 14;
 
 /// The first field of a text, of whichever line.
 #[derive(Clone, Copy, Debug, PartialEq, Eq)]
@@ -25,11 +28,13 @@ pub enum FirstField {
 }
 
 /// What a text begins with: whether it has a byte, how many of its bytes are those with which script(1) begins a
-/// typescript, up to all of these (None: another byte stands there), and its first field.
+/// typescript, up to all of these (None: another byte stands there), whether the first two words of these have come, and
+/// its first field.
 #[derive(Clone, Copy, Debug, PartialEq, Eq)]
 pub struct Beginning {
     empty: bool,
     session: Option<usize>,
+    started: bool,
     first: FirstField,
 }
 
@@ -41,6 +46,7 @@ impl Beginning {
         Beginning {
             empty: true,
             session: Some(0),
+            started: false,
             first: FirstField::Awaited,
         }
     }
@@ -59,6 +65,13 @@ impl Beginning {
         matches!(self.session, Some(come) if come == SESSION.len())
     }
 
+    /// Whether it begins with the first two words of these: `Script started`.
+    pub fn is_started(self) -> bool
+        ensures { result ≡ is_started self }
+    {
+        self.started
+    }
+
     /// Whether its first field is a letter of the multi-stream format.
     pub fn is_streams(self) -> bool
         ensures { result ≡ is_streams self }
@@ -71,12 +84,14 @@ impl Beginning {
     fn after(self, bytes: &[u8]) -> Beginning
         ensures { result ≡ fold after_byte self bytes.now }
     {
-        if self.is_settled() {
-            return self;
-        }
         let mut beginning = self;
-        for byte in bytes {
+        let mut rest = bytes;
+        while !beginning.is_settled() {
+            let [byte, more @ ..] = rest else {
+                return beginning;
+            };
             beginning = beginning.after_byte(*byte);
+            rest = more;
         }
         beginning
     }
@@ -93,9 +108,11 @@ impl Beginning {
     fn after_byte(self, byte: u8) -> Beginning
         ensures { result ≡ after_byte self byte }
     {
+        let session = session_after(self.session, byte);
         Beginning {
             empty: false,
-            session: session_after(self.session, byte),
+            session,
+            started: is_two_words(session) || self.started,
             first: field_after(self.first, byte),
         }
     }
@@ -113,6 +130,16 @@ fn session_after(session: Option<usize>, byte: u8) -> Option<usize>
         Some(come + 1)
     } else {
         None
+    }
+}
+
+/// Whether they are just the first two words.
+fn is_two_words(session: Option<usize>) -> bool
+    ensures { result ≡ is_two_words session }
+{
+    match session {
+        Some(come) => come == TWO_WORDS,
+        None => false,
     }
 }
 
@@ -147,11 +174,21 @@ impl<R: Read> Read for Begun<R> {
     }
 }
 
-/// What both files that a job reads begin with.
+/// What both files that a job reads begin with. A recording of another form stands for the script.
 #[derive(Clone, Copy, Debug)]
 pub struct Beginnings {
     pub script: Beginning,
     pub timing: Beginning,
+}
+
+impl Beginnings {
+    /// Of a recording in one file, as far as it was read.
+    pub fn of_one<F: Drop>(recording: Watched<Begun<F>>) -> Beginnings {
+        Beginnings {
+            script: recording.into_inner().beginning,
+            timing: Beginning::new(),
+        }
+    }
 }
 
 /// The files that a job reads.
@@ -186,7 +223,7 @@ impl<F> Sources<F> {
 }
 
 /// A file that has yet to be read.
-fn watched<F>(inner: F) -> Watched<Begun<F>>
+pub fn watched<F>(inner: F) -> Watched<Begun<F>>
     ensures { has_failed result ≡ false }
 {
     Watched::new(Begun {

@@ -1,9 +1,9 @@
 //! What to do about a fault: the line that follows it on standard error.
 
 ghost use Rattle.std.specs.Prelude.{◌≡◌};
-ghost use Rattle.program.specs.Hints.{device_of, hint_after, hint_at_end, hint_of_mend, hint_of_pair, is_of_line_one};
+ghost use Rattle.program.specs.Hints.{device_of, hint_after, hint_at_end, hint_of_form, hint_of_mend, hint_of_pair, is_of_line_one};
 
-use crate::beginning::Beginnings;
+use crate::beginning::{Beginning, Beginnings};
 use crate::cleaning::cleaned;
 use command_line::Job;
 use std::alloc::{AllocError, Global};
@@ -36,6 +36,12 @@ pub enum Hint {
     Streams,
     /// Mending keeps what can be read.
     Mendable,
+    /// The recording is compressed.
+    Compressed,
+    /// The recording is a typescript, of which the timing is missing.
+    Untimed,
+    /// Which forms a recording may have.
+    Forms,
     /// This wasn't read.
     Reading(Device),
     /// This wasn't written.
@@ -81,6 +87,8 @@ fn hint_after(fault: JobFault, beginnings: Beginnings, failed: Option<Device>) -
         JobFault::File(Fault::WriteFault) => failed.map(Hint::Writing),
         JobFault::File(Fault::OutOfMemory) | JobFault::Memory => None,
         JobFault::File(fault) => Some(hint_of_pair(fault, beginnings)),
+        JobFault::Compressed => Some(Hint::Compressed),
+        JobFault::NoKnownForm => Some(hint_of_form(beginnings.script)),
         JobFault::Line { .. } => Some(Hint::Stay),
     }
 }
@@ -95,6 +103,17 @@ fn hint_of_pair(fault: Fault, beginnings: Beginnings) -> Hint
         _ if is_of_line_one(fault) && beginnings.timing.is_typescript() => Hint::Swapped,
         Fault::MultiStream(_) if beginnings.timing.is_streams() => Hint::Streams,
         _ => Hint::Mendable,
+    }
+}
+
+/// The hint where a recording has no form that is known.
+fn hint_of_form(recording: Beginning) -> Hint
+    ensures { result ≡ hint_of_form recording }
+{
+    if recording.is_started() {
+        Hint::Untimed
+    } else {
+        Hint::Forms
     }
 }
 
@@ -149,6 +168,9 @@ impl fmt::Display for Hint {
             Hint::Headless => "typetool mend --headless takes a typescript without its header line",
             Hint::Streams => "typetool mend writes this in the classic format",
             Hint::Mendable => "typetool mend keeps what can be read",
+            Hint::Compressed => "gunzip, bunzip2, unxz or unzstd it first",
+            Hint::Untimed => "a typescript needs its timing file: SCRIPT TIMING",
+            Hint::Forms => "asciicast, ttyrec and tlog are read",
             Hint::Reading(_) => "reading",
             Hint::Writing(_) => "writing",
             Hint::Stay => "NEWSCRIPT and NEWTIMING stay, empty: remove them before you try again",

@@ -8,7 +8,7 @@ ghost use Rattle.tape_jobs.specs.Output.{Files as Given, is_stopped};
 ghost use Rattle.program.specs.Beginning.{remaining_of};
 ghost use Rattle.program.specs.Program.{IsAnswer, IsOutcome, stop_status};
 
-use crate::beginning::Sources;
+use crate::beginning::{Beginnings, Begun, Sources, watched};
 use crate::devices::{Outlet, buffered, released};
 use crate::files::open;
 use crate::hints::{Device, Hint, first_failed, hint_at_end};
@@ -18,7 +18,7 @@ use command_line::{Job, Player, Words};
 use std::io;
 use std::rt::Files;
 use tape_core::{Fault, Watched};
-use tape_jobs::{JobFault, Outcome, mend, redact, run, run_with};
+use tape_jobs::{JobFault, Outcome, import, mend, redact, run, run_with};
 use tape_mend::Header;
 
 /// The paths of a command line, in its order.
@@ -26,9 +26,24 @@ const SCRIPT: Device = Device::File(0);
 
 const TIMING: Device = Device::File(1);
 
-const NEW_SCRIPT: Device = Device::File(2);
+/// The two new files of a job.
+#[derive(Clone, Copy)]
+struct NewPaths {
+    script: Device,
+    timing: Device,
+}
 
-const NEW_TIMING: Device = Device::File(3);
+/// Those behind a pair.
+const BEHIND_PAIR: NewPaths = NewPaths {
+    script: Device::File(2),
+    timing: Device::File(3),
+};
+
+/// Those behind a recording in one file.
+const BEHIND_ONE: NewPaths = NewPaths {
+    script: Device::File(1),
+    timing: Device::File(2),
+};
 
 /// How a job ended, the note that it told of the recording, what follows its fault, and whether whoever reads standard
 /// output is gone.
@@ -60,7 +75,27 @@ pub fn open_and_run<R: Files + Input + Print + AllocGlobal>(
     // Else a file or memory was refused.
     ensures stop { IfErr result (λ stop. stop_status stop ≡ 3) }
 {
-    let script = open(rt, words.paths[0].as_str())?;
+    let first = open(rt, words.paths[0].as_str())?;
+    let Job::Import = words.job else {
+        return run_on_pair(rt, words, first);
+    };
+    let paths = (words.paths[1].as_str(), words.paths[2].as_str());
+    let pair = create_pair(rt, paths, (&first, &first))?;
+    let mut recording = watched(first);
+    let ran = import_into(rt, &mut recording, pair)?;
+    Ok(ended_by(words.job, ran, Beginnings::of_one(recording)))
+}
+
+/// Does a job over a pair, of which the script is open.
+fn run_on_pair<R: Files + Input + Print + AllocGlobal>(
+    rt: &R,
+    words: &Words,
+    script: R::File,
+) -> Result<Ended, Stop>
+    requires { path_count words.now.job ≤ vec_len words.now.paths }
+    ensures outcome { IfOk result (λ ended. IsOutcome words.now.job ended.outcome) }
+    ensures stop { IfErr result (λ stop. stop_status stop ≡ 3) }
+{
     let timing = open(rt, words.paths[1].as_str())?;
     let (job, text) = (words.job, words.text.as_slice());
     match job {
@@ -69,39 +104,39 @@ pub fn open_and_run<R: Files + Input + Print + AllocGlobal>(
             let pair = create_pair(rt, paths, (&script, &timing))?;
             let mut sources = Sources::new(script, timing);
             let ran = save_into(rt, &mut sources, pair);
-            Ok(ended_by(job, ran, sources))
+            Ok(ended_by(job, ran, sources.into_beginnings()))
         }
         Job::Mend { header } => {
             let paths = (words.paths[2].as_str(), words.paths[3].as_str());
             let pair = create_pair(rt, paths, (&script, &timing))?;
             let mut sources = Sources::new(script, timing);
             let ran = mend_into(rt, header, &mut sources, pair)?;
-            Ok(ended_by(job, ran, sources))
+            Ok(ended_by(job, ran, sources.into_beginnings()))
         }
         Job::Redact { player } => {
             let paths = (words.paths[2].as_str(), words.paths[3].as_str());
             let pair = create_pair(rt, paths, (&script, &timing))?;
             let mut sources = Sources::new(script, timing);
             let ran = redact_into(rt, player, text, &mut sources, pair)?;
-            Ok(ended_by(job, ran, sources))
+            Ok(ended_by(job, ran, sources.into_beginnings()))
         }
         Job::Session { .. } => {
             let mut sources = Sources::new(script, timing);
             let mut requests = Watched::new(rt.reader());
             let ran = print(rt, job, text, &mut sources, &mut requests)?;
-            Ok(ended_by(job, ran, sources))
+            Ok(ended_by(job, ran, sources.into_beginnings()))
         }
         _ => {
             let mut sources = Sources::new(script, timing);
             let mut requests = Watched::new(io::empty());
             let ran = print(rt, job, text, &mut sources, &mut requests)?;
-            Ok(ended_by(job, ran, sources))
+            Ok(ended_by(job, ran, sources.into_beginnings()))
         }
     }
 }
 
 /// How a job ended, with the hint that follows it.
-fn ended_by<F: Drop>(job: Job, ran: Ran, sources: Sources<F>) -> Ended
+fn ended_by(job: Job, ran: Ran, beginnings: Beginnings) -> Ended
     ensures { result.outcome ≡ ran.outcome }
 {
     let Ran {
@@ -113,7 +148,7 @@ fn ended_by<F: Drop>(job: Job, ran: Ran, sources: Sources<F>) -> Ended
     Ended {
         outcome,
         note,
-        hint: hint_at_end(job, outcome.fault, sources.into_beginnings(), failed),
+        hint: hint_at_end(job, outcome.fault, beginnings, failed),
         silent,
     }
 }
@@ -196,14 +231,14 @@ fn save_into<R: Files + Input + AllocGlobal>(
         (sources.script.failed(), SCRIPT),
         (sources.timing.failed(), TIMING),
         (requests.failed(), Device::Input),
-        (new_script.out.failed(), NEW_SCRIPT),
-        (new_timing.out.failed(), NEW_TIMING),
+        (new_script.out.failed(), BEHIND_PAIR.script),
+        (new_timing.out.failed(), BEHIND_PAIR.timing),
     ]);
     let pair = NewPair {
         script: new_script,
         timing: new_timing,
     };
-    let (outcome, failed) = place(rt, pair, outcome, failed);
+    let (outcome, failed) = place(rt, pair, BEHIND_PAIR, outcome, failed);
     Ran {
         outcome,
         note: Watched::new(Vec::new(rt.alloc())),
@@ -249,15 +284,64 @@ fn mend_into<R: Files + Print + AllocGlobal>(
     let failed = first_failed(&[
         (sources.script.failed(), SCRIPT),
         (sources.timing.failed(), TIMING),
-        (new_script.out.failed(), NEW_SCRIPT),
-        (new_timing.out.failed(), NEW_TIMING),
+        (new_script.out.failed(), BEHIND_PAIR.script),
+        (new_timing.out.failed(), BEHIND_PAIR.timing),
         (told.failed(), Device::Output),
     ]);
     let pair = NewPair {
         script: new_script,
         timing: new_timing,
     };
-    let (outcome, failed) = place(rt, pair, outcome, failed);
+    let (outcome, failed) = place(rt, pair, BEHIND_PAIR, outcome, failed);
+    Ok(Ran {
+        outcome,
+        note: Watched::new(Vec::new(rt.alloc())),
+        failed,
+        silent: released(told).is_closed(),
+    })
+}
+
+/// Writes a recording of another form into two new files, and tells over standard output what was lost.
+fn import_into<R: Files + Print + AllocGlobal>(
+    rt: &R,
+    recording: &mut Watched<Begun<R::File>>,
+    pair: NewPair<'_, R::File>,
+) -> Result<Ran, Stop>
+    requires recording { has_failed recording.old ≡ false }
+    requires out { has_failed pair.script.out ≡ false }
+    requires out_timing { has_failed pair.timing.out ≡ false }
+    ensures outcome { IfOk result (λ ran. IsOutcome Job.Import ran.outcome) }
+    ensures stop { IfErr result (λ stop. stop ≡ Stop.Memory) }
+{
+    let mut told = match buffered(rt, Outlet::new(io::writer(rt))) {
+        Ok(told) => told,
+        Err(stop) => {
+            pair.give_up(rt);
+            return Err(stop);
+        }
+    };
+    let NewPair {
+        script: mut new_script,
+        timing: mut new_timing,
+    } = pair;
+    let outcome = import(
+        rt.alloc(),
+        recording,
+        &mut new_script.out,
+        &mut new_timing.out,
+        &mut told,
+    );
+    let failed = first_failed(&[
+        (recording.failed(), SCRIPT),
+        (new_script.out.failed(), BEHIND_ONE.script),
+        (new_timing.out.failed(), BEHIND_ONE.timing),
+        (told.failed(), Device::Output),
+    ]);
+    let pair = NewPair {
+        script: new_script,
+        timing: new_timing,
+    };
+    let (outcome, failed) = place(rt, pair, BEHIND_ONE, outcome, failed);
     Ok(Ran {
         outcome,
         note: Watched::new(Vec::new(rt.alloc())),
@@ -310,8 +394,8 @@ fn redact_into<R: Files + Print + AllocGlobal>(
     let failed = first_failed(&[
         (sources.script.failed(), SCRIPT),
         (sources.timing.failed(), TIMING),
-        (new_script.out.failed(), NEW_SCRIPT),
-        (new_timing.out.failed(), NEW_TIMING),
+        (new_script.out.failed(), BEHIND_PAIR.script),
+        (new_timing.out.failed(), BEHIND_PAIR.timing),
         (told.failed(), Device::Output),
         (found.failed(), Device::Output),
     ]);
@@ -319,7 +403,7 @@ fn redact_into<R: Files + Print + AllocGlobal>(
         script: new_script,
         timing: new_timing,
     };
-    let (outcome, failed) = place(rt, pair, outcome, failed);
+    let (outcome, failed) = place(rt, pair, BEHIND_PAIR, outcome, failed);
     let silent = told.into_inner().is_closed() || released(found).is_closed();
     Ok(Ran {
         outcome,
@@ -333,6 +417,7 @@ fn redact_into<R: Files + Print + AllocGlobal>(
 fn place<R: Files>(
     rt: &R,
     pair: NewPair<'_, R::File>,
+    paths: NewPaths,
     outcome: Outcome,
     failed: Option<Device>,
 ) -> (Outcome, Option<Device>)
@@ -345,8 +430,8 @@ fn place<R: Files>(
     }
     match pair.put_in_place(rt) {
         Ok(()) => (outcome, failed),
-        Err(New::Script) => (UNWRITTEN, Some(NEW_SCRIPT)),
-        Err(New::Timing) => (UNWRITTEN, Some(NEW_TIMING)),
+        Err(New::Script) => (UNWRITTEN, Some(paths.script)),
+        Err(New::Timing) => (UNWRITTEN, Some(paths.timing)),
     }
 }
 

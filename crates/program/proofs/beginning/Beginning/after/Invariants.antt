@@ -1,8 +1,11 @@
-use Rattle.std.proofs.Common.{◌≡◌, take}
+use Rattle.std.proofs.Common.{◌≡◌, length}
 use Rattle.std.specs.Prelude.{fold}
 use Rattle.program.specs.Beginning.{after_byte}
 use Rattle.program.proofs.beginning.Beginning.after.Given as goal
 
--- the bytes so far have come
-abbrev pub invariant-loop-byte : goal.invariant-loop-byte
-invariant-loop-byte l = l.beginning ≡ fold after_byte l.fn.self (take l.byte-index l.bytes)
+-- what the bytes that are left make of it is what all of them make of the first one
+abbrev pub invariant-loop-rest : goal.invariant-loop-rest
+invariant-loop-rest l = fold after_byte l.beginning l.rest ≡ fold after_byte l.fn.self l.bytes
+
+abbrev pub decreases-loop-rest : goal.decreases-loop-rest
+decreases-loop-rest l = length l.rest
