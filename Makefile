@@ -57,6 +57,7 @@ test:
 		'tests/memory.py bin/typetool' \
 		'tests/damage.py bin/typetool 500' \
 		'tests/mend_fuzz.py bin/typetool 8000' \
+		'tests/import_fuzz.py bin/typetool 3000' \
 		'tests/whole.py bin/typetool 100' \
 		'tests/make_recordings.py bin/typetool' \
 		'tests/fuzz.py bin/typetool 2000' \
@@ -84,6 +85,7 @@ soak: bin/typetool
 		'tests/memory.py bin/typetool 16' \
 		'tests/damage.py bin/typetool 20000' \
 		'tests/mend_fuzz.py bin/typetool 20000' \
+		'tests/import_fuzz.py bin/typetool 20000' \
 		'tests/whole.py bin/typetool 1000' \
 		'tests/fuzz.py bin/typetool 20000' \
 		'tests/today_fuzz.py bin/typetool 10000' \

@@ -1,18 +1,21 @@
 #!/usr/bin/env python3
-"""Cuts a pair of files at every byte, and meets each limit of a recording at its value and one past it.
+"""Cuts a pair of files, and recordings of other forms, at every byte, and meets each limit of a recording at its value
+and one past it.
 
     tests/limits.py TYPETOOL
 
 What is expected is written out here, or comes from the plain readers (plain_reader.py, mend_reader.py,
-check_reader.py). The last line is 'N passed, M failed'.
+plain_import.py, check_reader.py). The last line is 'N passed, M failed'.
 """
 import os
+import struct
 import subprocess
 import sys
 import tempfile
 
 import check_reader
 import mend_reader
+import plain_import
 import plain_reader as plain
 
 program = os.path.abspath(sys.argv[1])
@@ -184,6 +187,76 @@ def limits_of_mending():
     ]:
         pair(HEADER, timing)
         mended(timing.decode())
+
+
+def imported(name, file):
+    """Imports a recording, as the plain reading does."""
+    put("r", file)
+    answer = run(["import", "r", "s2", "t2"])
+    try:
+        read = plain_import.imported(file)
+        losses, status = plain_import.told_of(read)
+        wanted = status, "".join(f"{line}\n" for line in losses).encode()
+        script = plain_import.header_of(read).encode() + b"\n" + b"".join(data for _, data in read.chunks)
+        timing = b"".join(b"%s %d\n" % (plain.written(delay), len(data)) for delay, data in read.chunks)
+    except plain_import.Unreadable as fault:
+        wanted, script, timing = (1, b"", str(fault)), b"", b""
+        answer = answer[:2] + (answer[2].decode().partition("\n")[0].removeprefix("typetool: "),)
+    else:
+        wanted += (b"",)
+    check(f"import {name}", (answer, open_all("s2", "t2")), (wanted, [script, timing]))
+    os.remove("s2")
+    os.remove("t2")
+
+
+def records(*found):
+    """A ttyrec of these seconds, microseconds and bytes."""
+    return b"".join(struct.pack("<3I", second, micros, len(data)) + data for second, micros, data in found)
+
+
+def imported_everywhere():
+    """A recording of each form, cut at every byte."""
+    two = b'{"version": 2, "width": 80, "height": 24, "env": {"TERM": "xterm"}}\n[0.5, "o", "a\\u00e9"]\n[1, "m", ""]\n'
+    three = b'\xef\xbb\xbf{"version": 3, "term": {"cols": 80, "rows": 24}, "timestamp": 86400}\n# a\n[0.5, "o", "a"]\n'
+    one = b'{"version": 1, "width": 80, "height": 24, "stdout": [[0.5, "a"],\n [1e-1, "b"]], "title": null} \n'
+    shown = b'{"ver": "2.3", "rec": "r", "id": %d, "pos": 9, "timing": "=80x24+5>1]1/1", '
+    shown += b'"out_txt": "ab", "out_bin": [27]}\n'
+    sized = records((86400, 0, b"\x1b%G\x1b[8;24;80ta"), (86400, 500000, b"bc"))
+    for file in (two, three, one, shown % 1 + shown % 2, sized):
+        for n in range(len(file) + 1):
+            imported(f"{file[:30]} up to byte {n}", file[:n])
+
+
+def limits_of_importing():
+    """Each limit at its value and one past it: what is past it is left out, and the rest is read."""
+    head, second = b'{"version": 2}\n', b'[%s, "o", "b"]\n'
+    for length in (1_048_576, 1_048_577):
+        imported(f"an output of {length} bytes", head + b'[0, "o", "' + b"x" * length + b'"]\n' + second % b"0")
+        imported(f"a record of {length} bytes", records((0, 0, b"x" * length), (0, 0, b"a")))
+    for moment in (b"1000000", b"1000000.000001", b"1000000000000", b"1000000000001", b"9" * 30):
+        imported(f"an output at {moment}", head + b'[0, "o", "a"]\n' + second % moment + second % (moment + b"1"))
+    for seconds in (86_399, 86_400, 253_402_300_799, 253_402_300_800):
+        imported(f"the second {seconds}", b'{"version": 2, "timestamp": %d.9}' % seconds)
+    for side in (0, 1, 9_999, 10_000):
+        imported(f"{side} columns", b'{"version": 2, "width": %d, "height": 1}' % side)
+    for length in (0, 1, 64, 65):
+        imported(f"a terminal of {length} letters", b'{"version": 2, "env": {"TERM": "%s"}}' % (b"x" * length))
+    for depth in (63, 64):
+        imported(f"arrays in an event, {depth} deep", head + b'[0, "x", ' + b"[" * depth + b"]" * depth + b"]\n")
+    many = records((0, 0, b"x")) * 1_000_000
+    imported("1,000,000 chunks", many)
+    imported("a chunk more", many + records((0, 0, b"x")))
+    with open("r", "wb") as file:
+        for at in range(1024):
+            file.seek(at * (12 + 1_048_576))
+            file.write(struct.pack("<3I", 0, 0, 1_048_576))
+        file.seek(1024 * (12 + 1_048_576))
+        file.write(records((0, 0, b"x")))
+    told_of = b"recording event 1024: too many bytes, 13 bytes left out\n"
+    check("a byte more than a body of 1 GiB", run(["import", "r", "s2", "t2"]), (1, told_of, b""))
+    check("the body of 1 GiB", os.path.getsize("s2"), len(b"Script started on unknown\n") + (1 << 30))
+    for name in ("r", "s2", "t2"):
+        os.remove(name)
 
 
 def saved(lines):
@@ -377,8 +450,10 @@ def main():
         cut_timings()
         cut_both(recordings)
         mended_everywhere()
+        imported_everywhere()
         limits_of_files()
         limits_of_mending()
+        limits_of_importing()
         limits_of_edits()
         full_body()
         limits_of_words()

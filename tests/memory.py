@@ -7,6 +7,7 @@ Each run has to end with status 0 and the whole output, or with status 3, `typet
 the output (the second file of `save` empty unless the first is whole). The steps begin where the program can be started
 at all. A command that met no refusal fails. The last line is 'N passed, M failed'.
 """
+import json
 import os
 import resource
 import subprocess
@@ -57,12 +58,20 @@ def least():
 
 
 def recording(folder):
-    """600 chunks of text, of scrolling and of questions, and four of 1 MiB."""
+    """600 chunks of text, of scrolling and of questions, and four of 1 MiB; and the same as an asciicast."""
     chunks = [b"line %d\r\n\x1b[%d;5H\x1b[6n" % (n, n % 24) for n in range(600)]
     chunks += [b"A" * 1048576] * 4
     with open(os.path.join(folder, "s"), "wb") as script, open(os.path.join(folder, "t"), "wb") as timing:
         script.write(HEADER + b"".join(chunks))
         timing.write(b"".join(b"0.001 %d\n" % len(chunk) for chunk in chunks))
+    with open(os.path.join(folder, "r"), "wb") as file:
+        file.write(asciicast(chunks))
+
+
+def asciicast(chunks):
+    lines = [{"version": 2, "width": 80, "height": 24, "env": {"TERM": "vt100"}}]
+    lines += [[n / 1000, "o", chunk.decode()] for n, chunk in enumerate(chunks)]
+    return "".join(json.dumps(line) + "\n" for line in lines).encode()
 
 
 REQUESTS = b"insert 0 0.5 %s\ndelete 1 3\nreplace 2 1b5b366e\nretime 1 0.25\ncap 0.5\n" % (b"41" * 100_000)
@@ -72,6 +81,7 @@ COMMANDS = [
     (["find", "--profile", "xterm", "line 5", "s", "t"], b""),
     (["save", "s", "t", "s2", "t2"], REQUESTS),
     (["mend", "s", "t", "s2", "t2"], b""),
+    (["import", "r", "s2", "t2"], b""),
     (["redact", "line 5", "s", "t", "s2", "t2"], b""),
     (["redact", "--profile", "xterm", "line 5", "s", "t", "s2", "t2"], b""),
     (["session", "s", "t"], REQUESTS + QUESTIONS),

@@ -452,6 +452,79 @@ got=$?
 verdict 'mending under a limit on file size' 3 $got '' "typetool: write fault\n$(hint 'writing new.script')"
 holds 'no mended timing before the script is whole' new.timing ''
 
+# imported NAME STATUS OUT ERR RECORDING: imports a recording into new.script and new.timing.
+imported() {
+    rm -f new.script new.timing
+    "$program" import "$5" new.script new.timing </dev/null >out.txt 2>err.txt
+    verdict "imported: $1" "$2" $? "$3" "$4"
+}
+sized='Script started on unknown [COLUMNS="80" LINES="24"]\n'
+printf '{"version": 2, "width": 80, "height": 24}\n[0.5, "o", "a"]\n[0.75, "i", "x"]\n[1, "o", "b"]\n' >ab.cast
+imported 'an asciicast' 0 '1 inputs, 0 markers, 0 resizes and 0 others left out\n' '' ab.cast
+holds 'an asciicast' new.script "${sized}ab"
+holds 'an asciicast' new.timing '0.500000 1\n0.500000 1\n'
+check 'what was imported is read' 0 'a' '' due --at 0.75 new.script new.timing
+printf '{"stdout": [[0.5, "a"],\n[0.25, "b"], [0.1, ""], [0.1, "c"]], "width": 80, "height": 24, "version": 1}' >one.cast
+imported 'an asciicast of version 1' 0 '' '' one.cast
+holds 'an asciicast of version 1' new.script "${sized}abc"
+holds 'an asciicast of version 1' new.timing '0.500000 1\n0.250000 1\n0.200000 1\n'
+printf '\x00\x00\x00\x00\x00\x00\x00\x00\x01\x00\x00\x00a\x01\x00\x00\x00\x20\xa1\x07\x00\x05\x00\x00\x00bc' >ab.ttyrec
+imported 'a ttyrec that ends early' 1 'chunk 1 cut to 2 of 5 bytes\n' '' ab.ttyrec
+holds 'a ttyrec that ends early' new.script 'Script started on unknown\nabc'
+holds 'a ttyrec that ends early' new.timing '0.000000 1\n1.500000 2\n'
+printf '{"ver": "2.3", "id": 1, "pos": 0, "timing": "=80x24+500>1", "out_txt": "a"}\n{"id": 2}\n' >ab.tlog
+imported 'messages of tlog' 1 'recording line 2: bad event, 1 lines left out\n' '' ab.tlog
+holds 'messages of tlog' new.script "${sized}a"
+holds 'messages of tlog' new.timing '0.500000 1\n'
+printf '\x1f\x8b\x08\x00abcdefgh' >packed.cast
+imported 'a compressed recording' 1 '' \
+    "typetool: recording is compressed\n$(hint 'gunzip, bunzip2, unxz or unzstd it first')" packed.cast
+holds 'a compressed recording' new.script ''
+holds 'a compressed recording' new.timing ''
+absent 'a compressed recording' new.script.part
+formless='typetool: recording of no known form\n'
+imported 'a typescript' 1 '' "$formless$(hint 'a typescript needs its timing file: SCRIPT TIMING')" ab.script
+imported 'an empty file' 1 '' "$formless$(hint 'asciicast, ttyrec and tlog are read')" empty.timing
+holds 'an empty file' new.script ''
+absent 'an empty file' new.timing.part
+imported 'a directory' 3 '' "typetool: read fault\n$(hint 'reading .')" .
+chmod 640 ab.cast
+imported 'the bits of the recording' 0 '1 inputs, 0 markers, 0 resizes and 0 others left out\n' '' ab.cast
+printf '%s\n' '640 new.script' '640 new.timing' >want.bin
+stat -c '%a %n' new.script new.timing >bits
+same_text 'the bits of the recording' bits
+status 'import with a profile' 2 import --profile xterm ab.cast none none
+status 'import of a pair' 2 import ab.script ab.timing none none
+rm -f new.script new.timing
+check 'importing over a script that exists' 3 '' "typetool: cannot create there\n$(hint "$exists")" \
+    import ab.cast there new.timing
+holds 'importing over a script that exists' there 'kept\n'
+absent 'importing over a script that exists' new.timing
+check 'importing into one file' 3 '' "typetool: cannot create new.script\n$(hint "$exists")" \
+    import ab.cast new.script new.script
+rm -f new.script
+check 'importing a missing recording' 3 '' "typetool: cannot open no?[31mwhere\n$(hint "$missing")" \
+    import $'no\e[31mwhere' new.script new.timing
+absent 'importing a missing recording' new.script
+"$program" import one.cast new.script new.timing 0>>there >out.txt 2>err.txt
+verdict 'importing reads no standard input' 0 $? '' ''
+rm -f new.script new.timing
+"$program" import ab.ttyrec new.script new.timing >/dev/full 2>err.txt
+got=$?
+: >out.txt
+verdict 'what was not imported, told to a full device' 3 $got '' "$unwritten"
+holds 'what was not imported, told to a full device' new.script ''
+holds 'what was not imported, told to a full device' new.timing ''
+absent 'what was not imported, told to a full device' new.timing.part
+rm -f new.script new.timing
+{ printf '{"version": 2}\n[0, "o", "'; head -c 4000 /dev/zero | tr '\0' x; printf '"]\n'; } >long.cast
+(ulimit -f 1; trap '' XFSZ; exec "$program" import long.cast new.script new.timing >out.txt 2>err.txt)
+got=$?
+: >out.txt
+verdict 'importing under a limit on file size' 3 $got '' "typetool: write fault\n$(hint 'writing new.script')"
+holds 'no imported timing before the script is whole' new.timing ''
+rm -f new.script new.timing
+
 printf '%b%b' "$head" "a${E}[m${E}[3;1Hb" >three.script
 printf '0 1\n0 3\n1.5 7\n' >three.timing
 check 'changes by a moment' 0 '0 0.000000 1\n2 1.500000 3\n' '' changes --to 2 three.script three.timing
@@ -654,6 +727,9 @@ rm -f new.script new.timing
 gone mend mend cut.script axb.timing new.script new.timing
 holds 'nobody reads what was lost' new.script ''
 absent 'nobody reads what was lost' new.script.part
+rm -f new.script new.timing
+gone import import ab.ttyrec new.script new.timing
+holds 'nobody reads what was not imported' new.script ''
 gone find find a ab.script ab.timing
 gone help --help
 gone version --version

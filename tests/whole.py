@@ -21,12 +21,14 @@ import resource
 import shutil
 import signal
 import stat
+import struct
 import subprocess
 import sys
 import tempfile
 import time
 
 import mend_reader
+import plain_import
 import plain_reader as plain
 from skip import end, lacks, skip
 
@@ -55,15 +57,24 @@ def redacted(script, timing):
     return script.replace(b"started on", b"*" * 10), plain.save(plain.read(script, timing), b"")[1]
 
 
-# A job: its name and flags, what it reads from standard input, and the pair that it makes of one.
+def imported(file):
+    read = plain_import.imported(file)
+    script = plain_import.header_of(read).encode() + b"\n" + b"".join(data for _, data in read.chunks)
+    return script, b"".join(b"%s %d\n" % (plain.written(delay), len(data)) for delay, data in read.chunks)
+
+
+# A job: its name and flags, what it reads from standard input, and the pair that it makes of the old files.
 JOBS = [
     (["save"], EDITS, saved),
     (["mend"], b"", mended),
+    (["import"], b"", imported),
     (["redact", "started on"], b"", redacted),
     (["redact", "--profile", "xterm", "started on"], b"", redacted),
 ]
 # How many chunks a job is killed over; redact looks at the screen after each byte.
-CHUNKS = {"save": 40_000, "mend": 40_000, "redact": 4_000}
+CHUNKS = {"save": 40_000, "mend": 40_000, "import": 40_000, "redact": 4_000}
+# The old files, by how many a job reads.
+OLD = {1: ("old.recording",), 2: ("old.script", "old.timing")}
 
 
 def check(name, good, what=""):
@@ -83,14 +94,29 @@ def recording(rng, chunks):
     return b"Script started on X\n" + body + b"\nScript done on X\n", lines
 
 
+def ttyrec(script, timing):
+    """The same recording in one file."""
+    due, found = 0, b""
+    for delay, data in plain.read(script, timing)[1]:
+        due += delay
+        found += struct.pack("<3I", *divmod(due, 10**6), len(data)) + data
+    return found
+
+
+def old_of(job, pair):
+    """The old files of a job, of this recording."""
+    return (ttyrec(*pair),) if job[0][0] == "import" else pair
+
+
 class Place:
-    """A folder with an old pair, in which a job makes a new one."""
+    """A folder with old files, in which a job makes a new pair."""
 
     def __init__(self, job, old):
         self.words, self.requests, made = job
         self.old, self.new = old, made(*old)
+        self.names = OLD[len(old)]
         self.folder = tempfile.mkdtemp(prefix="whole-")
-        for name, text in zip(("old.script", "old.timing"), old):
+        for name, text in zip(self.names, old):
             with open(self.path(name), "wb") as file:
                 file.write(text)
         with open(self.path("requests"), "wb") as file:
@@ -104,7 +130,7 @@ class Place:
 
     def command(self):
         name, *flags = self.words
-        return [program, name, *flags, "old.script", "old.timing", *NEW]
+        return [program, name, *flags, *self.names, *NEW]
 
     def start(self, before=(), **how):
         with open(self.path("requests"), "rb") as requests:
@@ -153,13 +179,13 @@ class Place:
 
     def is_private(self):
         """Whether each `.part` file is its owner's alone, but where it already has the bits of the old file."""
-        allowed = zip(PARTS, ("old.script", "old.timing"))
+        allowed = zip(PARTS, (self.names * 2)[:2])
         return all(self.mode(part) in (0o600, self.mode(old)) for part, old in allowed if part in self.parts())
 
     def judge(self, name, also=True, what=""):
-        """Counts a run, after which the pair is refused or whole and the old one as it was."""
+        """Counts a run, after which the pair is refused or whole and the old files as they were."""
         left = self.left()
-        old = tuple(self.text(old) for old in ("old.script", "old.timing"))
+        old = tuple(self.text(old) for old in self.names)
         self.check(
             name,
             left in ("none", "refused", "whole") and old == self.old and self.is_private() and also,
@@ -174,11 +200,12 @@ class Place:
 def whole(job, old):
     """A run that nobody disturbs, with the bits of the old files."""
     place = Place(job, old)
-    os.chmod(place.path("old.script"), 0o640)
-    os.chmod(place.path("old.timing"), 0o604)
+    wanted = [0o640, 0o604][: len(old)]
+    for name, mode in zip(place.names, wanted):
+        os.chmod(place.path(name), mode)
     status, told = place.run()
     bits = [place.mode(name) for name in NEW]
-    good = status == 0 and told == b"" and place.left() == "whole" and not place.parts() and bits == [0o640, 0o604]
+    good = status == 0 and told == b"" and place.left() == "whole" and not place.parts() and bits == (wanted * 2)[:2]
     place.check("undisturbed", good, f"{status} {told} {place.left()} {bits}")
     place.gone()
 
@@ -207,7 +234,7 @@ def killed(job, old, count, name):
 def at_random(pool):
     """Each job killed at random instants, over four folders at once."""
     for job in JOBS:
-        old = recording(random.Random(seed), CHUNKS[job[0][0]])
+        old = old_of(job, recording(random.Random(seed), CHUNKS[job[0][0]]))
         shares = [instants // 4 + (n < instants % 4) for n in range(4)]
         name = " ".join(job[0])
         runs = [pool.submit(killed, job, old, share, f"{name} {n}") for n, share in enumerate(shares)]
@@ -287,12 +314,12 @@ def full(job, old):
 def main():
     small = recording(random.Random(seed + 1), 1500)
     for job in JOBS:
-        whole(job, small)
-        full(job, small)
+        whole(job, old_of(job, small))
+        full(job, old_of(job, small))
     with concurrent.futures.ThreadPoolExecutor(4) as pool:
         at_random(pool)
         if traces():
-            list(pool.map(lambda job: at_each_call(job, small), JOBS))
+            list(pool.map(lambda job: at_each_call(job, old_of(job, small)), JOBS))
     return end(passed, failed)
 
 
