@@ -28,7 +28,7 @@ END = "1000000000000"
 
 
 def cells(n):
-    """One character a chunk, on a screen of 132 columns."""
+    """One character a chunk, on a screen of 132 columns, which is full of them after 3,168."""
     return [b"\x1b[?3h"] + [b"x"] * n
 
 
@@ -167,7 +167,7 @@ RUNS = [
     (("find", "x", "--profile", "xterm", "--size", "20x10"), keys, 1000),
     (("find", "ab", *TODAY), overwritten, 60),
     (("find", "a", *TODAY), scrolls, 300),
-    (("page",), cells, 4000),
+    (("page",), cells, 8000),
     (("page",), scrolls, 600),
     (("page",), reversals, 100),
     (("cast",), cells, 4000),
