@@ -58,6 +58,7 @@ test:
 		'tests/damage.py bin/typetool 500' \
 		'tests/mend_fuzz.py bin/typetool 8000' \
 		'tests/import_fuzz.py bin/typetool 3000' \
+		'tests/players.py bin/typetool' \
 		'tests/whole.py bin/typetool 100' \
 		'tests/make_recordings.py bin/typetool' \
 		'tests/fuzz.py bin/typetool 2000' \

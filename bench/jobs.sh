@@ -3,8 +3,8 @@
 # same pair: `changes` over the whole recording over `screen` at its end, `find` over `changes` for a text that never
 # stands there and for one that comes and goes, `picture`, `transcript` and `check` over `screen`, `page` and `cast` over
 # `changes`, `info` over reading the pair (`due` at a moment before its first chunk), `save` without edits over `due` at
-# the end, and `screen` at the end over a session that stores no terminals. Last it counts what `find` takes where its
-# text stands often, which takes valgrind. Usage: bench/jobs.sh [PROGRAM]
+# the end, and `screen` at the end over a session that stores no terminals. Last it counts what `import` takes, and `find`
+# where its text stands often, which takes valgrind. Usage: bench/jobs.sh [PROGRAM]
 set -euo pipefail
 here=$(realpath "$(dirname "$0")")
 program=$(realpath "${1:-$here/../bin/typetool}")
@@ -61,5 +61,7 @@ ratio check screen 1
 ratio info read 1.1
 ratio save due 1.5
 ratio screen feed 1.1
+# Recordings of other makers, in instructions.
+python3 "$here/imports.py" "$program"
 # Where the text stands often: instructions over those of `screen`, and how much more twice the input takes.
 python3 "$here/../tests/linear.py" "$program" find
