@@ -1,5 +1,5 @@
 -- The strings of JSON. RFC 8259, section 7, with bytes from 128 on as they are.
-use Rattle.std.specs.Prelude.{ℕ, zero, suc, ◌+◌, ◌-◌, ◌*◌, Bool, ◌&&◌, ◌||◌, List, [], ◌∷◌, ◌++◌, length, drop, encode_utf8, slice_index, nat_le, nat_lt, nat_eq, ◌==◌, Option, Some, None, if◌then◌else◌}
+use Rattle.std.specs.Prelude.{ℕ, zero, suc, ◌+◌, ◌-◌, ◌*◌, Bool, ◌&&◌, ◌||◌, List, [], ◌∷◌, ◌++◌, length, drop, encode_utf8, slice_index, nat_le, nat_lt, nat_eq, not, ◌==◌, Option, Some, None, if◌then◌else◌}
 use Rattle.std.specs.Char.{is_ascii_digit}
 use Rattle.std.specs.List.{starts_with}
 use Rattle.std.specs.Option.{option_and_then, option_map}
@@ -73,6 +73,10 @@ item_at text =
     else if first == 92 then option_map (λ b. (meaning.Byte b, 2)) (escaped (slice_index text 1))
     else if nat_lt first 32 then None
     else Some (meaning.Byte first, 1)
+
+-- Private: a byte that stands by itself, wherever it comes in the text: no quote, no backslash and no control.
+abbrev pub is_plain : ℕ → Bool
+is_plain b = nat_le 32 b && (not (b == 34) && not (b == 92))
 
 -- The bytes that are meant; a character's in UTF-8.
 abbrev pub bytes_of : Meaning → List ℕ

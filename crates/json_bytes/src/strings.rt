@@ -1,7 +1,8 @@
 //! Strings: their text between quotes, and the bytes that it means.
-ghost use Rattle.std.specs.Prelude.{◌≡◌, ℕ, ◌+◌, ◌<◌, ◌≤◌, ◌++◌, IfOk, IfSome, OnOk, length};
+ghost use Rattle.std.specs.Prelude.{◌≡◌, ℕ, ◌+◌, ◌<◌, ◌≤◌, ◌++◌, IfOk, IfSome, OnOk, length, true};
+ghost use Rattle.std.specs.List.{prefix_len};
 ghost use Rattle.std.specs.Option.{option_map};
-ghost use Rattle.json_bytes.specs.Strings.{alone, bytes_of, character_at, escaped, hex_at, hex_digit, is_high, is_low, item_at, paired, string_at, unit_at};
+ghost use Rattle.json_bytes.specs.Strings.{alone, bytes_of, character_at, escaped, hex_at, hex_digit, is_high, is_low, is_plain, item_at, items, joined, paired, string_at, unit_at, with_front};
 ghost use Rattle.json_bytes.specs.Values.{behind, found, string_of, value};
 
 use crate::marks::begins;
@@ -92,19 +93,31 @@ fn paired(high: u32, low: u32) -> char
     }
 }
 
+/// The character of the first half of a pair, by what stands behind it, and how many bytes it has.
+fn after_high(high: u32, text: &[u8]) -> (Meaning, usize)
+    requires { is_high high ≡ true }
+    ensures value { result ≡ joined high (unit_at text.now) }
+    ensures within { result.1 ≤ 6 + length text.now }
+    ensures some { 0 < result.1 }
+{
+    match unit_at(text) {
+        Some(low) if is_low(low) => (Meaning::Character(paired(high, low)), 12),
+        _ => (Meaning::Character(alone(high)), 6),
+    }
+}
+
 /// The character at the front that is written by its units, and how many bytes it has.
+#[tactic(auto, using(crate::proofs::StringLemmas::alone_at))]
 fn character_at(text: &[u8]) -> Option<(Meaning, usize)>
     ensures value { result ≡ character_at text.now }
     ensures within { IfSome result (λ found. found.1 ≤ length text.now) }
     ensures some { IfSome result (λ found. 0 < found.1) }
 {
     let first = unit_at(text)?;
-    match unit_at(&text[6..]) {
-        Some(second) if is_high(first) && is_low(second) => {
-            Some((Meaning::Character(paired(first, second)), 12))
-        }
-        _ => Some((Meaning::Character(alone(first)), 6)),
+    if is_high(first) {
+        return Some(after_high(first, &text[6..]));
     }
+    Some((Meaning::Character(alone(first)), 6))
 }
 
 /// The byte that is meant by one behind a backslash.
@@ -152,6 +165,40 @@ fn push_meaning(bytes: &mut Vec<u8>, meaning: Meaning) -> Result<(), AllocError>
     }
 }
 
+/// Whether a byte stands by itself, wherever it comes in a string's text.
+fn is_plain(b: u8) -> bool
+    ensures { result ≡ is_plain b }
+{
+    b >= b' ' && b != b'"' && b != b'\\'
+}
+
+/// How many of them a text begins with.
+fn plain_len(text: &[u8]) -> usize
+    ensures plain { result ≡ prefix_len is_plain text.now }
+    ensures within { result ≤ length text.now }
+{
+    text.iter().take_while(|b| is_plain(**b)).count()
+}
+
+/// A string's text without those at its front.
+fn past_plain(text: &[u8]) -> &[u8]
+    ensures end { behind (items 0 text.now) ≡ behind (items 0 result.now) }
+    ensures shorter { length result.now ≤ length text.now }
+{
+    text.split_at(plain_len(text)).1
+}
+
+/// Adds those at the front of a string's text, and gives what stands behind them.
+fn push_plain<'a>(bytes: &mut Vec<u8>, text: &'a [u8]) -> Result<&'a [u8], AllocError>
+    ensures pushed { IfOk result (λ rest. with_front bytes.old.items (items 0 text.now)
+        ≡ with_front bytes.new.items (items 0 rest.now)) }
+    ensures shorter { IfOk result (λ rest. length rest.now ≤ length text.now) }
+{
+    let (plain, rest) = text.split_at(plain_len(text));
+    bytes.extend_from_slice(plain)?;
+    Ok(rest)
+}
+
 /// What stands behind the string at the front.
 pub fn string_end(text: &[u8]) -> Option<&[u8]>
     ensures { option_map (λ r. r.now) result ≡ behind (string_at text.now) }
@@ -159,13 +206,13 @@ pub fn string_end(text: &[u8]) -> Option<&[u8]>
     if !begins(b'"', text) {
         return None;
     }
-    let mut rest = &text[1..];
+    let mut rest = past_plain(&text[1..]);
     while !rest.is_empty() {
         if rest[0] == b'"' {
             return Some(&rest[1..]);
         }
         let (_, len) = item_at(rest)?;
-        rest = rest.split_at(len).1;
+        rest = past_plain(rest.split_at(len).1);
     }
     None
 }
@@ -179,7 +226,7 @@ pub fn read_string(alloc: Global, text: &[u8]) -> Result<Option<(Vec<u8>, &[u8])
     if !begins(b'"', text) {
         return Ok(None);
     }
-    let mut rest = &text[1..];
+    let mut rest = push_plain(&mut bytes, &text[1..])?;
     while !rest.is_empty() {
         if rest[0] == b'"' {
             return Ok(Some((bytes, &rest[1..])));
@@ -188,7 +235,7 @@ pub fn read_string(alloc: Global, text: &[u8]) -> Result<Option<(Vec<u8>, &[u8])
             return Ok(None);
         };
         push_meaning(&mut bytes, meaning)?;
-        rest = rest.split_at(len).1;
+        rest = push_plain(&mut bytes, rest.split_at(len).1)?;
     }
     Ok(None)
 }

@@ -14,3 +14,4 @@ loop-rest-preserved c =
     ∙ ap (with_front bytes) (behind_item rest meaning len c.in-Some.ensures.some c.in-Some.ensures.within (ne_eqb _ 34 c.if-rest-eq34.false) (sym c.in-Some.ensures.value))
     ∙ fronts bytes (bytes_of meaning) (items 0 (drop len rest)) ∙ ap (λ front. with_front front (items 0 (drop len rest))) (sym c.in_ok-push_meaning.ensures)
     ∙ ap (λ text. with_front c.push_meaning.new.bytes.items (items 0 text)) (sym c.split_at.ensures.back)
+    ∙ c.in_ok-rest-2.ensures.pushed

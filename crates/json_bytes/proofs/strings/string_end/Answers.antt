@@ -13,3 +13,4 @@ loop-rest-preserved c =
     c.loop-rest.invariant
     ∙ ap behind (behind_item rest meaning len c.in_ok-len.ensures.some c.in_ok-len.ensures.within (ne_eqb _ 34 c.if-rest-eq34.false) (sym c.in_ok-len.ensures.value))
     ∙ same_behind (bytes_of meaning) (items 0 (drop len rest)) ∙ ap (λ text. behind (items 0 text)) (sym c.split_at.ensures.back)
+    ∙ c.past_plain-rest-in-loop-rest.ensures.end
