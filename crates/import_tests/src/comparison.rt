@@ -3,8 +3,8 @@ use std::alloc::Global;
 use std::process::Abort;
 use std::rt::Runtime;
 use std::test::Fail;
-use tape_core::{Fault, Watched, write_script, write_timing};
-use tape_import::{Imported, put_losses};
+use tape_core::{Fault, Recording, Watched, write_script, write_timing};
+use tape_import::{Imported, Losses, put_losses};
 
 /// The new pair, what is told of losses, and whether something was left out or cut.
 pub(crate) type Told<'a> = (&'a [u8], &'a str, &'a str, bool);
@@ -16,7 +16,8 @@ pub(crate) fn compare_imported(
     imported: &Imported,
     wanted: Told,
 ) -> Result<(), Fail> {
-    let (script, timing, told) = written(rt.alloc(), imported)?;
+    let (script, timing) = pair_of(rt.alloc(), &imported.recording)?;
+    let told = told_of(rt.alloc(), &imported.losses)?;
     let got = (
         script.as_slice(),
         str::from_utf8(timing.as_slice()).unwrap_or("no UTF-8"),
@@ -27,13 +28,18 @@ pub(crate) fn compare_imported(
     Ok(())
 }
 
-/// What is written of an imported recording.
-fn written(alloc: Global, imported: &Imported) -> Result<(Vec<u8>, Vec<u8>, Vec<u8>), Fault> {
+/// The pair of a recording.
+pub(crate) fn pair_of(alloc: Global, recording: &Recording) -> Result<(Vec<u8>, Vec<u8>), Fault> {
     let mut script = Watched::new(Vec::new(alloc));
     let mut timing = Watched::new(Vec::new(alloc));
+    write_script(recording, &mut script)?;
+    write_timing(recording, &mut timing)?;
+    Ok((script.into_inner(), timing.into_inner()))
+}
+
+/// What is told of losses.
+fn told_of(alloc: Global, losses: &Losses) -> Result<Vec<u8>, Fault> {
     let mut told = Watched::new(Vec::new(alloc));
-    write_script(&imported.recording, &mut script)?;
-    write_timing(&imported.recording, &mut timing)?;
-    put_losses(&imported.losses, &mut told)?;
-    Ok((script.into_inner(), timing.into_inner(), told.into_inner()))
+    put_losses(losses, &mut told)?;
+    Ok(told.into_inner())
 }

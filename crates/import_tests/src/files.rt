@@ -8,6 +8,7 @@ use std::test::Fail;
 use tape_import::{ImportFault, import};
 
 mod refused;
+mod whole;
 
 /// A file of these bytes.
 fn file_of(alloc: Global, bytes: &[u8]) -> Result<Rc<Vec<u8>>, AllocError> {

@@ -3,7 +3,7 @@ use std::process::Abort;
 use std::rt::Runtime;
 use std::test::Fail;
 use tape_core::Watched;
-use tape_import::{Cut, EventFault, Left, Losses, Others, Place, put_losses};
+use tape_import::{Cut, EventFault, Late, Left, Losses, Others, Place, put_losses};
 
 /// Nothing was lost.
 const NOTHING: Losses = Losses {
@@ -11,6 +11,7 @@ const NOTHING: Losses = Losses {
     left: None,
     cut: None,
     slow: 0,
+    first_slow: None,
     others: NONE_LEFT,
 };
 
@@ -57,7 +58,7 @@ fn nothing_lost(rt: HostRuntime) -> Result<(), Fail> {
 #[test]
 fn messages_that_are_missing(rt: HostRuntime) -> Result<(), Fail> {
     let losses = Losses {
-        first: Some(3),
+        first: Some(Late { number: 3, line: 1 }),
         left: left(Place::Line, 2, EventFault::OutOfOrder, 1),
         others: Others {
             resizes: 1,

@@ -1,8 +1,12 @@
 mod ArrayLemmas
+pub mod FrontLemmas
 mod ListedLemmas
 mod MemberLemmas
 mod NumberLemmas
+mod PlainLemmas
 mod ScalarLemmas
+pub mod StringFronts
 mod StringLemmas
 mod TripleLemmas
+pub mod ValueFronts
 mod ValueLemmas

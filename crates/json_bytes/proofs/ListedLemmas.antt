@@ -2,7 +2,8 @@
 use Rattle.std.proofs.Common.{◌≡◌, ℕ, suc, ◌+◌, ◌-◌, ◌<◌, Bool, true, false, List, [], ◌∷◌, ◌++◌, length, nat_eq, Option, Some, None, if◌then◌else◌, refl, ap, ◌∙◌, arith}
 use Rattle.std.specs.Option.{option_map}
 use Rattle.json_bytes.specs.Marks.{begins, past_mark, past_space}
-use Rattle.json_bytes.specs.Listed.{listed, standing}
+use Rattle.json_bytes.specs.Listed.{listed, valued}
+use Rattle.json_bytes.specs.Strings.{meant}
 use Rattle.json_bytes.specs.Values.{Json, Members, Read, as_part, found, json_of, last_named, member, member_of, members, named_value, no_members, object, object_at, value, whole}
 use Rattle.json_bytes.specs.declared.members.Member.{Member}
 use Rattle.json_bytes.proofs.MemberLemmas.{no_object, object_value}
@@ -24,25 +25,25 @@ joined_none no_members = refl
 joined_none (member name v more) = ap (member name v) (joined_none more)
 
 one_listed : (depth : ℕ) (all : List Member) (one : Member) (more : Members)
-    → joined (listed depth all) (member one.name.items (standing depth one.value.now) more) ≡ joined (listed depth (all ++ one ∷ [])) more
+    → joined (listed depth all) (member (meant one.name) (valued depth one.value) more) ≡ joined (listed depth (all ++ one ∷ [])) more
 one_listed depth [] one more = refl
-one_listed depth (m ∷ ms) one more = ap (member m.name.items (standing depth m.value.now)) (one_listed depth ms one more)
+one_listed depth (m ∷ ms) one more = ap (member (meant m.name) (valued depth m.value)) (one_listed depth ms one more)
 
 one_behind : (depth : ℕ) (all : List Member) (one : Member) (read : Read Members)
-    → behind_members (listed depth all) (as_part (member one.name.items (standing depth one.value.now)) read) ≡ behind_members (listed depth (all ++ one ∷ [])) read
+    → behind_members (listed depth all) (as_part (member (meant one.name) (valued depth one.value)) read) ≡ behind_members (listed depth (all ++ one ∷ [])) read
 one_behind depth all one None = refl
 one_behind depth all one (Some r) = ap (λ ms. Some (ms, r.1)) (one_listed depth all one r.0)
 
 -- one member more, the last one, and what is none
 pub more_listed : (depth : ℕ) (all : List Member) (one : Member) (most count : ℕ) (at behind next : List ℕ) → count < most
-    → named_value (value depth) at ≡ Some ((one.name.items, standing depth one.value.now), behind) → past_mark 125 behind ≡ None → past_mark 44 behind ≡ Some next
+    → named_value (value depth) at ≡ Some ((meant one.name, valued depth one.value), behind) → past_mark 125 behind ≡ None → past_mark 44 behind ≡ Some next
     → behind_members (listed depth all) (members (value depth) (most - count) at) ≡ behind_members (listed depth (all ++ one ∷ [])) (members (value depth) (most - (count + 1)) next)
 more_listed depth all one most count at behind next lt is more comma =
     let step : most - count ≡ suc (most - (count + 1)) = omega arith in
     rw (step, is, more, comma) (one_behind depth all one (members (value depth) (most - (count + 1)) next))
 
 pub last_listed : (depth : ℕ) (all : List Member) (one : Member) (most count : ℕ) (at behind end : List ℕ) → count < most
-    → named_value (value depth) at ≡ Some ((one.name.items, standing depth one.value.now), behind) → past_mark 125 behind ≡ Some end
+    → named_value (value depth) at ≡ Some ((meant one.name, valued depth one.value), behind) → past_mark 125 behind ≡ Some end
     → behind_members (listed depth all) (members (value depth) (most - count) at) ≡ Some (listed depth (all ++ one ∷ []), end)
 last_listed depth all one most count at behind end lt is closes =
     let step : most - count ≡ suc (most - (count + 1)) = omega arith in

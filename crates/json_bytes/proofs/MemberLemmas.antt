@@ -28,7 +28,7 @@ of_string name None = refl
 of_string name (Some r) = refl
 
 -- what begins with a bracket or a brace is no string and no number
-first_byte : (byte b : ℕ) (bs : List ℕ) → begins byte (b ∷ bs) ≡ true → b ≡ byte
+pub first_byte : (byte b : ℕ) (bs : List ℕ) → begins byte (b ∷ bs) ≡ true → b ≡ byte
 first_byte byte b bs is = grind (arith, nat_tests)
 
 abbrev pub IsNested : List ℕ → Type 0

@@ -1,13 +1,20 @@
 -- The text of a string, item by item.
-use Rattle.std.proofs.Common.{◌≡◌, ℕ, zero, suc, ◌-◌, ◌<◌, ◌≤◌, List, [], ◌∷◌, ◌++◌, length, drop, take, get_or, Bool, true, false, nat_eq, Option, Some, None, refl, ap, sym, subst, ◌∙◌, arith, append_assoc}
-use Rattle.std.specs.List.{prefix_len}
-use Rattle.json_bytes.specs.Strings.{alone, bytes_of, character_at, is_high, is_plain, item_at, items, joined, unit_at, with_front}
+use Rattle.std.proofs.Common.{◌≡◌, ℕ, zero, suc, ◌+◌, ◌-◌, ◌*◌, ◌<◌, ◌≤◌, unwrap_or, nat_le, List, [], ◌∷◌, ◌++◌, length, drop, take, get_or, Bool, true, false, nat_eq, append-nil, Option, Some, None, refl, ap, sym, subst, ◌∙◌, arith, append_assoc}
+use Rattle.std.specs.List.{prefix_len, starts_with}
+use Rattle.std.specs.Option.{option_map}
+use Rattle.std.proofs.lemmas.Bool.{le-leb}
+use Rattle.std.proofs.lemmas.Str.{encode_ascii}
+use Rattle.std.proofs.lemmas.Bool.Decides.{nat_tests}
+use Rattle.std.proofs.lemmas.List.{take_all}
+use Rattle.json_bytes.specs.Marks.{begins}
+use Rattle.json_bytes.specs.Strings.{alone, bytes_of, character_at, hex_digit, is_high, is_plain, item_at, items, joined, string_at, unit_at, with_front}
 use Rattle.json_bytes.specs.Values.{behind}
 use Rattle.json_bytes.specs.declared.strings.Meaning.{Meaning}
 use Rattle.json_bytes.specs.declared.strings.Meaning.TheVariants as meaning
+use Rattle.json_bytes.proofs.MemberLemmas.{first_byte}
 
 -- bytes that belong to the item before are passed over
-passed_over : (belong : ℕ) (text : List ℕ) → items belong text ≡ items 0 (drop belong text)
+pub passed_over : (belong : ℕ) (text : List ℕ) → items belong text ≡ items 0 (drop belong text)
 passed_over zero text = refl
 passed_over (suc belong) [] = refl
 passed_over (suc belong) (b ∷ bs) = passed_over belong bs
@@ -25,6 +32,19 @@ pub behind_item : (text : List ℕ) (meaning : Meaning) (len : ℕ) → 0 < len 
     → items 0 text ≡ with_front (bytes_of meaning) (items 0 (drop len text))
 behind_item [] meaning len some within other is = absurd (omega arith)
 behind_item (b ∷ bs) meaning len some within other is = one_more b bs meaning len other is some
+
+pub with_len : (found : Option (Meaning × ℕ)) (len : ℕ) → option_map (λ f. f.1) found ≡ Some len → (m : Meaning) × (found ≡ Some (m, len))
+with_len None len is = cc
+with_len (Some f) len is = (f.0, ap (λ o. Some (f.0, unwrap_or o 0)) is)
+
+no_len : (found : Option (Meaning × ℕ)) → option_map (λ f. f.1) found ≡ None → found ≡ None
+no_len None is = refl
+no_len (Some f) is = cc
+
+-- what isn't read ends the text
+pub no_item : (text : List ℕ) → nat_eq (length text) 0 ≡ false → nat_eq (get_or text 0 0) 34 ≡ false → option_map (λ f. f.1) (item_at text) ≡ None → items 0 text ≡ None
+no_item [] some other is = cc
+no_item (b ∷ bs) some other is = rw (other, no_len (item_at (b ∷ bs)) is) refl
 
 -- what stands behind isn't changed by what is put in front
 pub same_behind : (front : List ℕ) (read : Option (List ℕ × List ℕ)) → behind (with_front front read) ≡ behind read
@@ -68,6 +88,27 @@ pub behind_plain : (text : List ℕ)
 behind_plain [] = refl
 behind_plain (b ∷ bs) = past_first b bs (is_plain b) refl (behind_plain bs)
 
+pub plain_first : (before text : List ℕ) → 0 < length text → is_plain (get_or text 0 0) ≡ true
+    → with_front before (items 0 text) ≡ with_front (before ++ get_or text 0 0 ∷ []) (items 0 (take (length text - 1) (drop 1 text)))
+plain_first before [] some plain = absurd (omega arith)
+plain_first before (b ∷ bs) some plain =
+    ap (with_front before) (behind_item (b ∷ bs) (meaning.Byte b) 1 (omega arith) (omega arith) (plain_other b plain) (plain_item b bs plain))
+    ∙ fronts before (b ∷ []) (items 0 bs) ∙ ap (λ t. with_front (before ++ b ∷ []) (items 0 t)) (sym (take_all (length (b ∷ bs) - 1) bs (omega arith)))
+
+-- a string is read behind its quote and such bytes, and ends at the next quote
+pub quote_read : (text inner plain rest : List ℕ) → begins 34 text ≡ true → inner ≡ drop 1 text → plain ≡ take (prefix_len is_plain inner) inner
+    → rest ≡ drop (prefix_len is_plain inner) inner → string_at text ≡ with_front plain (items 0 rest)
+quote_read text inner plain rest is inside front back = rw is (ap (items 0) (sym inside) ∙ behind_plain inner ∙ rw (← front, ← back) refl)
+
+quote_here : (b : ℕ) (bs : List ℕ) → begins 34 (b ∷ bs) ≡ true → items 0 (b ∷ bs) ≡ Some ([], bs)
+quote_here b bs is = let same : b ≡ 34 = first_byte 34 b bs is in rw same refl
+
+pub quote_ends : (plain text : List ℕ) → begins 34 text ≡ true → with_front plain (items 0 text) ≡ Some (plain, take (length text - 1) (drop 1 text))
+quote_ends plain [] is = cc
+quote_ends plain (b ∷ bs) is =
+    ap (with_front plain) (quote_here b bs is) ∙ ap (λ front. Some (front, bs)) (append-nil plain)
+    ∙ ap (λ behind. Some (plain, behind)) (sym (take_all (length (b ∷ bs) - 1) bs (omega arith)))
+
 -- a unit that is no first half of a pair is a character by itself
 joined_alone : (first : ℕ) (second : Option ℕ) → is_high first ≡ false
     → joined first second ≡ (meaning.Character (alone first), 6)
@@ -77,3 +118,42 @@ joined_alone first (Some second) low = rw low refl
 pub alone_at : (text : List ℕ) (first : ℕ) → unit_at text ≡ Some first → is_high first ≡ false
     → character_at text ≡ Some (meaning.Character (alone first), 6)
 alone_at text first is low = rw is (ap (λ found. Some found) (joined_alone first (unit_at (drop 6 text)) low))
+
+-- a unit below 128
+ascii_six : (e f h l : ℕ) (rest : List ℕ) → hex_digit e ≡ Some h → hex_digit f ≡ Some l → h < 8 → l < 16
+    → item_at (92 ∷ 117 ∷ 48 ∷ 48 ∷ e ∷ f ∷ rest) ≡ Some (meaning.Character (16 * h + l), 6)
+ascii_six e f h l rest high low small less =
+    let text = 92 ∷ 117 ∷ 48 ∷ 48 ∷ e ∷ f ∷ rest in
+    let long : nat_le 6 (length text) ≡ true = le-leb 6 (length text) (omega arith) in
+    let same : 4096 * 0 + 256 * 0 + 16 * h + l ≡ 16 * h + l = omega arith in
+    let unit : unit_at text ≡ Some (16 * h + l) = rw (long, high, low) (ap Some same) in
+    let one : is_high (16 * h + l) ≡ false = grind (arith, nat_tests) in
+    let itself : alone (16 * h + l) ≡ 16 * h + l = grind (arith, nat_tests) in
+    alone_at text (16 * h + l) unit one ∙ ap (λ c. Some (meaning.Character c, 6)) itself
+
+four_bytes : (a b c d : ℕ) (rest : List ℕ) → starts_with nat_eq (a ∷ b ∷ c ∷ d ∷ rest) (92 ∷ 117 ∷ 48 ∷ 48 ∷ []) ≡ true
+    → ((a ≡ 92) × (b ≡ 117)) × ((c ≡ 48) × (d ≡ 48))
+four_bytes a b c d rest is = ((grind (arith, nat_tests), grind (arith, nat_tests)), (grind (arith, nat_tests), grind (arith, nat_tests)))
+
+pub ascii_item : (text : List ℕ) (h l : ℕ) → 6 ≤ length text → starts_with nat_eq text (92 ∷ 117 ∷ 48 ∷ 48 ∷ []) ≡ true
+    → hex_digit (get_or text 4 0) ≡ Some h → hex_digit (get_or text 5 0) ≡ Some l → h < 8 → l < 16 → item_at text ≡ Some (meaning.Character (16 * h + l), 6)
+ascii_item [] h l long starts high low small less = absurd (omega arith)
+ascii_item (a ∷ []) h l long starts high low small less = absurd (omega arith)
+ascii_item (a ∷ b ∷ []) h l long starts high low small less = absurd (omega arith)
+ascii_item (a ∷ b ∷ c ∷ []) h l long starts high low small less = absurd (omega arith)
+ascii_item (a ∷ b ∷ c ∷ d ∷ []) h l long starts high low small less = absurd (omega arith)
+ascii_item (a ∷ b ∷ c ∷ d ∷ e ∷ []) h l long starts high low small less = absurd (omega arith)
+ascii_item (a ∷ b ∷ c ∷ d ∷ e ∷ f ∷ rest) h l long starts high low small less =
+    let are = four_bytes a b c d (e ∷ f ∷ rest) starts in
+    rw (are.0.0, are.0.1, are.1.0, are.1.1) (ascii_six e f h l rest high low small less)
+
+-- and what it means in UTF-8
+ascii_bytes : (c : ℕ) → c < 128 → bytes_of (meaning.Character c) ≡ c ∷ []
+ascii_bytes c small = encode_ascii c small
+
+-- behind such a unit
+pub ascii_read : (before text : List ℕ) (byte : ℕ) → item_at text ≡ Some (meaning.Character byte, 6) → byte < 128 → 6 ≤ length text → nat_eq (get_or text 0 0) 34 ≡ false
+    → with_front before (items 0 text) ≡ with_front (before ++ byte ∷ []) (items 0 (drop 6 text))
+ascii_read before text byte is small long other =
+    ap (with_front before) (behind_item text (meaning.Character byte) 6 (omega arith) long other is)
+    ∙ fronts before (bytes_of (meaning.Character byte)) (items 0 (drop 6 text)) ∙ ap (λ bytes. with_front (before ++ bytes) (items 0 (drop 6 text))) (ascii_bytes byte small)

@@ -151,3 +151,9 @@ pub member_here : (one : List ℕ → Read Json) (most count : ℕ) (at : List �
 member_here one most count at lt =
     let more : most - count ≡ suc (most - (count + 1)) = omega arith in
     rw more (members_more one (most - (count + 1)) at)
+
+-- what begins with a quote is a string
+pub quoted_value : (depth : ℕ) (text : List ℕ) → begins 34 text ≡ true → value depth text ≡ as_part string (string_at text)
+unfolding value
+quoted_value zero text is = rw is refl
+quoted_value (suc depth) text is = rw is refl

@@ -1,9 +1,10 @@
 -- Private: what the parts of a number show, and how it is scaled.
-use Rattle.std.specs.Prelude.{ℕ, ◌+◌, ◌-◌, length, min}
+use Rattle.std.specs.Prelude.{ℕ, ◌+◌, ◌-◌, List, ◌++◌, length, min}
 use Rattle.std.specs.Char.{is_ascii_digit}
 use Rattle.std.specs.List.{AllPass}
 use Rattle.json_bytes.specs.Numbers.{Decimal, lowers, raises}
 use Rattle.json_bytes.specs.declared.numbers.Parts.{Parts}
+use Rattle.json_bytes.specs.declared.pieces.Pieces.{Pieces}
 
 -- The number that they are.
 abbrev pub shown : Parts → Decimal
@@ -14,6 +15,10 @@ shown parts = record {
   falls = parts.falls;
   exponent = parts.exponent.now;
 }
+
+-- The bytes that were added one after another.
+abbrev pub added : Pieces → List ℕ
+added pieces = pieces.bytes.items ++ pieces.held.items
 
 -- They are digits.
 pub record IsOfDigits (parts : Parts) : Type 0 where

@@ -6,6 +6,8 @@ use Rattle.std.specs.Option.{option_and_then, option_map}
 use Rattle.json_bytes.specs.Marks.{begins}
 use Rattle.json_bytes.specs.declared.strings.Meaning.{Meaning}
 use Rattle.json_bytes.specs.declared.strings.Meaning.TheVariants as meaning
+use Rattle.json_bytes.specs.declared.strings.StringBytes.{StringBytes}
+use Rattle.json_bytes.specs.declared.strings.StringBytes.TheVariants as kept
 
 -- The value of a hexadecimal digit.
 abbrev pub hex_digit : ℕ → Option ℕ
@@ -78,10 +80,19 @@ item_at text =
 abbrev pub is_plain : ℕ → Bool
 is_plain b = nat_le 32 b && (not (b == 34) && not (b == 92))
 
+-- Private: any other byte.
+abbrev pub is_other : ℕ → Bool
+is_other b = not (is_plain b)
+
 -- The bytes that are meant; a character's in UTF-8.
 abbrev pub bytes_of : Meaning → List ℕ
 bytes_of (meaning.Byte b) = b ∷ []
 bytes_of (meaning.Character c) = encode_utf8 c
+
+-- The bytes that were read of a string.
+abbrev pub meant : StringBytes → List ℕ
+meant (kept.Standing bytes) = bytes.now
+meant (kept.Written bytes) = bytes.items
 
 -- What was read behind something that means these bytes.
 abbrev pub with_front : List ℕ → Option (List ℕ × List ℕ) → Option (List ℕ × List ℕ)

@@ -5,6 +5,8 @@ mod arrays;
 mod marks;
 mod members;
 mod numbers;
+mod pieces;
+mod plain;
 mod strings;
 mod values;
 
@@ -12,5 +14,5 @@ pub use arrays::bytes_in;
 pub use marks::{is_space, past_mark, past_space};
 pub use members::{Member, named, whole_members};
 pub use numbers::{plain_digits, read_number, scaled_number, split_digits};
-pub use strings::{read_string, string_in};
-pub use values::{DEEPEST, member, value_end, whole_triple, whole_value};
+pub use strings::{StringBytes, read_string, string_in};
+pub use values::{DEEPEST, ReadValue, member, read_value, value_end, whole_triple, whole_value};

@@ -1,19 +1,23 @@
-//! The members of an object, each by its name and the place of its value.
+//! The members of an object, each by its name and its value.
 ghost use Rattle.std.specs.Prelude.{◌≡◌, ℕ, IfOk, List, None};
 ghost use Rattle.std.specs.Option.{option_map};
-ghost use Rattle.json_bytes.specs.Listed.{listed, standing};
+ghost use Rattle.json_bytes.specs.Listed.{listed, valued};
+ghost use Rattle.json_bytes.specs.Strings.{meant};
 ghost use Rattle.json_bytes.specs.Values.{json_of, last_named, member_of, named_value, object_at, value};
 
 use crate::marks::{begins, past_mark, past_space};
-use crate::strings::read_string;
-use crate::values::{DEEPEST, value_end};
+use crate::strings::{StringBytes, read_string};
+use crate::values::{DEEPEST, ReadValue, read_value};
 use std::alloc::{AllocError, Global};
 
-/// A member: its name, by the bytes that it means, and where its value stands in the text.
+/// For how many members room is made at first.
+const FIRST_ROOM: usize = 8;
+
+/// A member: its name, by the bytes that it means, and its value.
 #[derive(Drop)]
 pub struct Member<'a> {
-    pub name: Vec<u8>,
-    pub value: &'a [u8],
+    pub name: StringBytes<'a>,
+    pub value: ReadValue<'a>,
 }
 
 /// The member at the front, whose value has arrays and objects at most so deep, and what stands behind it.
@@ -23,17 +27,17 @@ fn read_member<'a>(
     depth: u32,
 ) -> Result<Option<(Member<'a>, &'a [u8])>, AllocError>
     ensures { IfOk result (λ read.
-        option_map (λ r. ((r.0.name.items, standing depth r.0.value.now), r.1.now)) read
+        option_map (λ r. ((meant r.0.name, valued depth r.0.value), r.1.now)) read
         ≡ named_value (value depth) text.now) }
 {
     let Some((name, rest)) = read_string(alloc, text)? else {
         return Ok(None);
     };
-    let Some(value) = past_mark(b':', rest) else {
+    let Some(place) = past_mark(b':', rest) else {
         return Ok(None);
     };
-    match value_end(value, depth) {
-        Some(rest) => Ok(Some((Member { name, value }, rest))),
+    match read_value(alloc, place, depth)? {
+        Some((value, rest)) => Ok(Some((Member { name, value }, rest))),
         None => Ok(None),
     }
 }
@@ -49,7 +53,7 @@ fn read_object<'a>(
         option_map (λ r. (listed depth r.0.items, r.1.now)) read
         ≡ object_at (value depth) text.now) }
 {
-    let mut members = Vec::new(alloc);
+    let mut members = Vec::with_capacity(alloc, FIRST_ROOM)?;
     let Some(inner) = past_mark(b'{', text) else {
         return Ok(None);
     };
@@ -92,16 +96,16 @@ pub fn whole_members<'a>(alloc: Global, text: &'a [u8]) -> Result<Vec<Member<'a>
     }
 }
 
-/// Where the value of the last member of this name stands.
-pub fn named<'a>(members: &[Member<'a>], name: &[u8]) -> Option<&'a [u8]>
+/// The value of the last member of this name.
+pub fn named<'m, 'a>(members: &'m [Member<'a>], name: &[u8]) -> Option<&'m ReadValue<'a>>
     ensures { (depth : ℕ) → last_named name.now None (listed depth members.now)
-        ≡ option_map (λ at. standing depth at.now) result }
+        ≡ option_map (λ v. valued depth v.now) result }
 {
-    let mut place = None;
+    let mut value = None;
     for member in members {
         if member.name.as_slice() == name {
-            place = Some(member.value);
+            value = Some(&member.value);
         }
     }
-    place
+    value
 }

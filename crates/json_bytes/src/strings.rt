@@ -1,12 +1,44 @@
 //! Strings: their text between quotes, and the bytes that it means.
 ghost use Rattle.std.specs.Prelude.{◌≡◌, ℕ, ◌+◌, ◌<◌, ◌≤◌, ◌++◌, IfOk, IfSome, OnOk, length, true};
-ghost use Rattle.std.specs.List.{prefix_len};
 ghost use Rattle.std.specs.Option.{option_map};
-ghost use Rattle.json_bytes.specs.Strings.{alone, bytes_of, character_at, escaped, hex_at, hex_digit, is_high, is_low, is_plain, item_at, items, joined, paired, string_at, unit_at, with_front};
+ghost use Rattle.json_bytes.specs.Strings.{alone, bytes_of, character_at, escaped, hex_at, hex_digit, is_high, is_low, item_at, items, joined, meant, paired, string_at, unit_at, with_front};
+ghost use Rattle.json_bytes.specs.Shown.{added};
 ghost use Rattle.json_bytes.specs.Values.{behind, found, string_of, value};
+ghost use Rattle.json_bytes.specs.declared.strings.Meaning.TheVariants as meaning;
 
 use crate::marks::begins;
+use crate::pieces::Pieces;
+use crate::plain::plain_len;
 use std::alloc::{AllocError, Global};
+
+/// The bytes that a string means: those of its text, where each stands by itself, or others that were written.
+#[derive(Drop)]
+pub enum StringBytes<'a> {
+    Standing(&'a [u8]),
+    Written(Vec<u8>),
+}
+
+impl StringBytes<'_> {
+    /// Lends them.
+    pub fn as_slice(&self) -> &[u8]
+        ensures { result.now ≡ meant self.now }
+    {
+        match self {
+            StringBytes::Standing(bytes) => bytes,
+            StringBytes::Written(bytes) => bytes.as_slice(),
+        }
+    }
+
+    /// Hands them over, copied where they stand in the text.
+    pub fn into_vec(self, alloc: Global) -> Result<Vec<u8>, AllocError>
+        ensures { IfOk result (λ bytes. bytes.items ≡ meant self.entry) }
+    {
+        match self {
+            StringBytes::Standing(bytes) => bytes.to_vec(alloc),
+            StringBytes::Written(bytes) => Ok(bytes),
+        }
+    }
+}
 
 /// What stands in a string's text: a byte by itself, or a character by its units of UTF-16.
 #[derive(Clone, Copy)]
@@ -16,6 +48,7 @@ pub enum Meaning {
 }
 
 /// The value of a hexadecimal digit.
+#[inline]
 fn hex_digit(b: u8) -> Option<u32>
     ensures value { result ≡ hex_digit b }
     ensures small { IfSome result (λ n. n < 16) }
@@ -29,6 +62,7 @@ fn hex_digit(b: u8) -> Option<u32>
 }
 
 /// The number that four hexadecimal digits write.
+#[inline]
 fn hex_at(at: usize, text: &[u8]) -> Option<u32>
     requires { at + 4 ≤ length text.now }
     ensures value { result ≡ hex_at at text.now }
@@ -47,7 +81,7 @@ fn unit_at(text: &[u8]) -> Option<u32>
     ensures small { IfSome result (λ n. n < 65536) }
     ensures within { IfSome result (λ n. 6 ≤ length text.now) }
 {
-    if text.starts_with(b"\\u") && text.len() >= 6 {
+    if text.len() >= 6 && text.starts_with(b"\\u") {
         hex_at(2, text)
     } else {
         None
@@ -154,30 +188,48 @@ fn item_at(text: &[u8]) -> Option<(Meaning, usize)>
 }
 
 /// Adds the bytes that are meant.
-fn push_meaning(bytes: &mut Vec<u8>, meaning: Meaning) -> Result<(), AllocError>
-    ensures { OnOk result (bytes.new.items ≡ bytes.old.items ++ bytes_of meaning) }
+fn push_meaning(pieces: &mut Pieces, meaning: Meaning) -> Result<(), AllocError>
+    ensures { OnOk result (added pieces.new ≡ added pieces.old ++ bytes_of meaning) }
 {
     match meaning {
-        Meaning::Byte(byte) => Ok(bytes.push(byte)?),
+        Meaning::Byte(byte) => pieces.push(byte),
         Meaning::Character(character) => {
-            bytes.extend_from_slice(character.encode_utf8(&mut [0; 4]).as_bytes())
+            pieces.push_slice(character.encode_utf8(&mut [0; 4]).as_bytes())
         }
     }
 }
 
-/// Whether a byte stands by itself, wherever it comes in a string's text.
-fn is_plain(b: u8) -> bool
-    ensures { result ≡ is_plain b }
+/// The character below 128 that is written by its unit at the front, as controls are.
+#[inline]
+fn ascii_at(text: &[u8]) -> Option<u8>
+    ensures value { IfSome result (λ b. item_at text.now ≡ Some (meaning.Character b, 6)) }
+    ensures small { IfSome result (λ b. b < 128) }
+    ensures within { IfSome result (λ b. 6 ≤ length text.now) }
 {
-    b >= b' ' && b != b'"' && b != b'\\'
+    if text.len() < 6 || !text.starts_with(b"\\u00") {
+        return None;
+    }
+    let high = hex_digit(text[4])?;
+    let low = hex_digit(text[5])?;
+    if high < 8 {
+        Some((16 * high + low) as u8)
+    } else {
+        None
+    }
 }
 
-/// How many of them a text begins with.
-fn plain_len(text: &[u8]) -> usize
-    ensures plain { result ≡ prefix_len is_plain text.now }
-    ensures within { result ≤ length text.now }
+/// How many bytes the item at the front has.
+#[inline]
+fn item_len(text: &[u8]) -> Option<usize>
+    requires { 0 < length text.now }
+    ensures value { result ≡ option_map (λ found. found.1) (item_at text.now) }
+    ensures within { IfSome result (λ len. len ≤ length text.now) }
+    ensures some { IfSome result (λ len. 0 < len) }
 {
-    text.iter().take_while(|b| is_plain(**b)).count()
+    if ascii_at(text).is_some() {
+        return Some(6);
+    }
+    Some(item_at(text)?.1)
 }
 
 /// A string's text without those at its front.
@@ -188,15 +240,59 @@ fn past_plain(text: &[u8]) -> &[u8]
     text.split_at(plain_len(text)).1
 }
 
-/// Adds those at the front of a string's text, and gives what stands behind them.
-fn push_plain<'a>(bytes: &mut Vec<u8>, text: &'a [u8]) -> Result<&'a [u8], AllocError>
-    ensures pushed { IfOk result (λ rest. with_front bytes.old.items (items 0 text.now)
-        ≡ with_front bytes.new.items (items 0 rest.now)) }
+/// Adds the bytes at the front of a string's text that stand by themselves, and gives what stands behind them.
+#[inline]
+fn push_plain<'a>(pieces: &mut Pieces, text: &'a [u8]) -> Result<&'a [u8], AllocError>
+    ensures pushed { IfOk result (λ rest. with_front (added pieces.old) (items 0 text.now)
+        ≡ with_front (added pieces.new) (items 0 rest.now)) }
     ensures shorter { IfOk result (λ rest. length rest.now ≤ length text.now) }
 {
     let (plain, rest) = text.split_at(plain_len(text));
-    bytes.extend_from_slice(plain)?;
+    pieces.push_slice(plain)?;
     Ok(rest)
+}
+
+/// Adds the bytes that a string's text means up to its quote, and gives what stands behind that.
+#[inline]
+fn push_items<'a>(pieces: &mut Pieces, text: &'a [u8]) -> Result<Option<&'a [u8]>, AllocError>
+    ensures { IfOk result (λ rest. option_map (λ r. (added pieces.new, r.now)) rest
+        ≡ with_front (added pieces.old) (items 0 text.now)) }
+{
+    let mut rest = text;
+    while let [first, behind @ ..] = rest {
+        if *first == b'"' {
+            return Ok(Some(behind));
+        }
+        if let Some(byte) = ascii_at(rest) {
+            pieces.push(byte)?;
+            rest = push_plain(pieces, &rest[6..])?;
+        } else {
+            let Some((meaning, len)) = item_at(rest) else {
+                return Ok(None);
+            };
+            push_meaning(pieces, meaning)?;
+            rest = push_plain(pieces, rest.split_at(len).1)?;
+        }
+    }
+    Ok(None)
+}
+
+/// The bytes that a string's text means up to its quote, which begins with these that stand by themselves, and what
+/// stands behind that.
+fn write_items<'a>(
+    alloc: Global,
+    plain: &[u8],
+    text: &'a [u8],
+) -> Result<Option<(Vec<u8>, &'a [u8])>, AllocError>
+    ensures { IfOk result (λ read. option_map (λ r. (r.0.items, r.1.now)) read
+        ≡ with_front plain.now (items 0 text.now)) }
+{
+    let mut pieces = Pieces::new(alloc);
+    pieces.push_slice(plain)?;
+    match push_items(&mut pieces, text)? {
+        Some(rest) => Ok(Some((pieces.into_bytes()?, rest))),
+        None => Ok(None),
+    }
 }
 
 /// What stands behind the string at the front.
@@ -211,39 +307,41 @@ pub fn string_end(text: &[u8]) -> Option<&[u8]>
         if rest[0] == b'"' {
             return Some(&rest[1..]);
         }
-        let (_, len) = item_at(rest)?;
+        let Some(len) = item_len(rest) else {
+            return None;
+        };
         rest = past_plain(rest.split_at(len).1);
     }
     None
 }
 
-/// The string at the front, by the bytes that it means, and what stands behind it.
-pub fn read_string(alloc: Global, text: &[u8]) -> Result<Option<(Vec<u8>, &[u8])>, AllocError>
-    ensures { IfOk result (λ read. option_map (λ r. (r.0.items, r.1.now)) read
+/// The string at the front, by the bytes that it means, and what stands behind it. Takes no memory where each of its bytes
+/// stands by itself.
+pub fn read_string(
+    alloc: Global,
+    text: &[u8],
+) -> Result<Option<(StringBytes<'_>, &[u8])>, AllocError>
+    ensures { IfOk result (λ read. option_map (λ r. (meant r.0, r.1.now)) read
         ≡ string_at text.now) }
 {
-    let mut bytes = Vec::new(alloc);
     if !begins(b'"', text) {
         return Ok(None);
     }
-    let mut rest = push_plain(&mut bytes, &text[1..])?;
-    while !rest.is_empty() {
-        if rest[0] == b'"' {
-            return Ok(Some((bytes, &rest[1..])));
-        }
-        let Some((meaning, len)) = item_at(rest) else {
-            return Ok(None);
-        };
-        push_meaning(&mut bytes, meaning)?;
-        rest = push_plain(&mut bytes, rest.split_at(len).1)?;
+    let inner = &text[1..];
+    let (plain, rest) = inner.split_at(plain_len(inner));
+    if begins(b'"', rest) {
+        return Ok(Some((StringBytes::Standing(plain), &rest[1..])));
     }
-    Ok(None)
+    match write_items(alloc, plain, rest)? {
+        Some((bytes, behind)) => Ok(Some((StringBytes::Written(bytes), behind))),
+        None => Ok(None),
+    }
 }
 
 /// The string that stands at the front as a value, by the bytes that it means.
-pub fn string_in(alloc: Global, text: &[u8]) -> Result<Option<Vec<u8>>, AllocError>
+pub fn string_in(alloc: Global, text: &[u8]) -> Result<Option<StringBytes<'_>>, AllocError>
     ensures { IfOk result (λ bytes. (depth : ℕ)
-        → option_map (λ b. b.items) bytes ≡ string_of (found (value depth text.now))) }
+        → option_map meant bytes ≡ string_of (found (value depth text.now))) }
 {
     match read_string(alloc, text)? {
         Some((bytes, _rest)) => Ok(Some(bytes)),

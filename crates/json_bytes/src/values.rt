@@ -1,11 +1,14 @@
 //! Values: where they end, and what stands in them.
-ghost use Rattle.std.specs.Prelude.{◌≡◌, ◌+◌, None, Some, IfOk, MatchOption, is_some, true};
+ghost use Rattle.std.specs.Prelude.{◌≡◌, ◌+◌, ℕ, None, Some, IfOk, MatchOption, is_some, true};
 ghost use Rattle.std.specs.Option.{option_and_then, option_map};
-ghost use Rattle.json_bytes.specs.Values.{array_at, behind, found, json_of, member_of, nested_at, object_at, triple_of, tripled, value, word_at};
+ghost use Rattle.json_bytes.specs.Listed.{valued};
+ghost use Rattle.json_bytes.specs.Numbers.{plain_digits};
+ghost use Rattle.json_bytes.specs.Strings.{meant};
+ghost use Rattle.json_bytes.specs.Values.{array_at, behind, found, json_of, member_of, nested_at, number_of, object_at, string_of, triple_of, tripled, value, word_at};
 
 use crate::marks::{begins, past_mark, past_space};
-use crate::numbers::number_end;
-use crate::strings::{read_string, string_end};
+use crate::numbers::{number_end, plain_digits};
+use crate::strings::{StringBytes, read_string, string_end, string_in};
 use std::alloc::{AllocError, Global};
 
 /// How deep arrays and objects may be, the outermost one counted.
@@ -96,6 +99,72 @@ fn object_end(text: &[u8], depth: u32) -> Option<&[u8]>
     None
 }
 
+/// A value that was read: a string's bytes, or where any other stands in the text.
+#[derive(Drop)]
+pub enum ReadValue<'a> {
+    Text(StringBytes<'a>),
+    Other(&'a [u8]),
+}
+
+impl ReadValue<'_> {
+    /// The bytes that it means as a string, which it lends.
+    pub fn text(&self, alloc: Global) -> Result<Option<StringBytes<'_>>, AllocError>
+        ensures { IfOk result (λ bytes. (depth : ℕ)
+            → option_map meant bytes ≡ string_of (Some (valued depth self.now))) }
+    {
+        match self {
+            ReadValue::Text(bytes) => Ok(Some(StringBytes::Standing(bytes.as_slice()))),
+            ReadValue::Other(place) => string_in(alloc, place),
+        }
+    }
+
+    /// The bytes that it means as a string, which it hands over.
+    pub fn into_text(self, alloc: Global) -> Result<Option<Vec<u8>>, AllocError>
+        ensures { IfOk result (λ bytes. (depth : ℕ)
+            → option_map (λ b. b.items) bytes ≡ string_of (Some (valued depth self.entry))) }
+    {
+        match self {
+            ReadValue::Text(bytes) => Ok(Some(bytes.into_vec(alloc)?)),
+            ReadValue::Other(place) => match string_in(alloc, place)? {
+                Some(bytes) => Ok(Some(bytes.into_vec(alloc)?)),
+                None => Ok(None),
+            },
+        }
+    }
+
+    /// The digits of the number that it is, where its text is digits alone.
+    pub fn plain_digits(&self) -> Option<&[u8]>
+        ensures { (depth : ℕ) → option_map (λ r. r.now) result
+            ≡ option_and_then plain_digits (number_of (Some (valued depth self.now))) }
+    {
+        match self {
+            ReadValue::Text(_) => None,
+            ReadValue::Other(place) => plain_digits(place),
+        }
+    }
+}
+
+/// The value at the front, which has arrays and objects at most so deep, and what stands behind it.
+pub fn read_value(
+    alloc: Global,
+    text: &[u8],
+    depth: u32,
+) -> Result<Option<(ReadValue<'_>, &[u8])>, AllocError>
+    ensures { IfOk result (λ read. option_map (λ r. (valued depth r.0, r.1.now)) read
+        ≡ value depth text.now) }
+{
+    if begins(b'"', text) {
+        return match read_string(alloc, text)? {
+            Some((bytes, rest)) => Ok(Some((ReadValue::Text(bytes), rest))),
+            None => Ok(None),
+        };
+    }
+    match value_end(text, depth) {
+        Some(rest) => Ok(Some((ReadValue::Other(text), rest))),
+        None => Ok(None),
+    }
+}
+
 /// The value that a whole text is: where it stands in the text.
 pub fn whole_value(text: &[u8]) -> Option<&[u8]>
     ensures { json_of text.now ≡ option_and_then (λ at. found (value 64 at.now)) result }
@@ -155,47 +224,50 @@ pub fn member<'a>(
     Ok(None)
 }
 
-/// The three values of a text that is an array of exactly three: where they stand in the text.
-pub fn whole_triple(text: &[u8]) -> Option<(&[u8], &[u8], &[u8])>
-    ensures { MatchOption result (triple_of (json_of text.now) ≡ None)
+/// The three values of a text that is an array of exactly three: where the first stands in the text, and the others.
+pub fn whole_triple(
+    alloc: Global,
+    text: &[u8],
+) -> Result<Option<(&[u8], ReadValue<'_>, ReadValue<'_>)>, AllocError>
+    ensures { IfOk result (λ read. MatchOption read (triple_of (json_of text.now) ≡ None)
         (λ at. (triple_of (json_of text.now) ≡ tripled (found (value 63 at.0.now))
-        (found (value 63 at.1.now)) (found (value 63 at.2.now)))
-        × (is_some (triple_of (json_of text.now)) ≡ true)) }
+        (Some (valued 63 at.1)) (Some (valued 63 at.2)))
+        × (is_some (triple_of (json_of text.now)) ≡ true))) }
 {
     let array = past_space(text);
     if !begins(b'[', array) {
-        return None;
+        return Ok(None);
     }
     let Some(first) = past_mark(b'[', array) else {
-        return None;
+        return Ok(None);
     };
     if let Some(_end) = past_mark(b']', first) {
-        return None;
+        return Ok(None);
     }
     if first.len() < 3 {
-        return None;
+        return Ok(None);
     }
     let Some(behind_first) = value_end(first, DEEPEST - 1) else {
-        return None;
+        return Ok(None);
     };
     let Some(second) = past_mark(b',', behind_first) else {
-        return None;
+        return Ok(None);
     };
-    let Some(behind_second) = value_end(second, DEEPEST - 1) else {
-        return None;
+    let Some((middle, behind_second)) = read_value(alloc, second, DEEPEST - 1)? else {
+        return Ok(None);
     };
     let Some(third) = past_mark(b',', behind_second) else {
-        return None;
+        return Ok(None);
     };
-    let Some(behind_third) = value_end(third, DEEPEST - 1) else {
-        return None;
+    let Some((last, behind_third)) = read_value(alloc, third, DEEPEST - 1)? else {
+        return Ok(None);
     };
     let Some(rest) = past_mark(b']', behind_third) else {
-        return None;
+        return Ok(None);
     };
     if past_space(rest).is_empty() {
-        Some((first, second, third))
+        Ok(Some((first, middle, last)))
     } else {
-        None
+        Ok(None)
     }
 }

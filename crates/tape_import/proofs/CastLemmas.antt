@@ -1,11 +1,11 @@
 -- The lines of an asciicast, one after another.
-use Rattle.std.proofs.Common.{◌≡◌, ℕ, ◌+◌, ◌≤◌, ◌&&◌, Bool, true, false, List, ◌∷◌, codes, length, nat_le, nat_eq, Option, Some, None, IfNone, IfSome, is_some, if◌then◌else◌, refl, ap, sym, ◌∙◌, arith}
+use Rattle.std.proofs.Common.{◌≡◌, ℕ, ◌+◌, ◌≤◌, ◌&&◌, Bool, true, false, List, ◌∷◌, codes, length, nat_le, nat_eq, Option, Some, None, IfNone, IfSome, MatchOption, is_some, unwrap_or, if◌then◌else◌, refl, ap, subst, sym, ◌∙◌, arith}
 use Rattle.std.specs.Option.{option_and_then, option_map}
 use Rattle.std.proofs.lemmas.Bool.Decides.{nat_tests}
 use Rattle.json_bytes.specs.Numbers.{Decimal, scaled}
 use Rattle.json_bytes.specs.Values.{Json, json_of, number_of, string_of, triple_of, tripled}
 use Rattle.tape_core.specs.Text as digits
-use Rattle.tape_import.specs.Asciicast.{event_from, event_of, events, in_time, is_in_force, is_skipped, is_word, left_from, line_fault, resized, sided, what_of, with_found, with_line, with_resize, with_what}
+use Rattle.tape_import.specs.Asciicast.{event_from, event_of, events, in_time, is_in_force, is_skipped, is_word, left_from, line_fault, on_line, resized, sided, what_of, with_found, with_line, with_resize, with_what}
 use Rattle.tape_import.specs.Facts.{parted, side, size_of}
 use Rattle.tape_import.specs.Kept.{IsSize}
 use Rattle.tape_import.specs.KeptCast.{HasSizes, IsCounted, IsSized}
@@ -18,12 +18,12 @@ use Rattle.tape_import.specs.declared.fault.EventFault.{EventFault}
 use Rattle.tape_import.specs.declared.version.Version.{Version}
 
 -- a line without a fault is read, and reading ends before one that has one
-pub line_taken : (v : Version) (number : ℕ) (cast : Cast) (line : List ℕ) (more : List (List ℕ)) → line_fault v cast line ≡ None
-    → events v number cast (line ∷ more) ≡ events v (number + 1) (with_line v cast line) more
+pub line_taken : (v : Version) (number : ℕ) (cast : Cast) (line : List ℕ) (more : List (List ℕ)) → line_fault v (on_line (number + 1) cast) line ≡ None
+    → events v number cast (line ∷ more) ≡ events v (number + 1) (with_line v (on_line (number + 1) cast) line) more
 line_taken v number cast line more is = rw is refl
 
-pub line_ends : (v : Version) (number : ℕ) (cast : Cast) (line : List ℕ) (more : List (List ℕ)) (fault : EventFault) → line_fault v cast line ≡ Some fault
-    → events v number cast (line ∷ more) ≡ record { cast = cast; left = Some (left_from (number + 1) (length (line ∷ more)) fault) }
+pub line_ends : (v : Version) (number : ℕ) (cast : Cast) (line : List ℕ) (more : List (List ℕ)) (fault : EventFault) → line_fault v (on_line (number + 1) cast) line ≡ Some fault
+    → events v number cast (line ∷ more) ≡ record { cast = on_line (number + 1) cast; left = Some (left_from (number + 1) (length (line ∷ more)) fault) }
 line_ends v number cast line more fault is = rw is refl
 
 -- sizes that are told have four digits at most
@@ -114,6 +114,9 @@ pub line_kept : (v : Version) (cast : Cast) (line : List ℕ) → HasSizes cast 
 line_kept v cast line kept = line_kept_by v cast (event_of line) (is_skipped v line) (from_sized (triple_of (json_of line))) kept
 
 -- a line is counted once at most
+pub numbered : (n number : ℕ) (cast : Cast) → IsCounted n cast → IsCounted n (on_line number cast)
+numbered n number cast is = record { inputs = is.inputs; markers = is.markers; resizes = is.resizes; others = is.others }
+
 size_counted : (n : ℕ) (size : Size) (cast : Cast) (first same : Bool) → IsCounted n cast
     → IsCounted (n + 1) (if first then record cast { in_force = Some size; told = Some size } else if same then cast else with_resize (record cast { in_force = Some size }))
 size_counted n size cast true same is = record { inputs = omega arith; markers = omega arith; resizes = omega arith; others = omega arith }
@@ -155,6 +158,11 @@ event_is line (Some x) (Some y) (Some z) us code w three some time name is =
     let found_in : ℕ → Option Event = λ at. option_and_then (λ t. option_map (λ v. let e : Event = record { time = at; what = v } in e) (what_of t (Some z))) (string_of (Some y)) in
     let last : found_in us ≡ Some (record { time = us; what = w }) = rw (sym name, sym is) refl in
     sym (ap event_from three ∙ timed found_in (number_of (Some x)) us time ∙ last)
+
+-- what holds of what was found
+pub matched : {X : Type 0} (A : Type 0) (P : X → Type 0) (found : Option X) (x : X) → MatchOption found A P → found ≡ Some x → P x
+matched A P None x holds is = cc
+matched A P (Some y) x holds is = subst P (ap (λ o. unwrap_or o x) is) holds
 
 -- what holds where there is no fault
 pub taken_is : (fault : Option EventFault) (after wanted : Cast) → fault ≡ None → IfNone fault (after ≡ wanted) → after ≡ wanted

@@ -1,13 +1,14 @@
 -- The items of a timing and the messages of a recording, one after another.
-use Rattle.std.proofs.Common.{◌≡◌, ℕ, zero, suc, ◌+◌, ◌-◌, ◌<◌, ◌≤◌, ◌&&◌, Bool, min, nat_le, nat_lt, if◌then◌else◌, true, false, List, [], ◌∷◌, length, take, drop, get_or, Option, Some, None, refl, ap, sym, ◌∙◌, arith, unwrap_or}
+use Rattle.std.proofs.Common.{◌≡◌, ℕ, zero, suc, ◌+◌, ◌-◌, ◌<◌, ◌≤◌, ◌&&◌, Bool, fold, max, min, nat_le, nat_lt, if◌then◌else◌, true, false, List, [], ◌∷◌, length, take, drop, get_or, Option, Some, None, refl, ap, sym, ◌∙◌, arith, unwrap_or}
 use Rattle.std.specs.List.{prefix_len}
 use Rattle.std.specs.Option.{option_map}
 use Rattle.std.specs.Char.{is_ascii_digit}
 use Rattle.std.specs.List.{list_all}
 use Rattle.std.specs.Str.Parse.{AllDigits, digits_value}
+use Rattle.std.proofs.Math.Seq.{drop-cons}
 use Rattle.std.proofs.lemmas.Bool.{le-leb}
 use Rattle.std.proofs.lemmas.Bool.Decides.{nat_tests}
-use Rattle.std.proofs.lemmas.List.{drop-drop, take_all}
+use Rattle.std.proofs.lemmas.List.{take_all}
 use Rattle.std.proofs.lemmas.Str.{digit_value_digit}
 use Rattle.std.proofs.lemmas.Str.Parse.{IsNumeralModel, digits_value_short}
 use Rattle.std.specs.Char.{digit_value}
@@ -18,8 +19,8 @@ use Rattle.json_bytes.specs.Arrays.{bytes_of}
 use Rattle.json_bytes.specs.Listed.{standing}
 use Rattle.json_bytes.specs.Values.{Json, found, null, number_of, string_of, value}
 use Rattle.tape_import.specs.Asciicast.{left_from, what_fault}
-use Rattle.tape_import.specs.KeptTlog.{what_taken}
-use Rattle.tape_import.specs.Tlog.{Taken, messages, take_on, with_events, with_line}
+use Rattle.tape_import.specs.KeptTlog.{continued_len, what_taken}
+use Rattle.tape_import.specs.Tlog.{Taken, messages, on_line, take_on, with_events, with_line}
 use Rattle.tape_import.specs.TlogTiming.{Progress, Step, Story, characters_len, go_on, goes_on, items, step_at, with_event}
 use Rattle.tape_import.specs.declared.asciicast.Cast.{Cast}
 use Rattle.tape_import.specs.declared.event.Event.{Event}
@@ -32,39 +33,97 @@ pub behind_front : (text : List ℕ) → 0 < length text → text ≡ get_or tex
 behind_front [] some = absurd (omega arith)
 behind_front (b ∷ bs) some = let len : length (b ∷ bs) - 1 ≡ length bs = omega arith in ap (λ n. b ∷ n) (sym (ap (λ n. take n bs) len ∙ take_all (length bs) bs (omega arith)))
 
--- one character more
-counted_on : (len more : ℕ) (o : Option ℕ) → option_map (λ k. len + k) (option_map (λ k. 1 + more + k) o) ≡ option_map (λ k. len + (1 + more) + k) o
-counted_on len more None = refl
-counted_on len more (Some k) = let same : len + (1 + more + k) ≡ len + (1 + more) + k = omega arith in ap Some same
+-- one byte more of the characters
+added : (n k : ℕ) (o : Option ℕ) → option_map (λ len. n + len) (option_map (λ len. k + len) o) ≡ option_map (λ len. n + k + len) o
+added n k None = refl
+added n k (Some len) = let same : n + (k + len) ≡ n + k + len = omega arith in ap Some same
 
-character_on : (len count : ℕ) (text behind : List ℕ) (b : ℕ) → drop len text ≡ b ∷ behind
-    → option_map (λ k. len + k) (characters_len (suc count) (drop len text))
-    ≡ option_map (λ k. len + (1 + prefix_len goes_on behind) + k) (characters_len count (drop (len + (1 + prefix_len goes_on behind)) text))
-character_on len count text behind b is =
-    let more = prefix_len goes_on behind in
-    let next : 1 + more ≡ suc more = omega arith in
-    let after : drop more behind ≡ drop (len + (1 + more)) text =
-    ap (λ n. drop n (b ∷ behind)) (sym next) ∙ ap (drop (1 + more)) (sym is) ∙ drop-drop (1 + more) len text in
-    ap (λ t. option_map (λ k. len + k) (characters_len (suc count) t)) is ∙ counted_on len more (characters_len count (drop more behind))
-    ∙ ap (λ t. option_map (λ k. len + (1 + more) + k) (characters_len count t)) after
+no_more : (o : Option ℕ) → option_map (λ len. 0 + len) o ≡ o
+no_more None = refl
+no_more (Some len) = let same : 0 + len ≡ len = omega arith in ap Some same
 
-pub character_more : (most count len : ℕ) (text rest : List ℕ) → count < most → rest ≡ drop len text → 0 < length rest
-    → option_map (λ k. len + k) (characters_len (most - count) (drop len text))
-    ≡ option_map (λ k. len + (1 + prefix_len goes_on (take (length rest - 1) (drop 1 rest))) + k)
-    (characters_len (most - (count + 1)) (drop (len + (1 + prefix_len goes_on (take (length rest - 1) (drop 1 rest)))) text))
-character_more most count len text rest lt is some =
-    let step : most - count ≡ suc (most - (count + 1)) = omega arith in
-    ap (λ n. option_map (λ k. len + k) (characters_len n (drop len text))) step
-    ∙ character_on len (most - (count + 1)) text (take (length rest - 1) (drop 1 rest)) (get_or rest 0 0) (sym is ∙ behind_front rest some)
+character_begins : (count : ℕ) (b : ℕ) (bs : List ℕ) → characters_len (suc count) (b ∷ bs) ≡ option_map (λ len. 1 + len) (continued_len count bs)
+character_begins count b bs = sym (added 1 (prefix_len goes_on bs) (characters_len count (drop (prefix_len goes_on bs) bs)))
 
-none_in : (len count : ℕ) (text : List ℕ) → length text ≡ 0 → option_map (λ k. len + k) (characters_len (suc count) text) ≡ None
-none_in len count [] none = refl
-none_in len count (b ∷ bs) none = absurd (omega arith)
+byte_goes_on : (count : ℕ) (b : ℕ) (bs : List ℕ) → goes_on b ≡ true → continued_len count (b ∷ bs) ≡ option_map (λ len. 1 + len) (continued_len count bs)
+byte_goes_on count b bs is =
+    let len : prefix_len goes_on (b ∷ bs) ≡ suc (prefix_len goes_on bs) = rw (is, prefix_len) (omega arith) in
+    let one : 1 + prefix_len goes_on bs ≡ suc (prefix_len goes_on bs) = omega arith in
+    let rest = characters_len count (drop (prefix_len goes_on bs) bs) in
+    ap (λ n. option_map (λ k. n + k) (characters_len count (drop n (b ∷ bs)))) len
+    ∙ ap (λ n. option_map (λ k. n + k) rest) (sym one) ∙ sym (added 1 (prefix_len goes_on bs) rest)
 
-pub character_none : (most count len : ℕ) (text : List ℕ) → count < most → length (drop len text) ≡ 0 → option_map (λ k. len + k) (characters_len (most - count) (drop len text)) ≡ None
-character_none most count len text lt none =
-    let step : most - count ≡ suc (most - (count + 1)) = omega arith in
-    ap (λ n. option_map (λ k. len + k) (characters_len n (drop len text))) step ∙ none_in len (most - (count + 1)) (drop len text) none
+byte_begins : (count : ℕ) (b : ℕ) (bs : List ℕ) → goes_on b ≡ false → continued_len count (b ∷ bs) ≡ characters_len count (b ∷ bs)
+byte_begins count b bs is =
+    let len : prefix_len goes_on (b ∷ bs) ≡ 0 = rw (is, prefix_len) refl in
+    ap (λ n. option_map (λ k. n + k) (characters_len count (drop n (b ∷ bs)))) len ∙ no_more (characters_len count (b ∷ bs))
+
+one_begins : (count : ℕ) (b : ℕ) (bs : List ℕ) → goes_on b ≡ false → 0 < count → continued_len count (b ∷ bs) ≡ option_map (λ len. 1 + len) (continued_len (count - 1) bs)
+one_begins count b bs is some =
+    let step : count ≡ suc (count - 1) = omega arith in
+    byte_begins count b bs is ∙ ap (λ n. characters_len n (b ∷ bs)) step ∙ character_begins (count - 1) b bs
+
+-- so at a place
+cut_at : (at : ℕ) (text : List ℕ) → at < length text → drop at text ≡ get_or text at 0 ∷ drop (at + 1) text
+cut_at at text lt = let next : suc at ≡ at + 1 = omega arith in drop-cons text at 0 lt ∙ ap (λ n. get_or text at 0 ∷ drop n text) next
+
+pub goes_on_at : (len count at : ℕ) (text : List ℕ) → at < length text → goes_on (get_or text at 0) ≡ true
+    → option_map (λ k. len + k) (continued_len count (drop at text)) ≡ option_map (λ k. len + 1 + k) (continued_len count (drop (at + 1) text))
+goes_on_at len count at text lt is =
+    ap (λ t. option_map (λ k. len + k) (continued_len count t)) (cut_at at text lt)
+    ∙ ap (option_map (λ k. len + k)) (byte_goes_on count (get_or text at 0) (drop (at + 1) text) is) ∙ added len 1 (continued_len count (drop (at + 1) text))
+
+pub begins_at : (len count at : ℕ) (text : List ℕ) → at < length text → goes_on (get_or text at 0) ≡ false → 0 < count
+    → option_map (λ k. len + k) (continued_len count (drop at text)) ≡ option_map (λ k. len + 1 + k) (continued_len (count - 1) (drop (at + 1) text))
+begins_at len count at text lt is some =
+    ap (λ t. option_map (λ k. len + k) (continued_len count t)) (cut_at at text lt)
+    ∙ ap (option_map (λ k. len + k)) (one_begins count (get_or text at 0) (drop (at + 1) text) is some) ∙ added len 1 (continued_len (count - 1) (drop (at + 1) text))
+
+pub none_left : (len count : ℕ) (text : List ℕ) → 0 < count → length text ≡ 0 → option_map (λ k. len + k) (continued_len count text) ≡ None
+none_left len zero text some end = absurd (omega arith)
+none_left len (suc count) [] some end = refl
+none_left len (suc count) (b ∷ bs) some end = absurd (omega arith)
+
+-- bytes below 128 are as many characters, where no byte behind them goes on with the last one
+small_first : (most : ℕ) (bytes : List ℕ) → most ≤ fold max most bytes
+small_first most [] = omega arith
+small_first most (b ∷ bs) = omega (arith, small_first (max most b) bs)
+
+stands_alone : (b : ℕ) (bs : List ℕ) → goes_on b ≡ false → prefix_len goes_on (b ∷ bs) ≡ 0
+stands_alone b bs is = rw (is, prefix_len) refl
+
+pub first_alone : (text : List ℕ) → 0 < length text → goes_on (get_or text 0 0) ≡ false → prefix_len goes_on text ≡ 0
+first_alone [] some is = absurd (omega arith)
+first_alone (b ∷ bs) some is = stands_alone b bs is
+
+pub none_alone : (text : List ℕ) → length text ≡ 0 → prefix_len goes_on text ≡ 0
+none_alone [] none = refl
+none_alone (b ∷ bs) none = absurd (omega arith)
+
+next_alone : (most count : ℕ) (text : List ℕ) → fold max most (take count text) < 128 → count ≤ length text → prefix_len goes_on (drop count text) ≡ 0
+    → prefix_len goes_on text ≡ 0
+next_alone most zero text small within ends = ends
+next_alone most (suc count) [] small within ends = refl
+next_alone most (suc count) (b ∷ bs) small within ends =
+    let low : b < 128 = omega (arith, small, small_first (max most b) (take count bs)) in
+    let alone : goes_on b ≡ false = grind (arith, nat_tests) in
+    stands_alone b bs alone
+
+pub ascii_characters : (most count : ℕ) (text : List ℕ) → fold max most (take count text) < 128 → count ≤ length text → prefix_len goes_on (drop count text) ≡ 0
+    → characters_len count text ≡ Some count
+ascii_characters most zero text small within ends = refl
+ascii_characters most (suc count) [] small within ends = absurd (omega arith)
+ascii_characters most (suc count) (b ∷ bs) small within ends =
+    let within_rest : count ≤ length bs = omega arith in
+    let none = next_alone (max most b) count bs small within_rest ends in
+    let same : 1 + 0 + count ≡ suc count = omega arith in
+    ap (λ m. option_map (λ len. 1 + m + len) (characters_len count (drop m bs))) none
+    ∙ ap (option_map (λ len. 1 + 0 + len)) (ascii_characters (max most b) count bs small within_rest ends) ∙ ap Some same
+
+pub are_characters : (count : ℕ) (text front rest : List ℕ) → front ≡ take count text → rest ≡ drop count text → count ≤ length text → fold max 0 front < 128
+    → prefix_len goes_on rest ≡ 0 → characters_len count text ≡ Some count
+are_characters count text front rest is behind within small ends =
+    ascii_characters 0 count text (rw (← is) small) within (ap (prefix_len goes_on) (sym behind) ∙ ends)
 
 -- one item more
 pub item_more : (most count : ℕ) (so_far : Progress) (rest : List ℕ) → count < most → 0 < length rest
@@ -111,11 +170,11 @@ item_ends step (Some found) story so_far next f is =
     ends_by (with_events story.events) so_far next (record { time = step.behind.moment; what = found }) (what_fault found so_far.outputs) f is
 
 -- one line more
-pub line_taken : (number : ℕ) (log next : Log) (line : List ℕ) (more : List (List ℕ)) → with_line log line ≡ record { log = next; fault = None }
+pub line_taken : (number : ℕ) (log next : Log) (line : List ℕ) (more : List (List ℕ)) → with_line (on_line (number + 1) log) line ≡ record { log = next; fault = None }
     → messages number log (line ∷ more) ≡ messages (number + 1) next more
 line_taken number log next line more is = rw is refl
 
-pub line_ends : (number : ℕ) (log next : Log) (line : List ℕ) (more : List (List ℕ)) (fault : EventFault) → with_line log line ≡ record { log = next; fault = Some fault }
+pub line_ends : (number : ℕ) (log next : Log) (line : List ℕ) (more : List (List ℕ)) (fault : EventFault) → with_line (on_line (number + 1) log) line ≡ record { log = next; fault = Some fault }
     → messages number log (line ∷ more) ≡ record { log = next; left = Some (left_from (number + 1) (length (line ∷ more)) fault) }
 line_ends number log next line more fault is = rw is refl
 

@@ -161,7 +161,7 @@ with_size (Some size) cast =
 
 -- What an event is, is taken or counted.
 abbrev pub with_what : What → Cast → Cast
-with_what (what.Output bytes) cast = record cast { outputs = with_output bytes cast.outputs }
+with_what (what.Output bytes) cast = record cast { outputs = with_output cast.line bytes cast.outputs }
 with_what (what.Resize size) cast = with_size size cast
 with_what what.Input cast = record cast { others = record cast.others { inputs = cast.others.inputs + 1 } }
 with_what what.Marker cast = record cast { others = record cast.others { markers = cast.others.markers + 1 } }
@@ -205,21 +205,29 @@ go_on more next cast None left = more next
 go_on more next cast (Some fault) left = record { cast = cast; left = Some (left fault) }
 
 -- The lines behind so many others; they are counted from 1.
+abbrev pub on_line : ℕ → Cast → Cast
+on_line number cast = record cast { line = number }
+
 abbrev pub events : Version → ℕ → Cast → List (List ℕ) → CastFront
 events version number cast [] = record { cast = cast; left = None }
 events version number cast (line ∷ more) =
-    go_on (λ next. events version (number + 1) next more) (with_line version cast line) cast
-    (line_fault version cast line)
+    let here = on_line (number + 1) cast in
+    go_on (λ next. events version (number + 1) next more) (with_line version here line) here
+    (line_fault version here line)
     (left_from (number + 1) (length (line ∷ more)))
 
 -- Behind the header nothing was read yet.
 abbrev pub at_header : Option Size → Cast
-at_header size = record { outputs = none_yet; in_force = size; told = size; others = no_others }
+at_header size = record { line = 0; outputs = none_yet; in_force = size; told = size; others = no_others }
+
+-- The number of the header's line, which is that of all lines where there is none.
+abbrev pub header_number : List (List ℕ) → ℕ
+header_number lines = length lines - length (past_header lines)
 
 -- What is read of the lines, and the header.
 abbrev pub cast_of : Version → List (List ℕ) → CastFront
 cast_of version lines =
-    events version (length lines - length (past_header lines))
+    events version (header_number lines)
     (at_header (told_size version (json_of (header_line lines))))
     (past_header lines)
 

@@ -106,7 +106,7 @@ entry_at text = option_and_then (λ found. option_map (entry_with found.0) (stri
 -- Its output is due so long behind the entry before.
 abbrev pub with_entry : Entry → SoFar → SoFar
 with_entry entry read = record read {
-  outputs = with_output entry.bytes (passed entry.delay read.outputs);
+  outputs = with_output read.count entry.bytes (passed entry.delay read.outputs);
   count = read.count + 1;
 }
 

@@ -1,15 +1,19 @@
 -- The pair that a recording of another form is imported as, and what was lost.
 use Rattle.std.specs.Prelude.{◌≡◌, ℕ, List, [], Option, Some, None, ◌==◌, if◌then◌else◌}
+use Rattle.std.specs.Option.{option_map}
 use Rattle.tape_core.specs.Tape.{Tape, fits}
 use Rattle.tape_core.specs.declared.chunk.Chunk.{Chunk}
 use Rattle.tape_import.specs.Dates.{dated}
 use Rattle.tape_import.specs.Facts.{IsHeaderOf, reported_size}
+use Rattle.tape_import.specs.Outputs.{Outputs}
 use Rattle.tape_import.specs.Ttyrec.{data_of, seconds_of, ttyrec_of}
 use Rattle.tape_import.specs.declared.facts.Facts.{Facts}
 use Rattle.tape_import.specs.declared.fault.EventFault.{EventFault}
+use Rattle.tape_import.specs.declared.losses.At.{At}
 use Rattle.tape_import.specs.declared.losses.Left.{Left}
 use Rattle.tape_import.specs.declared.losses.Losses.{Losses}
 use Rattle.tape_import.specs.declared.losses.Others.{Others}
+use Rattle.tape_import.specs.declared.losses.Place.{Place}
 use Rattle.tape_import.specs.declared.losses.Place.TheVariants as place
 use Rattle.tape_import.specs.declared.ttyrec.Front.{Front}
 
@@ -37,6 +41,10 @@ bytes_left number None count = None
 bytes_left number (Some fault) count =
     Some (record { place = place.Event; number = number; fault = fault; count = count })
 
+-- The line, the entry or the record of the first delay that was cut, where any was.
+abbrev pub slow_at : Place → Outputs → Option At
+slow_at place outputs = option_map (λ number. record { place = place; number = number }) outputs.first_slow
+
 -- What was lost of a ttyrec.
 abbrev pub ttyrec_losses : Front → Losses
 ttyrec_losses front = record {
@@ -44,6 +52,7 @@ ttyrec_losses front = record {
   left = bytes_left front.read.count front.fault front.left;
   cut = front.read.cut;
   slow = front.read.outputs.slow;
+  first_slow = slow_at place.Event front.read.outputs;
   others = no_others;
 }
 

@@ -3,10 +3,11 @@ use Rattle.std.specs.Prelude.{ℕ, List, codes, None}
 use Rattle.json_bytes.specs.Values.{member_of}
 use Rattle.tape_import.specs.Asciicast.{asciicast_of, date_of, header_of, sides_of, term_of, told_date, told_term}
 use Rattle.tape_import.specs.AsciicastOne.{Ending, Named}
-use Rattle.tape_import.specs.Imported.{Import, bytes_left, no_others}
+use Rattle.tape_import.specs.Imported.{Import, bytes_left, no_others, slow_at}
 use Rattle.tape_import.specs.declared.asciicast.CastFront.{CastFront}
 use Rattle.tape_import.specs.declared.facts.Facts.{Facts}
 use Rattle.tape_import.specs.declared.losses.Losses.{Losses}
+use Rattle.tape_import.specs.declared.losses.Place.TheVariants as place
 use Rattle.tape_import.specs.declared.version.Version.{Version}
 
 -- What was lost of it.
@@ -16,6 +17,7 @@ cast_losses front = record {
   left = front.left;
   cut = None;
   slow = front.cast.outputs.slow;
+  first_slow = slow_at place.Line front.cast.outputs;
   others = front.cast.others;
 }
 
@@ -50,6 +52,7 @@ one_losses front = record {
   left = bytes_left front.read.count front.fault front.left;
   cut = None;
   slow = front.read.outputs.slow;
+  first_slow = slow_at place.Event front.read.outputs;
   others = no_others;
 }
 

@@ -1,6 +1,7 @@
 -- Private: what the parts of a message show, and what holds of them.
-use Rattle.std.specs.Prelude.{ℕ, ◌≤◌, IfSome, List, Option, Some, None}
-use Rattle.std.specs.List.{AllPass}
+use Rattle.std.specs.Prelude.{ℕ, ◌+◌, ◌≤◌, IfSome, List, drop, Option, Some, None}
+use Rattle.std.specs.List.{AllPass, prefix_len}
+use Rattle.std.specs.Option.{option_map}
 use Rattle.json_bytes.specs.Listed.{listed}
 use Rattle.json_bytes.specs.Values.{Json, last_named}
 use Rattle.json_bytes.specs.declared.members.Member.{Member}
@@ -9,7 +10,7 @@ use Rattle.tape_import.specs.Facts.{is_term_byte}
 use Rattle.tape_import.specs.Kept.{IsSize}
 use Rattle.tape_import.specs.KeptCast.{HasSizes}
 use Rattle.tape_import.specs.Tlog.{Taken, take_on}
-use Rattle.tape_import.specs.TlogTiming.{Progress, Step}
+use Rattle.tape_import.specs.TlogTiming.{Progress, Step, characters_len, goes_on}
 use Rattle.tape_import.specs.Asciicast.{what_fault}
 use Rattle.tape_import.specs.declared.asciicast.Cast.{Cast}
 use Rattle.tape_import.specs.declared.event.What.{What}
@@ -48,6 +49,11 @@ shown_item (item.Resize size) = Some (what.Resize size)
 
 abbrev pub shown_step : StepLent → Step
 shown_step step = record { what = shown_item step.item; behind = shown_progress step.behind }
+
+-- How many bytes go on with a character, and with so many more behind it, where there are so many.
+abbrev pub continued_len : ℕ → List ℕ → Option ℕ
+continued_len count text =
+    let more = prefix_len goes_on text in option_map (λ len. more + len) (characters_len count (drop more text))
 
 -- Sizes that items tell can be told.
 abbrev pub IsSizedWord : Word → Type 0

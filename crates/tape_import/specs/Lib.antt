@@ -12,8 +12,12 @@ pub mod KeptCast
 pub mod AsciicastOne
 pub mod ShownOne
 pub mod ImportedFile
+pub mod Refusal
+pub mod EntriesOne
 pub mod TlogTiming
 pub mod TlogMessage
 pub mod Tlog
 pub mod TlogImported
 pub mod KeptTlog
+pub mod Law
+pub mod FaultOrder

@@ -82,10 +82,14 @@ read_on more read None left = more read.log
 read_on more read (Some fault) left = record { log = read.log; left = Some (left fault) }
 
 -- The lines behind so many others; they are counted from 1.
+abbrev pub on_line : ℕ → Log → Log
+on_line number log = record log { cast = cast.on_line number log.cast }
+
 abbrev pub messages : ℕ → Log → List (List ℕ) → LogFront
 messages number log [] = record { log = log; left = None }
 messages number log (line ∷ more) =
-    read_on (λ next. messages (number + 1) next more) (with_line log line) (with_line log line).fault
+    let read = with_line (on_line (number + 1) log) line in
+    read_on (λ next. messages (number + 1) next more) read read.fault
     (left_from (number + 1) (length (line ∷ more)))
 
 abbrev pub log_of : List ℕ → LogFront

@@ -5,6 +5,7 @@ use Rattle.tape_core.specs.Devices.{joined}
 use Rattle.tape_import.specs.declared.fault.EventFault.{EventFault}
 use Rattle.tape_import.specs.declared.fault.EventFault.TheVariants as event
 use Rattle.tape_import.specs.declared.losses.Cut.{Cut}
+use Rattle.tape_import.specs.declared.losses.Late.{Late}
 use Rattle.tape_import.specs.declared.losses.Left.{Left}
 use Rattle.tape_import.specs.declared.losses.Losses.{Losses}
 use Rattle.tape_import.specs.declared.losses.Others.{Others}
@@ -22,11 +23,12 @@ fault_text event.OutOfOrder = codes "out of order"
 fault_text event.ChunkTooLong = codes "chunk too long"
 fault_text event.TooManyChunks = codes "too many chunks"
 fault_text event.TooManyBytes = codes "too many bytes"
+fault_text event.DelayTooLarge = codes "delay too large"
 
 -- That the messages begin late.
-abbrev pub first_text : Option ℕ → List ℕ
+abbrev pub first_text : Option Late → List ℕ
 first_text None = []
-first_text (Some number) = joined (codes "first message is number " ∷ ended (decimal number) ∷ [])
+first_text (Some late) = joined (codes "first message is number " ∷ ended (decimal late.number) ∷ [])
 
 -- What was left out from the first fault on: lines, counted from 1, or bytes from an entry or a record on, which are
 -- counted from 0.

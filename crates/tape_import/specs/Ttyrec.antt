@@ -62,7 +62,7 @@ cut_of chunk kept told =
 -- The record at the front of a text is read.
 abbrev pub with_record : Reading → List ℕ → Reading
 with_record so_far text = record {
-  outputs = with_output (data_of text) (passed (moved so_far.clock (clock_of text)) so_far.outputs);
+  outputs = with_output so_far.count (data_of text) (passed (moved so_far.clock (clock_of text)) so_far.outputs);
   clock = Some (clock_of text);
   count = so_far.count + 1;
   cut = cut_of (length so_far.outputs.chunks) (length (data_of text)) (told_of text);

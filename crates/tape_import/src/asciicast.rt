@@ -8,17 +8,17 @@ use crate::cast_header::{split_header, told_size};
 use crate::event::{Event, What, read_event};
 use crate::facts::Size;
 use crate::fault::EventFault;
-use crate::lines::{count_lines, is_blank_line};
+use crate::lines::{count_lines, is_blank_line, next_line};
 use crate::losses::{Left, Others, Place};
 use crate::timeline::Timeline;
 use crate::version::Version;
 use std::alloc::{AllocError, Global};
-use tape_core::text::next_line;
 
-/// What was read so far: the outputs, the size in force, the size that the header tells, and the events that are left
-/// out.
+/// What was read so far: the number of the line that is read, the outputs, the size in force, the size that the header
+/// tells, and the events that are left out.
 #[derive(Drop)]
 pub struct Cast {
+    pub line: u64,
     pub outputs: Timeline,
     pub in_force: Option<Size>,
     pub told: Option<Size>,
@@ -58,6 +58,7 @@ impl Cast {
         ensures { result ≡ at_header size }
     {
         Cast {
+            line: 0,
             outputs: Timeline::new(alloc),
             in_force: size,
             told: size,
@@ -112,7 +113,7 @@ impl Cast {
         ensures { OnOk result (self.new ≡ with_what what self.old) }
     {
         match what {
-            What::Output(bytes) => self.outputs.take(bytes)?,
+            What::Output(bytes) => self.outputs.take(self.line, bytes)?,
             What::Resize(size) => self.resize(size),
             What::Input => self.others.inputs += 1,
             What::Marker => self.others.markers += 1,
@@ -158,14 +159,13 @@ impl Cast {
     }
 }
 
-/// What is left out from a line on that has a fault, behind so many others.
+/// What is left out from the line of this number on, which has a fault and begins this text.
 pub fn left_from(number: u64, text: &[u8], fault: EventFault) -> Option<Left>
-    requires { number + 1 < 2 ^ 64 }
-    ensures { result ≡ Some (left_from (number + 1) (length (lines_of text.now)) fault) }
+    ensures { result ≡ Some (left_from number (length (lines_of text.now)) fault) }
 {
     Some(Left {
         place: Place::Line,
-        number: number + 1,
+        number,
         fault,
         count: count_lines(text),
     })
@@ -180,11 +180,12 @@ pub fn read_cast(alloc: Global, version: Version, text: &[u8]) -> Result<CastFro
     let mut cast = Cast::at_header(alloc, told_size(alloc, version, header)?);
     while !rest.is_empty() {
         let (line, after) = next_line(rest);
+        number += 1;
+        cast.line = number;
         if let Some(fault) = cast.take_line(alloc, version, line)? {
             let left = left_from(number, rest, fault);
             return Ok(CastFront { cast, left });
         }
-        number += 1;
         rest = after;
     }
     Ok(CastFront { cast, left: None })

@@ -146,7 +146,7 @@ impl<'a> CastOne<'a> {
         ensures { OnOk result (shown self.new ≡ with_entry entry (shown self.old)) }
     {
         self.outputs.pass(entry.delay);
-        self.outputs.take(entry.bytes)?;
+        self.outputs.take(self.count, entry.bytes)?;
         self.count += 1;
         Ok(())
     }
@@ -194,7 +194,7 @@ impl<'a> CastOne<'a> {
         if name.as_slice() == b"stdout".as_slice() {
             Ok(stdout_begins(text, place))
         } else {
-            Ok(self.value(text, &name, place))
+            Ok(self.value(text, name.as_slice(), place))
         }
     }
 

@@ -2,21 +2,24 @@
 ghost use Rattle.std.specs.Prelude.{◌≡◌, ◌&&◌, ℕ, ◌≤◌, ◌+◌, IfOk, IfSome, Some, codes, length, nat_le};
 ghost use Rattle.std.specs.List.{AllPass, list_all};
 ghost use Rattle.std.specs.Option.{option_and_then};
+ghost use Rattle.json_bytes.specs.Numbers.{plain_digits};
 ghost use Rattle.json_bytes.specs.Values.{found, json_of, member_of, number_of, value};
 ghost use Rattle.tape_core.specs.Text.{lines_of};
-ghost use Rattle.tape_import.specs.Asciicast.{date_of, header_line, header_of, is_term, past_header, side_of, term_by, term_of, told_date, told_size, told_term, version_by, version_of};
+ghost use Rattle.tape_import.specs.Asciicast.{date_of, header_line, header_of, is_term, past_header, side_of, term_by, term_of, told_date, told_size, told_term, version_by};
 ghost use Rattle.tape_import.specs.Dates.{last_second};
 ghost use Rattle.tape_import.specs.Facts.{is_term_byte};
 ghost use Rattle.tape_import.specs.Kept.{IsSize};
+ghost use Rattle.tape_import.specs.KeptTlog.{told};
 
 use crate::date::dated;
 use crate::facts::{Size, side, size_of};
-use crate::lines::is_blank_line;
+use crate::lines::{is_blank_line, next_line};
 use crate::version::Version;
-use json_bytes::{DEEPEST, member, plain_digits, scaled_number, string_in, whole_value};
+use json_bytes::{
+    DEEPEST, Member, member, named, plain_digits, scaled_number, string_in, whole_value,
+};
 use std::alloc::{AllocError, Global};
 use tape_core::Bytes;
-use tape_core::text::next_line;
 
 /// The first line that isn't space alone, what stands behind it, and how many lines that makes.
 pub fn split_header(text: &[u8]) -> (&[u8], &[u8], u64)
@@ -40,11 +43,7 @@ pub fn split_header(text: &[u8]) -> (&[u8], &[u8], u64)
 }
 
 /// The value of the header's member of this name.
-pub fn told<'a>(
-    alloc: Global,
-    header: &'a [u8],
-    name: &[u8],
-) -> Result<Option<&'a [u8]>, AllocError>
+fn told<'a>(alloc: Global, header: &'a [u8], name: &[u8]) -> Result<Option<&'a [u8]>, AllocError>
     ensures { IfOk result (λ place. option_and_then (λ at. found (value 63 at.now)) place
         ≡ member_of name.now (json_of header.now)) }
 {
@@ -104,17 +103,12 @@ pub fn side_at(text: &[u8]) -> Option<u64>
     }
 }
 
-/// The version of an asciicast whose header this is.
-pub fn version_of(alloc: Global, header: &[u8]) -> Result<Option<Version>, AllocError>
-    ensures { IfOk result (λ version. version ≡ version_of (json_of header.now)) }
+/// The version of an asciicast whose header has these members.
+pub fn version_in(members: &[Member]) -> Option<Version>
+    ensures { result
+        ≡ version_by (option_and_then plain_digits (number_of (told members.now (codes "version")))) }
 {
-    let Some(place) = told(alloc, header, b"version")? else {
-        return Ok(None);
-    };
-    match plain_digits(place) {
-        Some(digits) => Ok(version_by(digits)),
-        None => Ok(None),
-    }
+    version_by(named(members, b"version")?.plain_digits()?)
 }
 
 /// The version that these digits write.
@@ -171,14 +165,14 @@ fn is_term(text: &[u8]) -> bool
 }
 
 /// A text, where it may be a terminal's name.
-pub fn term_by(text: Vec<u8>) -> Option<Bytes>
-    ensures term { result ≡ term_by (Some text.items) }
-    ensures bytes { IfSome result (AllPass is_term_byte) }
+pub fn term_by(alloc: Global, text: &[u8]) -> Result<Option<Bytes>, AllocError>
+    ensures term { IfOk result (λ term. term ≡ term_by (Some text.now)) }
+    ensures bytes { IfOk result (λ term. IfSome term (AllPass is_term_byte)) }
 {
-    if is_term(&text) {
-        Some(Bytes::from_vec(text))
+    if is_term(text) {
+        Ok(Some(Bytes::copy_of(alloc, text)?))
     } else {
-        None
+        Ok(None)
     }
 }
 
@@ -233,7 +227,7 @@ pub fn term_at(alloc: Global, text: &[u8]) -> Result<Option<Bytes>, AllocError>
     ensures bytes { IfOk result (λ term. IfSome term (AllPass is_term_byte)) }
 {
     match string_in(alloc, text)? {
-        Some(name) => Ok(term_by(name)),
+        Some(name) => term_by(alloc, name.as_slice()),
         None => Ok(None),
     }
 }

@@ -1,9 +1,10 @@
 //! The entries of an asciicast of version 1. asciinema's asciicast v1.
 ghost use Rattle.std.specs.Prelude.{◌≡◌, IfOk};
 ghost use Rattle.std.specs.Option.{option_map};
+ghost use Rattle.json_bytes.specs.Strings.{meant};
 ghost use Rattle.tape_import.specs.AsciicastOne.{delay_at, entry_at, string_then};
 
-use json_bytes::{past_mark, read_number, read_string};
+use json_bytes::{StringBytes, past_mark, read_number, read_string};
 use std::alloc::{AllocError, Global};
 use tape_core::Bytes;
 
@@ -19,8 +20,8 @@ pub fn string_then(
     alloc: Global,
     mark: u8,
     text: &[u8],
-) -> Result<Option<(Vec<u8>, &[u8])>, AllocError>
-    ensures { IfOk result (λ read. option_map (λ r. (r.0.items, r.1.now)) read
+) -> Result<Option<(StringBytes<'_>, &[u8])>, AllocError>
+    ensures { IfOk result (λ read. option_map (λ r. (meant r.0, r.1.now)) read
         ≡ string_then mark text.now) }
 {
     let Some((bytes, rest)) = read_string(alloc, text)? else {
@@ -52,6 +53,6 @@ pub fn read_entry(alloc: Global, text: &[u8]) -> Result<Option<(Entry, &[u8])>, 
     let Some((bytes, behind)) = string_then(alloc, b']', rest)? else {
         return Ok(None);
     };
-    let bytes = Bytes::from_vec(bytes);
+    let bytes = Bytes::from_vec(bytes.into_vec(alloc)?);
     Ok(Some((Entry { delay, bytes }, behind)))
 }

@@ -1,11 +1,11 @@
 //! The events of an asciicast of version 2 or 3. asciinema's asciicast v2 and v3.
 ghost use Rattle.std.specs.Prelude.{◌≡◌, IfOk, IfSome, Some, codes};
-ghost use Rattle.json_bytes.specs.Values.{found, string_of, value};
+ghost use Rattle.json_bytes.specs.Listed.{valued};
 ghost use Rattle.tape_import.specs.Asciicast.{event_of, is_word, resized, what_of};
 ghost use Rattle.tape_import.specs.Kept.{IsSize};
 
 use crate::facts::{Size, parted, side, size_of};
-use json_bytes::{scaled_number, string_in, whole_triple};
+use json_bytes::{ReadValue, scaled_number, whole_triple};
 use std::alloc::{AllocError, Global};
 use tape_core::Bytes;
 
@@ -36,19 +36,19 @@ fn resized(text: &[u8]) -> Option<Size>
     size_of(side(columns), side(lines))
 }
 
-/// What an event of this code is, whose value stands at this place; none where an output's is no string.
-fn read_what(alloc: Global, code: &[u8], place: &[u8]) -> Result<Option<What>, AllocError>
-    ensures { IfOk result (λ what. what ≡ what_of code.now (found (value 63 place.now))) }
+/// What an event of this code and this value is; none where an output's is no string.
+fn read_what(alloc: Global, code: &[u8], value: ReadValue) -> Result<Option<What>, AllocError>
+    ensures { IfOk result (λ what. what ≡ what_of code.now (Some (valued 63 value.entry))) }
 {
     if code == b"o".as_slice() {
-        return match string_in(alloc, place)? {
+        return match value.into_text(alloc)? {
             Some(bytes) => Ok(Some(What::Output(Bytes::from_vec(bytes)))),
             None => Ok(None),
         };
     }
     if code == b"r".as_slice() {
-        return match string_in(alloc, place)? {
-            Some(text) => Ok(Some(What::Resize(resized(&text)))),
+        return match value.text(alloc)? {
+            Some(text) => Ok(Some(What::Resize(resized(text.as_slice())))),
             None => Ok(Some(What::Resize(None))),
         };
     }
@@ -65,16 +65,16 @@ fn read_what(alloc: Global, code: &[u8], place: &[u8]) -> Result<Option<What>, A
 pub fn read_event(alloc: Global, line: &[u8]) -> Result<Option<Event>, AllocError>
     ensures { IfOk result (λ event. event ≡ event_of line.now) }
 {
-    let Some((time, code, place)) = whole_triple(line) else {
+    let Some((time, code, value)) = whole_triple(alloc, line)? else {
         return Ok(None);
     };
     let Some(time) = scaled_number(time, 6) else {
         return Ok(None);
     };
-    let Some(code) = string_in(alloc, code)? else {
+    let Some(name) = code.text(alloc)? else {
         return Ok(None);
     };
-    match read_what(alloc, &code, place)? {
+    match read_what(alloc, name.as_slice(), value)? {
         Some(what) => Ok(Some(Event { time, what })),
         None => Ok(None),
     }

@@ -4,7 +4,7 @@ use std::alloc::AllocError;
 use std::fmt;
 
 /// What is wrong with a line, an entry or a record. The limits are ours.
-#[derive(Clone, Copy, Debug)]
+#[derive(Clone, Copy, Debug, PartialEq, Eq)]
 pub enum EventFault {
     /// It isn't what it has to be in its form.
     BadEvent,
@@ -16,6 +16,9 @@ pub enum EventFault {
     TooManyChunks,
     /// With this output there are more bytes than a body may have.
     TooManyBytes,
+    /// An output comes later behind the one before than a delay may be: it is cut, and ends only a reading that has to be
+    /// whole.
+    DelayTooLarge,
 }
 
 /// Why nothing is imported of a file.

@@ -1,13 +1,14 @@
 //! Which form a file has.
-ghost use Rattle.std.specs.Prelude.{◌≡◌, ◌≤◌, IfOk, is_some, length};
-ghost use Rattle.json_bytes.specs.Values.{json_of, member_of, string_of};
-ghost use Rattle.tape_import.specs.Asciicast.{header_of, version_of};
-ghost use Rattle.tape_import.specs.Form.{form_of, form_of_line, is_compressed, is_message, is_ttyrec, mark_len};
+ghost use Rattle.std.specs.Prelude.{◌≡◌, ◌≤◌, ◌&&◌, IfOk, codes, is_some, length};
+ghost use Rattle.json_bytes.specs.Values.{json_of, string_of};
+ghost use Rattle.tape_import.specs.Asciicast.{header_of};
+ghost use Rattle.tape_import.specs.Form.{form_of, form_of_line, is_compressed, is_ttyrec, mark_len};
+ghost use Rattle.tape_import.specs.KeptTlog.{told};
 
-use crate::cast_header::{split_header, told, version_of};
+use crate::cast_header::{split_header, version_in};
 use crate::ttyrec::{HEAD_LEN, number_at};
 use crate::version::Version;
-use json_bytes::{past_space, string_in};
+use json_bytes::{Member, named, past_space, whole_members};
 use std::alloc::{AllocError, Global};
 
 /// The forms: a ttyrec, an asciicast by its version, messages of tlog, or none that is known.
@@ -50,31 +51,33 @@ pub fn is_ttyrec(file: &[u8]) -> bool
     file.len() >= HEAD_LEN && number_at(file, 4) < 1_000_000
 }
 
-/// Whether the header's member of this name is a string.
-fn is_string_told(alloc: Global, header: &[u8], name: &[u8]) -> Result<bool, AllocError>
-    ensures { IfOk result (λ is. is ≡ is_some (string_of (member_of name.now (json_of header.now)))) }
+/// Whether the member of this name is a string.
+fn is_text(alloc: Global, members: &[Member], name: &[u8]) -> Result<bool, AllocError>
+    ensures { IfOk result (λ is. is ≡ is_some (string_of (told members.now name.now))) }
 {
-    let Some(place) = told(alloc, header, name)? else {
-        return Ok(false);
-    };
-    Ok(string_in(alloc, place)?.is_some())
+    match named(members, name) {
+        Some(value) => Ok(value.text(alloc)?.is_some()),
+        None => Ok(false),
+    }
 }
 
-/// Whether a line is a message of tlog.
-fn is_message(alloc: Global, line: &[u8]) -> Result<bool, AllocError>
-    ensures { IfOk result (λ is. is ≡ is_message (json_of line.now)) }
+/// Whether an object of these members is a message of tlog.
+fn is_message(alloc: Global, members: &[Member]) -> Result<bool, AllocError>
+    ensures { IfOk result (λ is. is ≡ (is_some (string_of (told members.now (codes "ver")))
+        && is_some (string_of (told members.now (codes "timing"))))) }
 {
-    Ok(is_string_told(alloc, line, b"ver")? && is_string_told(alloc, line, b"timing")?)
+    Ok(is_text(alloc, members, b"ver")? && is_text(alloc, members, b"timing")?)
 }
 
 /// The form of a text that begins with a brace, by its first line that isn't space alone.
 fn form_of_line(alloc: Global, line: &[u8]) -> Result<Form, AllocError>
     ensures { IfOk result (λ form. form ≡ form_of_line (json_of line.now)) }
 {
-    if let Some(version) = version_of(alloc, line)? {
+    let members = whole_members(alloc, line)?;
+    if let Some(version) = version_in(&members) {
         return Ok(Form::Asciicast(version));
     }
-    if is_message(alloc, line)? {
+    if is_message(alloc, &members)? {
         Ok(Form::Tlog)
     } else {
         Ok(Form::AsciicastOne)

@@ -1,14 +1,14 @@
 //! A recording of another form, imported.
 ghost use Rattle.std.specs.Prelude.{◌≡◌, ◌≤◌, IfOk, drop, length, true};
 ghost use Rattle.tape_import.specs.Form.{is_ttyrec};
-ghost use Rattle.tape_import.specs.Imported.{Import, Imports, bytes_left, import_of_ttyrec, ttyrec_facts, ttyrec_losses};
+ghost use Rattle.tape_import.specs.Imported.{Import, Imports, bytes_left, import_of_ttyrec, slow_at, ttyrec_facts, ttyrec_losses};
 ghost use Rattle.tape_import.specs.Kept.{CanBeTold};
 ghost use Rattle.tape_import.specs.Ttyrec.{head_len};
 
 use crate::facts::Facts;
 use crate::fault::EventFault;
 use crate::header::header_of;
-use crate::losses::{Left, Losses, Others, Place};
+use crate::losses::{At, Left, Losses, Others, Place};
 use crate::timeline::Timeline;
 use crate::ttyrec::{Front, first_date, first_size, read_records};
 use std::alloc::{AllocError, Global};
@@ -32,6 +32,13 @@ pub fn bytes_left(number: u64, fault: Option<EventFault>, count: u64) -> Option<
         fault,
         count,
     })
+}
+
+/// Where the first delay stands that was cut, of outputs that stand at such places.
+pub fn slow_at(place: Place, outputs: &Timeline) -> Option<At>
+    ensures { result ≡ slow_at place outputs.now }
+{
+    outputs.first_slow().map(|number| At { place, number })
 }
 
 /// What a ttyrec tells of itself, of which this was read.
@@ -64,6 +71,7 @@ fn losses_of(front: &Front) -> Losses
         left: bytes_left(front.read.count, front.fault, front.left),
         cut: front.read.cut,
         slow: front.read.outputs.slow(),
+        first_slow: slow_at(Place::Event, &front.read.outputs),
         others: Others::none(),
     }
 }

@@ -6,8 +6,8 @@ ghost use Rattle.tape_import.specs.ImportedCast.{cast_losses, import_of_cast};
 use crate::asciicast::{CastFront, read_cast};
 use crate::cast_header::{split_header, told_date, told_term};
 use crate::facts::Facts;
-use crate::imported::{Imported, imported_of};
-use crate::losses::Losses;
+use crate::imported::{Imported, imported_of, slow_at};
+use crate::losses::{Losses, Place};
 use crate::version::Version;
 use std::alloc::{AllocError, Global};
 
@@ -20,6 +20,7 @@ fn losses_of(front: &CastFront) -> Losses
         left: front.left,
         cut: None,
         slow: front.cast.outputs.slow(),
+        first_slow: slow_at(Place::Line, &front.cast.outputs),
         others: front.cast.others,
     }
 }

@@ -16,8 +16,8 @@ ghost use Rattle.tape_import.specs.ShownOne.{named_at, shown_front, value_at};
 use crate::asciicast_one::{FrontOne, read_cast_one};
 use crate::cast_header::{date_at, side_at, term_at};
 use crate::facts::{Facts, Size, size_of};
-use crate::imported::{Imported, bytes_left, imported_of};
-use crate::losses::{Losses, Others};
+use crate::imported::{Imported, bytes_left, imported_of, slow_at};
+use crate::losses::{Losses, Others, Place};
 use crate::places::Places;
 use json_bytes::{DEEPEST, member, plain_digits};
 use std::alloc::{AllocError, Global};
@@ -89,6 +89,7 @@ fn losses_of(front: &FrontOne) -> Losses
         left: bytes_left(front.read.count, front.fault, front.left),
         cut: None,
         slow: front.read.outputs.slow(),
+        first_slow: slow_at(Place::Event, &front.read.outputs),
         others: Others::none(),
     }
 }

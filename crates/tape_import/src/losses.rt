@@ -11,12 +11,26 @@ use tape_core::laws::gives_join;
 use tape_core::{Fault, Watched};
 
 /// What is counted up to the first fault.
-#[derive(Clone, Copy, Debug)]
+#[derive(Clone, Copy, Debug, PartialEq, Eq)]
 pub enum Place {
     /// Lines of the file, from 1.
     Line,
     /// Entries or records, from 0.
     Event,
+}
+
+/// A line, an entry or a record, by its number.
+#[derive(Clone, Copy, Debug, PartialEq, Eq)]
+pub struct At {
+    pub place: Place,
+    pub number: u64,
+}
+
+/// Messages that begin late: the number of the first one, and its line.
+#[derive(Clone, Copy, Debug)]
+pub struct Late {
+    pub number: u64,
+    pub line: u64,
 }
 
 /// What was left out: the line, the entry or the record with a fault, and how many lines, or how many bytes, are left
@@ -46,14 +60,15 @@ pub struct Others {
     pub others: u64,
 }
 
-/// What was lost: the number of the first message, where it isn't the first one; what was left out; the chunk that was
-/// cut; how many delays were cut to the longest one; and events that were left out.
+/// What was lost: the first message, where it isn't number 1; what was left out; the chunk that was cut; how many delays
+/// were cut to the longest one, and where the first of these stands; and events that were left out.
 #[derive(Clone, Copy, Debug)]
 pub struct Losses {
-    pub first: Option<u64>,
+    pub first: Option<Late>,
     pub left: Option<Left>,
     pub cut: Option<Cut>,
     pub slow: u64,
+    pub first_slow: Option<At>,
     pub others: Others,
 }
 
@@ -93,27 +108,28 @@ impl Losses {
 
 impl EventFault {
     /// What is told of it.
-    fn text(self) -> &'static [u8]
+    pub fn text(self) -> &'static str
         ensures { result.now ≡ fault_text self }
     {
         match self {
-            EventFault::BadEvent => b"bad event",
-            EventFault::OutOfOrder => b"out of order",
-            EventFault::ChunkTooLong => b"chunk too long",
-            EventFault::TooManyChunks => b"too many chunks",
-            EventFault::TooManyBytes => b"too many bytes",
+            EventFault::BadEvent => "bad event",
+            EventFault::OutOfOrder => "out of order",
+            EventFault::ChunkTooLong => "chunk too long",
+            EventFault::TooManyChunks => "too many chunks",
+            EventFault::TooManyBytes => "too many bytes",
+            EventFault::DelayTooLarge => "delay too large",
         }
     }
 }
 
 impl Place {
     /// What is told before its number.
-    fn text(self) -> &'static [u8]
+    pub fn text(self) -> &'static str
         ensures { result.now ≡ place_text self }
     {
         match self {
-            Place::Line => b"recording line ",
-            Place::Event => b"recording event ",
+            Place::Line => "recording line ",
+            Place::Event => "recording event ",
         }
     }
 
@@ -145,16 +161,16 @@ pub fn put_losses<W: Write>(losses: &Losses, writer: &mut Watched<W>) -> Result<
 }
 
 /// Writes that the messages begin late.
-fn put_first<W: Write>(first: Option<u64>, writer: &mut Watched<W>)
+fn put_first<W: Write>(first: Option<Late>, writer: &mut Watched<W>)
     ensures { Gave W.contents writer.old writer.new (first_text first) }
 {
     gives_join::<W>();
-    let Some(number) = first else {
+    let Some(late) = first else {
         return;
     };
     writer.give_all(&[
         b"first message is number ",
-        Buffer::new().format(number).as_bytes(),
+        Buffer::new().format(late.number).as_bytes(),
         b"\n",
     ]);
 }
@@ -168,10 +184,10 @@ fn put_left<W: Write>(left: Option<Left>, writer: &mut Watched<W>)
         return;
     };
     writer.give_all(&[
-        left.place.text(),
+        left.place.text().as_bytes(),
         Buffer::new().format(left.number).as_bytes(),
         b": ",
-        left.fault.text(),
+        left.fault.text().as_bytes(),
         b", ",
         Buffer::new().format(left.count).as_bytes(),
         left.place.counted_text(),

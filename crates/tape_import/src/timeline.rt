@@ -10,14 +10,15 @@ use std::marker::Model;
 use tape_core::limits::{LAST_MOMENT, LONGEST_BODY, LONGEST_CHUNK, LONGEST_DELAY, MOST_CHUNKS};
 use tape_core::{Bytes, Chunk};
 
-/// The outputs so far, as chunks: the moment that was reached, when the last chunk was due, how many delays were cut,
-/// and how many bytes the chunks hold together.
+/// The outputs so far, as chunks: the moment that was reached, when the last chunk was due, how many delays were cut, the
+/// number of the line, the entry or the record with the first of these, and how many bytes the chunks hold together.
 #[derive(Drop)]
 pub struct Timeline {
     chunks: Vec<Chunk>,
     moment: u64,
     due: u64,
     slow: u64,
+    first_slow: Option<u64>,
     bytes: u64,
 }
 
@@ -28,9 +29,9 @@ impl Model for Timeline {
 
     ghost use Rattle.tape_import.specs.Kept.{IsTimeline};
 
-    ghost view = { λ t. record { chunks = t.chunks.items; moment = t.moment; due = t.due; slow = t.slow } };
+    ghost view = { λ t. record { chunks = t.chunks.items; moment = t.moment; due = t.due; slow = t.slow; first_slow = t.first_slow } };
 
-    ghost invariant = { λ t. IsTimeline (record { chunks = t.chunks.items; moment = t.moment; due = t.due; slow = t.slow }) t.bytes };
+    ghost invariant = { λ t. IsTimeline (record { chunks = t.chunks.items; moment = t.moment; due = t.due; slow = t.slow; first_slow = t.first_slow }) t.bytes };
 }
 
 impl Timeline {
@@ -43,6 +44,7 @@ impl Timeline {
             moment: 0,
             due: 0,
             slow: 0,
+            first_slow: None,
             bytes: 0,
         }
     }
@@ -92,6 +94,13 @@ impl Timeline {
         self.slow
     }
 
+    /// The number that was told with the first output whose delay was cut.
+    pub fn first_slow(&self) -> Option<u64>
+        ensures { result ≡ self.now.first_slow }
+    {
+        self.first_slow
+    }
+
     /// The chunks, which are within the limits of a recording.
     pub fn into_chunks(self) -> Vec<Chunk>
         ensures chunks { result.items ≡ self.chunks }
@@ -100,10 +109,11 @@ impl Timeline {
         self.chunks
     }
 
-    /// Takes an output that has no fault at this moment. Nothing changes where memory is refused.
-    pub fn take(&mut self, bytes: Bytes) -> Result<(), AllocError>
+    /// Takes an output that has no fault at this moment, of the line, the entry or the record of this number. Nothing
+    /// changes where memory is refused.
+    pub fn take(&mut self, number: u64, bytes: Bytes) -> Result<(), AllocError>
         requires { output_fault self.old (length bytes) ≡ None }
-        ensures ok { OnOk result (self.new ≡ with_output bytes self.old) }
+        ensures ok { OnOk result (self.new ≡ with_output number bytes self.old) }
         ensures err { OnErr result (self.new ≡ self.old) }
     {
         if bytes.is_empty() {
@@ -119,6 +129,7 @@ impl Timeline {
         self.due = self.moment;
         if waited > LONGEST_DELAY {
             self.slow += 1;
+            self.first_slow = self.first_slow.or(Some(number));
         }
         Ok(())
     }

@@ -8,14 +8,13 @@ ghost use Rattle.tape_import.specs.TlogTiming.{story_of};
 use crate::asciicast::{Cast, left_from};
 use crate::event::{Event, What};
 use crate::fault::EventFault;
-use crate::lines::is_blank_line;
+use crate::lines::{is_blank_line, next_line};
 use crate::losses::Left;
 use crate::tlog_message::{Head, Message, read_message};
 use crate::tlog_timing::{Item, at_front};
 use crate::version::Version;
 use std::alloc::{AllocError, Global};
 use tape_core::Bytes;
-use tape_core::text::next_line;
 
 /// What was read so far: the outputs and what is left out, as of an asciicast; what the first message tells of the
 /// recording; and the number of the last one.
@@ -213,11 +212,12 @@ pub fn read_log(alloc: Global, text: &[u8]) -> Result<LogFront, AllocError>
     let mut number = 0;
     while !rest.is_empty() {
         let (line, after) = next_line(rest);
+        number += 1;
+        log.cast.line = number;
         if let Some(fault) = log.take_line(alloc, line)? {
             let left = left_from(number, rest, fault);
             return Ok(LogFront { log, left });
         }
-        number += 1;
         rest = after;
     }
     Ok(LogFront { log, left: None })

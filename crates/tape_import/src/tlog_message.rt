@@ -1,6 +1,8 @@
 //! The messages of tlog, a JSON text in each line.
-ghost use Rattle.std.specs.Prelude.{◌≡◌, ◌≤◌, IfOk, IfSome, codes};
+ghost use Rattle.std.specs.Prelude.{◌≡◌, ◌≤◌, IfOk, IfSome, Some, codes};
 ghost use Rattle.std.specs.List.{AllPass};
+ghost use Rattle.json_bytes.specs.Arrays.{bytes_of};
+ghost use Rattle.json_bytes.specs.Listed.{valued};
 ghost use Rattle.json_bytes.specs.Values.{string_of};
 ghost use Rattle.tape_import.specs.Asciicast.{date_of, term_by};
 ghost use Rattle.tape_import.specs.Dates.{last_second};
@@ -10,7 +12,7 @@ ghost use Rattle.tape_import.specs.TlogMessage.{count_of, given_bytes, given_tex
 
 use crate::cast_header::{date_at, term_by};
 use crate::tlog_timing::is_whole;
-use json_bytes::{Member, bytes_in, named, plain_digits, string_in, whole_members};
+use json_bytes::{Member, ReadValue, bytes_in, named, whole_members};
 use std::alloc::{AllocError, Global};
 use tape_core::Bytes;
 use tape_core::text::read_number;
@@ -42,15 +44,22 @@ pub struct Message {
     pub shown: Stream,
 }
 
+/// The bytes that a value means as a string.
+fn text_of(alloc: Global, value: &ReadValue) -> Result<Option<Bytes>, AllocError>
+    ensures { IfOk result (λ text. text ≡ string_of (Some (valued 63 value.now))) }
+{
+    match value.text(alloc)? {
+        Some(text) => Ok(Some(Bytes::copy_of(alloc, text.as_slice())?)),
+        None => Ok(None),
+    }
+}
+
 /// The string that the member of this name is.
 fn text_told(alloc: Global, members: &[Member], name: &[u8]) -> Result<Option<Bytes>, AllocError>
     ensures { IfOk result (λ text. text ≡ string_of (told members.now name.now)) }
 {
-    let Some(place) = named(members, name) else {
-        return Ok(None);
-    };
-    match string_in(alloc, place)? {
-        Some(text) => Ok(Some(Bytes::from_vec(text))),
+    match named(members, name) {
+        Some(value) => text_of(alloc, value),
         None => Ok(None),
     }
 }
@@ -80,7 +89,10 @@ fn is_minor(text: &[u8]) -> bool
 fn is_versioned(alloc: Global, members: &[Member]) -> Result<bool, AllocError>
     ensures { IfOk result (λ is. is ≡ is_versioned (string_of (told members.now (codes "ver")))) }
 {
-    match text_told(alloc, members, b"ver")? {
+    let Some(value) = named(members, b"ver") else {
+        return Ok(false);
+    };
+    match value.text(alloc)? {
         Some(text) => Ok(is_version(text.as_slice())),
         None => Ok(false),
     }
@@ -101,18 +113,28 @@ fn short_number(text: &[u8]) -> Option<u64>
 fn count_told(members: &[Member], name: &[u8]) -> Option<u64>
     ensures { result ≡ count_of (told members.now name.now) }
 {
-    short_number(plain_digits(named(members, name)?)?)
+    short_number(named(members, name)?.plain_digits()?)
 }
 
 /// The text that the member of this name gives, which may be left out.
 fn text_given(alloc: Global, members: &[Member], name: &[u8]) -> Result<Option<Bytes>, AllocError>
     ensures { IfOk result (λ text. text ≡ given_text (told members.now name.now)) }
 {
-    let Some(place) = named(members, name) else {
-        return Ok(Some(Bytes::from_vec(Vec::new(alloc))));
+    match named(members, name) {
+        Some(value) => text_of(alloc, value),
+        None => Ok(Some(Bytes::from_vec(Vec::new(alloc)))),
+    }
+}
+
+/// The bytes that a value tells as an array of numbers.
+fn bytes_of(alloc: Global, value: &ReadValue) -> Result<Option<Bytes>, AllocError>
+    ensures { IfOk result (λ bytes. bytes ≡ bytes_of (Some (valued 63 value.now))) }
+{
+    let ReadValue::Other(place) = value else {
+        return Ok(None);
     };
-    match string_in(alloc, place)? {
-        Some(text) => Ok(Some(Bytes::from_vec(text))),
+    match bytes_in(alloc, place)? {
+        Some(bytes) => Ok(Some(Bytes::from_vec(bytes))),
         None => Ok(None),
     }
 }
@@ -121,12 +143,9 @@ fn text_given(alloc: Global, members: &[Member], name: &[u8]) -> Result<Option<B
 fn bytes_given(alloc: Global, members: &[Member], name: &[u8]) -> Result<Option<Bytes>, AllocError>
     ensures { IfOk result (λ bytes. bytes ≡ given_bytes (told members.now name.now)) }
 {
-    let Some(place) = named(members, name) else {
-        return Ok(Some(Bytes::from_vec(Vec::new(alloc))));
-    };
-    match bytes_in(alloc, place)? {
-        Some(bytes) => Ok(Some(Bytes::from_vec(bytes))),
-        None => Ok(None),
+    match named(members, name) {
+        Some(value) => bytes_of(alloc, value),
+        None => Ok(Some(Bytes::from_vec(Vec::new(alloc)))),
     }
 }
 
@@ -155,11 +174,11 @@ fn read_term(alloc: Global, members: &[Member]) -> Result<Option<Bytes>, AllocEr
         ≡ term_by (string_of (told members.now (codes "term")))) }
     ensures bytes { IfOk result (λ term. IfSome term (AllPass is_term_byte)) }
 {
-    let Some(place) = named(members, b"term") else {
+    let Some(value) = named(members, b"term") else {
         return Ok(None);
     };
-    match string_in(alloc, place)? {
-        Some(text) => Ok(term_by(text)),
+    match value.text(alloc)? {
+        Some(text) => term_by(alloc, text.as_slice()),
         None => Ok(None),
     }
 }
@@ -169,7 +188,10 @@ fn read_date(members: &[Member]) -> Option<u64>
     ensures second { result ≡ date_of (told members.now (codes "time")) }
     ensures last { IfSome result (λ s. s ≤ last_second) }
 {
-    date_at(named(members, b"time")?)
+    match named(members, b"time")? {
+        ReadValue::Other(place) => date_at(place),
+        ReadValue::Text(_) => None,
+    }
 }
 
 /// What the message tells of its recording.

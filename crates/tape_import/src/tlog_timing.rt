@@ -1,12 +1,12 @@
 //! The timing of a message of tlog: which of its characters and bytes came, or were typed, when.
-ghost use Rattle.std.specs.Prelude.{◌≡◌, ◌≤◌, IfSome, Some, length};
+ghost use Rattle.std.specs.Prelude.{◌≡◌, ◌≤◌, IfSome, Some, fold, length, max, true};
 ghost use Rattle.std.specs.Char.{is_ascii_digit};
 ghost use Rattle.std.specs.List.{AllPass, prefix_len};
 ghost use Rattle.std.specs.Option.{option_map};
 ghost use Rattle.json_bytes.specs.Values.{as_part};
 ghost use Rattle.tape_import.specs.Asciicast.{sided};
 ghost use Rattle.tape_import.specs.Kept.{IsSize};
-ghost use Rattle.tape_import.specs.KeptTlog.{IsSizedItem, IsSizedWord, shown_progress, shown_step, shown_stream};
+ghost use Rattle.tape_import.specs.KeptTlog.{IsSizedItem, IsSizedWord, continued_len, shown_progress, shown_step, shown_stream};
 ghost use Rattle.tape_import.specs.TlogTiming.{at_front, behind_shown, behind_typed, both_counted, bytes_taken, characters_len, counted, digits_at, goes_on, later, step_at, step_by, story_of, text_taken, two_at, word_behind};
 
 use crate::facts::{Size, side, size_of};
@@ -65,28 +65,74 @@ fn goes_on(b: u8) -> bool
     (128..=191).contains(&b)
 }
 
+/// The greatest byte of a text, 0 where there is none.
+fn greatest(text: &[u8]) -> u8
+    ensures { result ≡ fold max 0 text.now }
+{
+    text.iter().fold(0, |most, b| most.max(*b))
+}
+
+/// Whether no byte of a text goes on with a character before it.
+#[inline]
+#[tactic(auto, using(crate::proofs::TlogLemmas::first_alone, crate::proofs::TlogLemmas::none_alone))]
+fn begins_anew(text: &[u8]) -> bool
+    ensures { result ≡ true → prefix_len goes_on text.now ≡ 0 }
+{
+    match text {
+        [b, ..] => !goes_on(*b),
+        [] => true,
+    }
+}
+
+/// Whether the first so many bytes of a text are as many characters, since each of them is below 128, and what stands
+/// behind them begins another one.
+#[inline]
+fn are_characters(text: &[u8], count: usize) -> bool
+    requires { count ≤ length text.now }
+    ensures { result ≡ true → characters_len count text.now ≡ Some count }
+{
+    let (front, rest) = text.split_at(count);
+    if begins_anew(rest) {
+        greatest(front) < 128
+    } else {
+        false
+    }
+}
+
 /// How many bytes the first so many characters of a text have.
 fn characters_len(text: &[u8], count: u64) -> Option<usize>
     ensures len { result ≡ characters_len count text.now }
     ensures within { IfSome result (λ len. len ≤ length text.now) }
 {
-    let mut len = 0;
-    for _ in 0..count {
-        let (_, rest) = text.split_at(len);
-        let [_, behind @ ..] = rest else {
-            return None;
-        };
-        len += 1 + continued_len(behind);
+    if count <= text.len() as u64 && are_characters(text, count as usize) {
+        return Some(count as usize);
     }
-    Some(len)
+    if count == 0 {
+        return Some(0);
+    }
+    let [_, behind @ ..] = text else {
+        return None;
+    };
+    Some(1 + continued_len(behind, count - 1)?)
 }
 
-/// How many bytes at the front go on with the character before them.
-fn continued_len(text: &[u8]) -> usize
-    ensures len { result ≡ prefix_len goes_on text.now }
-    ensures within { result ≤ length text.now }
+/// How many bytes at the front go on with the character before them, and with so many characters more.
+fn continued_len(text: &[u8], count: u64) -> Option<usize>
+    ensures len { result ≡ continued_len count text.now }
+    ensures within { IfSome result (λ len. len ≤ length text.now) }
 {
-    text.iter().take_while(|b| goes_on(**b)).count()
+    let mut left = count;
+    let mut len = 0;
+    for b in text {
+        if !goes_on(*b) {
+            if left == 0 {
+                return Some(len);
+            }
+            left -= 1;
+        }
+        len += 1;
+    }
+    if left == 0 { Some(len) } else { None }
 }
 
 /// All of a stream.

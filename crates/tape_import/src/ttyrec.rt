@@ -171,7 +171,7 @@ impl Reading {
         let cut = cut_of(self.outputs.count(), kept as u64, told_of(text));
         let bytes = Bytes::part_of(file, at + HEAD_LEN, kept)?;
         self.outputs.pass(moved(self.clock, clock));
-        self.outputs.take(bytes)?;
+        self.outputs.take(self.count, bytes)?;
         self.clock = Some(clock);
         self.count += 1;
         self.cut = cut;

@@ -1,17 +1,38 @@
-use Rattle.std.proofs.Common.{ap, sym, ◌∙◌, drop}
-use Rattle.std.proofs.lemmas.Bool.{ne_eqb}
-use Rattle.json_bytes.specs.Strings.{bytes_of, items, with_front}
-use Rattle.json_bytes.proofs.StringLemmas.{behind_item, fronts}
+use Rattle.std.proofs.Common.{◌≡◌, ◌-◌, ◌∙◌, ap, drop, length, refl, sym, take}
+use Rattle.std.proofs.lemmas.List.{take_rest}
+use Rattle.json_bytes.specs.Strings.{items, string_at, with_front}
+use Rattle.json_bytes.proofs.StringLemmas.{quote_ends, quote_read}
 use Rattle.json_bytes.proofs.strings.read_string.Goals as goal
 
-pub loop-rest-preserved : goal.loop-rest-preserved
-loop-rest-preserved c =
-    let rest = c.loop-rest.rest.now in
-    let bytes = c.loop-rest.bytes.items in
-    let meaning = c.in-Some.meaning in
-    let len = c.in-Some.len in
-    c.loop-rest.invariant
-    ∙ ap (with_front bytes) (behind_item rest meaning len c.in-Some.ensures.some c.in-Some.ensures.within (ne_eqb _ 34 c.if-rest-eq34.false) (sym c.in-Some.ensures.value))
-    ∙ fronts bytes (bytes_of meaning) (items 0 (drop len rest)) ∙ ap (λ front. with_front front (items 0 (drop len rest))) (sym c.in_ok-push_meaning.ensures)
-    ∙ ap (λ text. with_front c.push_meaning.new.bytes.items (items 0 text)) (sym c.split_at.ensures.back)
-    ∙ c.in_ok-rest-2.ensures.pushed
+pub returns-then-begins : goal.returns-then-begins
+returns-then-begins c =
+    let text = c.args.text.now in
+    let inner = take (length text - 1) (drop 1 text) in
+    let plain = c.split_at.result.0.now in
+    let rest = c.split_at.result.1.now in
+    let read : string_at text ≡ with_front plain (items 0 rest) =
+    quote_read text inner plain rest (sym c.begins.ensures ∙ c.if-not-begins.false) (take_rest text 1)
+    (c.split_at.ensures.front ∙ ap (λ n. take n inner) c.plain_len.ensures.plain) (c.split_at.ensures.back ∙ ap (λ n. drop n inner) c.plain_len.ensures.plain) in
+    sym (read ∙ quote_ends plain rest (sym c.begins-2.ensures ∙ c.if-begins.true))
+
+pub returns-in-Some : goal.returns-in-Some
+returns-in-Some c =
+    let text = c.args.text.now in
+    let inner = take (length text - 1) (drop 1 text) in
+    let plain = c.split_at.result.0.now in
+    let rest = c.split_at.result.1.now in
+    let read : string_at text ≡ with_front plain (items 0 rest) =
+    quote_read text inner plain rest (sym c.begins.ensures ∙ c.if-not-begins.false) (take_rest text 1)
+    (c.split_at.ensures.front ∙ ap (λ n. take n inner) c.plain_len.ensures.plain) (c.split_at.ensures.back ∙ ap (λ n. drop n inner) c.plain_len.ensures.plain) in
+    sym (read ∙ sym c.in_ok-bytes.ensures ∙ rw c.in-Some.is refl)
+
+pub returns-in-None : goal.returns-in-None
+returns-in-None c =
+    let text = c.args.text.now in
+    let inner = take (length text - 1) (drop 1 text) in
+    let plain = c.split_at.result.0.now in
+    let rest = c.split_at.result.1.now in
+    let read : string_at text ≡ with_front plain (items 0 rest) =
+    quote_read text inner plain rest (sym c.begins.ensures ∙ c.if-not-begins.false) (take_rest text 1)
+    (c.split_at.ensures.front ∙ ap (λ n. take n inner) c.plain_len.ensures.plain) (c.split_at.ensures.back ∙ ap (λ n. drop n inner) c.plain_len.ensures.plain) in
+    sym (read ∙ sym c.in_ok-bytes.ensures ∙ rw c.in-None.is refl)

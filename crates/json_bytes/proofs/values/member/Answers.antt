@@ -1,7 +1,7 @@
 use Rattle.std.proofs.Common.{◌≡◌, ◌+◌, ◌-◌, ◌∙◌, None, Some, ap, arith, length, nat_eq, refl, sym}
 use Rattle.std.specs.Cmp.Lexicographic.{pointwise}
 use Rattle.std.specs.Option.{option_and_then}
-use Rattle.json_bytes.specs.Strings.{string_at}
+use Rattle.json_bytes.specs.Strings.{meant, string_at}
 use Rattle.json_bytes.specs.Values.{found, members, value}
 use Rattle.json_bytes.proofs.MemberLemmas.{chosen, member_last, member_next, named_in, no_object, object_empty, object_members, with_end}
 use Rattle.json_bytes.proofs.values.member.Goals as goal
@@ -30,13 +30,13 @@ returns-in-Some-past_mark-3 c =
     let one = value c.args.depth in
     let most = length c.in-Some.inner.now in
     let at = c.loop.at.now in
-    let other = c.in-Some-2.other.items in
+    let other = meant c.in-Some-2.other in
     let text = c.in-Some-past_mark-2.value.now in
     let behind = c.in-Some-value_end.rest.now in
     let before = option_and_then (λ place. found (one place.now)) c.loop.place in
     let v = with_end (one text) behind (sym c.in-Some-value_end.ensures) in
     let named : string_at at ≡ Some (other, c.in-Some-2.rest.now) = sym c.in_ok-other.ensures ∙ rw c.in-Some-2.is refl in
-    let same : pointwise nat_eq other name ≡ c.eq.result = ap (λ t. pointwise nat_eq t name) (sym c.as_slice.ensures.value) ∙ sym c.eq.ensures in
+    let same : pointwise nat_eq other name ≡ c.eq.result = ap (λ t. pointwise nat_eq t name) (sym c.as_slice.ensures) ∙ sym c.eq.ensures in
     let chooses : chosen name before other (v.0) ≡ option_and_then (λ place. found (one place.now)) c.if-eq.place = elim c.if-eq.branch [
       | then-eq w ↦ rw (same ∙ w.if-eq.true, w.place-is) (sym (ap found (v.1)))
       | else-eq w ↦ rw (same ∙ w.if-eq.false, w.place-is) refl
@@ -52,13 +52,13 @@ loop-preserved c =
     let one = value c.args.depth in
     let most = length c.in-Some.inner.now in
     let at = c.loop.at.now in
-    let other = c.in-Some-2.other.items in
+    let other = meant c.in-Some-2.other in
     let text = c.in-Some-past_mark-2.value.now in
     let behind = c.in-Some-value_end.rest.now in
     let before = option_and_then (λ place. found (one place.now)) c.loop.place in
     let v = with_end (one text) behind (sym c.in-Some-value_end.ensures) in
     let named : string_at at ≡ Some (other, c.in-Some-2.rest.now) = sym c.in_ok-other.ensures ∙ rw c.in-Some-2.is refl in
-    let same : pointwise nat_eq other name ≡ c.eq.result = ap (λ t. pointwise nat_eq t name) (sym c.as_slice.ensures.value) ∙ sym c.eq.ensures in
+    let same : pointwise nat_eq other name ≡ c.eq.result = ap (λ t. pointwise nat_eq t name) (sym c.as_slice.ensures) ∙ sym c.eq.ensures in
     let chooses : chosen name before other (v.0) ≡ option_and_then (λ place. found (one place.now)) c.if-eq.place = elim c.if-eq.branch [
       | then-eq w ↦ rw (same ∙ w.if-eq.true, w.place-is) (sym (ap found (v.1)))
       | else-eq w ↦ rw (same ∙ w.if-eq.false, w.place-is) refl

@@ -1,9 +1,9 @@
 use Rattle.std.proofs.Common.{◌≡◌, ◌+◌, ◌-◌, ◌∙◌, None, ap, arith, length, subst, sym}
 use Rattle.json_bytes.specs.Values.{json_of}
 use Rattle.tape_core.specs.Text.{lines_of}
-use Rattle.tape_import.specs.Asciicast.{asciicast_of, at_header, events, header_line, line_fault, past_header, told_size, with_line}
+use Rattle.tape_import.specs.Asciicast.{asciicast_of, at_header, events, header_line, line_fault, on_line, past_header, told_size, with_line}
 use Rattle.tape_import.specs.KeptCast.{HasSizes, IsCounted}
-use Rattle.tape_import.proofs.CastLemmas.{line_counted, line_kept, line_taken, taken_is}
+use Rattle.tape_import.proofs.CastLemmas.{line_counted, line_kept, line_taken, numbered, taken_is}
 use Rattle.tape_import.proofs.asciicast.read_cast.Goals as goal
 
 pub loop-rest-init : goal.loop-rest-init
@@ -34,14 +34,15 @@ loop-rest-preserved c =
     let version = c.args.version in
     let cast = c.loop-rest.cast in
     let number = c.loop-rest.number in
+    let here = on_line (number + 1) cast in
     let line = c.next_line.result.0.now in
     let more = lines_of c.next_line.result.1.now in
-    let sound : line_fault version cast line ≡ None = sym c.in_ok-fault.ensures.fault ∙ c.in_default.is in
-    let next : c.take_line.new.self ≡ with_line version cast line = taken_is c.in_ok-fault.field-0 c.take_line.new.self (with_line version cast line) c.in_default.is c.in_ok-fault.ensures.taken in
+    let sound : line_fault version here line ≡ None = sym c.in_ok-fault.ensures.fault ∙ c.in_default.is in
+    let next : c.take_line.new.self ≡ with_line version here line = taken_is c.in_ok-fault.field-0 c.take_line.new.self (with_line version here line) c.in_default.is c.in_ok-fault.ensures.taken in
     record {
       same = c.loop-rest.invariant.same ∙ ap (events version number cast) c.next_line.ensures.lines ∙ line_taken version number cast line more sound
           ∙ ap (λ after. events version (number + 1) after more) (sym next);
       fits = omega (arith, c.next_line.ensures.shorter, c.loop-rest.invariant.fits);
-      counted = subst (IsCounted (number + 1)) (sym next) (line_counted number version cast line c.loop-rest.invariant.counted);
-      sizes = subst HasSizes (sym next) (line_kept version cast line c.loop-rest.invariant.sizes);
+      counted = subst (IsCounted (number + 1)) (sym next) (line_counted number version here line (numbered number (number + 1) cast c.loop-rest.invariant.counted));
+      sizes = subst HasSizes (sym next) (line_kept version here line (record { told = c.loop-rest.invariant.sizes.told }));
     }

@@ -1,0 +1,12 @@
+use Rattle.std.proofs.Common.{◌≡◌, ◌+◌, ◌-◌, ◌≤◌, length, drop}
+use Rattle.std.specs.List.{prefix_len}
+use Rattle.json_bytes.specs.Strings.{is_plain}
+use Rattle.json_bytes.proofs.plain.plain_len.Given as goal
+
+-- the rest of the run begins at `end`
+abbrev pub invariant-loop-end : goal.invariant-loop-end
+invariant-loop-end l =
+    (prefix_len is_plain l.text ≡ l.end + prefix_len is_plain (drop l.end l.text)) × (l.end ≤ length l.text)
+
+abbrev pub decreases-loop-end : goal.decreases-loop-end
+decreases-loop-end l = length l.text - l.end
