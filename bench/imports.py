@@ -8,17 +8,15 @@ The recordings are the shipped ones, in outputs of 80 bytes each, a millisecond 
 """
 import json
 import os
-import re
 import struct
-import subprocess
 import sys
 import tempfile
 
 import shared
+from instructions import counted
 
 SIZE = 1_048_576
 STEP = 80
-CALLGRIND = ["valgrind", "--tool=callgrind", "--callgrind-out-file=/dev/null"]
 
 
 def events(texts):
@@ -50,12 +48,6 @@ def records(texts):
     return b"".join(struct.pack("<3I", at // 1000, at % 1000 * 1000, len(text)) + text for at, text in enumerate(texts))
 
 
-def counted(program, words):
-    """How many instructions the program takes, which is done without losses."""
-    done = subprocess.run([*CALLGRIND, program, *words], capture_output=True, text=True, check=True)
-    return int(re.search(r"Collected : (\d+)", done.stderr)[1])
-
-
 def main():
     program = os.path.abspath(sys.argv[1] if len(sys.argv) > 1 else f"{shared.TOP}/bin/typetool")
     body = shared.shipped(SIZE)
@@ -67,8 +59,8 @@ def main():
             paths = [os.path.join(folder, name) for name in ("recording", "script", "timing")]
             with open(paths[0], "wb") as file:
                 file.write(recording)
-            importing = counted(program, ["import", *paths])
-            reading = counted(program, ["info", *paths[1:]])
+            importing = counted([program, "import", *paths])
+            reading = counted([program, "info", *paths[1:]])
         note = f"({importing:,} over {reading:,}; {len(recording):,} bytes)"
         shared.figure(f"import of {form.__name__} over info", importing / reading, goal, note)
 

@@ -1,5 +1,6 @@
 //! The list of reports, and the place in it where replies are sent.
-ghost use Rattle.std.specs.Prelude.{◌≡◌, ◌≤◌, [], length, take, min, OnOk, OnErr, IsOk};
+ghost use Rattle.std.specs.Prelude.{◌≡◌, ◌≤◌, ◌++◌, [], length, replicate, take, min, OnOk, OnErr, IsOk};
+ghost use Rattle.plays.specs.Sent.{AreSent, sent_bytes};
 
 use std::alloc::{AllocError, Global};
 use std::marker::Model;
@@ -18,19 +19,71 @@ impl From<AllocError> for OutOfMemory {
 /// that lie before the list's end only move the place on, and those past it join the list.
 #[derive(Debug, Drop)]
 pub struct Reports {
-    list: Vec<u8>,
+    list: Sent,
     place: usize,
+}
+
+/// The list: one of its own, or so many zeros of a constant, in whose place it takes memory only where it grows.
+#[derive(Debug, Drop)]
+enum Sent {
+    Own(Vec<u8>),
+    Zeros(Global, usize),
+}
+
+/// How many zeros a constant has.
+const ZEROS: usize = 20;
+
+impl Sent {
+    fn as_slice(&self) -> &[u8]
+        requires { AreSent self.now }
+        ensures { result.now ≡ sent_bytes self.now }
+    {
+        match self {
+            Sent::Own(list) => list.as_slice(),
+            Sent::Zeros(_, len) => &[0; ZEROS][..*len],
+        }
+    }
+
+    fn truncate(&mut self, len: usize)
+        requires sent { AreSent self.old }
+        ensures value { sent_bytes self.new ≡ take len (sent_bytes self.old) }
+        ensures sent { AreSent self.new }
+    {
+        match self {
+            Sent::Own(list) => list.truncate(len),
+            Sent::Zeros(_, count) => *count = (*count).min(len),
+        }
+    }
+
+    // A refused growth changes nothing.
+    fn extend(&mut self, bytes: &[u8]) -> Result<(), OutOfMemory>
+        requires sent { AreSent self.old }
+        ensures ok { OnOk result (sent_bytes self.new ≡ sent_bytes self.old ++ bytes.now) }
+        ensures err { OnErr result (sent_bytes self.new ≡ sent_bytes self.old) }
+        ensures sent { AreSent self.new }
+    {
+        match self {
+            Sent::Own(list) => list.extend_from_slice(bytes)?,
+            Sent::Zeros(alloc, len) => {
+                let mut list = vec![in *alloc; 0; *len]?;
+                list.extend_from_slice(bytes)?;
+                *self = Sent::Own(list);
+            }
+        }
+        Ok(())
+    }
 }
 
 impl Model for Reports {
     ghost use Rattle.std.specs.Prelude.{◌≤◌, length};
     ghost use Rattle.plays.specs.Sink.{Sink};
+    ghost use Rattle.plays.specs.Sent.{IsPlaced, sink_of};
 
     ghost Value = { Sink };
 
-    ghost view = { λ r. record { bytes = r.list.items; place = r.place } };
+    ghost view = { λ r. sink_of r.list r.place };
 
-    ghost invariant = { λ r. r.place ≤ length r.list.items };
+    ghost invariant = { λ r. IsPlaced r.list r.place };
 }
 
 impl Reports {
@@ -41,7 +94,18 @@ impl Reports {
         ensures { result ≡ record { bytes = []; place = 0 } }
     {
         Reports {
-            list: Vec::new(alloc),
+            list: Sent::Own(Vec::new(alloc)),
+            place: 0,
+        }
+    }
+
+    /// A list of 20 zeros, over which replies may be sent, one over the other: no VT100's reply to a byte is longer. It
+    /// takes memory only where it grows.
+    pub fn of_zeros(alloc: Global) -> Self
+        ensures { result ≡ record { bytes = replicate 20 0; place = 0 } }
+    {
+        Reports {
+            list: Sent::Zeros(alloc, ZEROS),
             place: 0,
         }
     }
@@ -85,13 +149,13 @@ impl Reports {
         ensures err { OnErr result (self.new ≡ self.old) }
         ensures room { HasRoom self.old reply.now → IsOk result }
     {
-        let held = self.list.len() - self.place;
+        let held = self.bytes().len() - self.place;
         if reply.len() <= held {
             self.place += reply.len();
             return Ok(());
         }
-        self.list.extend_from_slice(&reply[held..])?;
-        self.place = self.list.len();
+        self.list.extend(&reply[held..])?;
+        self.place += reply.len();
         Ok(())
     }
 }

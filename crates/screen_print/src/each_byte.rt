@@ -79,31 +79,20 @@ use vt_term::{Reports, Terminal};
 /// How many bytes the list has over which replies go: no reply to a byte is longer.
 const SCRATCH: usize = 20;
 
-/// A list over which replies go.
-pub fn scratch(alloc: Global) -> Result<Reports, OutOfMemory>
-    ensures { IfOk result (λ scratch. SCRATCH ≤ length scratch.bytes) }
-{
-    let mut scratch = Reports::new(alloc);
-    scratch.send(&[0; SCRATCH])?;
-    Ok(scratch)
-}
-
 /// Writes, as `=`, where a text stands at the moment `from`, if that is given; and for each chunk that is due
 /// after it and by `to`: `-` for where it went, `~` for where it came and went between two bytes, `+` for
-/// where it came to stand. It works by one seek, and takes no memory besides: replies go over what the
-/// scratch list holds. After a fault a beginning of the text has gone out. The recording and the log stay,
-/// and the frontier isn't lowered.
+/// where it came to stand. It works by one seek, and takes no memory besides. After a fault a beginning of the
+/// text has gone out. The recording and the log stay, and the frontier isn't lowered.
 #[tactic(auto, using(chunk_walk::proofs::SeekLemmas::seeks_keep_history))]
 pub fn find<W: Write>(
+    alloc: Global,
     session: &mut Session,
     from: Option<u64>,
     to: u64,
     text: &[char],
-    scratch: &mut Reports,
     writer: &mut Watched<W>,
 ) -> Result<(), ChangesFault>
-    requires scratch { SCRATCH ≤ length scratch.old.bytes }
-    requires sound { has_failed writer.old ≡ false }
+    requires { has_failed writer.old ≡ false }
     ensures ok { OnOk result (Took W.contents writer.old writer.new
         (find_lines session.old.profile session.old.recording from to text.now)) }
     ensures flushed { OnOk result (is_flushed writer.new ≡ true) }
@@ -124,6 +113,7 @@ pub fn find<W: Write>(
     let start = start_of(session, from);
     let mut terminal = terminal_at(session, start)?;
     let recording = session.recording();
+    let mut scratch = Reports::of_zeros(alloc);
     put_lines(
         recording,
         from,
@@ -131,7 +121,7 @@ pub fn find<W: Write>(
         start,
         text,
         &mut terminal,
-        scratch,
+        &mut scratch,
         writer,
     );
     writer.settle()?;

@@ -1,14 +1,17 @@
 -- Cells that are looked at block by block.
-use Rattle.std.proofs.Common.{◌≡◌, ℕ, zero, suc, ◌+◌, ◌-◌, ◌*◌, ◌%◌, ◌<◌, ◌≤◌, Bool, true, false, List, [], ◌∷◌, length, get_or, drop, take, nat_eq, cond, refl, ap, ap₂, sym, ◌∙◌, arith, add-zero}
+use Rattle.std.proofs.Common.{◌≡◌, ℕ, zero, suc, ◌+◌, ◌-◌, ◌*◌, ◌%◌, ◌<◌, ◌≤◌, Bool, true, false, List, [], ◌∷◌, length, get_or, drop, take, ap, ap₂, sym, ◌∙◌, arith, add-zero}
 use Rattle.std.specs.List.{prefix_len, suffix_len}
-use Rattle.std.proofs.lemmas.Bool.{eq-eqb}
+use Rattle.std.specs.Prelude.{◌==◌, ◌||◌}
+use Rattle.std.proofs.lemmas.Bool.{and_parts, eq-eqb, eqb-true}
 use Rattle.std.proofs.lemmas.Bool.Decides.{nat_tests}
 use Rattle.std.proofs.lemmas.List.{take_all}
 use Rattle.std.proofs.lemmas.List.Sums.{suffix_len-take_yes}
 use Rattle.vt_screen.specs.declared.cell.Cell.{Cell}
-use Rattle.vt_screen.specs.Attributes.{Attributes, bit, byte_of}
+use Rattle.vt_screen.specs.Attributes.{Attributes, bit, byte_of, plain}
+use Rattle.screen_rows.specs.Ink.{is_blank, same_rendition}
 use Rattle.screen_rows.specs.Outlines.{is_drawn, outline, outlines}
 use Rattle.screen_rows.specs.Runs.{IsLetter, is_like, kind_number, kind_of}
+use Rattle.screen_rows.specs.RowText.{is_space}
 use Rattle.screen_rows.proofs.SameLemmas.{byte_apart}
 
 -- ---- elements that pass
@@ -32,6 +35,12 @@ suffix_passed p xs n d within passes =
     let whole : take (n + (length xs - n)) xs ≡ xs = take_all (n + (length xs - n)) xs (omega arith) in
     let rest = ap (suffix_len p) (sym whole) ∙ suffix_from p xs n (length xs - n) d (omega arith) passes in
     omega (arith, rest)
+
+-- a blank cell is a space
+pub blank_is_space : (cell : Cell) → is_blank cell ≡ true → is_space cell ≡ true
+blank_is_space cell is =
+    let glyph : cell.glyph ≡ 32 = eqb-true cell.glyph 32 (and_parts (cell.glyph == 32) (same_rendition cell.rendition plain) is).0 in
+    ap (λ n. (n == 0) || (n == 32)) glyph
 
 -- those at the front
 pub prefix_passed : {X : Type 0} (p : X → Bool) (xs : List X) (n : ℕ) (d : X) → n ≤ length xs

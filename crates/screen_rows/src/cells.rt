@@ -50,7 +50,7 @@ pub fn cells_to_margin(wide: bool, row: &Row) -> &[Cell]
 pub fn trimmed(cells: &[Cell]) -> &[Cell]
     ensures { result.now ≡ trimmed cells.now }
 {
-    let mut len = cells.len();
+    let mut len = without_blocks(cells);
     while len > 0 && is_space(cells[len - 1]) {
         len -= 1;
     }
@@ -87,6 +87,8 @@ fn without_blocks(cells: &[Cell]) -> usize
     ensures within { result ≤ length cells.now }
     ensures passed { result + suffix_len is_blank cells.now
         ≡ length cells.now + suffix_len is_blank (take result cells.now) }
+    ensures spaces { result + suffix_len is_space cells.now
+        ≡ length cells.now + suffix_len is_space (take result cells.now) }
 {
     let mut len = cells.len();
     while len >= BLOCK && are_blank(cells, len - BLOCK) {

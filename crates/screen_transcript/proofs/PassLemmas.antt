@@ -1,34 +1,15 @@
--- Bytes that are played piece by piece.
-use Rattle.std.proofs.Common.{◌≡◌, ℕ, ◌+◌, List, [], ◌++◌, take, drop, refl, sym, ap, ◌∙◌, subst, append-nil}
+-- Bytes that are played some after others.
+use Rattle.std.proofs.Common.{◌≡◌, ℕ, ◌+◌, ◌≤◌, List, [], ◌++◌, length, take, drop, sym, ap, ◌∙◌, subst, append-nil, refl, arith}
 use Rattle.std.proofs.Math.Seq.{take-add}
-use Rattle.std.proofs.lemmas.List.{drop-drop, take-append-drop}
+use Rattle.std.proofs.lemmas.List.{drop-drop, length-drop, take-append-drop}
 use Rattle.std.specs.Prelude.{Option}
 use Rattle.tape_core.specs.declared.devices.Watched.{Watched}
-use Rattle.transcripts.specs.Told.{Back, TellsFront}
-use Rattle.transcripts.proofs.ToldLemmas.{front_first}
-use Rattle.vt_parser.specs.declared.states.ParserState.{ParserState}
-use Rattle.vt_screen.specs.Picture.{Picture}
-use Rattle.vt_term.specs.declared.profile.Profile.{Profile}
-use Rattle.vt_term.specs.Seen.{Seen, Shows}
-use Rattle.vt_term.specs.Term.{play}
-use Rattle.screen_transcript.specs.declared.transcriber.Piece.{Piece}
+use Rattle.transcripts.specs.Told.{Back, Tells, TellsFront}
+use Rattle.transcripts.proofs.ToldLemmas.{front_first, front_second, tells_both, tells_none}
 use Rattle.screen_transcript.specs.declared.transcriber.Transcriber.{Transcriber}
-use Rattle.screen_transcript.specs.Leaving.{rows_of}
-use Rattle.screen_transcript.specs.Playing.{Comes, IsPlayed, home_by}
-use Rattle.screen_transcript.specs.Transcribed.{Transcribed, leaving_rows, play_on, reset_as}
-use Rattle.screen_transcript.proofs.PartLemmas.{plays_parts, plays_term, rows_parts}
-use Rattle.screen_transcript.proofs.PieceLemmas.{same_picture}
-
--- a piece
-pub piece_played : (now : Transcriber) (x : Transcribed) (bytes : List ℕ) (piece : Piece) → Shows now.terminal (play x.term bytes)
-    → now.home ≡ home_by piece.after x.home now.terminal.console.picture → Comes x bytes piece now.parser → IsPlayed now (play_on x bytes)
-piece_played now x bytes piece shows home comes =
-    let there : Shows now.terminal (play_on x bytes).term = subst (Shows now.terminal) (sym (plays_term x bytes)) shows in
-    record {
-      shows = there;
-      state = comes.shown;
-      home = home ∙ ap (home_by piece.after x.home) (sym (same_picture now.terminal (play_on x bytes) there)) ∙ sym comes.home;
-    }
+use Rattle.screen_transcript.specs.Playing.{IsPlayed}
+use Rattle.screen_transcript.specs.Transcribed.{Transcribed, left, play_on}
+use Rattle.screen_transcript.proofs.PartLemmas.{left_parts, plays_parts}
 
 -- the bytes up to a place were played, and the rest is left
 pub record Passed (old new : Transcriber) (bytes rest : List ℕ) : Type 0 where
@@ -59,21 +40,51 @@ passed_all old new bytes rest passed none x was =
     (sym (append-nil (take passed.at bytes)) ∙ ap (λ l. take passed.at bytes ++ l) (sym none ∙ passed.left) ∙ take-append-drop passed.at bytes)
     (passed.played x was)
 
--- ---- the rows that leave at a piece
-
-pub rows_of_piece : (profile : Profile) (before bytes : List ℕ) (now : Transcriber) (terminal : Seen) (piece : Piece) (p : Picture) (state : ParserState)
-    → IsPlayed now (play_on (reset_as profile) before) → terminal ≡ now.terminal → p ≡ terminal.console.picture
-    → Comes (play_on (reset_as profile) before) (take piece.taken bytes) piece state
-    → rows_of piece.leaving p ≡ leaving_rows profile before (take piece.taken bytes)
-rows_of_piece profile before bytes now terminal piece p state is same picture comes =
-    ap (rows_of piece.leaving)
-    (picture ∙ ap (λ (t : Seen). t.console.picture) same ∙ sym (same_picture now.terminal (play_on (reset_as profile) before) is.shows))
-    ∙ sym comes.rows
+-- ---- the rows that leave at them
 
 -- those that leave at some of the bytes are a beginning
-pub front_of_piece : {W : Type 0} {contents : W → Option (List ℕ)} {a b : Watched W} {x y : Back} (profile : Profile) (before bytes : List ℕ) (n : ℕ)
-    → TellsFront contents a x b y (leaving_rows profile before (take n bytes)) → TellsFront contents a x b y (leaving_rows profile before bytes)
-front_of_piece {contents = contents} {a = a} {b = b} {x = x} {y = y} profile before bytes n told =
-    subst (TellsFront contents a x b y)
-    (sym (rows_parts profile before (take n bytes) (drop n bytes)) ∙ ap (leaving_rows profile before) (take-append-drop n bytes))
-    (front_first (leaving_rows profile (before ++ take n bytes) (drop n bytes)) told)
+pub front_taken : {W : Type 0} {contents : W → Option (List ℕ)} {a b : Watched W} {y z : Back} (x : Transcribed) (bytes : List ℕ) (n : ℕ)
+    → TellsFront contents a y b z (left x (take n bytes)) → TellsFront contents a y b z (left x bytes)
+front_taken {contents = contents} {a = a} {b = b} {y = y} {z = z} x bytes n told =
+    subst (TellsFront contents a y b z) (sym (left_parts x (take n bytes) (drop n bytes)) ∙ ap (left x) (take-append-drop n bytes))
+    (front_first (left (play_on x (take n bytes)) (drop n bytes)) told)
+
+-- so many of the bytes were played, and the rows that leave at them told
+pub record Telling {W : Type 0} (contents : W → Option (List ℕ)) (before : Watched W) (back : Back) (old : Transcriber) (writer : Watched W) (rows : Back)
+    (new : Transcriber) (bytes : List ℕ) (taken : ℕ) : Type 0 where
+  pub within : taken ≤ length bytes
+  pub played : (x : Transcribed) → IsPlayed old x → IsPlayed new (play_on x (take taken bytes))
+  pub tells : (x : Transcribed) → IsPlayed old x → Tells contents before back writer rows (left x (take taken bytes))
+
+module _ {W : Type 0} (contents : W → Option (List ℕ)) (before : Watched W) (back : Back) (old : Transcriber) (bytes : List ℕ) where
+  pub telling_none : Telling contents before back old before back old bytes 0
+  unfolding play_on left
+  telling_none = record { within = omega arith; played = λ x is. is; tells = λ x is. tells_none before back }
+
+  pub telling_more : (writer next : Watched W) (rows after : Back) (mid new : Transcriber) (taken n : ℕ) (rest : List ℕ)
+      → Telling contents before back old writer rows mid bytes taken → rest ≡ drop taken bytes → n ≤ length rest
+      → ((x : Transcribed) → IsPlayed mid x → IsPlayed new (play_on x (take n rest)))
+      → ((x : Transcribed) → IsPlayed mid x → Tells contents writer rows next after (left x (take n rest)))
+      → Telling contents before back old next after new bytes (taken + n)
+  telling_more writer next rows after mid new taken n rest telling is within played tells = record {
+    within = omega (arith, within, telling.within, ap length is, length-drop taken bytes);
+    played = λ x was.
+        subst (IsPlayed new)
+        (sym (plays_parts x (take taken bytes) (take n rest)) ∙ ap (λ l. play_on x (take taken bytes ++ take n l)) is
+        ∙ ap (play_on x) (sym (take-add taken n bytes)))
+        (played (play_on x (take taken bytes)) (telling.played x was));
+    tells = λ x was.
+        subst (Tells contents before back next after)
+        (sym (left_parts x (take taken bytes) (take n rest)) ∙ ap (λ l. left x (take taken bytes ++ take n l)) is
+        ∙ ap (left x) (sym (take-add taken n bytes)))
+        (tells_both (tells (play_on x (take taken bytes)) (telling.played x was)) (telling.tells x was));
+  }
+
+  pub telling_front : (writer next : Watched W) (rows after : Back) (mid : Transcriber) (taken : ℕ) (rest : List ℕ)
+      → Telling contents before back old writer rows mid bytes taken → rest ≡ drop taken bytes
+      → ((x : Transcribed) → IsPlayed mid x → TellsFront contents writer rows next after (left x rest))
+      → (x : Transcribed) → IsPlayed old x → TellsFront contents before back next after (left x bytes)
+  telling_front writer next rows after mid taken rest telling is front x was =
+      subst (TellsFront contents before back next after)
+      (sym (left_parts x (take taken bytes) rest) ∙ ap (λ l. left x (take taken bytes ++ l)) is ∙ ap (left x) (take-append-drop taken bytes))
+      (front_second (front (play_on x (take taken bytes)) (telling.played x was)) (telling.tells x was))

@@ -2,11 +2,10 @@
 ghost use Rattle.std.specs.Prelude.{◌≡◌, ℕ, List};
 ghost use Rattle.transcripts.specs.Acting.{place_in};
 ghost use Rattle.screen_transcript.specs.Home.{acts, is_empty, is_home, places};
-ghost use Rattle.screen_transcript.specs.Playing.{after_command};
 ghost use Rattle.vt_parser.specs.Syntax.{action_of};
 ghost use Rattle.vt_parser.specs.Token.{command_of_token};
 
-use transcripts::{After, Place};
+use transcripts::Place;
 use vt_parser::Token;
 use vt_screen::Screen;
 
@@ -37,19 +36,8 @@ pub(crate) fn is_home(screen: &Screen) -> bool
     line == 1 && column == 1
 }
 
-/// What a command does.
-pub(crate) fn after_token(token: &Token) -> After
-    ensures { result ≡ after_command (command_of_token token.now) }
-{
-    if places(token) {
-        After::Placed
-    } else {
-        After::Elsewhere
-    }
-}
-
-// Whether a command moves the cursor to a place.
-fn places(token: &Token) -> bool
+/// Whether a command moves the cursor to a place.
+pub(crate) fn places(token: &Token) -> bool
     ensures { result ≡ places (command_of_token token.now) }
 {
     match token {

@@ -62,8 +62,8 @@ fn at_feed(screen: &Screen) -> Leaving
     }
 }
 
-/// A character that is put.
-pub(crate) fn at_put(screen: &Screen) -> Leaving
+// A character that is put.
+fn at_put(screen: &Screen) -> Leaving
     ensures { result ≡ at_put screen.now.picture }
 {
     if screen.wrap() {

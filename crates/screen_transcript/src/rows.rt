@@ -93,8 +93,8 @@ fn are_ascii(glyphs: &[u8]) -> bool
     ascii
 }
 
-// Whether a glyph is one.
-fn is_graphic(glyph: u8) -> bool
+/// Whether a glyph is one.
+pub(crate) fn is_graphic(glyph: u8) -> bool
     ensures { result ≡ is_graphic glyph }
 {
     (glyph >= b' ') & (glyph < 127)
@@ -106,11 +106,9 @@ fn inked_count(screen: &Screen) -> u8
     ensures value { take result (all_rows screen.now.picture) ≡ inked_rows screen.now.picture }
 {
     screens_are_sound(screen);
-    let mut count = 0;
-    for line in 0..LINES {
-        if !is_blank(screen, line + 1) {
-            count = line + 1;
-        }
+    let mut count = LINES;
+    while count > 0 && is_blank(screen, count) {
+        count -= 1;
     }
     count
 }
@@ -124,8 +122,5 @@ fn is_blank(screen: &Screen, line: u8) -> bool
     ensures inked { result ≡ false
         → 0 < length (row_printed screen.now.picture.wide (row_at screen.now.picture.rows line)) }
 {
-    printed_row(screen.is_wide(), screen.row(line))
-        .as_bytes()
-        .len()
-        == 1
+    trimmed(cells_to_margin(screen.is_wide(), screen.row(line))).is_empty()
 }

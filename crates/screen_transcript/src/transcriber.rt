@@ -1,27 +1,32 @@
 //! A VT100 of which the rows that leave are told.
-ghost use Rattle.std.specs.Prelude.{◌≡◌, ◌<◌, ◌≤◌, List, OnOk, ℕ, false, length, slice_index, take, true};
-ghost use Rattle.std.specs.List.{list_all};
+ghost use Rattle.std.specs.Prelude.{◌≡◌, ◌<◌, ◌≤◌, ◌&&◌, ℕ, IfOk, List, OnErr, OnOk, Some, length, not, slice_index, take, true};
 ghost use Rattle.transcripts.specs.Acting.{place_in};
-ghost use Rattle.screen_transcript.specs.Home.{acts, is_empty};
-ghost use Rattle.screen_transcript.specs.Playing.{Comes, HasRoom, IsPlayed, after_acting, home_by};
-ghost use Rattle.screen_transcript.specs.Transcribed.{Transcribed, play_on};
+ghost use Rattle.transcripts.specs.Told.{Tells, TellsFront};
+ghost use Rattle.screen_transcript.specs.Home.{acts, is_empty, is_home, places};
+ghost use Rattle.screen_transcript.specs.Playing.{HasRoom, IsPlayed};
+ghost use Rattle.screen_transcript.specs.Transcribed.{Transcribed, left, play_on};
 ghost use Rattle.vt_parser.specs.declared.states.ParserState.TheVariants.{Ground};
 ghost use Rattle.vt_parser.specs.Syntax.{action_of, is_graphic};
-ghost use Rattle.vt_term.specs.Seen.{Shows};
+ghost use Rattle.vt_parser.specs.Token.{TellsOf, command_of_token};
+ghost use Rattle.vt_term.specs.Effect.{IsRead};
+ghost use Rattle.vt_term.specs.Term.{Term, mode_of, play};
 
-use crate::home::{acts, after_token, is_home};
-use crate::leaving::{Leaving, at_put, leaving_at};
+use crate::home::{acts, is_home, places};
+use crate::leaving::{Leaving, leaving_at};
+use crate::rows::{is_graphic, tell_leaving};
 use plays::{OutOfMemory, Reports};
-use transcripts::{After, Place, place_of};
-use vt_parser::{Parser, ParserState, printable_run};
+use std::io::Write;
+use tape_core::Watched;
+use transcripts::{Place, Rows, place_of};
+use vt_parser::{Parser, ParserState, Token};
 use vt_screen::Screen;
-use vt_term::Terminal;
+use vt_term::Performer;
 
 /// A VT100 or VT102 terminal that tells the rows that leave its screen.
 #[derive(Drop)]
 pub struct Transcriber {
-    pub(crate) terminal: Terminal,
-    // It stands where the terminal's own does, and tells what bytes come to before they are played.
+    pub(crate) terminal: Performer,
+    // It tells what bytes come to before the terminal obeys.
     pub(crate) parser: Parser,
     // What comes next comes directly behind home.
     pub(crate) home: bool,
@@ -29,74 +34,73 @@ pub struct Transcriber {
     pub(crate) reports: Reports,
 }
 
-/// Some bytes, at the first of which rows leave, or at the last of which they do where only that one gives a command.
-#[derive(Clone, Copy)]
-pub(crate) struct Piece {
-    pub(crate) taken: usize,
-    pub(crate) leaving: Leaving,
-    pub(crate) after: After,
-}
-
 impl Transcriber {
-    /// What the next bytes come to. The terminal still has to play them.
-    pub(crate) fn next_piece(&mut self, bytes: &[u8]) -> Piece
+    /// Plays some of the bytes, at least one, to the first at which rows leave, and tells these.
+    pub(crate) fn tell_on<W: Write>(
+        &mut self,
+        bytes: &[u8],
+        rows: &mut Rows,
+        writer: &mut Watched<W>,
+    ) -> Result<usize, OutOfMemory>
         requires { 0 < length bytes.now }
-        ensures some { 0 < result.taken }
-        ensures within { result.taken ≤ length bytes.now }
-        ensures terminal { self.new.terminal ≡ self.old.terminal }
-        ensures home { self.new.home ≡ self.old.home }
-        ensures comes { (x : Transcribed) → IsPlayed self.old x
-            → Comes x (take result.taken bytes.now) result self.new.parser }
+        ensures some { IfOk result (λ taken. 0 < taken) }
+        ensures within { IfOk result (λ taken. taken ≤ length bytes.now) }
+        ensures played { (x : Transcribed) → IsPlayed self.old x
+            → IfOk result (λ taken. IsPlayed self.new (play_on x (take taken bytes.now))) }
+        ensures tells { (x : Transcribed) → IsPlayed self.old x
+            → IfOk result (λ taken. Tells W.contents writer.old rows.old writer.new rows.new
+            (left x (take taken bytes.now))) }
+        ensures front { (x : Transcribed) → IsPlayed self.old x
+            → OnErr result (TellsFront W.contents writer.old rows.old writer.new rows.new
+            (left x bytes.now)) }
     {
-        let run = run_len(self.parser.state(), self.terminal.screen(), bytes);
-        if run > 0 {
-            return Piece {
-                taken: run,
-                leaving: at_put(self.terminal.screen()),
-                after: After::Elsewhere,
-            };
+        let mut taken = 0;
+        let mut stays = true;
+        while stays && taken < bytes.len() {
+            let (len, leaving) = self.tell_next(&bytes[taken..], rows, writer)?;
+            taken += len;
+            stays = matches!(leaving, Leaving::NoRow);
         }
-        self.next_command(bytes)
+        Ok(taken)
     }
 
-    // The same, where no characters come on ground.
-    fn next_command(&mut self, bytes: &[u8]) -> Piece
-        requires some { 0 < length bytes.now }
-        requires off { self.old.parser ≡ Ground → is_graphic (slice_index bytes.now 0) ≡ false }
-        ensures some { 0 < result.taken }
-        ensures within { result.taken ≤ length bytes.now }
-        ensures terminal { self.new.terminal ≡ self.old.terminal }
-        ensures home { self.new.home ≡ self.old.home }
-        ensures comes { (x : Transcribed) → IsPlayed self.old x
-            → Comes x (take result.taken bytes.now) result self.new.parser }
+    // The same of what the next bytes come to.
+    #[inline(always)]
+    fn tell_next<W: Write>(
+        &mut self,
+        bytes: &[u8],
+        rows: &mut Rows,
+        writer: &mut Watched<W>,
+    ) -> Result<(usize, Leaving), OutOfMemory>
+        requires { 0 < length bytes.now }
+        ensures some { IfOk result (λ told. 0 < told.0) }
+        ensures within { IfOk result (λ told. told.0 ≤ length bytes.now) }
+        ensures played { (x : Transcribed) → IsPlayed self.old x
+            → IfOk result (λ told. IsPlayed self.new (play_on x (take told.0 bytes.now))) }
+        ensures tells { (x : Transcribed) → IsPlayed self.old x
+            → IfOk result (λ told. Tells W.contents writer.old rows.old writer.new rows.new
+            (left x (take told.0 bytes.now))) }
+        ensures front { (x : Transcribed) → IsPlayed self.old x
+            → OnErr result (TellsFront W.contents writer.old rows.old writer.new rows.new
+            (left x bytes.now)) }
     {
-        let few = &bytes[..most_taken(self.home, bytes.len())];
+        let most = most_taken(
+            self.home,
+            self.parser.state(),
+            self.terminal.screen(),
+            bytes,
+        );
         let place = place_of(self.parser.state());
-        let (taken, token) = self.parser.next(self.terminal.modes().mode, few);
-        if let Some(token) = token {
-            return Piece {
-                taken,
-                leaving: leaving_at(&token, self.home, self.terminal.screen()),
-                after: after_token(&token),
-            };
-        }
-        Piece {
-            taken,
-            leaving: Leaving::NoRow,
-            after: after_nothing(place, bytes[0], is_ground(self.parser.state())),
-        }
-    }
-
-    /// Plays a piece of which it is known what it comes to.
-    pub(crate) fn play(&mut self, bytes: &[u8], piece: Piece) -> Result<(), OutOfMemory>
-        ensures { (x : Transcribed) → Shows self.old.terminal x.term → self.old.home ≡ x.home
-            → Comes x bytes.now piece self.old.parser
-            → OnOk result (IsPlayed self.new (play_on x bytes.now)) }
-    {
-        self.reports.set_place(0);
-        self.terminal.feed_in_place(bytes, &mut self.reports)?;
-        self.home = is_home_after(piece.after, self.home, self.terminal.screen());
-        Ok(())
+        let (taken, token) = self.parser.next(self.terminal.mode(), &bytes[..most]);
+        let Some(token) = token else {
+            let done = is_ground(self.parser.state());
+            self.home = stays_home(self.home, place, bytes[0], done);
+            return Ok((taken, Leaving::NoRow));
+        };
+        let leaving = leaving_at(&token, self.home, self.terminal.screen());
+        tell_leaving(leaving, self.terminal.screen(), rows, writer)?;
+        self.home = obey(&mut self.terminal, token, &mut self.reports)?;
+        Ok((taken, leaving))
     }
 
     /// Plays bytes, and tells no row.
@@ -106,44 +110,78 @@ impl Transcriber {
     {
         let mut rest = bytes;
         while !rest.is_empty() {
-            let piece = self.next_piece(rest);
-            self.play(&rest[..piece.taken], piece)?;
-            rest = &rest[piece.taken..];
+            let taken = self.pass_next(rest)?;
+            rest = &rest[taken..];
         }
         Ok(())
     }
-}
 
-// Whether what comes next comes directly behind home.
-fn is_home_after(after: After, home: bool, screen: &Screen) -> bool
-    ensures { result ≡ home_by after home screen.now.picture }
-{
-    match after {
-        After::Kept => home,
-        After::Elsewhere => false,
-        After::Placed => is_home(screen),
+    // The same of what the next bytes come to.
+    fn pass_next(&mut self, bytes: &[u8]) -> Result<usize, OutOfMemory>
+        requires { 0 < length bytes.now }
+        ensures some { IfOk result (λ taken. 0 < taken) }
+        ensures within { IfOk result (λ taken. taken ≤ length bytes.now) }
+        ensures played { (x : Transcribed) → IsPlayed self.old x
+            → IfOk result (λ taken. IsPlayed self.new (play_on x (take taken bytes.now))) }
+    {
+        let most = most_taken(
+            self.home,
+            self.parser.state(),
+            self.terminal.screen(),
+            bytes,
+        );
+        let place = place_of(self.parser.state());
+        let (taken, token) = self.parser.next(self.terminal.mode(), &bytes[..most]);
+        let Some(token) = token else {
+            let done = is_ground(self.parser.state());
+            self.home = stays_home(self.home, place, bytes[0], done);
+            return Ok(taken);
+        };
+        self.home = obey(&mut self.terminal, token, &mut self.reports)?;
+        Ok(taken)
     }
 }
 
-// How many bytes are read at once: directly behind home it counts what each of them does.
-fn most_taken(home: bool, len: usize) -> usize
-    requires { 0 < len }
-    ensures some { 0 < result }
-    ensures within { result ≤ len }
-    ensures one { home ≡ true → result ≡ 1 }
+// Obeys a token, and says whether what comes next comes directly behind home.
+#[inline(always)]
+fn obey(terminal: &mut Performer, token: Token, reports: &mut Reports) -> Result<bool, OutOfMemory>
+    requires { IsRead token }
+    ensures played { (x : Term) (bytes : List ℕ) → x.console ≡ terminal.old
+        → TellsOf (mode_of x) (mode_of x) x.pending bytes (Some token.entry)
+        → OnOk result (terminal.new ≡ (play x bytes).console) }
+    ensures home { IfOk result (λ home. home
+        ≡ (places (command_of_token token.entry) && is_home terminal.new.picture)) }
 {
-    if home { 1 } else { len }
+    reports.set_place(0);
+    terminal.obey(token, reports)?;
+    Ok(places(&token) && is_home(terminal.screen()))
 }
 
-// What a byte without a command does, by where it comes and by whether nothing is pending then.
-fn after_nothing(place: Place, byte: u8, done: bool) -> After
+// Whether what comes next still comes directly behind home, behind a byte without a command, by where that came and by
+// whether nothing is pending then.
+fn stays_home(home: bool, place: Place, byte: u8, done: bool) -> bool
     ensures { (pending : List ℕ) → is_empty pending ≡ done
-        → result ≡ after_acting (acts (action_of (place_in place) byte) pending) }
+        → result ≡ (home && not (acts (action_of (place_in place) byte) pending)) }
 {
-    if acts(place, byte, done) {
-        After::Elsewhere
+    home && !acts(place, byte, done)
+}
+
+// How many bytes are read at once: directly behind home it counts what each of them does, and of characters on ground as
+// many as are put without a wrap, but at the first.
+fn most_taken(home: bool, state: &ParserState, screen: &Screen, bytes: &[u8]) -> usize
+    requires { 0 < length bytes.now }
+    ensures some { 0 < result }
+    ensures within { result ≤ length bytes.now }
+    ensures one { home ≡ true → result ≡ 1 }
+    ensures room { 1 < result → state.now ≡ Ground
+        → is_graphic (slice_index bytes.now 0) ≡ true → HasRoom screen.now.picture result }
+{
+    if home {
+        1
+    } else if is_ground(state) && is_graphic(bytes[0]) {
+        bytes.len().min(room_for(screen))
     } else {
-        After::Kept
+        bytes.len()
     }
 }
 
@@ -152,23 +190,6 @@ fn is_ground(state: &ParserState) -> bool
     ensures other { state.now ≡ Ground → result ≡ true }
 {
     matches!(state, ParserState::Ground)
-}
-
-// How many characters come on ground and are put without a wrap, but at the first.
-fn run_len(state: &ParserState, screen: &Screen, bytes: &[u8]) -> usize
-    requires { 0 < length bytes.now }
-    ensures within { result ≤ length bytes.now }
-    ensures graphic { list_all is_graphic (take result bytes.now) ≡ true }
-    ensures ground { 0 < result → state.now ≡ Ground }
-    ensures room { 0 < result → HasRoom screen.now.picture result }
-    ensures none { result ≡ 0 → state.now ≡ Ground
-        → is_graphic (slice_index bytes.now 0) ≡ false }
-{
-    if !is_ground(state) {
-        return 0;
-    }
-    let room = room_for(screen);
-    printable_run(&bytes[..bytes.len().min(room)])
 }
 
 // How many characters at most are put so.

@@ -1,5 +1,5 @@
 //! The terminal tells which rows leave it, as every one does of which a transcript is written.
-use crate::rows::{tell_leaving, tell_rows};
+use crate::rows::tell_rows;
 use crate::transcriber::Transcriber;
 use plays::{OutOfMemory, Reports};
 use std::alloc::{AllocError, Global};
@@ -8,7 +8,7 @@ use tape_core::Watched;
 use transcripts::{Rows, Transcribes};
 use vt_parser::Parser;
 use vt_screen::limits::LINES;
-use vt_term::{Profile, Terminal};
+use vt_term::{Performer, Profile};
 
 impl Transcribes for Transcriber {
     type Profile = Profile;
@@ -24,7 +24,7 @@ impl Transcribes for Transcriber {
 
     fn reset(alloc: Global, profile: Profile) -> Result<Self, AllocError> {
         Ok(Transcriber {
-            terminal: Terminal::reset_as(profile),
+            terminal: Performer::reset_as(profile),
             parser: Parser::new(),
             home: false,
             reports: Reports::new(alloc),
@@ -37,10 +37,8 @@ impl Transcribes for Transcriber {
         rows: &mut Rows,
         writer: &mut Watched<W>,
     ) -> Result<usize, OutOfMemory> {
-        let piece = self.next_piece(bytes);
-        tell_leaving(piece.leaving, self.terminal.screen(), rows, writer)?;
-        self.play(&bytes[..piece.taken], piece)?;
-        Ok(piece.taken)
+        let taken = self.tell_on(bytes, rows, writer)?;
+        Ok(taken)
     }
 
     fn pass(&mut self, bytes: &[u8]) -> Result<(), OutOfMemory> {

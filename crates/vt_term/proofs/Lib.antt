@@ -1,8 +1,9 @@
-mod Safe
-mod Steps
+pub mod Safe
+pub mod Steps
 mod Bound
 mod Runs
 mod Taken
 mod Feeding
-mod Printed
+pub mod Printed
 pub mod Rowless
+pub mod Obeyed

@@ -49,7 +49,7 @@ acts s reports bytes command finishes =
     (after.0 ∙ ap (λ (p : List ℕ). let x : Term = record { console = effect command s; pending = p; reports = reports ++ reply command s } in x) (finishes mode).1, after.1)
 
 -- a command without a reply
-brings_effect : (s : Console) (bytes : List ℕ) (command : Command) → Finishes s.modes.mode bytes (Some command) → reply command s ≡ []
+pub brings_effect : (s : Console) (bytes : List ℕ) (command : Command) → Finishes s.modes.mode bytes (Some command) → reply command s ≡ []
     → Brings s bytes (effect command s)
 brings_effect s bytes command finishes silent = record {
   played = λ reports.

@@ -1,16 +1,12 @@
 -- What the terminal shows and sends after bytes that the parser takes.
-use Rattle.std.proofs.Common.{◌≡◌, ℕ, Bool, true, List, [], ◌∷◌, map, refl, sym, ap, subst, ◌∙◌}
+use Rattle.std.proofs.Common.{◌≡◌, ℕ, Bool, List, [], map, refl, sym, ap, subst, ◌∙◌}
 use Rattle.std.specs.Prelude.{Option, Some, None}
-use Rattle.std.specs.List.{list_all}
-use Rattle.std.proofs.lemmas.Bool.{and_parts}
 use Rattle.vt_parser.specs.declared.commands.Mode.{Mode}
 use Rattle.vt_parser.specs.declared.states.ParserState.{ParserState}
 use Rattle.vt_parser.specs.declared.states.ParserState.TheVariants.{Ground}
 use Rattle.vt_parser.specs.declared.commands.Token.{Token}
 use Rattle.vt_parser.specs.declared.commands.Token.TheVariants.{Show}
-use Rattle.vt_parser.specs.Syntax.{is_graphic}
 use Rattle.vt_parser.specs.View.{parser_view}
-use Rattle.vt_parser.specs.Step.{mode_after}
 use Rattle.vt_parser.specs.Fold.{mode_after_bytes, pending_after_bytes}
 use Rattle.vt_parser.specs.Token.{command_of_token, IsRun, TellsOf, Leads}
 use Rattle.vt_term.specs.declared.profile.Profile.{Profile}
@@ -20,8 +16,8 @@ use Rattle.vt_term.specs.Effect.{glyphs_shown, glyph_for, token_effect, token_re
 use Rattle.vt_term.specs.Term.{Term, reset_term_as, mode_of, play, sent}
 use Rattle.vt_term.specs.Seen.{Seen, Shows, IsTerminal}
 use Rattle.vt_parser.proofs.Agrees.{ground_is_empty}
-use Rattle.vt_parser.proofs.LawLemmas.{graphic_is_shown}
 use Rattle.vt_term.specs.Printing.{on_ground}
+use Rattle.vt_term.proofs.Obeyed.{run_leaves_nothing}
 use Rattle.vt_term.proofs.Printed.{characters_bring}
 use Rattle.vt_term.proofs.Safe.{safe_reset}
 use Rattle.vt_term.proofs.Steps.{term, mode_shown, mode_stays, shows_given, safe_play}
@@ -40,13 +36,6 @@ pub seen_is : (console told : Console) (state stands : ParserState) (touched : L
 seen_is console told state stands touched console_same state_same = cc
 
 -- ---- what the parser takes
-
-run_leaves_nothing : (given mode : Mode) (bytes : List ℕ) → list_all is_graphic bytes ≡ true → pending_after_bytes given mode [] bytes ≡ []
-run_leaves_nothing given mode [] graphic = refl
-run_leaves_nothing given mode (byte ∷ rest) graphic =
-    let parts = and_parts (is_graphic byte) (list_all is_graphic rest) graphic in
-    ap (λ (p : List ℕ). pending_after_bytes given (mode_after given mode byte) p rest) (graphic_is_shown mode byte parts.0).1
-    ∙ run_leaves_nothing given (mode_after given mode byte) rest parts.1
 
 shows_many : (seen : Seen) (x : Term) (bytes run : List ℕ) (state : ParserState) (touched : List Bool) → Shows seen x
     → IsRun x.pending bytes run → Leads seen.state seen.console.modes.mode bytes state

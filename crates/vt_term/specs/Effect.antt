@@ -1,9 +1,11 @@
 -- What a command does to a terminal, and what the terminal replies.
-use Rattle.std.specs.Prelude.{ℕ, ◌≤◌, Bool, true, false, List, [], map, fold, All, if◌then◌else◌}
+use Rattle.std.specs.Prelude.{◌≡◌, ℕ, ◌≤◌, Bool, true, false, List, [], map, fold, All, if◌then◌else◌}
+use Rattle.std.specs.List.{list_all}
 use Rattle.vt_parser.specs.declared.commands.Command.{Command}
 use Rattle.vt_parser.specs.declared.commands.Command.TheVariants.{Show, Error, Control, Esc, Csi, Vt52, Vt52Address}
 use Rattle.vt_parser.specs.declared.commands.Token.{Token}
 use Rattle.vt_parser.specs.declared.commands.Token.TheVariants as token
+use Rattle.vt_parser.specs.Syntax.{is_graphic}
 use Rattle.vt_parser.specs.Token.{command_of_token}
 use Rattle.vt_parser.specs.Law.{IsProper}
 use Rattle.vt_screen.specs.Attributes.{Attributes}
@@ -88,3 +90,8 @@ token_reply other s = reply (command_of_token other) s
 abbrev pub IsProperToken : Token → Type 0
 IsProperToken (token.Show run) = All (λ byte. byte ≤ last_glyph) run.now
 IsProperToken other = IsProper (command_of_token other)
+
+-- a token as a parser tells it: its characters are graphic, its numbers in their ranges
+abbrev pub IsRead : Token → Type 0
+IsRead (token.Show run) = list_all is_graphic run.now ≡ true
+IsRead other = IsProper (command_of_token other)

@@ -11,7 +11,7 @@ use vt_parser::Mode;
 
 impl Console {
     /// Does what a control character asks for.
-    #[inline]
+    #[inline(always)]
     pub(crate) fn control(&mut self, byte: u8)
         ensures done { console_of self.new
             ≡ effect_of control_effect (named controls byte) (console_of self.old) }

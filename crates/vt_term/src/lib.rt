@@ -10,6 +10,7 @@ mod controls;
 mod escapes;
 pub mod laws;
 mod modes;
+mod performer;
 pub mod played;
 mod playing;
 mod private_modes;
@@ -22,6 +23,7 @@ mod terminal;
 mod vt52;
 
 pub use modes::Modes;
+pub use performer::Performer;
 pub use plays::{OutOfMemory, Reports};
 pub use profile::Profile;
 pub use saved::Saved;

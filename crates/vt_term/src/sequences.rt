@@ -46,7 +46,7 @@ fn rendition_set(rendition: Rendition, param: u16) -> Rendition
 impl Console {
     /// Sends the reply to a control sequence without `?`, and does what it asks for. A refused growth changes
     /// nothing.
-    #[inline]
+    #[inline(always)]
     pub(crate) fn obey_plain_sequence(
         &mut self,
         last: u8,

@@ -114,7 +114,8 @@ impl Console {
     }
 
     /// Obeys a token that is no run, as its command.
-    #[inline]
+    // Inlined always: the terminal's loop takes a twentieth longer where it calls this.
+    #[inline(always)]
     #[tactic(auto, unfolding(crate::specs::Effect::effect, crate::specs::Effect::reply))]
     pub(crate) fn obey_token(&mut self, token: Token, sink: &mut Reports) -> Result<(), OutOfMemory>
         requires proper { IsProper (command_of_token token) }

@@ -3,18 +3,20 @@ use Rattle.std.proofs.Common.{◌≡◌, ℕ, zero, suc, ◌+◌, ◌<◌, ◌�
 use Rattle.std.specs.Prelude.{Option, Some, None, slice_index}
 use Rattle.std.specs.List.{list_all}
 use Rattle.std.proofs.lemmas.Bool.{and_parts, cases_Bool, false≢true}
+use Rattle.std.proofs.lemmas.Bool.Decides.{nat_tests}
 use Rattle.std.proofs.lemmas.List.{length-take, take-take}
 use Rattle.characters.specs.declared.utf8.Reading.TheVariants.{Character, More}
 use Rattle.characters.specs.Utf8.{begins, reading, replacement, Spells}
 use Rattle.vt_parser.specs.declared.commands.Mode.{Mode}
 use Rattle.vt_parser.specs.declared.commands.Mode.TheVariants.{Ansi}
 use Rattle.vt_parser.specs.declared.commands.Command.{Command}
+use Rattle.vt_parser.specs.declared.commands.Command.TheVariants.{Show, Error, Control, Esc, Csi, Vt52, Vt52Address}
 use Rattle.vt_parser.specs.declared.commands.Token.{Token}
 use Rattle.vt_parser.specs.declared.commands.Token.TheVariants as token
 use Rattle.vt_parser.specs.declared.states.ParserState.{ParserState}
 use Rattle.vt_parser.specs.declared.states.ParserState.TheVariants.{Ground}
 use Rattle.vt_parser.specs.declared.syntax.Context.{Context}
-use Rattle.vt_parser.specs.Syntax.{action_of, escape, is_graphic}
+use Rattle.vt_parser.specs.Syntax.{action_of, escape, is_graphic, is_within}
 use Rattle.vt_parser.specs.Forms.{is_string_begun}
 use Rattle.vt_parser.specs.Machine.{context_in}
 use Rattle.vt_parser.specs.View.{parser_view}
@@ -23,14 +25,16 @@ use Rattle.vt_parser.specs.Fold.{Gives, pending_after_bytes}
 use Rattle.vt_parser.specs.Law.{fewest_bytes, fewest_of, is_sequence}
 use Rattle.vt_parser.specs.Token.{command_of_token, Leads, TellsOf}
 use Rattle.vt_parser.proofs.Agrees.{ground_is_empty, same_context}
-use Rattle.vt_parser.proofs.LawLemmas.{finished_leaves_nothing, pending_pays}
+use Rattle.vt_parser.proofs.LawLemmas.{control_is_given, finished_leaves_nothing, pending_pays}
 use Rattle.xterm_screen.specs.Picture.{Picture}
+use Rattle.xterm_term.specs.Between.{obeyed}
 use Rattle.xterm_term.specs.Console.{Console}
+use Rattle.xterm_term.specs.Effect.{effect}
 use Rattle.xterm_term.specs.Puts.{character_for, is_c1}
 use Rattle.xterm_term.specs.Reading.{GoesOn, Stands, is_ground_state}
 use Rattle.xterm_term.specs.Seen.{Seen, Shows}
 use Rattle.xterm_term.specs.Sets.{set_in_use}
-use Rattle.xterm_term.specs.Term.{Term, ends_last, is_control, is_ground, play, syntax_read}
+use Rattle.xterm_term.specs.Term.{Term, ends_last, forgotten_if, is_control, is_ground, play, syntax_read}
 use Rattle.xterm_term.proofs.Parts.{ground_shown}
 use Rattle.xterm_term.proofs.Runs.{all_in_parts}
 use Rattle.xterm_term.proofs.Taken.{IsNoShow, gives_on, goes_front, many_modes, pending_on, same_mode}
@@ -44,9 +48,10 @@ use Rattle.xterm_transcript.specs.declared.transcriber.Transcriber.{Transcriber}
 use Rattle.transcripts.specs.Acting.{place_in}
 use Rattle.xterm_transcript.specs.Home.{acts, went_home}
 use Rattle.xterm_transcript.specs.Leaving.{leaving, leaving_first, put_leaves}
-use Rattle.xterm_transcript.specs.Playing.{Comes, HasRoom, IsPlayed, PlaysAlike, after_acting, after_command, after_put, home_by, repeated_off, told_by}
+use Rattle.xterm_transcript.specs.Playing.{Comes, HasRoom, IsPlayed, PlaysAlike, PlaysEither, PlaysToken, after_acting, after_command, after_put, home_by, repeated_off, told_by}
 use Rattle.xterm_transcript.specs.Transcribed.{Transcribed, acts_at, play_on}
 use Rattle.xterm_transcript.proofs.CommandLemmas.{Came, acting, at_made, came_escape, came_inside, came_one, made, step_is}
+use Rattle.xterm_transcript.proofs.PartLemmas.{plays_term}
 use Rattle.xterm_transcript.proofs.PutLemmas.{Puts, Waits, alien_puts, begun_waits, character_puts, first_is, last_puts, more_waits, run_puts, title_waits}
 use Rattle.xterm_transcript.proofs.RepeatLemmas.{first_stays, off_title, plays_alike, repeats, told_either}
 
@@ -422,6 +427,157 @@ many_of now bytes n k le one goes more =
 -- room for fewer
 pub room_less : (seen : Seen) (n k : ℕ) → n ≤ k → HasRoom seen k → HasRoom seen n
 room_less seen n k le has = record { writes = has.writes; ascii = has.ascii; wrap = has.wrap; room = omega (arith, has.room, le) }
+
+-- ---- what is obeyed
+
+long_sequence : (command : Command) → is_sequence command ≡ true → 2 ≤ fewest_bytes command
+long_sequence (Show byte) is = absurd cc
+long_sequence Error is = absurd cc
+long_sequence (Control byte) is = absurd cc
+long_sequence (Esc inter last) is = omega arith
+long_sequence (Csi private params last) is = omega arith
+long_sequence (Vt52 last) is = omega arith
+long_sequence (Vt52Address line column) is = omega arith
+
+-- where nothing is pending before a sequence, obeying its command is playing its bytes
+obeyed_shows : (y : Transcribed) (bytes : List ℕ) (command : Command) (state : ParserState) (seen : Seen) → y.term.console.title ≡ false
+    → y.term.character ≡ [] → Stands y.term.sequence state → 0 < length bytes → (1 < length bytes → (y.home ≡ false) × GoesOn state bytes)
+    → (y.term.sequence ≡ [] → nat_le 128 (slice_index bytes 0) ≡ false) → Gives Ansi Ansi y.term.sequence bytes (Some command) → IsNoShow (Some command)
+    → y.term.sequence ≡ [] → is_sequence command ≡ true → Shows seen (obeyed command y.term) → Shows seen (play y.term bytes)
+obeyed_shows y bytes command state seen title none stands some many low gives no_show empty whole shows =
+    let came = came_piece y bytes (Some command) state title none stands some many low gives no_show in
+    let over = ends_true bytes y.term.sequence command some gives whole (long_sequence command whole) in
+    let nothing = leaves_nothing bytes y.term.sequence command gives whole in
+    let plays = sym (plays_term y bytes) in
+    record {
+      console = ap (λ (t : Term). t.console) plays ∙ came.console ∙ ap (λ (b : Bool). forgotten_if b (effect command y.term.console)) over ∙ shows.console;
+      state = ap (λ (t : Term). parser_view Ansi t.sequence) plays ∙ ap (parser_view Ansi) (came.sequence ∙ nothing ∙ sym empty) ∙ shows.state;
+      character = ap (λ (t : Term). t.character) plays ∙ came.character ∙ sym none ∙ shows.character;
+    }
+
+either_plays : (b : Bool) (command : Command) (t : Term) (bytes : List ℕ) (seen : Seen)
+    → (b ≡ true → Shows seen (obeyed command t) → Shows seen (play t bytes)) → PlaysEither b command t bytes seen → Shows seen (play t bytes)
+either_plays true command t bytes seen obeys is = obeys refl is
+either_plays false command t bytes seen obeys is = is
+
+-- ---- a control on ground
+
+module _ (now : Transcriber) (x : Transcribed) (is : IsPlayed now x) (byte : ℕ) (title : now.terminal.console.title ≡ false)
+    (none : now.terminal.character ≡ []) (ground : now.parser ≡ Ground) (effective : is_within 8 15 byte ≡ true) where
+  not_upper : nat_le 128 byte ≡ false
+  not_upper = grind (arith, nat_tests)
+
+  not_graphic : is_graphic byte ≡ false
+  not_graphic = grind (arith, nat_tests)
+
+  control_is : is_control byte ≡ true
+  control_is = grind (arith, nat_tests)
+
+  given_then : (mode : Mode) (pending : List ℕ) → parser_view mode pending ≡ Some now.parser
+      → (command_of mode pending byte ≡ Some (Control byte)) × (pending_after mode pending byte ≡ [])
+  given_then mode pending view =
+      let empty : pending ≡ [] = ground_is_empty.1 mode pending (view ∙ ap Some ground) in
+      subst (λ (l : List ℕ). (command_of mode l byte ≡ Some (Control byte)) × (pending_after mode l byte ≡ [])) (sym empty) (control_is_given mode byte effective)
+
+  pub control_comes : (leaves : Leaving) → leaves ≡ leaving (Control byte) now.home now.terminal.console
+      → Comes x (byte ∷ []) (piece_of 1 leaves Elsewhere) now.parser
+  control_comes leaves leaves_is =
+      comes_command now x (byte ∷ []) 1 (token.Control byte) leaves Elsewhere now.parser is title none (omega arith) (λ more. absurd (omega (arith, more)))
+      (λ on. not_graphic) (λ on. not_upper) (λ mode pending view. (given_then mode pending view).0)
+      (λ mode pending view. ap (parser_view (mode_after Ansi mode byte)) (given_then mode pending view).1 ∙ ground_is_empty.0 _ ∙ ap Some (sym ground))
+      leaves_is refl
+
+  pub control_shows : (seen : Seen) → Shows seen (obeyed (Control byte) x.term) → Shows seen (play x.term (byte ∷ []))
+  control_shows seen shows =
+      let given = given_then Ansi x.term.sequence is.state in
+      let empty = ground_of now x is ground in
+      let came = came_piece x (byte ∷ []) (Some (Control byte)) now.parser (title_of now x false is title) (none_of now x is none) is.state (omega arith)
+      (λ more. absurd (omega (arith, more))) (λ on. not_upper) given.0 tt in
+      let over : ends_at x.term.sequence (byte ∷ []) ≡ true = ap (λ (l : List ℕ). ends_last l byte) empty ∙ simp control_is in
+      let plays = sym (plays_term x (byte ∷ [])) in
+      record {
+        console = ap (λ (t : Term). t.console) plays ∙ came.console ∙ ap (λ (b : Bool). forgotten_if b (effect (Control byte) x.term.console)) over
+            ∙ shows.console;
+        state = ap (λ (t : Term). parser_view Ansi t.sequence) plays ∙ ap (parser_view Ansi) (came.sequence ∙ given.1 ∙ sym empty) ∙ shows.state;
+        character = ap (λ (t : Term). t.character) plays ∙ came.character ∙ sym (none_of now x is none) ∙ shows.character;
+      }
+
+-- ---- some of the bytes, as the parser takes them
+
+module _ (now : Transcriber) (x : Transcribed) (is : IsPlayed now x) (bytes : List ℕ) (most n : ℕ) (state : ParserState)
+    (title : now.terminal.console.title ≡ false) (none : now.terminal.character ≡ []) (some : 0 < n) (within : n ≤ length (take most bytes))
+    (one : now.home ≡ true → most ≡ 1) (goes : 1 < most → GoesOn now.parser (take most bytes))
+    (low : now.parser ≡ Ground → nat_le 128 (slice_index bytes 0) ≡ false) (leads : Leads now.parser Ansi (take n (take most bytes)) state) where
+  few : n ≤ most
+  few = omega (arith, within, length-take most bytes)
+
+  taken : take n (take most bytes) ≡ take n bytes
+  taken = take-take n most bytes few
+
+  long : 0 < length (take n bytes)
+  long = omega (arith, length-take n bytes, length-take most bytes, within, some)
+
+  many : 1 < length (take n bytes) → (now.home ≡ false) × GoesOn now.parser (take n bytes)
+  many = many_of now bytes n most few one goes
+
+  lower : now.parser ≡ Ground → nat_le 128 (slice_index (take n bytes) 0) ≡ false
+  lower on = ap (nat_le 128) (first_of n bytes some) ∙ low on
+
+  led : Leads now.parser Ansi (take n bytes) state
+  led = subst (λ l. Leads now.parser Ansi l state) taken leads
+
+  module _ (it : Token) (off : now.parser ≡ Ground → is_graphic (slice_index bytes 0) ≡ false)
+      (told : (mode : Mode) (pending : List ℕ) → parser_view mode pending ≡ Some now.parser → TellsOf Ansi mode pending (take n (take most bytes)) (Some it)) where
+    offer : now.parser ≡ Ground → is_graphic (slice_index (take n bytes) 0) ≡ false
+    offer on = ap is_graphic (first_of n bytes some) ∙ off on
+
+    tells : (mode : Mode) (pending : List ℕ) → parser_view mode pending ≡ Some now.parser → TellsOf Ansi mode pending (take n bytes) (Some it)
+    tells mode pending view = subst (λ l. TellsOf Ansi mode pending l (Some it)) taken (told mode pending view)
+
+    pub command_next : (leaves : Leaving) (after : After) → leaves ≡ leaving (command_of_token it) now.home now.terminal.console
+        → after ≡ after_command (command_of_token it) → Comes x (take n bytes) (piece_of n leaves after) state
+    command_next leaves after leaves_is after_is =
+        comes_command now x (take n bytes) n it leaves after state is title none long many offer lower tells led leaves_is after_is
+
+    pub plays_next : (l : Leaving) (ground : Bool) (seen : Seen) → (ground ≡ true → now.parser ≡ Ground)
+        → PlaysToken ground (command_of_token it) (told_by l x.term) (take n bytes) seen → Shows seen (play (told_by l x.term) (take n bytes))
+    plays_next l ground seen grounded plays =
+        let command = command_of_token it in
+        let p = x.term.sequence in
+        let given = told_command p (take n bytes) it (tells Ansi p is.state) long (λ empty. offer (on_ground_shown now x is empty)) in
+        let title_ = title_of now x false is title in
+        let none_ = none_of now x is none in
+        let many_ : 1 < length (take n bytes) → (x.home ≡ false) × GoesOn now.parser (take n bytes) = λ more. (sym is.home ∙ (many more).0, (many more).1) in
+        let low_ = λ (empty : p ≡ []). lower (on_ground_shown now x is empty) in
+        either_plays (ground && is_sequence command) command (told_by l x.term) (take n bytes) seen
+        (λ both shows.
+        let parts = and_parts ground (is_sequence command) both in
+        let empty = ground_of now x is (grounded parts.0) in
+        elim (told_either l) [
+          | inl still ↦
+              subst (λ (t : Term). Shows seen (play t (take n bytes))) (sym (still x.term))
+              (obeyed_shows x (take n bytes) command now.parser seen title_ none_ is.state long many_ low_ given.0 given.1 empty parts.1
+              (subst (λ (t : Term). Shows seen (obeyed command t)) (still x.term) shows))
+          | inr repeated ↦
+              let k = repeated.0 in
+              let y : Transcribed = record { term = repeated_off k x.term; home = x.home } in
+              subst (λ (m : Leaving). Shows seen (play (told_by m x.term) (take n bytes))) (sym repeated.1)
+              (obeyed_shows y (take n bytes) command now.parser seen (off_title k x.term ∙ title_) none_ is.state long many_ low_ given.0 given.1 empty parts.1
+              (subst (λ (m : Leaving). Shows seen (obeyed command (told_by m x.term))) repeated.1 shows))
+        ])
+        plays
+
+  pub none_next : (place : Place) (done : Bool) (piece : Piece)
+      → ((mode : Mode) (pending : List ℕ) → parser_view mode pending ≡ Some now.parser → Gives Ansi mode pending (take n (take most bytes)) None)
+      → place_in place ≡ context_in now.parser → (done ≡ true → state ≡ Ground) → (state ≡ Ground → done ≡ true) → piece.leaving ≡ NoRow
+      → ((pending : List ℕ) → is_ground pending ≡ done → piece.after ≡ after_acting (acts (action_of (place_in place) (slice_index bytes 0)) pending))
+      → Comes x (take n bytes) piece state
+  none_next place done piece gives at ground other leaves after_is =
+      subst (λ (l : Leaving). Comes x (take n bytes) (piece_of piece.taken l piece.after) state) (sym leaves)
+      (comes_nothing now x (take n bytes) piece.taken place done piece.after state is title none long many lower
+      (λ mode pending view. subst (λ l. Gives Ansi mode pending l None) taken (gives mode pending view)) led at ground other
+      (λ pending empty.
+      after_is pending empty ∙ ap (λ byte. after_acting (acts (action_of (place_in place) byte) pending)) (sym (first_of n bytes some))))
 
 -- ---- in a title
 

@@ -1,5 +1,5 @@
 -- Private: how the code's terminal, and the parser beside it, follow a terminal of which the rows that leave are told.
-use Rattle.std.specs.Prelude.{◌≡◌, ℕ, ◌+◌, ◌≤◌, Bool, true, false, List, [], ◌∷◌, Some, if◌then◌else◌}
+use Rattle.std.specs.Prelude.{◌≡◌, ℕ, ◌+◌, ◌≤◌, Bool, true, false, ◌&&◌, List, [], ◌∷◌, Some, if◌then◌else◌}
 use Rattle.characters.specs.declared.utf8.Reading.{Reading}
 use Rattle.characters.specs.declared.utf8.Reading.TheVariants.{Broken}
 use Rattle.characters.specs.Utf8.{reading, replacement}
@@ -7,11 +7,12 @@ use Rattle.vt_parser.specs.declared.commands.Command.{Command}
 use Rattle.vt_parser.specs.declared.commands.Command.TheVariants.{Error}
 use Rattle.vt_parser.specs.declared.commands.Mode.TheVariants.{Ansi}
 use Rattle.vt_parser.specs.declared.states.ParserState.{ParserState}
+use Rattle.vt_parser.specs.Law.{is_sequence}
 use Rattle.vt_parser.specs.View.{parser_view}
 use Rattle.xterm_screen.specs.Picture.{Picture}
 use Rattle.xterm_term.specs.declared.sets.CharacterSet.TheVariants.{Ascii}
 use Rattle.xterm_term.specs.Ahead.{WritesOn}
-use Rattle.xterm_term.specs.Between.{broken_off}
+use Rattle.xterm_term.specs.Between.{broken_off, obeyed}
 use Rattle.xterm_term.specs.Console.{forgotten}
 use Rattle.xterm_term.specs.Puts.{is_c1, last_repeated, put_times}
 use Rattle.xterm_term.specs.Seen.{Seen, Shows}
@@ -75,6 +76,15 @@ told_by _ x = x
 -- what shows one behind these bytes shows the other
 abbrev pub PlaysAlike : Term → Term → List ℕ → Type 0
 PlaysAlike t u bytes = (seen : Seen) → Shows seen (play t bytes) → Shows seen (play u bytes)
+
+-- a command was obeyed, or else its bytes were played
+abbrev pub PlaysEither : Bool → Command → Term → List ℕ → Seen → Type 0
+PlaysEither true command t bytes seen = Shows seen (obeyed command t)
+PlaysEither false command t bytes seen = Shows seen (play t bytes)
+
+-- the command of a sequence is obeyed where nothing was pending before it
+abbrev pub PlaysToken : Bool → Command → Term → List ℕ → Seen → Type 0
+PlaysToken idle command = PlaysEither (idle && is_sequence command) command
 
 -- ---- a character that is broken off
 

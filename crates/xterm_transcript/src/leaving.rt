@@ -1,5 +1,5 @@
 //! Which rows leave a screen at its top.
-ghost use Rattle.std.specs.Prelude.{◌≡◌};
+ghost use Rattle.std.specs.Prelude.{◌≡◌, ℕ, false};
 ghost use Rattle.vt_parser.specs.Law.{IsProper};
 ghost use Rattle.vt_parser.specs.Token.{command_of_token};
 ghost use Rattle.xterm_term.specs.Controls.{controls};
@@ -65,9 +65,18 @@ pub(crate) fn at_put(character: char, terminal: &Terminal) -> Leaving
 pub(crate) fn put_leaves(character: char, terminal: &Terminal) -> bool
     ensures { result ≡ put_leaves character terminal.now.console }
 {
-    !matches!(character, '\u{80}'..='\u{9F}')
+    is_at_edge(terminal)
+        && !matches!(character, '\u{80}'..='\u{9F}')
         && wraps(width(character), terminal)
         && feed_leaves(terminal.screen())
+}
+
+// Whether a wrap is pending, or the cursor is in the last column: elsewhere no character wraps.
+fn is_at_edge(terminal: &Terminal) -> bool
+    ensures { result ≡ false → (width : ℕ) → wraps_by_width width terminal.now.console ≡ false }
+{
+    let screen = terminal.screen();
+    screen.wrap() || screen.cursor().1 == screen.columns()
 }
 
 // Whether a character of so many columns wraps.
@@ -120,10 +129,14 @@ fn at_scroll(lines: u16, screen: &Screen) -> Leaving
 fn at_control(byte: u8, screen: &Screen) -> Leaving
     ensures { result ≡ at_control (named controls byte) screen.now.picture }
 {
-    match byte {
-        10..=12 => leaving_first(feed_leaves(screen)), // LF, VT, FF
-        _ => NoRow,
-    }
+    leaving_first(control_leaves(byte, screen))
+}
+
+/// Whether row 1 leaves at a control.
+pub(crate) fn control_leaves(byte: u8, screen: &Screen) -> bool
+    ensures { leaving_first result ≡ at_control (named controls byte) screen.now.picture }
+{
+    matches!(byte, 10..=12) && feed_leaves(screen) // LF, VT, FF
 }
 
 // An escape sequence.

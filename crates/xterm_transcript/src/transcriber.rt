@@ -4,7 +4,9 @@ ghost use Rattle.std.specs.List.{list_all};
 ghost use Rattle.characters.specs.Utf8.{bytes_of};
 ghost use Rattle.transcripts.specs.Told.{Tells, TellsFront};
 ghost use Rattle.vt_parser.specs.declared.states.ParserState.TheVariants.{Ground};
-ghost use Rattle.vt_parser.specs.Syntax.{action_of, is_graphic};
+ghost use Rattle.vt_parser.specs.Law.{IsProper, is_sequence};
+ghost use Rattle.vt_parser.specs.Syntax.{action_of, is_graphic, is_within};
+ghost use Rattle.vt_parser.specs.Token.{command_of_token};
 ghost use Rattle.xterm_term.specs.declared.sets.CharacterSet.TheVariants.{Ascii};
 ghost use Rattle.xterm_term.specs.Reading.{GoesOn};
 ghost use Rattle.xterm_term.specs.Seen.{Shows};
@@ -15,18 +17,18 @@ ghost use Rattle.transcripts.specs.declared.home.After.TheVariants.{Kept};
 ghost use Rattle.xterm_transcript.specs.declared.leaving.Leaving.TheVariants.{NoRow};
 ghost use Rattle.xterm_transcript.specs.Home.{acts};
 ghost use Rattle.xterm_transcript.specs.Leaving.{leaving_first, put_leaves};
-ghost use Rattle.xterm_transcript.specs.Playing.{Comes, HasRoom, IsPlayed, PlaysAlike, after_acting, after_put, broken_rows, cut_off, home_by, is_broken, mended};
+ghost use Rattle.xterm_transcript.specs.Playing.{Comes, HasRoom, IsPlayed, PlaysAlike, PlaysToken, after_acting, after_put, broken_rows, cut_off, home_by, is_broken, mended};
 ghost use Rattle.xterm_transcript.specs.Transcribed.{Transcribed, left, play_on};
 
 use crate::home::{acts, after_token, is_home};
-use crate::leaving::{Leaving, at_put, leaving_at, put_leaves};
+use crate::leaving::{Leaving, at_put, control_leaves, leaving_at, put_leaves};
 use crate::rows::{tell_first_if, tell_leaving};
 use characters::{Begun, Reading, begins, character_at};
 use plays::{OutOfMemory, Reports};
 use std::io::Write;
 use tape_core::Watched;
 use transcripts::{After, Place, Rows, place_of};
-use vt_parser::{Mode, Parser, ParserState, printable_run};
+use vt_parser::{Mode, Parser, ParserState, Token, printable_run};
 use xterm_screen::Screen;
 use xterm_term::{CharacterSet, Slot, Terminal};
 
@@ -74,6 +76,14 @@ impl Transcriber {
             (left x bytes.now)) }
     {
         self.tell_broken(bytes[0], rows, writer)?;
+        if self.is_command(bytes[0]) {
+            if is_ground(self.parser.state()) && is_effective(bytes[0]) {
+                self.tell_control(bytes[0], rows, writer)?;
+                return Ok(1);
+            }
+            let taken = self.tell_command(bytes, rows, writer)?;
+            return Ok(taken);
+        }
         let piece = self.next_piece(bytes);
         tell_leaving(piece.leaving, &mut self.terminal, rows, writer)?;
         self.play(&bytes[..piece.taken], piece)?;
@@ -139,9 +149,14 @@ impl Transcriber {
     }
 
     /// What the next bytes come to. The terminal still has to play them.
+    #[inline(always)]
     fn next_piece(&mut self, bytes: &[u8]) -> Piece
         requires some { 0 < length bytes.now }
         requires whole { is_broken self.old.terminal.character (slice_index bytes.now 0) ≡ false }
+        requires ground { self.old.terminal.character ≡ [] → self.old.terminal.console.title ≡ false
+            → self.old.parser ≡ Ground }
+        requires upper { self.old.terminal.character ≡ [] → self.old.terminal.console.title ≡ false
+            → is_graphic (slice_index bytes.now 0) ≡ false → nat_le 128 (slice_index bytes.now 0) ≡ true }
         ensures some { 0 < result.taken }
         ensures within { result.taken ≤ length bytes.now }
         ensures terminal { self.new.terminal ≡ self.old.terminal }
@@ -155,7 +170,10 @@ impl Transcriber {
         if self.terminal.in_title() {
             return self.next_of_title(bytes[0]);
         }
-        self.next_plain(bytes)
+        if is_graphic(bytes[0]) {
+            return self.next_run(bytes);
+        }
+        self.next_upper(bytes)
     }
 
     // Behind the bytes of a character.
@@ -189,30 +207,8 @@ impl Transcriber {
         kept(1)
     }
 
-    // Where no character is begun, and no title is read.
-    fn next_plain(&mut self, bytes: &[u8]) -> Piece
-        requires some { 0 < length bytes.now }
-        requires none { self.old.terminal.character ≡ [] }
-        requires title { self.old.terminal.console.title ≡ false }
-        ensures some { 0 < result.taken }
-        ensures within { result.taken ≤ length bytes.now }
-        ensures terminal { self.new.terminal ≡ self.old.terminal }
-        ensures home { self.new.home ≡ self.old.home }
-        ensures comes { (x : Transcribed) → IsPlayed self.old x
-            → Comes x (take result.taken bytes.now) result self.new.parser }
-    {
-        if is_ground(self.parser.state()) {
-            if is_graphic(bytes[0]) {
-                return self.next_run(bytes);
-            }
-            if bytes[0] >= 128 {
-                return self.next_upper(bytes);
-            }
-        }
-        self.next_command(bytes)
-    }
-
     // A run of characters of ASCII on ground.
+    #[inline(always)]
     fn next_run(&self, bytes: &[u8]) -> Piece
         requires some { 0 < length bytes.now }
         requires graphic { is_graphic (slice_index bytes.now 0) ≡ true }
@@ -266,35 +262,131 @@ impl Transcriber {
         }
     }
 
-    // A control, a sequence or a part of one.
-    fn next_command(&mut self, bytes: &[u8]) -> Piece
+    // Whether a byte is read as a control or as one of a sequence: no character is begun, no title is read, and on ground it
+    // is no character.
+    #[inline(always)]
+    fn is_command(&self, byte: u8) -> bool
+        ensures none { result ≡ true → self.now.terminal.character ≡ [] }
+        ensures title { result ≡ true → self.now.terminal.console.title ≡ false }
+        ensures off { result ≡ true → self.now.parser ≡ Ground → is_graphic byte ≡ false }
+        ensures low { result ≡ true → self.now.parser ≡ Ground → nat_le 128 byte ≡ false }
+        ensures ground { result ≡ false → self.now.terminal.character ≡ []
+            → self.now.terminal.console.title ≡ false → self.now.parser ≡ Ground }
+        ensures upper { result ≡ false → self.now.terminal.character ≡ []
+            → self.now.terminal.console.title ≡ false → is_graphic byte ≡ false
+            → nat_le 128 byte ≡ true }
+    {
+        if self.is_in_character() || self.terminal.in_title() {
+            return false;
+        }
+        !is_ground(self.parser.state()) || !(is_graphic(byte) || byte >= 128)
+    }
+
+    // Obeys a control on ground, and tells the row that leaves at it.
+    #[inline(always)]
+    fn tell_control<W: Write>(
+        &mut self,
+        byte: u8,
+        rows: &mut Rows,
+        writer: &mut Watched<W>,
+    ) -> Result<(), OutOfMemory>
+        requires effective { is_within 8 15 byte ≡ true }
+        requires ground { self.old.parser ≡ Ground }
+        requires none { self.old.terminal.character ≡ [] }
+        requires title { self.old.terminal.console.title ≡ false }
+        ensures played { (x : Transcribed) → IsPlayed self.old x
+            → OnOk result (IsPlayed self.new (play_on x (byte ∷ []))) }
+        ensures tells { (x : Transcribed) → IsPlayed self.old x
+            → OnOk result (Tells W.contents writer.old rows.old writer.new rows.new
+            (left x (byte ∷ []))) }
+        ensures front { (x : Transcribed) → IsPlayed self.old x
+            → OnErr result (TellsFront W.contents writer.old rows.old writer.new rows.new
+            (left x (byte ∷ []))) }
+    {
+        let leaves = control_leaves(byte, self.terminal.screen());
+        tell_first_if(leaves, self.terminal.screen(), rows, writer)?;
+        self.reports.set_place(0);
+        self.terminal.obey(Token::Control(byte), &mut self.reports)?;
+        self.home = false;
+        Ok(())
+    }
+
+    // Plays a control, a sequence or a part of one, and tells the rows that leave at it.
+    #[inline(always)]
+    fn tell_command<W: Write>(
+        &mut self,
+        bytes: &[u8],
+        rows: &mut Rows,
+        writer: &mut Watched<W>,
+    ) -> Result<usize, OutOfMemory>
         requires some { 0 < length bytes.now }
         requires off { self.old.parser ≡ Ground → is_graphic (slice_index bytes.now 0) ≡ false }
         requires low { self.old.parser ≡ Ground → nat_le 128 (slice_index bytes.now 0) ≡ false }
         requires none { self.old.terminal.character ≡ [] }
         requires title { self.old.terminal.console.title ≡ false }
-        ensures some { 0 < result.taken }
-        ensures within { result.taken ≤ length bytes.now }
-        ensures terminal { self.new.terminal ≡ self.old.terminal }
-        ensures home { self.new.home ≡ self.old.home }
-        ensures comes { (x : Transcribed) → IsPlayed self.old x
-            → Comes x (take result.taken bytes.now) result self.new.parser }
+        ensures some { IfOk result (λ taken. 0 < taken) }
+        ensures within { IfOk result (λ taken. taken ≤ length bytes.now) }
+        ensures played { (x : Transcribed) → IsPlayed self.old x
+            → IfOk result (λ taken. IsPlayed self.new (play_on x (take taken bytes.now))) }
+        ensures tells { (x : Transcribed) → IsPlayed self.old x
+            → IfOk result (λ taken. Tells W.contents writer.old rows.old writer.new rows.new
+            (left x (take taken bytes.now))) }
+        ensures front { (x : Transcribed) → IsPlayed self.old x
+            → OnErr result (TellsFront W.contents writer.old rows.old writer.new rows.new
+            (left x bytes.now)) }
     {
-        let few = &bytes[..most_taken(self.home, self.parser.state(), bytes)];
+        let most = most_taken(self.home, self.parser.state(), bytes);
         let place = place_of(self.parser.state());
-        let (taken, token) = self.parser.next(Mode::Ansi, few);
-        if let Some(token) = token {
-            return Piece {
-                taken,
-                leaving: leaving_at(&token, self.home, &self.terminal),
-                after: after_token(&token),
-            };
-        }
-        Piece {
-            taken,
-            leaving: Leaving::NoRow,
-            after: after_nothing(place, bytes[0], is_ground(self.parser.state())),
-        }
+        let ground = is_ground(self.parser.state());
+        let (taken, token) = self.parser.next(Mode::Ansi, &bytes[..most]);
+        let Some(token) = token else {
+            let done = is_ground(self.parser.state());
+            self.play(&bytes[..taken], none_piece(taken, place, bytes[0], done))?;
+            return Ok(taken);
+        };
+        let leaving = leaving_at(&token, self.home, &self.terminal);
+        tell_leaving(leaving, &mut self.terminal, rows, writer)?;
+        play_token(
+            &mut self.terminal,
+            token,
+            ground,
+            &bytes[..taken],
+            &mut self.reports,
+        )?;
+        self.home = is_home_after(after_token(&token), self.home, self.terminal.screen());
+        Ok(taken)
+    }
+
+    // The same, and tells none.
+    fn pass_command(&mut self, bytes: &[u8]) -> Result<usize, OutOfMemory>
+        requires some { 0 < length bytes.now }
+        requires off { self.old.parser ≡ Ground → is_graphic (slice_index bytes.now 0) ≡ false }
+        requires low { self.old.parser ≡ Ground → nat_le 128 (slice_index bytes.now 0) ≡ false }
+        requires none { self.old.terminal.character ≡ [] }
+        requires title { self.old.terminal.console.title ≡ false }
+        ensures some { IfOk result (λ taken. 0 < taken) }
+        ensures within { IfOk result (λ taken. taken ≤ length bytes.now) }
+        ensures played { (x : Transcribed) → IsPlayed self.old x
+            → IfOk result (λ taken. IsPlayed self.new (play_on x (take taken bytes.now))) }
+    {
+        let most = most_taken(self.home, self.parser.state(), bytes);
+        let place = place_of(self.parser.state());
+        let ground = is_ground(self.parser.state());
+        let (len, token) = self.parser.next(Mode::Ansi, &bytes[..most]);
+        let Some(token) = token else {
+            let done = is_ground(self.parser.state());
+            self.play(&bytes[..len], none_piece(len, place, bytes[0], done))?;
+            return Ok(len);
+        };
+        play_token(
+            &mut self.terminal,
+            token,
+            ground,
+            &bytes[..len],
+            &mut self.reports,
+        )?;
+        self.home = is_home_after(after_token(&token), self.home, self.terminal.screen());
+        Ok(len)
     }
 
     /// Plays a piece of which it is known what it comes to.
@@ -317,12 +409,70 @@ impl Transcriber {
     {
         let mut rest = bytes;
         while !rest.is_empty() {
-            self.break_if(rest[0]);
-            let piece = self.next_piece(rest);
-            self.play(&rest[..piece.taken], piece)?;
-            rest = &rest[piece.taken..];
+            let taken = self.pass_next(rest)?;
+            rest = &rest[taken..];
         }
         Ok(())
+    }
+
+    // The same of some of the bytes.
+    fn pass_next(&mut self, bytes: &[u8]) -> Result<usize, OutOfMemory>
+        requires { 0 < length bytes.now }
+        ensures some { IfOk result (λ taken. 0 < taken) }
+        ensures within { IfOk result (λ taken. taken ≤ length bytes.now) }
+        ensures played { (x : Transcribed) → IsPlayed self.old x
+            → IfOk result (λ taken. IsPlayed self.new (play_on x (take taken bytes.now))) }
+    {
+        self.break_if(bytes[0]);
+        if self.is_command(bytes[0]) {
+            let taken = self.pass_command(bytes)?;
+            return Ok(taken);
+        }
+        let piece = self.next_piece(bytes);
+        self.play(&bytes[..piece.taken], piece)?;
+        Ok(piece.taken)
+    }
+}
+
+// Plays the bytes of a token. Where nothing is pending before and behind a sequence, the terminal obeys the token.
+fn play_token(
+    terminal: &mut Terminal,
+    token: Token,
+    idle: bool,
+    bytes: &[u8],
+    reports: &mut Reports,
+) -> Result<(), OutOfMemory>
+    requires { IsProper (command_of_token token) }
+    ensures { (t : Term) → Shows terminal.old t
+        → OnOk result (PlaysToken idle (command_of_token token.entry) t bytes.now terminal.new) }
+{
+    reports.set_place(0);
+    if idle && is_sequence(&token) {
+        terminal.obey(token, reports)?;
+    } else {
+        terminal.feed_in_place(bytes, reports)?;
+    }
+    Ok(())
+}
+
+// Whether a token is that of a sequence.
+fn is_sequence(token: &Token) -> bool
+    ensures { result ≡ is_sequence (command_of_token token.now) }
+{
+    !matches!(token, Token::Show(_) | Token::Error | Token::Control(_))
+}
+
+// What bytes without a command come to, by where the first one comes and by whether nothing is pending then.
+fn none_piece(taken: usize, place: Place, byte: u8, done: bool) -> Piece
+    ensures taken { result.taken ≡ taken }
+    ensures leaving { result.leaving ≡ NoRow }
+    ensures after { (pending : List ℕ) → is_ground pending ≡ done
+        → result.after ≡ after_acting (acts (action_of (place_in place) byte) pending) }
+{
+    Piece {
+        taken,
+        leaving: Leaving::NoRow,
+        after: after_nothing(place, byte, done),
     }
 }
 
@@ -399,6 +549,13 @@ fn is_ground(state: &ParserState) -> bool
     ensures other { state.now ≡ Ground → result ≡ true }
 {
     matches!(state, ParserState::Ground)
+}
+
+// A control that has an effect.
+fn is_effective(byte: u8) -> bool
+    ensures { result ≡ is_within 8 15 byte }
+{
+    matches!(byte, 8..=15)
 }
 
 // A graphic character of ASCII.

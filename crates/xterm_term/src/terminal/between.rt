@@ -1,13 +1,19 @@
 //! What is done to a terminal between bytes.
-ghost use Rattle.std.specs.Prelude.{◌≡◌, ◌<◌, ◌≤◌, [], length};
+ghost use Rattle.std.specs.Prelude.{◌≡◌, ◌<◌, ◌≤◌, [], length, OnOk};
 ghost use Rattle.characters.specs.Utf8.{reading};
-ghost use Rattle.xterm_term.specs.Between.{broken_off, character_put, last_forgotten};
+ghost use Rattle.plays.specs.Sink.{after_sending};
+ghost use Rattle.vt_parser.specs.Law.{IsProper};
+ghost use Rattle.vt_parser.specs.Token.{command_of_token};
+ghost use Rattle.xterm_term.specs.Between.{broken_off, character_put, last_forgotten, obeyed};
+ghost use Rattle.xterm_term.specs.Effect.{reply};
 ghost use Rattle.xterm_term.specs.Puts.{character_for};
 ghost use Rattle.xterm_term.specs.SameSize.{SameSize};
 
 use crate::below::laws_below;
 use crate::terminal::Terminal;
+use crate::{OutOfMemory, Reports};
 use characters::{Decoder, Reading};
+use vt_parser::Token;
 
 impl Terminal {
     ghost use Rattle.xterm_term.specs.Seen.{Shows};
@@ -36,6 +42,21 @@ impl Terminal {
         ensures size { SameSize self.old.console self.new.console }
     {
         self.console.forget_if(true);
+    }
+
+    /// Obeys a control or a sequence that a parser beside it read, and sends the reply to it. What is pending stays.
+    #[inline]
+    pub fn obey(&mut self, token: Token, sink: &mut Reports) -> Result<(), OutOfMemory>
+        requires { IsProper (command_of_token token) }
+        ensures shows { (x : Term) → Shows self.old x
+            → OnOk result (Shows self.new (obeyed (command_of_token token.entry) x)) }
+        ensures sent { (x : Term) → Shows self.old x → OnOk result
+            (sink.new ≡ after_sending sink.old (reply (command_of_token token.entry) x.console)) }
+    {
+        laws_below();
+        self.console.obey_token(token, sink)?;
+        self.console.forget_if(true);
+        Ok(())
     }
 
     /// Breaks off the character that isn't finished: U+FFFD stands for its bytes.

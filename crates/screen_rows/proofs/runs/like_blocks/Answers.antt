@@ -1,4 +1,4 @@
-use Rattle.std.proofs.Common.{◌<◌, ◌≤◌, ◌∙◌, arith, inl, inr, sym}
+use Rattle.std.proofs.Common.{◌∙◌, arith, inl, inr, sym}
 use Rattle.std.proofs.lemmas.Bool.{cases_lt}
 use Rattle.vt_screen.specs.Cells.{blank}
 use Rattle.screen_rows.specs.Runs.{is_like}

@@ -1,14 +1,23 @@
-use Rattle.std.proofs.Common.{arith}
-use Rattle.screen_transcript.proofs.RowLemmas.{blank_next, inked_next}
-use Rattle.screen_transcript.proofs.rows.inked_count.Goals.{then-not-is_blank, else-not-is_blank}
+use Rattle.std.proofs.Common.{◌-◌, ◌∙◌, arith}
+use Rattle.screen_transcript.proofs.RowLemmas.{all_taken, blank_last, inked_last}
 use Rattle.screen_transcript.proofs.rows.inked_count.Goals as goal
 
-pub loop-line-preserved : goal.loop-line-preserved
-loop-line-preserved c =
-    let p = c.args.screen.now.picture in
-    let line = c.loop-line.line in
-    let within = c.loop-line.invariant.within in
-    elim c.if-not-is_blank.branch [
-      | then-not-is_blank w ↦ rw w.count-is record { within = omega arith; value = inked_next p line (omega (arith, c.screens_are_sound.ensures.rows)) (c.is_blank.ensures.inked w.if-not-is_blank.true) }
-      | else-not-is_blank w ↦ rw w.count-is record { within = omega (arith, within); value = blank_next p line c.loop-line.count (omega (arith, c.screens_are_sound.ensures.rows)) (c.is_blank.ensures.blank w.if-not-is_blank.false) c.loop-line.invariant.value }
-    ]
+pub loop-count-init : goal.loop-count-init
+loop-count-init c = record { within = omega arith; value = all_taken c.args.screen.now.picture c.screens_are_sound.ensures.rows }
+
+pub loop-count-preserved : goal.loop-count-preserved
+loop-count-preserved c =
+    let n = c.loop-count.count in
+    record {
+      within = omega (arith, c.loop-count.invariant.within);
+      value = blank_last c.args.screen.now.picture (n - 1) n (omega (arith, c.loop-count-test.true))
+          (omega (arith, c.loop-count-test.true, c.loop-count.invariant.within, c.screens_are_sound.ensures.rows)) (c.is_blank.ensures.blank c.if-is_blank.true)
+          ∙ c.loop-count.invariant.value;
+    }
+
+pub returns-else-is_blank-clause-value : goal.returns-else-is_blank-clause-value
+returns-else-is_blank-clause-value c =
+    let n = c.loop-count.count in
+    inked_last c.args.screen.now.picture (n - 1) n (omega (arith, c.loop-count-test.true))
+    (omega (arith, c.loop-count-test.true, c.loop-count.invariant.within, c.screens_are_sound.ensures.rows)) (c.is_blank.ensures.inked c.if-is_blank.false)
+    ∙ c.loop-count.invariant.value

@@ -5,4 +5,4 @@ use Rattle.screen_transcript.proofs.transcribes.TranscriberTranscribes.reset.Goa
 
 pub returns : goal.returns
 unfolding play_on
-returns c = record { shows = c.reset_as.ensures; state = ground_is_empty.0 _ ∙ ap Some (sym c.new.ensures); home = refl }
+returns c = record { console = sym c.reset_as.ensures; state = ground_is_empty.0 _ ∙ ap Some (sym c.new.ensures); home = refl }
