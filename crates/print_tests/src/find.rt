@@ -1,6 +1,6 @@
 //! Find lines.
 
-use screen_print::{find, scratch};
+use screen_print::find;
 use std::alloc::Global;
 use std::process::Abort;
 use std::rt::Runtime;
@@ -174,13 +174,12 @@ fn found(
         characters.push(character)?;
     }
     let mut writer = Watched::new(Vec::new(alloc));
-    let mut scratch = scratch(alloc)?;
     let answer = find(
+        alloc,
         &mut session,
         from,
         0,
         characters.as_slice(),
-        &mut scratch,
         &mut writer,
     );
     assert_eq!(rt; answer, Ok(()));

@@ -2,7 +2,7 @@
 
 ghost use Rattle.std.specs.Prelude.{◌<◌};
 
-use standings::{Less, Passed, Row, Standing, is_less, is_lone, keeps_all, may_pass};
+use standings::{Alone, Lag, Less, Passed, Row, Span, Standing, is_less, is_lone, may_pass};
 use std::alloc::{AllocError, Global};
 use std::process::Abort;
 use std::rt::Runtime;
@@ -62,16 +62,45 @@ impl Random {
     }
 }
 
+/// How the rows of a screen lag behind those of another, of which so many of the first came behind the others: of screens of
+/// other heights nothing is known.
+fn lag_of(one: &Standing, other: &Standing, moved: usize) -> Lag {
+    let count = one.rows.len();
+    if other.rows.len() != count || count <= moved {
+        return Lag {
+            moved: usize::MAX,
+            span: Span {
+                from: 0,
+                to: usize::MAX,
+            },
+        };
+    }
+    let mut span = Span::none();
+    for above in 0..count {
+        let row = &one.rows[(above + moved) % count];
+        let came = &other.rows[above];
+        if row.characters() != came.characters() || row.runs_on() != came.runs_on() {
+            span = span.widened(above);
+        }
+    }
+    Lag { moved, span }
+}
+
 /// Whether what is told of all places at once is what is told place by place. Counts the places that are less.
 fn is_as_told(
     alloc: Global,
     first: &Standing,
     one: &Standing,
     other: &Standing,
+    lag: Lag,
+    len: usize,
     found: &mut usize,
 ) -> bool {
-    let less = Less::of(alloc, one, other);
-    let passed = Passed::of(alloc, first, other, one, other);
+    let Ok(alone) = Alone::of(alloc, one, other, lag, len) else {
+        return false;
+    };
+    let less = Less::of(alloc, one, other, &alone);
+    let passed = Passed::of(alloc, first, other, one, other, &alone);
     let mut passes = false;
     let mut some = false;
     for at in 0..one.places.len() {
@@ -87,7 +116,7 @@ fn is_as_told(
         some |= is;
         passes |= is && is_lone(first, one, at);
     }
-    may_pass(first, one, other) == passes && !(some && keeps_all(one, other))
+    may_pass(first, one, other, &alone) == passes && !(some && alone.keeps_all(one, other))
 }
 
 #[test]
@@ -103,11 +132,27 @@ fn places_that_are_less(rt: HostRuntime) -> Result<(), Fail> {
         let rows = random.rows(rt.alloc(), one.rows.as_slice())?;
         let other = Standing::of(rt.alloc(), rows, text)?;
         assert!(rt;
-            is_as_told(rt.alloc(), &first, &one, &other, &mut found),
+            is_as_told(
+                rt.alloc(),
+                &first,
+                &one,
+                &other,
+                lag_of(&one, &other, turn % 3),
+                text.len(),
+                &mut found
+            ),
             "{turn}"
         );
         assert!(rt;
-            is_as_told(rt.alloc(), &first, &other, &one, &mut found),
+            is_as_told(
+                rt.alloc(),
+                &first,
+                &other,
+                &one,
+                lag_of(&other, &one, turn % 3),
+                text.len(),
+                &mut found
+            ),
             "{turn}"
         );
     }

@@ -41,6 +41,13 @@ turned_below : (rows others : List Row) (k : ℕ) → k + 1 < length rows → ro
 turned_below rows others k lt =
     get_or_append_left (drop 1 rows) others empty_row k (omega (arith, length-drop 1 rows)) ∙ get_or-drop 1 rows k empty_row
 
+-- a row behind those that were turned
+pub turned_front : (moved : ℕ) (rows : List Row) (k : ℕ) → moved ≤ k → k < length rows → row_below (turned moved rows) (k - moved) ≡ row_below rows k
+turned_front moved rows k low lt =
+    let behind : moved + (k - moved) ≡ k = omega arith in
+    get_or_append_left (drop moved rows) (take moved rows) empty_row (k - moved) (omega (arith, length-drop moved rows))
+    ∙ get_or-drop moved rows (k - moved) empty_row ∙ ap (row_below rows) behind
+
 -- ---- rows that lag
 
 -- all may differ

@@ -15,3 +15,5 @@ mod PairLemmas
 mod LeftLemmas
 mod SurplusLemmas
 mod LessLemmas
+mod SpeltLemmas
+mod CutLemmas

@@ -1,7 +1,8 @@
 -- Places of two screens that pair off.
-use Rattle.std.proofs.Common.{◌≡◌, ℕ, ◌+◌, ◌-◌, ◌<◌, ◌≤◌, List, ◌++◌, drop, length, nat_eq, take, cond, ap, ◌∙◌, arith}
+use Rattle.std.proofs.Common.{◌≡◌, ℕ, suc, ◌+◌, ◌-◌, ◌<◌, ◌≤◌, List, [], ◌∷◌, ◌++◌, drop, length, nat_eq, take, cond, refl, ap, ◌∙◌, arith}
 use Rattle.std.specs.Cmp.Lexicographic.{pointwise}
 use Rattle.std.proofs.lemmas.List.{take_all}
+use Rattle.std.proofs.lemmas.List.Sums.{sum_by-cons}
 use Rattle.standings.specs.Less.{PairOff}
 use Rattle.standings.specs.Rows.{Row, row_below}
 use Rattle.standings.specs.Standing.{count_left, left_of, place_at}
@@ -67,6 +68,53 @@ pair_last one other places others from there alone alones all pairs = λ left.
       count_on one alone (drop from places) left,
       ap (λ l. count_left other l left) (take_all there others all),
       pairs left,
+    )
+
+-- some pair off but for some of these
+pub pair_within : (one other : List Row) (places others some more alone alones : List Place) → PairOff one places other others some more
+    → PairOff one some other more alone alones → PairOff one places other others alone alones
+pair_within one other places others some more alone alones pairs within = λ left. omega (arith, pairs left, within left)
+
+-- all but all
+pub pair_all : (one other : List Row) (places others : List Place) (to there : ℕ) → to ≡ length places → there ≡ length others
+    → PairOff one places other others (take (to - 0) (drop 0 places)) (take (there - 0) (drop 0 others))
+pair_all one other places others to there all all' = λ left.
+    let same : take (to - 0) (drop 0 places) ≡ places = take_all (to - 0) places (omega (arith, all)) in
+    let same' : take (there - 0) (drop 0 others) ≡ others = take_all (there - 0) others (omega (arith, all')) in
+    omega (arith, ap (λ l. count_left one l left) same, ap (λ l. count_left other l left) same')
+
+-- those in rows that are the same
+count_same_rows : (one other : List Row) (places : List Place) (left : List ℕ)
+    → ((j : ℕ) → j < length places → row_below other (place_at places j).above ≡ row_below one (place_at places j).above)
+    → count_left other places left ≡ count_left one places left
+count_same_rows one other [] left same = refl
+count_same_rows one other (place ∷ places) left same =
+    let here : left_of other place ≡ left_of one place = ap (λ (r : Row). take place.before r.characters) (same 0 (omega arith)) in
+    let rest = count_same_rows one other places left (λ j lt. same (suc j) (omega (arith, lt))) in
+    omega (
+      arith,
+      sum_by-cons (λ (p : Place). cond (pointwise nat_eq (left_of one p) left) 1 0) place places,
+      sum_by-cons (λ (p : Place). cond (pointwise nat_eq (left_of other p) left) 1 0) place places,
+      ap {B = ℕ} (λ l. cond (pointwise nat_eq l left) 1 0) here,
+      rest,
+    )
+
+-- all but those between two parts that are the same on both, in rows that are
+pub pair_parts : (one other : List Row) (places others front was came rest : List Place) → places ≡ front ++ (was ++ rest) → others ≡ front ++ (came ++ rest)
+    → ((j : ℕ) → j < length front → row_below other (place_at front j).above ≡ row_below one (place_at front j).above)
+    → ((j : ℕ) → j < length rest → row_below other (place_at rest j).above ≡ row_below one (place_at rest j).above)
+    → PairOff one places other others was came
+pair_parts one other places others front was came rest is is' same same' = λ left.
+    omega (
+      arith,
+      ap (λ l. count_left one l left) is,
+      ap (λ l. count_left other l left) is',
+      count_on one front (was ++ rest) left,
+      count_on one was rest left,
+      count_on other front (came ++ rest) left,
+      count_on other came rest left,
+      count_same_rows one other front left same,
+      count_same_rows one other rest left same',
     )
 
 -- ---- kept in reading order

@@ -124,6 +124,24 @@ count_is a b n c low high first second within below ends = elim (cases_lt c (len
   ]
 ]
 
+-- so where they were passed from the last one on
+count_late : (a b : List Place) (n c low high : ℕ) → IsWithin a low n → IsWithin b n high → c ≤ length (a ++ b)
+    → (0 < c → (place_at (a ++ b) (c - 1)).above < n) → ((k : ℕ) → c ≤ k → k < length (a ++ b) → n ≤ (place_at (a ++ b) k).above) → c ≡ length a
+count_late a b n c low high first second within early late = elim (cases_lt c (length a)) [
+  | inl few ↦
+      let here = subst (λ (p : Place). n ≤ p.above) (get_or_append_left a b (place_in 0 0) c few) (late c (omega arith) (omega (arith, few, length-append a b))) in
+      absurd (omega (arith, here, first.to c few))
+  | inr enough ↦ elim (cases_lt (length a) c) [
+    | inr same ↦ omega arith
+    | inl many ↦
+        let k = c - 1 - length a in
+        let at : length a + k ≡ c - 1 = omega (arith, many) in
+        let some : k < length b = omega (arith, within, many, length-append a b) in
+        let there = subst (λ (p : Place). p.above < n) (get_or-append-add a b k (place_in 0 0)) (subst (λ m. (place_at (a ++ b) m).above < n) (sym at) (early (omega (arith, many)))) in
+        absurd (omega (arith, there, second.from k some))
+  ]
+]
+
 -- ---- where only some rows differ
 
 -- where a text stood, in three parts, and where it stands, of which only the second is another one
@@ -166,23 +184,31 @@ again text span one other start end reach stays low ends early order high all =
     }
 
 -- the parts are cut where the rows are
-pub cut_first : (text : List ℕ) (one other : List Row) (start end c : ℕ) (places : List Place) (is : IsAgain text one other start end) → start ≤ end → end ≤ length other → places ≡ standing text one
-    → c ≤ length places → ((k : ℕ) → k < c → (place_at places k).above < start) → (c < length places → start ≤ (place_at places c).above) → c ≡ length is.front
-cut_first text one other start end c places is order high same within below ends =
-    let cut = same ∙ is.before in
-    count_is is.front (is.was ++ is.rest) start c 0 (length other) is.front_rows
-    (within_both is.was is.rest start (length other)
-    (within_more is.was start end start (length other) (omega arith) high is.was_rows) (within_more is.rest end (length other) start (length other) order (omega arith) is.rest_rows))
-    (subst (λ l. c ≤ length l) cut within) (subst (λ l. (k : ℕ) → k < c → (place_at l k).above < start) cut below) (subst (λ l. c < length l → start ≤ (place_at l c).above) cut ends)
-
-pub cut_second : (text : List ℕ) (one other : List Row) (start end c : ℕ) (places : List Place) (is : IsAgain text one other start end) → start ≤ end → end ≤ length other → places ≡ standing text one
-    → c ≤ length places → ((k : ℕ) → k < c → (place_at places k).above < end) → (c < length places → end ≤ (place_at places c).above) → c ≡ length (is.front ++ is.was)
-cut_second text one other start end c places is order high same within below ends =
+pub late_second : (text : List ℕ) (one other : List Row) (start end c : ℕ) (places : List Place) (is : IsAgain text one other start end) → start ≤ end → end ≤ length other → places ≡ standing text one
+    → c ≤ length places → (0 < c → (place_at places (c - 1)).above < end) → ((k : ℕ) → c ≤ k → k < length places → end ≤ (place_at places k).above) → c ≡ length (is.front ++ is.was)
+late_second text one other start end c places is order high same within early late =
     let cut = same ∙ is.before ∙ sym (append_assoc is.front is.was is.rest) in
-    count_is (is.front ++ is.was) is.rest end c 0 (length other)
+    count_late (is.front ++ is.was) is.rest end c 0 (length other)
     (within_both is.front is.was 0 end (within_more is.front 0 start 0 end (omega arith) order is.front_rows) (within_more is.was start end 0 end (omega arith) (omega arith) is.was_rows))
     is.rest_rows
-    (subst (λ l. c ≤ length l) cut within) (subst (λ l. (k : ℕ) → k < c → (place_at l k).above < end) cut below) (subst (λ l. c < length l → end ≤ (place_at l c).above) cut ends)
+    (subst (λ l. c ≤ length l) cut within) (subst (λ l. 0 < c → (place_at l (c - 1)).above < end) cut early) (subst (λ l. (k : ℕ) → c ≤ k → k < length l → end ≤ (place_at l k).above) cut late)
+
+pub late_first : (text : List ℕ) (one other : List Row) (start end c : ℕ) (places : List Place) (is : IsAgain text one other start end) → start ≤ end → end ≤ length other → places ≡ standing text one
+    → c ≤ length places → (0 < c → (place_at places (c - 1)).above < start) → ((k : ℕ) → c ≤ k → k < length places → start ≤ (place_at places k).above) → c ≡ length is.front
+late_first text one other start end c places is order high same within early late =
+    let cut = same ∙ is.before in
+    count_late is.front (is.was ++ is.rest) start c 0 (length other) is.front_rows
+    (within_both is.was is.rest start (length other)
+    (within_more is.was start end start (length other) (omega arith) high is.was_rows) (within_more is.rest end (length other) start (length other) order (omega arith) is.rest_rows))
+    (subst (λ l. c ≤ length l) cut within) (subst (λ l. 0 < c → (place_at l (c - 1)).above < start) cut early) (subst (λ l. (k : ℕ) → c ≤ k → k < length l → start ≤ (place_at l k).above) cut late)
+
+-- and the first ones are counted among those up to the second cut
+pub late_both : (text : List ℕ) (one other : List Row) (start end from to : ℕ) (places : List Place) (is : IsAgain text one other start end) → start ≤ end → end ≤ length other → places ≡ standing text one
+    → to ≤ length places → ((k : ℕ) → to ≤ k → k < length places → end ≤ (place_at places k).above)
+    → from ≤ to → (0 < from → (place_at places (from - 1)).above < start) → ((k : ℕ) → from ≤ k → k < to → start ≤ (place_at places k).above) → from ≡ length is.front
+late_both text one other start end from to places is below high was within late order early' late' =
+    late_first text one other start end from places is below high was (omega (arith, order, within)) early'
+    (λ k at lt. elim (cases_lt k to) [ inl inside ↦ late' k at inside | inr behind ↦ omega (arith, late k behind lt, below) ])
 
 -- what is left when the second part was taken out, put behind the others and turned
 pub put_again : (front was rest new places left pushed turned : List Place) (kept behind count : ℕ) → places ≡ front ++ (was ++ rest) → kept ≡ length front → behind ≡ length (front ++ was)

@@ -1,10 +1,10 @@
 -- Rows, lines and places, one more at a time.
 use Rattle.std.proofs.Common.{◌≡◌, ◌≢◌, ℕ, zero, suc, ◌+◌, ◌-◌, ◌<◌, ◌≤◌, Bool, true, false, List, [], ◌∷◌, ◌++◌, length, take, drop, get_or, nat_eq, nat_le, refl, ap, sym, ◌∙◌, arith, append_assoc, append-nil, cond, inl, inr}
 use Rattle.std.specs.List.{range_with_len, starts_with}
-use Rattle.std.proofs.lemmas.Bool.{and_parts, cases_Bool, eq-eqb, eqb-true, false≢true, le-leb, lt-leb, ne_eqb, true≢false}
+use Rattle.std.proofs.lemmas.Bool.{and_parts, cases_Bool, cases_lt, eq-eqb, eqb-true, false≢true, le-leb, lt-leb, ne_eqb, true≢false}
 use Rattle.std.proofs.lemmas.Bool.Decides.{Decides-eqb}
 use Rattle.std.proofs.lemmas.Slice.Eq.{slice_eq-Decides}
-use Rattle.std.proofs.lemmas.List.{drop-append-le, drop_all, drop_more, length-take}
+use Rattle.std.proofs.lemmas.List.{drop-append-le, drop_all, drop_more, get_or_past, length-take}
 use Rattle.standings.specs.Near.{places_part}
 use Rattle.standings.specs.Rows.{Row, empty_row, row_below}
 use Rattle.standings.specs.Standing.{begins, line_text, place_in, places_from, places_in}
@@ -48,6 +48,15 @@ pub reaching_all : (rows : List Row) (at n : ℕ) (text whole : List ℕ) → le
 unfolding rows_reaching
 reaching_all rows at n text whole past before =
     sym (append-nil text) ∙ ap (λ l. text ++ rows_reaching n l) (sym (drop_all at rows past)) ∙ before
+
+-- one row reaches, where it has so many characters
+pub reaching_one : (rows : List Row) (at n : ℕ) → n ≤ length (row_below rows at).characters → rows_reaching n (drop at rows) ≡ (row_below rows at).characters
+reaching_one rows at n fits =
+    let whole = rows_reaching n (drop at rows) in
+    elim (cases_lt at (length rows)) [
+      | inl lt ↦ sym (reaching_end rows at n [] whole lt fits refl)
+      | inr past ↦ sym (reaching_all rows at n [] whole past refl) ∙ ap (λ (r : Row). r.characters) (sym (get_or_past rows at empty_row past))
+    ]
 
 -- ---- where a text begins
 

@@ -37,6 +37,10 @@ is_last row rows places surplus n =
     let left = left_of rows (place_at places n) in
     starts_with nat_eq row left && nat_le (count_left rows (drop n places) left) (for_left surplus left)
 
+-- of so many places each is told of, or none is
+abbrev pub HasAll : Less → ℕ → Type 0
+HasAll less count = IfSome less.told (λ told. length told.items ≡ count)
+
 -- it is told of each place whether it is less on the other screen, or of none
 abbrev pub IsTold : Less → List Row → List Place → List Row → List Place → Type 0
 IsTold less one places other others =
@@ -55,6 +59,10 @@ abbrev pub has_passed : List Row → List Place → List Row → List Place → 
 has_passed first firsts last lasts one places other others n =
     let left = left_of one (place_at places n) in
     (is_lone first firsts left && is_lone last lasts left) && is_less one places other others n
+
+-- of so many places each is told of, or none is
+abbrev pub HasEach : Passed → ℕ → Type 0
+HasEach passed count = IfSome passed.told (λ told. length told.items ≡ count)
 
 -- it is told of each place whether it passed, or of none
 abbrev pub ArePassed : Passed → List Row → List Place → List Row → List Place → List Row → List Place → List Row → List Place → Type 0

@@ -1,12 +1,14 @@
 //! Rows of two screens that pair off, and the places of those that stand alone.
 
-ghost use Rattle.std.specs.Prelude.{◌≡◌, ◌+◌, ◌<◌, ◌≤◌, true, List, ℕ, length, take, IfOk};
+ghost use Rattle.std.specs.Prelude.{◌≡◌, ◌+◌, ◌-◌, ◌<◌, ◌≤◌, true, List, ℕ, drop, length, take, IfOk};
+ghost use Rattle.standings.specs.Lag.{Lags};
 ghost use Rattle.standings.specs.Less.{Agree, PairOff};
-ghost use Rattle.standings.specs.Rows.{row_below};
-ghost use Rattle.standings.specs.Standing.{count_left, left_of, place_at};
+ghost use Rattle.standings.specs.Rows.{Row, row_below};
+ghost use Rattle.standings.specs.Standing.{count_left, left_of, place_at, standing};
 
+use crate::lag::Lag;
 use crate::left::Standing;
-use crate::place::Place;
+use crate::place::{Place, count_up_to, reach_start};
 use crate::row::{Row, characters_below};
 use std::alloc::{AllocError, Global};
 
@@ -15,41 +17,151 @@ const BLOCK: usize = 16;
 
 /// The places of two screens in rows that stand alone.
 #[derive(Drop)]
-pub(crate) struct Alone {
+pub struct Alone {
     pub one: Vec<Place>,
     pub other: Vec<Place>,
 }
 
 impl Alone {
-    /// Those of two screens, whose rows pair off in order, from the top down: a row of the other one with the next of the
-    /// one that is the same.
-    pub(crate) fn of(alloc: Global, one: &Standing, other: &Standing) -> Result<Self, AllocError>
-        ensures { IfOk result (λ alone. PairOff one.now.rows.items one.now.places.items
+    ghost use Rattle.standings.specs.declared.place.Place.{Place};
+
+    /// Those of two screens, of which the one lags so behind the other, on which a text of so many characters stands. Their
+    /// rows pair off in order, from the top down: a row of the other one with the next of the one that is the same.
+    pub fn of(
+        alloc: Global,
+        one: &Standing,
+        other: &Standing,
+        lag: Lag,
+        len: usize,
+    ) -> Result<Self, AllocError>
+        ensures { (text : List ℕ) → length text ≡ len → one.now.places.items ≡ standing text one.now.rows.items
+            → other.now.places.items ≡ standing text other.now.rows.items
+            → Lags lag one.now.rows.items other.now.rows.items
+            → IfOk result (λ alone. PairOff one.now.rows.items one.now.places.items
             other.now.rows.items other.now.places.items alone.one.items alone.other.items) }
+    {
+        let cut = Cut::of(one, other, lag, len);
+        Alone::between(
+            alloc,
+            one.rows.as_slice(),
+            &one.places.as_slice()[cut.from..cut.to],
+            other.rows.as_slice(),
+            &other.places.as_slice()[cut.from..cut.there],
+            lag,
+        )
+    }
+
+    /// Those of some places of two screens.
+    fn between(
+        alloc: Global,
+        one: &[Row],
+        places: &[Place],
+        other: &[Row],
+        others: &[Place],
+        lag: Lag,
+    ) -> Result<Self, AllocError>
+        ensures { Lags lag one.now other.now
+            → IfOk result (λ alone. PairOff one.now places.now other.now others.now alone.one.items alone.other.items) }
     {
         let mut alone = Alone {
             one: Vec::new(alloc),
             other: Vec::new(alloc),
         };
         let (mut at, mut there) = (0, 0);
-        while there < other.places.len() {
-            let pair = next_pair(one, at, other, there);
+        while there < others.len() {
+            let pair = next_pair(one, places, at, other, others, there, lag);
             if pair.count == 0 {
-                let end = row_end(other.places.as_slice(), there);
-                alone
-                    .other
-                    .extend_from_slice(&other.places.as_slice()[there..end])?;
+                let end = row_end(others, there);
+                alone.other.extend_from_slice(&others[there..end])?;
                 there = end;
             } else {
-                alone
-                    .one
-                    .extend_from_slice(&one.places.as_slice()[at..pair.at])?;
+                alone.one.extend_from_slice(&places[at..pair.at])?;
                 at = pair.at + pair.count;
                 there += pair.count;
             }
         }
-        alone.one.extend_from_slice(&one.places.as_slice()[at..])?;
+        alone.one.extend_from_slice(&places[at..])?;
         Ok(alone)
+    }
+
+    /// Those of the other one and the one.
+    pub fn turned(self) -> Self
+        ensures { (one other : List Row) (places others : List Place)
+            → PairOff one places other others self.one.items self.other.items
+            → PairOff other others one places result.one.items result.other.items }
+    {
+        Alone {
+            one: self.other,
+            other: self.one,
+        }
+    }
+
+    /// Whether each place of the one surely has one on the other with the same to the left, so that none is less there. It
+    /// goes over those that stand alone in reading order, once, as long as the other one has enough of them left.
+    pub fn keeps_all(&self, one: &Standing, other: &Standing) -> bool
+        ensures { result ≡ true
+            → PairOff one.now.rows.items one.now.places.items other.now.rows.items other.now.places.items
+            self.now.one.items self.now.other.items → (left : List ℕ)
+            → count_left one.now.rows.items one.now.places.items left
+            ≤ count_left other.now.rows.items other.now.places.items left }
+    {
+        keeps_all(
+            one.rows.as_slice(),
+            self.one.as_slice(),
+            other.rows.as_slice(),
+            self.other.as_slice(),
+        )
+    }
+}
+
+/// The places of two screens that are looked at, from one on: up to one of the one and one of the other. All others are the
+/// same on both.
+#[derive(Clone, Copy)]
+struct Cut {
+    from: usize,
+    to: usize,
+    there: usize,
+}
+
+impl Cut {
+    /// Those in the rows that may differ where the one lags so, and in those above from which a text of so many characters
+    /// may go on in them; all where rows moved.
+    fn of(one: &Standing, other: &Standing, lag: Lag, len: usize) -> Self
+        ensures order { result.from ≤ result.to }
+        ensures within { result.to ≤ length one.now.places.items }
+        ensures order_there { result.from ≤ result.there }
+        ensures within_there { result.there ≤ length other.now.places.items }
+        ensures others { (text : List ℕ) → length text ≡ len → one.now.places.items ≡ standing text one.now.rows.items
+            → other.now.places.items ≡ standing text other.now.rows.items
+            → Lags lag one.now.rows.items other.now.rows.items
+            → PairOff one.now.rows.items one.now.places.items other.now.rows.items other.now.places.items
+            (take (result.to - result.from) (drop result.from one.now.places.items))
+            (take (result.there - result.from) (drop result.from other.now.places.items)) }
+    {
+        let (count, all) = (one.places.len(), other.places.len());
+        let whole = Cut {
+            from: 0,
+            to: count,
+            there: all,
+        };
+        if lag.moved > 0 {
+            return whole;
+        }
+        let rows = other.rows.as_slice();
+        let places = one.places.as_slice();
+        let end = lag.span.to.min(rows.len());
+        let start = reach_start(rows, len, lag.span.from).min(end);
+        let behind = count_up_to(places, count, end);
+        let from = count_up_to(places, behind, start);
+        let least = count - behind + from;
+        if all < least {
+            return whole;
+        }
+        Cut {
+            from,
+            to: behind,
+            there: all - (count - behind),
+        }
     }
 }
 
@@ -60,56 +172,107 @@ struct Pair {
     count: usize,
 }
 
-/// The next places of a screen, from one on, that pair off with those of another one's row; none where no row does.
-fn next_pair(one: &Standing, from: usize, other: &Standing, there: usize) -> Pair
-    requires within { from ≤ length one.now.places.items }
-    requires there { there < length other.now.places.items }
+/// The next places of a screen, from one on, that pair off with those of another one's row; none where no row does. The one
+/// lags so behind the other: a row that surely stays pairs off with itself, and is looked for no further.
+fn next_pair(
+    one: &[Row],
+    places: &[Place],
+    from: usize,
+    other: &[Row],
+    others: &[Place],
+    there: usize,
+    lag: Lag,
+) -> Pair
+    requires within { from ≤ length places.now }
+    requires there { there < length others.now }
     ensures low { from ≤ result.at }
-    ensures within { result.at + result.count ≤ length one.now.places.items }
-    ensures there { there + result.count ≤ length other.now.places.items }
-    ensures pairs { PairOff one.now.rows.items (take (result.at + result.count) one.now.places.items)
-        other.now.rows.items (take (there + result.count) other.now.places.items)
-        (take result.at one.now.places.items) (take there other.now.places.items) }
+    ensures within { result.at + result.count ≤ length places.now }
+    ensures there { there + result.count ≤ length others.now }
+    ensures pairs { Lags lag one.now other.now → PairOff one.now (take (result.at + result.count) places.now)
+        other.now (take (there + result.count) others.now) (take result.at places.now) (take there others.now) }
 {
+    let end = lag.search_end(others[there].above);
     let mut at = from;
-    while at < one.places.len() {
-        let count = count_paired(one, at, other, there);
+    while at < places.len() && places[at].above < end {
+        let kept = count_kept(one, places, at, other, others, there, lag);
+        if kept > 0 {
+            return Pair { at, count: kept };
+        }
+        let count = count_paired(one, places, at, other, others, there);
         if count > 0 {
             return Pair { at, count };
         }
-        at = row_end(one.places.as_slice(), at);
+        at = row_end(places, at);
     }
     Pair { at, count: 0 }
 }
 
-/// How many places of two screens, from these on, pair off: they stand in rows of the same characters, behind as many of
-/// them.
-fn count_paired(one: &Standing, at: usize, other: &Standing, there: usize) -> usize
-    requires within { at < length one.now.places.items }
-    requires there { there < length other.now.places.items }
-    ensures within { at + result ≤ length one.now.places.items }
-    ensures there { there + result ≤ length other.now.places.items }
-    ensures pairs { PairOff one.now.rows.items (take (at + result) one.now.places.items)
-        other.now.rows.items (take (there + result) other.now.places.items)
-        (take at one.now.places.items) (take there other.now.places.items) }
+/// How many places of two screens, of which the one lags so behind the other, from these on, pair off since they stand in
+/// rows that surely stay, behind as many characters.
+fn count_kept(
+    one: &[Row],
+    places: &[Place],
+    at: usize,
+    other: &[Row],
+    others: &[Place],
+    there: usize,
+    lag: Lag,
+) -> usize
+    requires within { at ≤ length places.now }
+    requires there { there ≤ length others.now }
+    ensures within { at + result ≤ length places.now }
+    ensures there { there + result ≤ length others.now }
+    ensures pairs { Lags lag one.now other.now → PairOff one.now (take (at + result) places.now)
+        other.now (take (there + result) others.now) (take at places.now) (take there others.now) }
 {
-    let (here, row) = (one.places[at].above, other.places[there].above);
-    if characters_below(one.rows.as_slice(), here) != characters_below(other.rows.as_slice(), row) {
-        return 0;
-    }
-    let most = (one.places.len() - at).min(other.places.len() - there);
+    // What the rows of the other one are makes no difference.
+    let _unread = other.len();
+    let rows = one.len();
+    let most = (places.len() - at).min(others.len() - there);
     let mut count = 0;
-    while count < most
-        && are_alike(
-            one.places[at + count],
-            here,
-            other.places[there + count],
-            row,
-        )
-    {
+    while count < most && stays(places[at + count], others[there + count], lag, rows) {
         count += 1;
     }
     count
+}
+
+/// How many places of two screens, from these on, pair off: they stand in rows of the same characters, behind as many of
+/// them.
+fn count_paired(
+    one: &[Row],
+    places: &[Place],
+    at: usize,
+    other: &[Row],
+    others: &[Place],
+    there: usize,
+) -> usize
+    requires within { at < length places.now }
+    requires there { there < length others.now }
+    ensures within { at + result ≤ length places.now }
+    ensures there { there + result ≤ length others.now }
+    ensures pairs { PairOff one.now (take (at + result) places.now) other.now (take (there + result) others.now)
+        (take at places.now) (take there others.now) }
+{
+    let (here, row) = (places[at].above, others[there].above);
+    if characters_below(one, here) != characters_below(other, row) {
+        return 0;
+    }
+    let most = (places.len() - at).min(others.len() - there);
+    let mut count = 0;
+    while count < most && are_alike(places[at + count], here, others[there + count], row) {
+        count += 1;
+    }
+    count
+}
+
+/// Whether two places stand in a row that surely stays where so many rows lag so behind others, behind as many characters.
+#[inline]
+fn stays(one: Place, other: Place, lag: Lag, rows: usize) -> bool
+    ensures row { result ≡ true → (here there : List Row) → length here ≡ rows → Lags lag here there
+        → row_below there other.above ≡ row_below here one.above }
+    ensures before { result ≡ true → one.before ≡ other.before }
+{
+    one.before == other.before && lag.keeps(one.above, other.above, rows)
 }
 
 /// Whether two places stand in these rows, behind as many characters.
@@ -135,28 +298,25 @@ pub(crate) fn row_end(places: &[Place], at: usize) -> usize
     end
 }
 
-/// Whether each place of a screen surely has one on the other with the same to the left, so that none is less there. It
-/// goes over both in reading order, once.
-pub fn keeps_all(one: &Standing, other: &Standing) -> bool
+/// Whether each of some places of a screen surely has one of some on another with the same to the left. It goes over both in
+/// reading order, once, as long as the others are enough.
+fn keeps_all(rows: &[Row], places: &[Place], others: &[Row], mates: &[Place]) -> bool
     ensures { result ≡ true → (left : List ℕ)
-        → count_left one.now.rows.items one.now.places.items left
-        ≤ count_left other.now.rows.items other.now.places.items left }
+        → count_left rows.now places.now left ≤ count_left others.now mates.now left }
 {
-    if one.places.is_empty() {
+    if places.is_empty() {
         return true;
     }
-    let rows = one.rows.as_slice();
-    let others = other.rows.as_slice();
     let mut agreed = AgreedRows::of(rows, 0, others, 0);
     let mut kept = 0;
     let mut at = 0;
-    while kept < one.places.len() && at < other.places.len() {
-        if agreed.are_same(rows, one.places[kept], others, other.places[at]) {
+    while kept < places.len() && places.len() - kept <= mates.len() - at {
+        if agreed.are_same(rows, places[kept], others, mates[at]) {
             kept += 1;
         }
         at += 1;
     }
-    kept == one.places.len()
+    kept == places.len()
 }
 
 /// With how many characters a row of a screen and one of another begin alike.

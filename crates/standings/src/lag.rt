@@ -1,9 +1,9 @@
 //! Rows that lag behind others.
 
-ghost use Rattle.std.specs.Prelude.{◌≡◌, ◌+◌, ◌<◌, true, List, ℕ, length};
+ghost use Rattle.std.specs.Prelude.{◌≡◌, ◌+◌, ◌-◌, ◌<◌, ◌≤◌, true, List, ℕ, length};
 ghost use Rattle.standings.specs.Lag.{Lags};
 ghost use Rattle.standings.specs.Moved.{moved_up, turned};
-ghost use Rattle.standings.specs.Rows.{Row};
+ghost use Rattle.standings.specs.Rows.{Row, row_below};
 ghost use Rattle.standings.specs.Spans.{Stays, span_of};
 
 use crate::span::Span;
@@ -36,6 +36,32 @@ impl Lag {
         ensures { result ≡ true → (one other : List Row) → Lags self one other → one ≡ other }
     {
         self.moved == 0 && self.span.is_none()
+    }
+
+    /// Whether a row is surely that of the others: the one below so many of so many rows, and the one below so many others.
+    pub(crate) fn keeps(self, here: usize, there: usize, rows: usize) -> bool
+        ensures { result ≡ true → (one other : List Row) → length one ≡ rows → Lags self one other
+            → row_below other there ≡ row_below one here }
+    {
+        is_behind(here, self.moved, there, rows) && self.stays(there)
+    }
+
+    /// Whether the row below so many others is none of the span.
+    fn stays(self, there: usize) -> bool
+        ensures { result ≡ true → (one other : List Row) → Stays self.span one other
+            → row_below other there ≡ row_below one there }
+    {
+        there < self.span.from || self.span.to <= there
+    }
+
+    /// How many rows come before those in which nothing is looked for that pairs off with the other row below so many.
+    pub(crate) fn search_end(self, there: usize) -> usize {
+        let end = if self.stays(there) {
+            there.saturating_add(1)
+        } else {
+            self.span.to
+        };
+        end.saturating_add(self.moved)
     }
 
     /// And by these rows, which differ later.
@@ -89,6 +115,13 @@ impl Lag {
         }
         self.span
     }
+}
+
+/// Whether so many rows, which are less than these in all, are those of others and so many more.
+fn is_behind(here: usize, moved: usize, there: usize, rows: usize) -> bool
+    ensures { result ≡ true → (moved ≤ here) × (here - moved ≡ there) × (here < rows) }
+{
+    moved <= here && here - moved == there && here < rows
 }
 
 /// All of so many rows.

@@ -5,9 +5,10 @@
 
 ghost use Rattle.std.specs.Prelude.{◌≡◌, ◌+◌, ◌-◌, ◌*◌, ◌<◌, ◌≤◌, ◌&&◌, ◌||◌, false, true, List, ℕ, None, length, nat_eq, replicate, slice_index_or, IfOk, IfSome, OnOk};
 ghost use Rattle.std.specs.List.{starts_with};
-ghost use Rattle.standings.specs.Less.{Agree, ArePassed, IsSurplus, IsTold, PairOff, SomePass, for_left, has_passed, is_away, is_last, may_pass};
-ghost use Rattle.standings.specs.Rows.{row_below};
+ghost use Rattle.standings.specs.Less.{Agree, ArePassed, HasAll, HasEach, IsSurplus, IsTold, PairOff, SomePass, for_left, has_passed, is_away, is_last, may_pass};
+ghost use Rattle.standings.specs.Rows.{Row, row_below};
 ghost use Rattle.standings.specs.Standing.{count_left, is_less, left_of, place_at};
+ghost use Rattle.standings.specs.declared.place.Place.{Place};
 
 use crate::alone::{Alone, agreed_len, row_end};
 use crate::left::{Standing, is_less, is_lone, left_of};
@@ -22,22 +23,36 @@ pub struct Less {
 }
 
 impl Less {
-    /// Those of a screen that are less on the other.
-    pub fn of(alloc: Global, one: &Standing, other: &Standing) -> Self
-        ensures { IsTold result one.now.rows.items one.now.places.items other.now.rows.items
+    /// Those of a screen that are less on the other, by the places of both that stand alone.
+    pub fn of(alloc: Global, one: &Standing, other: &Standing, alone: &Alone) -> Self
+        ensures told { PairOff one.now.rows.items one.now.places.items other.now.rows.items
+            other.now.places.items alone.now.one.items alone.now.other.items
+            → IsTold result one.now.rows.items one.now.places.items other.now.rows.items
             other.now.places.items }
+        ensures all { HasAll result (length one.now.places.items) }
     {
         Less {
-            told: tell(alloc, None, one, other).ok(),
+            told: tell(alloc, None, one, other, alone).ok(),
         }
     }
 
+    /// Of none it is told: each is asked for alone.
+    pub fn untold() -> Self
+        ensures told { (one other : List Row) (places others : List Place)
+            → IsTold result one places other others }
+        ensures all { (count : ℕ) → HasAll result count }
+    {
+        Less { told: None }
+    }
+
     /// Whether a place of the screen is less on the other.
+    #[inline]
     pub fn has(&self, one: &Standing, at: usize, other: &Standing) -> bool
         requires within { at < length one.now.places.items }
-        requires told { IsTold self.now one.now.rows.items one.now.places.items other.now.rows.items
-            other.now.places.items }
-        ensures { result ≡ is_less one.now.rows.items one.now.places.items other.now.rows.items
+        requires all { HasAll self.now (length one.now.places.items) }
+        ensures { IsTold self.now one.now.rows.items one.now.places.items other.now.rows.items
+            other.now.places.items
+            → result ≡ is_less one.now.rows.items one.now.places.items other.now.rows.items
             other.now.places.items at }
     {
         match &self.told {
@@ -55,25 +70,40 @@ pub struct Passed {
 }
 
 impl Passed {
-    /// Those of a screen that are less on the other, and so on neither the first screen nor the last.
+    /// Those of a screen that are less on the other, and so on neither the first screen nor the last, by the places that
+    /// stand alone on it and the other one.
     pub fn of(
         alloc: Global,
         first: &Standing,
         last: &Standing,
         one: &Standing,
         other: &Standing,
+        alone: &Alone,
     ) -> Self
-        ensures { ArePassed result first.now.rows.items first.now.places.items
+        ensures told { PairOff one.now.rows.items one.now.places.items other.now.rows.items
+            other.now.places.items alone.now.one.items alone.now.other.items
+            → ArePassed result first.now.rows.items first.now.places.items
             last.now.rows.items last.now.places.items one.now.rows.items one.now.places.items
             other.now.rows.items other.now.places.items }
+        ensures all { HasEach result (length one.now.places.items) }
     {
         let ends = Ends { first, last };
         Passed {
-            told: tell(alloc, Some(&ends), one, other).ok(),
+            told: tell(alloc, Some(&ends), one, other, alone).ok(),
         }
     }
 
+    /// Of none it is told: each is asked for alone.
+    pub fn untold() -> Self
+        ensures told { (first last one other : List Row) (firsts lasts places others : List Place)
+            → ArePassed result first firsts last lasts one places other others }
+        ensures all { (count : ℕ) → HasEach result count }
+    {
+        Passed { told: None }
+    }
+
     /// Whether a place of the screen passed.
+    #[inline]
     pub fn has(
         &self,
         first: &Standing,
@@ -83,10 +113,11 @@ impl Passed {
         other: &Standing,
     ) -> bool
         requires within { at < length one.now.places.items }
-        requires told { ArePassed self.now first.now.rows.items first.now.places.items
+        requires all { HasEach self.now (length one.now.places.items) }
+        ensures { ArePassed self.now first.now.rows.items first.now.places.items
             last.now.rows.items last.now.places.items one.now.rows.items one.now.places.items
-            other.now.rows.items other.now.places.items }
-        ensures { result ≡ has_passed first.now.rows.items first.now.places.items
+            other.now.rows.items other.now.places.items
+            → result ≡ has_passed first.now.rows.items first.now.places.items
             last.now.rows.items last.now.places.items one.now.rows.items one.now.places.items
             other.now.rows.items other.now.places.items at }
     {
@@ -110,20 +141,22 @@ fn tell(
     ends: Option<&Ends<'_>>,
     one: &Standing,
     other: &Standing,
+    alone: &Alone,
 ) -> Result<Vec<bool>, AllocError>
     ensures len { IfOk result (λ told. length told.items ≡ length one.now.places.items) }
-    ensures told { IfOk result (λ told. (n : ℕ) → n < length one.now.places.items
+    ensures told { PairOff one.now.rows.items one.now.places.items other.now.rows.items
+        other.now.places.items alone.now.one.items alone.now.other.items
+        → IfOk result (λ told. (n : ℕ) → n < length one.now.places.items
         → slice_index_or told.items n false
         ≡ (is_away ends.entry (left_of one.now.rows.items (place_at one.now.places.items n))
         && is_less one.now.rows.items one.now.places.items other.now.rows.items other.now.places.items n)) }
 {
-    let alone = Alone::of(alloc, one, other)?;
     let mut told = vec![in alloc; false; one.places.len()]?;
     let mut surplus = Vec::new(alloc);
     let mut at = 0;
     while at < alone.one.len() {
         let row = characters_below(one.rows.as_slice(), alone.one[at].above);
-        find_surplus(row, one, other, &alone, &mut surplus)?;
+        find_surplus(row, one, other, alone, &mut surplus)?;
         spend(row, ends, surplus.as_mut_slice());
         tell_last(row, one, surplus.as_mut_slice(), told.as_mut_slice());
         at = row_end(alone.one.as_slice(), at);
@@ -163,13 +196,16 @@ fn take_all_off(row: &[char], still: &Standing, surplus: &mut [usize])
     );
 }
 
-/// Whether some place of a screen is less on the other, and has nothing with the same to the left on a third one.
-pub fn may_pass(first: &Standing, one: &Standing, other: &Standing) -> bool
-    ensures { SomePass result first.now.rows.items first.now.places.items
+/// Whether some place of a screen is less on the other, and has nothing with the same to the left on a third one, by the
+/// places of both that stand alone.
+pub fn may_pass(first: &Standing, one: &Standing, other: &Standing, alone: &Alone) -> bool
+    ensures { PairOff one.now.rows.items one.now.places.items other.now.rows.items
+        other.now.places.items alone.now.one.items alone.now.other.items
+        → SomePass result first.now.rows.items first.now.places.items
         one.now.rows.items one.now.places.items other.now.rows.items other.now.places.items }
 {
     let alloc = *one.rows.allocator();
-    match some_pass(alloc, first, one, other) {
+    match some_pass(alloc, first, one, other, alone) {
         Ok(some) => some,
         Err(_) => may_pass_plainly(first, one, other),
     }
@@ -181,16 +217,18 @@ fn some_pass(
     first: &Standing,
     one: &Standing,
     other: &Standing,
+    alone: &Alone,
 ) -> Result<bool, AllocError>
-    ensures { IfOk result (λ some. SomePass some first.now.rows.items first.now.places.items
+    ensures { PairOff one.now.rows.items one.now.places.items other.now.rows.items
+        other.now.places.items alone.now.one.items alone.now.other.items
+        → IfOk result (λ some. SomePass some first.now.rows.items first.now.places.items
         one.now.rows.items one.now.places.items other.now.rows.items other.now.places.items) }
 {
-    let alone = Alone::of(alloc, one, other)?;
     let mut surplus = Vec::new(alloc);
     let mut at = 0;
     while at < alone.one.len() {
         let row = characters_below(one.rows.as_slice(), alone.one[at].above);
-        if some_pass_with(row, first, one, other, &alone, &mut surplus)? {
+        if some_pass_with(row, first, one, other, alone, &mut surplus)? {
             return Ok(true);
         }
         at = row_end(alone.one.as_slice(), at);
@@ -207,13 +245,15 @@ fn some_pass_with(
     alone: &Alone,
     surplus: &mut Vec<usize>,
 ) -> Result<bool, AllocError>
-    requires { PairOff one.now.rows.items one.now.places.items other.now.rows.items
-        other.now.places.items alone.now.one.items alone.now.other.items }
-    ensures none { IfOk result (λ some. some ≡ false → (n : ℕ) → n < length one.now.places.items
+    ensures none { PairOff one.now.rows.items one.now.places.items other.now.rows.items
+        other.now.places.items alone.now.one.items alone.now.other.items
+        → IfOk result (λ some. some ≡ false → (n : ℕ) → n < length one.now.places.items
         → starts_with nat_eq row.now (left_of one.now.rows.items (place_at one.now.places.items n)) ≡ true
         → may_pass first.now.rows.items first.now.places.items one.now.rows.items one.now.places.items
         other.now.rows.items other.now.places.items n ≡ false) }
-    ensures some { IfOk result (λ some. some ≡ true
+    ensures some { PairOff one.now.rows.items one.now.places.items other.now.rows.items
+        other.now.places.items alone.now.one.items alone.now.other.items
+        → IfOk result (λ some. some ≡ true
         → (n : ℕ) × (n < length one.now.places.items)
         × (may_pass first.now.rows.items first.now.places.items one.now.rows.items one.now.places.items
         other.now.rows.items other.now.places.items n ≡ true)) }

@@ -13,7 +13,7 @@ mod region;
 mod row;
 mod span;
 
-pub use alone::keeps_all;
+pub use alone::Alone;
 pub use lag::Lag;
 pub use left::{Standing, ends_before, is_less, is_lone, stays_moved};
 pub use less::{Less, Passed, may_pass};

@@ -58,8 +58,8 @@ pub(crate) fn look_between(
 {
     let end = span.to.min(rows.len());
     let start = reach_start(rows, text.len(), span.from).min(end);
-    let kept = count_above(places.as_slice(), start);
-    let behind = count_above(places.as_slice(), end).max(kept);
+    let behind = count_up_to(places.as_slice(), places.len(), end);
+    let kept = count_up_to(places.as_slice(), behind, start);
     renew(rows, start, end, text, places, kept, behind)
 }
 
@@ -170,6 +170,20 @@ fn count_above(places: &[Place], above: usize) -> usize
     count
 }
 
+/// How many of the first so many places in reading order stand in rows above one. They are passed from the last one on.
+pub(crate) fn count_up_to(places: &[Place], most: usize, above: usize) -> usize
+    requires { most ≤ length places.now }
+    ensures within { result ≤ most }
+    ensures early { 0 < result → (place_at places.now (result - 1)).above < above }
+    ensures late { (k : ℕ) → result ≤ k → k < most → above ≤ (place_at places.now k).above }
+{
+    let mut count = most;
+    while count > 0 && places[count - 1].above >= above {
+        count -= 1;
+    }
+    count
+}
+
 /// Takes the places from one up to and without another out.
 pub(crate) fn forget(places: &mut Vec<Place>, from: usize, to: usize)
     requires order { from ≤ to }
@@ -217,7 +231,7 @@ pub(crate) fn may_come_below(text: &[char]) -> bool
 
 /// How many rows are above those in which a text of so many characters may begin that goes on in the row below so many
 /// others.
-fn reach_start(rows: &[Row], len: usize, above: usize) -> usize
+pub(crate) fn reach_start(rows: &[Row], len: usize, above: usize) -> usize
     ensures within { result ≤ above }
     ensures ends { 0 < result → (row_below rows.now (result - 1)).runs_on ≡ true
         → len ≤ characters_in rows.now result (above - result) + 1 }

@@ -175,8 +175,9 @@ fn play_where_it_stands<T: Plays, F: Finder<T>>(
     if span.is_none() {
         return Ok((taken, true));
     }
-    let calm = none_passes(&ends.before, &steps.sides.before, &ends.after);
     steps.lag = steps.lag.widened(span);
+    let (first, one, len) = (&ends.before, &steps.sides.before, text.len());
+    let calm = none_passes(first, one, &ends.after, steps.lag, len);
     trail(steps, ends)?;
     Ok((taken, calm))
 }

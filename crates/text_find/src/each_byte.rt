@@ -7,7 +7,7 @@ ghost use Rattle.tape_core.specs.Devices.{Gave};
 ghost use Rattle.text_find.specs.Lines.{AreBetween, AreStill, Began, byte_lines, chunk_lines, passed_lines};
 
 use crate::finder::Finder;
-use crate::lines::{put_less, put_passed};
+use crate::lines::{put_come, put_gone, put_passed};
 use crate::sides::{Sides, catch_up, settle};
 use plays::{OutOfMemory, Plays};
 use standings::Moment;
@@ -45,9 +45,9 @@ pub(crate) fn put_chunk<T: Plays, F: Finder<T>, W: Write>(
         → OnOk result (AreStill text.now (F.screens profile (before ++ bytes.now)) steps.new) }
 {
     gives_join::<W>();
-    put_less(alloc, b'-', moment, &ends.before, &ends.after, writer)?;
+    put_gone(alloc, moment, ends, writer)?;
     put_bytes::<T, F, W>(alloc, text, moment, ends, bytes, steps, behind, writer)?;
-    put_less(alloc, b'+', moment, &ends.after, &ends.before, writer)?;
+    put_come(alloc, moment, ends, writer)?;
     Ok(())
 }
 
@@ -104,6 +104,7 @@ fn put_byte<T: Plays, F: Finder<T>, W: Write>(
     terminal: &T,
     writer: &mut Watched<W>,
 ) -> Result<(), OutOfMemory>
+    requires { moment.len ≡ length text.now }
     ensures gave { (profile : T.Profile) (before after : List ℕ) → T.shows profile terminal.now after
         → T.told profile terminal.now before → AreStill text.now (F.screens profile before) steps.old
         → OnOk result (Gave W.contents writer.old writer.new
@@ -129,7 +130,7 @@ fn put_byte<T: Plays, F: Finder<T>, W: Write>(
     if steps.lag.is_none() {
         return Ok(());
     }
-    put_passed(alloc, moment, ends, &steps.before, &steps.after, writer)?;
+    put_passed(alloc, moment, ends, steps, writer)?;
     settle(steps)?;
     Ok(())
 }

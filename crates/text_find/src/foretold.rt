@@ -128,7 +128,14 @@ pub(crate) fn play_foretold<T: Plays, F: Finder<T>>(
     let taken = foretold.taken();
     play(alloc, ahead, &bytes[..taken])?;
     change(foretold, letters, text, ends, steps)?;
-    let calm = surely || none_passes(&ends.before, &steps.sides.before, &ends.after);
+    let calm = surely
+        || none_passes(
+            &ends.before,
+            &steps.sides.before,
+            &ends.after,
+            steps.lag,
+            text.len(),
+        );
     trail(steps, ends)?;
     Ok((taken, calm))
 }

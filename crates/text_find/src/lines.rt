@@ -2,16 +2,17 @@
 
 ghost use Rattle.std.specs.Prelude.{◌≡◌, ◌<◌, ◌++◌, [], List, ℕ, length, true, OnErr, OnOk};
 ghost use Rattle.standings.specs.Found.{found_line};
-ghost use Rattle.standings.specs.Less.{ArePassed, IsTold};
+ghost use Rattle.standings.specs.Lag.{Lags};
+ghost use Rattle.standings.specs.Less.{ArePassed, HasAll, HasEach, IsTold, PairOff};
 ghost use Rattle.standings.specs.Rows.{Row};
 ghost use Rattle.standings.specs.Standing.{place_at};
 ghost use Rattle.standings.specs.declared.place.Place.{Place};
 ghost use Rattle.tape_core.specs.Devices.{Gave};
-ghost use Rattle.text_find.specs.Lines.{Began, end_lines, from_lines, less_line, less_lines, passed_line, passed_lines, standing_lines};
+ghost use Rattle.text_find.specs.Lines.{AreBetween, Began, IsStill, end_lines, from_lines, less_line, less_lines, passed_line, passed_lines, standing_lines};
 
 use crate::sides::Sides;
 use plays::OutOfMemory;
-use standings::{Less, Moment, Passed, Standing, keeps_all, may_pass, put_found};
+use standings::{Alone, Lag, Less, Moment, Passed, Standing, may_pass, put_found};
 use std::alloc::Global;
 use std::io::Write;
 use tape_core::Watched;
@@ -88,35 +89,163 @@ fn put_at<W: Write>(
     Ok(())
 }
 
-/// Writes the lines of what stands on one screen and is less on the other. Mostly nothing is, which is seen at once.
-pub(crate) fn put_less<W: Write>(
+/// Writes the lines of what stood before some bytes and is less after them.
+pub(crate) fn put_gone<W: Write>(
+    alloc: Global,
+    moment: Moment,
+    ends: &Sides,
+    writer: &mut Watched<W>,
+) -> Result<(), OutOfMemory>
+    ensures gave { (text : List ℕ) (one other : List Row) → length text ≡ moment.len → AreBetween text one other ends.now
+        → OnOk result (Gave W.contents writer.old writer.new
+        (less_lines 45 moment.index moment.due moment.len
+        ends.now.before.rows.items ends.now.before.places.items ends.now.after.rows.items ends.now.after.places.items)) }
+    ensures front { (text : List ℕ) (one other : List Row) → length text ≡ moment.len → AreBetween text one other ends.now
+        → OnErr result (Began W.contents writer.old writer.new
+        (less_lines 45 moment.index moment.due moment.len
+        ends.now.before.rows.items ends.now.before.places.items ends.now.after.rows.items ends.now.after.places.items)) }
+{
+    gives_join::<W>();
+    let nowhere = ends.before.places.is_empty();
+    if nowhere {
+        return Ok(());
+    }
+    match Alone::of(alloc, &ends.before, &ends.after, ends.lag, moment.len) {
+        Ok(alone) => {
+            put_less(
+                alloc,
+                b'-',
+                moment,
+                &ends.before,
+                &ends.after,
+                &alone,
+                writer,
+            )
+        }
+        Err(_) => {
+            let less = Less::untold();
+            put_told(
+                alloc,
+                b'-',
+                moment,
+                &ends.before,
+                &ends.after,
+                &less,
+                writer,
+            )
+        }
+    }
+}
+
+/// Writes the lines of what stands after some bytes and was less before them.
+pub(crate) fn put_come<W: Write>(
+    alloc: Global,
+    moment: Moment,
+    ends: &Sides,
+    writer: &mut Watched<W>,
+) -> Result<(), OutOfMemory>
+    ensures gave { (text : List ℕ) (one other : List Row) → length text ≡ moment.len → AreBetween text one other ends.now
+        → OnOk result (Gave W.contents writer.old writer.new
+        (less_lines 43 moment.index moment.due moment.len
+        ends.now.after.rows.items ends.now.after.places.items ends.now.before.rows.items ends.now.before.places.items)) }
+    ensures front { (text : List ℕ) (one other : List Row) → length text ≡ moment.len → AreBetween text one other ends.now
+        → OnErr result (Began W.contents writer.old writer.new
+        (less_lines 43 moment.index moment.due moment.len
+        ends.now.after.rows.items ends.now.after.places.items ends.now.before.rows.items ends.now.before.places.items)) }
+{
+    gives_join::<W>();
+    let nowhere = ends.after.places.is_empty();
+    if nowhere {
+        return Ok(());
+    }
+    match Alone::of(alloc, &ends.before, &ends.after, ends.lag, moment.len) {
+        Ok(alone) => {
+            let turned = alone.turned();
+            put_less(
+                alloc,
+                b'+',
+                moment,
+                &ends.after,
+                &ends.before,
+                &turned,
+                writer,
+            )
+        }
+        Err(_) => {
+            let less = Less::untold();
+            put_told(
+                alloc,
+                b'+',
+                moment,
+                &ends.after,
+                &ends.before,
+                &less,
+                writer,
+            )
+        }
+    }
+}
+
+/// Writes the lines of what stands on one screen and is less on the other, by the places of both that stand alone. Mostly
+/// nothing is, which is seen at once.
+fn put_less<W: Write>(
     alloc: Global,
     sign: u8,
     moment: Moment,
     one: &Standing,
     other: &Standing,
+    alone: &Alone,
     writer: &mut Watched<W>,
 ) -> Result<(), OutOfMemory>
-    ensures gave { OnOk result (Gave W.contents writer.old writer.new
+    ensures gave { PairOff one.now.rows.items one.now.places.items other.now.rows.items other.now.places.items
+        alone.now.one.items alone.now.other.items
+        → OnOk result (Gave W.contents writer.old writer.new
         (less_lines sign moment.index moment.due moment.len
         one.now.rows.items one.now.places.items other.now.rows.items other.now.places.items)) }
-    ensures front { OnErr result (Began W.contents writer.old writer.new
+    ensures front { PairOff one.now.rows.items one.now.places.items other.now.rows.items other.now.places.items
+        alone.now.one.items alone.now.other.items
+        → OnErr result (Began W.contents writer.old writer.new
         (less_lines sign moment.index moment.due moment.len
         one.now.rows.items one.now.places.items other.now.rows.items other.now.places.items)) }
 {
     gives_join::<W>();
-    let none_went = keeps_all(one, other);
+    let none_went = alone.keeps_all(one, other);
     if none_went {
         return Ok(());
     }
-    let less = Less::of(alloc, one, other);
+    let less = Less::of(alloc, one, other, alone);
+    put_told(alloc, sign, moment, one, other, &less, writer)
+}
+
+/// Writes the lines of the places that are less on the other screen, as it is told of them.
+fn put_told<W: Write>(
+    alloc: Global,
+    sign: u8,
+    moment: Moment,
+    one: &Standing,
+    other: &Standing,
+    less: &Less,
+    writer: &mut Watched<W>,
+) -> Result<(), OutOfMemory>
+    requires { HasAll less.now (length one.now.places.items) }
+    ensures gave { IsTold less.now one.now.rows.items one.now.places.items other.now.rows.items other.now.places.items
+        → OnOk result (Gave W.contents writer.old writer.new
+        (less_lines sign moment.index moment.due moment.len
+        one.now.rows.items one.now.places.items other.now.rows.items other.now.places.items)) }
+    ensures front { IsTold less.now one.now.rows.items one.now.places.items other.now.rows.items other.now.places.items
+        → OnErr result (Began W.contents writer.old writer.new
+        (less_lines sign moment.index moment.due moment.len
+        one.now.rows.items one.now.places.items other.now.rows.items other.now.places.items)) }
+{
+    gives_join::<W>();
     for at in 0..one.places.len() {
-        put_if_less(alloc, sign, moment, one, at, other, &less, writer)?;
+        put_if_less(alloc, sign, moment, one, at, other, less, writer)?;
     }
     Ok(())
 }
 
 /// Writes the line of one place, if it is less on the other screen. Where memory is refused, nothing was written.
+#[inline(always)]
 fn put_if_less<W: Write>(
     alloc: Global,
     sign: u8,
@@ -128,9 +257,10 @@ fn put_if_less<W: Write>(
     writer: &mut Watched<W>,
 ) -> Result<(), OutOfMemory>
     requires within { at < length one.now.places.items }
-    requires told { IsTold less.now one.now.rows.items one.now.places.items
-        other.now.rows.items other.now.places.items }
-    ensures gave { OnOk result (Gave W.contents writer.old writer.new
+    requires all { HasAll less.now (length one.now.places.items) }
+    ensures gave { IsTold less.now one.now.rows.items one.now.places.items
+        other.now.rows.items other.now.places.items
+        → OnOk result (Gave W.contents writer.old writer.new
         (less_line sign moment.index moment.due moment.len
         one.now.rows.items one.now.places.items other.now.rows.items other.now.places.items at)) }
     ensures refused { OnErr result (writer.new ≡ writer.old) }
@@ -149,50 +279,123 @@ pub(crate) fn put_ends<W: Write>(
     ends: &Sides,
     writer: &mut Watched<W>,
 ) -> Result<(), OutOfMemory>
-    ensures gave { OnOk result (Gave W.contents writer.old writer.new (end_lines moment.index moment.due moment.len
+    ensures gave { (text : List ℕ) (one other : List Row) → length text ≡ moment.len → AreBetween text one other ends.now
+        → OnOk result (Gave W.contents writer.old writer.new (end_lines moment.index moment.due moment.len
         ends.now.before.rows.items ends.now.before.places.items ends.now.after.rows.items ends.now.after.places.items)) }
-    ensures front { OnErr result (Began W.contents writer.old writer.new (end_lines moment.index moment.due moment.len
+    ensures front { (text : List ℕ) (one other : List Row) → length text ≡ moment.len → AreBetween text one other ends.now
+        → OnErr result (Began W.contents writer.old writer.new (end_lines moment.index moment.due moment.len
         ends.now.before.rows.items ends.now.before.places.items ends.now.after.rows.items ends.now.after.places.items)) }
 {
     gives_join::<W>();
-    put_less(alloc, b'-', moment, &ends.before, &ends.after, writer)?;
-    put_less(alloc, b'+', moment, &ends.after, &ends.before, writer)?;
+    put_gone(alloc, moment, ends, writer)?;
+    put_come(alloc, moment, ends, writer)?;
     Ok(())
 }
 
-/// Writes the lines of what went at a byte and stood so at neither end. Mostly nothing went, which is seen at once.
+/// Writes the lines of what went at some bytes, by what stood before and after them, and stood so at neither end.
 pub(crate) fn put_passed<W: Write>(
+    alloc: Global,
+    moment: Moment,
+    ends: &Sides,
+    steps: &Sides,
+    writer: &mut Watched<W>,
+) -> Result<(), OutOfMemory>
+    ensures gave { (text : List ℕ) (one other : List Row) → length text ≡ moment.len → AreBetween text one other steps.now
+        → OnOk result (Gave W.contents writer.old writer.new
+        (passed_lines moment.index moment.due moment.len
+        ends.now.before.rows.items ends.now.before.places.items
+        ends.now.after.rows.items ends.now.after.places.items
+        steps.now.before.rows.items steps.now.before.places.items
+        steps.now.after.rows.items steps.now.after.places.items)) }
+    ensures front { (text : List ℕ) (one other : List Row) → length text ≡ moment.len → AreBetween text one other steps.now
+        → OnErr result (Began W.contents writer.old writer.new
+        (passed_lines moment.index moment.due moment.len
+        ends.now.before.rows.items ends.now.before.places.items
+        ends.now.after.rows.items ends.now.after.places.items
+        steps.now.before.rows.items steps.now.before.places.items
+        steps.now.after.rows.items steps.now.after.places.items)) }
+{
+    let (one, other) = (&steps.before, &steps.after);
+    match Alone::of(alloc, one, other, steps.lag, moment.len) {
+        Ok(alone) => put_passed_alone(alloc, moment, ends, one, other, &alone, writer),
+        Err(_) => {
+            let passed = Passed::untold();
+            put_told_passed(alloc, moment, ends, one, other, &passed, writer)
+        }
+    }
+}
+
+/// The same by the places of both screens that stand alone. Mostly nothing went, which is seen at once.
+fn put_passed_alone<W: Write>(
     alloc: Global,
     moment: Moment,
     ends: &Sides,
     one: &Standing,
     other: &Standing,
+    alone: &Alone,
     writer: &mut Watched<W>,
 ) -> Result<(), OutOfMemory>
-    ensures gave { OnOk result (Gave W.contents writer.old writer.new
+    ensures gave { PairOff one.now.rows.items one.now.places.items other.now.rows.items other.now.places.items
+        alone.now.one.items alone.now.other.items
+        → OnOk result (Gave W.contents writer.old writer.new
         (passed_lines moment.index moment.due moment.len
         ends.now.before.rows.items ends.now.before.places.items
         ends.now.after.rows.items ends.now.after.places.items
         one.now.rows.items one.now.places.items other.now.rows.items other.now.places.items)) }
-    ensures front { OnErr result (Began W.contents writer.old writer.new
+    ensures front { PairOff one.now.rows.items one.now.places.items other.now.rows.items other.now.places.items
+        alone.now.one.items alone.now.other.items
+        → OnErr result (Began W.contents writer.old writer.new
         (passed_lines moment.index moment.due moment.len
         ends.now.before.rows.items ends.now.before.places.items
         ends.now.after.rows.items ends.now.after.places.items
         one.now.rows.items one.now.places.items other.now.rows.items other.now.places.items)) }
 {
     gives_join::<W>();
-    if keeps_all(one, other) {
+    if alone.keeps_all(one, other) {
         return Ok(());
     }
-    let passed = Passed::of(alloc, &ends.before, &ends.after, one, other);
+    let passed = Passed::of(alloc, &ends.before, &ends.after, one, other, alone);
+    put_told_passed(alloc, moment, ends, one, other, &passed, writer)
+}
+
+/// Writes the lines of the places that passed, as it is told of them.
+fn put_told_passed<W: Write>(
+    alloc: Global,
+    moment: Moment,
+    ends: &Sides,
+    one: &Standing,
+    other: &Standing,
+    passed: &Passed,
+    writer: &mut Watched<W>,
+) -> Result<(), OutOfMemory>
+    requires { HasEach passed.now (length one.now.places.items) }
+    ensures gave { ArePassed passed.now ends.now.before.rows.items ends.now.before.places.items
+        ends.now.after.rows.items ends.now.after.places.items
+        one.now.rows.items one.now.places.items other.now.rows.items other.now.places.items
+        → OnOk result (Gave W.contents writer.old writer.new
+        (passed_lines moment.index moment.due moment.len
+        ends.now.before.rows.items ends.now.before.places.items
+        ends.now.after.rows.items ends.now.after.places.items
+        one.now.rows.items one.now.places.items other.now.rows.items other.now.places.items)) }
+    ensures front { ArePassed passed.now ends.now.before.rows.items ends.now.before.places.items
+        ends.now.after.rows.items ends.now.after.places.items
+        one.now.rows.items one.now.places.items other.now.rows.items other.now.places.items
+        → OnErr result (Began W.contents writer.old writer.new
+        (passed_lines moment.index moment.due moment.len
+        ends.now.before.rows.items ends.now.before.places.items
+        ends.now.after.rows.items ends.now.after.places.items
+        one.now.rows.items one.now.places.items other.now.rows.items other.now.places.items)) }
+{
+    gives_join::<W>();
     for at in 0..one.places.len() {
-        put_if_passed(alloc, moment, ends, one, at, other, &passed, writer)?;
+        put_if_passed(alloc, moment, ends, one, at, other, passed, writer)?;
     }
     Ok(())
 }
 
 /// Writes the line of one place, where it went at a byte and stood so at neither end. Where memory is refused, nothing
 /// was written.
+#[inline(always)]
 fn put_if_passed<W: Write>(
     alloc: Global,
     moment: Moment,
@@ -204,10 +407,11 @@ fn put_if_passed<W: Write>(
     writer: &mut Watched<W>,
 ) -> Result<(), OutOfMemory>
     requires within { at < length one.now.places.items }
-    requires told { ArePassed passed.now ends.now.before.rows.items ends.now.before.places.items
+    requires all { HasEach passed.now (length one.now.places.items) }
+    ensures gave { ArePassed passed.now ends.now.before.rows.items ends.now.before.places.items
         ends.now.after.rows.items ends.now.after.places.items
-        one.now.rows.items one.now.places.items other.now.rows.items other.now.places.items }
-    ensures gave { OnOk result (Gave W.contents writer.old writer.new
+        one.now.rows.items one.now.places.items other.now.rows.items other.now.places.items
+        → OnOk result (Gave W.contents writer.old writer.new
         (passed_line moment.index moment.due moment.len
         ends.now.before.rows.items ends.now.before.places.items
         ends.now.after.rows.items ends.now.after.places.items
@@ -221,12 +425,28 @@ fn put_if_passed<W: Write>(
     Ok(())
 }
 
-/// Whether surely no line tells of what went between two screens inside a chunk that begins with a third one, whatever its
-/// end is.
-pub(crate) fn none_passes(first: &Standing, one: &Standing, other: &Standing) -> bool
-    ensures { result ≡ true → (index due len : ℕ) (last : List Row) (lasts : List Place)
+/// Whether surely no line tells of what went between two screens, of which the one lags so behind the other and on which a
+/// text of so many characters stands, inside a chunk that begins with a third one, whatever its end is.
+pub(crate) fn none_passes(
+    first: &Standing,
+    one: &Standing,
+    other: &Standing,
+    lag: Lag,
+    len: usize,
+) -> bool
+    ensures { result ≡ true → (text : List ℕ) (here there : List Row) → length text ≡ len
+        → IsStill text here one.now → IsStill text there other.now → Lags lag one.now.rows.items other.now.rows.items
+        → (index due len : ℕ) (last : List Row) (lasts : List Place)
         → passed_lines index due len first.now.rows.items first.now.places.items last lasts
         one.now.rows.items one.now.places.items other.now.rows.items other.now.places.items ≡ [] }
 {
-    keeps_all(one, other) || !may_pass(first, one, other)
+    let alloc = *one.rows.allocator();
+    let Ok(alone) = Alone::of(alloc, one, other, lag, len) else {
+        return false;
+    };
+    let kept = alone.keeps_all(one, other);
+    if kept {
+        return true;
+    }
+    !may_pass(first, one, other, &alone)
 }

@@ -1,6 +1,6 @@
 //! Refused growths in where a text stands on rows.
 
-use standings::{Lag, Less, Passed, Place, Row, Span, Standing, may_pass};
+use standings::{Alone, Lag, Less, Passed, Place, Row, Span, Standing, may_pass};
 use std::alloc::{AllocError, Global};
 use std::process::Abort;
 use std::rt::Runtime;
@@ -424,9 +424,21 @@ fn rows_that_lag(rt: HostRuntime) -> Result<(), Fail> {
     Ok(())
 }
 
+/// Nothing is known of how rows differ.
+const WHOLE: Lag = Lag {
+    moved: usize::MAX,
+    span: Span {
+        from: 0,
+        to: usize::MAX,
+    },
+};
+
 /// How many places of a screen are less on the other.
 fn count_less(alloc: Global, one: &Standing, other: &Standing) -> usize {
-    let less = Less::of(alloc, one, other);
+    let less = match Alone::of(alloc, one, other, WHOLE, 1) {
+        Ok(alone) => Less::of(alloc, one, other, &alone),
+        Err(_) => Less::untold(),
+    };
     let mut count = 0usize;
     for at in 0..one.places.len() {
         count = count.saturating_add(usize::from(less.has(one, at, other)));
@@ -442,7 +454,10 @@ fn count_passed(
     one: &Standing,
     other: &Standing,
 ) -> usize {
-    let passed = Passed::of(alloc, first, last, one, other);
+    let passed = match Alone::of(alloc, one, other, WHOLE, 1) {
+        Ok(alone) => Passed::of(alloc, first, last, one, other, &alone),
+        Err(_) => Passed::untold(),
+    };
     let mut count: usize = 0;
     for at in 0..one.places.len() {
         count = count.saturating_add(usize::from(passed.has(first, last, one, at, other)));
@@ -457,8 +472,10 @@ fn places_that_are_less(rt: HostRuntime) -> Result<(), Fail> {
     let other = still(&rt, &[("ba", false)], &[(0, 1)])?;
     assert!(rt; count_less(rt.alloc(), &one, &other) == 2);
     assert!(rt; count_less(rt.alloc(), &other, &one) == 0);
-    assert!(rt; may_pass(&other, &one, &other));
-    assert!(rt; !may_pass(&one, &one, &other));
+    if let Ok(alone) = Alone::of(rt.alloc(), &one, &other, WHOLE, 1) {
+        assert!(rt; may_pass(&other, &one, &other, &alone));
+        assert!(rt; !may_pass(&one, &one, &other, &alone));
+    }
     assert!(rt; count_passed(rt.alloc(), &other, &other, &one, &other) == 2);
     assert!(rt; count_passed(rt.alloc(), &other, &one, &one, &other) == 0);
     Ok(())

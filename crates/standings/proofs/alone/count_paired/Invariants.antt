@@ -6,7 +6,7 @@ use Rattle.standings.proofs.alone.count_paired.Given as goal
 abbrev pub invariant-loop-count : goal.invariant-loop-count
 invariant-loop-count l = record {
   few : l.count ≤ l.most;
-  pairs : PairOff l.one.rows.items (take (l.at + l.count) l.one.places.items) l.other.rows.items (take (l.there + l.count) l.other.places.items) (take l.at l.one.places.items) (take l.there l.other.places.items);
+  pairs : PairOff l.one (take (l.at + l.count) l.places) l.other (take (l.there + l.count) l.others) (take l.at l.places) (take l.there l.others);
 }
 
 abbrev pub decreases-loop-count : goal.decreases-loop-count

@@ -7,11 +7,11 @@ use Rattle.standings.proofs.alone.keeps_all.Given as goal
 -- those so far have as many with the same to the left
 abbrev pub invariant-loop-kept : goal.invariant-loop-kept
 invariant-loop-kept l = record {
-  within : l.kept ≤ length l.one.places.items;
-  there : l.at ≤ length l.other.places.items;
+  within : l.kept ≤ length l.places;
+  there : l.at ≤ length l.mates;
   agree : Agree (row_below l.rows l.agreed.here).characters (row_below l.others l.agreed.there).characters l.agreed.count;
-  counts : (left : List ℕ) → count_left l.one.rows.items (take l.kept l.one.places.items) left ≤ count_left l.other.rows.items (take l.at l.other.places.items) left;
+  counts : (left : List ℕ) → count_left l.rows (take l.kept l.places) left ≤ count_left l.others (take l.at l.mates) left;
 }
 
 abbrev pub decreases-loop-kept : goal.decreases-loop-kept
-decreases-loop-kept l = length l.other.places.items - l.at
+decreases-loop-kept l = length l.mates - l.at

@@ -5,8 +5,8 @@ use Rattle.standings.proofs.alone.next_pair.Given as goal
 abbrev pub invariant-loop-at : goal.invariant-loop-at
 invariant-loop-at l = record {
   low : l.from ≤ l.at;
-  within : l.at ≤ length l.one.places.items;
+  within : l.at ≤ length l.places;
 }
 
 abbrev pub decreases-loop-at : goal.decreases-loop-at
-decreases-loop-at l = length l.one.places.items - l.at
+decreases-loop-at l = length l.places - l.at

@@ -11,7 +11,7 @@ use Rattle.standings.proofs.less.some_pass.Goals as goal
 pub loop-at-preserved : goal.loop-at-preserved
 loop-at-preserved c =
     let one = c.args.one.now in
-    let alone = c.in_ok-alone.alone in
+    let alone = c.args.alone.now in
     let at = c.loop-at.at in
     let row = c.characters_below-row.result.now in
     let place : place_at alone.one.items at ≡ c.index.result.now = get_or_default alone.one.items at (place_in 0 0) c.index.result.now (omega (arith, c.loop-at-test.true, c.len.ensures, alone.one.ok.0)) ∙ sym c.index.ensures in
@@ -21,22 +21,22 @@ loop-at-preserved c =
     subst (λ l. (k : ℕ) → at ≤ k → k < c.row_end-at.result → (place_at l k).above ≡ (place_at l at).above) c.as_slice-in-loop-at.ensures.value c.row_end-at.ensures.same in
     record {
       within = omega (arith, c.row_end-at.ensures.within, ap length c.as_slice-in-loop-at.ensures.value);
-      none = λ n m lt low same. elim (cases_lt m at) [
-        | inl before ↦ c.loop-at.invariant.none n m lt before same
-        | inr high ↦ c.in_ok-some_pass_with.ensures.none c.if-branch.false n lt
+      none = λ pairs n m lt low same. elim (cases_lt m at) [
+        | inl before ↦ c.loop-at.invariant.none pairs n m lt before same
+        | inr high ↦ c.in_ok-some_pass_with.ensures.none pairs c.if-branch.false n lt
             (row_front one.rows.items alone.one.items at c.row_end-at.result row line above m (left_of one.rows.items (place_at one.places.items n)) high low same)
       ];
     }
 
 pub returns : goal.returns
-returns c =
+returns c = λ pairs.
     let first = c.args.first.now in
     let one = c.args.one.now in
     let other = c.args.other.now in
-    let alone = c.in_ok-alone.alone in
+    let alone = c.args.alone.now in
     record {
       none = λ _ n lt. all_stay one.rows.items other.rows.items one.places.items other.places.items alone.one.items alone.other.items
           (is_lone first.rows.items first.places.items (left_of one.rows.items (place_at one.places.items n))) n lt
-          c.in_ok-alone.ensures (λ m lt'. c.loop-at.invariant.none n m lt (omega (arith, lt', c.loop-at-test.false, c.len.ensures, alone.one.ok.0)));
+          pairs (λ m lt'. c.loop-at.invariant.none pairs n m lt (omega (arith, lt', c.loop-at-test.false, c.len.ensures, alone.one.ok.0)));
       some = λ t. absurd (false≢true t);
     }

@@ -20,10 +20,10 @@ returns c =
     ∙ ap (λ l. for_left l left - 18446744073709551615 * count_left first.rows.items first.places.items left) c.as_mut_slice-counts.ensures.value in
     let fit : length alone.one.items ≤ 18446744073709551615 = omega (arith, alone.one.ok.0, alone.one.ok.1, alone.one.small) in
     record {
-      none = λ told n lt begins. none_left row surplus spent one.rows.items other.rows.items first.rows.items one.places.items other.places.items first.places.items alone.one.items alone.other.items 18446744073709551615 n lt
-          c.requires c.in_ok-find_surplus.ensures.surplus off (c.is_spent.ensures.none (not-false c.is_spent.result told)) begins;
-      some = λ told.
+      none = λ pairs told n lt begins. none_left row surplus spent one.rows.items other.rows.items first.rows.items one.places.items other.places.items first.places.items alone.one.items alone.other.items 18446744073709551615 n lt
+          pairs c.in_ok-find_surplus.ensures.surplus off (c.is_spent.ensures.none (not-false c.is_spent.result told)) begins;
+      some = λ pairs told.
           let k = c.is_spent.ensures.some (not-true c.is_spent.result told) in
           some_left row surplus spent one.rows.items other.rows.items first.rows.items one.places.items other.places.items first.places.items alone.one.items alone.other.items 18446744073709551615 k.0
-          c.requires c.in_ok-find_surplus.ensures.surplus off fit (omega (arith, k.1, c.take_all_off.auto.surplus, ap length c.as_mut_slice-counts.ensures.value, c.in_ok-find_surplus.ensures.len)) k.2;
+          pairs c.in_ok-find_surplus.ensures.surplus off fit (omega (arith, k.1, c.take_all_off.auto.surplus, ap length c.as_mut_slice-counts.ensures.value, c.in_ok-find_surplus.ensures.len)) k.2;
     }

@@ -1,5 +1,5 @@
 use Rattle.std.proofs.Common.{◌≡◌, ℕ, ◌-◌, ◌<◌, ◌≤◌, ◌&&◌, false, length, slice_index_or, true}
-use Rattle.standings.specs.Less.{is_away}
+use Rattle.standings.specs.Less.{PairOff, is_away}
 use Rattle.standings.specs.Standing.{is_less, left_of, place_at}
 use Rattle.standings.proofs.less.tell.Given as goal
 
@@ -8,10 +8,10 @@ abbrev pub invariant-loop-at : goal.invariant-loop-at
 invariant-loop-at l = record {
   within : l.at ≤ length l.alone.one.items;
   len : length l.told.items ≡ length l.one.places.items;
-  right : (n : ℕ) → n < length l.one.places.items → slice_index_or l.told.items n false ≡ true
+  right : PairOff l.one.rows.items l.one.places.items l.other.rows.items l.other.places.items l.alone.one.items l.alone.other.items → (n : ℕ) → n < length l.one.places.items → slice_index_or l.told.items n false ≡ true
       → (is_away l.ends (left_of l.one.rows.items (place_at l.one.places.items n))
       && is_less l.one.rows.items l.one.places.items l.other.rows.items l.other.places.items n) ≡ true;
-  whole : (n m : ℕ) → n < length l.one.places.items → m < l.at
+  whole : PairOff l.one.rows.items l.one.places.items l.other.rows.items l.other.places.items l.alone.one.items l.alone.other.items → (n m : ℕ) → n < length l.one.places.items → m < l.at
       → left_of l.one.rows.items (place_at l.one.places.items n) ≡ left_of l.one.rows.items (place_at l.alone.one.items m)
       → (is_away l.ends (left_of l.one.rows.items (place_at l.one.places.items n))
       && is_less l.one.rows.items l.one.places.items l.other.rows.items l.other.places.items n) ≡ true

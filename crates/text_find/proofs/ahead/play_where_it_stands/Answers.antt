@@ -1,4 +1,4 @@
-use Rattle.std.proofs.Common.{◌≤◌, ◌++◌, List, ℕ, subst, sym, ◌∙◌, take}
+use Rattle.std.proofs.Common.{◌≤◌, ◌++◌, List, ℕ, refl, subst, sym, ◌∙◌, take}
 use Rattle.std.proofs.lemmas.Bool.{leb-true}
 use Rattle.standings.proofs.SpanLemmas.{stays_none}
 use Rattle.text_find.specs.Lines.{AreBetween, IsLagging, IsStill}
@@ -58,7 +58,9 @@ returns-clause-piece g c =
       calm = λ profile first before h are trails calm.
           let screen = g.F.Finder.screens profile in
           let still = after profile first before h are in
+          let stood = stood_before text (screen before) c.args.ends.now c.args.steps.now c.requires.stands are.after trails in
           quiet_calm text (screen first) screen before bytes taken ends.before c.args.steps.now.sides.before ends.after
           (piece.quiet profile before h are.after.rows are.after.places) still.before
-          (stood_before text (screen before) c.args.ends.now c.args.steps.now c.requires.stands are.after trails) still.after (c.none_passes-calm.ensures calm);
+          stood still.after
+          (c.none_passes-calm.ensures calm text (screen before) (screen (before ++ take taken bytes)) refl stood still.after (more trails.lags).before);
     }

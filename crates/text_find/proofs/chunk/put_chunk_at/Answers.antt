@@ -29,7 +29,7 @@ returns-in_err-put_ends-clause-front g c = λ profile found.
     let calm = c.in-Ok.ensures.calm profile here found.played found.still found.trails c.if-calm.true in
     let ends = c.play_ahead.new.ends in
     let all = calm_lines text m.index m.due m.len screen here chunk ends.before ends.after c.moment_of.ensures.len are.before are.after calm in
-    rw p.1 (subst (λ t. Began g.W.Write.contents c.args.writer.now c.put_ends.new.writer t) (all ∙ lines) c.in_err-put_ends.ensures.front)
+    rw p.1 (subst (λ t. Began g.W.Write.contents c.args.writer.now c.put_ends.new.writer t) (all ∙ lines) (c.in_err-put_ends.ensures.front text _ _ (sym c.moment_of.ensures.len) are))
 
 pub returns-in_err-end_chunk-clause-front : goal.returns-in_err-end_chunk-clause-front
 returns-in_err-end_chunk-clause-front g c = λ profile found.
@@ -49,7 +49,7 @@ returns-in_err-end_chunk-clause-front g c = λ profile found.
     let ends = c.play_ahead.new.ends in
     let all = calm_lines text m.index m.due m.len screen here chunk ends.before ends.after c.moment_of.ensures.len are.before are.after calm in
     rw p.1 (began_whole g.W.Write.contents c.args.writer.now c.put_ends.new.writer _
-    (subst (λ t. Gave g.W.Write.contents c.args.writer.now c.put_ends.new.writer t) (all ∙ lines) c.in_ok-put_ends.ensures.gave))
+    (subst (λ t. Gave g.W.Write.contents c.args.writer.now c.put_ends.new.writer t) (all ∙ lines) (c.in_ok-put_ends.ensures.gave text _ _ (sym c.moment_of.ensures.len) are)))
 
 pub returns-then-calm-clause-gave : goal.returns-then-calm-clause-gave
 returns-then-calm-clause-gave g c = λ profile found done.
@@ -67,7 +67,7 @@ returns-then-calm-clause-gave g c = λ profile found done.
     let calm = c.in-Ok.ensures.calm profile here found.played found.still found.trails c.if-calm.true in
     let ends = c.play_ahead.new.ends in
     let all = calm_lines text m.index m.due m.len screen here chunk ends.before ends.after c.moment_of.ensures.len are.before are.after calm in
-    subst (λ t. Gave g.W.Write.contents c.args.writer.now c.put_ends.new.writer t) (all ∙ lines) c.in_ok-put_ends.ensures.gave
+    subst (λ t. Gave g.W.Write.contents c.args.writer.now c.put_ends.new.writer t) (all ∙ lines) (c.in_ok-put_ends.ensures.gave text _ _ (sym c.moment_of.ensures.len) are)
 
 pub returns-then-calm-clause-found : goal.returns-then-calm-clause-found
 returns-then-calm-clause-found g c = λ profile found done.

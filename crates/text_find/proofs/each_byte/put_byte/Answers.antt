@@ -52,7 +52,7 @@ returns-in_err-put_passed-clause-front g c = λ profile before after h told are.
     let between = c.in_ok-catch_up.ensures.sides profile before before after h told are in
     rw p.1 (subst (λ t. Began g.W.Write.contents c.args.writer.now c.put_passed.new.writer t)
     (passed_by text m.index m.due m.len ends.before.rows.items ends.before.places.items ends.after.rows.items ends.after.places.items one other sides.before sides.after between.before between.after)
-    c.in_err-put_passed.ensures.front)
+    (c.in_err-put_passed.ensures.front text one other (sym c.requires) between))
 
 pub returns-in_err-settle-clause-front : goal.returns-in_err-settle-clause-front
 returns-in_err-settle-clause-front g c = λ profile before after h told are.
@@ -67,7 +67,7 @@ returns-in_err-settle-clause-front g c = λ profile before after h told are.
     rw p.1 (began_whole g.W.Write.contents c.args.writer.now c.put_passed.new.writer _
     (subst (λ t. Gave g.W.Write.contents c.args.writer.now c.put_passed.new.writer t)
     (passed_by text m.index m.due m.len ends.before.rows.items ends.before.places.items ends.after.rows.items ends.after.places.items one other sides.before sides.after between.before between.after)
-    c.in_ok-put_passed.ensures.gave))
+    (c.in_ok-put_passed.ensures.gave text one other (sym c.requires) between)))
 
 pub returns-clause-steps : goal.returns-clause-steps
 returns-clause-steps g c = λ profile before after h told are.

@@ -1,4 +1,4 @@
-use Rattle.std.proofs.Common.{◌≡◌, ◌<◌, ◌≤◌, ◌++◌, List, ℕ, ap, length, subst, sym, take, ◌∙◌}
+use Rattle.std.proofs.Common.{◌≡◌, ◌<◌, ◌≤◌, ◌++◌, List, ℕ, false, refl, ap, length, subst, sym, take, ◌∙◌}
 use Rattle.text_find.specs.Calm.{NonePass}
 use Rattle.text_find.specs.Foretold.{taken_by}
 use Rattle.text_find.specs.Lines.{AreBetween, IsStill}
@@ -34,6 +34,9 @@ returns-clause-piece g c =
           let screen = g.F.Finder.screens profile in
           let still = after profile first before h are in
           let told = c.requires.foretold profile before h are.after.rows are.after.places in
+          let stood = λ (no : c.is_calm-surely.result ≡ false).
+          subst (λ sides. IsStill text (screen before) sides.before) (sym c.change.ensures.sides)
+          (stood_before text (screen before) c.args.ends.now c.args.steps.now (c.is_calm-surely.ensures.stands no) are.after trails) in
           elim c.if-surely.branch [
             | then-surely w ↦
                 subst (NonePass text (screen first) screen before bytes) (sym count)
@@ -41,8 +44,7 @@ returns-clause-piece g c =
             | else-surely w ↦
                 quiet_calm text (screen first) screen before bytes taken ends.before c.change.new.steps.sides.before ends.after
                 (subst (AreQuiet text screen before bytes) (sym count) (c.is_calm-surely.ensures.quiet w.if-surely.false text screen before bytes told.keeps)) still.before
-                (subst (λ sides. IsStill text (screen before) sides.before) (sym c.change.ensures.sides)
-                (stood_before text (screen before) c.args.ends.now c.args.steps.now (c.is_calm-surely.ensures.stands w.if-surely.false) are.after trails)) still.after
-                (w.none_passes-calm.ensures (sym w.calm-is ∙ calm))
+                (stood w.if-surely.false) still.after
+                (w.none_passes-calm.ensures (sym w.calm-is ∙ calm) text (screen before) (screen (before ++ take taken bytes)) refl (stood w.if-surely.false) still.after (more trails.lags).before)
           ];
     }

@@ -1,35 +1,19 @@
-use Rattle.std.proofs.Common.{arith, length, subst, sym}
-use Rattle.std.proofs.lemmas.Result.{err_from_is_err_and}
+use Rattle.std.proofs.Common.{subst, sym}
 use Rattle.tape_core.specs.Devices.{Gave}
-use Rattle.text_find.specs.Lines.{less_line}
-use Rattle.text_find.proofs.BeganLemmas.{began_at, began_stays, first_more}
 use Rattle.text_find.proofs.LineLemmas.{none_less}
 use Rattle.text_find.proofs.lines.put_less.Goals as goal
 
 pub returns-then-none_went-clause-gave : goal.returns-then-none_went-clause-gave
-returns-then-none_went-clause-gave g c =
+returns-then-none_went-clause-gave g c = λ pairs.
     let one = c.args.one.now in
     let other = c.args.other.now in
     let m = c.args.moment in
     subst (λ t. Gave g.W.Write.contents c.args.writer.now c.args.writer.now t)
-    (sym (none_less c.args.sign m.index m.due m.len one.rows.items one.places.items other.rows.items other.places.items (c.keeps_all-none_went.ensures c.if-none_went.true)))
+    (sym (none_less c.args.sign m.index m.due m.len one.rows.items one.places.items other.rows.items other.places.items (c.keeps_all-none_went.ensures c.if-none_went.true pairs)))
     (c.gives_join.ensures.nothing c.args.writer.now)
 
-pub returns-in_err-put_if_less-clause-front : goal.returns-in_err-put_if_less-clause-front
-returns-in_err-put_if_less-clause-front g c =
-    let one = c.args.one.now in
-    let other = c.args.other.now in
-    let m = c.args.moment in
-    let f = less_line c.args.sign m.index m.due m.len one.rows.items one.places.items other.rows.items other.places.items in
-    let p = err_from_is_err_and c.from_residual.result c.from_residual.ensures.1 in
-    rw p.1 (began_at g.W.Write.contents c.args.writer.now c.loop-at.writer c.put_if_less.new.writer f c.loop-at.at (length one.places.items) (omega arith) c.loop-at.invariant
-    (began_stays g.W.Write.contents c.loop-at.writer c.put_if_less.new.writer (f c.loop-at.at) c.in_err-put_if_less.ensures.refused))
+pub returns-clause-gave : goal.returns-clause-gave
+returns-clause-gave g c = λ pairs. c.put_told.ensures.gave (c.of-less.ensures.told pairs)
 
-pub loop-at-preserved : goal.loop-at-preserved
-loop-at-preserved g c =
-    let one = c.args.one.now in
-    let other = c.args.other.now in
-    let m = c.args.moment in
-    let f = less_line c.args.sign m.index m.due m.len one.rows.items one.places.items other.rows.items other.places.items in
-    subst (λ t. Gave g.W.Write.contents c.args.writer.now c.put_if_less.new.writer t) (sym (first_more f c.loop-at.at))
-    (c.gives_join.ensures.both _ _ _ _ _ c.in_ok-put_if_less.ensures.gave c.loop-at.invariant)
+pub returns-clause-front : goal.returns-clause-front
+returns-clause-front g c = λ pairs. c.put_told.ensures.front (c.of-less.ensures.told pairs)

@@ -1,39 +1,25 @@
-use Rattle.std.proofs.Common.{arith, length, subst, sym}
-use Rattle.std.proofs.lemmas.Result.{err_from_is_err_and}
-use Rattle.tape_core.specs.Devices.{Gave}
-use Rattle.text_find.specs.Lines.{passed_line}
-use Rattle.text_find.proofs.LineLemmas.{none_passed}
-use Rattle.text_find.proofs.BeganLemmas.{began_at, began_stays, first_more}
+use Rattle.std.proofs.Common.{◌∙◌, ap, sym}
+use Rattle.standings.specs.Standing.{standing}
 use Rattle.text_find.proofs.lines.put_passed.Goals as goal
 
-pub returns-then-keeps_all-clause-gave : goal.returns-then-keeps_all-clause-gave
-returns-then-keeps_all-clause-gave g c =
-    let one = c.args.one.now in
-    let other = c.args.other.now in
-    let ends = c.args.ends.now in
-    let m = c.args.moment in
-    subst (λ t. Gave g.W.Write.contents c.args.writer.now c.args.writer.now t)
-    (sym (none_passed m.index m.due m.len ends.before.rows.items ends.before.places.items ends.after.rows.items ends.after.places.items one.rows.items one.places.items other.rows.items other.places.items
-    (c.keeps_all.ensures c.if-keeps_all.true)))
-    (c.gives_join.ensures.nothing c.args.writer.now)
+pub returns-in-Ok-clause-gave : goal.returns-in-Ok-clause-gave
+returns-in-Ok-clause-gave g c = λ text one other many are.
+    c.put_passed_alone.ensures.gave (c.in-Ok.ensures text many (are.before.places ∙ ap (standing text) (sym are.before.rows)) (are.after.places ∙ ap (standing text) (sym are.after.rows)) are.lag)
 
-pub returns-in_err-put_if_passed-clause-front : goal.returns-in_err-put_if_passed-clause-front
-returns-in_err-put_if_passed-clause-front g c =
-    let one = c.args.one.now in
-    let other = c.args.other.now in
+pub returns-in-Err-clause-gave : goal.returns-in-Err-clause-gave
+returns-in-Err-clause-gave g c = λ text one other many are.
     let ends = c.args.ends.now in
-    let m = c.args.moment in
-    let f = passed_line m.index m.due m.len ends.before.rows.items ends.before.places.items ends.after.rows.items ends.after.places.items one.rows.items one.places.items other.rows.items other.places.items in
-    let p = err_from_is_err_and c.from_residual.result c.from_residual.ensures.1 in
-    rw p.1 (began_at g.W.Write.contents c.args.writer.now c.loop-at.writer c.put_if_passed.new.writer f c.loop-at.at (length one.places.items) (omega arith) c.loop-at.invariant
-    (began_stays g.W.Write.contents c.loop-at.writer c.put_if_passed.new.writer (f c.loop-at.at) c.in_err-put_if_passed.ensures.refused))
+    let steps = c.args.steps.now in
+    c.put_told_passed.ensures.gave (c.untold-passed.ensures.told ends.before.rows.items ends.after.rows.items steps.before.rows.items steps.after.rows.items
+    ends.before.places.items ends.after.places.items steps.before.places.items steps.after.places.items)
 
-pub loop-at-preserved : goal.loop-at-preserved
-loop-at-preserved g c =
-    let one = c.args.one.now in
-    let other = c.args.other.now in
+pub returns-in-Ok-clause-front : goal.returns-in-Ok-clause-front
+returns-in-Ok-clause-front g c = λ text one other many are.
+    c.put_passed_alone.ensures.front (c.in-Ok.ensures text many (are.before.places ∙ ap (standing text) (sym are.before.rows)) (are.after.places ∙ ap (standing text) (sym are.after.rows)) are.lag)
+
+pub returns-in-Err-clause-front : goal.returns-in-Err-clause-front
+returns-in-Err-clause-front g c = λ text one other many are.
     let ends = c.args.ends.now in
-    let m = c.args.moment in
-    let f = passed_line m.index m.due m.len ends.before.rows.items ends.before.places.items ends.after.rows.items ends.after.places.items one.rows.items one.places.items other.rows.items other.places.items in
-    subst (λ t. Gave g.W.Write.contents c.args.writer.now c.put_if_passed.new.writer t) (sym (first_more f c.loop-at.at))
-    (c.gives_join.ensures.both _ _ _ _ _ c.in_ok-put_if_passed.ensures.gave c.loop-at.invariant)
+    let steps = c.args.steps.now in
+    c.put_told_passed.ensures.front (c.untold-passed.ensures.told ends.before.rows.items ends.after.rows.items steps.before.rows.items steps.after.rows.items
+    ends.before.places.items ends.after.places.items steps.before.places.items steps.after.places.items)

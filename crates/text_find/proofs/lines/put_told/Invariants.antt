@@ -1,10 +1,11 @@
+use Rattle.standings.specs.Less.{IsTold}
 use Rattle.tape_core.specs.Devices.{Gave}
 use Rattle.chunk_walk.proofs.TextLemmas.{texts_from}
 use Rattle.text_find.specs.Lines.{less_line}
-use Rattle.text_find.proofs.lines.put_less.Given as goal
+use Rattle.text_find.proofs.lines.put_told.Given as goal
 
 -- the lines of the places so far have gone out
 abbrev pub invariant-loop-at : goal.invariant-loop-at
 invariant-loop-at g l =
-    Gave g.W.Write.contents l.fn.writer l.writer
+    IsTold l.less l.one.rows.items l.one.places.items l.other.rows.items l.other.places.items → Gave g.W.Write.contents l.fn.writer l.writer
     (texts_from (less_line l.sign l.moment.index l.moment.due l.moment.len l.one.rows.items l.one.places.items l.other.rows.items l.other.places.items) 0 l.at)
