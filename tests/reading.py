@@ -1,17 +1,17 @@
 #!/usr/bin/env python3
 """Sees that docs/READING.md and docs/READING_TODAY.md list just the definitions that the headline rests on,
-docs/READING_FIND.md and docs/READING_FIND_TODAY.md those that *nowhere means nowhere* does, and
-docs/READING_TRANSCRIPT.md those that a transcript does.
+docs/READING_FIND.md and docs/READING_FIND_TODAY.md those that *nowhere means nowhere* does, docs/READING_TRANSCRIPT.md
+those that a transcript does, and docs/READING_STATE.md those that the laws of the state text do.
 
     tests/reading.py [--write]
 
 The lists are computed: every name that a clause of `Session::seek` cites, every name that those definitions cite, and
 so on, by the `use` lines of the specs/ folders; for the terminal of today, what the ghost members cite by which it
-plays, for find its clause `nowhere`, and for a transcript its clauses with the rows that leave and stand, each without
-what the lists have that it builds on. A record, a data type and its constructors count as one; so does a type of the
-code that the definitions speak of. With --write a page gets its lists anew, a row for each file with the names that it
-has: the headings and their order stay, names that went are dropped, new ones stand behind the definition that stands
-before them in their file, and one that moved to another file keeps its place.
+plays, for find its clause `nowhere`, for a transcript its clauses with the rows that leave and stand, and for the
+state text its laws, each without what the lists have that it builds on. A record, a data type and its constructors
+count as one; so does a type of the code that the definitions speak of. With --write a page gets its lists anew, a row
+for each file with the names that it has: the headings and their order stay, names that went are dropped, new ones
+stand behind the definition that stands before them in their file, and one that moved to another file keeps its place.
 """
 import glob
 import itertools
@@ -26,6 +26,8 @@ TODAY = "docs/READING_TODAY.md"
 FIND = "docs/READING_FIND.md"
 FIND_TODAY = "docs/READING_FIND_TODAY.md"
 TRANSCRIPT = "docs/READING_TRANSCRIPT.md"
+STATE = "docs/READING_STATE.md"
+STATE_CRATES = ("screen_state", "xterm_state")
 NAME = r"[^\W\d]\w*(?:\.\w+)*"
 USE = re.compile(r"^\s*(?:ghost )?use (Rattle\.[\w.]+?)(?:\.\{([^}]*)\}| as (\w+))?;?$", re.M)
 HEAD = re.compile(r"^(?:abbrev |unfoldable )?pub (?:record |data )?(\w+)", re.M)
@@ -79,7 +81,7 @@ def code_type(crate, name):
     """A type or trait of the code: its fields, variants or ghost members."""
     for path in files(f"crates/{crate}/src/**/*.rt"):
         text = read(path)
-        found = re.search(rf"^pub (struct|enum|trait) {name}\b[^{{;]*[{{;](.*?)^\}}", text, re.M | re.S)
+        found = re.search(rf"^(?:pub )?(struct|enum|trait) {name}\b[^{{;]*[{{;](.*?)^\}}", text, re.M | re.S)
         if found:
             body = re.sub(r"//.*", "", found[2])
             members = "\n".join(re.findall(r"^    ghost \w+: .*;$", body, re.M))
@@ -221,6 +223,13 @@ def rows_told(path):
     return path, text, " ".join(re.findall(r"^    ghost (?:leaving|standing) = \{.*?\};", text, re.M | re.S))
 
 
+def laws_of_state(crate):
+    """The file of a crate's laws of the state text, and what they say."""
+    path = f"crates/{crate}/src/laws.rt"
+    text = read(path)
+    return path, text, " ".join(re.findall(r"^    ensures \{.*?\}$", text, re.M | re.S))
+
+
 def rests_on(*contracts):
     """The definitions that contracts cite, and those that they cite, each once."""
     book = Book()
@@ -311,6 +320,8 @@ def pages():
     rows = (rows_told(f"crates/{crate}/src/transcribes.rt") for crate in ("screen_transcript", "xterm_transcript"))
     more, book = rests_on(contract_of_transcript(), *rows)
     yield TRANSCRIPT, {key: one for key, one in more.items() if key not in found and key not in today}, book
+    more, book = rests_on(*map(laws_of_state, STATE_CRATES))
+    yield STATE, {key: one for key, one in more.items() if key not in found and key not in today}, book
 
 
 def main():

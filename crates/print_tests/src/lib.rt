@@ -21,3 +21,5 @@ mod picture;
 mod plain;
 #[cfg(test)]
 mod refused;
+#[cfg(test)]
+mod state;

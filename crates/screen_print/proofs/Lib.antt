@@ -10,7 +10,7 @@ mod RunLemmas
 mod StartLemmas
 mod EscapedLemmas
 mod InkLemmas
-mod Redrawn
+pub mod Redrawn
 mod AskedLemmas
 mod NowhereLemmas
 mod StoodLemmas

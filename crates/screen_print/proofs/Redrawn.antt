@@ -73,7 +73,7 @@ pub record LawsBelow : Type 0 where
 
 -- A console on which a picture is drawn: in ANSI mode, lines counted from line 1, no wrapping, no insert mode, ASCII in G0 and special
 -- graphics in G1; some rows, a cursor, and what was written last. The rest is that of another console.
-abbrev drawing : Console → List Row → ℕ → ℕ → Pen → Console
+abbrev pub drawing : Console → List Row → ℕ → ℕ → Pen → Console
 drawing c rows line column pen = record c {
   picture = record c.picture { rows = rows; line = line; column = column; wrap = false };
   modes = record c.modes { mode = Ansi; origin = false; autowrap = false; insert = false };
@@ -88,7 +88,7 @@ small_params numbers some few small =
     let all = AllPass-from_list_all (λ n. nat_le n 9999) numbers small in
     record { some = some; few = few; small = λ k d within. leb-true _ 9999 (all k d within) }
 
-place_params : (line column : ℕ) → line ≤ 132 → column ≤ 132 → AreParams (line ∷ column ∷ [])
+pub place_params : (line column : ℕ) → line ≤ 132 → column ≤ 132 → AreParams (line ∷ column ∷ [])
 place_params line column low high = record {
   some = lit< tt;
   few = lit≤ tt;
@@ -111,25 +111,37 @@ record SetsRendition (a : Attributes) : Type 0 where
   set : (before : Attributes) → fold rendition_set before (rendition_numbers a) ≡ a
 
 -- digits in decimal
-zero_text : decimal 0 ≡ 48 ∷ []
+pub zero_text : decimal 0 ≡ 48 ∷ []
 zero_text = decimal_digit 0 (lit< tt)
 
-one_text : decimal 1 ≡ 49 ∷ []
+pub one_text : decimal 1 ≡ 49 ∷ []
 one_text = decimal_digit 1 (lit< tt)
 
-three_text : decimal 3 ≡ 51 ∷ []
+pub two_text : decimal 2 ≡ 50 ∷ []
+two_text = decimal_digit 2 (lit< tt)
+
+pub three_text : decimal 3 ≡ 51 ∷ []
 three_text = decimal_digit 3 (lit< tt)
 
-four_text : decimal 4 ≡ 52 ∷ []
+pub four_text : decimal 4 ≡ 52 ∷ []
 four_text = decimal_digit 4 (lit< tt)
 
-five_text : decimal 5 ≡ 53 ∷ []
+pub five_text : decimal 5 ≡ 53 ∷ []
 five_text = decimal_digit 5 (lit< tt)
 
-seven_text : decimal 7 ≡ 55 ∷ []
+pub seven_text : decimal 7 ≡ 55 ∷ []
 seven_text = decimal_digit 7 (lit< tt)
 
-ruleset digit_texts = (zero_text, one_text, three_text, four_text, five_text, seven_text)
+pub six_text : decimal 6 ≡ 54 ∷ []
+six_text = decimal_digit 6 (lit< tt)
+
+pub eight_text : decimal 8 ≡ 56 ∷ []
+eight_text = decimal_digit 8 (lit< tt)
+
+pub nine_text : decimal 9 ≡ 57 ∷ []
+nine_text = decimal_digit 9 (lit< tt)
+
+pub ruleset digit_texts = (zero_text, one_text, two_text, three_text, four_text, five_text, six_text, seven_text, eight_text, nine_text)
 
 sets_by : (bold underscore blink reverse : Bool) → SetsRendition (record { bold = bold; underscore = underscore; blink = blink; reverse = reverse })
 sets_by true true true true = record { text = simp digit_texts refl; are = small_params _ (lit< tt) (lit≤ tt) refl; set = λ before. refl }
@@ -155,9 +167,9 @@ sets_rendition a = sets_by a.bold a.underscore a.blink a.reverse
 -- ---- glyphs
 
 -- the byte is a graphic character, and stands for the glyph where its slot is invoked
-record ShowsGlyph (glyph byte : ℕ) (slot : Slot) : Type 0 where
-  graphic : is_graphic byte ≡ true
-  glyph_is : (graphics : Bool)
+pub record ShowsGlyph (glyph byte : ℕ) (slot : Slot) : Type 0 where
+  pub graphic : is_graphic byte ≡ true
+  pub glyph_is : (graphics : Bool)
       → glyph_of (set_in slot (record { g0 = Ascii; g1 = SpecialGraphics; invoked = slot; vt52_graphics = graphics })) byte
       ≡ glyph
 
@@ -166,41 +178,57 @@ shows_by : (glyph : ℕ) (low : Bool) → nat_lt glyph 32 ≡ low → glyph ≤ 
 shows_by glyph true is small = record { graphic = grind (arith, nat_tests); glyph_is = λ graphics. grind (arith, nat_tests) }
 shows_by glyph false is small = record { graphic = grind (arith, nat_tests); glyph_is = λ graphics. refl }
 
-shows_glyph : (glyph : ℕ) → glyph ≤ 126 → ShowsGlyph glyph (byte_for glyph) (slot_for glyph)
+pub shows_glyph : (glyph : ℕ) → glyph ≤ 126 → ShowsGlyph glyph (byte_for glyph) (slot_for glyph)
 shows_glyph glyph small = shows_by glyph (nat_lt glyph 32) refl small
 
-graphic_alone : (byte : ℕ) → is_graphic byte ≡ true → list_all is_graphic (byte ∷ []) ≡ true
+pub graphic_alone : (byte : ℕ) → is_graphic byte ≡ true → list_all is_graphic (byte ∷ []) ≡ true
 graphic_alone byte graphic = simp graphic refl
 
 -- ---- bytes
 
 -- the same by equal texts and equal consoles
-brings_as : (s : Console) {bytes others : List ℕ} {t u : Console} → Brings s bytes t → bytes ≡ others → t ≡ u → Brings s others u
+pub brings_as : (s : Console) {bytes others : List ℕ} {t u : Console} → Brings s bytes t → bytes ≡ others → t ≡ u → Brings s others u
 brings_as s {bytes = bytes} {u = u} brings text same = subst (λ b. Brings s b u) text (subst (λ v. Brings s bytes v) same brings)
 
--- CUP's text and its parameters
-place_text : (line column : ℕ) → escape ∷ 91 ∷ (params_text (line ∷ column ∷ []) ++ 72 ∷ []) ≡ placed_text line column
-place_text line column = ap (λ (t : List ℕ). escape ∷ 91 ∷ (t ++ 72 ∷ [])) (sym (append_assoc (decimal line) (59 ∷ []) (decimal column)))
+-- the text of a sequence with two numbers, and its parameters
+pub pair_text : (first second last : ℕ)
+    → escape ∷ 91 ∷ (params_text (first ∷ second ∷ []) ++ last ∷ []) ≡ escape ∷ codes "[" ++ decimal first ++ codes ";" ++ decimal second ++ last ∷ []
+pair_text first second last = ap (λ (t : List ℕ). escape ∷ 91 ∷ (t ++ last ∷ [])) (sym (append_assoc (decimal first) (59 ∷ []) (decimal second)))
 
 param_is : (n : ℕ) → 1 ≤ n → param_or (n ∷ []) 0 1 ≡ n
 param_is n some = grind (arith, nat_tests)
 
--- the cursor goes to a place
-place_brings : (laws : LawsBelow) (s : Console) (line column : ℕ) → s.modes.mode ≡ Ansi → s.modes.origin ≡ false
+-- the cursor goes to a place, wherever lines are counted from
+pub goes_brings : (laws : LawsBelow) (s : Console) (line column : ℕ) (origin : Bool) (there : Picture) → s.modes.mode ≡ Ansi → s.modes.origin ≡ origin
+    → 1 ≤ line → line ≤ 132 → 1 ≤ column → column ≤ 132 → placed line column origin s.picture ≡ there
+    → Brings s (placed_text line column) (record s { picture = there })
+goes_brings laws s line column origin there ansi counted low high left within is =
+    let params = line ∷ column ∷ [] in
+    let goes : placed (param_or params 0 1) (param_or params 1 1) s.modes.origin s.picture ≡ there =
+    ap (λ (i : ℕ). placed i (param_or params 1 1) s.modes.origin s.picture) (param_is line low)
+    ∙ ap (λ (j : ℕ). placed line j s.modes.origin s.picture) (param_is column left)
+    ∙ ap (λ (o : Bool). placed line column o s.picture) counted
+    ∙ is in
+    brings_as s
+    (laws.sequences s params 72 ansi (place_params line column high within) refl refl)
+    (pair_text line column 72)
+    (ap (λ (p : Picture). let t : Console = record s { picture = p } in t) goes)
+
+-- .. from line 1
+pub place_brings : (laws : LawsBelow) (s : Console) (line column : ℕ) → s.modes.mode ≡ Ansi → s.modes.origin ≡ false
     → 1 ≤ line → line ≤ 24 → 1 ≤ column → column ≤ right_margin s.picture line
     → Brings s (placed_text line column) (record s { picture = record s.picture { line = line; column = column; wrap = false } })
 place_brings laws s line column ansi origin low high left within =
     let fits = laws.margin_high s.picture line in
-    let params = line ∷ column ∷ [] in
-    let there : placed (param_or params 0 1) (param_or params 1 1) s.modes.origin s.picture ≡ record s.picture { line = line; column = column; wrap = false } =
-    ap (λ (i : ℕ). placed i (param_or params 1 1) s.modes.origin s.picture) (param_is line low)
-    ∙ ap (λ (j : ℕ). placed line j s.modes.origin s.picture) (param_is column left)
-    ∙ ap (λ (o : Bool). placed line column o s.picture) origin
-    ∙ laws.to_place line column s.picture high within in
-    brings_as s
-    (laws.sequences s params 72 ansi (place_params line column (omega arith) (omega arith)) refl refl)
-    (place_text line column)
-    (ap (λ (p : Picture). let t : Console = record s { picture = p } in t) there)
+    goes_brings laws s line column false (record s.picture { line = line; column = column; wrap = false }) ansi origin low (omega arith) left (omega arith)
+    (laws.to_place line column s.picture high within)
+
+-- a rendition is set
+pub rendition_set_brings : (laws : LawsBelow) (s : Console) (a : Attributes) → s.modes.mode ≡ Ansi → Brings s (rendition_set_text a) (record s { rendition = a })
+rendition_set_brings laws s a ansi =
+    let sets = sets_rendition a in
+    brings_as s (laws.sequences s (rendition_numbers a) 109 ansi sets.are refl refl) sets.text
+    (ap (λ (r : Attributes). let t : Console = record s { rendition = r } in t) (sets.set s.rendition))
 
 -- a line of which nothing is written is single, and none of its cells is left
 single_of : (size : Size) (cells : List Cell) → is_left_out size cells ≡ true → size ≡ Single
@@ -217,12 +245,7 @@ module _ (laws : LawsBelow) (c : Console) where
   -- a rendition is set
   rendition_brings : (rows : List Row) (line column : ℕ) (pen : Pen) (a : Attributes)
       → Brings (drawing c rows line column pen) (rendition_set_text a) (drawing c rows line column (record { rendition = a; invoked = pen.invoked }))
-  rendition_brings rows line column pen a =
-      let sets = sets_rendition a in
-      brings_as (drawing c rows line column pen)
-      (laws.sequences (drawing c rows line column pen) (rendition_numbers a) 109 refl sets.are refl refl)
-      sets.text
-      (ap (λ (r : Attributes). drawing c rows line column (record { rendition = r; invoked = pen.invoked })) (sets.set pen.rendition))
+  rendition_brings rows line column pen a = rendition_set_brings laws (drawing c rows line column pen) a refl
 
   rendition_where : (rows : List Row) (line column : ℕ) (pen : Pen) (a : Attributes) (same : Bool) → same_rendition pen.rendition a ≡ same
       → Brings (drawing c rows line column pen) (if same then [] else rendition_set_text a) (drawing c rows line column (record { rendition = a; invoked = pen.invoked }))
@@ -420,12 +443,12 @@ module _ (laws : LawsBelow) (c : Console) where
         one_line_more (suc n) (omega arith) within (subst LinesBring at_last (lines_bring n (omega arith)))
 
     -- all lines
-    abbrev AllBring : Type 0
+    abbrev pub AllBring : Type 0
     AllBring =
         (to : ℕ) × (column : ℕ) × (pen : Pen)
         × Brings (drawing c (rows_by (λ _. blank_row)) 1 1 first_pen) (lines_text first_pen 1 rows) (drawing c rows to column pen)
 
-    all_bring : AllBring
+    pub all_bring : AllBring
     all_bring =
         let lines = lines_bring 24 (lit≤ tt) in
         let pen = pen_after_lines first_pen (take 24 rows) in (
@@ -447,7 +470,7 @@ begun profile wide reversed = record (reset_console profile) {
 }
 
 -- one parameter
-one_param : (n : ℕ) → n ≤ 9999 → AreParams (n ∷ [])
+pub one_param : (n : ℕ) → n ≤ 9999 → AreParams (n ∷ [])
 one_param n small = record { some = lit< tt; few = lit≤ tt; small = All-from_recursion (λ m. m ≤ 9999) (n ∷ []) (small, tt) }
 
 module _ (laws : LawsBelow) where

@@ -17,7 +17,7 @@ use vt_screen::{Cell, Rendition, Row, Screen, Size};
 use vt_term::{Slot, Terminal};
 
 /// How many bytes a line has at most: 10 for its place, 3 for its size, and 14 for each of 132 cells.
-const LINE_BYTES: usize = 1861;
+pub const LINE_BYTES: usize = 1861;
 
 /// What is in force as the text goes on: the rendition that was written last, and the slot that is invoked.
 #[derive(Clone, Copy, PartialEq, Eq)]
@@ -56,7 +56,7 @@ pub fn escaped<W: Write>(terminal: &Terminal, writer: &mut Watched<W>) -> Result
 }
 
 /// Writes the lines.
-fn put_lines<W: Write>(screen: &Screen, writer: &mut Watched<W>)
+pub fn put_lines<W: Write>(screen: &Screen, writer: &mut Watched<W>)
     ensures { Gave W.contents writer.old writer.new
         (lines_text first_pen 1 screen.now.picture.rows) }
 {
@@ -119,7 +119,7 @@ fn is_left_out(size: Size, cells: &[Cell]) -> bool
 }
 
 /// CUP.
-fn push_place(text: &mut ArrayVec<u8, LINE_BYTES>, line: u8, column: u8)
+pub fn push_place(text: &mut ArrayVec<u8, LINE_BYTES>, line: u8, column: u8)
     requires room { length text.old.items + 10 ≤ LINE_BYTES }
     ensures text { text.new.items ≡ text.old.items ++ placed_text line column }
     ensures short { length text.new.items ≤ length text.old.items + 10 }
@@ -184,7 +184,7 @@ fn push_cell(text: &mut ArrayVec<u8, LINE_BYTES>, cell: Cell, pen: &mut Pen)
 }
 
 /// SGR of a rendition, after none.
-fn push_rendition(text: &mut ArrayVec<u8, LINE_BYTES>, rendition: Rendition)
+pub fn push_rendition(text: &mut ArrayVec<u8, LINE_BYTES>, rendition: Rendition)
     requires { length text.old.items + 12 ≤ LINE_BYTES }
     ensures { text.new.items ≡ text.old.items ++ rendition_set_text rendition }
 {
@@ -209,14 +209,14 @@ fn push_slot(text: &mut ArrayVec<u8, LINE_BYTES>, last: Slot, next: Slot)
 }
 
 /// The slot whose set has a glyph.
-fn slot_for(glyph: u8) -> Slot
+pub fn slot_for(glyph: u8) -> Slot
     ensures { result ≡ slot_for glyph }
 {
     if glyph < 32 { Slot::G1 } else { Slot::G0 }
 }
 
 /// The byte of a glyph in the set of its slot.
-fn byte_for(glyph: u8) -> u8
+pub fn byte_for(glyph: u8) -> u8
     ensures { result ≡ byte_for glyph }
 {
     if glyph < 32 { 95 + glyph } else { glyph }

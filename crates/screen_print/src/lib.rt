@@ -23,8 +23,10 @@ mod stood;
 mod walk;
 
 pub use change_lines::changes;
-pub use each_byte::{find, scratch};
-pub use escaped_print::escaped;
+pub use each_byte::find;
+pub use escaped_print::{
+    LINE_BYTES, byte_for, escaped, push_place, push_rendition, put_lines, slot_for,
+};
 pub use plain_print::plain;
 pub use still::Still;
 pub use walk::{ChangesFault, ChunkPrinter, put_all_chunks, put_chunks};

@@ -19,3 +19,5 @@ mod pages;
 mod pictures;
 #[cfg(test)]
 mod refused;
+#[cfg(test)]
+mod state;

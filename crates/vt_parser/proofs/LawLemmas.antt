@@ -28,7 +28,7 @@ capped_all zero pieces = tt
 capped_all (suc n) [] = tt
 capped_all (suc n) (piece ∷ pieces) = (omega arith, capped_all n pieces)
 
-params_proper : (text : List ℕ) → IsFrom 1 16 (length (params text)) × All (λ param. param ≤ 9999) (params text)
+pub params_proper : (text : List ℕ) → IsFrom 1 16 (length (params text)) × All (λ param. param ≤ 9999) (params text)
 unfolding numbers
 params_proper text =
     let pieces = slice_split is_semicolon text in

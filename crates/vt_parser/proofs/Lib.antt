@@ -1,11 +1,11 @@
-mod Numbers
+pub mod Numbers
 mod Table
-mod Shapes
+pub mod Shapes
 mod Growing
 mod Joins
 pub mod Agrees
 mod Endings
-mod ManyBytes
+pub mod ManyBytes
 pub mod LawLemmas
 pub mod Whole
 pub mod Written

@@ -77,6 +77,14 @@ text_inside : (text : List ℕ) → context_in (control_sequence_view text) ≡ 
 text_inside [] = refl
 text_inside (first ∷ rest) = grind (arith, nat_tests)
 
+-- a byte of a text that is begun
+pub text_grows : (done : List ℕ) (byte : ℕ) → is_control_sequence_text byte ≡ true
+    → stepped (control_sequence_view done) Ansi byte ≡ moves_to (control_sequence_view (done ++ byte ∷ []))
+text_grows done byte first =
+    let more : joined (control_sequence_view done) byte ≡ moves_to (control_sequence_view (done ++ byte ∷ [])) =
+    grind (arith, nat_tests, control_sequence_joins done byte) in
+    joins (control_sequence_view done) Ansi byte (text_inside done) (grind (arith, nat_tests)) ∙ more
+
 runs_text : (done text : List ℕ) (last : ℕ) → list_all is_control_sequence_text text ≡ true → is_control_sequence_final last ≡ true
     → Runs (control_sequence_view done) Ansi (text ++ last ∷ []) (gives (control_sequence_meaning (done ++ text) last))
 runs_text done [] last all is =
@@ -86,11 +94,8 @@ runs_text done [] last all is =
     ∙ ap (λ (text : List ℕ). gives (control_sequence_meaning text last)) (sym (append-nil done))
 runs_text done (byte ∷ text) last all is =
     let parts = and_parts (is_control_sequence_text byte) (list_all is_control_sequence_text text) all in
-    let first = parts.0 in
-    let more : joined (control_sequence_view done) byte ≡ moves_to (control_sequence_view (done ++ byte ∷ [])) =
-    grind (arith, nat_tests, control_sequence_joins done byte) in
     runs_more (control_sequence_view done) (control_sequence_view (done ++ byte ∷ [])) Ansi byte (text ++ last ∷ []) _
-    (joins (control_sequence_view done) Ansi byte (text_inside done) (grind (arith, nat_tests)) ∙ more)
+    (text_grows done byte parts.0)
     (subst (λ (whole : List ℕ). Runs (control_sequence_view (done ++ byte ∷ [])) Ansi (text ++ last ∷ [])
     (gives (control_sequence_meaning whole last)))
     (append_assoc done (byte ∷ []) text) (runs_text (done ++ byte ∷ []) text last parts.1 is))

@@ -63,10 +63,10 @@ unbroken number small =
     All-weaker (λ byte. is_digit byte ≡ true) (λ byte. is_semicolon byte ≡ false) (λ byte is. grind (arith, nat_tests)) (decimal number)
     (AllPass-from_list_all is_digit (decimal number) (is_decimal number (omega arith)).all)
 
-abbrev Small : List ℕ → Type 0
+abbrev pub Small : List ℕ → Type 0
 Small numbers = AllByRecursion (λ number. number ≤ 9999) numbers
 
-text_plain : (numbers : List ℕ) → Small numbers → list_all is_plain (params_text numbers) ≡ true
+pub text_plain : (numbers : List ℕ) → Small numbers → list_all is_plain (params_text numbers) ≡ true
 text_plain [] small = refl
 text_plain (number ∷ []) small = plain_digits number small.0
 text_plain (number ∷ next ∷ rest) small =
@@ -74,7 +74,7 @@ text_plain (number ∷ next ∷ rest) small =
     let others = text_plain (next ∷ rest) small.1 in
     list_all-append is_plain (decimal number) (59 ∷ params_text (next ∷ rest)) ∙ simp (first, others)
 
-numbers-text : (first : ℕ) (rest : List ℕ) → Small (first ∷ rest) → numbers (params_text (first ∷ rest)) ≡ first ∷ rest
+pub numbers-text : (first : ℕ) (rest : List ℕ) → Small (first ∷ rest) → numbers (params_text (first ∷ rest)) ≡ first ∷ rest
 unfolding numbers
 numbers-text first [] small =
     ap (map parameter) (slice_split_none is_semicolon (decimal first) (unbroken first small.0))
@@ -85,7 +85,7 @@ numbers-text first (second ∷ rest) small =
 
 -- ---- what is read
 
-unmarked : (text : List ℕ) → list_all is_plain text ≡ true → (is_private text ≡ false) × (after_mark text ≡ text)
+pub unmarked : (text : List ℕ) → list_all is_plain text ≡ true → (is_private text ≡ false) × (after_mark text ≡ text)
 unmarked [] all = (refl, refl)
 unmarked (byte ∷ rest) all = (grind (arith, nat_tests), grind (arith, nat_tests))
 
@@ -99,7 +99,7 @@ decimals_are_read (first ∷ rest) are =
 text_of : (numbers : List ℕ) → AreParams numbers → list_all is_plain (params_text numbers) ≡ true
 text_of numbers are = text_plain numbers (recursion_from_All _ numbers are.small)
 
-text_joins : (text : List ℕ) → list_all is_plain text ≡ true → list_all is_control_sequence_text text ≡ true
+pub text_joins : (text : List ℕ) → list_all is_plain text ≡ true → list_all is_control_sequence_text text ≡ true
 text_joins text plain = list_all_weaker is_plain is_control_sequence_text text (λ byte is. grind (arith, nat_tests)) plain
 
 pub written_sequences_finish : WrittenSequencesFinish

@@ -1,16 +1,16 @@
-mod Answers
+pub mod Answers
 mod Blanked
-mod Drawing
+pub mod Drawing
 mod Erased
 mod Index
 pub mod Regions
 mod Rows
-mod Runs
+pub mod Runs
 mod Scrolled
 pub mod SoundRows
 pub mod Soundness
 mod Stops
-mod Tables
+pub mod Tables
 mod Told
 mod Turns
 mod Packed

@@ -156,7 +156,7 @@ by_kind Wide character rendition marks open_ = refl
 by_kind Covered character rendition marks open_ = absurd cc
 
 -- its cell without marks
-letter_of : (cell : Cell) → is_covered cell ≡ false → lettered cell.character (is_wide cell) cell.rendition ≡ record cell { marks = [] }
+pub letter_of : (cell : Cell) → is_covered cell ≡ false → lettered cell.character (is_wide cell) cell.rendition ≡ record cell { marks = [] }
 letter_of cell open_ = by_kind cell.kind cell.character cell.rendition cell.marks open_
 
 pub covering_narrow : (rendition : Rendition) → is_wide (covering rendition) ≡ false
@@ -212,7 +212,7 @@ letter_drawn at row whole low high open_ covers =
         ]
 
 -- .. and then a mark joins it, ..
-one_more : (cell : Cell) (marks : List ℕ) (mark : ℕ) → length marks < 2
+pub one_more : (cell : Cell) (marks : List ℕ) (mark : ℕ) → length marks < 2
     → with_mark mark (record cell { marks = marks }) ≡ record cell { marks = marks ++ mark ∷ [] }
 unfolding with_mark
 one_more cell marks mark few =

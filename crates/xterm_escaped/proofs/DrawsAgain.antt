@@ -24,10 +24,10 @@ use Rattle.xterm_escaped.proofs.Params.{are_params, low_text}
 use Rattle.xterm_escaped.proofs.Shown.{canvas, drawing}
 
 -- one number of one digit, and 25
-digit_alone : (n : ℕ) → n < 10 → params_text (n ∷ []) ≡ (48 + n) ∷ []
+pub digit_alone : (n : ℕ) → n < 10 → params_text (n ∷ []) ≡ (48 + n) ∷ []
 digit_alone n small = params_further n [] ∙ append-nil (decimal n) ∙ decimal_digit n small
 
-digits_25 : params_text (25 ∷ []) ≡ 50 ∷ 53 ∷ []
+pub digits_25 : params_text (25 ∷ []) ≡ 50 ∷ 53 ∷ []
 digits_25 =
     params_further 25 [] ∙ append-nil (decimal 25) ∙ decimal_step 25 (lit≤ tt) (lit< tt)
     ∙ ap (λ digits. digits ++ 53 ∷ []) (decimal_digit 2 (lit< tt))

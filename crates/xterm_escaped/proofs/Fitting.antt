@@ -51,17 +51,17 @@ pub record IsShown (character : ℕ) (wide : Bool) : Type 0 where
   pub columns : width character ≡ columns_of wide
   pub typed : IsTyped character
 
-lettered_open : (character : ℕ) (wide : Bool) (rendition : Rendition) → is_covered (lettered character wide rendition) ≡ false
+pub lettered_open : (character : ℕ) (wide : Bool) (rendition : Rendition) → is_covered (lettered character wide rendition) ≡ false
 unfolding lettered is_covered
 lettered_open character true rendition = refl
 lettered_open character false rendition = refl
 
-lettered_wide : (character : ℕ) (wide : Bool) (rendition : Rendition) → is_wide (lettered character wide rendition) ≡ wide
+pub lettered_wide : (character : ℕ) (wide : Bool) (rendition : Rendition) → is_wide (lettered character wide rendition) ≡ wide
 unfolding lettered is_wide
 lettered_wide character true rendition = refl
 lettered_wide character false rendition = refl
 
-lettered_rendition : (character : ℕ) (wide : Bool) (rendition : Rendition) → (lettered character wide rendition).rendition ≡ rendition
+pub lettered_rendition : (character : ℕ) (wide : Bool) (rendition : Rendition) → (lettered character wide rendition).rendition ≡ rendition
 unfolding lettered
 lettered_rendition character wide rendition = refl
 
@@ -99,15 +99,15 @@ all_few : (b : Bool) (marks : List ℕ) (mark : ℕ) → AllByRecursion IsMark m
 all_few true marks mark all is = all_more marks mark all is
 all_few false marks mark all is = all
 
-marked_wide : (mark : ℕ) (cell : Cell) → is_wide (with_mark mark cell) ≡ is_wide cell
+pub marked_wide : (mark : ℕ) (cell : Cell) → is_wide (with_mark mark cell) ≡ is_wide cell
 unfolding is_wide with_mark
 marked_wide mark cell = refl
 
-marked_covered : (mark : ℕ) (cell : Cell) → is_covered (with_mark mark cell) ≡ is_covered cell
+pub marked_covered : (mark : ℕ) (cell : Cell) → is_covered (with_mark mark cell) ≡ is_covered cell
 unfolding is_covered with_mark
 marked_covered mark cell = refl
 
-marked_rendition : (mark : ℕ) (cell : Cell) → (with_mark mark cell).rendition ≡ cell.rendition
+pub marked_rendition : (mark : ℕ) (cell : Cell) → (with_mark mark cell).rendition ≡ cell.rendition
 unfolding with_mark
 marked_rendition mark cell = refl
 
@@ -172,7 +172,7 @@ at_table n f k =
     ]
 
 -- each half of a row is mended
-mended_there : (paper : Colour) (row : List Cell) (k : ℕ) → cell_at (mended paper row) k
+pub mended_there : (paper : Colour) (row : List Cell) (k : ℕ) → cell_at (mended paper row) k
     ≡ (if is_half (cell_at row (k - 1)) (cell_at row k) (cell_at row (k + 1)) then blank paper else cell_at row k)
 mended_there paper row k = cell_there row _ k (λ out.
     let none = cell_outside row k out in
@@ -302,7 +302,7 @@ module _ (ascii : AsciiIsNarrow) where
 
   -- ---- marks
 
-  character_open : (at : ℕ) (row : List Cell) → Whole row → 1 ≤ at → is_covered (cell_at row (character_column at row)) ≡ false
+  pub character_open : (at : ℕ) (row : List Cell) → Whole row → 1 ≤ at → is_covered (cell_at row (character_column at row)) ≡ false
   character_open at row whole low = elim (cases_Bool (is_covered (cell_at row at))) [
     | inl covered ↦ (let next : at - 1 + 1 ≡ at = omega arith in
         let left : is_wide (cell_at row (at - 1)) ≡ true = sym (whole (at - 1)) ∙ ap (λ j. is_covered (cell_at row j)) next ∙ covered in

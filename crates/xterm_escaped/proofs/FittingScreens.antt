@@ -63,10 +63,10 @@ long_mended paper row n e = length-table (length row) _ ∙ e
 long_erased : (from to : ℕ) (paper : Colour) (row : List Cell) → length (erased from to paper row) ≡ length row
 long_erased from to paper row = long_mended paper (filled from to (blank paper) row) (length row) (length-table (length row) _)
 
-long_put : (at character : ℕ) (wide : Bool) (rendition : Rendition) (row : List Cell) → length (put at character wide rendition row) ≡ length row
+pub long_put : (at character : ℕ) (wide : Bool) (rendition : Rendition) (row : List Cell) → length (put at character wide rendition row) ≡ length row
 long_put at character wide rendition row = long_mended rendition.paper (written at character wide rendition row) (length row) (length-table (length row) _)
 
-long_inserted : (n from : ℕ) (paper : Colour) (row : List Cell) → length (inserted n from paper row) ≡ length row
+pub long_inserted : (n from : ℕ) (paper : Colour) (row : List Cell) → length (inserted n from paper row) ≡ length row
 long_inserted n from paper row = long_mended paper (moved_right n from paper row) (length row) (length-table (length row) _)
 
 long_deleted : (n from : ℕ) (paper : Colour) (row : List Cell) → length (deleted n from paper row) ≡ length row
@@ -320,7 +320,7 @@ module _ (ascii : AsciiIsNarrow) where
   pub fits_next_line : (paper : Colour) (p : Picture) → IsByteColour paper → PictureFits p → PictureFits (next_line paper p)
   fits_next_line paper p is fits = fits_indexed paper (moved_to_left p) is (fits_cursor p.line 1 false p fits)
 
-  fits_ready : (wide autowrap : Bool) (paper : Colour) (p : Picture) → IsByteColour paper → PictureFits p → PictureFits (made_ready wide autowrap paper p)
+  pub fits_ready : (wide autowrap : Bool) (paper : Colour) (p : Picture) → IsByteColour paper → PictureFits p → PictureFits (made_ready wide autowrap paper p)
   fits_ready wide autowrap paper p is fits =
       let q = wrap_taken paper p in
       let fits_q = either_fits p.wrap (next_line paper p) p (fits_next_line paper p is fits) fits in

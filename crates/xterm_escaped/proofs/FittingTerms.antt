@@ -482,9 +482,9 @@ module _ (laws : FitLaws) where
   fit_title : (value : Bool) (s : Console) → Fit s → Fit (title_set value s)
   fit_title value s fit = fit_else s s.modes s.sets value fit
 
-  record FitOutcome (o : Outcome) : Type 0 where
-    is : Fit o.console
-    front : IsFront o.character
+  pub record FitOutcome (o : Outcome) : Type 0 where
+    pub is : Fit o.console
+    pub front : IsFront o.character
 
   fit_either : (b : Bool) (o q : Outcome) → (b ≡ true → FitOutcome o) → FitOutcome q → FitOutcome (if b then o else q)
   fit_either true o q one two = one refl
@@ -514,7 +514,7 @@ module _ (laws : FitLaws) where
   fit_gone More s sequence character byte fit front is = record { is = fit; front = front_on character byte front is }
   fit_gone Broken s sequence character byte fit front is = fit_read (put replacement s) sequence byte (fit_replacement s fit)
 
-  fit_outcome : (s : Console) (sequence character : List ℕ) (byte : ℕ) → Fit s → IsFront character → FitOutcome (outcome_of s sequence character byte)
+  pub fit_outcome : (s : Console) (sequence character : List ℕ) (byte : ℕ) → Fit s → IsFront character → FitOutcome (outcome_of s sequence character byte)
   unfolding outcome_of
   fit_outcome s sequence character byte fit front =
       fit_either (is_ground character) _ _ (λ g. fit_read s sequence byte fit)

@@ -58,14 +58,14 @@ abbrev pub low_byte : ℕ → Bool
 low_byte byte = nat_le byte 127
 
 -- a term with no character pending
-abbrev behind : Console → List ℕ → List ℕ → Term
+abbrev pub behind : Console → List ℕ → List ℕ → Term
 behind s sequence reports = record { console = s; sequence = sequence; character = []; reports = reports }
 
 no_upper : (ground : Bool) (byte : ℕ) → low_byte byte ≡ true → (ground && nat_le 128 byte) ≡ false
 no_upper true byte low = grind (arith, nat_tests)
 no_upper false byte low = refl
 
-stepped_by : (s : Console) (sequence reports : List ℕ) (byte : ℕ) → s.title ≡ false → low_byte byte ≡ true
+pub stepped_by : (s : Console) (sequence reports : List ℕ) (byte : ℕ) → s.title ≡ false → low_byte byte ≡ true
     → step (behind s sequence reports) byte ≡ stepped reports (syntax_read s sequence byte)
 stepped_by s sequence reports byte title low =
     ap (λ (o : Outcome). stepped reports o)
@@ -78,7 +78,7 @@ once true false s = refl
 once false true s = refl
 once false false s = refl
 
-same_title : (b : Bool) (s : Console) → (forgotten_if b s).title ≡ s.title
+pub same_title : (b : Bool) (s : Console) → (forgotten_if b s).title ≡ s.title
 same_title true s = refl
 same_title false s = refl
 
@@ -134,7 +134,7 @@ last_if true last s = (None, refl)
 last_if false last s = (last, refl)
 
 -- a whole sequence has its effect, where that and its reply don't go by the last character
-whole_leads : (s t : Console) (bytes : List ℕ) (command : Command) → s.title ≡ false → list_all low_byte bytes ≡ true
+pub whole_leads : (s t : Console) (bytes : List ℕ) (command : Command) → s.title ≡ false → list_all low_byte bytes ≡ true
     → Gives Ansi Ansi [] bytes (Some command) × (pending_after_bytes Ansi Ansi [] bytes ≡ [])
     → ((l : Option ℕ) → effect command (ended l s) ≡ ended l t) → ((l : Option ℕ) → reply command (ended l s) ≡ []) → Leads s bytes t
 whole_leads s t bytes command title low finishes effects silent = λ last reports.

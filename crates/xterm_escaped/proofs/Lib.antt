@@ -1,22 +1,22 @@
-mod EscapedLemmas
-mod Led
-mod Tables
-mod Drawn
-mod Numbers
-mod Shown
-mod Colours
-mod Same
-mod Texts
-mod Params
-mod Cells
-mod Redrawing
-mod RowDrawn
-mod Lines
-mod Typed
-mod Fitting
-mod FittingScreens
-mod FittingTerms
-mod Blanks
-mod LinesDrawn
-mod DrawsAgain
-mod ColoursPlayed
+pub mod EscapedLemmas
+pub mod Led
+pub mod Tables
+pub mod Drawn
+pub mod Numbers
+pub mod Shown
+pub mod Colours
+pub mod Same
+pub mod Texts
+pub mod Params
+pub mod Cells
+pub mod Redrawing
+pub mod RowDrawn
+pub mod Lines
+pub mod Typed
+pub mod Fitting
+pub mod FittingScreens
+pub mod FittingTerms
+pub mod Blanks
+pub mod LinesDrawn
+pub mod DrawsAgain
+pub mod ColoursPlayed

@@ -17,16 +17,16 @@ use Rattle.xterm_escaped.proofs.Params.{are_params, IsShort, low_text}
 use Rattle.xterm_escaped.proofs.Shown.{drawing}
 
 -- CUP to a place of the screen
-short_place : (line column : ℕ) → line ≤ 9999 → column ≤ 9999 → IsShort 16 (line ∷ column ∷ [])
+pub short_place : (line column : ℕ) → line ≤ 9999 → column ≤ 9999 → IsShort 16 (line ∷ column ∷ [])
 short_place line column low high =
     let first : nat_le line 9999 ≡ true = grind (arith, nat_tests) in
     let second : nat_le column 9999 ≡ true = grind (arith, nat_tests) in
     record { few = omega arith; all = simp (first, second) }
 
-first_given : (line column : ℕ) → 1 ≤ line → param_or (line ∷ column ∷ []) 0 1 ≡ line
+pub first_given : (line column : ℕ) → 1 ≤ line → param_or (line ∷ column ∷ []) 0 1 ≡ line
 first_given line column low = let test : (line == 0) ≡ false = grind (arith, nat_tests) in simp test
 
-second_given : (line column : ℕ) → 1 ≤ column → param_or (line ∷ column ∷ []) 1 1 ≡ column
+pub second_given : (line column : ℕ) → 1 ≤ column → param_or (line ∷ column ∷ []) 1 1 ≡ column
 second_given line column low = let test : (column == 0) ≡ false = grind (arith, nat_tests) in simp test
 
 placed_there : (line column : ℕ) (p : Picture) → line ≤ p.lines → column ≤ p.columns
@@ -34,7 +34,7 @@ placed_there : (line column : ℕ) (p : Picture) → line ≤ p.lines → column
 placed_there line column p high within =
     ap₂ (λ (l k : ℕ). let q : Picture = record p { line = l; column = k; wrap = false } in q) (omega arith) (omega arith)
 
-grouped : (a b : List ℕ) → (a ++ (59 ∷ []) ++ b) ≡ a ++ 59 ∷ b
+pub grouped : (a b : List ℕ) → (a ++ (59 ∷ []) ++ b) ≡ a ++ 59 ∷ b
 grouped a b = append_assoc a (59 ∷ []) b
 
 pub place_leads : LawsBelow → (c : Console) (rows : List (List Cell)) (l k : ℕ) (wrap : Bool) (r : Rendition) (line column : ℕ) → c.title ≡ false

@@ -31,7 +31,7 @@ unfolding printed characters
 printed_none cell covered = ap (λ b. flat_map encode_utf8 (if b then [] else cell.character ∷ cell.marks)) covered
 
 -- one of a row's cells is no half
-end_within : (row : List Cell) (k : ℕ) → Whole row → k ≤ length row → end_of k row ≤ length row
+pub end_within : (row : List Cell) (k : ℕ) → Whole row → k ≤ length row → end_of k row ≤ length row
 end_within row k whole within = elim (cases_Bool (is_wide (cell_at row k))) [
   | inl wide ↦ elim (cases_lt k (length row)) [
     | inl less ↦ (let e : end_of k row ≡ k + 1 = ap (λ b. if b then k + 1 else k) wide in omega arith)

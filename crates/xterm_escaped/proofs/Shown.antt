@@ -37,22 +37,22 @@ pub record IsCanvas (c : Console) : Type 0 where
 
 -- one with room for it is written
 module _ (wide : Bool) (p : Picture) (unwrapped : p.wrap ≡ false) (over : overhangs wide p ≡ false) where
-  found : (autowrap : Bool) (paper : Colour) → line_found wide autowrap paper p ≡ p
+  pub found : (autowrap : Bool) (paper : Colour) → line_found wide autowrap paper p ≡ p
   found true paper = ap (λ b. if b then next_line paper p else p) over
   found false paper = refl
 
-  ready : (autowrap : Bool) (paper : Colour) → made_ready wide autowrap paper p ≡ p
+  pub ready : (autowrap : Bool) (paper : Colour) → made_ready wide autowrap paper p ≡ p
   ready autowrap paper =
       ap (line_found wide autowrap paper) (ap (λ b. if b then next_line paper p else p) unwrapped) ∙ found autowrap paper
 
-  shown_is : (character : ℕ) (rendition : Rendition) (autowrap inserting : Bool) → inserting ≡ false
+  pub shown_is : (character : ℕ) (rendition : Rendition) (autowrap inserting : Bool) → inserting ≡ false
       → shown character wide rendition autowrap inserting p ≡ advanced (columns_of wide) autowrap (character_written character wide rendition p)
   shown_is character rendition autowrap inserting replaces =
       ap (λ q. if overhangs wide q then q else character_put character wide rendition autowrap inserting q) (ready autowrap rendition.paper)
       ∙ ap (λ b. if b then p else character_put character wide rendition autowrap inserting p) over
       ∙ ap (λ b. advanced (columns_of wide) autowrap (character_written character wide rendition (room_made b wide rendition.paper p))) replaces
 
-  not_dropped : (autowrap : Bool) (paper : Colour) → is_dropped wide autowrap paper p ≡ false
+  pub not_dropped : (autowrap : Bool) (paper : Colour) → is_dropped wide autowrap paper p ≡ false
   not_dropped autowrap paper = ap (overhangs wide) (ready autowrap paper) ∙ over
 
 shown_there : (character : ℕ) (wide : Bool) (s : Console) → s.picture.wrap ≡ false → s.modes.insert ≡ false → overhangs wide s.picture ≡ false
@@ -63,11 +63,11 @@ shown_there character wide s wrap insert over =
     (shown_is wide s.picture wrap over character s.rendition s.modes.autowrap s.modes.insert insert)
     (not_dropped wide s.picture wrap over s.modes.autowrap s.rendition.paper)
 
-room : (wide : Bool) (column columns : ℕ) → column + columns_of wide ≤ columns + 1 → (wide && (column == columns)) ≡ false
+pub room : (wide : Bool) (column columns : ℕ) → column + columns_of wide ≤ columns + 1 → (wide && (column == columns)) ≡ false
 room true column columns fits = grind (arith, nat_tests)
 room false column columns fits = refl
 
-by_columns : (wide : Bool) (character : ℕ) (s : Console) → is_c1 character ≡ false → width character ≡ columns_of wide → put character s ≡ shown_with wide character s
+pub by_columns : (wide : Bool) (character : ℕ) (s : Console) → is_c1 character ≡ false → width character ≡ columns_of wide → put character s ≡ shown_with wide character s
 unfolding put
 by_columns true character s no_c1 is = simp (no_c1, is)
 by_columns false character s no_c1 is = simp (no_c1, is)
@@ -106,7 +106,7 @@ letter_shown c rows line at last rendition character wide l is no_c1 width_is ne
 
 -- ---- a mark
 
-by_none : (mark : ℕ) (s : Console) → is_c1 mark ≡ false → width mark ≡ 0 → put mark s ≡ record s { picture = mark_joined mark s.picture }
+pub by_none : (mark : ℕ) (s : Console) → is_c1 mark ≡ false → width mark ≡ 0 → put mark s ≡ record s { picture = mark_joined mark s.picture }
 unfolding put
 by_none mark s no_c1 none = simp (no_c1, none)
 

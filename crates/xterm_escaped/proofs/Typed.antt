@@ -117,9 +117,13 @@ character_in (Character c) = c
 character_in More = 0
 character_in Broken = 0
 
+-- a scalar value from U+0080 on
+abbrev pub IsUpper : ℕ → Type 0
+IsUpper c = (0x80 ≤ c) × InScalarRange c
+
 by_tests : (goes whole : Bool) (code c : ℕ) → (if goes then (if whole then Character code else More) else Broken) ≡ Character c
-    → (goes ≡ true → whole ≡ true → IsTypeable code) → IsTypeable c
-by_tests true true code c e ok = subst IsTypeable (ap character_in e) (ok refl refl)
+    → (goes ≡ true → whole ≡ true → IsUpper code) → IsUpper c
+by_tests true true code c e ok = subst IsUpper (ap character_in e) (ok refl refl)
 by_tests true false code c e ok = absurd cc
 by_tests false whole code c e ok = absurd cc
 
@@ -134,13 +138,13 @@ high_lead a is = record { three = λ long same. grind (arith, nat_tests) }
 long_is : (n m : ℕ) → (n == m) ≡ true → n ≡ m
 long_is n m e = grind (arith, nat_tests)
 
-read_two : (a b : ℕ) → begins a ≡ true → may_follow (a ∷ []) b ≡ true → (row_of a).length ≡ 2 → IsTypeable (code_point (a ∷ b ∷ []))
+read_two : (a b : ℕ) → begins a ≡ true → may_follow (a ∷ []) b ≡ true → (row_of a).length ≡ 2 → IsUpper (code_point (a ∷ b ∷ []))
 read_two a b begun follows long =
     let l = lead a begun in let low = l.two_low long in let high = l.two_high long in let s = second a b l follows in
-    inr (omega (arith, s.0, s.1), two_scalar a b low high s.0 s.1)
+    (omega (arith, s.0, s.1), two_scalar a b low high s.0 s.1)
 
 read_three : (a b c : ℕ) → begins a ≡ true → may_follow (a ∷ []) b ≡ true → (row_of a).length ≡ 3 → is_trailing c ≡ true
-    → IsTypeable (code_point (a ∷ b ∷ c ∷ []))
+    → IsUpper (code_point (a ∷ b ∷ c ∷ []))
 read_three a b c begun follows long trailing =
     let l = lead a begun in let h = high_lead a begun in
     let low = l.three_low long in let high = l.three_high long in
@@ -149,14 +153,13 @@ read_three a b c begun follows long trailing =
     let bounds = within _ _ b follows in let over = bounds.0 in let under = bounds.1 in
     let t = within 0x80 0xBF c trailing in let t_low = t.0 in let t_high = t.1 in
     let least = h.three long in
-    let most = l.no_surrogate long in
-    inr (
+    let most = l.no_surrogate long in (
       elim (cases_lt 0xE0 a) [ inl more ↦ omega arith | inr first ↦ (let same : a ≡ 0xE0 = omega arith in let enough = least same in omega arith) ],
       three_scalar a b c low high from to (λ e. let fewer = most e in omega arith) t_low t_high,
     )
 
 read_four : (a b c d : ℕ) → begins a ≡ true → may_follow (a ∷ []) b ≡ true → (row_of a).length ≡ 4 → is_trailing c ≡ true → is_trailing d ≡ true
-    → IsTypeable (code_point (a ∷ b ∷ c ∷ d ∷ []))
+    → IsUpper (code_point (a ∷ b ∷ c ∷ d ∷ []))
 read_four a b c d begun follows long third fourth =
     let l = lead a begun in
     let low = l.four_low long in let high = l.four_high long in
@@ -166,21 +169,23 @@ read_four a b c d begun follows long third fourth =
     let t = within 0x80 0xBF c third in let t_low = t.0 in let t_high = t.1 in
     let u = within 0x80 0xBF d fourth in let u_low = u.0 in let u_high = u.1 in
     let bottom = l.bottom long in
-    let top = l.top long in
-    inr (
+    let top = l.top long in (
       elim (cases_lt 0xF0 a) [ inl more ↦ omega arith | inr first ↦ (let same : a ≡ 0xF0 = omega arith in let enough = bottom same in omega arith) ],
       four_scalar a b c d low high from to (λ e. let fewer = top e in omega arith) (λ e. let enough = bottom e in omega arith) t_low t_high u_low u_high,
     )
 
-pub read_typeable : (pending : List ℕ) (byte c : ℕ) → IsFront pending → reading pending byte ≡ Character c → IsTypeable c
-read_typeable [] byte c front e = absurd cc
-read_typeable (a ∷ []) byte c front e =
+pub read_upper : (pending : List ℕ) (byte c : ℕ) → IsFront pending → reading pending byte ≡ Character c → IsUpper c
+read_upper [] byte c front e = absurd cc
+read_upper (a ∷ []) byte c front e =
     by_tests (may_follow (a ∷ []) byte) (is_whole (a ∷ byte ∷ [])) (code_point (a ∷ byte ∷ [])) c e
     (λ goes whole. read_two a byte front goes (long_is (row_of a).length 2 whole))
-read_typeable (a ∷ b ∷ []) byte c front e =
+read_upper (a ∷ b ∷ []) byte c front e =
     by_tests (may_follow (a ∷ b ∷ []) byte) (is_whole (a ∷ b ∷ byte ∷ [])) (code_point (a ∷ b ∷ byte ∷ [])) c e
     (λ goes whole. read_three a b byte front.0 front.1 (long_is (row_of a).length 3 whole) goes)
-read_typeable (a ∷ b ∷ d ∷ []) byte c front e =
+read_upper (a ∷ b ∷ d ∷ []) byte c front e =
     by_tests (may_follow (a ∷ b ∷ d ∷ []) byte) (is_whole (a ∷ b ∷ d ∷ byte ∷ [])) (code_point (a ∷ b ∷ d ∷ byte ∷ [])) c e
     (λ goes whole. read_four a b d byte front.0 front.1 (long_is (row_of a).length 4 whole) front.2 goes)
-read_typeable (a ∷ b ∷ d ∷ f ∷ rest) byte c front e = absurd front
+read_upper (a ∷ b ∷ d ∷ f ∷ rest) byte c front e = absurd front
+
+pub read_typeable : (pending : List ℕ) (byte c : ℕ) → IsFront pending → reading pending byte ≡ Character c → IsTypeable c
+read_typeable pending byte c front e = inr (read_upper pending byte c front e)

@@ -61,7 +61,7 @@ fn put_closing<W: Write>(terminal: &Terminal, writer: &mut Watched<W>)
 }
 
 /// Writes CUP.
-fn put_place<W: Write>(line: u16, column: u16, writer: &mut Watched<W>)
+pub fn put_place<W: Write>(line: u16, column: u16, writer: &mut Watched<W>)
     ensures { Gave W.contents writer.old writer.new (placed_text line column) }
 {
     gives_join::<W>();
@@ -87,7 +87,7 @@ fn put_lines<W: Write>(screen: &Screen, writer: &mut Watched<W>)
 
 /// Writes a line where this rendition is in force, and returns the one that is then.
 #[tactic(auto, unfolding(crate::specs::EscapedText::line_text, crate::specs::EscapedText::rendition_after_line))]
-fn put_line<W: Write>(
+pub fn put_line<W: Write>(
     line: u16,
     row: &[Cell],
     last: Rendition,

@@ -5,4 +5,5 @@ mod escaped_print;
 pub mod laws;
 mod renditions;
 
-pub use escaped_print::escaped;
+pub use escaped_print::{escaped, put_line, put_place};
+pub use renditions::{put_number, put_rendition, put_where, same_rendition};

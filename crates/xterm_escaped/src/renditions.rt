@@ -29,7 +29,7 @@ const INK: u8 = 30;
 const PAPER: u8 = 40;
 
 /// Whether two renditions are one.
-pub(crate) fn same_rendition(one: Rendition, other: Rendition) -> bool
+pub fn same_rendition(one: Rendition, other: Rendition) -> bool
     ensures { result ≡ same_rendition one other }
 {
     attribute_number(one) == attribute_number(other)
@@ -39,7 +39,7 @@ pub(crate) fn same_rendition(one: Rendition, other: Rendition) -> bool
 
 /// Writes what sets a rendition, whatever was in force.
 #[tactic(auto, unfolding(crate::specs::EscapedText::rendition_set_text))]
-pub(crate) fn put_rendition<W: Write>(rendition: Rendition, writer: &mut Watched<W>)
+pub fn put_rendition<W: Write>(rendition: Rendition, writer: &mut Watched<W>)
     ensures { Gave W.contents writer.old writer.new (rendition_set_text rendition) }
 {
     gives_join::<W>();
@@ -98,7 +98,7 @@ fn put_attributes<W: Write>(rendition: Rendition, writer: &mut Watched<W>)
 }
 
 /// Writes a text, or nothing.
-pub(crate) fn put_where<W: Write>(holds: bool, text: &[u8], writer: &mut Watched<W>)
+pub fn put_where<W: Write>(holds: bool, text: &[u8], writer: &mut Watched<W>)
     ensures { Gave W.contents writer.old writer.new (text_where holds text.now) }
 {
     gives_join::<W>();
@@ -161,7 +161,7 @@ fn put_direct<W: Write>(base: u8, red: u8, green: u8, blue: u8, writer: &mut Wat
 }
 
 /// Writes a number in decimal.
-pub(crate) fn put_number<W: Write>(number: u16, writer: &mut Watched<W>)
+pub fn put_number<W: Write>(number: u16, writer: &mut Watched<W>)
     ensures { Gave W.contents writer.old writer.new (decimal number) }
 {
     writer.give(Buffer::new().format(number).as_bytes());

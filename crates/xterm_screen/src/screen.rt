@@ -1,6 +1,6 @@
 //! The screen, how it is made, and what is read of it. Lines and columns are counted from 1.
 
-ghost use Rattle.std.specs.Prelude.{◌≡◌, ℕ, ◌+◌, ◌<◌, ◌≤◌, Bool, IfOk, List, false, length, true};
+ghost use Rattle.std.specs.Prelude.{◌≡◌, ℕ, ◌+◌, ◌<◌, ◌≤◌, Bool, IfOk, List, false, if◌then◌else◌, length, true};
 ghost use Rattle.sheet.specs.Cells.{Cell};
 ghost use Rattle.sheet.specs.Grid.{IsUsed, is_touched, row_at};
 ghost use Rattle.sheet.specs.Halves.{Whole};
@@ -186,6 +186,32 @@ impl Screen {
             &self.other
         } else {
             &self.shown
+        }
+    }
+
+    /// The cells of a line of the alternate sheet, whichever is shown.
+    pub fn alternate_row(&self, line: u16) -> &[Cell]
+        requires low { 1 ≤ line }
+        requires high { line ≤ self.now.picture.lines }
+        ensures value { let p = self.now.picture in
+            result.now ≡ row_at (if p.alternate then p.rows else p.other) line }
+        ensures columns { length result.now ≡ self.now.picture.columns }
+        ensures whole { Whole result.now }
+    {
+        self.alternate_sheet().row(line)
+    }
+
+    // The alternate sheet, whichever is shown.
+    fn alternate_sheet(&self) -> &Sheet
+        ensures rows { let p = self.now.picture in
+            result.now.rows ≡ (if p.alternate then p.rows else p.other) }
+        ensures columns { result.now.columns ≡ self.now.picture.columns }
+        ensures lines { result.now.lines ≡ self.now.picture.lines }
+    {
+        if self.alternate {
+            &self.shown
+        } else {
+            &self.other
         }
     }
 

@@ -1,0 +1,3 @@
+pub mod PendingLemmas
+mod TextLemmas
+pub mod SizeLemmas

@@ -1,0 +1,14 @@
+mod Below
+mod Modes
+mod Anew
+mod PendingLemmas
+mod Stops
+mod Kept
+mod Canvas
+mod ClosingLemmas
+mod Reached
+mod Remade
+mod TextLemmas
+mod SizeLemmas
+mod ProfileLemmas
+mod Cutting

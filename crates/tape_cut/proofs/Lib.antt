@@ -1,0 +1,12 @@
+pub mod DueParts
+pub mod PieceLemmas
+pub mod Shapes
+pub mod TimedLemmas
+pub mod PartLemmas
+pub mod EditLemmas
+pub mod CutLemmas
+pub mod ExcerptLemmas
+pub mod MakingLemmas
+pub mod LimitLemmas
+pub mod CodeLemmas
+pub mod PuttingLemmas

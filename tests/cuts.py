@@ -1,0 +1,195 @@
+#!/usr/bin/env python3
+"""Cuts random recordings and takes excerpts of them, and looks at what they show at every moment that matters.
+
+    tests/cuts.py TYPETOOL [RECORDINGS [SEED]]
+
+Each is played as a VT100, as a VT102 and as a terminal of today, and cut at moments at which chunks are due, a
+microsecond before them and a microsecond behind them. The new pair has to be the one that plain_cut.py comes to, around
+the text that `screen --state` writes; and at each moment at which something may change, a microsecond before it and
+behind it, plain terminals (plain_vt100.py, plain_today.py) that are fed what is due of the new recording have to be
+what they are by the old one at its moment: all that they keep, and what becomes of them by more bytes, since what is
+pending shows only then. `screen --escaped` and `reports` have to tell the same of both. No test runs it yet, since
+the program has none of these commands. The last line is 'N passed, M failed'.
+"""
+import concurrent.futures
+import functools
+import os
+import pickle
+import random
+import subprocess
+import sys
+import tempfile
+
+import harm
+import plain_cut
+import plain_reader as plain
+import plain_today
+import plain_vt100
+import random_recordings
+import random_today
+
+program = os.path.abspath(sys.argv[1])
+count = int(sys.argv[2]) if len(sys.argv) > 2 else 200
+seed = int(sys.argv[3]) if len(sys.argv) > 3 else 1
+# Far above what any of these recordings takes: a command that isn't done by then is stuck.
+PATIENCE = 20
+PROFILES = ["vt100", "vt102", "xterm"]
+# What finishes a sequence, an address, a string or a character that is pending, and what shows that none is.
+PROBES = [b"5;7HX", b"*Y", b"#8", b"\x18Z", b"1mq\x0eq", b"\\P", b"\x07x", b"\xa9y", b"B\r\nz", b"\x1b8w"]
+
+
+class Fed:
+    """A plain terminal of a profile, by what is due of a recording."""
+
+    def __init__(self, profile, size, text):
+        self.terminal = (
+            plain_today.Terminal(*size) if profile == "xterm" else plain_vt100.Terminal(edits=profile == "vt102")
+        )
+        self.terminal.feed(text)
+
+    def seen(self, probes):
+        """All that it keeps but what is pending, and the same behind each probe."""
+        kept, told = pickle.dumps(self.terminal), [self.terminal.state]
+        for probe in probes:
+            other = pickle.loads(kept)
+            other.feed(probe)
+            told.append(other.state)
+        return told
+
+
+def seconds(moment):
+    return plain.written(moment).decode()
+
+
+def around(moments, most):
+    """The moments, and those beside them."""
+    near = {at + step for at in moments for step in (-1, 0, 1)}
+    return sorted(at for at in near if 0 <= at <= most)
+
+
+class Cutting:
+    def __init__(self, folder, number):
+        self.rng = random.Random(seed * 1_000_003 + number)
+        self.folder = os.path.join(folder, str(number))
+        self.problems = []
+        os.mkdir(self.folder)
+        self.profile = self.rng.choice(PROFILES)
+        self.size = random_today.size(self.rng) if self.profile == "xterm" else None
+        self.flags = ["--profile", self.profile]
+        if self.size:
+            self.flags += ["--size", f"{self.size[0]}x{self.size[1]}"]
+
+    def path(self, name):
+        return os.path.join(self.folder, name)
+
+    def run(self, *words):
+        words = [program, *words]
+        done = subprocess.run(words, stdin=subprocess.DEVNULL, capture_output=True, cwd=self.folder, timeout=PATIENCE)
+        return done.returncode, done.stdout
+
+    def expect(self, name, got, wanted):
+        if got != wanted:
+            self.problems.append(f"{name}: got {str(got)[:300]}, wanted {str(wanted)[:300]}")
+
+    def recording(self):
+        """Header, chunks and trailer: random ones, some of them over pieces of real recordings."""
+        header, chunks, trailer = random_recordings.recording(self.rng)
+        if self.profile == "xterm":
+            chunks = [(delay, random_today.stream(self.rng)) for delay, _ in chunks]
+        if self.rng.random() < 0.3:
+            _, more, _ = harm.piece(self.rng, harm.recordings())
+            at = self.rng.randint(0, len(chunks))
+            chunks = [*chunks[:at], *more, *chunks[at:]]
+        return header, [list(chunk) for chunk in chunks], trailer
+
+    def write(self, recording):
+        for name, text in zip(("s", "t"), plain.files_of(recording)):
+            with open(self.path(name), "wb") as file:
+                file.write(text)
+
+    def read(self):
+        with open(self.path("s2"), "rb") as script, open(self.path("t2"), "rb") as timing:
+            return plain.read(script.read(), timing.read())
+
+    def told(self, kind, at, *pair):
+        """What a command tells of a moment of a pair."""
+        status, out = self.run(*kind, "--at", seconds(at), *self.flags, *pair)
+        self.expect(f"status of {kind} at {at}", status, 0)
+        return out
+
+    def same_at(self, name, old, new, moments, old_moment):
+        for at in moments:
+            then, probes = old_moment(at), self.rng.sample(PROBES, 3)
+            got = Fed(self.profile, self.size, plain.due(new, at)).seen(probes)
+            wanted = Fed(self.profile, self.size, plain.due(old, then)).seen(probes)
+            self.expect(f"{name}: seen at {at}", got, wanted)
+        for at in self.rng.sample(moments, min(2, len(moments))):
+            then = old_moment(at)
+            got = self.told(["screen", "--escaped"], at, "s2", "t2")
+            self.expect(f"{name}: drawn at {at}", got, self.told(["screen", "--escaped"], then, "s", "t"))
+
+    def job(self, name, words, recording, wanted, old_moment):
+        """Runs a job, and compares what it wrote with the chunks that are wanted."""
+        for path in ("s2", "t2"):
+            if os.path.exists(self.path(path)):
+                os.remove(self.path(path))
+        self.expect(f"{name} {words}", self.run(name, *words, *self.flags, "s", "t", "s2", "t2"), (0, b""))
+        header, chunks, trailer = recording
+        self.expect(f"{name} {words}: the pair", self.read(), (header, wanted, trailer))
+        moments = around([moment for moment, _ in plain_cut.timed(wanted)] + [0], plain.GREATEST)
+        self.same_at(f"{name} {words}", chunks, wanted, moments, old_moment)
+
+    def cut(self, recording, start, end):
+        chunks = recording[1]
+        state = self.told(["screen", "--state"], end, "s", "t")
+        wanted = plain_cut.cut(chunks, start, end, state)
+        words = ["--from", seconds(start), "--to", seconds(end)]
+        self.job("cut", words, recording, wanted, lambda at: plain_cut.before_cut(at, start, end))
+        stay = self.told(["reports"], start, "s", "t").strip()
+        whole = self.told(["reports"], plain.GREATEST, "s", "t").strip()
+        gone = self.told(["reports"], max(start, end), "s", "t").strip()
+        self.expect("reports", self.told(["reports"], plain.GREATEST, "s2", "t2").strip(), stay + whole[len(gone) :])
+
+    def excerpt(self, recording, start, end):
+        state = self.told(["screen", "--state"], start, "s", "t")
+        wanted = plain_cut.excerpt(recording[1], start, end, state)
+        words = ["--from", seconds(start)] + ([] if end is None else ["--to", seconds(end)])
+        self.job("excerpt", words, recording, wanted, lambda at: plain_cut.before_excerpt(at, start, end))
+
+    def everything(self):
+        recording = self.recording()
+        self.write(recording)
+        moments = around([moment for moment, _ in plain_cut.timed(recording[1])] + [0], plain.GREATEST)
+        for _ in range(2):
+            self.cut(recording, self.rng.choice(moments), self.rng.choice(moments))
+            self.excerpt(recording, self.rng.choice(moments), self.rng.choice([*moments, None]))
+
+
+def one(folder, number):
+    cutting = Cutting(folder, number)
+    try:
+        cutting.everything()
+    except subprocess.TimeoutExpired as stuck:
+        cutting.problems.append(f"stuck: {stuck.cmd}")
+    if not cutting.problems:
+        for name in os.listdir(cutting.folder):
+            os.remove(cutting.path(name))
+    return number, cutting.problems
+
+
+def main():
+    failed = 0
+    folder = tempfile.mkdtemp(prefix="cutting-")
+    with concurrent.futures.ProcessPoolExecutor(os.cpu_count()) as pool:
+        for number, problems in pool.map(functools.partial(one, folder), range(count), chunksize=8):
+            failed += bool(problems)
+            for problem in problems:
+                print(f"FAILED recording {number} in {folder}: {problem}")
+    if not failed:
+        subprocess.run(["rm", "-rf", folder], check=True)
+    print(f"cuts: {count - failed} passed, {failed} failed")
+    return failed > 0
+
+
+if __name__ == "__main__":
+    sys.exit(main())
