@@ -15,7 +15,7 @@ _typetool() {
         last=${COMP_WORDS[COMP_CWORD - 2]}
     fi
     case $last in
-    --profile) mapfile -t COMPREPLY < <(compgen -W 'vt100 vt102 xterm' -- "$word") ;;
+    --profile) mapfile -t COMPREPLY < <(compgen -W 'vt100 vt102 xterm auto' -- "$word") ;;
     --size) mapfile -t COMPREPLY < <(compgen -W '80x24 100x30 120x40 132x43 160x50' -- "$word") ;;
     --at | --from | --to | --every | --title) COMPREPLY=() ;;
     *)

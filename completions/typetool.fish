@@ -17,7 +17,7 @@ complete -c typetool -n '__typetool_has last' -l last -d 'Begin at the last sess
 complete -c typetool -n '__typetool_has headless' -l headless -d 'Put a header line before the typescript'
 complete -c typetool -n '__typetool_has from' -x -l from -d 'Chunks that are due after this, in seconds'
 complete -c typetool -n '__typetool_has to' -x -l to -d 'Chunks that are due by this, in seconds'
-complete -c typetool -n '__typetool_has profile' -x -l profile -a 'vt100 vt102 xterm' -d 'Which terminal plays'
+complete -c typetool -n '__typetool_has profile' -x -l profile -a 'vt100 vt102 xterm auto' -d 'Which terminal plays'
 complete -c typetool -n '__typetool_has size' -x -l size -a '80x24 100x30 120x40 132x43 160x50' -d 'Columns, x and lines of the terminal of today'
 complete -c typetool -n '__typetool_has title' -x -l title -d 'The title of the page'
 complete -c typetool -n '__typetool_has every' -x -l every -d 'Chunks between terminals that are kept'

@@ -25,6 +25,7 @@ import sys
 import tempfile
 import time
 
+import check_reader
 import harm
 import plain_reader
 import random_recordings
@@ -346,6 +347,13 @@ def try_transcripts(archive):
     check("transcripts: what was found", lines_of(archive.file("found")), tagged(found.items()))
 
 
+def told_profile(archive, name):
+    """The profile by which docs/COMMANDS.md says that the first line of a typescript is played."""
+    term = check_reader.value(b"TERM", read(os.path.join(archive.top, name)).split(b"\n")[0]) or b""
+    kind = term.split(b"-")[0]
+    return {b"vt102": "vt102", b"vt100": "vt100", b"vt52": "vt100"}.get(kind, "xterm")
+
+
 def try_wrong(program):
     """A folder that can't be read, a timing that is missing, a full disk: each is told by name, and so is the rest."""
     with tempfile.TemporaryDirectory(prefix="archive-") as place:
@@ -366,6 +374,8 @@ def try_wrong(program):
             check(f"a full disk: {engine} asks all", len(told), expected(archive, asked)[2])
             os.remove(os.path.join(place, "found"))
         compare(archive, "room again", archive.run(2), asked)
+        mixed = {name: archive.ask(name, "find", "--profile", told_profile(archive, name), "err") for name in asked}
+        compare(archive, "recordings of many terminals", archive.run(6), mixed)
         try_locked(archive, "3 of seven")
 
 
@@ -413,7 +423,7 @@ def try_elsewhere(archive, asked):
         skip.skip("asking on several machines", "openssh-server")
     else:
         with machines(archive):
-            compare(archive, "machines", archive.run(6), asked)
+            compare(archive, "machines", archive.run(7), asked)
             hosts = {line.split("\t")[1] for line in archive.file("log").splitlines()[1:]}
             check("machines: who was asked", hosts, {"alpha", "beta"})
     missing = [name for name in ("munged", "slurmctld", "slurmd", "sbatch") if shutil.which(name, path=SBIN) is None]
@@ -421,7 +431,7 @@ def try_elsewhere(archive, asked):
         skip.skip("asking on a cluster", " and ".join(missing))
         return
     with cluster(archive):
-        status = archive.run(7)
+        status = archive.run(8)
     for name in ("found", "told"):
         texts = [read(path) for path in sorted(glob.glob(f"{archive.place}/{name}-*"))]
         check(f"a cluster: tasks that {name}", len(texts), 8)

@@ -4,7 +4,7 @@ import os
 import re
 
 HELP = os.path.join(os.path.dirname(os.path.abspath(__file__)), "help")
-USAGE = re.compile(r"^Usage: typetool (\w+)(?: \[OPTIONS\])?(.*) <SCRIPT> <TIMING>$", re.MULTILINE)
+USAGE = re.compile(r"^Usage: typetool (\w+)(?: \[OPTIONS\])?(.*) <SCRIPT> \[TIMING\]$", re.MULTILINE)
 
 
 def reading(seconds="1", text="a"):

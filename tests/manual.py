@@ -65,7 +65,7 @@ def front():
 def sentences(text):
     """What a help text says of its command, and of each argument and flag."""
     yield text.split("\n", 1)[0]
-    for line in re.findall(r"^ +(?:<|-).*$", text, flags=re.MULTILINE):
+    for line in re.findall(r"^ +(?:<|\[|-).*$", text, flags=re.MULTILINE):
         yield re.split(r"  +", line.strip(), maxsplit=1)[1]
 
 
@@ -145,12 +145,12 @@ def in_shells():
             check(f"{shell}: {command}", offered(shell, "typetool", command, "--"), flags_of(text))
         check(f"{shell}: profiles", offered(shell, "typetool", "screen", "--profile", "vt"), {"vt100", "vt102"})
     # bash cuts words at =, fish doesn't.
-    for words, wanted in ((["="], {"vt100", "vt102", "xterm"}), (["=", "vt"], {"vt100", "vt102"})):
+    for words, wanted in ((["="], {"vt100", "vt102", "xterm", "auto"}), (["=", "vt"], {"vt100", "vt102"})):
         got = offered("bash", "typetool", "find", "--profile", *words)
         check(f"bash: --profile{''.join(words)}", got, wanted)
     for command in (command for command, text in texts.items() if "--profile" in flags_of(text)):
         of_today = offered("bash", "typetool", command, "--profile", "")
-        check(f"bash: profiles of {command}", of_today, {"vt100", "vt102", "xterm"})
+        check(f"bash: profiles of {command}", of_today, {"vt100", "vt102", "xterm", "auto"})
     check("bash: sizes", offered("bash", "typetool", "page", "--size", "1"), {"100x30", "120x40", "132x43", "160x50"})
     check("bash: --size=8", offered("bash", "typetool", "page", "--size", "=", "8"), {"80x24"})
     if "fish" in shells:
@@ -170,7 +170,7 @@ def told_to_zsh(*asked):
 
 def in_zsh():
     text, commands = read(os.path.join(TOP, "completions", "_typetool")), front()[1]
-    check("zsh: sizes", "--size=[columns, x and lines, with --profile xterm]:size:(80x24 " in text, True)
+    check("zsh: sizes", "--size=[columns, x and lines, with --profile xterm or auto]:size:(80x24 " in text, True)
     if skip.lacks("zsh", "what zsh completes"):
         return
     told = subprocess.run(["zsh", "-n", "completions/_typetool"], cwd=TOP, capture_output=True, text=True)
@@ -182,7 +182,7 @@ def in_zsh():
     for command, words in helps().items():
         told = told_to_zsh("argument", command)
         check(f"zsh: {command}", set(re.findall(r"--[a-z]+", told)), flags_of(words))
-        files = re.findall(r"^  <([A-Z]+)> ", words, flags=re.MULTILINE)
+        files = re.findall(r"^  [<[]([A-Z]+)[]>] ", words, flags=re.MULTILINE)
         places = re.findall(r"^(\d+):", told, flags=re.MULTILINE)
         check(f"zsh: the words of {command}", places, [str(number + 1) for number in range(len(files))])
 

@@ -102,12 +102,13 @@ headless='typetool mend --headless takes a typescript without its header line'
 streams='typetool mend writes this in the classic format'
 swapped='the timing file comes second: SCRIPT TIMING'
 interrupted='the typescript is empty: was a save interrupted?'
+unpack='gunzip, bunzip2, unxz or unzstd it first'
 missing='no such file or directory'
 seconds=$(hint 'SECONDS is digits, and a point and digits where wanted: 12.5')
 unwritten="typetool: write fault\n$(hint 'writing standard output')"
 
 # The commands that read a pair and write to standard output alone, as their help tells them, each with what it must have.
-mapfile -t reading < <(sed -n 's/^Usage: typetool \(.*\) <SCRIPT> <TIMING>$/\1/p' "$texts"/*.txt |
+mapfile -t reading < <(sed -n 's/^Usage: typetool \(.*\) <SCRIPT> \[TIMING\]$/\1/p' "$texts"/*.txt |
     sed 's/ \[OPTIONS\]//; s/<SECONDS>/1/; s/<TEXT>/a/')
 
 # refused NAME STATUS FAULT HINT SCRIPT TIMING: a damaged pair, which is only told, whatever the command. That of find is
@@ -149,6 +150,17 @@ timing 'Script started on'; refused 'nearly a typescript' 1 'timing line 1: mult
 timing '\nScript started on X\n'; refused 'a typescript behind a line' 1 'timing line 2: multi-stream format' "$keeps" ab.script bad.timing
 refused 'an empty script' 1 'typescript has no header line' "$interrupted" /dev/null empty.timing
 refused 'script and timing swapped' 1 'timing line 1: multi-stream format' "$swapped" ab.timing ab.script
+timing '\x1f\x8b\x08\x00ab'; refused 'a gzip file as timing' 1 'timing line 1: bad delay' "$unpack" ab.script bad.timing
+# unpacked NAME TIMING FAULT HINT: what is told of a timing file that begins so.
+unpacked() {
+    timing "$2"
+    check "$1" 1 '' "typetool: timing line 1: $3\n$(hint "$4")" info ab.script bad.timing
+}
+unpacked 'a bzip2 file' 'BZh9' 'multi-stream format' "$unpack"
+unpacked 'not all of it' 'BZ' 'multi-stream format' "$keeps"
+unpacked 'an xz file' '\xfd7zXZ\x00' 'bad delay' "$unpack"
+unpacked 'a file of zstd' '(\xb5/\xfd\n1 1\n' 'bad delay' "$unpack"
+unpacked 'another byte in it' '(\xb5/\xfe' 'bad delay' "$keeps"
 
 check 'bad seconds' 2 '' "typetool: bad seconds\n$seconds" due --at .5 nowhere nowhere
 
@@ -188,7 +200,7 @@ check 'the version by a letter' 0 "typetool $version\n" '' -V
 verdict 'no command: the help' 2 $? '' "$front\n"
 status 'help of an unknown command' 2 help play
 status 'an unknown command' 2 play
-status 'a missing path' 2 due --at 1 ab.script
+status 'a missing path' 2 due --at 1
 
 # saved NAME STATUS ERR LINES SCRIPT TIMING: saves what LINES ask for into new.script and new.timing.
 saved() {
@@ -365,6 +377,17 @@ lost="timing line 1: bad stream, 2 lines left out\n"
 mended 'script and timing swapped' 1 "$lost$(untimed 11)" "$(hint "$swapped")" ab.timing ab.script
 timing 'OX 0.5 1\nO 0.1 1\n'
 mended 'a stream that is none' 1 "$lost$(untimed 2)" '' ab.script bad.timing
+timing '\x1f\x8b\x08\x00ab'
+mended 'a gzip file as timing' 1 "timing line 1: bad delay, 1 lines left out\n$(untimed 2)" "$(hint "$unpack")" ab.script bad.timing
+cp bad.timing packed.script
+timing '4 0.5 2\n'
+mended 'a gzip file as typescript, beside a log of sudo' 1 "$(untimed 4)" "$(hint "$unpack")" packed.script bad.timing --headless
+timing '0.5 x\n'
+mended 'one beside a first line with a fault' 1 "timing line 1: bad count, 1 lines left out\n$(untimed 6)" "$(hint "$unpack")" \
+    packed.script bad.timing --headless
+mended 'one without a header line' 1 '' "typetool: typescript has no header line\n$(hint "$headless")" packed.script bad.timing
+timing '0.5 2\n'
+mended 'one beside a whole timing' 1 "$(untimed 4)" '' packed.script bad.timing --headless
 mended 'a whole pair' 0 '' '' ab.script ab.timing
 holds 'a whole pair' new.script "$head"ab
 holds 'a whole pair' new.timing '0.000000 1\n0.500000 1\n'
@@ -478,7 +501,7 @@ holds 'messages of tlog' new.script "${sized}a"
 holds 'messages of tlog' new.timing '0.500000 1\n'
 printf '\x1f\x8b\x08\x00abcdefgh' >packed.cast
 imported 'a compressed recording' 1 '' \
-    "typetool: recording is compressed\n$(hint 'gunzip, bunzip2, unxz or unzstd it first')" packed.cast
+    "typetool: recording is compressed\n$(hint "$unpack")" packed.cast
 holds 'a compressed recording' new.script ''
 holds 'a compressed recording' new.timing ''
 absent 'a compressed recording' new.script.part
@@ -493,6 +516,43 @@ imported 'the bits of the recording' 0 '1 inputs, 0 markers, 0 resizes and 0 oth
 printf '%s\n' '640 new.script' '640 new.timing' >want.bin
 stat -c '%a %n' new.script new.timing >bits
 same_text 'the bits of the recording' bits
+# One path in place of a pair.
+check 'what is due of an asciicast' 0 'a' '' due --at 0.75 ab.cast
+printf '\0\0\0\0\0\0\0\0\3\0\0\0abc' >whole.ttyrec
+check 'the screen of a ttyrec, of a size' 0 'abc\n' '' screen --at 0 --size 5x1 whole.ttyrec
+check 'an asciicast as a VT100' 0 "$(screen_of ab)" '' screen --at 1 --profile vt100 ab.cast
+printf 'delete 0 1\nscreen 1\n' >delete.requests
+"$program" session --size 80x1 ab.cast <delete.requests >out.txt 2>err.txt
+verdict 'a session of an asciicast' 0 $? 'ok\nb\n' 'typetool: note: size: recorded at 80x24, played at 80x1 (see typetool check)\n'
+"$program" page ab.cast >page.html 2>err.txt
+grep -ao '<title>.*</title>' page.html >out.txt
+verdict 'the title of its page' 0 $? '<title>ab</title>\n' ''
+printf '%s\n' '{"version": 2, "width": 80, "height": 24}' '[0, "o", "a"]' '[1, "r", "90x30"]' >resized.cast
+check 'changes of size' 1 'started unknown\nsize 80x24\nnote resizes: 1 left out\n' '' check resized.cast
+check 'a note of them' 0 "$(screen_of a)" 'typetool: note: resizes: 1 left out (see typetool check)\n' screen --at 0 resized.cast
+# alone NAME FAULT HINT RECORDING: one that is only told, whatever the command.
+alone() {
+    local command words wanted
+    for command in "${reading[@]}"; do
+        read -ra words <<<"$command"
+        wanted=1
+        [ "${words[0]}" != find ] || wanted=3
+        check "$1: ${words[0]}" "$wanted" '' "typetool: $2\n$(hint "$3")" "${words[@]}" "$4" </dev/null
+    done
+}
+printf '%s\n' '{"version": 2}' '[1, "o", "a"]' '[2, "o", "b"' >torn.cast
+alone 'a line with a fault' 'recording line 3: bad event' 'typetool import writes what can be read' torn.cast
+alone 'a compressed recording' 'recording is compressed' "$unpack" packed.cast
+alone 'a typescript alone' 'recording of no known form' 'a typescript needs its timing file: SCRIPT TIMING' ab.script
+check 'a recording that ends early' 1 '' "typetool: recording ends inside chunk 1\n$(hint 'typetool import writes what can be read')" \
+    info ab.ttyrec
+check 'another file' 1 '' "$formless$(hint 'asciicast, ttyrec and tlog are read')" info ab.timing
+check 'a text that is missing' 3 '' "$formless$(hint 'asciicast, ttyrec and tlog are read (or TEXT is missing)')" \
+    find ab.script ab.timing
+check 'a missing recording' 3 '' "typetool: cannot open nowhere\n$(hint "$missing")" info nowhere
+check 'a directory in place of a pair' 3 '' "typetool: read fault\n$(hint 'reading .')" info .
+check 'an empty path' 3 '' "typetool: cannot open \n$(hint "$missing")" info ab.script ''
+status 'save of one file' 2 save ab.cast
 status 'import with a profile' 2 import --profile xterm ab.cast none none
 status 'import of a pair' 2 import ab.script ab.timing none none
 rm -f new.script new.timing
@@ -588,7 +648,7 @@ check 'a bad size before a bad text' 2 '' 'typetool: bad size: 2x1 to 1000x500, 
     find --profile xterm --size 1x1 '' nowhere nowhere
 check 'a size without xterm' 2 '' 'typetool: bad size: 2x1 to 1000x500, with --profile xterm\n' find --size 80x24 a nowhere nowhere
 check 'bad seconds before a bad text' 2 '' "typetool: bad seconds\n$seconds" find --to x '' nowhere nowhere
-check 'a bad profile before a bad text' 2 '' 'typetool: bad profile: vt100, vt102 or xterm\n' find --profile x '' nowhere nowhere
+check 'a bad profile before a bad text' 2 '' 'typetool: bad profile: vt100, vt102, xterm or auto\n' find --profile x '' nowhere nowhere
 
 # A recording that was made for another terminal: the note stands behind the fault where there is one.
 printf 'Script started on X [TERM="xterm" COLUMNS="120" LINES="40"]\n%b' "${E}[5Q${E}[?1049h" >wide.script
@@ -643,7 +703,7 @@ printf '0.5 19\n' >edits.timing
 check 'cells deleted under a VT102' 0 "$(screen_of adef)" '' screen --at 1 --profile vt102 edits.script edits.timing
 asked 'a session of a VT102' 0 'reports 1\nscreen 1\n' '1b5b3f3663\n'"$(screen_of adef)" \
     edits.script edits.timing --profile vt102
-check 'another profile' 2 '' 'typetool: bad profile: vt100, vt102 or xterm\n' screen --at 1 --profile vt220 nowhere nowhere
+check 'another profile' 2 '' 'typetool: bad profile: vt100, vt102, xterm or auto\n' screen --at 1 --profile vt220 nowhere nowhere
 check 'a size out of its range' 2 '' 'typetool: bad size: 2x1 to 1000x500, with --profile xterm\n' \
     screen --at 1 --profile xterm --size 1x24 nowhere nowhere
 check 'a size without the terminal of today' 2 '' 'typetool: bad size: 2x1 to 1000x500, with --profile xterm\n' \
@@ -659,6 +719,11 @@ check 'a text that draws a screen of today again' 0 \
 check 'a screen of today, of a size' 0 'Tokyo 東\n京\nnaïve\n' \
     'typetool: note: size: recorded at 12x2, played at 8x3 (see typetool check)\n' \
     screen --at 1 --profile xterm --size 8x3 today.script today.timing
+check 'the terminal that the first line tells' 0 'Tokyo 東京\nnaïve\n' '' screen --at 1 --profile auto today.script today.timing
+sed 's/X$/X [TERM="vt102"]/' edits.script >vt102.script
+check 'a VT102 that the first line tells, with a size that it leaves unused' 0 "$(screen_of adef)" '' \
+    screen --at 1 --profile auto --size 8x3 vt102.script edits.timing
+redacted 'out of the name of that terminal' 1 'redacted 1\n' vt102 vt102.script edits.timing --profile auto
 "$program" page --profile xterm today.script today.timing >today.html 2>err.txt
 status=$?
 grep -a '^\[[0-9[]' today.html >out.txt

@@ -19,9 +19,10 @@ use Rattle.std.specs.Option.{option_and_then}
 use Rattle.std.specs.Str.{bytes_eq}
 use Rattle.std.proofs.lemmas.List.{get_or_default, map-append, take_all, take_more}
 use Rattle.std.proofs.lemmas.List.Sums.{fold_more}
-use Rattle.command_line.specs.CommandLine.{typetool_app, clap_faults, clap_takes, subcommand_in, subcommands_in_order, app_in, after, fault_of_unread, id_in, job_in, meaning_in, meaning_of, meaning_of_words, name_in, path_count, paths_in, rule_in, text_in, texts_in, top_app, value_in, with_rules, with_subcommands, flags_in, FailsFor, IsNamed}
+use Rattle.command_line.specs.CommandLine.{typetool_app, clap_faults, clap_takes, subcommand_in, subcommands_in_order, app_in, after, fault_of_unread, id_in, job_in, meaning_in, meaning_of, meaning_of_words, name_in, path_count, paths_in, rule_in, source_in, text_in, texts_in, top_app, value_in, with_rules, with_subcommands, flags_in, FailsFor, IsNamed}
 use Rattle.command_line.specs.declared.job.Job.{Job}
 use Rattle.command_line.specs.declared.job.Job.TheVariants as jobs
+use Rattle.command_line.specs.declared.player.Source.{Source}
 use Rattle.command_line.specs.declared.words.table.Argument.{Argument}
 use Rattle.command_line.specs.declared.words.table.Subcommand.{Subcommand}
 use Rattle.command_line.specs.declared.words.table.Subcommand.TheVariants.{Due, Save, Mend, Import, Redact}
@@ -171,14 +172,15 @@ means words s rows e =
     ap (option_and_then meaning_of) e ∙ ap (option_map (λ t. meaning_in t rows)) (first_named s)
 
 -- where the job and the paths are read
-pub means_job : (s : Subcommand) (rows : List Row) (job : Job) (text : List ℕ) (paths : List Text) → job_in s rows ≡ Ok job
-    → text ≡ text_in s rows → paths ≡ map (λ a. value_in (id_in a) rows) (paths_in s)
-    → meaning_in s rows ≡ Ok (record { job = job; text = text; paths = paths })
-means_job s rows job text paths e t p =
+pub means_job : (s : Subcommand) (rows : List Row) (job : Job) (text : List ℕ) (from : Source) (paths : List Text) → job_in s rows ≡ Ok job
+    → text ≡ text_in s rows → from ≡ source_in rows → paths ≡ map (λ a. value_in (id_in a) rows) (paths_in s)
+    → meaning_in s rows ≡ Ok (record { job = job; text = text; source = from; paths = paths })
+means_job s rows job text from paths e t f p =
     let here = map (λ a. value_in (id_in a) rows) (paths_in s) in
-    ap (λ r. after r (λ j. Ok (record { job = j; text = text_in s rows; paths = here }))) e
-    ∙ ap (λ x. Ok (record { job = job; text = x; paths = here })) (sym t)
-    ∙ ap (λ l. Ok (record { job = job; text = text; paths = l })) (sym p)
+    ap (λ r. after r (λ j. Ok (record { job = j; text = text_in s rows; source = source_in rows; paths = here }))) e
+    ∙ ap (λ x. Ok (record { job = job; text = x; source = source_in rows; paths = here })) (sym t)
+    ∙ ap (λ x. Ok (record { job = job; text = text; source = x; paths = here })) (sym f)
+    ∙ ap (λ l. Ok (record { job = job; text = text; source = from; paths = l })) (sym p)
 
 -- where they aren't
 pub means_fault : (s : Subcommand) (rows : List Row) (fault : Unreadable) → job_in s rows ≡ Err fault
@@ -187,6 +189,7 @@ means_fault s rows fault e =
     ap (λ r. after r (λ j. Ok (record {
       job = j;
       text = text_in s rows;
+      source = source_in rows;
       paths = map (λ a. value_in (id_in a) rows) (paths_in s);
     }))) e
 

@@ -15,7 +15,10 @@ use Rattle.command_line.specs.declared.job.Job.TheVariants as job
 use Rattle.command_line.specs.Measures.{within_of}
 use Rattle.command_line.specs.declared.player.Measure.{Measure}
 use Rattle.command_line.specs.declared.player.Player.{Player}
-use Rattle.command_line.specs.declared.player.Player.TheVariants.{Vt, Today}
+use Rattle.command_line.specs.declared.player.Player.TheVariants.{Vt, Today, Auto}
+use Rattle.command_line.specs.declared.player.Source.{Source}
+use Rattle.command_line.specs.declared.player.Source.TheVariants.{Pair}
+use Rattle.command_line.specs.declared.player.Source.TheVariants as stands
 use Rattle.command_line.specs.declared.player.Print.{Print}
 use Rattle.command_line.specs.declared.player.Print.TheVariants as print
 use Rattle.command_line.specs.declared.player.Print.TheVariants.{Plain}
@@ -23,7 +26,7 @@ use Rattle.command_line.specs.declared.words.Words.{Words}
 use Rattle.command_line.specs.declared.words.WordsFault.{WordsFault}
 use Rattle.command_line.specs.declared.words.WordsFault.TheVariants.{Clap, Memory, BadSeconds, BadEvery, BadProfile, BadSize, BadText, BothHeaders}
 use Rattle.command_line.specs.declared.words.table.Argument.{Argument}
-use Rattle.command_line.specs.declared.words.table.Argument.TheVariants.{At, From, To, Until, Every, Profile, Size, Escaped, Last, Headless, Title, Sought, Secret, Script, Timing, AnyTiming, Recording, NewScript, NewTiming}
+use Rattle.command_line.specs.declared.words.table.Argument.TheVariants.{At, From, To, Until, Every, Profile, Size, Escaped, Last, Headless, Title, Sought, Secret, Script, Timing, AnyTiming, Recording, Recorded, ItsTiming, NewScript, NewTiming}
 use Rattle.command_line.specs.declared.words.table.Subcommand.{Subcommand}
 use Rattle.command_line.specs.declared.words.table.Subcommand.TheVariants.{Due, Info, Check, Screen, Picture, Transcript, Changes, Find, Reports, Page, Cast, Save, Mend, Import, Redact, Session}
 use Rattle.command_line.specs.declared.words.values.Unreadable.{Unreadable}
@@ -90,7 +93,7 @@ paths_in Save = Script ∷ Timing ∷ NewScript ∷ NewTiming ∷ []
 paths_in Mend = Script ∷ AnyTiming ∷ NewScript ∷ NewTiming ∷ []
 paths_in Import = Recording ∷ NewScript ∷ NewTiming ∷ []
 paths_in Redact = Script ∷ Timing ∷ NewScript ∷ NewTiming ∷ []
-paths_in _ = Script ∷ Timing ∷ []
+paths_in _ = Recorded ∷ ItsTiming ∷ []
 
 -- the name of an argument (ours)
 unfoldable pub id_in : Argument → Text
@@ -111,6 +114,8 @@ id_in Script = codes "script"
 id_in Timing = codes "timing"
 id_in AnyTiming = codes "timing"
 id_in Recording = codes "recording"
+id_in Recorded = codes "script"
+id_in ItsTiming = codes "timing"
 id_in NewScript = codes "new-script"
 id_in NewTiming = codes "new-timing"
 
@@ -131,6 +136,10 @@ switch_rule id = record (new_rule id) { long = Some id; action = Some SetTrue }
 abbrev pub positional_rule : Text → Rule
 positional_rule id = record (new_rule id) { action = Some Set; required = true; value_names = 1 }
 
+-- a path that may be left out (ours)
+abbrev pub optional_positional_rule : Text → Rule
+optional_positional_rule id = record (new_rule id) { action = Some Set; value_names = 1 }
+
 -- what clap is told of an argument (ours)
 unfoldable pub rule_in : Argument → Rule
 rule_in At = seconds_rule (id_in At)
@@ -150,6 +159,8 @@ rule_in Script = positional_rule (id_in Script)
 rule_in Timing = positional_rule (id_in Timing)
 rule_in AnyTiming = positional_rule (id_in AnyTiming)
 rule_in Recording = positional_rule (id_in Recording)
+rule_in Recorded = positional_rule (id_in Recorded)
+rule_in ItsTiming = optional_positional_rule (id_in ItsTiming)
 rule_in NewScript = positional_rule (id_in NewScript)
 rule_in NewTiming = positional_rule (id_in NewTiming)
 
@@ -232,24 +243,43 @@ size_cut text n = size_from (place_of (take n text)) (place_of (drop (n + 1) tex
 unfoldable pub size_named : Text → Option Measure
 size_named text = option_and_then (size_cut text) (position (λ byte. byte == 120) text)
 
--- a terminal of today, of this size if there is a text (ours)
-abbrev pub today_if : Option Text → Result Player Unreadable
-today_if None = Ok (Today None)
-today_if (Some text) = after (readable unread.Size (size_named text)) (λ size. Ok (Today (Some size)))
+-- `auto`, by which the header says which terminal plays (ours)
+unfoldable pub is_auto : Text → Bool
+is_auto name = bytes_eq name (codes "auto")
+
+-- the size that is asked for, if there is a text (ours)
+abbrev pub size_if : Option Text → Result (Option Measure) Unreadable
+size_if None = Ok None
+size_if (Some text) = after (readable unread.Size (size_named text)) (λ size. Ok (Some size))
 
 -- a VT, which takes no size (ours)
 abbrev pub vt_if : Option Text → Played → Result Player Unreadable
 vt_if None profile = Ok (Vt profile)
 vt_if (Some text) profile = Err unread.Size
 
--- which terminal is to play, by `--profile` and `--size` (ours)
-abbrev pub player_by : Option Text → Option Text → Result Player Unreadable
-player_by None size = vt_if size Vt100
-player_by (Some name) size =
-    if is_today name then today_if size else after (readable unread.Profile (profile_named name)) (vt_if size)
+-- where the recording stands: in a pair, where a timing file is given, and else in one file (ours)
+abbrev pub source_by : Option Text → Source
+source_by None = stands.Recording
+source_by (Some timing) = Pair
+
+abbrev pub source_in : List Row → Source
+source_in rows = source_by (first_of (id_in ItsTiming) rows)
+
+-- which terminal plays where none is named: a VT100 a pair, and one of today a recording of another form (ours)
+abbrev pub unnamed_player : Source → Option Text → Result Player Unreadable
+unnamed_player Pair size = vt_if size Vt100
+unnamed_player stands.Recording size = after (size_if size) (λ asked. Ok (Today asked))
+
+-- which terminal is to play, by where the recording stands, `--profile` and `--size` (ours)
+abbrev pub player_by : Source → Option Text → Option Text → Result Player Unreadable
+player_by source None size = unnamed_player source size
+player_by source (Some name) size =
+    if is_today name then after (size_if size) (λ asked. Ok (Today asked))
+    else (if is_auto name then after (size_if size) (λ asked. Ok (Auto asked))
+    else after (readable unread.Profile (profile_named name)) (vt_if size))
 
 abbrev pub player_in : List Row → Result Player Unreadable
-player_in rows = player_by (first_of (id_in Profile) rows) (first_of (id_in Size) rows)
+player_in rows = player_by (source_in rows) (first_of (id_in Profile) rows) (first_of (id_in Size) rows)
 
 -- how a screen is printed, by whether `--escaped` is given (ours)
 abbrev pub print_by : Bool → Player → Print
@@ -379,10 +409,11 @@ IsNamed name (s ∷ rest) = (name ≡ Some s.name) ⊎ IsNamed name rest
 
 -- ---- what the words mean
 
--- a job, the characters of the text beside it, and the paths in the line's order (ours)
+-- a job, the characters of the text beside it, where the recording stands, and the paths in the line's order (ours)
 pub record Meaning : Type 0 where
   pub job : Job
   pub text : List ℕ
+  pub source : Source
   pub paths : List Text
 
 -- the name of a path without its ending: its last part up to the last point, where something stands before that (ours)
@@ -391,7 +422,7 @@ stem_of path = unwrap_or (path_file_stem path) []
 
 -- the title of a page: the one that is given, and else the name of the script without its ending (ours)
 abbrev pub title_in : List Row → Text
-title_in rows = unwrap_or (first_of (id_in Title) rows) (stem_of (value_in (id_in Script) rows))
+title_in rows = unwrap_or (first_of (id_in Title) rows) (stem_of (value_in (id_in Recorded) rows))
 
 -- the characters of the text beside a job: what `find` looks for, what `redact` takes out, the title of a page, and none
 -- for the others (ours)
@@ -406,6 +437,7 @@ abbrev pub meaning_in : Subcommand → List Row → Result Meaning Unreadable
 meaning_in s rows = after (job_in s rows) (λ job. Ok (record {
   job = job;
   text = text_in s rows;
+  source = source_in rows;
   paths = map (λ a. value_in (id_in a) rows) (paths_in s);
 }))
 
@@ -421,7 +453,7 @@ meaning_of_words words = option_and_then meaning_of (subcommand_in words)
 -- the job, the text and the paths that were read (ours)
 abbrev pub meaning_read : Words → Meaning
 meaning_read words =
-    record { job = words.job; text = words.text.items; paths = map string_bytes words.paths.items }
+    record { job = words.job; text = words.text.items; source = words.source; paths = map string_bytes words.paths.items }
 
 -- how many paths a job has (ours)
 abbrev pub path_count : Job → ℕ

@@ -7,5 +7,5 @@ mod player;
 mod words;
 
 pub use job::Job;
-pub use player::{Measure, Player, Print, is_size};
+pub use player::{Measure, Player, Print, Source, is_size};
 pub use words::{USUAL_EVERY, VERSION, Words, WordsFault, read_words};

@@ -1,4 +1,4 @@
-//! Which terminal is asked for, and of which size.
+//! Where a recording stands, and which terminal is asked for, and of which size.
 
 ghost use Rattle.std.specs.Prelude.{◌≡◌};
 ghost use Rattle.command_line.specs.Measures.{is_size};
@@ -12,6 +12,15 @@ pub struct Measure {
     pub lines: u64,
 }
 
+/// Where a recording stands.
+#[derive(Clone, Copy, Debug, PartialEq, Eq)]
+pub enum Source {
+    /// In a typescript and its timing file.
+    Pair,
+    /// In one file, of another form.
+    Recording,
+}
+
 /// Which terminal plays a recording.
 #[derive(Clone, Copy, Debug, PartialEq, Eq)]
 pub enum Player {
@@ -19,6 +28,9 @@ pub enum Player {
     Vt(Profile),
     /// A terminal of today, of the size that is asked for, if one is, and else of the one that the header tells.
     Today(Option<Measure>),
+    /// The one that the header's TERM tells: a VT102, a VT100 (for a VT52 too), and for any other, and for none, a terminal
+    /// of today, of that size.
+    Auto(Option<Measure>),
 }
 
 /// How a screen is printed.

@@ -10,6 +10,7 @@ mod table;
 mod values;
 
 use crate::job::Job;
+use crate::player::Source;
 use clap::error::ErrorKind;
 use clap::{ArgMatches, Error};
 use command::typetool_command;
@@ -18,14 +19,16 @@ use std::alloc::{AllocError, Global};
 use table::{Subcommand, name_of, subcommands};
 use thiserror::Error as ThisError;
 pub use values::USUAL_EVERY;
-use values::{Unreadable, read_job, read_paths, read_text};
+use values::{Unreadable, read_job, read_paths, read_source, read_text};
 
-/// A command line that was read: the job, the characters of the text beside it, which but for `find` and `page` has none,
-/// and the paths in the line's order.
+/// A command line that was read: the job, the characters of the text beside it, which but for `find`, `redact` and `page`
+/// has none, where the recording stands, and the paths in the line's order, of which that of a timing file is empty where a
+/// recording stands alone.
 #[derive(Debug, Drop)]
 pub struct Words {
     pub job: Job,
     pub text: Vec<char>,
+    pub source: Source,
     pub paths: Vec<String>,
 }
 
@@ -45,7 +48,7 @@ pub enum WordsFault {
     #[error("bad number of chunks: 1 to 1000000")]
     BadEvery,
     /// There is no such profile.
-    #[error("bad profile: vt100, vt102 or xterm")]
+    #[error("bad profile: vt100, vt102, xterm or auto")]
     BadProfile,
     /// The size isn't one, or it is past the limits, or given to a VT.
     #[error("bad size: 2x1 to 1000x500, with --profile xterm")]
@@ -83,7 +86,13 @@ pub fn read_words(alloc: Global, words: &[String]) -> Result<Words, WordsFault>
         Ok(job) => {
             let text = read_text(alloc, subcommand, values)?;
             let paths = read_paths(alloc, subcommand, values)?;
-            Ok(Words { job, text, paths })
+            let source = read_source(values);
+            Ok(Words {
+                job,
+                text,
+                source,
+                paths,
+            })
         }
         Err(unread) => Err(fault_of_unread(unread)),
     }

@@ -5,6 +5,7 @@ use std::rt::Runtime;
 use std::test::Fail;
 use vt_term::Profile;
 
+mod alone;
 mod every;
 mod find;
 mod flags;
@@ -257,7 +258,7 @@ const MISTAKES: [&str; 43] = [
     "typetool info s t u",
     "typetool due",
     "typetool due s t",
-    "typetool due --at 1 s",
+    "typetool due --at 1",
     "typetool due --at 1 s t u",
     "typetool due --at 1 --at 1 s t",
     "typetool due --from 1 s t",
@@ -266,25 +267,25 @@ const MISTAKES: [&str; 43] = [
     "typetool screen s t",
     "typetool screen --from 1 s t",
     "typetool picture s t",
-    "typetool picture --at 1 s",
+    "typetool picture --at 1",
     "typetool picture --at 1 --to 1 s t",
-    "typetool reports --at 1 s",
+    "typetool reports --at 1",
     "typetool reports --at 1 --escaped s t",
     "typetool changes s t",
     "typetool changes --from 1 s t",
     "typetool changes --at 1 --to 1 s t",
     "typetool changes --from=1 --from=1 --to=1 s t",
     "typetool changes --to=1 s t u",
-    "typetool transcript s",
+    "typetool transcript",
     "typetool transcript --at 1 s t",
     "typetool transcript --to=1 --to=1 s t",
-    "typetool page s",
+    "typetool page",
     "typetool page --at 1 s t",
     "typetool page s t u",
-    "typetool page --title s t",
+    "typetool page --title s",
     "typetool page --title a --title b s t",
     "typetool cast --title a s t",
-    "typetool cast s",
+    "typetool cast",
     "typetool cast --to 1 s t",
     "typetool save s t",
     "typetool save --at 1 s t u v",

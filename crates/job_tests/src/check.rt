@@ -70,6 +70,42 @@ fn check_of_a_terminal_of_today(rt: HostRuntime) {
     }
 }
 
+/// A header, and how many of the two sequences of `SEQUENCES` aren't played by the terminal that it tells: both by a VT100,
+/// one by a VT102, and none by a terminal of today.
+const TOLD_PROFILES: [(&str, usize); 10] = [
+    ("Script started on X [TERM=\"vt100-nav\"]", 2),
+    ("Script started on X [TERM=\"vt52\"]", 2),
+    ("Script started on X [TERM=\"vt102-\"]", 1),
+    ("junk TERM=\"vt102\"", 1),
+    ("Script started on X [TERM=\"vt1000\"]", 0),
+    ("Script started on X [TERM=\"VT100\"]", 0),
+    ("Script started on X [TERM=\"vt220\"]", 0),
+    ("Script started on X [TERM=\"\"]", 0),
+    ("Script started on X [<not executed on terminal>]", 0),
+    ("Script started on X", 0),
+];
+
+/// DCH, which a VT102 has, and the alternate screen, which it doesn't have.
+const SEQUENCES: &str = "\x1b[P\x1b[?1049h";
+
+#[test]
+fn the_header_tells_the_profile(rt: HostRuntime) -> Result<(), Fail> {
+    let job = Job::Check {
+        player: Player::Auto(None),
+    };
+    for (header, unplayed) in TOLD_PROFILES {
+        let script = format!(in rt.alloc(); "{header}\n{SEQUENCES}")?;
+        let ended = do_job(rt.alloc(), job, script.as_bytes(), b"0 11\n", b"");
+        let text = str::from_utf8(ended.text.as_slice()).unwrap_or("");
+        let told = text
+            .lines()
+            .filter(|line| line.starts_with("unplayed "))
+            .count();
+        assert_eq!(&rt; (ended.outcome.fault, told), (None, unplayed), "{header}");
+    }
+    Ok(())
+}
+
 /// A recording of another size and terminal, and the note that is told of it.
 const WIDE: &[u8] = b"Script started on X [TERM=\"xterm\" COLUMNS=\"90\" LINES=\"24\"]\nab";
 

@@ -1,6 +1,7 @@
 //! The call `mend` over texts in memory: rows by hand, of the new pair and of what is told.
 use crate::in_memory::{DONE, do_job};
 use command_line::Job;
+use std::io;
 use std::process::Abort;
 use tape_core::{Fault, Watched};
 use tape_jobs::{JobFault, Outcome, mend};
@@ -192,7 +193,7 @@ fn compare_mended<R: Abort + AllocGlobal>(rt: &R, pair: Pair<'_>, wanted: Wanted
     let mut script = Watched::new(Vec::new(rt.alloc()));
     let mut timing = Watched::new(Vec::new(rt.alloc()));
     let mut told = Watched::new(Vec::new(rt.alloc()));
-    let outcome = mend(
+    let mending = mend(
         rt.alloc(),
         pair.2,
         &mut Watched::new(pair.0),
@@ -206,7 +207,7 @@ fn compare_mended<R: Abort + AllocGlobal>(rt: &R, pair: Pair<'_>, wanted: Wanted
             script.into_inner().as_slice(),
             timing.into_inner().as_slice(),
             told.into_inner().as_slice(),
-            outcome
+            mending.outcome
         ),
         wanted,
         "{pair:?}"
@@ -239,6 +240,36 @@ fn bytes_without_timing_are_told(rt: HostRuntime) {
     for (pair, wanted, _) in &UNTIMED {
         compare_mended(&rt, *pair, *wanted);
         compare_job(&rt, *pair, *wanted);
+    }
+}
+
+/// A timing file over a byte, and whether a file may be another one than it is taken for: where line 1 has a fault, and
+/// where the file is sudo's.
+const DOUBTFUL: [(&[u8], bool); 5] = [
+    (b"0 1\n", false),
+    (b"0 1\n0 x\n", false),
+    (b"\n0 x\n", false),
+    (b"\x1f\x8b\x08\0\n", true),
+    (b"4 0.5 1\n", true),
+];
+
+#[test]
+fn a_doubtful_pair_is_told_as_one(rt: HostRuntime) {
+    for (timing, doubtful) in DOUBTFUL {
+        let mending = mend(
+            rt.alloc(),
+            Header::Kept,
+            &mut Watched::new(b"Script started on X\na".as_slice()),
+            &mut Watched::new(timing),
+            &mut Watched::new(io::sink()),
+            &mut Watched::new(io::sink()),
+            &mut Watched::new(io::sink()),
+        );
+        assert_eq!(rt;
+            (mending.outcome.fault, mending.doubtful),
+            (None, doubtful),
+            "{timing:?}"
+        );
     }
 }
 

@@ -277,6 +277,30 @@ fn redact_keeps_the_size_of_a_terminal_of_today(rt: HostRuntime) -> Result<(), F
     Ok(())
 }
 
+/// What is taken out of the name of the terminal changes the one that the header tells.
+#[test]
+fn redact_keeps_the_profile_that_the_header_tells(rt: HostRuntime) {
+    let name = ['v', 't', '1', '0', '2'].as_slice();
+    let script = b"Script started on X [TERM=\"vt102\"]\nsecret".as_slice();
+    let renamed = b"Script started on X [TERM=\"*****\"]\nsecret".as_slice();
+    let redacted = b"Script started on X [TERM=\"vt102\"]\n******".as_slice();
+    let rows = [
+        (Player::Auto(None), name, renamed, LEFT),
+        (Player::Auto(None), SECRET, redacted, DONE),
+        (Player::Vt(Profile::Vt102), name, renamed, DONE),
+    ];
+    for (player, text, new_script, outcome) in &rows {
+        let given = (*text, script, b"0 6\n".as_slice());
+        let wanted = (
+            *new_script,
+            b"0.000000 6\n".as_slice(),
+            b"redacted 1\n".as_slice(),
+            *outcome,
+        );
+        compare_redaction(&rt, *player, given, wanted);
+    }
+}
+
 /// A writer of find lines that took bytes before doesn't change the status.
 #[test]
 fn redact_goes_by_its_own_lines(rt: HostRuntime) {

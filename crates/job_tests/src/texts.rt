@@ -71,7 +71,10 @@ fn a_line_that_is_no_job_is_told_why(rt: HostRuntime) -> Result<(), Fail> {
     let texts = [
         (WordsFault::BadSeconds, "bad seconds"),
         (WordsFault::BadEvery, "bad number of chunks: 1 to 1000000"),
-        (WordsFault::BadProfile, "bad profile: vt100, vt102 or xterm"),
+        (
+            WordsFault::BadProfile,
+            "bad profile: vt100, vt102, xterm or auto",
+        ),
         (
             WordsFault::BadSize,
             "bad size: 2x1 to 1000x500, with --profile xterm",

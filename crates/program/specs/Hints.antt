@@ -1,5 +1,5 @@
 -- What follows a fault on standard error: what to do about it, or more about it.
-use Rattle.std.specs.Prelude.{◌==◌, ℕ, Bool, true, false, Option, Some, None, cond, ◌&&◌}
+use Rattle.std.specs.Prelude.{◌==◌, ℕ, Bool, true, false, Option, Some, None, cond, ◌&&◌, ◌||◌}
 use Rattle.std.specs.Option.{option_map}
 use Rattle.tape_core.specs.declared.fault.Fault.{Fault}
 use Rattle.tape_core.specs.declared.fault.Fault.TheVariants as fault
@@ -7,7 +7,7 @@ use Rattle.command_line.specs.declared.job.Job.{Job}
 use Rattle.command_line.specs.declared.job.Job.TheVariants as jobs
 use Rattle.tape_jobs.specs.declared.job.JobFault.{JobFault}
 use Rattle.tape_jobs.specs.declared.job.JobFault.TheVariants as of_job
-use Rattle.program.specs.Beginning.{is_empty, is_started, is_streams, is_typescript}
+use Rattle.program.specs.Beginning.{is_compressed, is_empty, is_started, is_streams, is_typescript}
 use Rattle.program.specs.declared.beginning.Beginning.{Beginning}
 use Rattle.program.specs.declared.beginning.Beginnings.{Beginnings}
 use Rattle.program.specs.declared.hints.Device.{Device}
@@ -33,34 +33,43 @@ abbrev pub is_multi_stream : Fault → Bool
 is_multi_stream (fault.MultiStream line) = true
 is_multi_stream _ = false
 
--- after a fault of the pair: the two files may be swapped, the typescript empty or without its header, the timing in
--- the multi-stream format; else mending keeps what can be read (ours)
+-- after a fault of the pair: the typescript may be empty or without its header, the timing compressed, the two files
+-- swapped, the timing in the multi-stream format; else mending keeps what can be read (ours)
 abbrev pub hint_of_pair : Fault → Beginnings → Hint
 hint_of_pair fault.NoHeader files = cond (is_empty files.script) hint.EmptyScript hint.Headless
 hint_of_pair f files =
-    cond (is_of_line_one f && is_typescript files.timing) hint.Swapped
-    (cond (is_multi_stream f && is_streams files.timing) hint.Streams hint.Mendable)
+    cond (is_compressed files.timing) hint.Compressed
+    (cond (is_of_line_one f && is_typescript files.timing) hint.Swapped
+    (cond (is_multi_stream f && is_streams files.timing) hint.Streams hint.Mendable))
 
 -- where a recording has no form that is known: it is a typescript, of which the timing is missing, or else which forms
--- are read (ours)
-abbrev pub hint_of_form : Beginning → Hint
-hint_of_form recording = cond (is_started recording) hint.Untimed hint.Forms
+-- are read; the one path of a search may be the timing of a pair, behind a typescript that was taken for the text (ours)
+abbrev pub forms_in : Job → Hint
+forms_in (jobs.Find from to player) = hint.FormsOrText
+forms_in job = hint.Forms
 
--- after the fault of a job: what wasn't read or written, what to do with the file that has no form that is read; nothing,
+abbrev pub hint_of_form : Job → Beginning → Hint
+hint_of_form job recording = cond (is_started recording) hint.Untimed (forms_in job)
+
+-- after the fault of this job: what wasn't read or written, what to do with the file that has no form that is read; nothing,
 -- where memory is wanted (ours)
-abbrev pub hint_after : JobFault → Beginnings → Option Device → Option Hint
-hint_after (of_job.File fault.ReadFault) files failed = option_map (λ device. hint.Reading device) failed
-hint_after (of_job.File fault.WriteFault) files failed = option_map (λ device. hint.Writing device) failed
-hint_after (of_job.File fault.OutOfMemory) files failed = None
-hint_after (of_job.File f) files failed = Some (hint_of_pair f files)
-hint_after of_job.Compressed files failed = Some hint.Compressed
-hint_after of_job.NoKnownForm files failed = Some (hint_of_form files.script)
-hint_after (of_job.Line line f) files failed = Some hint.Stay
-hint_after of_job.Memory files failed = None
+abbrev pub hint_after : Job → JobFault → Beginnings → Option Device → Option Hint
+hint_after job (of_job.File fault.ReadFault) files failed = option_map (λ device. hint.Reading device) failed
+hint_after job (of_job.File fault.WriteFault) files failed = option_map (λ device. hint.Writing device) failed
+hint_after job (of_job.File fault.OutOfMemory) files failed = None
+hint_after job (of_job.File f) files failed = Some (hint_of_pair f files)
+hint_after job of_job.Compressed files failed = Some hint.Compressed
+hint_after job of_job.NoKnownForm files failed = Some (hint_of_form job files.script)
+hint_after job (of_job.Refused r) files failed = Some hint.Importable
+hint_after job (of_job.Line line f) files failed = Some hint.Stay
+hint_after job of_job.Memory files failed = None
 
--- where a pair was mended: a timing that begins as a typescript does is no stream (ours)
-abbrev pub hint_of_mend : Beginnings → Option Hint
-hint_of_mend files = cond (is_typescript files.timing) (Some hint.Swapped) None
+-- where a pair was mended: where a file may be another one than it is taken for, it may be compressed; and a timing that
+-- begins as a typescript does is no stream (ours)
+abbrev pub hint_of_mend : Beginnings → Bool → Option Hint
+hint_of_mend files doubtful =
+    cond (doubtful && (is_compressed files.timing || is_compressed files.script)) (Some hint.Compressed)
+    (cond (is_typescript files.timing) (Some hint.Swapped) None)
 
 -- what wasn't read or written, where the hint tells it (ours)
 abbrev pub device_of : Hint → Option Device
@@ -69,10 +78,10 @@ device_of (hint.Writing device) = Some device
 device_of _ = None
 
 -- behind a job: a pair that was mended is no fault (ours)
-abbrev pub hint_at_end : Job → Option JobFault → Beginnings → Option Device → Option Hint
-hint_at_end job (Some f) files failed = hint_after f files failed
-hint_at_end (jobs.Mend header) None files failed = hint_of_mend files
-hint_at_end job None files failed = None
+abbrev pub hint_at_end : Job → Option JobFault → Beginnings → Option Device → Bool → Option Hint
+hint_at_end job (Some f) files failed doubtful = hint_after job f files failed
+hint_at_end (jobs.Mend header) None files failed doubtful = hint_of_mend files doubtful
+hint_at_end job None files failed doubtful = None
 
 -- where the program stops before a job (ours)
 abbrev pub hint_of_stop : Stop → Option Hint

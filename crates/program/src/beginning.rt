@@ -2,8 +2,9 @@
 
 ghost use Rattle.std.specs.Prelude.{◌≡◌, false, fold};
 ghost use Rattle.tape_core.specs.Devices.{has_failed};
-ghost use Rattle.program.specs.Beginning.{after_byte, field_after, is_empty, is_settled, is_started, is_streams, is_two_words, is_typescript, nothing, remaining_of, session_after};
+ghost use Rattle.program.specs.Beginning.{after_byte, field_after, is_compressed, is_empty, is_settled, is_started, is_streams, is_two_words, is_typescript, nothing, remaining_of, session_after};
 
+use crate::packing::Packing;
 use std::io;
 use std::io::Read;
 use tape_core::Watched;
@@ -28,13 +29,14 @@ pub enum FirstField {
 }
 
 /// What a text begins with: whether it has a byte, how many of its bytes are those with which script(1) begins a
-/// typescript, up to all of these (None: another byte stands there), whether the first two words of these have come, and
-/// its first field.
+/// typescript, up to all of these (None: another byte stands there), whether the first two words of these have come, how
+/// many are those of a compressed file, and its first field.
 #[derive(Clone, Copy, Debug, PartialEq, Eq)]
 pub struct Beginning {
     empty: bool,
     session: Option<usize>,
     started: bool,
+    packing: Packing,
     first: FirstField,
 }
 
@@ -47,6 +49,7 @@ impl Beginning {
             empty: true,
             session: Some(0),
             started: false,
+            packing: Packing::Awaited,
             first: FirstField::Awaited,
         }
     }
@@ -70,6 +73,13 @@ impl Beginning {
         ensures { result ≡ is_started self }
     {
         self.started
+    }
+
+    /// Whether it begins as a compressed file does.
+    pub fn is_compressed(self) -> bool
+        ensures { result ≡ is_compressed self }
+    {
+        self.packing.is_packed()
     }
 
     /// Whether its first field is a letter of the multi-stream format.
@@ -101,7 +111,8 @@ impl Beginning {
         ensures { result ≡ is_settled self }
     {
         let typescript = self.session.is_none() || self.is_typescript();
-        !self.empty && typescript && matches!(self.first, FirstField::Stream | FirstField::Other)
+        let field = matches!(self.first, FirstField::Stream | FirstField::Other);
+        !self.empty && typescript && self.packing.is_past() && field
     }
 
     /// That of a text that goes on with this byte.
@@ -113,6 +124,7 @@ impl Beginning {
             empty: false,
             session,
             started: is_two_words(session) || self.started,
+            packing: self.packing.after(byte),
             first: field_after(self.first, byte),
         }
     }

@@ -36,12 +36,16 @@ pub enum Hint {
     Streams,
     /// Mending keeps what can be read.
     Mendable,
-    /// The recording is compressed.
+    /// The recording is compressed, or a file of the pair.
     Compressed,
     /// The recording is a typescript, of which the timing is missing.
     Untimed,
     /// Which forms a recording may have.
     Forms,
+    /// The same, or the text that is looked for was left out.
+    FormsOrText,
+    /// Importing keeps what can be read.
+    Importable,
     /// This wasn't read.
     Reading(Device),
     /// This wasn't written.
@@ -54,18 +58,20 @@ pub enum Hint {
     Reason(io::Error),
 }
 
-/// The hint behind a job, where `failed` is the device that has failed, if one has.
+/// The hint behind a job, where `failed` is the device that has failed, if one has, and `doubtful` says of a pair that was
+/// mended that a file may be another one than it is taken for.
 pub fn hint_at_end(
     job: Job,
     fault: Option<JobFault>,
     beginnings: Beginnings,
     failed: Option<Device>,
+    doubtful: bool,
 ) -> Option<Hint>
-    ensures { result ≡ hint_at_end job fault beginnings failed }
+    ensures { result ≡ hint_at_end job fault beginnings failed doubtful }
 {
     match (fault, job) {
-        (Some(fault), _) => hint_after(fault, beginnings, failed),
-        (None, Job::Mend { .. }) => hint_of_mend(beginnings),
+        (Some(fault), _) => hint_after(job, fault, beginnings, failed),
+        (None, Job::Mend { .. }) => hint_of_mend(beginnings, doubtful),
         (None, _) => None,
     }
 }
@@ -78,9 +84,14 @@ pub fn first_failed(devices: &[(bool, Device)]) -> Option<Device> {
         .map(|device| device.1)
 }
 
-/// The hint after the fault of a job, where `failed` is the device that has failed, if one has.
-fn hint_after(fault: JobFault, beginnings: Beginnings, failed: Option<Device>) -> Option<Hint>
-    ensures { result ≡ hint_after fault beginnings failed }
+/// The hint after the fault of this job, where `failed` is the device that has failed, if one has.
+fn hint_after(
+    job: Job,
+    fault: JobFault,
+    beginnings: Beginnings,
+    failed: Option<Device>,
+) -> Option<Hint>
+    ensures { result ≡ hint_after job fault beginnings failed }
 {
     match fault {
         JobFault::File(Fault::ReadFault) => failed.map(Hint::Reading),
@@ -88,7 +99,8 @@ fn hint_after(fault: JobFault, beginnings: Beginnings, failed: Option<Device>) -
         JobFault::File(Fault::OutOfMemory) | JobFault::Memory => None,
         JobFault::File(fault) => Some(hint_of_pair(fault, beginnings)),
         JobFault::Compressed => Some(Hint::Compressed),
-        JobFault::NoKnownForm => Some(hint_of_form(beginnings.script)),
+        JobFault::NoKnownForm => Some(hint_of_form(job, beginnings.script)),
+        JobFault::Refused(_) => Some(Hint::Importable),
         JobFault::Line { .. } => Some(Hint::Stay),
     }
 }
@@ -100,20 +112,21 @@ fn hint_of_pair(fault: Fault, beginnings: Beginnings) -> Hint
     match fault {
         Fault::NoHeader if beginnings.script.is_empty() => Hint::EmptyScript,
         Fault::NoHeader => Hint::Headless,
+        _ if beginnings.timing.is_compressed() => Hint::Compressed,
         _ if is_of_line_one(fault) && beginnings.timing.is_typescript() => Hint::Swapped,
         Fault::MultiStream(_) if beginnings.timing.is_streams() => Hint::Streams,
         _ => Hint::Mendable,
     }
 }
 
-/// The hint where a recording has no form that is known.
-fn hint_of_form(recording: Beginning) -> Hint
-    ensures { result ≡ hint_of_form recording }
+/// The hint where a recording has no form that is known: the one path of a search may be the timing file of a pair.
+fn hint_of_form(job: Job, recording: Beginning) -> Hint
+    ensures { result ≡ hint_of_form job recording }
 {
-    if recording.is_started() {
-        Hint::Untimed
-    } else {
-        Hint::Forms
+    match job {
+        _ if recording.is_started() => Hint::Untimed,
+        Job::Find { .. } => Hint::FormsOrText,
+        _ => Hint::Forms,
     }
 }
 
@@ -138,10 +151,13 @@ fn is_of_line_one(fault: Fault) -> bool
 }
 
 /// The hint where a pair of files was mended: a timing that begins as a typescript is told to be a bad stream.
-fn hint_of_mend(beginnings: Beginnings) -> Option<Hint>
-    ensures { result ≡ hint_of_mend beginnings }
+fn hint_of_mend(beginnings: Beginnings, doubtful: bool) -> Option<Hint>
+    ensures { result ≡ hint_of_mend beginnings doubtful }
 {
-    if beginnings.timing.is_typescript() {
+    let compressed = beginnings.timing.is_compressed() || beginnings.script.is_compressed();
+    if doubtful && compressed {
+        Some(Hint::Compressed)
+    } else if beginnings.timing.is_typescript() {
         Some(Hint::Swapped)
     } else {
         None
@@ -171,6 +187,8 @@ impl fmt::Display for Hint {
             Hint::Compressed => "gunzip, bunzip2, unxz or unzstd it first",
             Hint::Untimed => "a typescript needs its timing file: SCRIPT TIMING",
             Hint::Forms => "asciicast, ttyrec and tlog are read",
+            Hint::FormsOrText => "asciicast, ttyrec and tlog are read (or TEXT is missing)",
+            Hint::Importable => "typetool import writes what can be read",
             Hint::Reading(_) => "reading",
             Hint::Writing(_) => "writing",
             Hint::Stay => "NEWSCRIPT and NEWTIMING stay, empty: remove them before you try again",

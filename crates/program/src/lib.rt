@@ -7,6 +7,7 @@ mod devices;
 mod files;
 mod hints;
 mod note;
+mod packing;
 mod pair;
 mod run;
 mod running;

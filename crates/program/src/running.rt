@@ -4,7 +4,9 @@ ghost use Rattle.std.specs.Prelude.{◌≡◌, ◌≢◌, ◌≤◌, false, IfEr
 ghost use Rattle.tape_core.specs.Devices.{has_failed};
 ghost use Rattle.command_line.specs.CommandLine.{path_count};
 ghost use Rattle.tape_jobs.specs.Endings.{HoldFiles, readers_of, used};
-ghost use Rattle.tape_jobs.specs.Output.{Files as Given, is_stopped};
+ghost use Rattle.tape_jobs.specs.Output.{Files as Given, is_stopped, remakes};
+ghost use Rattle.command_line.specs.declared.player.Source.TheVariants as stands;
+ghost use Rattle.command_line.specs.declared.player.Source.TheVariants.{Pair};
 ghost use Rattle.program.specs.Beginning.{remaining_of};
 ghost use Rattle.program.specs.Program.{IsAnswer, IsOutcome, stop_status};
 
@@ -14,11 +16,11 @@ use crate::files::open;
 use crate::hints::{Device, Hint, first_failed, hint_at_end};
 use crate::pair::{New, NewPair, create_pair};
 use crate::run::Stop;
-use command_line::{Job, Player, Words};
+use command_line::{Job, Player, Source, Words};
 use std::io;
 use std::rt::Files;
 use tape_core::{Fault, Watched};
-use tape_jobs::{JobFault, Outcome, import, mend, redact, run, run_with};
+use tape_jobs::{JobFault, Outcome, import, mend, redact, run, run_on_recording, run_with};
 use tape_mend::Header;
 
 /// The paths of a command line, in its order.
@@ -55,13 +57,14 @@ pub struct Ended {
     pub silent: bool,
 }
 
-/// A run of a job: how it ended, the note, the device that has failed, if one has, and whether whoever reads standard
-/// output is gone.
+/// A run of a job: how it ended, the note, the device that has failed, if one has, whether a file of a pair that was mended
+/// may be another one than it is taken for, and whether whoever reads standard output is gone.
 #[derive(Drop)]
 struct Ran {
     outcome: Outcome,
     note: Watched<Vec<u8>>,
     failed: Option<Device>,
+    doubtful: bool,
     silent: bool,
 }
 
@@ -76,14 +79,41 @@ pub fn open_and_run<R: Files + Input + Print + AllocGlobal>(
     ensures stop { IfErr result (λ stop. stop_status stop ≡ 3) }
 {
     let first = open(rt, words.paths[0].as_str())?;
-    let Job::Import = words.job else {
-        return run_on_pair(rt, words, first);
+    match (words.job, words.source) {
+        (Job::Import, _) => {
+            let paths = (words.paths[1].as_str(), words.paths[2].as_str());
+            let pair = create_pair(rt, paths, (&first, &first))?;
+            let mut recording = watched(first);
+            let ran = import_into(rt, &mut recording, pair)?;
+            Ok(ended_by(words.job, ran, Beginnings::of_one(recording)))
+        }
+        (Job::Save | Job::Mend { .. } | Job::Redact { .. }, _) | (_, Source::Pair) => {
+            run_on_pair(rt, words, first)
+        }
+        (_, Source::Recording) => run_alone(rt, words, first),
+    }
+}
+
+/// Does a job over a recording of another form, which is open.
+fn run_alone<R: Files + Input + Print + AllocGlobal>(
+    rt: &R,
+    words: &Words,
+    recording: R::File,
+) -> Result<Ended, Stop>
+    requires { remakes words.now.job ≡ None }
+    ensures outcome { IfOk result (λ ended. IsOutcome words.now.job ended.outcome) }
+    ensures stop { IfErr result (λ stop. stop_status stop ≡ 3) }
+{
+    let (job, text) = (words.job, words.text.as_slice());
+    let mut recording = watched(recording);
+    let ran = if let Job::Session { .. } = job {
+        let mut requests = Watched::new(rt.reader());
+        print_alone(rt, job, text, &mut recording, &mut requests)?
+    } else {
+        let mut requests = Watched::new(io::empty());
+        print_alone(rt, job, text, &mut recording, &mut requests)?
     };
-    let paths = (words.paths[1].as_str(), words.paths[2].as_str());
-    let pair = create_pair(rt, paths, (&first, &first))?;
-    let mut recording = watched(first);
-    let ran = import_into(rt, &mut recording, pair)?;
-    Ok(ended_by(words.job, ran, Beginnings::of_one(recording)))
+    Ok(ended_by(job, ran, Beginnings::of_one(recording)))
 }
 
 /// Does a job over a pair, of which the script is open.
@@ -143,12 +173,13 @@ fn ended_by(job: Job, ran: Ran, beginnings: Beginnings) -> Ended
         outcome,
         note,
         failed,
+        doubtful,
         silent,
     } = ran;
     Ended {
         outcome,
         note,
-        hint: hint_at_end(job, outcome.fault, beginnings, failed),
+        hint: hint_at_end(job, outcome.fault, beginnings, failed, doubtful),
         silent,
     }
 }
@@ -167,7 +198,7 @@ fn print<R: Files + Print + AllocGlobal, Q: io::Read>(
     ensures outcome { IfOk result (λ ran. IsOutcome job ran.outcome) }
     // Where nothing stopped the job, it is what the job comes to on these files.
     ensures answer { let told = remaining_of R.File.remaining in
-        let readers = readers_of (used told sources.old.script sources.new.script)
+        let readers = readers_of Pair (used told sources.old.script sources.new.script)
         (used told sources.old.timing sources.new.timing)
         (used Q.remaining requests.old requests.new) text.now in
         IfOk result (λ ran. is_stopped ran.outcome.fault ≡ false → (files : Given)
@@ -197,6 +228,53 @@ fn print<R: Files + Print + AllocGlobal, Q: io::Read>(
         outcome,
         note,
         failed,
+        doubtful: false,
+        silent: released(out).is_closed(),
+    })
+}
+
+/// Does a job that writes one text, over standard output, on a recording of another form.
+fn print_alone<R: Files + Print + AllocGlobal, Q: io::Read>(
+    rt: &R,
+    job: Job,
+    text: &[char],
+    recording: &mut Watched<Begun<R::File>>,
+    requests: &mut Watched<Q>,
+) -> Result<Ran, Stop>
+    requires reads { remakes job ≡ None }
+    requires recording { has_failed recording.old ≡ false }
+    requires requests { has_failed requests.old ≡ false }
+    ensures outcome { IfOk result (λ ran. IsOutcome job ran.outcome) }
+    // Where nothing stopped the job, it is what the job comes to on this file.
+    ensures answer { let file = used (remaining_of R.File.remaining) recording.old recording.new in
+        let readers = readers_of stands.Recording file file
+        (used Q.remaining requests.old requests.new) text.now in
+        IfOk result (λ ran. is_stopped ran.outcome.fault ≡ false → (files : Given)
+        → HoldFiles readers job files → IsAnswer job files ran.outcome) }
+    ensures stop { IfErr result (λ stop. stop ≡ Stop.Memory) }
+{
+    let mut out = buffered(rt, Outlet::new(io::writer(rt)))?;
+    let mut note = Watched::new(Vec::new(rt.alloc()));
+    let outcome = run_on_recording(
+        rt.alloc(),
+        job,
+        text,
+        recording,
+        requests,
+        &mut out,
+        &mut Watched::new(io::sink()),
+        &mut note,
+    );
+    let failed = first_failed(&[
+        (recording.failed(), SCRIPT),
+        (requests.failed(), Device::Input),
+        (out.failed(), Device::Output),
+    ]);
+    Ok(Ran {
+        outcome,
+        note,
+        failed,
+        doubtful: false,
         silent: released(out).is_closed(),
     })
 }
@@ -243,6 +321,7 @@ fn save_into<R: Files + Input + AllocGlobal>(
         outcome,
         note: Watched::new(Vec::new(rt.alloc())),
         failed,
+        doubtful: false,
         silent: false,
     }
 }
@@ -272,7 +351,7 @@ fn mend_into<R: Files + Print + AllocGlobal>(
         script: mut new_script,
         timing: mut new_timing,
     } = pair;
-    let outcome = mend(
+    let mending = mend(
         rt.alloc(),
         header,
         &mut sources.script,
@@ -292,11 +371,12 @@ fn mend_into<R: Files + Print + AllocGlobal>(
         script: new_script,
         timing: new_timing,
     };
-    let (outcome, failed) = place(rt, pair, BEHIND_PAIR, outcome, failed);
+    let (outcome, failed) = place(rt, pair, BEHIND_PAIR, mending.outcome, failed);
     Ok(Ran {
         outcome,
         note: Watched::new(Vec::new(rt.alloc())),
         failed,
+        doubtful: mending.doubtful,
         silent: released(told).is_closed(),
     })
 }
@@ -346,6 +426,7 @@ fn import_into<R: Files + Print + AllocGlobal>(
         outcome,
         note: Watched::new(Vec::new(rt.alloc())),
         failed,
+        doubtful: false,
         silent: released(told).is_closed(),
     })
 }
@@ -409,6 +490,7 @@ fn redact_into<R: Files + Print + AllocGlobal>(
         outcome,
         note,
         failed,
+        doubtful: false,
         silent,
     })
 }

@@ -30,9 +30,24 @@ parts_joined (Some a) None (Some c) = simp (append-nil, append_assoc)
 parts_joined (Some a) (Some b) None = simp (append-nil, append_assoc)
 parts_joined (Some a) (Some b) (Some c) = simp (append-nil, append_assoc)
 
+four_joined : (one two three four : Option Note)
+    → parts_text (part_if (seen_if one) ++ part_if (seen_if two) ++ part_if (seen_if three) ++ part_if (seen_if four))
+    ≡ further false (seen_if one) ++ further (is_some one) (seen_if two) ++ further (is_some one || is_some two) (seen_if three)
+    ++ further (is_some one || is_some two || is_some three) (seen_if four)
+unfolding separator
+four_joined None two three four = parts_joined two three four
+four_joined (Some a) None None None = simp (append-nil, append_assoc)
+four_joined (Some a) None None (Some d) = simp (append-nil, append_assoc)
+four_joined (Some a) None (Some c) None = simp (append-nil, append_assoc)
+four_joined (Some a) None (Some c) (Some d) = simp (append-nil, append_assoc)
+four_joined (Some a) (Some b) None None = simp (append-nil, append_assoc)
+four_joined (Some a) (Some b) None (Some d) = simp (append-nil, append_assoc)
+four_joined (Some a) (Some b) (Some c) None = simp (append-nil, append_assoc)
+four_joined (Some a) (Some b) (Some c) (Some d) = simp (append-nil, append_assoc)
+
 pub parts_are_joined : (parts : Parts) → parts_text (parts_seen parts) ≡ parts_in_turn parts
 unfolding parts_in_turn
-parts_are_joined parts = parts_joined parts.size parts.term parts.sessions
+parts_are_joined parts = four_joined parts.size parts.term parts.resizes parts.sessions
 
 -- the lines of some entries were written, and the rest of them is left
 pub record Written {T : Type 0} (contents : T → Option (List ℕ)) (old new : Watched T) (entries left : List (List ℕ × ℕ)) : Type 0 where

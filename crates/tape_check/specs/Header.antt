@@ -7,6 +7,7 @@ use Rattle.std.specs.Char.{is_ascii_digit}
 use Rattle.tape_core.specs.Seconds.{last_moment}
 use Rattle.tape_core.specs.Tape.{Tape}
 use Rattle.tape_core.specs.Text.{number_of}
+use Rattle.vt_term.specs.declared.profile.Profile.{Profile}
 use Rattle.vt_term.specs.declared.profile.Profile.TheVariants.{Vt100, Vt102}
 use Rattle.tape_check.specs.declared.played.PlayedAs.{PlayedAs}
 use Rattle.tape_check.specs.declared.played.PlayedAs.TheVariants.{Vt, Today}
@@ -127,6 +128,17 @@ is_called name term = starts_with nat_eq term name && is_variant (drop (length n
 -- `-` and `.`
 abbrev pub parts_kind : ℕ → Bool
 parts_kind byte = (byte == 45) || (byte == 46)
+
+-- which VT100 a terminal of this name is: a VT102 by its own name, a VT100 by its own and by that of a VT52, which it
+-- plays too, and none by any other (ours)
+abbrev pub profile_of : List ℕ → Option Profile
+profile_of term =
+    if is_called (text_of word.Vt102) term then Some Vt102
+    else (if is_called (text_of word.Vt100) term || is_called (text_of word.Vt52) term then Some Vt100 else None)
+
+-- which one a recording's header tells, if it does (ours)
+unfoldable pub told_profile : Tape → Option Profile
+told_profile tape = option_and_then profile_of (term_of (header_line tape.header))
 
 -- the kind of a terminal: its name up to the first of these
 abbrev pub kind_of : List ℕ → List ℕ

@@ -111,24 +111,30 @@ trailer_note trailer =
     if is_usual trailer then None
     else number_note (text_of word.Trailing) (length trailer) (text_of word.NeverShown)
 
+-- changes of size that importing left out
+abbrev pub resizes_note : ℕ → Option (List ℕ)
+resizes_note n = number_note (text_of word.Resizes) n (text_of word.LeftOut)
+
 -- further sessions in the trailer
 abbrev pub sessions_note : ℕ → Option (List ℕ)
 sessions_note n = number_note (text_of word.Sessions) n (text_of word.MoreSessions)
 
--- the notes of a recording
+-- the notes of a recording, of which so many changes of size were left out
 pub record Notes : Type 0 where
   pub header : Option (List ℕ)
   pub size : Option (List ℕ)
   pub term : Option (List ℕ)
+  pub resizes : Option (List ℕ)
   pub bytes : Option (List ℕ)
   pub trailer : Option (List ℕ)
   pub sessions : Option (List ℕ)
 
-abbrev pub notes_of : PlayedAs → Tape → Notes
-notes_of played tape = let line = header_line tape.header in record {
+abbrev pub notes_of : PlayedAs → ℕ → Tape → Notes
+notes_of played resizes tape = let line = header_line tape.header in record {
   header = header_note line;
   size = size_note played (size_of line);
   term = term_note played (term_of line);
+  resizes = resizes_note resizes;
   bytes = bytes_note played (left_of played (body tape.chunks)).bytes;
   trailer = trailer_note tape.trailer;
   sessions = sessions_note (sessions_in tape.trailer);
@@ -140,6 +146,7 @@ header_note_lines notes =
     line_if (text_of word.Note) notes.header
     ++ line_if (text_of word.Note) notes.size
     ++ line_if (text_of word.Note) notes.term
+    ++ line_if (text_of word.Note) notes.resizes
 
 unfoldable pub body_note_lines : Notes → List ℕ
 body_note_lines notes =
@@ -154,8 +161,8 @@ note_lines notes = header_note_lines notes ++ body_note_lines notes
 -- one of them is there
 abbrev pub has_note : Notes → Bool
 has_note notes =
-    is_some notes.header || is_some notes.size || is_some notes.term || is_some notes.bytes || is_some notes.trailer
-    || is_some notes.sessions
+    is_some notes.header || is_some notes.size || is_some notes.term || is_some notes.resizes || is_some notes.bytes
+    || is_some notes.trailer || is_some notes.sessions
 
 -- ---- the whole text
 
@@ -183,16 +190,17 @@ advice played notes unplayed =
     if is_older played && (has_picture_note notes || has_any unplayed) then text_of word.Try else []
 
 -- all lines of a check
-unfoldable pub check_text : PlayedAs → Tape → List ℕ
-check_text played tape =
-    let notes = notes_of played tape in
+unfoldable pub check_text : PlayedAs → ℕ → Tape → List ℕ
+check_text played resizes tape =
+    let notes = notes_of played resizes tape in
     let unplayed = (left_of played (body tape.chunks)).unplayed in
     facts_text (header_line tape.header) ++ note_lines notes ++ flat_map unplayed_line unplayed
     ++ advice played notes unplayed
 
 -- a note or an unplayed sequence is among them
-unfoldable pub is_noted : PlayedAs → Tape → Bool
-is_noted played tape = has_note (notes_of played tape) || has_any (left_of played (body tape.chunks)).unplayed
+unfoldable pub is_noted : PlayedAs → ℕ → Tape → Bool
+is_noted played resizes tape =
+    has_note (notes_of played resizes tape) || has_any (left_of played (body tape.chunks)).unplayed
 
 -- A check stops: a beginning of its text has gone out and the writer failed in it, or nothing yet where memory was
 -- refused.
@@ -207,11 +215,12 @@ abbrev pub part_if : Option (List ℕ) → List (List ℕ)
 part_if None = []
 part_if (Some part) = part ∷ []
 
--- its size, its terminal and its further sessions, those of the notes that hold
-unfoldable pub parts : PlayedAs → Tape → List (List ℕ)
-parts played tape =
+-- its size, its terminal, what was left out of it and its further sessions, those of the notes that hold
+unfoldable pub parts : PlayedAs → ℕ → Tape → List (List ℕ)
+parts played resizes tape =
     part_if (size_note played (size_of (header_line tape.header)))
     ++ part_if (term_note played (term_of (header_line tape.header)))
+    ++ part_if (resizes_note resizes)
     ++ part_if (sessions_note (sessions_in tape.trailer))
 
 -- there is one
@@ -225,8 +234,8 @@ parts_text [] = []
 parts_text (part ∷ rest) = part ++ flat_map (λ next. text_of word.Separator ++ next) rest
 
 -- whether a part is there
-abbrev pub has_parts : PlayedAs → Tape → Bool
-has_parts played tape = has_part (parts played tape)
+abbrev pub has_parts : PlayedAs → ℕ → Tape → Bool
+has_parts played resizes tape = has_part (parts played resizes tape)
 
 -- one on the size or the terminal is there
 abbrev pub has_header_part : PlayedAs → Tape → Bool
@@ -239,9 +248,9 @@ abbrev pub ending_by : Bool → List ℕ
 ending_by advised = text_of (if advised then word.EndingTry else word.Ending)
 
 -- the line on standard error, where one is there
-abbrev pub note_line : PlayedAs → Tape → List ℕ
-note_line played tape =
-    if has_parts played tape
-    then text_of word.Beginning ++ parts_text (parts played tape)
+abbrev pub note_line : PlayedAs → ℕ → Tape → List ℕ
+note_line played resizes tape =
+    if has_parts played resizes tape
+    then text_of word.Beginning ++ parts_text (parts played resizes tape)
     ++ ending_by (is_older played && has_header_part played tape)
     else []

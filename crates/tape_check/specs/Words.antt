@@ -1,7 +1,7 @@
 -- The words that are looked for in a typescript, and those that are written.
 use Rattle.std.specs.Prelude.{ℕ, List, [], ◌∷◌, ◌++◌, codes}
 use Rattle.tape_check.specs.declared.words.Word.{Word}
-use Rattle.tape_check.specs.declared.words.Word.TheVariants.{Opening, Closing, NotExecuted, TermLabel, ColumnsLabel, LinesLabel, EightyColumns, TwentyFourLines, Vt52, Vt100, Vt102, Xterm, Screen, Tmux, Linux, Vt220, Rxvt, Alacritty, Kitty, Foot, St, Gnome, Konsole, Putty, Ansi, Started, Term, Size, Note, NoHeader, OtherSize, PlayedSize, OtherTerm, PlayedTerm, HighBytes, NoUtf8, NotUtf8, Trailing, NeverShown, Sessions, MoreSessions, Unplayed, Try, Beginning, Separator, Ending, EndingTry}
+use Rattle.tape_check.specs.declared.words.Word.TheVariants.{Opening, Closing, NotExecuted, TermLabel, ColumnsLabel, LinesLabel, EightyColumns, TwentyFourLines, Vt52, Vt100, Vt102, Xterm, Screen, Tmux, Linux, Vt220, Rxvt, Alacritty, Kitty, Foot, St, Gnome, Konsole, Putty, Ansi, Started, Term, Size, Note, NoHeader, OtherSize, PlayedSize, OtherTerm, PlayedTerm, HighBytes, NoUtf8, NotUtf8, Trailing, NeverShown, Resizes, LeftOut, Sessions, MoreSessions, Unplayed, Try, Beginning, Separator, Ending, EndingTry}
 
 -- each word's bytes
 unfoldable pub text_of : Word → List ℕ
@@ -48,6 +48,8 @@ text_of NoUtf8 = codes " from 128 on: this terminal has no UTF-8"
 text_of NotUtf8 = codes " parts that are no UTF-8"
 text_of Trailing = codes "trailer: "
 text_of NeverShown = codes " bytes behind the last chunk are never shown"
+text_of Resizes = codes "resizes: "
+text_of LeftOut = codes " left out"
 text_of Sessions = codes "sessions: "
 text_of MoreSessions = codes " more in the trailer"
 -- unplayed sequences

@@ -11,7 +11,8 @@ ghost use Rattle.tape_check.specs.Noting.{further, notes_seen, parts_in_turn, pa
 
 use crate::header::{header_line, size_of, term_of};
 use crate::notes::{
-    Note, Notes, high_bytes, notes_of, put_facts, put_further, sessions_note, size_note, term_note,
+    Note, Notes, high_bytes, notes_of, put_facts, put_further, resizes_note, sessions_note,
+    size_note, term_note,
 };
 use crate::played::PlayedAs;
 use crate::scan::unplayed_in;
@@ -54,24 +55,25 @@ impl From<AllocError> for CheckFault {
     }
 }
 
-/// Writes the lines of a check, and tells whether a note or an unplayed sequence is among them. It doesn't flush. After
+/// Writes the lines of a check of a recording, of which so many changes of size were left out, and tells whether a note or an unplayed sequence is among them. It doesn't flush. After
 /// a write fault a beginning of the text has gone out; where memory is refused nothing has.
 #[tactic(auto, unfolding(crate::specs::Lines::check_text, crate::specs::Lines::is_noted))]
 pub fn write_check<W: Write>(
     alloc: Global,
     recording: &Recording,
     played: PlayedAs,
+    resizes: u64,
     writer: &mut Watched<W>,
 ) -> Result<bool, CheckFault>
     requires { has_failed writer.old ≡ false }
     ensures ok { OnOk result
-        (Took W.contents writer.old writer.new (check_text played recording.now)) }
-    ensures noted { IfOk result (λ noted. noted ≡ is_noted played recording.now) }
+        (Took W.contents writer.old writer.new (check_text played resizes recording.now)) }
+    ensures noted { IfOk result (λ noted. noted ≡ is_noted played resizes recording.now) }
     ensures fault { IfErr result
-        (StopsCheck W.contents writer.old writer.new (check_text played recording.now)) }
+        (StopsCheck W.contents writer.old writer.new (check_text played resizes recording.now)) }
 {
     let left = left_of(alloc, played, recording.chunks())?;
-    let notes = notes_of(recording, played, left.bytes);
+    let notes = notes_of(recording, played, resizes, left.bytes);
     let line = header_line(recording.header());
     put_check(line, played, &notes, &left.unplayed, writer);
     writer.ask()?;
@@ -191,27 +193,29 @@ fn put_count<W: Write>(count: u64, writer: &mut Watched<W>)
     writer.give_all(&[Word::Unplayed.text(), count, b" "]);
 }
 
-/// Writes one line that tells whoever plays a recording what of its size, its terminal and its sessions speaks against
-/// the picture, and tells whether there was something to tell; else it writes nothing. It doesn't flush. After a fault
+/// Writes one line that tells whoever plays a recording what of its size, its terminal, the changes of size that were left
+/// out and its sessions speaks against the picture, and tells whether there was something to tell; else it writes nothing. It doesn't flush. After a fault
 /// a beginning of the line has gone out.
 #[tactic(auto, unfolding(crate::specs::Lines::parts))]
 pub fn put_parts<W: Write>(
     recording: &Recording,
     played: PlayedAs,
+    resizes: u64,
     writer: &mut Watched<W>,
 ) -> Result<bool, Fault>
     requires { has_failed writer.old ≡ false }
     ensures ok { OnOk result
-        (Took W.contents writer.old writer.new (note_line played recording.now)) }
-    ensures told { IfOk result (λ told. told ≡ has_parts played recording.now) }
+        (Took W.contents writer.old writer.new (note_line played resizes recording.now)) }
+    ensures told { IfOk result (λ told. told ≡ has_parts played resizes recording.now) }
     ensures fault { IfErr result (λ fault. (fault ≡ Fault.WriteFault)
-        × TookPart W.contents writer.old writer.new (note_line played recording.now) true) }
+        × TookPart W.contents writer.old writer.new (note_line played resizes recording.now) true) }
 {
     gives_join::<W>();
     let line = header_line(recording.header());
     let parts = Parts {
         size: size_note(played, size_of(line)),
         term: term_note(played, term_of(line)),
+        resizes: resizes_note(resizes),
         sessions: sessions_note(sessions_in(recording.trailer())),
     };
     if !parts.any() {
@@ -227,6 +231,7 @@ pub fn put_parts<W: Write>(
 struct Parts<'a> {
     size: Option<Note<'a>>,
     term: Option<Note<'a>>,
+    resizes: Option<Note<'a>>,
     sessions: Option<Note<'a>>,
 }
 
@@ -234,7 +239,7 @@ impl Parts<'_> {
     fn any(&self) -> bool
         ensures { result ≡ has_part (parts_seen self.now) }
     {
-        self.size.is_some() || self.term.is_some() || self.sessions.is_some()
+        self.has_header_note() || self.resizes.is_some() || self.sessions.is_some()
     }
 
     fn put_line<W: Write>(&self, is_older: bool, writer: &mut Watched<W>)
@@ -271,6 +276,7 @@ impl Parts<'_> {
         gives_join::<W>();
         put_further(false, &self.size, writer);
         self.put_term(writer);
+        self.put_resizes(writer);
         self.put_sessions(writer);
     }
 
@@ -281,11 +287,20 @@ impl Parts<'_> {
         put_further(self.size.is_some(), &self.term, writer)
     }
 
+    fn put_resizes<W: Write>(&self, writer: &mut Watched<W>)
+        ensures { Gave W.contents writer.old writer.new
+            (further (is_some self.now.size || is_some self.now.term) (seen_if self.now.resizes)) }
+    {
+        put_further(self.has_header_note(), &self.resizes, writer)
+    }
+
     fn put_sessions<W: Write>(&self, writer: &mut Watched<W>)
         ensures { Gave W.contents writer.old writer.new
-            (further (is_some self.now.size || is_some self.now.term) (seen_if self.now.sessions)) }
+            (further (is_some self.now.size || is_some self.now.term || is_some self.now.resizes)
+            (seen_if self.now.sessions)) }
     {
-        put_further(self.has_header_note(), &self.sessions, writer)
+        let before = self.has_header_note() || self.resizes.is_some();
+        put_further(before, &self.sessions, writer)
     }
 
     fn has_header_note(&self) -> bool

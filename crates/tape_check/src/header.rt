@@ -4,7 +4,7 @@ ghost use Rattle.std.specs.List.{list_any, starts_with};
 ghost use Rattle.std.specs.Option.{option_copied, option_map};
 ghost use Rattle.tape_check.specs.Words.{text_of};
 ghost use Rattle.tape_check.specs.Sizes.{size_seen};
-ghost use Rattle.tape_check.specs.Header.{header_line, is_scripts, is_before_name, behind_prefix, behind_label, behind_last, before_quote, value_of, before_bracket, date_of, term_of, is_count, size_of, told_size, tells, is_played_size, is_called, kind_of, kinds_of_today, is_among, parts_kind, passes, visible};
+ghost use Rattle.tape_check.specs.Header.{header_line, is_scripts, is_before_name, behind_prefix, behind_label, behind_last, before_quote, value_of, before_bracket, date_of, term_of, is_count, size_of, told_profile, told_size, profile_of, tells, is_played_size, is_called, kind_of, kinds_of_today, is_among, parts_kind, passes, visible};
 
 use crate::played::PlayedAs;
 use crate::words::Word;
@@ -110,6 +110,15 @@ pub fn told_size(recording: &Recording) -> Option<(u64, u64)>
     let columns = read_number(size.columns)?;
     let lines = read_number(size.lines)?;
     Some((columns, lines))
+}
+
+/// Which VT100 a recording's header tells, by its TERM: a VT102, or a VT100, which stands for a VT52 too; none where it
+/// tells another terminal, or none.
+#[tactic(auto, unfolding(crate::specs::Header::told_profile))]
+pub fn told_profile(recording: &Recording) -> Option<Profile>
+    ensures { result ≡ told_profile recording.now }
+{
+    profile_of(term_of(header_line(recording.header()))?)
 }
 
 // Whether a text is digits with a value above 0.
@@ -226,6 +235,19 @@ fn passes_vt(profile: Profile, term: &[u8]) -> bool
     match profile {
         Profile::Vt100 => false,
         Profile::Vt102 => is_called(Word::Vt102, term),
+    }
+}
+
+// Which VT100 a terminal of this name is.
+fn profile_of(term: &[u8]) -> Option<Profile>
+    ensures { result ≡ profile_of term.now }
+{
+    if is_called(Word::Vt102, term) {
+        Some(Profile::Vt102)
+    } else if is_called(Word::Vt100, term) || is_called(Word::Vt52, term) {
+        Some(Profile::Vt100)
+    } else {
+        None
     }
 }
 

@@ -14,6 +14,6 @@ mod unplayed;
 mod words;
 
 pub use check::{CheckFault, put_parts, write_check};
-pub use header::told_size;
+pub use header::{told_profile, told_size};
 pub use played::PlayedAs;
 pub use trailer::is_usual;

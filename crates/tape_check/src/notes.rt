@@ -7,7 +7,7 @@ ghost use Rattle.tape_check.specs.Words.{text_of};
 ghost use Rattle.tape_check.specs.Header.{size_of, term_of};
 ghost use Rattle.tape_check.specs.Trailer.{sessions_in};
 ghost use Rattle.tape_check.specs.Sizes.{size_seen};
-ghost use Rattle.tape_check.specs.Lines.{body_note_lines, bytes_note, facts_text, bytes_word, has_note, has_picture_note, header_note, header_note_lines, high_bytes, left_of, line_if, note_lines, notes_of, played_size_text, profile_name, sessions_note, shown, shown_if, size_note, size_text, size_text_if, term_note, trailer_note};
+ghost use Rattle.tape_check.specs.Lines.{body_note_lines, bytes_note, facts_text, bytes_word, has_note, has_picture_note, header_note, header_note_lines, high_bytes, left_of, line_if, note_lines, notes_of, played_size_text, profile_name, resizes_note, sessions_note, shown, shown_if, size_note, size_text, size_text_if, term_note, trailer_note};
 ghost use Rattle.tape_check.specs.Noting.{further, note_seen, notes_seen, seen_if, separator};
 
 use crate::header::{Size, date_of, header_line, is_scripts, passes, size_of, term_of, visible};
@@ -26,6 +26,7 @@ pub(crate) enum Note<'a> {
     Header,
     Size(Size<'a>, PlayedAs),
     Term(&'a [u8], PlayedAs),
+    Resizes(u64),
     Bytes(u64, PlayedAs),
     Trailer(usize),
     Sessions(usize),
@@ -37,6 +38,7 @@ pub(crate) struct Notes<'a> {
     pub(crate) header: Option<Note<'a>>,
     pub(crate) size: Option<Note<'a>>,
     pub(crate) term: Option<Note<'a>>,
+    pub(crate) resizes: Option<Note<'a>>,
     pub(crate) bytes: Option<Note<'a>>,
     pub(crate) trailer: Option<Note<'a>>,
     pub(crate) sessions: Option<Note<'a>>,
@@ -44,16 +46,23 @@ pub(crate) struct Notes<'a> {
 
 // ---- which notes there are
 
-/// The notes of a recording of which so many bytes or parts aren't shown as they were meant.
-pub(crate) fn notes_of(recording: &Recording, played: PlayedAs, bytes: u64) -> Notes<'_>
+/// The notes of a recording, of which so many changes of size were left out, and so many bytes or parts aren't shown as
+/// they were meant.
+pub(crate) fn notes_of(
+    recording: &Recording,
+    played: PlayedAs,
+    resizes: u64,
+    bytes: u64,
+) -> Notes<'_>
     requires { bytes ≡ (left_of played (body recording.now.chunks)).bytes }
-    ensures { notes_seen result ≡ notes_of played recording.now }
+    ensures { notes_seen result ≡ notes_of played resizes recording.now }
 {
     let line = header_line(recording.header());
     Notes {
         header: header_note(line),
         size: size_note(played, size_of(line)),
         term: term_note(played, term_of(line)),
+        resizes: resizes_note(resizes),
         bytes: bytes_note(played, bytes),
         trailer: trailer_note(recording.trailer()),
         sessions: sessions_note(sessions_in(recording.trailer())),
@@ -125,6 +134,15 @@ fn trailer_note(trailer: &[u8]) -> Option<Note<'_>>
         return None;
     }
     Some(Note::Trailer(trailer.len()))
+}
+
+pub(crate) fn resizes_note(n: u64) -> Option<Note<'static>>
+    ensures { seen_if result ≡ resizes_note n }
+{
+    if n == 0 {
+        return None;
+    }
+    Some(Note::Resizes(n))
 }
 
 pub(crate) fn sessions_note(n: usize) -> Option<Note<'static>>
@@ -249,6 +267,7 @@ impl Notes<'_> {
         self.header.is_some()
             || self.size.is_some()
             || self.term.is_some()
+            || self.resizes.is_some()
             || self.bytes.is_some()
             || self.trailer.is_some()
             || self.sessions.is_some()
@@ -279,6 +298,7 @@ impl Notes<'_> {
         put_note_line(&self.header, writer);
         put_note_line(&self.size, writer);
         put_note_line(&self.term, writer);
+        put_note_line(&self.resizes, writer);
     }
 
     #[tactic(auto, unfolding(crate::specs::Lines::body_note_lines))]
@@ -349,6 +369,7 @@ impl Note<'_> {
             Note::Header => writer.give(Word::NoHeader.text()),
             Note::Size(size, played) => put_other_size(size, *played, writer),
             Note::Term(term, played) => put_other_term(term, *played, writer),
+            Note::Resizes(n) => put_number(Word::Resizes, *n, Word::LeftOut, writer),
             Note::Bytes(n, played) => put_number(Word::HighBytes, *n, bytes_word(*played), writer),
             Note::Trailer(n) => put_number(Word::Trailing, *n, Word::NeverShown, writer),
             Note::Sessions(n) => put_number(Word::Sessions, *n, Word::MoreSessions, writer),

@@ -48,6 +48,8 @@ pub enum Word {
     NotUtf8,
     Trailing,
     NeverShown,
+    Resizes,
+    LeftOut,
     Sessions,
     MoreSessions,
     // Unplayed sequences.
@@ -107,6 +109,8 @@ impl Word {
             Word::NotUtf8 => b" parts that are no UTF-8",
             Word::Trailing => b"trailer: ",
             Word::NeverShown => b" bytes behind the last chunk are never shown",
+            Word::Resizes => b"resizes: ",
+            Word::LeftOut => b" left out",
             Word::Sessions => b"sessions: ",
             Word::MoreSessions => b" more in the trailer",
             Word::Unplayed => b"unplayed ",

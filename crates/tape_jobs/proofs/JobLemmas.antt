@@ -5,19 +5,26 @@ use Rattle.tape_core.proofs.GaveLemmas.{gave_early, gave_none, gave_took}
 use Rattle.tape_core.specs.Devices.{Took, TookPart, has_failed, is_flushed}
 use Rattle.tape_core.specs.declared.devices.Watched.{Watched}
 use Rattle.tape_core.specs.Faults.{is_stop}
-use Rattle.tape_core.specs.Reading.{fault_of, reads}
+use Rattle.std.specs.Option.{option_map}
+use Rattle.tape_import.specs.Imported.{Import}
+use Rattle.tape_import.specs.ImportedFile.{import_of}
+use Rattle.tape_import.specs.Refusal.{IsWhole, refusal_of}
+use Rattle.tape_import.specs.declared.fault.ImportFault.{ImportFault}
+use Rattle.command_line.specs.declared.player.Source.{Source}
+use Rattle.command_line.specs.declared.player.Source.TheVariants.{Pair}
+use Rattle.command_line.specs.declared.player.Source.TheVariants as stands
 use Rattle.tape_core.specs.Tape.{Tape}
 use Rattle.tape_core.specs.declared.fault.Fault.{Fault}
 use Rattle.tape_core.specs.declared.fault.Fault.TheVariants.{OutOfMemory, ReadFault, WriteFault}
 use Rattle.tape_jobs.specs.Endings.{AreRead, AreSound, AsksNothing, HasFailed, HoldFiles, IsDone, IsUndone, IsUnwritten, JobEnds, OnFiles, Readers, RunEnds, StopsIn, TookBoth, TookPartOfBoth, WantsMemory, Writers}
-use Rattle.tape_jobs.specs.Output.{Comes, ComesBy, Done, Files, IsDoneStatus, answers_by_status, done_on, done_with, is_stopped, outcome_in, refused_in, remakes, takes_requests, writes_timing}
+use Rattle.tape_jobs.specs.Output.{Comes, ComesBy, Done, Files, IsDoneStatus, ReadsAs, ReadsFrom, answers_by_status, done_on, done_with, fault_from, fault_of_refusal, is_stopped, outcome_in, refused_in, remakes, takes_requests, writes_timing}
 use Rattle.tape_jobs.specs.Output.{Remade}
 use Rattle.tape_jobs.specs.declared.job.Ending.{Ending}
 use Rattle.tape_jobs.specs.declared.job.Ending.TheVariants.{Clean}
 use Rattle.command_line.specs.declared.job.Job.{Job}
 use Rattle.command_line.specs.declared.job.Job.TheVariants as jobs
 use Rattle.tape_jobs.specs.declared.job.JobFault.{JobFault}
-use Rattle.tape_jobs.specs.declared.job.JobFault.TheVariants.{File, Compressed, NoKnownForm, Line, Memory}
+use Rattle.tape_jobs.specs.declared.job.JobFault.TheVariants.{File, Compressed, NoKnownForm, Refused, Line, Memory}
 
 -- nothing of a text has gone out yet
 pub part_none : {T : Type 0} (contents : T → Option (List ℕ)) (a : Watched T) (text : List ℕ) → has_failed a ≡ false
@@ -64,45 +71,70 @@ pub comes_by : (job : Job) (files : Files) (done : Done) (o : Option Remade) →
     → Comes job files done
 comes_by job files done o e comes = subst (λ x. ComesBy x job files done) (sym e) comes
 
--- a pair with a fault
-pub comes_refused : (job : Job) (files : Files) (f : Fault) → remakes job ≡ None → fault_of files.script files.timing ≡ Some f
-    → Comes job files (refused_in job (File f))
+-- files with a fault
+pub comes_refused : (job : Job) (files : Files) (f : JobFault) → remakes job ≡ None
+    → fault_from files.source files.script files.timing ≡ Some f → Comes job files (refused_in job f)
 comes_refused job files f reading e =
-    comes_by job files (refused_in job (File f)) None reading (subst (λ o. MatchOption o
-    ((tape : Tape) × reads files.script files.timing tape × (refused_in job (File f) ≡ done_on job tape files.requests files.text))
-    (λ g. refused_in job (File f) ≡ refused_in job (File g))) (sym e) refl)
+    comes_by job files (refused_in job f) None reading (subst (λ o. MatchOption o
+    ((tape : Tape) × (resizes : ℕ) × ReadsAs files tape resizes
+    × (refused_in job f ≡ done_on job tape resizes files.requests files.text))
+    (λ g. refused_in job f ≡ refused_in job g)) (sym e) refl)
 
--- a pair that is read
-comes_done : (job : Job) (files : Files) (tape : Tape) → remakes job ≡ None → reads files.script files.timing tape
-    → Comes job files (done_on job tape files.requests files.text)
-comes_done job files tape reading h =
-    let done = done_on job tape files.requests files.text in
+-- what is read has no fault
+whole_unrefused : (read : Result Import ImportFault) (tape : Tape) (resizes : ℕ) → IsWhole read tape resizes
+    → refusal_of read ≡ None
+whole_unrefused (Ok what) tape resizes h = h.whole
+whole_unrefused (Err f) tape resizes h = absurd h
+
+unfaulted_from : (source : Source) (script timing : List ℕ) (tape : Tape) (resizes : ℕ)
+    → ReadsFrom source script timing tape resizes → fault_from source script timing ≡ None
+unfaulted_from Pair script timing tape resizes h = ap (option_map (λ f. File f)) h.0.faultless
+unfaulted_from stands.Recording script timing tape resizes h =
+    ap (option_map fault_of_refusal) (whole_unrefused (import_of script) tape resizes h)
+
+-- files that are read
+comes_done : (job : Job) (files : Files) (tape : Tape) (resizes : ℕ) → remakes job ≡ None → ReadsAs files tape resizes
+    → Comes job files (done_on job tape resizes files.requests files.text)
+comes_done job files tape resizes reading h =
+    let done = done_on job tape resizes files.requests files.text in
     comes_by job files done None reading (subst (λ o. MatchOption o
-    ((other : Tape) × reads files.script files.timing other × (done ≡ done_on job other files.requests files.text))
-    (λ g. done ≡ refused_in job (File g))) (sym h.faultless) (tape, h, refl))
+    ((other : Tape) × (count : ℕ) × ReadsAs files other count × (done ≡ done_on job other count files.requests files.text))
+    (λ g. done ≡ refused_in job g))
+    (sym (unfaulted_from files.source files.script files.timing tape resizes h)) (tape, resizes, h, refl))
 
 -- where a job takes no request lines, it comes to the same whatever they are
-same_lines : (job : Job) (tape : Tape) (one other text : List ℕ) → (takes_requests job ≡ true → one ≡ other)
-    → done_on job tape one text ≡ done_on job tape other text
-same_lines jobs.Save tape one other text same = ap (λ r. done_on jobs.Save tape r text) (same refl)
-same_lines (jobs.Session every player) tape one other text same =
-    ap (λ r. done_on (jobs.Session every player) tape r text) (same refl)
-same_lines job tape one other text same = refl
+same_lines : (job : Job) (tape : Tape) (resizes : ℕ) (one other text : List ℕ) → (takes_requests job ≡ true → one ≡ other)
+    → done_on job tape resizes one text ≡ done_on job tape resizes other text
+same_lines jobs.Save tape resizes one other text same = ap (λ r. done_on jobs.Save tape resizes r text) (same refl)
+same_lines (jobs.Session every player) tape resizes one other text same =
+    ap (λ r. done_on (jobs.Session every player) tape resizes r text) (same refl)
+same_lines job tape resizes one other text same = refl
 
 -- and beside the same text
-same_done : (job : Job) (tape : Tape) (one other text same_text : List ℕ) → (takes_requests job ≡ true → one ≡ other)
-    → same_text ≡ text → done_on job tape one text ≡ done_on job tape other same_text
-same_done job tape one other text same_text same e =
-    same_lines job tape one other text same ∙ ap (done_on job tape other) (sym e)
+same_done : (job : Job) (tape : Tape) (resizes : ℕ) (one other text same_text : List ℕ)
+    → (takes_requests job ≡ true → one ≡ other) → same_text ≡ text
+    → done_on job tape resizes one text ≡ done_on job tape resizes other same_text
+same_done job tape resizes one other text same_text same e =
+    same_lines job tape resizes one other text same ∙ ap (done_on job tape resizes other) (sym e)
 
 -- what a job comes to on the recording that was read
-pub comes_read : {S T R : Type 0} {readers : Readers S T R} {job : Job} (tape : Tape) (lines : List ℕ) → remakes job ≡ None
-    → (files : Files) → HoldFiles readers job files
-    → reads files.script files.timing tape × (takes_requests job ≡ true → lines ≡ files.requests)
-    → Comes job files (done_on job tape lines readers.text)
-comes_read {readers = readers} {job = job} tape lines reading files held known =
-    subst (Comes job files) (sym (same_done job tape lines files.requests readers.text files.text known.1 held.text))
-    (comes_done job files tape reading known.0)
+pub comes_read : {S T R : Type 0} {readers : Readers S T R} {job : Job} (tape : Tape) (resizes : ℕ) (lines : List ℕ)
+    → remakes job ≡ None → (files : Files) → HoldFiles readers job files
+    → ReadsAs files tape resizes × (takes_requests job ≡ true → lines ≡ files.requests)
+    → Comes job files (done_on job tape resizes lines readers.text)
+comes_read {readers = readers} {job = job} tape resizes lines reading files held known =
+    subst (Comes job files)
+    (sym (same_done job tape resizes lines files.requests readers.text files.text known.1 held.text))
+    (comes_done job files tape resizes reading known.0)
+
+-- files that stand so, by what the readers have to tell
+pub read_so : (files : Files) (source : Source) (tape : Tape) (resizes : ℕ) → files.source ≡ source
+    → ReadsFrom source files.script files.timing tape resizes → ReadsAs files tape resizes
+read_so files source tape resizes e h = subst (λ s. ReadsFrom s files.script files.timing tape resizes) (sym e) h
+
+pub fault_so : (files : Files) (source : Source) (f : JobFault) → files.source ≡ source
+    → fault_from source files.script files.timing ≡ Some f → fault_from files.source files.script files.timing ≡ Some f
+fault_so files source f e h = ap (λ s. fault_from s files.script files.timing) e ∙ h
 
 pub is_not : (b : Bool) → not b ≡ true → b ≡ false
 is_not true e = absurd (cc)
@@ -118,6 +150,7 @@ refused_outcome job (File f) e =
     ap (λ b. record { status = if answers_by_status job then 3 else (if b then 3 else 1); fault = Some (File f) }) e
 refused_outcome job Compressed e = refl
 refused_outcome job NoKnownForm e = refl
+refused_outcome job (Refused r) e = refl
 refused_outcome job (Line line f) e = refl
 refused_outcome job Memory e = absurd (cc)
 

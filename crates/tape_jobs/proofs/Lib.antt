@@ -4,6 +4,7 @@ mod MendLemmas
 mod NoteLemmas
 mod NowhereLemmas
 mod RedactLemmas
+mod RefusalLemmas
 mod RequestLemmas
 mod SessionLemmas
 mod PlayerLemmas

@@ -1,5 +1,5 @@
 -- What mending comes to, and how it ends.
-use Rattle.std.proofs.Common.{◌≡◌, ◌≢◌, ℕ, true, false, List, [], refl, sym, ap, ◌∙◌, subst, Some, Result, Err, if◌then◌else◌}
+use Rattle.std.proofs.Common.{◌≡◌, ◌≢◌, ℕ, true, false, List, [], sym, ap, ◌∙◌, subst, Some, Result, Err, if◌then◌else◌}
 use Rattle.tape_core.specs.Devices.{inner_of}
 use Rattle.tape_core.specs.Faults.{is_stop}
 use Rattle.tape_core.specs.Reading.{has_header}
@@ -10,7 +10,7 @@ use Rattle.tape_jobs.proofs.TellingLemmas.{telling_unread, telling_written}
 use Rattle.tape_jobs.specs.Endings.{Device, Writers}
 use Rattle.tape_jobs.specs.Mending.{IsRead, IsUnread, MendEnds, OnPair, Pair, told_by, told_of}
 use Rattle.tape_jobs.specs.Output.{Comes, Done, Files, done_mending, mended_by, outcome_by, refused_in, refused_with, remakes}
-use Rattle.tape_jobs.specs.Output.Remade.{Remnants, Foreign}
+use Rattle.tape_jobs.specs.Output.Remade.{Remnants}
 use Rattle.tape_jobs.specs.Telling.{IsSilent, ThreeEnd}
 use Rattle.tape_jobs.specs.declared.job.Ending.{Ending}
 use Rattle.command_line.specs.declared.job.Job.{Job}

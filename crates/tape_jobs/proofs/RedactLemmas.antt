@@ -14,7 +14,7 @@ use Rattle.tape_jobs.specs.Endings.{AsksNothing, Device, HasFailed, Writers}
 use Rattle.tape_jobs.specs.Mending.{IsRead, Pair}
 use Rattle.tape_jobs.specs.Notes.{IsTold, is_write_fault}
 use Rattle.tape_jobs.specs.Output.{IsDoneStatus, done_redacting, ending_of_redact, lines_left, outcome_in, status_after, without_text}
-use Rattle.tape_jobs.specs.Player.{NowhereFor, NowhereMeansNowhere, played_of, settled}
+use Rattle.tape_jobs.specs.Player.{NowhereFor, NowhereMeansNowhere, played_of}
 use Rattle.tape_jobs.specs.Redacting.{FourEnd, IsUntold, OnRecording, RedactEnds, StoppedInFour, TookFour}
 use Rattle.tape_jobs.specs.declared.job.Ending.{Ending}
 use Rattle.tape_jobs.specs.declared.job.Ending.TheVariants.{Clean, WithRefusals, WithNotes, WithLosses, WithNothing, WithTraces}
@@ -74,12 +74,12 @@ module _ {S T O P L F N : Type 0} (pair : Pair S T) (writers : Writers O P) (tol
   module _ (tape : Tape)
       (on : (s t : List ℕ) → pair.script.bytes (inner_of pair.script.old) ≡ Some s
       → pair.timing.bytes (inner_of pair.timing.old) ≡ Some t → reads s t tape)
-      (read : IsRead pair) (note : IsTold notes.bytes notes.old notes.new (note_line (played_of player tape) tape)) where
+      (read : IsRead pair) (note : IsTold notes.bytes notes.old notes.new (note_line (played_of player tape) 0 tape)) where
     on_recording : (Is : Tape → Type 0) → Is tape → OnRecording pair Is
     on_recording Is is = λ s t held held_timing. (tape, on s t held held_timing, is)
 
-    on_note : OnRecording pair (λ x. IsTold notes.bytes notes.old notes.new (note_line (played_of player x) x))
-    on_note = on_recording (λ x. IsTold notes.bytes notes.old notes.new (note_line (played_of player x) x)) note
+    on_note : OnRecording pair (λ x. IsTold notes.bytes notes.old notes.new (note_line (played_of player x) 0 x))
+    on_note = on_recording (λ x. IsTold notes.bytes notes.old notes.new (note_line (played_of player x) 0 x)) note
 
     for_memory : StoppedInFour writers told found player text tape false
         → RedactEnds pair writers told found notes player text (outcome_in (Redact player) (Err Memory))
@@ -130,8 +130,8 @@ module _ {S T O P L F N : Type 0} (pair : Pair S T) (writers : Writers O P) (tol
       nowhere = λ e ink.
           let clean = sym (ap (λ o. o.status) same) ∙ e in
           let none = no_text (lines_left player text tape) (unfound _ _ clean) in
-          on_recording (λ x. NowhereFor (settled player x) (without_text text x) None last_moment text)
-          (law (settled player tape) (without_text text tape) None last_moment text ink none);
+          on_recording (λ x. NowhereFor (played_of player x) (without_text text x) None last_moment text)
+          (law player tape (without_text text tape) None last_moment text ink none);
       noted = λ _. on_note;
       silent = λ e. absurd (cc);
     }

@@ -1,5 +1,5 @@
 -- How a job ends that writes both files anew and tells of it.
-use Rattle.std.proofs.Common.{◌≡◌, ◌≢◌, ◌⊎◌, ℕ, true, false, List, refl, sym, ap, subst, inl, inr, Option, None, Some, Result, Ok, Err}
+use Rattle.std.proofs.Common.{◌≡◌, ◌≢◌, ℕ, true, false, List, refl, sym, subst, inl, inr, Option, Some, Result, Ok, Err}
 use Rattle.tape_core.specs.Devices.{Took}
 use Rattle.tape_core.specs.declared.fault.Fault.TheVariants.{ReadFault, WriteFault}
 use Rattle.tape_jobs.proofs.JobLemmas.{is_not, stops}

@@ -20,16 +20,16 @@ use Rattle.tape_check.specs.declared.check.CheckFault.{CheckFault}
 use Rattle.tape_check.specs.declared.check.CheckFault.TheVariants as check
 use Rattle.tape_core.specs.Devices.{Gave, Took, TookPart, has_failed, inner_of, is_flushed}
 use Rattle.tape_core.specs.declared.devices.Watched.{Watched}
-use Rattle.tape_core.specs.Reading.{reads}
 use Rattle.tape_core.specs.Tape.{Tape}
 use Rattle.tape_core.specs.declared.fault.Fault.TheVariants as fault
-use Rattle.tape_jobs.specs.Output.{Comes, Done, Files, IsDoneStatus, TakesMemory, is_stopped, outcome_by, refused_in, status_after, status_in, takes_requests, writes_timing}
+use Rattle.tape_jobs.specs.Output.{Comes, Done, Files, IsDoneStatus, ReadsAs, TakesMemory, is_stopped, outcome_by, refused_in, status_after, status_in, takes_requests, writes_timing}
 use Rattle.tape_jobs.specs.declared.job.Ending.{Ending}
-use Rattle.tape_jobs.specs.Player.{NowhereFor}
+use Rattle.tape_jobs.specs.Player.{NowhereFor, played_of}
 use Rattle.tape_jobs.specs.Texts.{writes_last}
 use Rattle.command_line.specs.declared.job.Job.{Job}
 use Rattle.command_line.specs.declared.job.Job.TheVariants.{Find}
 use Rattle.command_line.specs.declared.player.Player.{Player}
+use Rattle.command_line.specs.declared.player.Source.{Source}
 use Rattle.tape_jobs.specs.declared.job.JobFault.{JobFault}
 use Rattle.tape_jobs.specs.declared.job.JobFault.TheVariants.{File, Memory}
 use Rattle.tape_jobs.specs.declared.job.Outcome.{Outcome}
@@ -57,8 +57,10 @@ HasFailed device = has_failed device.new ≡ true
 abbrev pub AsksNothing : {T : Type 0} → Device T → Type 0
 AsksNothing device = device.new ≡ device.old
 
--- the readers of a job, and the characters of the text beside it (ours)
+-- the readers of a job, and the characters of the text beside it. A recording of another form is read in the place of both
+-- files (ours).
 pub record Readers (S T R : Type 0) : Type 0 where
+  pub source : Source
   pub script : Device S
   pub timing : Device T
   pub requests : Device R
@@ -69,10 +71,10 @@ pub record Writers (O P : Type 0) : Type 0 where
   pub out : Device O
   pub out_timing : Device P
 
-abbrev pub readers_of : {S T R : Type 0} → Device S → Device T → Device R → List ℕ
+abbrev pub readers_of : {S T R : Type 0} → Source → Device S → Device T → Device R → List ℕ
     → Readers S T R
-readers_of script timing requests text =
-    record { script = script; timing = timing; requests = requests; text = text }
+readers_of source script timing requests text =
+    record { source = source; script = script; timing = timing; requests = requests; text = text }
 
 abbrev pub writers_of : {O P : Type 0} → Device O → Device P → Writers O P
 writers_of out out_timing = record { out = out; out_timing = out_timing }
@@ -81,6 +83,7 @@ writers_of out out_timing = record { out = out; out_timing = out_timing }
 -- the job (ours)
 pub record HoldFiles {S T R : Type 0} (readers : Readers S T R) (job : Job) (files : Files)
     : Type 0 where
+  pub source : files.source ≡ readers.source
   pub script : readers.script.bytes (inner_of readers.script.old) ≡ Some files.script
   pub timing : readers.timing.bytes (inner_of readers.timing.old) ≡ Some files.timing
   pub requests : takes_requests job ≡ true
@@ -264,4 +267,5 @@ abbrev pub NothingIsNowhere : {S T R : Type 0} → Readers S T R → Job → Out
 NothingIsNowhere readers job outcome = (player : Player) (from : Option ℕ) (to : ℕ)
     → job ≡ Find from to player → has_ink readers.text ≡ true → outcome.fault ≡ None → outcome.status ≡ 1
     → (files : Files) → HoldFiles readers job files
-    → (tape : Tape) × reads files.script files.timing tape × NowhereFor player tape from to readers.text
+    → (tape : Tape) × (resizes : ℕ) × ReadsAs files tape resizes
+    × NowhereFor (played_of player tape) tape from to readers.text

@@ -9,5 +9,6 @@ pub mod Player
 pub mod Redacting
 pub mod Requests
 pub mod Session
+pub mod Setups
 pub mod Telling
 pub mod Texts

@@ -1,6 +1,6 @@
 -- What mending a pair of files comes to beside the pair, and how it ends (ours). A mending has the readers of the pair
 -- alone, and three writers: of the new pair, and of what is told of it.
-use Rattle.std.specs.Prelude.{◌≡◌, ℕ, ◌⊎◌, ◌++◌, List, [], ◌∷◌, length, codes, decimal, Some, if◌then◌else◌}
+use Rattle.std.specs.Prelude.{◌≡◌, ℕ, ◌⊎◌, ◌++◌, List, [], ◌∷◌, length, codes, decimal, ◌==◌, ◌||◌, Bool, false, Option, Some, None, if◌then◌else◌}
 use Rattle.tape_check.specs.Trailer.{is_usual}
 use Rattle.tape_core.specs.Devices.{inner_of}
 use Rattle.tape_core.specs.Reading.{has_header}
@@ -11,8 +11,10 @@ use Rattle.tape_jobs.specs.Telling.{TellingEnds}
 use Rattle.command_line.specs.declared.job.Job.TheVariants.{Mend}
 use Rattle.tape_jobs.specs.declared.job.JobFault.TheVariants.{File}
 use Rattle.tape_jobs.specs.declared.job.Outcome.{Outcome}
+use Rattle.tape_mend.specs.Front.{is_sudos}
 use Rattle.tape_mend.specs.Mended.{Remains, mended, seen}
 use Rattle.tape_mend.specs.Told.{losses_text}
+use Rattle.tape_mend.specs.declared.losses.LinesLeft.{LinesLeft}
 use Rattle.tape_mend.specs.declared.mended.Mended.{Mended}
 use Rattle.tape_mend.specs.declared.opening.Header.{Header}
 
@@ -30,6 +32,15 @@ told_of remains = losses_text remains.losses ++ untimed_text remains.tape.traile
 -- what is told of a pair of files that is mended; nothing where it isn't (ours)
 abbrev pub told_by : Header → List ℕ → List ℕ → List ℕ
 told_by how script timing = if has_header (seen how script) then told_of (mended how script timing) else []
+
+-- a file of the pair may be another one than it is taken for: reading ended before line 1 of the timing, or the timing is
+-- sudo's, whose logs are compressed more often than not (ours)
+abbrev pub is_of_line_one : Option LinesLeft → Bool
+is_of_line_one None = false
+is_of_line_one (Some left) = left.line == 1
+
+abbrev pub is_doubtful : List ℕ → Remains → Bool
+is_doubtful timing remains = is_of_line_one remains.losses.lines || is_sudos timing
 
 -- Private: what was read, as a plain value (ours)
 abbrev pub remains_of : Mended → Remains

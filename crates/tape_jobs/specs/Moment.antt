@@ -8,9 +8,9 @@ use Rattle.screen_picture.specs.Picture.{picture_text}
 use Rattle.tape_core.specs.Seconds.{last_moment}
 use Rattle.tape_core.specs.Tape.{Tape}
 use Rattle.tape_seek.specs.Moments.{term_at}
-use Rattle.tape_jobs.specs.Player.{today_at}
-use Rattle.command_line.specs.declared.player.Player.{Player}
-use Rattle.command_line.specs.declared.player.Player.TheVariants.{Vt, Today}
+use Rattle.tape_check.specs.declared.played.PlayedAs.{PlayedAs}
+use Rattle.tape_check.specs.declared.played.PlayedAs.TheVariants.{Vt, Today}
+use Rattle.tape_jobs.specs.Player.{played_of, sized, today_at}
 use Rattle.command_line.specs.declared.player.Print.{Print}
 use Rattle.command_line.specs.declared.player.Print.TheVariants.{Plain, Escaped}
 use Rattle.tape_jobs.specs.declared.answers.Asked.{Asked}
@@ -32,17 +32,24 @@ screen_text false s = plain_text s.picture
 abbrev pub hex_line : List ℕ → List ℕ
 hex_line bytes = encode_lower bytes ++ 10 ∷ []
 
--- the screen at a moment, as its terminal prints it (ours)
-unfoldable pub printed_at : Print → Tape → ℕ → List ℕ
-printed_at (Plain (Vt profile)) tape at = screen_text false (term_at profile tape at).console
-printed_at (Plain (Today asked)) tape at = plain_today (today_at asked tape at).console.picture
-printed_at (Escaped (Vt profile)) tape at = screen_text true (term_at profile tape at).console
-printed_at (Escaped (Today asked)) tape at = escaped_today (today_at asked tape at).console
+-- the screen at a moment, as its terminal prints it, and as a text that draws it again (ours)
+unfoldable pub plain_at : PlayedAs → Tape → ℕ → List ℕ
+plain_at (Vt profile) tape at = screen_text false (term_at profile tape at).console
+plain_at (Today columns lines) tape at = plain_today (today_at (sized columns lines) tape at).console.picture
+
+unfoldable pub escaped_at : PlayedAs → Tape → ℕ → List ℕ
+escaped_at (Vt profile) tape at = screen_text true (term_at profile tape at).console
+escaped_at (Today columns lines) tape at = escaped_today (today_at (sized columns lines) tape at).console
+
+-- as it is asked for (ours)
+abbrev pub printed_at : Print → Tape → ℕ → List ℕ
+printed_at (Plain player) tape at = plain_at (played_of player tape) tape at
+printed_at (Escaped player) tape at = escaped_at (played_of player tape) tape at
 
 -- all that a terminal has sent by a moment (ours)
-unfoldable pub sent_at : Player → Tape → ℕ → List ℕ
+unfoldable pub sent_at : PlayedAs → Tape → ℕ → List ℕ
 sent_at (Vt profile) tape at = hex_line (term_at profile tape at).reports
-sent_at (Today asked) tape at = hex_line (today_at asked tape at).reports
+sent_at (Today columns lines) tape at = hex_line (today_at (sized columns lines) tape at).reports
 
 -- a screen as a picture with the moment in its title, which is at most the last one (ours)
 abbrev pub drawn_text : ℕ → Console → List ℕ
@@ -53,17 +60,17 @@ abbrev pub drawn_today : ℕ → TodayConsole → List ℕ
 drawn_today at s = picture_today (min at last_moment) (still_today s)
 
 -- the screen at a moment, as its terminal is drawn (ours)
-unfoldable pub drawn_at : Player → Tape → ℕ → List ℕ
+unfoldable pub drawn_at : PlayedAs → Tape → ℕ → List ℕ
 drawn_at (Vt profile) tape at = drawn_text at (term_at profile tape at).console
-drawn_at (Today asked) tape at = drawn_today at (today_at asked tape at).console
+drawn_at (Today columns lines) tape at = drawn_today at (today_at (sized columns lines) tape at).console
 
 -- Private: what is asked at a moment, as a text (ours)
-abbrev pub told_by : Asked → Player → Tape → ℕ → List ℕ
-told_by asks.Screen player tape at = printed_at (Plain player) tape at
-told_by asks.Escaped player tape at = printed_at (Escaped player) tape at
-told_by asks.Picture player tape at = drawn_at player tape at
-told_by asks.Reports player tape at = sent_at player tape at
+abbrev pub told_by : Asked → PlayedAs → Tape → ℕ → List ℕ
+told_by asks.Screen played tape at = plain_at played tape at
+told_by asks.Escaped played tape at = escaped_at played tape at
+told_by asks.Picture played tape at = drawn_at played tape at
+told_by asks.Reports played tape at = sent_at played tape at
 
 -- Private: the answer to a question (ours)
-abbrev pub told_at : Player → Tape → Question → List ℕ
-told_at player tape question = told_by question.asked player tape question.at
+abbrev pub told_at : PlayedAs → Tape → Question → List ℕ
+told_at played tape question = told_by question.asked played tape question.at

@@ -1,6 +1,6 @@
 -- What a job comes to: a function of its files, with no device and no want of memory in it.
 use Rattle.std.specs.Prelude.{◌≡◌, ℕ, ◌⊎◌, ◌==◌, ◌&&◌, ◌||◌, Bool, true, false, not, List, [], length, nat_lt, encode_utf8_all, Option, Some, None, MatchOption, Result, Ok, Err, if◌then◌else◌}
-use Rattle.tape_check.specs.Header.{told_size}
+use Rattle.tape_check.specs.Header.{told_profile, told_size}
 use Rattle.tape_check.specs.Lines.{check_text, is_noted}
 use Rattle.tape_check.specs.Trailer.{is_usual}
 use Rattle.tape_core.specs.Faults.{is_stop}
@@ -11,7 +11,7 @@ use Rattle.tape_core.specs.Text.{lines_of}
 use Rattle.tape_core.specs.Written.{script_text, timing_text}
 use Rattle.tape_core.specs.declared.fault.Fault.TheVariants.{NoHeader, OutOfMemory}
 use Rattle.tape_import.specs.Imported.{Import as Read, Imports}
-use Rattle.tape_import.specs.ImportedFile.{IsImported, import_of}
+use Rattle.tape_import.specs.ImportedFile.{import_of}
 use Rattle.tape_import.specs.Told.{is_damaged as is_lossy, losses_text}
 use Rattle.tape_import.specs.declared.fault.ImportFault.{ImportFault}
 use Rattle.tape_import.specs.declared.fault.ImportFault.TheVariants as of_import
@@ -20,11 +20,20 @@ use Rattle.tape_mend.specs.Mended.{Remains, mended, seen}
 use Rattle.tape_mend.specs.Told.{is_damaged}
 use Rattle.tape_mend.specs.declared.opening.Header.{Header}
 use Rattle.tape_redact.specs.Recording.{taken_out, without}
-use Rattle.vt_term.specs.declared.profile.Profile.TheVariants.{Vt100}
+use Rattle.tape_check.specs.declared.played.PlayedAs.TheVariants as played
+use Rattle.vt_term.specs.declared.profile.Profile.{Profile}
+use Rattle.vt_term.specs.declared.profile.Profile.TheVariants.{Vt100, Vt102}
 use Rattle.tape_seek.specs.declared.edits.EditFault.{EditFault}
-use Rattle.tape_jobs.specs.Player.{found_of, played_of, settled}
+use Rattle.tape_jobs.specs.Player.{found_of, played_of}
+use Rattle.command_line.specs.declared.player.Source.{Source}
+use Rattle.command_line.specs.declared.player.Source.TheVariants.{Pair}
+use Rattle.command_line.specs.declared.player.Source.TheVariants as stands
+use Rattle.tape_import.specs.Refusal.{IsWhole, refusal_of}
+use Rattle.tape_import.specs.declared.refusal.Refusal.{Refusal}
+use Rattle.tape_import.specs.declared.refusal.Refusal.TheVariants as refusal
+use Rattle.std.specs.Option.{option_map}
 use Rattle.command_line.specs.declared.player.Player.{Player}
-use Rattle.command_line.specs.declared.player.Player.TheVariants.{Vt}
+use Rattle.command_line.specs.declared.player.Player.TheVariants.{Vt, Today, Auto}
 use Rattle.tape_jobs.specs.Requests.{saved, started}
 use Rattle.tape_jobs.specs.Session.{answered, any_refused}
 use Rattle.tape_jobs.specs.Texts.{text_of}
@@ -33,11 +42,13 @@ use Rattle.command_line.specs.declared.job.Job.TheVariants.{Due, Info, Check, Fi
 use Rattle.tape_jobs.specs.declared.job.Ending.{Ending}
 use Rattle.tape_jobs.specs.declared.job.Ending.TheVariants.{Clean, WithRefusals, WithNotes, WithLosses, WithNothing, WithTraces}
 use Rattle.tape_jobs.specs.declared.job.JobFault.{JobFault}
-use Rattle.tape_jobs.specs.declared.job.JobFault.TheVariants.{File, Compressed, NoKnownForm, Line, Memory}
+use Rattle.tape_jobs.specs.declared.job.JobFault.TheVariants.{File, Compressed, NoKnownForm, Refused, Line, Memory}
 use Rattle.tape_jobs.specs.declared.job.Outcome.{Outcome}
 
--- what a job is given: the texts of its files, and the characters of the text that stands beside it (ours)
+-- what a job is given: where the recording stands, the texts of its files, of which a recording of another form stands as
+-- the script, and the characters of the text that stands beside it (ours)
 pub record Files : Type 0 where
+  pub source : Source
   pub script : List ℕ
   pub timing : List ℕ
   pub requests : List ℕ
@@ -106,7 +117,7 @@ done_saving (Err refused) = refused_with (Line refused.0 refused.1)
 
 -- what `save` comes to on a recording and request lines (ours)
 abbrev pub saved_by : Tape → List ℕ → Done
-saved_by tape requests = done_saving (saved 1 (started (Vt Vt100) tape) (lines_of requests))
+saved_by tape requests = done_saving (saved 1 (started (played.Vt Vt100) tape) (lines_of requests))
 
 -- Private: how a job ends that only writes, where it is done (ours)
 abbrev pub clean_by : {A : Type 0} → Result A JobFault → Result Ending JobFault
@@ -163,10 +174,10 @@ without_text text tape = without (encode_utf8_all text) tape
 abbrev pub count_of_text : List ℕ → Tape → ℕ
 count_of_text text tape = taken_out (encode_utf8_all text) tape
 
--- where the text stands on the screen of the new recording all the same, typed with corrections, or drawn in parts: at
--- the size that the old one settles (ours)
+-- where the text stands on the screen of the new recording all the same, typed with corrections, or drawn in parts: by
+-- the terminal that plays the old one, at its size (ours)
 abbrev pub lines_left : Player → List ℕ → Tape → List ℕ
-lines_left player text tape = found_of (settled player tape) (without_text text tape) None last_moment text
+lines_left player text tape = found_of (played_of player tape) (without_text text tape) None last_moment text
 
 -- whether two headers tell the same size, or neither does (ours)
 abbrev pub is_same_size : Option (ℕ × ℕ) → Option (ℕ × ℕ) → Bool
@@ -175,12 +186,27 @@ is_same_size None (Some new) = false
 is_same_size (Some old) None = false
 is_same_size (Some old) (Some new) = (old.0 == new.0) && (old.1 == new.1)
 
--- what is seen of a redaction without playing it: the text stood somewhere, the header tells the size of before, and
--- behind the last chunk stands nothing but script's closing line, since all else there isn't played (ours)
-abbrev pub is_fit : List ℕ → Tape → Bool
-is_fit text tape =
+-- whether two headers tell the same profile, or neither does (ours)
+abbrev pub is_same_profile : Option Profile → Option Profile → Bool
+is_same_profile None None = true
+is_same_profile (Some Vt100) (Some Vt100) = true
+is_same_profile (Some Vt102) (Some Vt102) = true
+is_same_profile _ _ = false
+
+-- whether a recording with the other header is played by the same terminal, where the headers say which one (ours)
+abbrev pub keeps_profile : Player → Tape → Tape → Bool
+keeps_profile (Vt profile) old new = true
+keeps_profile (Today asked) old new = true
+keeps_profile (Auto asked) old new = is_same_profile (told_profile old) (told_profile new)
+
+-- what is seen of a redaction without playing it: the text stood somewhere, the header tells the size of before and, where
+-- it says which terminal plays, the same one, and behind the last chunk stands nothing but script's closing line, since
+-- all else there isn't played (ours)
+abbrev pub is_fit : Player → List ℕ → Tape → Bool
+is_fit player text tape =
     let made = without_text text tape in
-    nat_lt 0 (count_of_text text tape) && (is_same_size (told_size tape) (told_size made) && is_usual made.trailer)
+    nat_lt 0 (count_of_text text tape) && (keeps_profile player tape made
+    && (is_same_size (told_size tape) (told_size made) && is_usual made.trailer))
 
 -- what `redact` comes to: both files anew without the text, and whether that is all there was of it (ours)
 abbrev pub done_redacting : Player → List ℕ → Tape → Done
@@ -188,28 +214,29 @@ done_redacting player text tape = record {
   text = script_text (without_text text tape);
   timing = timing_text (without_text text tape);
   outcome = record {
-    status = status_after (ending_of_redact (is_fit text tape) (is_some_text (lines_left player text tape)));
+    status = status_after (ending_of_redact (is_fit player text tape) (is_some_text (lines_left player text tape)));
     fault = None;
   };
 }
 
--- what a job comes to on a recording, request lines and a text: what the recording says of itself and isn't played of it,
--- where the text came to stand and where it went, both files anew, with the edits or without the text, the answers to the
--- lines, or else a text alone (ours)
-abbrev pub done_on : Job → Tape → List ℕ → List ℕ → Done
-done_on (Check player) tape requests text =
-    done_ending (check_text (played_of player tape) tape) (ending_of_check (is_noted (played_of player tape) tape))
-done_on (Find from to player) tape requests text =
-    let lines = found_of player tape from to text in
+-- what a job comes to on a recording, of which so many changes of size were left out, request lines and a text: what the
+-- recording says of itself and isn't played of it, where the text came to stand and where it went, both files anew, with
+-- the edits or without the text, the answers to the lines, or else a text alone (ours)
+abbrev pub done_on : Job → Tape → ℕ → List ℕ → List ℕ → Done
+done_on (Check player) tape resizes requests text =
+    let played = played_of player tape in
+    done_ending (check_text played resizes tape) (ending_of_check (is_noted played resizes tape))
+done_on (Find from to player) tape resizes requests text =
+    let lines = found_of (played_of player tape) tape from to text in
     done_ending lines (ending_of_find (is_some_text lines))
-done_on Save tape requests text = saved_by tape requests
-done_on (Mend how) tape requests text = done_with (script_text tape) (timing_text tape)
-done_on Import tape requests text = done_with (script_text tape) (timing_text tape)
-done_on (Redact player) tape requests text = done_redacting player text tape
-done_on (Session every player) tape requests text =
-    let start = started (settled player tape) tape in
+done_on Save tape resizes requests text = saved_by tape requests
+done_on (Mend how) tape resizes requests text = done_with (script_text tape) (timing_text tape)
+done_on Import tape resizes requests text = done_with (script_text tape) (timing_text tape)
+done_on (Redact player) tape resizes requests text = done_redacting player text tape
+done_on (Session every player) tape resizes requests text =
+    let start = started (played_of player tape) tape in
     done_ending (answered start (lines_of requests)) (ending_by (any_refused start (lines_of requests)))
-done_on job tape requests text = done_with (text_of job tape text) []
+done_on job tape resizes requests text = done_with (text_of job tape text) []
 
 -- of what is left of a pair of files something is lacking: a line or a chunk, or a part of one, or the timing of bytes
 -- behind the last chunk, which are more than script's closing line (ours)
@@ -257,6 +284,27 @@ ComesImported file done told = ComesOf (import_of file) done told
 abbrev pub HasNoForm : List ℕ → JobFault → Type 0
 HasNoForm file f = (why : ImportFault) × (import_of file ≡ Err why) × (f ≡ fault_of_import why)
 
+-- why a recording of another form isn't read as a whole, as a fault of a job (ours)
+abbrev pub fault_of_refusal : Refusal → JobFault
+fault_of_refusal (refusal.Form f) = fault_of_import f
+fault_of_refusal (refusal.Event at f) = Refused (refusal.Event at f)
+fault_of_refusal (refusal.Ends chunk) = Refused (refusal.Ends chunk)
+
+-- why files aren't read: the fault of the pair where it has one, or the first of the recording, which stands as the script
+-- (ours)
+abbrev pub fault_from : Source → List ℕ → List ℕ → Option JobFault
+fault_from Pair script timing = option_map (λ f. File f) (fault_of script timing)
+fault_from stands.Recording script timing = option_map fault_of_refusal (refusal_of (import_of script))
+
+-- files are read as this recording, of which so many changes of size were left out: a pair, of which none were, or a
+-- recording of another form as a whole, as the one that `import` makes of it (ours)
+abbrev pub ReadsFrom : Source → List ℕ → List ℕ → Tape → ℕ → Type 0
+ReadsFrom Pair script timing tape resizes = reads script timing tape × (resizes ≡ 0)
+ReadsFrom stands.Recording script timing tape resizes = IsWhole (import_of script) tape resizes
+
+abbrev pub ReadsAs : Files → Tape → ℕ → Type 0
+ReadsAs files tape resizes = ReadsFrom files.source files.script files.timing tape resizes
+
 -- the jobs that may take memory once the recording is read: those that open a session, and the one that counts
 -- sequences (ours)
 abbrev pub TakesMemory : Job → Type 0
@@ -267,13 +315,14 @@ TakesMemory Import = ⊥
 TakesMemory _ = Unit {0}
 
 -- a job comes to this on these files: what mending them comes to, or importing the one that is read as the script, where
--- it does that; else the fault of the pair where it has one, and else what it comes to on the recording (ours)
+-- it does that; else the fault of the files where they have one, and else what it comes to on the recording (ours)
 abbrev pub ComesBy : Option Remade → Job → Files → Done → Type 0
 ComesBy (Some (Remnants how)) job files done = done ≡ mended_by how files.script files.timing
 ComesBy (Some Foreign) job files done = (told : List ℕ) × ComesImported files.script done told
-ComesBy None job files done = MatchOption (fault_of files.script files.timing)
-    ((tape : Tape) × reads files.script files.timing tape × (done ≡ done_on job tape files.requests files.text))
-    (λ f. done ≡ refused_in job (File f))
+ComesBy None job files done = MatchOption (fault_from files.source files.script files.timing)
+    ((tape : Tape) × (resizes : ℕ) × ReadsAs files tape resizes
+    × (done ≡ done_on job tape resizes files.requests files.text))
+    (λ f. done ≡ refused_in job f)
 
 abbrev pub Comes : Job → Files → Done → Type 0
 Comes job files done = ComesBy (remakes job) job files done
@@ -284,6 +333,7 @@ is_stopped None = false
 is_stopped (Some (File f)) = is_stop f
 is_stopped (Some Compressed) = false
 is_stopped (Some NoKnownForm) = false
+is_stopped (Some (Refused r)) = false
 is_stopped (Some Memory) = true
 is_stopped (Some (Line line f)) = false
 
@@ -302,6 +352,7 @@ abbrev pub status_of : JobFault → ℕ
 status_of (File f) = if is_stop f then 3 else 1
 status_of Compressed = 1
 status_of NoKnownForm = 1
+status_of (Refused r) = 1
 status_of Memory = 3
 status_of (Line line f) = 1
 

@@ -13,7 +13,7 @@ use Rattle.tape_jobs.specs.Endings.{AsksNothing, Device, HasFailed, IsUnwritten,
 use Rattle.tape_jobs.specs.Mending.{IsRead, Pair}
 use Rattle.tape_jobs.specs.Notes.{IsTold, was_read}
 use Rattle.tape_jobs.specs.Output.{IsDoneStatus, count_of_text, done_redacting, done_with, lines_left, outcome_in, status_in, without_text}
-use Rattle.tape_jobs.specs.Player.{NowhereFor, played_of, settled}
+use Rattle.tape_jobs.specs.Player.{NowhereFor, played_of}
 use Rattle.tape_jobs.specs.declared.job.Ending.{Ending}
 use Rattle.command_line.specs.declared.job.Job.TheVariants.{Redact}
 use Rattle.tape_jobs.specs.declared.job.JobFault.{JobFault}
@@ -106,7 +106,7 @@ pub record RedactEnds {S T O P L F N : Type 0} (pair : Pair S T) (writers : Writ
   pub status : MatchOption outcome.fault (IsDoneStatus (Redact player) outcome.status)
       (λ f. outcome.status ≡ status_in (Redact player) f)
   pub nowhere : outcome.status ≡ 0 → has_ink text ≡ true
-      → OnRecording pair (λ tape. NowhereFor (settled player tape) (without_text text tape) None last_moment text)
+      → OnRecording pair (λ tape. NowhereFor (played_of player tape) (without_text text tape) None last_moment text)
   pub noted : was_read outcome.fault ≡ true
-      → OnRecording pair (λ tape. IsTold notes.bytes notes.old notes.new (note_line (played_of player tape) tape))
+      → OnRecording pair (λ tape. IsTold notes.bytes notes.old notes.new (note_line (played_of player tape) 0 tape))
   pub silent : was_read outcome.fault ≡ false → AsksNothing notes

@@ -10,24 +10,24 @@ use Rattle.tape_seek.specs.declared.edits.EditFault.TheVariants as fault
 use Rattle.tape_seek.specs.declared.requests.Request.{Request}
 use Rattle.tape_seek.specs.declared.requests.Request.TheVariants as asks
 use Rattle.tape_jobs.specs.declared.job.JobFault.{JobFault}
-use Rattle.tape_jobs.specs.declared.job.JobFault.TheVariants.{File, Compressed, NoKnownForm, Line, Memory}
-use Rattle.command_line.specs.declared.player.Player.{Player}
+use Rattle.tape_jobs.specs.declared.job.JobFault.TheVariants.{File, Compressed, NoKnownForm, Refused, Line, Memory}
+use Rattle.tape_check.specs.declared.played.PlayedAs.{PlayedAs}
 
 -- where request lines have led: which terminal plays, the recording as edited, and the accepted edits in order. It is a
 -- session's state without what no answer depends on: the marks, and where terminals are stored (ours)
 pub record Course : Type 0 where
-  pub player : Player
+  pub played : PlayedAs
   pub tape : Tape
   pub log : List Edit
 
 -- before the first line (ours)
-abbrev pub started : Player → Tape → Course
-started player tape = record { player = player; tape = tape; log = [] }
+abbrev pub started : PlayedAs → Tape → Course
+started played tape = record { played = played; tape = tape; log = [] }
 
 -- Private: where a session stands, whose terminal plays so by its profile (ours)
-abbrev pub course_of : {P : Type 0} → (P → Player) → StateOf P → Course
-course_of player session =
-    record { player = player session.profile; tape = session.recording; log = session.log }
+abbrev pub course_of : {P : Type 0} → (P → PlayedAs) → StateOf P → Course
+course_of played session =
+    record { played = played session.profile; tape = session.recording; log = session.log }
 
 -- an edit without a fault changes the recording and stands in the log; any other leaves both (ours)
 abbrev pub after_judging : Course → Edit → Option EditFault → Course
@@ -70,6 +70,7 @@ abbrev pub StopsEditing : Result Tape (ℕ × EditFault) → JobFault → Type 0
 StopsEditing saving (File f) = ⊥
 StopsEditing saving Compressed = ⊥
 StopsEditing saving NoKnownForm = ⊥
+StopsEditing saving (Refused r) = ⊥
 StopsEditing saving (Line line f) = saving ≡ Err (line, f)
 StopsEditing saving Memory = Unit {0}
 

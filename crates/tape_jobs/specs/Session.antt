@@ -8,10 +8,9 @@ use Rattle.tape_seek.specs.declared.edits.EditFault.TheVariants as fault
 use Rattle.tape_seek.specs.declared.requests.Request.{Request}
 use Rattle.tape_seek.specs.declared.requests.Request.TheVariants as asks
 use Rattle.tape_jobs.specs.Info.{info_line, info_text}
-use Rattle.tape_jobs.specs.Moment.{printed_at, sent_at}
+use Rattle.tape_jobs.specs.Moment.{plain_at, sent_at}
 use Rattle.tape_jobs.specs.Player.{changes_of}
 use Rattle.tape_jobs.specs.Requests.{Course, course_after, fault_name}
-use Rattle.command_line.specs.declared.player.Print.TheVariants.{Plain}
 
 -- lines, and the one behind them that says that there are no more (ours)
 abbrev pub ended : List ℕ → List ℕ
@@ -31,9 +30,9 @@ abbrev pub answer : Course → Option Request → List ℕ
 answer course None = refusal fault.BadLine
 answer course (Some asks.Nothing) = []
 answer course (Some (asks.Edit edit)) = edit_answer (edit_fault course.tape edit)
-answer course (Some (asks.Screen at)) = printed_at (Plain course.player) course.tape at
-answer course (Some (asks.Reports at)) = sent_at course.player course.tape at
-answer course (Some (asks.Changes from to)) = ended (changes_of course.player course.tape from to)
+answer course (Some (asks.Screen at)) = plain_at course.played course.tape at
+answer course (Some (asks.Reports at)) = sent_at course.played course.tape at
+answer course (Some (asks.Changes from to)) = ended (changes_of course.played course.tape from to)
 answer course (Some asks.Info) = info_text course.tape
 answer course (Some asks.Log) = ended (log_text course.log)
 

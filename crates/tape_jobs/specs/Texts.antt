@@ -14,22 +14,16 @@ use Rattle.xterm_transcript.specs.Transcribed.{Transcribed, left, play_on}
 use Rattle.command_line.specs.declared.job.Job.{Job}
 use Rattle.command_line.specs.declared.job.Job.TheVariants.{Due, Info, Check, Screen, Picture, Transcript, Changes, Find, Reports, Page, Cast, Save, Mend, Import, Redact, Session}
 use Rattle.command_line.specs.declared.player.Measure.{Measure}
-use Rattle.command_line.specs.declared.player.Player.{Player}
-use Rattle.command_line.specs.declared.player.Player.TheVariants.{Vt, Today}
+use Rattle.tape_check.specs.declared.played.PlayedAs.{PlayedAs}
+use Rattle.tape_check.specs.declared.played.PlayedAs.TheVariants.{Vt, Today}
 use Rattle.tape_jobs.specs.Info.{info_text}
 use Rattle.tape_jobs.specs.Moment.{drawn_at, printed_at, sent_at}
-use Rattle.tape_jobs.specs.Player.{changes_of, played_size}
+use Rattle.tape_jobs.specs.Player.{changes_of, played_of, sized}
 
--- the recorded output as an asciicast, of the size of the terminal of today that plays it
-abbrev pub today_cast : Option Measure → Tape → List ℕ
-today_cast asked tape =
-    let size = played_size asked tape in
-    output_text size.columns size.lines tape
-
--- a recording as an asciicast: what a VT shows, or for a terminal of today the output itself (ours)
-unfoldable pub cast_of : Player → Tape → List ℕ
+-- a recording as an asciicast: what a VT shows, or for a terminal of today the output itself, of its size (ours)
+unfoldable pub cast_of : PlayedAs → Tape → List ℕ
 cast_of (Vt profile) tape = cast_text profile tape
-cast_of (Today asked) tape = today_cast asked tape
+cast_of (Today columns lines) tape = output_text columns lines tape
 
 -- a terminal of today at its start, of which the rows that leave are told
 abbrev pub today_reset : Measure → Transcribed
@@ -43,17 +37,15 @@ abbrev pub today_standing : Measure → List ℕ → List (List ℕ)
 today_standing size bytes = all_rows (play_on (today_reset size) bytes).term.console.picture
 
 -- the session as text: the rows that left the screen after the one moment and by the other, and those that stand (ours)
-unfoldable pub transcript_of : Player → Tape → Option ℕ → Option ℕ → List ℕ
+unfoldable pub transcript_of : PlayedAs → Tape → Option ℕ → Option ℕ → List ℕ
 transcript_of (Vt profile) tape from to = transcript leaving_rows standing_rows profile tape from to
-transcript_of (Today asked) tape from to =
-    transcript today_leaving today_standing (played_size asked tape) tape from to
+transcript_of (Today columns lines) tape from to =
+    transcript today_leaving today_standing (sized columns lines) tape from to
 
 -- a recording as a page with a title: what a VT or a terminal of today shows (ours)
-unfoldable pub page_of : List ℕ → Player → Tape → List ℕ
+unfoldable pub page_of : List ℕ → PlayedAs → Tape → List ℕ
 page_of title (Vt profile) tape = page_text title profile tape
-page_of title (Today asked) tape =
-    let size = played_size asked tape in
-    today_page title size.columns size.lines tape
+page_of title (Today columns lines) tape = today_page title columns lines tape
 
 -- the text of a job that is done once that is written: the bytes that are due, what the recording holds, what the terminal
 -- shows, as text or as a picture, the session as text, which lines of the screen each chunk changes, what the terminal has
@@ -62,12 +54,12 @@ abbrev pub text_of : Job → Tape → List ℕ → List ℕ
 text_of (Due at) tape text = due tape.chunks at
 text_of Info tape text = info_text tape
 text_of (Screen at print) tape text = printed_at print tape at
-text_of (Picture at player) tape text = drawn_at player tape at
-text_of (Transcript from to player) tape text = transcript_of player tape from to
-text_of (Changes from to player) tape text = changes_of player tape from to
-text_of (Reports at player) tape text = sent_at player tape at
-text_of (Page player) tape text = page_of text player tape
-text_of (Cast player) tape text = cast_of player tape
+text_of (Picture at player) tape text = drawn_at (played_of player tape) tape at
+text_of (Transcript from to player) tape text = transcript_of (played_of player tape) tape from to
+text_of (Changes from to player) tape text = changes_of (played_of player tape) tape from to
+text_of (Reports at player) tape text = sent_at (played_of player tape) tape at
+text_of (Page player) tape text = page_of text (played_of player tape) tape
+text_of (Cast player) tape text = cast_of (played_of player tape) tape
 text_of _ tape text = []
 
 -- Private: the jobs that are done once that text is written (ours)

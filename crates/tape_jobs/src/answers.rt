@@ -39,10 +39,10 @@ pub trait Answers: Plays {
     ghost use Rattle.tape_jobs.specs.Moment.{told_at};
     ghost use Rattle.tape_jobs.specs.Player.{changes_of, found_of};
     ghost use Rattle.tape_jobs.specs.Requests.{course_of};
-    ghost use Rattle.command_line.specs.declared.player.Player.{Player as Played};
+    ghost use Rattle.tape_check.specs.declared.played.PlayedAs.{PlayedAs};
 
-    /// The player that it is, where it is set up so.
-    ghost player: { Self.Profile → Played };
+    /// As what it plays, where it is set up so.
+    ghost played: { Self.Profile → PlayedAs };
 
     /// Answers a question, and flushes. Nothing is written where memory is refused.
     fn put_answer<O: Write>(
@@ -52,10 +52,10 @@ pub trait Answers: Plays {
     ) -> Result<(), JobFault>
         requires { has_failed out.old ≡ false }
         ensures puts { JobPuts O.contents out.old out.new
-            (told_at (player session.old.profile) session.old.recording question) result }
+            (told_at (played session.old.profile) session.old.recording question) result }
         ensures flushed { OnOk result (is_flushed out.new ≡ true) }
         ensures unwritten { result ≡ Err JobFault.Memory → out.new ≡ out.old }
-        ensures stays { course_of player session.new ≡ course_of player session.old };
+        ensures stays { course_of played session.new ≡ course_of played session.old };
 
     /// Writes the change lines of the chunks that are due after `from` (None: from chunk 0 on) and by `to`, and flushes.
     /// Where memory is refused, a beginning of them has gone out.
@@ -68,9 +68,9 @@ pub trait Answers: Plays {
     ) -> Result<(), JobFault>
         requires { has_failed out.old ≡ false }
         ensures puts { JobPuts O.contents out.old out.new
-            (changes_of (player session.old.profile) session.old.recording from to) result }
+            (changes_of (played session.old.profile) session.old.recording from to) result }
         ensures flushed { OnOk result (is_flushed out.new ≡ true) }
-        ensures stays { course_of player session.new ≡ course_of player session.old };
+        ensures stays { course_of played session.new ≡ course_of played session.old };
 
     /// Writes the find lines of a text at the moment `from`, and of the chunks that are due after it (None: from chunk 0 on)
     /// and by `to`, and flushes. Where memory is refused, a beginning of them has gone out.
@@ -84,7 +84,7 @@ pub trait Answers: Plays {
     ) -> Result<(), JobFault>
         requires { has_failed out.old ≡ false }
         ensures puts { JobPuts O.contents out.old out.new
-            (found_of (player session.old.profile) session.old.recording from to text.now) result }
+            (found_of (played session.old.profile) session.old.recording from to text.now) result }
         ensures flushed { OnOk result (is_flushed out.new ≡ true) }
-        ensures stays { course_of player session.new ≡ course_of player session.old };
+        ensures stays { course_of played session.new ≡ course_of played session.old };
 }

@@ -6,8 +6,12 @@ ghost use Rattle.tape_core.specs.Devices.{inner_of, has_failed, is_flushed};
 ghost use Rattle.tape_core.specs.Faults.{is_stop};
 ghost use Rattle.tape_core.specs.Reading.{fault_of, reads};
 ghost use Rattle.tape_jobs.specs.Endings.{JobEnds, JobPuts, RunEnds, readers_of, used, writers_of};
-ghost use Rattle.tape_jobs.specs.Notes.{NoteEnds};
-ghost use Rattle.tape_jobs.specs.Output.{TakesMemory, answers_by_status, clean_by, done_on, outcome_by, outcome_in, remakes, status_after, status_of, takes_requests, writes_timing};
+ghost use Rattle.tape_jobs.specs.Notes.{NoteEnds, was_read};
+ghost use Rattle.command_line.specs.declared.player.Source.TheVariants as stands;
+ghost use Rattle.command_line.specs.declared.player.Source.TheVariants.{Pair};
+ghost use Rattle.tape_import.specs.ImportedFile.{import_of};
+ghost use Rattle.tape_import.specs.Refusal.{IsWhole};
+ghost use Rattle.tape_jobs.specs.Output.{TakesMemory, answers_by_status, clean_by, done_on, fault_from, is_stopped, outcome_by, outcome_in, remakes, status_after, status_of, takes_requests, writes_timing};
 
 mod cast;
 mod changes;
@@ -47,9 +51,10 @@ use std::alloc::Global;
 use std::io;
 use std::io::{Read, Write};
 use std::mem::ManuallyDrop;
+use std::rc::Rc;
 use tape_check::CheckFault;
 use tape_core::{Fault, Recording, Watched, read_recording_of, slurp};
-use tape_import::ImportFault;
+use tape_import::{ImportFault, Refusal, Whole, import_whole};
 use tape_mend::Header;
 use tape_seek::EditFault;
 use thiserror::Error;
@@ -102,6 +107,9 @@ pub enum JobFault {
     /// It has no form that is known.
     #[error("recording of no known form")]
     NoKnownForm,
+    /// A recording of another form isn't read as a whole.
+    #[error("{0}")]
+    Refused(Refusal),
     /// A request line was refused: its number, counted from 1 with the blank ones, and why.
     #[error("request line {line}: {}", name_of(*fault))]
     Line { line: u64, fault: EditFault },
@@ -132,6 +140,20 @@ impl From<ImportFault> for JobFault {
             ImportFault::Compressed => JobFault::Compressed,
             ImportFault::NoKnownForm => JobFault::NoKnownForm,
             ImportFault::OutOfMemory => JobFault::File(Fault::OutOfMemory),
+        }
+    }
+}
+
+impl From<Refusal> for JobFault {
+    ghost use Rattle.std.specs.Prelude.{◌≡◌};
+    ghost use Rattle.tape_jobs.specs.Output.{fault_of_refusal};
+
+    ghost from_gives = { λ refusal fault. fault ≡ fault_of_refusal refusal };
+
+    fn from(refusal: Refusal) -> JobFault {
+        match refusal {
+            Refusal::Form(fault) => JobFault::from(fault),
+            Refusal::Event(..) | Refusal::Ends(_) => JobFault::Refused(refusal),
         }
     }
 }
@@ -197,7 +219,7 @@ impl JobFault {
         match self {
             JobFault::File(Fault::OutOfMemory | Fault::ReadFault | Fault::WriteFault) => 3,
             JobFault::File(_) | JobFault::Line { .. } => 1,
-            JobFault::Compressed | JobFault::NoKnownForm => 1,
+            JobFault::Compressed | JobFault::NoKnownForm | JobFault::Refused(_) => 1,
             JobFault::Memory => 3,
         }
     }
@@ -230,7 +252,7 @@ pub fn run<S: Read, T: Read, R: Read, O: Write, P: Write>(
     requires requests { has_failed requests.old ≡ false }
     requires out { has_failed out.old ≡ false }
     requires out_timing { has_failed out_timing.old ≡ false }
-    ensures { let readers = readers_of (used S.remaining script.old script.new)
+    ensures { let readers = readers_of Pair (used S.remaining script.old script.new)
         (used T.remaining timing.old timing.new) (used R.remaining requests.old requests.new) [] in
         let writers = writers_of (used O.contents out.old out.new)
         (used P.contents out_timing.old out_timing.new) in
@@ -271,13 +293,13 @@ pub fn run_with<S: Read, T: Read, R: Read, O: Write, P: Write, N: Write>(
     requires out { has_failed out.old ≡ false }
     requires out_timing { has_failed out_timing.old ≡ false }
     requires notes { has_failed notes.old ≡ false }
-    ensures ends { let readers = readers_of (used S.remaining script.old script.new)
+    ensures ends { let readers = readers_of Pair (used S.remaining script.old script.new)
         (used T.remaining timing.old timing.new) (used R.remaining requests.old requests.new)
         text.now in
         let writers = writers_of (used O.contents out.old out.new)
         (used P.contents out_timing.old out_timing.new) in
         RunEnds readers writers job result }
-    ensures noted { let readers = readers_of (used S.remaining script.old script.new)
+    ensures noted { let readers = readers_of Pair (used S.remaining script.old script.new)
         (used T.remaining timing.old timing.new) (used R.remaining requests.old requests.new)
         text.now in
         NoteEnds readers (used N.contents notes.old notes.new) job result.fault }
@@ -306,10 +328,49 @@ pub fn run_with<S: Read, T: Read, R: Read, O: Write, P: Write, N: Write>(
     }
     match read_files(alloc, job, script, timing, requests) {
         Ok(given) => {
-            tell_note(job, &given.recording, notes);
+            tell_note(job, &given.recording, given.resizes, notes);
             outcome_in(job, perform(alloc, job, text, given, out, out_timing))
         }
         Err(fault) => outcome_in(job, Err(JobFault::File(fault))),
+    }
+}
+
+/// Does a job on a recording of another form, which is read whole, as `run_with` does it on the pair that `import` makes of
+/// it; or refuses it, for its first fault. Of changes of the size that have no place in a pair the note and `check` tell how
+/// many there were.
+pub fn run_on_recording<S: Read, R: Read, O: Write, P: Write, N: Write>(
+    alloc: Global,
+    job: Job,
+    text: &[char],
+    recording: &mut Watched<S>,
+    requests: &mut Watched<R>,
+    out: &mut Watched<O>,
+    out_timing: &mut Watched<P>,
+    notes: &mut Watched<N>,
+) -> Outcome
+    requires reads { remakes job ≡ None }
+    requires recording { has_failed recording.old ≡ false }
+    requires requests { has_failed requests.old ≡ false }
+    requires out { has_failed out.old ≡ false }
+    requires out_timing { has_failed out_timing.old ≡ false }
+    requires notes { has_failed notes.old ≡ false }
+    ensures ends { let file = used S.remaining recording.old recording.new in
+        let readers = readers_of stands.Recording file file
+        (used R.remaining requests.old requests.new) text.now in
+        let writers = writers_of (used O.contents out.old out.new)
+        (used P.contents out_timing.old out_timing.new) in
+        RunEnds readers writers job result }
+    ensures noted { let file = used S.remaining recording.old recording.new in
+        let readers = readers_of stands.Recording file file
+        (used R.remaining requests.old requests.new) text.now in
+        NoteEnds readers (used N.contents notes.old notes.new) job result.fault }
+{
+    match read_recording(alloc, job, recording, requests) {
+        Ok(given) => {
+            tell_note(job, &given.recording, given.resizes, notes);
+            outcome_in(job, perform(alloc, job, text, given, out, out_timing))
+        }
+        Err(fault) => outcome_in(job, Err(fault)),
     }
 }
 
@@ -328,18 +389,25 @@ fn perform<O: Write, P: Write>(
     requires out_timing { has_failed out_timing.old ≡ false }
     ensures ends { let writers = writers_of (used O.contents out.old out.new)
         (used P.contents out_timing.old out_timing.new) in
-        JobEnds writers job (done_on job given.recording given.requests.items text.now) result }
+        JobEnds writers job (done_on job given.recording given.resizes given.requests.items text.now) result }
     ensures alone { writes_timing job ≡ false → out_timing.new ≡ out_timing.old }
 {
     let Given {
         recording,
+        resizes,
         requests,
     } = given;
     if only_writes(job) {
         return clean(write_text(alloc, job, text, recording, out));
     }
     match job {
-        Job::Check { player } => write_checked(alloc, &ManuallyDrop::new(recording), player, out),
+        Job::Check { player } => write_checked(
+            alloc,
+            &ManuallyDrop::new(recording),
+            player,
+            resizes,
+            out,
+        ),
         Job::Find { from, to, player } => {
             write_found(alloc, recording, player, from, to, text, out)
         }
@@ -444,10 +512,12 @@ pub fn outcome_of(done: Result<Ending, JobFault>) -> Outcome
     }
 }
 
-/// What a job is given: the recording, and the request lines where it takes them.
+/// What a job is given: the recording, how many changes of its size were left out, and the request lines where it takes
+/// them.
 #[derive(Drop)]
 struct Given {
     recording: Recording,
+    resizes: u64,
     requests: Vec<u8>,
 }
 
@@ -465,6 +535,7 @@ fn read_files<S: Read, T: Read, R: Read>(
     ensures ok { IfOk result (λ given. (s : List ℕ) (t : List ℕ)
         → S.remaining (inner_of script.old) ≡ Some s → T.remaining (inner_of timing.old) ≡ Some t
         → reads s t given.recording) }
+    ensures resizes { IfOk result (λ given. given.resizes ≡ 0) }
     ensures requests { IfOk result (λ given. takes_requests job ≡ true → (r : List ℕ)
         → R.remaining (inner_of requests.old) ≡ Some r → given.requests.items ≡ r) }
     ensures fault { IfErr result (λ fault. is_stop fault ≡ false → (s : List ℕ) (t : List ℕ)
@@ -480,13 +551,73 @@ fn read_files<S: Read, T: Read, R: Read>(
 {
     let script = slurp(alloc, script)?;
     let timing = slurp(alloc, timing)?;
-    let requests = match job {
-        Job::Save | Job::Session { .. } => slurp(alloc, requests)?,
-        _ => Vec::new(alloc),
-    };
+    let requests = read_requests(alloc, job, requests)?;
     let recording = read_recording_of(alloc, script, &timing)?;
     Ok(Given {
         recording,
+        resizes: 0,
         requests,
     })
+}
+
+/// Reads a file whole, then the request lines where the job takes them, and then the recording of another form that it is.
+#[tactic(auto, using(crate::proofs::RefusalLemmas::refusal_unread))]
+fn read_recording<S: Read, R: Read>(
+    alloc: Global,
+    job: Job,
+    recording: &mut Watched<S>,
+    requests: &mut Watched<R>,
+) -> Result<Given, JobFault>
+    requires recording { has_failed recording.old ≡ false }
+    requires requests { has_failed requests.old ≡ false }
+    ensures ok { IfOk result (λ given. (s : List ℕ)
+        → S.remaining (inner_of recording.old) ≡ Some s
+        → IsWhole (import_of s) given.recording given.resizes) }
+    ensures requests { IfOk result (λ given. takes_requests job ≡ true → (r : List ℕ)
+        → R.remaining (inner_of requests.old) ≡ Some r → given.requests.items ≡ r) }
+    ensures fault { IfErr result (λ f. is_stopped (Some f) ≡ false → (s : List ℕ)
+        → S.remaining (inner_of recording.old) ≡ Some s
+        → fault_from stands.Recording s s ≡ Some f) }
+    ensures sound { result ≢ Err (JobFault.File Fault.ReadFault)
+        → (has_failed recording.new ≡ false) × (has_failed requests.new ≡ false) }
+    ensures read_fault { IfErr result (λ f. f ≡ JobFault.File Fault.ReadFault
+        → (has_failed recording.new ≡ true) ⊎ (has_failed requests.new ≡ true)) }
+    ensures no_write_fault { IfErr result (λ f. f ≢ JobFault.File Fault.WriteFault) }
+    ensures memory { IfErr result (λ f. f ≢ JobFault.Memory) }
+    ensures unread { IfErr result (λ f. was_read (Some f) ≡ false) }
+    ensures alone { takes_requests job ≡ false → requests.new ≡ requests.old }
+{
+    let file = slurp(alloc, recording)?;
+    let requests = read_requests(alloc, job, requests)?;
+    let Ok(file) = Rc::new(alloc, file) else {
+        return Err(JobFault::File(Fault::OutOfMemory));
+    };
+    let Whole { recording, resizes } = import_whole(alloc, &file)?;
+    Ok(Given {
+        recording,
+        resizes,
+        requests,
+    })
+}
+
+/// Reads the request lines whole, where the job takes them.
+fn read_requests<R: Read>(
+    alloc: Global,
+    job: Job,
+    requests: &mut Watched<R>,
+) -> Result<Vec<u8>, Fault>
+    requires { has_failed requests.old ≡ false }
+    ensures ok { IfOk result (λ text. takes_requests job ≡ true → (r : List ℕ)
+        → R.remaining (inner_of requests.old) ≡ Some r → text.items ≡ r) }
+    ensures fault { IfErr result (λ fault. is_stop fault ≡ true) }
+    ensures sound { result ≢ Err Fault.ReadFault → has_failed requests.new ≡ false }
+    ensures read_fault { IfErr result (λ fault. fault ≡ Fault.ReadFault
+        → has_failed requests.new ≡ true) }
+    ensures no_write_fault { IfErr result (λ fault. fault ≢ Fault.WriteFault) }
+    ensures alone { takes_requests job ≡ false → requests.new ≡ requests.old }
+{
+    match job {
+        Job::Save | Job::Session { .. } => slurp(alloc, requests),
+        _ => Ok(Vec::new(alloc)),
+    }
 }

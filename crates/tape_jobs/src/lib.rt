@@ -8,6 +8,6 @@ mod player;
 mod shared;
 
 pub use job::import::import;
-pub use job::mend::mend;
+pub use job::mend::{Mending, mend};
 pub use job::redact::redact;
-pub use job::{Ending, JobFault, Outcome, run, run_with};
+pub use job::{Ending, JobFault, Outcome, run, run_on_recording, run_with};

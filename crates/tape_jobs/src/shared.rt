@@ -46,8 +46,8 @@ pub fn make_edit<T: Answers>(
     edit: Edit,
 ) -> Result<Option<EditFault>, OutOfMemory>
     ensures fault { IfOk result (λ fault. fault ≡ edit_fault session.old.recording edit) }
-    ensures course { OnOk result (course_of T.player session.new
-        ≡ after_judging (course_of T.player session.old) edit
+    ensures course { OnOk result (course_of T.played session.new
+        ≡ after_judging (course_of T.played session.old) edit
         (edit_fault session.old.recording edit)) }
 {
     match session.apply(edit) {

@@ -1,5 +1,5 @@
 -- The front of a timing file: its lines before the first that has a fault.
-use Rattle.std.specs.Prelude.{ℕ, ◌+◌, ◌==◌, Bool, false, ◌&&◌, List, [], ◌∷◌, ◌++◌, length, Option, Some, None, is_some, Result, Ok, Err, if◌then◌else◌}
+use Rattle.std.specs.Prelude.{ℕ, ◌+◌, ◌==◌, Bool, true, false, ◌&&◌, List, [], ◌∷◌, ◌++◌, length, Option, Some, None, is_some, Result, Ok, Err, if◌then◌else◌}
 use Rattle.std.specs.List.{after_first, before_first}
 use Rattle.tape_core.specs.Text.{fields, number_of}
 use Rattle.tape_core.specs.Timing.{begins_with_letter}
@@ -35,6 +35,15 @@ format_by (first ∷ rest) other =
 abbrev pub format_of : List (List ℕ) → Format
 format_of [] = Classic
 format_of (text ∷ rest) = format_by (fields text) (format_of rest)
+
+-- A timing file is in sudo's format.
+abbrev pub is_sudo : Format → Bool
+is_sudo Classic = false
+is_sudo Streams = false
+is_sudo Sudo = true
+
+abbrev pub is_sudos : List ℕ → Bool
+is_sudos timing = is_sudo (format_of (timing_lines timing))
 
 -- What was read before the first fault: the parts of the body in order, what the lines come to, the fault, and how many
 -- lines are left out from it on.

@@ -3,7 +3,7 @@ ghost use Rattle.std.specs.Prelude.{◌≡◌, ◌≤◌, ◌++◌, ◌∷◌, I
 ghost use Rattle.tape_mend.specs.declared.line.Format.{Format};
 ghost use Rattle.tape_mend.specs.Counting.{line_pieces};
 ghost use Rattle.tape_core.specs.Text.{fields};
-ghost use Rattle.tape_mend.specs.Front.{format_by, format_of, front_of, is_decimal, is_event_line};
+ghost use Rattle.tape_mend.specs.Front.{format_by, format_of, front_of, is_decimal, is_event_line, is_sudos};
 ghost use Rattle.tape_mend.specs.Lines.{timing_lines};
 ghost use Rattle.tape_mend.specs.Steps.{IsSmall, IsSound};
 
@@ -38,6 +38,13 @@ fn format_of_timing(timing: &[u8]) -> Format
         rest = after;
     }
     Format::Classic
+}
+
+/// Whether a timing file is in sudo's format.
+pub fn is_sudos(timing: &[u8]) -> bool
+    ensures { result ≡ is_sudos timing.now }
+{
+    matches!(format_of_timing(timing), Format::Sudo)
 }
 
 /// The format by the first line that isn't blank: its first field, and what stands behind it.

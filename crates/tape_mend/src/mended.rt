@@ -2,9 +2,10 @@
 ghost use Rattle.std.specs.Prelude.{◌≡◌, ◌≢◌, IfErr, IfOk, OnOk, false, true};
 ghost use Rattle.tape_core.specs.Reading.{has_header};
 ghost use Rattle.tape_core.specs.declared.fault.Fault.TheVariants as fault;
+ghost use Rattle.tape_mend.specs.Front.{is_sudos};
 ghost use Rattle.tape_mend.specs.Mended.{lines_left, mended, seen};
 
-use crate::front::read_front;
+use crate::front::{is_sudos, read_front};
 use crate::line::LineFault;
 use crate::lines::has_cr_lf;
 use crate::losses::{LinesLeft, Losses};
@@ -14,11 +15,13 @@ use std::alloc::{AllocError, Global};
 use std::rc::Rc;
 use tape_core::{Bytes, Fault, Recording};
 
-/// A recording of all that could be read of a pair of files, and what was lost.
+/// A recording of all that could be read of a pair of files, what was lost, and whether the timing file was in sudo's
+/// format.
 #[derive(Debug, Drop)]
 pub struct Mended {
     pub recording: Recording,
     pub losses: Losses,
+    pub sudo: bool,
 }
 
 /// The text, to be shared.
@@ -41,6 +44,7 @@ fn lines_left(line: u64, fault: Option<LineFault>, count: u64) -> Option<LinesLe
 pub fn mend(alloc: Global, script: Vec<u8>, timing: &[u8], how: Header) -> Result<Mended, Fault>
     ensures ok { IfOk result (λ m.
         mended how script.items timing.now ≡ record { tape = m.recording; losses = m.losses }) }
+    ensures sudo { IfOk result (λ m. m.sudo ≡ is_sudos timing.now) }
     ensures header { OnOk result (has_header (seen how script.items) ≡ true) }
     ensures fault { IfErr result (λ f. f ≢ fault.OutOfMemory
         → (f ≡ fault.NoHeader) × (has_header (seen how script.items) ≡ false)) }
@@ -61,5 +65,9 @@ pub fn mend(alloc: Global, script: Vec<u8>, timing: &[u8], how: Header) -> Resul
         chunks: taken.left,
         cr_lf: has_cr_lf(timing),
     };
-    Ok(Mended { recording, losses })
+    Ok(Mended {
+        recording,
+        losses,
+        sudo: is_sudos(timing),
+    })
 }

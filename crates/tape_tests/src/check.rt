@@ -71,7 +71,7 @@ fn compare_all<R: Abort + AllocGlobal>(
     advice: &str,
 ) {
     let mut writer = Watched::new(Vec::new(rt.alloc()));
-    let noted = write_check(rt.alloc(), recording, played, &mut writer);
+    let noted = write_check(rt.alloc(), recording, played, 0, &mut writer);
     let text = writer.into_inner();
     let told = str::from_utf8(text.as_slice()).unwrap_or("");
     assert_eq!(rt;
@@ -314,6 +314,7 @@ fn stops_where_the_writer_fails(rt: HostRuntime) -> Result<(), Fail> {
             rt.alloc(),
             &recording,
             PlayedAs::Vt(Profile::Vt102),
+            0,
             &mut writer,
         ) {
             Ok(_) => Ok(()),
@@ -357,7 +358,7 @@ fn tells_whoever_plays_it_in_one_line(rt: HostRuntime) -> Result<(), Fail> {
     for (header, trailer, line) in &PARTS {
         let recording = recorded(&rt, header, b"\xe9\x1b[Q", trailer)?;
         let mut writer = Watched::new(Vec::new(rt.alloc()));
-        let told = put_parts(&recording, PlayedAs::Vt(Profile::Vt100), &mut writer);
+        let told = put_parts(&recording, PlayedAs::Vt(Profile::Vt100), 0, &mut writer);
         assert_eq!(&rt;
             (told, str::from_utf8(writer.into_inner().as_slice())),
             (Ok(!line.is_empty()), Ok(*line))

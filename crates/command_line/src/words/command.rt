@@ -3,7 +3,7 @@
 ghost use Rattle.std.specs.Prelude.{◌≡◌, ◌∷◌, [], Some, IfOk, false, map};
 ghost use Rattle.clap.specs.Words.{app_of, items_of, rule_of};
 ghost use Rattle.clap.specs.declared.Command.TheViews.{out-Command as fields_of};
-ghost use Rattle.command_line.specs.CommandLine.{app_in, optional_rule, positional_rule, rule_in, seconds_rule, switch_rule, top_app, typetool_app, with_rules};
+ghost use Rattle.command_line.specs.CommandLine.{app_in, optional_positional_rule, optional_rule, positional_rule, rule_in, seconds_rule, switch_rule, top_app, typetool_app, with_rules};
 
 use super::help::{EXAMPLE, VERSION, about_of, details_of, help_of, value_name_of};
 use super::table::{
@@ -104,12 +104,19 @@ fn arg_of<'a>(alloc: Global, argument: Argument) -> Arg<'a>
         Argument::Escaped | Argument::Last | Argument::Headless => {
             switch(alloc, id_of(argument), help_of(argument))
         }
+        Argument::ItsTiming => optional_positional(
+            alloc,
+            id_of(argument),
+            value_name_of(argument),
+            help_of(argument),
+        ),
         Argument::Sought
         | Argument::Secret
         | Argument::Script
         | Argument::Timing
         | Argument::AnyTiming
         | Argument::Recording
+        | Argument::Recorded
         | Argument::NewScript
         | Argument::NewTiming => positional(
             alloc,
@@ -156,9 +163,9 @@ fn switch<'a>(alloc: Global, id: &'a str, help: &'a str) -> Arg<'a>
         .help(help)
 }
 
-/// A text or a path, which must be given.
-fn positional<'a>(alloc: Global, id: &'a str, name: &'a str, help: &'a str) -> Arg<'a>
-    ensures rule { rule_of result ≡ positional_rule id.entry.now }
+/// A path that may be left out.
+fn optional_positional<'a>(alloc: Global, id: &'a str, name: &'a str, help: &'a str) -> Arg<'a>
+    ensures rule { rule_of result ≡ optional_positional_rule id.entry.now }
     ensures name { items_of result.val_names ≡ name.entry ∷ [] }
     ensures help { result.help ≡ Some help.entry }
     ensures local { result.global ≡ false }
@@ -166,6 +173,15 @@ fn positional<'a>(alloc: Global, id: &'a str, name: &'a str, help: &'a str) -> A
     Arg::new(alloc, id)
         .value_name(name)
         .action(ArgAction::Set)
-        .required(true)
         .help(help)
+}
+
+/// A text or a path, which must be given.
+fn positional<'a>(alloc: Global, id: &'a str, name: &'a str, help: &'a str) -> Arg<'a>
+    ensures rule { rule_of result ≡ positional_rule id.entry.now }
+    ensures name { items_of result.val_names ≡ name.entry ∷ [] }
+    ensures help { result.help ≡ Some help.entry }
+    ensures local { result.global ≡ false }
+{
+    optional_positional(alloc, id, name, help).required(true)
 }

@@ -124,8 +124,8 @@ const REDACT_DETAILS: &str =
     the text becomes *. Delays and counts stay. Both new files are created before anything is read, and must\n\
     not exist. Then it is told: redacted N (how often the text stood there), and as by find where it stands on\n\
     the screen of the new recording all the same, typed with corrections or drawn in parts. The status is 0\n\
-    where N isn't 0, no such line follows, the first line tells the size of before, and behind the last chunk\n\
-    stands nothing but script's closing line; else 1, and 3 for each fault.\n\n\
+    where N isn't 0, no such line follows, the first line tells the size of before (with --profile auto the\n\
+    profile too), and behind the last chunk stands nothing but script's closing line; else 1, and 3 for each fault.\n\n\
     It can't take out the same secret in another spelling, or one that is shown under another profile or size,\n\
     or one in a timing file, or a phrase whose space falls on the right margin. A TEXT that is part of an\n\
     escape sequence breaks it, so that hidden text may come to show; and under xterm one * for each byte\n\
@@ -252,8 +252,8 @@ pub fn value_name_of<'a>(argument: Argument) -> &'a str {
         Argument::Size => "CxL",
         Argument::Escaped | Argument::Last | Argument::Headless => "",
         Argument::Title | Argument::Sought | Argument::Secret => "TEXT",
-        Argument::Script => "SCRIPT",
-        Argument::Timing | Argument::AnyTiming => "TIMING",
+        Argument::Script | Argument::Recorded => "SCRIPT",
+        Argument::Timing | Argument::AnyTiming | Argument::ItsTiming => "TIMING",
         Argument::Recording => "RECORDING",
         Argument::NewScript => "NEWSCRIPT",
         Argument::NewTiming => "NEWTIMING",
@@ -276,12 +276,13 @@ pub fn help_of<'a>(argument: Argument) -> &'a str {
              between terminals take more memory, and more take longer to go back"
         }
         Argument::Profile => {
-            "Which terminal plays: vt100 (if not given), vt102, which can insert and delete, or xterm, a \
-             terminal of today"
+            "Which terminal plays: vt100 (if not given), vt102, which can insert and delete, xterm, a terminal \
+             of today, or auto: the one that the recording's first line tells by its TERM (xterm, if it isn't \
+             one of those)"
         }
         Argument::Size => {
-            "With --profile xterm the size of its screen, as columns, x and lines, from 2x1 to 1000x500; that \
-             of the recording's first line, or 80x24, if not given"
+            "With --profile xterm or auto the size of a terminal of today, as columns, x and lines, from 2x1 to \
+             1000x500; that of the recording's first line, or 80x24, if not given"
         }
         Argument::Escaped => {
             "Write a text that draws the screen again on a reset terminal, with renditions and sizes"
@@ -300,13 +301,17 @@ pub fn help_of<'a>(argument: Argument) -> &'a str {
         Argument::Secret =>
             "What to take out: characters as they stand on the screen, not only spaces, and no *",
         Argument::Script => "The typescript that script(1) wrote: the bytes themselves",
-        Argument::Timing => {
+        Argument::Timing | Argument::ItsTiming => {
             "Its timing file, in the classic format: a line of a delay and a count for each chunk. \
              (A typescript given here is told as 'multi-stream format'.)"
         }
         Argument::AnyTiming => "Its timing file, in the classic, the multi-stream or sudo's format",
         Argument::Recording =>
             "A recording of another form: an asciicast, a ttyrec, or messages of tlog",
+        Argument::Recorded => {
+            "The typescript that script(1) wrote: the bytes themselves; or, alone, a recording of another form: an \
+             asciicast, a ttyrec, or messages of tlog, which xterm plays if no --profile is given"
+        }
         Argument::NewScript => "The typescript to be written; it must not exist",
         Argument::NewTiming => "Its timing file, to be written; it must not exist",
     }

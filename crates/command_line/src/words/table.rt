@@ -61,6 +61,10 @@ pub enum Argument {
     AnyTiming,
     /// A recording of another form.
     Recording,
+    /// The typescript, or alone a recording of another form.
+    Recorded,
+    /// The typescript's timing file, where a recording doesn't stand alone.
+    ItsTiming,
     /// The typescript that is to be written.
     NewScript,
     /// The timing file that is to be written.
@@ -189,7 +193,7 @@ pub fn paths_of(subcommand: Subcommand) -> &'static [Argument]
             Argument::NewScript,
             Argument::NewTiming,
         ],
-        _ => &[Argument::Script, Argument::Timing],
+        _ => &[Argument::Recorded, Argument::ItsTiming],
     }
 }
 
@@ -210,8 +214,8 @@ pub fn id_of<'a>(argument: Argument) -> &'a str
         Argument::Headless => "headless",
         Argument::Title => "title",
         Argument::Sought | Argument::Secret => "text",
-        Argument::Script => "script",
-        Argument::Timing | Argument::AnyTiming => "timing",
+        Argument::Script | Argument::Recorded => "script",
+        Argument::Timing | Argument::AnyTiming | Argument::ItsTiming => "timing",
         Argument::Recording => "recording",
         Argument::NewScript => "new-script",
         Argument::NewTiming => "new-timing",

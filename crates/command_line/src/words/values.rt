@@ -5,12 +5,12 @@ ghost use Rattle.std.specs.Option.{option_map};
 ghost use Rattle.std.specs.Char.{is_control};
 ghost use Rattle.std.specs.List.{list_all, list_any};
 ghost use Rattle.clap.specs.Words.{first_of, found_of, rows_of};
-ghost use Rattle.command_line.specs.CommandLine.{every_allowed, every_in, every_of, header_in, id_in, is_searchable, is_secret, is_today, job_in, player_in, print_by, size_cut, size_named, today_if, vt_if, moment_in, moment_given_in, moment_or_last_in, paths_in, profile_named, stem_of, switch_in, text_in, title_in, value_in};
+ghost use Rattle.command_line.specs.CommandLine.{every_allowed, every_in, every_of, header_in, id_in, is_auto, is_searchable, is_secret, is_today, job_in, player_in, print_by, source_in, unnamed_player, size_cut, size_if, size_named, vt_if, moment_in, moment_given_in, moment_or_last_in, paths_in, profile_named, stem_of, switch_in, text_in, title_in, value_in};
 ghost use Rattle.command_line.specs.declared.words.table.Subcommand.TheVariants.{Find as find, Redact as redact, Screen as screen, Transcript as transcript};
 
 use super::table::{Argument, Subcommand, id_of, paths_of};
 use crate::job::Job;
-use crate::player::{Measure, Player, Print, is_size};
+use crate::player::{Measure, Player, Print, Source, is_size};
 use clap::ArgMatches;
 use std::alloc::{AllocError, Global};
 use std::path::Path;
@@ -245,20 +245,51 @@ fn is_today(name: &str) -> bool
     name == "xterm"
 }
 
+/// Whether the header is to say which terminal plays.
+#[tactic(auto, unfolding(crate::specs::CommandLine::is_auto))]
+fn is_auto(name: &str) -> bool
+    ensures { result ≡ is_auto name.now }
+{
+    name == "auto"
+}
+
 /// Which terminal is to play, of any.
 fn read_player(values: &ArgMatches<'_>) -> Result<Player, Unreadable>
     ensures { result ≡ player_in (rows_of (found_of values.now)) }
 {
     let size = value_given(values, Argument::Size);
     let Some(name) = value_given(values, Argument::Profile) else {
-        return vt_if(size, Profile::Vt100);
+        return unnamed_player(read_source(values), size);
     };
     if is_today(name) {
-        return today_if(size);
+        return Ok(Player::Today(size_if(size)?));
+    }
+    if is_auto(name) {
+        return Ok(Player::Auto(size_if(size)?));
     }
     match profile_named(name) {
         Some(profile) => vt_if(size, profile),
         None => Err(Unreadable::Profile),
+    }
+}
+
+/// Where the recording stands: in a pair, where a timing file is given.
+pub fn read_source(values: &ArgMatches<'_>) -> Source
+    ensures { result ≡ source_in (rows_of (found_of values.now)) }
+{
+    match value_given(values, Argument::ItsTiming) {
+        Some(_) => Source::Pair,
+        None => Source::Recording,
+    }
+}
+
+/// Which terminal plays where none is named: a VT100 a pair, and one of today a recording of another form.
+fn unnamed_player(source: Source, size: Option<&str>) -> Result<Player, Unreadable>
+    ensures { result ≡ unnamed_player source (option_map (λ text. text.now) size.entry) }
+{
+    match source {
+        Source::Pair => vt_if(size, Profile::Vt100),
+        Source::Recording => Ok(Player::Today(size_if(size)?)),
     }
 }
 
@@ -272,15 +303,15 @@ fn vt_if(size: Option<&str>, profile: Profile) -> Result<Player, Unreadable>
     }
 }
 
-/// A terminal of today, of this size if there is one.
-fn today_if(size: Option<&str>) -> Result<Player, Unreadable>
-    ensures { result ≡ today_if (option_map (λ text. text.now) size.entry) }
+/// The size that is asked for, if one is.
+fn size_if(size: Option<&str>) -> Result<Option<Measure>, Unreadable>
+    ensures { result ≡ size_if (option_map (λ text. text.now) size.entry) }
 {
     let Some(text) = size else {
-        return Ok(Player::Today(None));
+        return Ok(None);
     };
     match size_named(text.as_bytes()) {
-        Some(size) => Ok(Player::Today(Some(size))),
+        Some(size) => Ok(Some(size)),
         None => Err(Unreadable::Size),
     }
 }
@@ -385,7 +416,7 @@ fn title_of<'a>(values: &ArgMatches<'a>) -> &'a str
 {
     match value_given(values, Argument::Title) {
         Some(title) => title,
-        None => stem_of(value_text(values, Argument::Script)),
+        None => stem_of(value_text(values, Argument::Recorded)),
     }
 }
 

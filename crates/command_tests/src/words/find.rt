@@ -106,7 +106,7 @@ const UNREADABLE: [(&[&str], &str); 8] = [
     ),
     (
         &["typetool", "find", "--profile=x", " ", "s", "t"],
-        "bad profile: vt100, vt102 or xterm",
+        "bad profile: vt100, vt102, xterm or auto",
     ),
 ];
 
@@ -123,7 +123,7 @@ fn refuses_texts_that_cannot_stand(rt: HostRuntime) -> Result<(), Fail> {
 #[test]
 fn leaves_mistakes_of_find_to_clap(rt: HostRuntime) -> Result<(), Fail> {
     for line in [
-        "typetool find s t",
+        "typetool find s",
         "typetool find ab s t u",
         "typetool find --at 1 ab s t",
         "typetool find -ab s t",

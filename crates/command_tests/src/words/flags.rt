@@ -80,7 +80,7 @@ fn refuses_other_profiles(rt: HostRuntime) -> Result<(), Fail> {
         let told = told(rt.alloc(), words.as_slice())?;
         assert_eq!(rt;
             told.as_str(),
-            "bad profile: vt100, vt102 or xterm",
+            "bad profile: vt100, vt102, xterm or auto",
             "{line:?}"
         );
     }

@@ -74,7 +74,11 @@ const REFUSED: [(&str, &str, &str); 7] = [
     ("--profile=vt100", "  ", "bad text"),
     ("--profile=vt100", "a*b", "bad text"),
     ("--profile=vt100", "a\nb", "bad text"),
-    ("--profile=vt220", "*", "bad profile: vt100, vt102 or xterm"),
+    (
+        "--profile=vt220",
+        "*",
+        "bad profile: vt100, vt102, xterm or auto",
+    ),
     (
         "--size=80x24",
         "*",

@@ -79,8 +79,22 @@ fn reads_sessions_of_today(rt: HostRuntime) -> Result<(), Fail> {
     compare_job(&rt, line, session(7, Some(size)))
 }
 
+#[test]
+fn reads_that_the_header_tells_the_profile(rt: HostRuntime) -> Result<(), Fail> {
+    let size = Measure {
+        columns: 132,
+        lines: 43,
+    };
+    let check = |size| Job::Check {
+        player: Player::Auto(size),
+    };
+    compare_job(&rt, "typetool check --profile=auto s t", check(None))?;
+    let line = "typetool check --size 132x43 --profile auto s t";
+    compare_job(&rt, line, check(Some(size)))
+}
+
 /// What a line is refused for.
-const REFUSED: [(&str, &str); 17] = [
+const REFUSED: [(&str, &str); 19] = [
     ("screen --at=1 --profile=xterm --size=1x24", BAD_SIZE),
     ("screen --at=1 --profile=xterm --size=1001x24", BAD_SIZE),
     ("screen --at=1 --profile=xterm --size=80x0", BAD_SIZE),
@@ -93,10 +107,15 @@ const REFUSED: [(&str, &str); 17] = [
     ("screen --at=1 --profile=xterm --size=+80x24", BAD_SIZE),
     ("screen --at=1 --size=80x24", BAD_SIZE),
     ("reports --at=1 --profile=vt102 --size=80x24", BAD_SIZE),
+    ("screen --at=1 --profile=auto --size=1x24", BAD_SIZE),
+    (
+        "check --profile=Auto --size=1x24",
+        "bad profile: vt100, vt102, xterm or auto",
+    ),
     ("screen --at=x --profile=xterm --size=0x0", "bad seconds"),
     (
         "screen --at=1 --profile=XTERM --size=0x0",
-        "bad profile: vt100, vt102 or xterm",
+        "bad profile: vt100, vt102, xterm or auto",
     ),
     (
         "session --every=0 --profile=x",

@@ -37,7 +37,7 @@ fn mend_slowly<R: Abort + AllocGlobal>(rt: &R, calls: [usize; 2], failures: [Fai
     let mut out = Watched::new(slow_writer(rt, failures[0]));
     let mut out_timing = Watched::new(slow_writer(rt, failures[1]));
     let mut told = Watched::new(slow_writer(rt, failures[2]));
-    let outcome = mend(
+    let mending = mend(
         rt.alloc(),
         Header::Kept,
         &mut script,
@@ -47,7 +47,7 @@ fn mend_slowly<R: Abort + AllocGlobal>(rt: &R, calls: [usize; 2], failures: [Fai
         &mut told,
     );
     Ran {
-        outcome,
+        outcome: mending.outcome,
         script_calls: script.into_inner().calls,
         timing_calls: timing.into_inner().calls,
         writers: [out.into_inner(), out_timing.into_inner(), told.into_inner()],

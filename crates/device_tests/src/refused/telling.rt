@@ -15,7 +15,7 @@ fn mend_cut(rt: &impl Runtime<A = Global>) -> Result<Ended, Fail> {
     let mut out = Watched::new(room(rt)?);
     let mut out_timing = Watched::new(room(rt)?);
     let mut told = Watched::new(room(rt)?);
-    let outcome = mend(
+    let mending = mend(
         rt.alloc(),
         Header::Kept,
         &mut Watched::new(SCRIPT),
@@ -25,7 +25,7 @@ fn mend_cut(rt: &impl Runtime<A = Global>) -> Result<Ended, Fail> {
         &mut told,
     );
     Ok(Ended {
-        outcome,
+        outcome: mending.outcome,
         text: out.into_inner(),
         new_timing: out_timing.into_inner(),
         note: told.into_inner(),

@@ -14,13 +14,11 @@ use xterm_print::{changes, find, plain, seek};
 use xterm_term::Terminal;
 
 impl Answers for Terminal {
-    ghost use Rattle.std.specs.Prelude.{Some};
-    ghost use Rattle.tape_jobs.specs.Player.{measure_of};
-    ghost use Rattle.command_line.specs.declared.player.Player.TheVariants.{Today};
+    ghost use Rattle.tape_check.specs.declared.played.PlayedAs.TheVariants.{Today};
 
-    ghost player = { λ size. Today (Some (measure_of size)) };
+    ghost played = { λ size. Today size.columns size.lines };
 
-    #[tactic(auto, using(crate::proofs::PlayerLemmas::today_of_size), unfolding(crate::specs::Moment::drawn_at, crate::specs::Moment::printed_at, crate::specs::Moment::sent_at))]
+    #[tactic(auto, unfolding(crate::specs::Moment::drawn_at, crate::specs::Moment::escaped_at, crate::specs::Moment::plain_at, crate::specs::Moment::sent_at))]
     fn put_answer<O: Write>(
         session: &mut Session<Terminal>,
         question: Question,

@@ -4,7 +4,7 @@ use super::{Answers, Asked, Question};
 use crate::job::JobFault;
 use crate::shared::put_hex_line;
 use screen_picture::picture;
-use screen_print::{changes, escaped, find, plain, scratch};
+use screen_print::{changes, escaped, find, plain};
 use std::alloc::Global;
 use std::io::Write;
 use tape_core::Watched;
@@ -13,11 +13,11 @@ use tape_seek::Session;
 use vt_term::Terminal;
 
 impl Answers for Terminal {
-    ghost use Rattle.command_line.specs.declared.player.Player.TheVariants.{Vt};
+    ghost use Rattle.tape_check.specs.declared.played.PlayedAs.TheVariants.{Vt};
 
-    ghost player = { λ profile. Vt profile };
+    ghost played = { λ profile. Vt profile };
 
-    #[tactic(auto, unfolding(crate::specs::Moment::drawn_at, crate::specs::Moment::printed_at, crate::specs::Moment::screen_text, crate::specs::Moment::sent_at))]
+    #[tactic(auto, unfolding(crate::specs::Moment::drawn_at, crate::specs::Moment::escaped_at, crate::specs::Moment::plain_at, crate::specs::Moment::screen_text, crate::specs::Moment::sent_at))]
     fn put_answer<O: Write>(
         session: &mut Session,
         question: Question,
@@ -54,8 +54,7 @@ impl Answers for Terminal {
         text: &[char],
         out: &mut Watched<O>,
     ) -> Result<(), JobFault> {
-        let mut scratch = scratch(alloc)?;
-        find(session, from, to, text, &mut scratch, out)?;
+        find(alloc, session, from, to, text, out)?;
         Ok(())
     }
 }

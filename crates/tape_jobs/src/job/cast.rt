@@ -1,20 +1,23 @@
 //! The job `cast`: the recording as an asciicast.
 
 ghost use Rattle.std.specs.Prelude.{◌≡◌, false, true, OnOk};
+ghost use Rattle.output_cast.specs.Cast.{cast_text as output_text};
 ghost use Rattle.screen_cast.specs.Cast.{cast_text};
 ghost use Rattle.tape_core.specs.Devices.{has_failed, is_flushed};
 ghost use Rattle.tape_jobs.specs.Endings.{JobPuts};
-ghost use Rattle.tape_jobs.specs.Texts.{cast_of, today_cast};
+ghost use Rattle.tape_jobs.specs.Player.{played_of};
+ghost use Rattle.tape_jobs.specs.Texts.{cast_of};
 
 use crate::job::JobFault;
-use crate::player::played_size;
+use crate::player::{Setup, set_up};
 use crate::shared::{EVERY, open_session};
-use command_line::{Measure, Player};
+use command_line::Player;
 use std::alloc::Global;
 use std::io::Write;
 use std::mem::ManuallyDrop;
 use tape_core::{Recording, Watched};
 use vt_term::Profile;
+use xterm_term::Size;
 
 /// Writes the cast, and flushes. Where memory is refused, a beginning of it has gone out.
 #[tactic(auto, unfolding(crate::specs::Texts::cast_of))]
@@ -25,12 +28,12 @@ pub fn write_cast<O: Write>(
     out: &mut Watched<O>,
 ) -> Result<(), JobFault>
     requires { has_failed out.old ≡ false }
-    ensures puts { JobPuts O.contents out.old out.new (cast_of player recording) result }
+    ensures puts { JobPuts O.contents out.old out.new (cast_of (played_of player recording) recording) result }
     ensures flushed { OnOk result (is_flushed out.new ≡ true) }
 {
-    match player {
-        Player::Vt(profile) => write_drawn(alloc, recording, profile, out),
-        Player::Today(asked) => write_output(&ManuallyDrop::new(recording), asked, out),
+    match set_up(player, &recording) {
+        Setup::Vt(profile) => write_drawn(alloc, recording, profile, out),
+        Setup::Today(size) => write_output(&ManuallyDrop::new(recording), size, out),
     }
 }
 
@@ -50,17 +53,16 @@ fn write_drawn<O: Write>(
     Ok(())
 }
 
-/// Writes a cast of the output itself.
+/// Writes a cast of the output itself, of this size.
 fn write_output<O: Write>(
     recording: &Recording,
-    asked: Option<Measure>,
+    size: Size,
     out: &mut Watched<O>,
 ) -> Result<(), JobFault>
     requires { has_failed out.old ≡ false }
-    ensures puts { JobPuts O.contents out.old out.new (today_cast asked recording.now) result }
+    ensures puts { JobPuts O.contents out.old out.new (output_text size.columns size.lines recording.now) result }
     ensures flushed { OnOk result (is_flushed out.new ≡ true) }
 {
-    let size = played_size(asked, recording);
     output_cast::cast(size.columns, size.lines, recording, out)?;
     Ok(())
 }

@@ -3,11 +3,11 @@
 ghost use Rattle.std.specs.Prelude.{◌≡◌, false, true, OnOk};
 ghost use Rattle.tape_core.specs.Devices.{has_failed, is_flushed};
 ghost use Rattle.tape_jobs.specs.Endings.{JobPuts};
-ghost use Rattle.tape_jobs.specs.Player.{changes_of};
+ghost use Rattle.tape_jobs.specs.Player.{changes_of, played_of};
 
 use crate::answers::Answers;
 use crate::job::JobFault;
-use crate::player::played_size;
+use crate::player::{Setup, set_up};
 use crate::shared::{EVERY, open_session};
 use command_line::Player;
 use std::alloc::Global;
@@ -16,7 +16,6 @@ use std::mem::ManuallyDrop;
 use tape_core::{Recording, Watched};
 
 /// Writes the change lines, and flushes. Where memory is refused, a beginning of them has gone out.
-#[tactic(auto, using(crate::proofs::PlayerLemmas::changes_settled))]
 pub fn write_changes<O: Write>(
     alloc: Global,
     recording: Recording,
@@ -27,15 +26,14 @@ pub fn write_changes<O: Write>(
 ) -> Result<(), JobFault>
     requires { has_failed out.old ≡ false }
     ensures puts { JobPuts O.contents out.old out.new
-        (changes_of player recording from to) result }
+        (changes_of (played_of player recording) recording from to) result }
     ensures flushed { OnOk result (is_flushed out.new ≡ true) }
 {
-    match player {
-        Player::Vt(profile) => {
+    match set_up(player, &recording) {
+        Setup::Vt(profile) => {
             write_lines::<vt_term::Terminal, O>(alloc, recording, profile, from, to, out)
         }
-        Player::Today(asked) => {
-            let size = played_size(asked, &recording);
+        Setup::Today(size) => {
             write_lines::<xterm_term::Terminal, O>(alloc, recording, size, from, to, out)
         }
     }
@@ -52,7 +50,7 @@ fn write_lines<T: Answers, O: Write>(
 ) -> Result<(), JobFault>
     requires { has_failed out.old ≡ false }
     ensures puts { JobPuts O.contents out.old out.new
-        (changes_of (T.player profile) recording from to) result }
+        (changes_of (T.played profile) recording from to) result }
     ensures flushed { OnOk result (is_flushed out.new ≡ true) }
 {
     let session = open_session::<T>(alloc, recording, EVERY, profile)?;

@@ -15,22 +15,23 @@ use std::io::Write;
 use tape_check::write_check;
 use tape_core::{Recording, Watched};
 
-/// Writes the lines of a check, and flushes. Nothing is written where memory is refused.
+/// Writes the lines of a check of a recording, of which so many changes of size were left out, and flushes. Nothing is written where memory is refused.
 pub fn write_checked<O: Write>(
     alloc: Global,
     recording: &Recording,
     player: Player,
+    resizes: u64,
     out: &mut Watched<O>,
 ) -> Result<Ending, JobFault>
     requires { has_failed out.old ≡ false }
     ensures puts { JobPuts O.contents out.old out.new
-        (check_text (played_of player recording.now) recording.now) result }
+        (check_text (played_of player recording.now) resizes recording.now) result }
     ensures ending { IfOk result (λ ending. ending
-        ≡ ending_of_check (is_noted (played_of player recording.now) recording.now)) }
+        ≡ ending_of_check (is_noted (played_of player recording.now) resizes recording.now)) }
     ensures flushed { OnOk result (is_flushed out.new ≡ true) }
     ensures unwritten { result ≡ Err JobFault.Memory → out.new ≡ out.old }
 {
-    let noted = write_check(alloc, recording, played_as(player, recording), out)?;
+    let noted = write_check(alloc, recording, played_as(player, recording), resizes, out)?;
     out.settle()?;
     Ok(ending_of(noted))
 }

@@ -4,12 +4,12 @@ ghost use Rattle.std.specs.Prelude.{◌≡◌, false, true, IfErr, IfOk, OnOk};
 ghost use Rattle.tape_core.specs.Devices.{has_failed, is_flushed};
 ghost use Rattle.tape_jobs.specs.Endings.{JobPuts};
 ghost use Rattle.tape_jobs.specs.Output.{ending_of_find, is_some_text};
-ghost use Rattle.tape_jobs.specs.Player.{found_of};
+ghost use Rattle.tape_jobs.specs.Player.{found_of, played_of};
 ghost use Rattle.tape_jobs.specs.Requests.{course_of};
 
 use crate::answers::Answers;
 use crate::job::{Ending, JobFault};
-use crate::player::played_size;
+use crate::player::{Setup, set_up};
 use crate::shared::{EVERY, open_session};
 use command_line::Player;
 use std::alloc::Global;
@@ -20,7 +20,6 @@ use tape_core::{Recording, Watched};
 use tape_seek::Session;
 
 /// Writes the find lines, and flushes. Where memory is refused, a beginning of them has gone out.
-#[tactic(auto, using(crate::proofs::PlayerLemmas::found_settled))]
 pub fn write_found<O: Write>(
     alloc: Global,
     recording: Recording,
@@ -32,17 +31,16 @@ pub fn write_found<O: Write>(
 ) -> Result<Ending, JobFault>
     requires { has_failed out.old ≡ false }
     ensures puts { JobPuts O.contents out.old out.new
-        (found_of player recording from to text.now) result }
+        (found_of (played_of player recording) recording from to text.now) result }
     ensures ending { IfOk result (λ ending. ending
-        ≡ ending_of_find (is_some_text (found_of player recording from to text.now))) }
+        ≡ ending_of_find (is_some_text (found_of (played_of player recording) recording from to text.now))) }
     ensures flushed { OnOk result (is_flushed out.new ≡ true) }
 {
-    match player {
-        Player::Vt(profile) => {
+    match set_up(player, &recording) {
+        Setup::Vt(profile) => {
             write_lines::<vt_term::Terminal, O>(alloc, recording, profile, from, to, text, out)
         }
-        Player::Today(asked) => {
-            let size = played_size(asked, &recording);
+        Setup::Today(size) => {
             write_lines::<xterm_term::Terminal, O>(alloc, recording, size, from, to, text, out)
         }
     }
@@ -60,9 +58,9 @@ fn write_lines<T: Answers, O: Write>(
 ) -> Result<Ending, JobFault>
     requires { has_failed out.old ≡ false }
     ensures puts { JobPuts O.contents out.old out.new
-        (found_of (T.player profile) recording from to text.now) result }
+        (found_of (T.played profile) recording from to text.now) result }
     ensures ending { IfOk result (λ ending. ending
-        ≡ ending_of_find (is_some_text (found_of (T.player profile) recording from to text.now))) }
+        ≡ ending_of_find (is_some_text (found_of (T.played profile) recording from to text.now))) }
     ensures flushed { OnOk result (is_flushed out.new ≡ true) }
 {
     let session = open_session::<T>(alloc, recording, EVERY, profile)?;
@@ -83,9 +81,9 @@ pub fn put_lines<T: Answers, O: Write>(
 ) -> Result<bool, JobFault>
     requires { has_failed out.old ≡ false }
     ensures puts { JobPuts O.contents out.old out.new
-        (found_of (T.player session.old.profile) session.old.recording from to text.now) result }
+        (found_of (T.played session.old.profile) session.old.recording from to text.now) result }
     ensures found { IfOk result (λ found. found ≡ is_some_text
-        (found_of (T.player session.old.profile) session.old.recording from to text.now)) }
+        (found_of (T.played session.old.profile) session.old.recording from to text.now)) }
     ensures flushed { OnOk result (is_flushed out.new ≡ true) }
 {
     // A writer that took bytes before doesn't tell whether it takes any now.
@@ -107,9 +105,9 @@ pub fn finds<T: Answers>(
     text: &[char],
 ) -> Result<bool, JobFault>
     ensures ok { IfOk result (λ found. found ≡ is_some_text
-        (found_of (T.player session.old.profile) session.old.recording from to text.now)) }
+        (found_of (T.played session.old.profile) session.old.recording from to text.now)) }
     ensures fault { IfErr result (λ fault. fault ≡ JobFault.Memory) }
-    ensures stays { course_of T.player session.new ≡ course_of T.player session.old }
+    ensures stays { course_of T.played session.new ≡ course_of T.played session.old }
 {
     let mut taken = Watched::new(io::sink());
     let searched = T::put_found(alloc, session, from, to, text, &mut taken);

@@ -1,14 +1,15 @@
 //! The job `mend`: both files anew of all that can be read of them, and then what was lost.
 
-ghost use Rattle.std.specs.Prelude.{◌≡◌, ◌⊎◌, ◌≢◌, ℕ, List, OnOk, Some, false, true, IfErr, IfOk};
+ghost use Rattle.std.specs.Prelude.{◌≡◌, ◌⊎◌, ◌≢◌, ℕ, List, None, OnOk, Some, false, true, IfErr, IfOk};
 ghost use Rattle.tape_core.specs.Devices.{Gave, Puts, has_failed, inner_of, is_flushed};
 ghost use Rattle.tape_core.specs.Faults.{is_stop};
 ghost use Rattle.tape_core.specs.Reading.{has_header};
 ghost use Rattle.tape_core.specs.declared.fault.Fault.TheVariants as fault;
 ghost use Rattle.tape_jobs.specs.Endings.{JobEnds, TookPartOfBoth, used, writers_of};
-ghost use Rattle.tape_jobs.specs.Mending.{MendEnds, pair_of, remains_of, told_of, untimed_line, untimed_text};
+ghost use Rattle.tape_jobs.specs.Mending.{MendEnds, is_doubtful, pair_of, remains_of, told_of, untimed_line, untimed_text};
 ghost use Rattle.tape_jobs.specs.Output.{done_mending, ending_of_mend, is_lacking};
 ghost use Rattle.tape_jobs.specs.Telling.{ThreeEnd};
+ghost use Rattle.tape_mend.specs.Front.{is_sudos};
 ghost use Rattle.tape_mend.specs.Mended.{mended, seen};
 ghost use Rattle.tape_mend.specs.declared.opening.Header.{Header as How};
 
@@ -22,6 +23,14 @@ use tape_check::is_usual;
 use tape_core::laws::gives_join;
 use tape_core::{Fault, Watched, slurp, write_script, write_timing};
 use tape_mend::{Header, Mended, put_losses};
+
+/// How mending ended, and, where it is done, whether a file of the pair may be another one than it is taken for: reading
+/// ended before line 1 of the timing, or the timing is sudo's, whose logs are compressed more often than not.
+#[derive(Clone, Copy, Debug, PartialEq, Eq)]
+pub struct Mending {
+    pub outcome: Outcome,
+    pub doubtful: bool,
+}
 
 /// Mends a pair of files: reads both whole, writes the typescript anew and then its timing, and tells what was lost, and
 /// how many bytes have no timing, behind them.
@@ -38,22 +47,42 @@ pub fn mend<S: Read, T: Read, O: Write, P: Write, L: Write>(
     out: &mut Watched<O>,
     out_timing: &mut Watched<P>,
     told: &mut Watched<L>,
-) -> Outcome
+) -> Mending
     requires script { has_failed script.old ≡ false }
     requires timing { has_failed timing.old ≡ false }
     requires out { has_failed out.old ≡ false }
     requires out_timing { has_failed out_timing.old ≡ false }
     requires told { has_failed told.old ≡ false }
-    ensures { let pair = pair_of (used S.remaining script.old script.new)
+    ensures ends { let pair = pair_of (used S.remaining script.old script.new)
         (used T.remaining timing.old timing.new) in
         let writers = writers_of (used O.contents out.old out.new)
         (used P.contents out_timing.old out_timing.new) in
-        MendEnds pair writers (used L.contents told.old told.new) header result }
+        MendEnds pair writers (used L.contents told.old told.new) header result.outcome }
+    ensures doubtful { result.outcome.fault ≡ None → (s : List ℕ) (t : List ℕ)
+        → S.remaining (inner_of script.old) ≡ Some s → T.remaining (inner_of timing.old) ≡ Some t
+        → result.doubtful ≡ is_doubtful t (mended header s t) }
 {
     match read_remains(alloc, header, script, timing) {
-        Ok(mended) => outcome_of(write_and_tell(&ManuallyDrop::new(mended), out, out_timing, told)),
-        Err(fault) => outcome_of(Err(JobFault::File(fault))),
+        Ok(mended) => {
+            let doubtful = is_doubtful(&mended);
+            let done = write_and_tell(&ManuallyDrop::new(mended), out, out_timing, told);
+            Mending {
+                outcome: outcome_of(done),
+                doubtful,
+            }
+        }
+        Err(fault) => Mending {
+            outcome: outcome_of(Err(JobFault::File(fault))),
+            doubtful: false,
+        },
     }
+}
+
+/// Whether a file of the pair may be another one than it is taken for.
+fn is_doubtful(mended: &Mended) -> bool
+    ensures { (t : List ℕ) → mended.now.sudo ≡ is_sudos t → result ≡ is_doubtful t (remains_of mended.now) }
+{
+    mended.sudo || matches!(mended.losses.lines, Some(left) if left.line == 1)
 }
 
 /// Reads both files whole, and then all that can be read of them.
@@ -68,6 +97,8 @@ pub fn read_remains<S: Read, T: Read>(
     ensures ok { IfOk result (λ m. (s : List ℕ) (t : List ℕ)
         → S.remaining (inner_of script.old) ≡ Some s → T.remaining (inner_of timing.old) ≡ Some t
         → (has_header (seen header s) ≡ true) × (mended header s t ≡ remains_of m)) }
+    ensures sudo { IfOk result (λ m. (t : List ℕ) → T.remaining (inner_of timing.old) ≡ Some t
+        → m.sudo ≡ is_sudos t) }
     ensures fault { IfErr result (λ f. is_stop f ≡ false → (f ≡ fault.NoHeader)
         × ((s : List ℕ) → S.remaining (inner_of script.old) ≡ Some s
         → has_header (seen header s) ≡ false)) }

@@ -4,10 +4,11 @@ ghost use Rattle.std.specs.Prelude.{◌≡◌, Err, false, true, OnOk};
 ghost use Rattle.tape_core.specs.Devices.{has_failed, is_flushed};
 ghost use Rattle.tape_jobs.specs.Endings.{JobPuts};
 ghost use Rattle.tape_jobs.specs.Moment.{drawn_at, printed_at, sent_at, told_at};
+ghost use Rattle.tape_jobs.specs.Player.{played_of};
 
 use crate::answers::{Answers, Asked, Question};
 use crate::job::JobFault;
-use crate::player::played_size;
+use crate::player::{Setup, set_up};
 use crate::shared::{EVERY, open_session};
 use command_line::{Player, Print};
 use std::alloc::Global;
@@ -49,7 +50,7 @@ pub fn write_picture<O: Write>(
     out: &mut Watched<O>,
 ) -> Result<(), JobFault>
     requires { has_failed out.old ≡ false }
-    ensures puts { JobPuts O.contents out.old out.new (drawn_at player recording at) result }
+    ensures puts { JobPuts O.contents out.old out.new (drawn_at (played_of player recording) recording at) result }
     ensures flushed { OnOk result (is_flushed out.new ≡ true) }
     ensures unwritten { result ≡ Err JobFault.Memory → out.new ≡ out.old }
 {
@@ -66,7 +67,7 @@ pub fn write_reports<O: Write>(
     out: &mut Watched<O>,
 ) -> Result<(), JobFault>
     requires { has_failed out.old ≡ false }
-    ensures puts { JobPuts O.contents out.old out.new (sent_at player recording at) result }
+    ensures puts { JobPuts O.contents out.old out.new (sent_at (played_of player recording) recording at) result }
     ensures flushed { OnOk result (is_flushed out.new ≡ true) }
     ensures unwritten { result ≡ Err JobFault.Memory → out.new ≡ out.old }
 {
@@ -75,7 +76,6 @@ pub fn write_reports<O: Write>(
 }
 
 /// Answers a question on a recording, and flushes. Nothing is written where memory is refused.
-#[tactic(auto, using(crate::proofs::PlayerLemmas::told_settled))]
 fn write_answer<O: Write>(
     alloc: Global,
     recording: Recording,
@@ -84,16 +84,15 @@ fn write_answer<O: Write>(
     out: &mut Watched<O>,
 ) -> Result<(), JobFault>
     requires { has_failed out.old ≡ false }
-    ensures puts { JobPuts O.contents out.old out.new (told_at player recording question) result }
+    ensures puts { JobPuts O.contents out.old out.new (told_at (played_of player recording) recording question) result }
     ensures flushed { OnOk result (is_flushed out.new ≡ true) }
     ensures unwritten { result ≡ Err JobFault.Memory → out.new ≡ out.old }
 {
-    match player {
-        Player::Vt(profile) => {
+    match set_up(player, &recording) {
+        Setup::Vt(profile) => {
             put_from_start::<vt_term::Terminal, O>(alloc, recording, profile, question, out)
         }
-        Player::Today(asked) => {
-            let size = played_size(asked, &recording);
+        Setup::Today(size) => {
             put_from_start::<xterm_term::Terminal, O>(alloc, recording, size, question, out)
         }
     }
@@ -109,7 +108,7 @@ fn put_from_start<T: Answers, O: Write>(
 ) -> Result<(), JobFault>
     requires { has_failed out.old ≡ false }
     ensures puts { JobPuts O.contents out.old out.new
-        (told_at (T.player profile) recording question) result }
+        (told_at (T.played profile) recording question) result }
     ensures flushed { OnOk result (is_flushed out.new ≡ true) }
     ensures unwritten { result ≡ Err JobFault.Memory → out.new ≡ out.old }
 {

@@ -14,16 +14,17 @@ use std::io::Write;
 use tape_check::{PlayedAs, put_parts};
 use tape_core::{Fault, Recording, Watched};
 
-/// Tells the note of a recording that a job plays, and flushes. A fault is passed over.
-pub fn tell_note<N: Write>(job: Job, recording: &Recording, notes: &mut Watched<N>)
+/// Tells the note of a recording that a job plays, of which so many changes of size were left out, and flushes. A fault is
+/// passed over.
+pub fn tell_note<N: Write>(job: Job, recording: &Recording, resizes: u64, notes: &mut Watched<N>)
     requires { has_failed notes.old ≡ false }
     ensures told { (player : Played) → played_by job ≡ Some player
         → IsTold N.contents notes.old notes.new
-        (note_line (played_of player recording.now) recording.now) }
+        (note_line (played_of player recording.now) resizes recording.now) }
     ensures silent { played_by job ≡ None → notes.new ≡ notes.old }
 {
     if let Some(player) = job.player() {
-        let _ = put_note(recording, played_as(player, recording), notes);
+        let _ = put_note(recording, played_as(player, recording), resizes, notes);
     }
 }
 
@@ -31,12 +32,13 @@ pub fn tell_note<N: Write>(job: Job, recording: &Recording, notes: &mut Watched<
 fn put_note<N: Write>(
     recording: &Recording,
     played: PlayedAs,
+    resizes: u64,
     notes: &mut Watched<N>,
 ) -> Result<(), Fault>
     requires { has_failed notes.old ≡ false }
-    ensures puts { Puts N.contents notes.old notes.new (note_line played recording.now) result }
+    ensures puts { Puts N.contents notes.old notes.new (note_line played resizes recording.now) result }
     ensures flushed { OnOk result (is_flushed notes.new ≡ true) }
 {
-    put_parts(recording, played, notes)?;
+    put_parts(recording, played, resizes, notes)?;
     notes.settle()
 }

@@ -4,11 +4,12 @@ ghost use Rattle.std.specs.Prelude.{◌≡◌, false, true, OnOk};
 ghost use Rattle.screen_page.specs.Page.{page_text};
 ghost use Rattle.tape_core.specs.Devices.{has_failed, is_flushed};
 ghost use Rattle.tape_jobs.specs.Endings.{JobPuts};
+ghost use Rattle.tape_jobs.specs.Player.{played_of};
 ghost use Rattle.tape_jobs.specs.Texts.{page_of};
 ghost use Rattle.xterm_page.specs.Page.{page_text as today_page};
 
 use crate::job::JobFault;
-use crate::player::played_size;
+use crate::player::{Setup, set_up};
 use crate::shared::{EVERY, open_session};
 use command_line::Player;
 use screen_page::page;
@@ -30,15 +31,12 @@ pub fn write_page<O: Write>(
 ) -> Result<(), JobFault>
     requires { has_failed out.old ≡ false }
     ensures puts { JobPuts O.contents out.old out.new
-        (page_of title.now player recording) result }
+        (page_of title.now (played_of player recording) recording) result }
     ensures flushed { OnOk result (is_flushed out.new ≡ true) }
 {
-    match player {
-        Player::Vt(profile) => write_played(alloc, recording, profile, title, out),
-        Player::Today(size) => {
-            let size = played_size(size, &recording);
-            write_today(alloc, recording, size, title, out)
-        }
+    match set_up(player, &recording) {
+        Setup::Vt(profile) => write_played(alloc, recording, profile, title, out),
+        Setup::Today(size) => { write_today(alloc, recording, size, title, out) }
     }
 }
 

@@ -1,7 +1,6 @@
 //! The job `redact`: both files anew without a text, and then where it still comes to stand on the screen.
 
 ghost use Rattle.std.specs.Prelude.{◌≡◌, ◌⊎◌, ◌≢◌, ◌&&◌, ℕ, List, None, OnOk, Some, encode_utf8_all, false, nat_lt, string_bytes, true, IfErr, IfOk};
-ghost use Rattle.command_line.specs.declared.player.Player.{Player as Played};
 ghost use Rattle.tape_core.specs.Devices.{Puts, has_failed, inner_of, is_flushed};
 ghost use Rattle.tape_core.specs.Faults.{is_stop};
 ghost use Rattle.tape_core.specs.Reading.{fault_of, reads};
@@ -12,8 +11,8 @@ ghost use Rattle.tape_core.specs.declared.fault.Fault.TheVariants as fault;
 ghost use Rattle.tape_seek.specs.State.{most_every, opened};
 ghost use Rattle.tape_jobs.specs.Endings.{JobEnds, used, writers_of};
 ghost use Rattle.tape_jobs.specs.Mending.{pair_of};
-ghost use Rattle.tape_jobs.specs.Output.{count_of_text, done_redacting, ending_of_redact, is_fit, is_same_size, without_text};
-ghost use Rattle.tape_jobs.specs.Player.{settled};
+ghost use Rattle.tape_jobs.specs.Output.{count_of_text, done_redacting, ending_of_redact, is_fit, is_same_profile, is_same_size, keeps_profile, without_text};
+ghost use Rattle.tape_jobs.specs.Player.{played_of};
 ghost use Rattle.tape_jobs.specs.Redacting.{FourEnd, PairPuts, RedactEnds, count_line};
 
 use crate::answers::Answers;
@@ -21,18 +20,19 @@ use crate::job::find::{finds, put_lines};
 use crate::job::note::tell_note;
 use crate::job::{Ending, JobFault, Outcome, outcome_in};
 use crate::laws::nowhere_means_nowhere;
-use crate::player::played_size;
+use crate::player::{Setup, set_up};
 use crate::shared::{EVERY, open_session};
 use command_line::{Job, Player};
 use itoa::Buffer;
 use std::alloc::{AllocError, Global};
 use std::io::{Read, Write};
 use std::mem::ManuallyDrop;
-use tape_check::{is_usual, told_size};
+use tape_check::{is_usual, told_profile, told_size};
 use tape_core::limits::LAST_MOMENT;
 use tape_core::{Fault, Recording, Watched, read_recording_of, slurp, write_script, write_timing};
 use tape_redact::{Redaction, redact_recording};
 use tape_seek::Session;
+use vt_term::Profile;
 
 /// Takes a text out of a pair of files: reads both whole, tells the note of the recording, writes the typescript without
 /// the text and then its timing, and tells how often it was taken out, and then each place at which it comes to stand on
@@ -73,7 +73,7 @@ pub fn redact<S: Read, T: Read, O: Write, P: Write, L: Write, F: Write, N: Write
     match read_pair(alloc, script, timing) {
         Ok(recording) => {
             nowhere_means_nowhere();
-            tell_note(job, &recording, notes);
+            tell_note(job, &recording, 0, notes);
             let ended = write_and_tell(
                 alloc, recording, player, text, out, out_timing, told, found,
             );
@@ -109,7 +109,6 @@ fn read_pair<S: Read, T: Read>(
 }
 
 /// Writes both files, and when they are whole tells how often the text was taken out, and where it still stands.
-#[tactic(auto, using(crate::proofs::PlayerLemmas::settled_size))]
 fn write_and_tell<O: Write, P: Write, L: Write, F: Write>(
     alloc: Global,
     recording: Recording,
@@ -129,14 +128,13 @@ fn write_and_tell<O: Write, P: Write, L: Write, F: Write>(
         FourEnd writers (used L.contents told.old told.new) (used F.contents found.old found.new)
         player text.now recording result }
 {
-    match player {
-        Player::Vt(profile) => write_four::<vt_term::Terminal, O, P, L, F>(
-            alloc, recording, profile, text, out, out_timing, told, found,
+    match set_up(player, &recording) {
+        Setup::Vt(profile) => write_four::<vt_term::Terminal, O, P, L, F>(
+            alloc, recording, player, profile, text, out, out_timing, told, found,
         ),
-        Player::Today(asked) => {
-            let size = played_size(asked, &recording);
+        Setup::Today(size) => {
             write_four::<xterm_term::Terminal, O, P, L, F>(
-                alloc, recording, size, text, out, out_timing, told, found,
+                alloc, recording, player, size, text, out, out_timing, told, found,
             )
         }
     }
@@ -146,6 +144,7 @@ fn write_and_tell<O: Write, P: Write, L: Write, F: Write>(
 fn write_four<T: Answers, O: Write, P: Write, L: Write, F: Write>(
     alloc: Global,
     recording: Recording,
+    player: Player,
     profile: T::Profile,
     text: &[char],
     out: &mut Watched<O>,
@@ -157,13 +156,13 @@ fn write_four<T: Answers, O: Write, P: Write, L: Write, F: Write>(
     requires out_timing { has_failed out_timing.old ≡ false }
     requires told { has_failed told.old ≡ false }
     requires found { has_failed found.old ≡ false }
-    ensures { (player : Played) → settled player recording ≡ T.player profile
-        → (let writers = writers_of (used O.contents out.old out.new)
+    requires played { played_of player recording ≡ T.played profile }
+    ensures { let writers = writers_of (used O.contents out.old out.new)
         (used P.contents out_timing.old out_timing.new) in
         FourEnd writers (used L.contents told.old told.new) (used F.contents found.old found.new)
-        player text.now recording result) }
+        player text.now recording result }
 {
-    let cleared = clear::<T>(alloc, recording, profile, text)?;
+    let cleared = clear::<T>(alloc, recording, player, profile, text)?;
     let mut cleared = ManuallyDrop::new(cleared);
     let count = cleared.count;
     write_pair(cleared.session.recording(), out, out_timing)?;
@@ -173,7 +172,6 @@ fn write_four<T: Answers, O: Write, P: Write, L: Write, F: Write>(
 }
 
 /// Writes both files, and tells nothing of them. It takes all its memory before.
-#[tactic(auto, using(crate::proofs::PlayerLemmas::settled_size))]
 pub fn write_redacted<O: Write, P: Write>(
     alloc: Global,
     recording: Recording,
@@ -188,14 +186,13 @@ pub fn write_redacted<O: Write, P: Write>(
         (used P.contents out_timing.old out_timing.new) in
         JobEnds writers (Job.Redact player) (done_redacting player text.now recording) result }
 {
-    match player {
-        Player::Vt(profile) => write_cleared::<vt_term::Terminal, O, P>(
-            alloc, recording, profile, text, out, out_timing,
+    match set_up(player, &recording) {
+        Setup::Vt(profile) => write_cleared::<vt_term::Terminal, O, P>(
+            alloc, recording, player, profile, text, out, out_timing,
         ),
-        Player::Today(asked) => {
-            let size = played_size(asked, &recording);
+        Setup::Today(size) => {
             write_cleared::<xterm_term::Terminal, O, P>(
-                alloc, recording, size, text, out, out_timing,
+                alloc, recording, player, size, text, out, out_timing,
             )
         }
     }
@@ -205,6 +202,7 @@ pub fn write_redacted<O: Write, P: Write>(
 fn write_cleared<T: Answers, O: Write, P: Write>(
     alloc: Global,
     recording: Recording,
+    player: Player,
     profile: T::Profile,
     text: &[char],
     out: &mut Watched<O>,
@@ -212,12 +210,12 @@ fn write_cleared<T: Answers, O: Write, P: Write>(
 ) -> Result<Ending, JobFault>
     requires out { has_failed out.old ≡ false }
     requires out_timing { has_failed out_timing.old ≡ false }
-    ensures { (player : Played) → settled player recording ≡ T.player profile
-        → (let writers = writers_of (used O.contents out.old out.new)
+    requires played { played_of player recording ≡ T.played profile }
+    ensures { let writers = writers_of (used O.contents out.old out.new)
         (used P.contents out_timing.old out_timing.new) in
-        JobEnds writers (Job.Redact player) (done_redacting player text.now recording) result) }
+        JobEnds writers (Job.Redact player) (done_redacting player text.now recording) result }
 {
-    let cleared = clear::<T>(alloc, recording, profile, text)?;
+    let cleared = clear::<T>(alloc, recording, player, profile, text)?;
     let mut cleared = ManuallyDrop::new(cleared);
     let found = finds(alloc, &mut cleared.session, None, LAST_MOMENT, text)?;
     write_pair(cleared.session.recording(), out, out_timing)?;
@@ -237,13 +235,14 @@ struct Cleared<T: Answers> {
 fn clear<T: Answers>(
     alloc: Global,
     recording: Recording,
+    player: Player,
     profile: T::Profile,
     text: &[char],
 ) -> Result<Cleared<T>, JobFault>
     ensures session { IfOk result (λ cleared. cleared.session
         ≡ opened profile (without_text text.now recording) most_every) }
     ensures count { IfOk result (λ cleared. cleared.count ≡ count_of_text text.now recording) }
-    ensures fit { IfOk result (λ cleared. cleared.fit ≡ is_fit text.now recording) }
+    ensures fit { IfOk result (λ cleared. cleared.fit ≡ is_fit player text.now recording) }
     ensures fault { IfErr result (λ fault. fault ≡ JobFault.Memory) }
 {
     let recording = ManuallyDrop::new(recording);
@@ -253,7 +252,7 @@ fn clear<T: Answers>(
     let Ok(redaction) = redact_recording(alloc, &recording, text.as_bytes()) else {
         return Err(JobFault::Memory);
     };
-    let fit = is_fit(&recording, &redaction);
+    let fit = is_fit(player, &recording, &redaction);
     let count = redaction.count;
     let session = open_session::<T>(alloc, redaction.recording, EVERY, profile)?;
     Ok(Cleared {
@@ -264,14 +263,37 @@ fn clear<T: Answers>(
 }
 
 /// Whether what is seen of a redaction of this recording without playing it is well.
-fn is_fit(recording: &Recording, redaction: &Redaction) -> bool
+fn is_fit(player: Player, recording: &Recording, redaction: &Redaction) -> bool
     ensures { let made = redaction.now.recording in
-        result ≡ (nat_lt 0 redaction.now.count
-        && (is_same_size (told_size recording.now) (told_size made) && is_usual made.trailer)) }
+        result ≡ (nat_lt 0 redaction.now.count && (keeps_profile player recording.now made
+        && (is_same_size (told_size recording.now) (told_size made) && is_usual made.trailer))) }
 {
     redaction.count > 0
+        && keeps_profile(player, recording, &redaction.recording)
         && tells_same(recording, &redaction.recording)
         && is_usual(redaction.recording.trailer())
+}
+
+/// Whether a recording with the other header is played by the same terminal, where the headers say which one.
+fn keeps_profile(player: Player, old: &Recording, new: &Recording) -> bool
+    ensures { result ≡ keeps_profile player old.now new.now }
+{
+    match player {
+        Player::Vt(_) | Player::Today(_) => true,
+        Player::Auto(_) => is_same_profile(told_profile(old), told_profile(new)),
+    }
+}
+
+/// Whether two headers tell the same profile, or neither does.
+fn is_same_profile(old: Option<Profile>, new: Option<Profile>) -> bool
+    ensures { result ≡ is_same_profile old new }
+{
+    match (old, new) {
+        (None, None) => true,
+        (Some(Profile::Vt100), Some(Profile::Vt100)) => true,
+        (Some(Profile::Vt102), Some(Profile::Vt102)) => true,
+        _ => false,
+    }
 }
 
 /// Characters in UTF-8.

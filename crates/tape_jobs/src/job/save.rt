@@ -7,7 +7,7 @@ ghost use Rattle.tape_seek.specs.Requests.{request};
 ghost use Rattle.tape_jobs.specs.Endings.{JobEnds, used, writers_of};
 ghost use Rattle.tape_jobs.specs.Output.{saved_by};
 ghost use Rattle.tape_jobs.specs.Requests.{StopsEditing, course_after, course_of, edit_asked, refusal_of, saved};
-ghost use Rattle.command_line.specs.declared.player.Player.TheVariants.{Vt};
+ghost use Rattle.tape_check.specs.declared.played.PlayedAs.TheVariants.{Vt};
 
 use crate::job::{Ending, JobFault};
 use crate::shared::{EVERY, make_edit, open_session};

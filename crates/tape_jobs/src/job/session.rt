@@ -9,13 +9,13 @@ ghost use Rattle.tape_seek.specs.State.{least_every, most_every};
 ghost use Rattle.tape_seek.specs.WrittenLog.{log_text};
 ghost use Rattle.tape_jobs.specs.Endings.{JobGives, JobPuts};
 ghost use Rattle.tape_jobs.specs.Output.{ending_by};
-ghost use Rattle.tape_jobs.specs.Player.{changes_of, settled};
+ghost use Rattle.tape_jobs.specs.Player.{changes_of, played_of};
 ghost use Rattle.tape_jobs.specs.Requests.{after_judging, course_after, course_of, started};
 ghost use Rattle.tape_jobs.specs.Session.{answer, answered, any_refused, edit_answer, ended, is_refused, refusal};
 
 use crate::answers::{Answers, Asked, Question};
 use crate::job::{Ending, JobFault};
-use crate::player::played_size;
+use crate::player::{Setup, set_up};
 use crate::shared::{make_edit, name_of, open_session, put_info, put_line};
 use command_line::Player;
 use std::alloc::Global;
@@ -40,17 +40,16 @@ pub fn write_answers<O: Write>(
 ) -> Result<Ending, JobFault>
     requires { has_failed out.old ≡ false }
     ensures puts { JobPuts O.contents out.old out.new
-        (answered (started (settled player recording) recording) (lines_of requests.now)) result }
+        (answered (started (played_of player recording) recording) (lines_of requests.now)) result }
     ensures ending { IfOk result (λ ending. ending ≡ ending_by
-        (any_refused (started (settled player recording) recording) (lines_of requests.now))) }
+        (any_refused (started (played_of player recording) recording) (lines_of requests.now))) }
     ensures flushed { OnOk result (is_flushed out.new ≡ true) }
 {
-    match player {
-        Player::Vt(profile) => {
+    match set_up(player, &recording) {
+        Setup::Vt(profile) => {
             put_answers::<vt_term::Terminal, O>(alloc, recording, profile, every, requests, out)
         }
-        Player::Today(asked) => {
-            let size = played_size(asked, &recording);
+        Setup::Today(size) => {
             put_answers::<xterm_term::Terminal, O>(alloc, recording, size, every, requests, out)
         }
     }
@@ -67,9 +66,9 @@ fn put_answers<T: Answers, O: Write>(
 ) -> Result<Ending, JobFault>
     requires { has_failed out.old ≡ false }
     ensures puts { JobPuts O.contents out.old out.new
-        (answered (started (T.player profile) recording) (lines_of requests.now)) result }
+        (answered (started (T.played profile) recording) (lines_of requests.now)) result }
     ensures ending { IfOk result (λ ending. ending ≡ ending_by
-        (any_refused (started (T.player profile) recording) (lines_of requests.now))) }
+        (any_refused (started (T.played profile) recording) (lines_of requests.now))) }
     ensures flushed { OnOk result (is_flushed out.new ≡ true) }
 {
     let session = open_session::<T>(alloc, recording, in_range(every), profile)?;
@@ -108,9 +107,9 @@ fn answer_all<T: Answers, O: Write>(
 ) -> Result<bool, JobFault>
     requires { has_failed out.old ≡ false }
     ensures puts { JobPuts O.contents out.old out.new
-        (answered (course_of T.player session.old) (lines_of requests.now)) result }
+        (answered (course_of T.played session.old) (lines_of requests.now)) result }
     ensures refused { IfOk result (λ refused. refused
-        ≡ any_refused (course_of T.player session.old) (lines_of requests.now)) }
+        ≡ any_refused (course_of T.played session.old) (lines_of requests.now)) }
 {
     let mut rest = requests;
     let mut refused = false;
@@ -134,11 +133,11 @@ fn answer_line<T: Answers, O: Write>(
 ) -> Result<bool, JobFault>
     requires { has_failed out.old ≡ false }
     ensures gives { JobGives O.contents out.old out.new
-        (answer (course_of T.player session.old) (request line.now)) result }
+        (answer (course_of T.played session.old) (request line.now)) result }
     ensures refused { IfOk result (λ refused. refused
-        ≡ is_refused (course_of T.player session.old) (request line.now)) }
-    ensures course { OnOk result (course_of T.player session.new
-        ≡ course_after (course_of T.player session.old) (request line.now)) }
+        ≡ is_refused (course_of T.played session.old) (request line.now)) }
+    ensures course { OnOk result (course_of T.played session.new
+        ≡ course_after (course_of T.played session.old) (request line.now)) }
 {
     match read_line(alloc, line) {
         Ok(Request::Nothing) => {}
@@ -174,8 +173,8 @@ fn answer_edit<T: Answers, O: Write>(
     ensures unwritten { OnErr result (out.new ≡ out.old) }
     ensures refused { IfOk result (λ refused. refused
         ≡ is_some (edit_fault session.old.recording edit)) }
-    ensures course { OnOk result (course_of T.player session.new
-        ≡ after_judging (course_of T.player session.old) edit (edit_fault session.old.recording edit)) }
+    ensures course { OnOk result (course_of T.played session.new
+        ≡ after_judging (course_of T.played session.old) edit (edit_fault session.old.recording edit)) }
 {
     let fault = make_edit(session, edit)?;
     match fault {
@@ -202,8 +201,8 @@ fn put_changes<T: Answers, O: Write>(
 ) -> Result<(), JobFault>
     requires { has_failed out.old ≡ false }
     ensures gives { JobGives O.contents out.old out.new
-        (ended (changes_of (T.player session.old.profile) session.old.recording from to)) result }
-    ensures stays { course_of T.player session.new ≡ course_of T.player session.old }
+        (ended (changes_of (T.played session.old.profile) session.old.recording from to)) result }
+    ensures stays { course_of T.played session.new ≡ course_of T.played session.old }
 {
     T::put_changes(alloc, session, from, to, out)?;
     out.give(b"end\n");

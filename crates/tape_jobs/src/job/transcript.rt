@@ -3,11 +3,12 @@
 ghost use Rattle.std.specs.Prelude.{◌≡◌, false, true, OnOk};
 ghost use Rattle.tape_core.specs.Devices.{has_failed, is_flushed};
 ghost use Rattle.tape_jobs.specs.Endings.{JobPuts};
+ghost use Rattle.tape_jobs.specs.Player.{played_of};
 ghost use Rattle.tape_jobs.specs.Texts.{transcript_of};
 ghost use Rattle.transcripts.specs.Transcript.{transcript};
 
 use crate::job::JobFault;
-use crate::player::played_size;
+use crate::player::{Setup, set_up};
 use command_line::Player;
 use screen_transcript::Transcriber;
 use std::alloc::Global;
@@ -17,7 +18,7 @@ use transcripts::{Transcribes, transcript};
 use xterm_transcript::Transcriber as TodaysTranscriber;
 
 /// Writes the transcript, and flushes. Where memory is refused, a beginning of it has gone out.
-#[tactic(auto, using(crate::proofs::PlayerLemmas::transcript_settled), unfolding(crate::specs::Texts::transcript_of))]
+#[tactic(auto, using(crate::proofs::PlayerLemmas::transcript_of_size), unfolding(crate::specs::Texts::transcript_of))]
 pub fn write_transcript<O: Write>(
     alloc: Global,
     recording: &Recording,
@@ -28,15 +29,14 @@ pub fn write_transcript<O: Write>(
 ) -> Result<(), JobFault>
     requires { has_failed out.old ≡ false }
     ensures puts { JobPuts O.contents out.old out.new
-        (transcript_of player recording.now from to) result }
+        (transcript_of (played_of player recording.now) recording.now from to) result }
     ensures flushed { OnOk result (is_flushed out.new ≡ true) }
 {
-    match player {
-        Player::Vt(profile) => {
+    match set_up(player, recording) {
+        Setup::Vt(profile) => {
             write_rows::<Transcriber, O>(alloc, recording, profile, from, to, out)
         }
-        Player::Today(asked) => {
-            let size = played_size(asked, recording);
+        Setup::Today(size) => {
             write_rows::<TodaysTranscriber, O>(alloc, recording, size, from, to, out)
         }
     }

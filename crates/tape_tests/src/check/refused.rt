@@ -51,6 +51,7 @@ fn checked(
         rt.alloc(),
         recording,
         PlayedAs::Vt(Profile::Vt100),
+        0,
         &mut writer,
     );
     assert!(rt; !writer.failed());

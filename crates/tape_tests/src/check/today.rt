@@ -4,7 +4,7 @@ use std::alloc::Global;
 use std::process::Abort;
 use std::rt::Runtime;
 use std::test::Fail;
-use tape_check::{PlayedAs, put_parts};
+use tape_check::{PlayedAs, put_parts, write_check};
 use tape_core::Watched;
 
 /// A terminal of 90 columns and 30 lines.
@@ -217,7 +217,7 @@ fn whoever_plays_it_gets_no_advice(rt: HostRuntime) -> Result<(), Fail> {
     let header = b"Script started on X [TERM=\"dumb\" COLUMNS=\"80\" LINES=\"24\"]";
     let recording = recorded(&rt, header, b"ab", b"")?;
     let mut writer = Watched::new(Vec::new(rt.alloc()));
-    let told = put_parts(&recording, TODAY, &mut writer);
+    let told = put_parts(&recording, TODAY, 0, &mut writer);
     assert_eq!(&rt;
         (told, str::from_utf8(writer.into_inner().as_slice())),
         (
@@ -225,6 +225,27 @@ fn whoever_plays_it_gets_no_advice(rt: HostRuntime) -> Result<(), Fail> {
             Ok(
                 "typetool: note: size: recorded at 80x24, played at 90x30; term: recorded under dumb, played as xterm (see typetool check)\n"
             )
+        )
+    );
+    Ok(())
+}
+
+#[test]
+fn changes_of_size_that_were_left_out_are_told(rt: HostRuntime) -> Result<(), Fail> {
+    let recording = recorded(&rt, PLAIN, b"ab", b"")?;
+    let mut writer = Watched::new(Vec::new(rt.alloc()));
+    let noted = write_check(rt.alloc(), &recording, TODAY, 2, &mut writer);
+    assert_eq!(&rt;
+        (noted, str::from_utf8(writer.into_inner().as_slice())),
+        (Ok(true), Ok("started X\nnote resizes: 2 left out\n"))
+    );
+    let mut writer = Watched::new(Vec::new(rt.alloc()));
+    let told = put_parts(&recording, TODAY, 2, &mut writer);
+    assert_eq!(&rt;
+        (told, str::from_utf8(writer.into_inner().as_slice())),
+        (
+            Ok(true),
+            Ok("typetool: note: resizes: 2 left out (see typetool check)\n")
         )
     );
     Ok(())

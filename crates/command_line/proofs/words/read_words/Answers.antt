@@ -8,8 +8,8 @@ returns-in-Ok-clause-meaning c =
     let s = c.subcommand_of-subcommand.result.0 in
     let rows = rows_of (found_of c.subcommand_of-subcommand.result.1.now) in
     means (map string_bytes c.args.words.now) s rows (sym c.in_ok-matches.ensures.met ∙ c.subcommand_of-subcommand.ensures)
-    ∙ ap (λ m. Some m) (means_job s rows c.in-Ok.job c.in_ok-text-in-Ok.text.items
-    (map string_bytes c.in_ok-paths-in-Ok.paths.items) (sym c.in-Ok.ensures) c.in_ok-text-in-Ok.ensures c.in_ok-paths-in-Ok.ensures.paths)
+    ∙ ap (λ m. Some m) (means_job s rows c.in-Ok.job c.in_ok-text-in-Ok.text.items c.read_source-source.result
+    (map string_bytes c.in_ok-paths-in-Ok.paths.items) (sym c.in-Ok.ensures) c.in_ok-text-in-Ok.ensures c.read_source-source.ensures c.in_ok-paths-in-Ok.ensures.paths)
 
 pub returns-in-Ok-clause-paths : goal.returns-in-Ok-clause-paths
 returns-in-Ok-clause-paths c =

@@ -1,4 +1,6 @@
 use Rattle.std.proofs.Common.{◌≡◌, ap, sym, inl, inr, ◌∙◌, refl, rules, subst, true≢false, Some, None, Err}
+use Rattle.std.specs.Option.{option_map}
+use Rattle.command_line.specs.declared.player.Source.TheVariants.{Pair}
 use Rattle.tape_core.proofs.DeviceLemmas.{took_none}
 use Rattle.tape_jobs.specs.Endings.{JobEnds, RunEnds, readers_of, used, writers_of}
 use Rattle.tape_jobs.specs.Mending.{remains_of}
@@ -6,7 +8,7 @@ use Rattle.tape_jobs.specs.Output.{done_importing, done_mending, done_on, outcom
 use Rattle.tape_jobs.specs.Output.Remade.{Foreign, Remnants}
 use Rattle.command_line.specs.declared.job.Job.TheVariants.{Import, Mend}
 use Rattle.tape_jobs.specs.declared.job.JobFault.TheVariants.{File}
-use Rattle.tape_jobs.proofs.JobLemmas.{IsBefore, comes_read, comes_refused, ends_performed, ends_ungiven, ends_unread}
+use Rattle.tape_jobs.proofs.JobLemmas.{IsBefore, comes_read, comes_refused, ends_performed, ends_ungiven, ends_unread, fault_so, read_so}
 use Rattle.tape_jobs.proofs.ImportLemmas.{is_import, job_formless, job_imported}
 use Rattle.tape_jobs.proofs.MendLemmas.{comes_remade, comes_unmended, is_mend}
 use Rattle.tape_jobs.proofs.NoteLemmas.{ended_after}
@@ -14,7 +16,7 @@ use Rattle.tape_jobs.proofs.job.run_with.Goals as goal
 
 pub returns-in-Ok-clause-ends : goal.returns-in-Ok-clause-ends
 returns-in-Ok-clause-ends g c =
-    let readers = readers_of (used g.S.Read.remaining c.args.script.now c.read_remains.new.script)
+    let readers = readers_of Pair (used g.S.Read.remaining c.args.script.now c.read_remains.new.script)
     (used g.T.Read.remaining c.args.timing.now c.read_remains.new.timing)
     (used g.R.Read.remaining c.args.requests.now c.args.requests.now) c.args.text.now in
     let writers = writers_of (used g.O.Write.contents c.args.out.now c.write_remains.new.out)
@@ -41,7 +43,7 @@ returns-in-Ok-clause-ends g c =
 
 pub returns-in-Err-clause-ends : goal.returns-in-Err-clause-ends
 returns-in-Err-clause-ends g c =
-    let readers = readers_of (used g.S.Read.remaining c.args.script.now c.read_remains.new.script)
+    let readers = readers_of Pair (used g.S.Read.remaining c.args.script.now c.read_remains.new.script)
     (used g.T.Read.remaining c.args.timing.now c.read_remains.new.timing)
     (used g.R.Read.remaining c.args.requests.now c.args.requests.now) c.args.text.now in
     let writers = writers_of (used g.O.Write.contents c.args.out.now c.args.out.now)
@@ -65,7 +67,7 @@ returns-in-Err-clause-ends g c =
 
 pub returns-in-Ok-read_imported-clause-ends : goal.returns-in-Ok-read_imported-clause-ends
 returns-in-Ok-read_imported-clause-ends g c =
-    let readers = readers_of (used g.S.Read.remaining c.args.script.now c.read_imported.new.recording)
+    let readers = readers_of Pair (used g.S.Read.remaining c.args.script.now c.read_imported.new.recording)
     (used g.T.Read.remaining c.args.timing.now c.args.timing.now)
     (used g.R.Read.remaining c.args.requests.now c.args.requests.now) c.args.text.now in
     let writers = writers_of (used g.O.Write.contents c.args.out.now c.write_imported.new.out)
@@ -90,7 +92,7 @@ returns-in-Ok-read_imported-clause-ends g c =
 
 pub returns-in-Err-read_imported-clause-ends : goal.returns-in-Err-read_imported-clause-ends
 returns-in-Err-read_imported-clause-ends g c =
-    let readers = readers_of (used g.S.Read.remaining c.args.script.now c.read_imported.new.recording)
+    let readers = readers_of Pair (used g.S.Read.remaining c.args.script.now c.read_imported.new.recording)
     (used g.T.Read.remaining c.args.timing.now c.args.timing.now)
     (used g.R.Read.remaining c.args.requests.now c.args.requests.now) c.args.text.now in
     let writers = writers_of (used g.O.Write.contents c.args.out.now c.args.out.now)
@@ -118,9 +120,10 @@ returns-in-Ok-read_files-clause-ends g c =
     let given = c.in-Ok-read_files.given in
     let reading : remakes c.args.job ≡ None = search rules in
     rw c.outcome_in-in-Ok-read_files.ensures
-    (ends_performed before (done_on c.args.job given.recording given.requests.items c.args.text.now)
-    (λ files held. comes_read given.recording given.requests.items reading files held (
-      c.in-Ok-read_files.ensures.ok files.script files.timing held.script held.timing,
+    (ends_performed before (done_on c.args.job given.recording given.resizes given.requests.items c.args.text.now)
+    (λ files held. comes_read given.recording given.resizes given.requests.items reading files held (
+      read_so files Pair given.recording given.resizes held.source
+          (c.in-Ok-read_files.ensures.ok files.script files.timing held.script held.timing, c.in-Ok-read_files.ensures.resizes),
       λ takes. c.in-Ok-read_files.ensures.requests takes files.requests (held.requests takes),
     ))
     (c.in-Ok-read_files.ensures.sound (λ e. absurd (cc))) c.in-Ok-read_files.ensures.alone c.perform.ensures.alone
@@ -137,8 +140,9 @@ returns-in-Err-read_files-clause-ends g c =
     let reading : remakes c.args.job ≡ None = search rules in
     rw c.outcome_in-in-Err-read_files.ensures
     (ends_unread before c.in-Err-read_files.fault
-    (λ unstopped files held. comes_refused c.args.job files c.in-Err-read_files.fault reading
-    (unread.fault unstopped files.script files.timing held.script held.timing))
+    (λ unstopped files held. comes_refused c.args.job files (File c.in-Err-read_files.fault) reading
+    (fault_so files Pair (File c.in-Err-read_files.fault) held.source
+    (ap (option_map (λ f. File f)) (unread.fault unstopped files.script files.timing held.script held.timing))))
     (λ other. unread.sound (λ e. other (cc))) unread.read_fault unread.no_write_fault unread.alone (refl, refl))
 
 pub returns-in-Ok-read_files-clause-noted : goal.returns-in-Ok-read_files-clause-noted
@@ -147,10 +151,12 @@ returns-in-Ok-read_files-clause-noted g c =
     rw c.outcome_in-in-Ok-read_files.ensures (record {
       told = λ was player plays files held. (
         given.recording,
-        c.in-Ok-read_files.ensures.ok files.script files.timing held.script held.timing,
+        given.resizes,
+        read_so files Pair given.recording given.resizes held.source
+            (c.in-Ok-read_files.ensures.ok files.script files.timing held.script held.timing, c.in-Ok-read_files.ensures.resizes),
         c.tell_note.ensures.told player plays,
       );
       silent = c.tell_note.ensures.silent;
       unread = λ e. absurd (true≢false
-          (sym (ended_after c.args.job given.recording given.requests.items c.args.text.now _ c.perform.result c.perform.ensures.ends) ∙ e));
+          (sym (ended_after c.args.job given.recording given.resizes given.requests.items c.args.text.now _ c.perform.result c.perform.ensures.ends) ∙ e));
     })

@@ -1,4 +1,3 @@
-use Rattle.std.proofs.lemmas.Result.{err_from_is_err_and}
 use Rattle.tape_core.proofs.GaveLemmas.{took_gave}
 use Rattle.tape_jobs.proofs.job.import.tell.Goals as goal
 

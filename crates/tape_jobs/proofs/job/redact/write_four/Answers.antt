@@ -7,4 +7,4 @@ pub returns-in_err-cleared : goal.returns-in_err-cleared
 returns-in_err-cleared g c =
     let p = err_from_is_err_and c.from_residual.result c.from_residual.ensures.1 in
     rw (p.1, p.2)
-    (λ player settles. inl (c.in_err-cleared.ensures.fault, inl (inl (part_none _ _ _ c.requires.out, refl), refl, refl)))
+    (inl (c.in_err-cleared.ensures.fault, inl (inl (part_none _ _ _ c.requires.out, refl), refl, refl)))

@@ -4,7 +4,7 @@ use Rattle.std.proofs.lemmas.List.{nil_from_length}
 use Rattle.tape_core.specs.Text.{lines_of}
 use Rattle.tape_jobs.specs.Requests.{course_of, saved}
 use Rattle.tape_jobs.proofs.RequestLemmas.{saved_all, saved_next, saved_refused}
-use Rattle.command_line.specs.declared.player.Player.TheVariants.{Vt}
+use Rattle.tape_check.specs.declared.played.PlayedAs.TheVariants.{Vt}
 use Rattle.tape_jobs.proofs.job.save.edit_all.Goals as goal
 
 pub returns-clause-ok : goal.returns-clause-ok

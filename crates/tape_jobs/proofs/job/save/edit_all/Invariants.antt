@@ -1,7 +1,7 @@
 use Rattle.std.proofs.Common.{◌≡◌, ◌+◌, ◌≤◌, length}
 use Rattle.tape_core.specs.Text.{lines_of}
 use Rattle.tape_jobs.specs.Requests.{course_of, saved}
-use Rattle.command_line.specs.declared.player.Player.TheVariants.{Vt}
+use Rattle.tape_check.specs.declared.played.PlayedAs.TheVariants.{Vt}
 use Rattle.tape_jobs.proofs.job.save.edit_all.Given as goal
 
 -- the lines so far are done, and the rest decides

@@ -11,13 +11,13 @@ use Rattle.tape_jobs.proofs.SessionLemmas.{answered_all, answered_more, answers_
 use Rattle.tape_jobs.proofs.job.session.answer_all.Goals as goal
 
 pub loop-rest-init : goal.loop-rest-init
-loop-rest-init g c = nothing_answered g.O.Write.contents c.args.out.now (course_of g.T.Answers.player c.args.session.now) (lines_of c.args.requests.now) c.requires
+loop-rest-init g c = nothing_answered g.O.Write.contents c.args.out.now (course_of g.T.Answers.played c.args.session.now) (lines_of c.args.requests.now) c.requires
 
 pub loop-rest-preserved : goal.loop-rest-preserved
 loop-rest-preserved g c =
     let line = c.in_ok-is_refused in
     answered_more c.answer_line.new.out (lines_of c.next_line.result.1.now) c.next_line.result.0.now
-    (course_of g.T.Answers.player c.answer_line.new.session) line.is_refused c.loop-rest.invariant
+    (course_of g.T.Answers.played c.answer_line.new.session) line.is_refused c.loop-rest.invariant
     c.next_line.ensures.lines line.ensures.course line.ensures.refused
     (λ x took. c.in_ok-ask.ensures.puts _ _ (gave_join _ _ _ _ x _ (took_gave _ _ _ x c.requires took) line.ensures.gives))
 
