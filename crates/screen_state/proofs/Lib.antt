@@ -11,4 +11,4 @@ mod Remade
 mod TextLemmas
 mod SizeLemmas
 mod ProfileLemmas
-mod Cutting
+pub mod Cutting

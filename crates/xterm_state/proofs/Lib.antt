@@ -14,3 +14,4 @@ mod Reached
 mod Remade
 mod SizeLemmas
 mod TextLemmas
+pub mod Cutting

@@ -1,6 +1,9 @@
 -- What a state text makes of a terminal.
-use Rattle.std.specs.Prelude.{◌≡◌, ℕ, ◌+◌, ◌*◌, ◌≤◌, not, List, [], length}
+use Rattle.std.specs.Prelude.{◌≡◌, ℕ, ◌+◌, ◌*◌, ◌≤◌, not, List, [], length, unwrap_or}
 use Rattle.std.specs.List.{count_by}
+use Rattle.vt_parser.specs.declared.commands.Mode.TheVariants.{Ansi}
+use Rattle.vt_parser.specs.declared.states.ParserState.TheVariants.{Ground}
+use Rattle.vt_parser.specs.View.{parser_view}
 use Rattle.xterm_term.specs.Console.{Console}
 use Rattle.xterm_term.specs.Seen.{Seen, Shows}
 use Rattle.xterm_term.specs.Size.{IsSize}
@@ -13,6 +16,12 @@ use Rattle.xterm_state.specs.StateText.{state_text}
 abbrev pub ComesOfReset : Term → Type 0
 ComesOfReset y =
     (columns : ℕ) × (lines : ℕ) × (bytes : List ℕ) × IsSize columns lines × (y ≡ play (reset_term columns lines) bytes)
+
+-- the state text of the term that the reset one of a size comes to by some bytes
+abbrev pub text_after : ℕ → ℕ → List ℕ → List ℕ
+text_after columns lines bytes =
+    let x = play (reset_term columns lines) bytes in
+    state_text x.console (unwrap_or (parser_view Ansi x.sequence) Ground) x.character
 
 -- The state text of such a term makes any term of its size, whatever is pending there, one of which the same is seen,
 -- and sends nothing.

@@ -6,5 +6,7 @@ mod closing;
 pub mod laws;
 mod opening;
 mod state_print;
+mod today_state;
 
 pub use state_print::state;
+pub use today_state::TodayState;
