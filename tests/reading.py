@@ -1,17 +1,18 @@
 #!/usr/bin/env python3
 """Sees that docs/READING.md and docs/READING_TODAY.md list just the definitions that the headline rests on,
 docs/READING_FIND.md and docs/READING_FIND_TODAY.md those that *nowhere means nowhere* does, docs/READING_TRANSCRIPT.md
-those that a transcript does, and docs/READING_STATE.md those that the laws of the state text do.
+those that a transcript does, and docs/READING_STATE.md those that the laws of the state text and of cuts do.
 
     tests/reading.py [--write]
 
 The lists are computed: every name that a clause of `Session::seek` cites, every name that those definitions cite, and
 so on, by the `use` lines of the specs/ folders; for the terminal of today, what the ghost members cite by which it
 plays, for find its clause `nowhere`, for a transcript its clauses with the rows that leave and stand, and for the
-state text its laws, each without what the lists have that it builds on. A record, a data type and its constructors
-count as one; so does a type of the code that the definitions speak of. With --write a page gets its lists anew, a row
-for each file with the names that it has: the headings and their order stay, names that went are dropped, new ones
-stand behind the definition that stands before them in their file, and one that moved to another file keeps its place.
+state text its laws, with those of cuts and the texts that stand in their place, each without what the lists have that
+it builds on. A record, a data type and its constructors count as one; so does a type of the code that the definitions
+speak of. With --write a page gets its lists anew, a row for each file with the names that it has: the headings and
+their order stay, names that went are dropped, new ones stand behind the definition that stands before them in their
+file, and one that moved to another file keeps its place.
 """
 import glob
 import itertools
@@ -28,6 +29,7 @@ FIND_TODAY = "docs/READING_FIND_TODAY.md"
 TRANSCRIPT = "docs/READING_TRANSCRIPT.md"
 STATE = "docs/READING_STATE.md"
 STATE_CRATES = ("screen_state", "xterm_state")
+STATE_TEXTS = ("screen_state/src/vt_state", "xterm_state/src/today_state")
 NAME = r"[^\W\d]\w*(?:\.\w+)*"
 USE = re.compile(r"^\s*(?:ghost )?use (Rattle\.[\w.]+?)(?:\.\{([^}]*)\}| as (\w+))?;?$", re.M)
 HEAD = re.compile(r"^(?:abbrev |unfoldable )?pub (?:record |data )?(\w+)", re.M)
@@ -223,11 +225,18 @@ def rows_told(path):
     return path, text, " ".join(re.findall(r"^    ghost (?:leaving|standing) = \{.*?\};", text, re.M | re.S))
 
 
-def laws_of_state(crate):
-    """The file of a crate's laws of the state text, and what they say."""
+def laws_of(crate):
+    """The file of a crate's laws, and what they say."""
     path = f"crates/{crate}/src/laws.rt"
     text = read(path)
-    return path, text, " ".join(re.findall(r"^    ensures \{.*?\}$", text, re.M | re.S))
+    return path, text, " ".join(re.findall(r"^    ensures (?:\w+ )?\{.*?\}$", text, re.M | re.S))
+
+
+def text_for_cuts(file):
+    """The file that has a terminal's state text for cuts, and which text that is."""
+    path = f"crates/{file}.rt"
+    text = read(path)
+    return path, text, re.search(r"^    ghost text = \{.*?\};", text, re.M | re.S)[0]
 
 
 def rests_on(*contracts):
@@ -320,7 +329,7 @@ def pages():
     rows = (rows_told(f"crates/{crate}/src/transcribes.rt") for crate in ("screen_transcript", "xterm_transcript"))
     more, book = rests_on(contract_of_transcript(), *rows)
     yield TRANSCRIPT, {key: one for key, one in more.items() if key not in found and key not in today}, book
-    more, book = rests_on(*map(laws_of_state, STATE_CRATES))
+    more, book = rests_on(*map(laws_of, [*STATE_CRATES, "tape_cut"]), *map(text_for_cuts, STATE_TEXTS))
     yield STATE, {key: one for key, one in more.items() if key not in found and key not in today}, book
 
 
