@@ -25,7 +25,7 @@ use Rattle.command_line.specs.declared.job.Job.TheVariants as jobs
 use Rattle.command_line.specs.declared.player.Source.{Source}
 use Rattle.command_line.specs.declared.words.table.Argument.{Argument}
 use Rattle.command_line.specs.declared.words.table.Subcommand.{Subcommand}
-use Rattle.command_line.specs.declared.words.table.Subcommand.TheVariants.{Due, Save, Mend, Import, Redact}
+use Rattle.command_line.specs.declared.words.table.Subcommand.TheVariants.{Due, Save, Cut, Excerpt, Mend, Import, Redact}
 use Rattle.command_line.specs.declared.words.values.Unreadable.{Unreadable}
 use Rattle.command_line.specs.declared.words.values.Unreadable.TheVariants as unread
 
@@ -202,6 +202,7 @@ fails_unread words unread.Profile taken meant = (taken, meant)
 fails_unread words unread.Size taken meant = (taken, meant)
 fails_unread words unread.Text taken meant = (taken, meant)
 fails_unread words unread.Headers taken meant = (taken, meant)
+fails_unread words unread.Prints taken meant = (taken, meant)
 
 -- whatever job is read, it has at most so many paths
 abbrev HasFew : Result Job Unreadable → ℕ → Type 0
@@ -226,6 +227,8 @@ at_most_four job = lit≤ tt
 pub enough_paths : (s : Subcommand) (rows : List Row) → HasFew (job_in s rows) (length (paths_in s))
 unfolding paths_in job_in
 enough_paths Save rows = λ job e. at_most_four job
+enough_paths Cut rows = λ job e. at_most_four job
+enough_paths Excerpt rows = λ job e. at_most_four job
 enough_paths Mend rows = λ job e. at_most_four job
 enough_paths Redact rows = λ job e. at_most_four job
 enough_paths s rows = search (few_after, few_of, lit≤) depth 12 fits 20000

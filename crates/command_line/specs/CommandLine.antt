@@ -24,11 +24,11 @@ use Rattle.command_line.specs.declared.player.Print.TheVariants as print
 use Rattle.command_line.specs.declared.player.Print.TheVariants.{Plain}
 use Rattle.command_line.specs.declared.words.Words.{Words}
 use Rattle.command_line.specs.declared.words.WordsFault.{WordsFault}
-use Rattle.command_line.specs.declared.words.WordsFault.TheVariants.{Clap, Memory, BadSeconds, BadEvery, BadProfile, BadSize, BadText, BothHeaders}
+use Rattle.command_line.specs.declared.words.WordsFault.TheVariants.{Clap, Memory, BadSeconds, BadEvery, BadProfile, BadSize, BadText, BothHeaders, BothPrints}
 use Rattle.command_line.specs.declared.words.table.Argument.{Argument}
-use Rattle.command_line.specs.declared.words.table.Argument.TheVariants.{At, From, To, Until, Every, Profile, Size, Escaped, Last, Headless, Title, Sought, Secret, Script, Timing, AnyTiming, Recording, Recorded, ItsTiming, NewScript, NewTiming}
+use Rattle.command_line.specs.declared.words.table.Argument.TheVariants.{At, From, To, Until, CutFrom, CutTo, KeptFrom, KeptTo, Every, Profile, Size, Escaped, State, Last, Headless, Title, Sought, Secret, Script, Timing, AnyTiming, Recording, Recorded, ItsTiming, NewScript, NewTiming}
 use Rattle.command_line.specs.declared.words.table.Subcommand.{Subcommand}
-use Rattle.command_line.specs.declared.words.table.Subcommand.TheVariants.{Due, Info, Check, Screen, Picture, Transcript, Changes, Find, Reports, Page, Cast, Save, Mend, Import, Redact, Session}
+use Rattle.command_line.specs.declared.words.table.Subcommand.TheVariants.{Due, Info, Check, Screen, Picture, Transcript, Changes, Find, Reports, Page, Cast, Save, Cut, Excerpt, Mend, Import, Redact, Session}
 use Rattle.command_line.specs.declared.words.values.Unreadable.{Unreadable}
 use Rattle.command_line.specs.declared.words.values.Unreadable.TheVariants as unread
 use Rattle.tape_mend.specs.declared.opening.Header.{Header}
@@ -41,7 +41,7 @@ use Rattle.vt_term.specs.declared.profile.Profile.TheVariants.{Vt100, Vt102}
 
 -- the subcommands, in the order in which help tells them (ours)
 abbrev pub subcommands_in_order : List Subcommand
-subcommands_in_order = Due ∷ Info ∷ Check ∷ Screen ∷ Picture ∷ Transcript ∷ Changes ∷ Find ∷ Reports ∷ Page ∷ Cast ∷ Save ∷ Mend ∷ Import ∷ Redact ∷ Session ∷ []
+subcommands_in_order = Due ∷ Info ∷ Check ∷ Screen ∷ Picture ∷ Transcript ∷ Changes ∷ Find ∷ Reports ∷ Page ∷ Cast ∷ Save ∷ Cut ∷ Excerpt ∷ Mend ∷ Import ∷ Redact ∷ Session ∷ []
 
 -- the name of a subcommand (ours)
 unfoldable pub name_in : Subcommand → Text
@@ -57,6 +57,8 @@ name_in Reports = codes "reports"
 name_in Page = codes "page"
 name_in Cast = codes "cast"
 name_in Save = codes "save"
+name_in Cut = codes "cut"
+name_in Excerpt = codes "excerpt"
 name_in Mend = codes "mend"
 name_in Import = codes "import"
 name_in Redact = codes "redact"
@@ -67,7 +69,7 @@ unfoldable pub flags_in : Subcommand → List Argument
 flags_in Due = At ∷ []
 flags_in Info = []
 flags_in Check = Profile ∷ Size ∷ []
-flags_in Screen = At ∷ Escaped ∷ Profile ∷ Size ∷ []
+flags_in Screen = At ∷ Escaped ∷ State ∷ Profile ∷ Size ∷ []
 flags_in Picture = At ∷ Profile ∷ Size ∷ []
 flags_in Transcript = From ∷ Until ∷ Profile ∷ Size ∷ []
 flags_in Changes = From ∷ To ∷ Profile ∷ Size ∷ []
@@ -76,6 +78,8 @@ flags_in Reports = At ∷ Profile ∷ Size ∷ []
 flags_in Page = Profile ∷ Size ∷ Title ∷ []
 flags_in Cast = Profile ∷ Size ∷ []
 flags_in Save = []
+flags_in Cut = CutFrom ∷ CutTo ∷ Profile ∷ Size ∷ []
+flags_in Excerpt = KeptFrom ∷ KeptTo ∷ Profile ∷ Size ∷ []
 flags_in Mend = Last ∷ Headless ∷ []
 flags_in Import = []
 flags_in Redact = Profile ∷ Size ∷ []
@@ -90,6 +94,8 @@ texts_in _ = []
 -- the paths of a subcommand, in the line's order (ours)
 unfoldable pub paths_in : Subcommand → List Argument
 paths_in Save = Script ∷ Timing ∷ NewScript ∷ NewTiming ∷ []
+paths_in Cut = Script ∷ Timing ∷ NewScript ∷ NewTiming ∷ []
+paths_in Excerpt = Script ∷ Timing ∷ NewScript ∷ NewTiming ∷ []
 paths_in Mend = Script ∷ AnyTiming ∷ NewScript ∷ NewTiming ∷ []
 paths_in Import = Recording ∷ NewScript ∷ NewTiming ∷ []
 paths_in Redact = Script ∷ Timing ∷ NewScript ∷ NewTiming ∷ []
@@ -101,10 +107,15 @@ id_in At = codes "at"
 id_in From = codes "from"
 id_in To = codes "to"
 id_in Until = codes "to"
+id_in CutFrom = codes "from"
+id_in CutTo = codes "to"
+id_in KeptFrom = codes "from"
+id_in KeptTo = codes "to"
 id_in Every = codes "every"
 id_in Profile = codes "profile"
 id_in Size = codes "size"
 id_in Escaped = codes "escaped"
+id_in State = codes "state"
 id_in Last = codes "last"
 id_in Headless = codes "headless"
 id_in Title = codes "title"
@@ -146,10 +157,15 @@ rule_in At = seconds_rule (id_in At)
 rule_in From = optional_rule (id_in From)
 rule_in To = seconds_rule (id_in To)
 rule_in Until = optional_rule (id_in Until)
+rule_in CutFrom = seconds_rule (id_in CutFrom)
+rule_in CutTo = seconds_rule (id_in CutTo)
+rule_in KeptFrom = optional_rule (id_in KeptFrom)
+rule_in KeptTo = optional_rule (id_in KeptTo)
 rule_in Every = optional_rule (id_in Every)
 rule_in Profile = optional_rule (id_in Profile)
 rule_in Size = optional_rule (id_in Size)
 rule_in Escaped = switch_rule (id_in Escaped)
+rule_in State = switch_rule (id_in State)
 rule_in Last = switch_rule (id_in Last)
 rule_in Headless = switch_rule (id_in Headless)
 rule_in Title = optional_rule (id_in Title)
@@ -200,6 +216,14 @@ moment_or_last given = unwrap_or given last_moment
 
 abbrev pub moment_or_last_in : Text → List Row → Result ℕ Unreadable
 moment_or_last_in id rows = after (moment_given_in id rows) (λ given. Ok (moment_or_last given))
+
+-- the moment that a flag gives, in microseconds, and the first moment there is, if it isn't given: no chunk is due before
+-- then (ours)
+abbrev pub moment_or_first : Option ℕ → ℕ
+moment_or_first given = unwrap_or given 0
+
+abbrev pub moment_or_first_in : Text → List Row → Result ℕ Unreadable
+moment_or_first_in id rows = after (moment_given_in id rows) (λ given. Ok (moment_or_first given))
 
 -- the number, if so many chunks may lie between stored terminals: from 1 to 1,000,000 (ours)
 abbrev pub every_allowed : ℕ → Option ℕ
@@ -281,10 +305,12 @@ player_by source (Some name) size =
 abbrev pub player_in : List Row → Result Player Unreadable
 player_in rows = player_by (source_in rows) (first_of (id_in Profile) rows) (first_of (id_in Size) rows)
 
--- how a screen is printed, by whether `--escaped` is given (ours)
-abbrev pub print_by : Bool → Player → Print
-print_by false player = Plain player
-print_by true player = print.Escaped player
+-- how a screen is printed, by whether `--escaped` and `--state` are given: they exclude each other (ours)
+abbrev pub print_by : Bool → Bool → Player → Result Print Unreadable
+print_by false false player = Ok (Plain player)
+print_by true false player = Ok (print.Escaped player)
+print_by false true player = Ok (print.State player)
+print_by true true player = Err unread.Prints
 
 -- whether these characters can be looked for: one of them isn't a space, and none is a control character, below U+0020
 -- or from U+007F to U+009F (ours)
@@ -330,7 +356,8 @@ job_in Info rows = Ok job.Info
 job_in Check rows = after (player_in rows) (λ player. Ok (job.Check player))
 job_in Screen rows =
     after (moment_in (id_in At) rows) (λ at. after (player_in rows) (λ player.
-    Ok (job.Screen at (print_by (switch_in (id_in Escaped) rows) player))))
+    after (print_by (switch_in (id_in Escaped) rows) (switch_in (id_in State) rows) player) (λ how.
+    Ok (job.Screen at how))))
 job_in Picture rows =
     after (moment_in (id_in At) rows) (λ at. after (player_in rows) (λ player.
     Ok (job.Picture at player)))
@@ -350,6 +377,12 @@ job_in Reports rows =
 job_in Page rows = after (player_in rows) (λ player. Ok (job.Page player))
 job_in Cast rows = after (player_in rows) (λ player. Ok (job.Cast player))
 job_in Save rows = Ok job.Save
+job_in Cut rows =
+    after (moment_in (id_in CutFrom) rows) (λ from. after (moment_in (id_in CutTo) rows) (λ to.
+    after (player_in rows) (λ player. Ok (job.Cut from to player))))
+job_in Excerpt rows =
+    after (moment_or_first_in (id_in KeptFrom) rows) (λ from. after (moment_given_in (id_in KeptTo) rows) (λ to.
+    after (player_in rows) (λ player. Ok (job.Excerpt from to player))))
 job_in Mend rows = after (header_in rows) (λ how. Ok (job.Mend how))
 job_in Import rows = Ok job.Import
 job_in Redact rows =
@@ -458,6 +491,8 @@ meaning_read words =
 -- how many paths a job has (ours)
 abbrev pub path_count : Job → ℕ
 path_count job.Save = 4
+path_count (job.Cut from to player) = 4
+path_count (job.Excerpt from to player) = 4
 path_count (job.Mend how) = 4
 path_count job.Import = 3
 path_count (job.Redact player) = 4
@@ -467,6 +502,7 @@ path_count _ = 2
 abbrev pub player_of : Print → Player
 player_of (Plain player) = player
 player_of (print.Escaped player) = player
+player_of (print.State player) = player
 
 -- which terminal plays the recording for a job, if it plays it (ours)
 abbrev pub played_by : Job → Option Player
@@ -478,6 +514,8 @@ played_by (job.Find from to player) = Some player
 played_by (job.Reports at player) = Some player
 played_by (job.Page player) = Some player
 played_by (job.Cast player) = Some player
+played_by (job.Cut from to player) = Some player
+played_by (job.Excerpt from to player) = Some player
 played_by (job.Redact player) = Some player
 played_by (job.Session every player) = Some player
 played_by _ = None
@@ -490,6 +528,7 @@ fault_of_unread unread.Profile = BadProfile
 fault_of_unread unread.Size = BadSize
 fault_of_unread unread.Text = BadText
 fault_of_unread unread.Headers = BothHeaders
+fault_of_unread unread.Prints = BothPrints
 
 -- clap reads these words, and this of them isn't readable (ours)
 abbrev pub IsUnreadable : List Text → Unreadable → Type 0
@@ -497,8 +536,8 @@ IsUnreadable words fault =
     (clap_faults words ≡ []) × (meaning_of_words words ≡ Some (Err fault))
 
 -- why words aren't a job: clap finds a fault of that kind in them and doesn't promise to take them, or it reads them
--- and some seconds aren't readable, or the number of chunks, the profile, the size, or the text, or two headers are
--- asked for; memory may always be refused (ours)
+-- and some seconds aren't readable, or the number of chunks, the profile, the size, or the text, or two headers or
+-- two texts of a screen are asked for; memory may always be refused (ours)
 abbrev pub FailsFor : List Text → WordsFault → Type 0
 FailsFor words (Clap e) = IsAmong (kind_of e) (clap_faults words) × (clap_takes words ≡ false)
 FailsFor words Memory = Unit {0}
@@ -508,3 +547,4 @@ FailsFor words BadProfile = IsUnreadable words unread.Profile
 FailsFor words BadSize = IsUnreadable words unread.Size
 FailsFor words BadText = IsUnreadable words unread.Text
 FailsFor words BothHeaders = IsUnreadable words unread.Headers
+FailsFor words BothPrints = IsUnreadable words unread.Prints

@@ -19,7 +19,7 @@ pub enum Job {
     Check {
         player: Player,
     },
-    /// Write the screen of a moment as plain text, or as a text that draws it again.
+    /// Write the screen of a moment as plain text, as a text that draws it again, or as one that makes a terminal what it was.
     Screen {
         at: u64,
         print: Print,
@@ -65,6 +65,20 @@ pub enum Job {
     },
     /// Make the edits of request lines, and write both files anew.
     Save,
+    /// Write both files anew without what is due after `from` and by `to`: in its place stands a text that makes the
+    /// terminal what it was at `to`.
+    Cut {
+        from: u64,
+        to: u64,
+        player: Player,
+    },
+    /// Write both files anew with what is due after `from` and by `to` (None: up to the end) alone, behind a text that makes
+    /// the terminal what it was at `from`.
+    Excerpt {
+        from: u64,
+        to: Option<u64>,
+        player: Player,
+    },
     /// Write both files anew of all that can be read of them, in whatever state they are.
     Mend {
         header: Header,
@@ -97,6 +111,8 @@ impl Job {
             | Job::Reports { player, .. }
             | Job::Page { player }
             | Job::Cast { player }
+            | Job::Cut { player, .. }
+            | Job::Excerpt { player, .. }
             | Job::Redact { player }
             | Job::Session { player, .. } => Some(player),
             Job::Due { .. }
@@ -114,6 +130,6 @@ fn player_of(print: Print) -> Player
     ensures { result ≡ player_of print }
 {
     match print {
-        Print::Plain(player) | Print::Escaped(player) => player,
+        Print::Plain(player) | Print::Escaped(player) | Print::State(player) => player,
     }
 }

@@ -40,6 +40,8 @@ pub enum Print {
     Plain(Player),
     /// As a text that draws it again on a reset terminal of the same kind and size.
     Escaped(Player),
+    /// As a text that makes any terminal of the same kind and size what it was.
+    State(Player),
 }
 
 /// Whether a measure is within the limits of a screen.

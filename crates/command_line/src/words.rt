@@ -59,6 +59,9 @@ pub enum WordsFault {
     /// Both flags are given that say which header mending takes.
     #[error("--last and --headless exclude each other")]
     BothHeaders,
+    /// Both flags are given that ask for a text of a screen.
+    #[error("--state and --escaped exclude each other")]
+    BothPrints,
 }
 
 impl From<AllocError> for WordsFault {
@@ -109,6 +112,7 @@ fn fault_of_unread(unread: Unreadable) -> WordsFault
         Unreadable::Size => WordsFault::BadSize,
         Unreadable::Text => WordsFault::BadText,
         Unreadable::Headers => WordsFault::BothHeaders,
+        Unreadable::Prints => WordsFault::BothPrints,
     }
 }
 

@@ -84,7 +84,7 @@ fn arg_of<'a>(alloc: Global, argument: Argument) -> Arg<'a>
     ensures local { result.global ≡ false }
 {
     match argument {
-        Argument::At | Argument::To => required_flag(
+        Argument::At | Argument::To | Argument::CutFrom | Argument::CutTo => required_flag(
             alloc,
             id_of(argument),
             value_name_of(argument),
@@ -92,6 +92,8 @@ fn arg_of<'a>(alloc: Global, argument: Argument) -> Arg<'a>
         ),
         Argument::From
         | Argument::Until
+        | Argument::KeptFrom
+        | Argument::KeptTo
         | Argument::Every
         | Argument::Profile
         | Argument::Size
@@ -101,7 +103,7 @@ fn arg_of<'a>(alloc: Global, argument: Argument) -> Arg<'a>
             value_name_of(argument),
             help_of(argument),
         ),
-        Argument::Escaped | Argument::Last | Argument::Headless => {
+        Argument::Escaped | Argument::State | Argument::Last | Argument::Headless => {
             switch(alloc, id_of(argument), help_of(argument))
         }
         Argument::ItsTiming => optional_positional(

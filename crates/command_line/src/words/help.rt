@@ -30,6 +30,9 @@ pub fn about_of<'a>(subcommand: Subcommand) -> &'a str {
         Subcommand::Cast => "Write the recording as an asciicast, version 2",
         Subcommand::Save =>
             "Make the edits that standard input asks for, and write both files anew",
+        Subcommand::Cut => "Leave out what is due between two moments, and write both files anew",
+        Subcommand::Excerpt =>
+            "Keep only what is due between two moments, and write both files anew",
         Subcommand::Mend =>
             "Write both files anew of all that can be read of them, and tell what was lost",
         Subcommand::Import =>
@@ -49,6 +52,39 @@ const SAVE_DETAILS: &str =
     them where a line is refused (status 1; the line's number and its fault are told, and the help of\n\
     session lists the faults).\n\n\
     Example: echo 'cap 2' | typetool save demo.script demo.timing new.script new.timing\n\n\
+    The long form: man typetool";
+
+/// What `cut` does, its use, and what it can't do.
+const CUT_DETAILS: &str =
+    "What is due after --from and by --to is left out. In its place stands, due at --from, a text that makes\n\
+    the terminal what it was at --to (as by screen --state), so that nothing that follows shows the cut: the\n\
+    screen before --from is as it was, and from --from on it is that of --to and later. The other chunks,\n\
+    first line and trailer keep their bytes. Where --to isn't after --from, the same recording is written.\n\n\
+    This holds for the terminal and the size that were asked for. What stood on the screen at --to still\n\
+    stands in that text, so a secret wants redact (and find). What the bytes left out asked of the terminal\n\
+    is no more among its reports. What is due at 0 can't be left out.\n\n\
+    Both new files are created before anything is read, and must not exist. Nothing is written into them\n\
+    where there would be too many chunks or bytes (status 1: E4 TooManyChunks, E5 TooManyBytes).\n\n\
+    Find tells the moments, and page shows what became of it:\n\
+    typetool find 'make: ***' demo.script demo.timing\n\
+    typetool cut --from 12.5 --to 60 demo.script demo.timing new.script new.timing\n\
+    typetool page new.script new.timing >new.html\n\n\
+    The long form: man typetool";
+
+/// What `excerpt` does, its use, and what it can't do.
+const EXCERPT_DETAILS: &str =
+    "What is due after --from and by --to is kept. Before it stands, due at 0, a text that makes the terminal\n\
+    what it was at --from (as by screen --state): the new recording shows from its start on what the old one\n\
+    did from --from on, and ends as it was at --to. Kept chunks, first line and trailer keep their bytes.\n\n\
+    This holds for the terminal and the size that were asked for. What stood on the screen at --from still\n\
+    stands in that text, so a secret wants redact (and find). What the bytes left out asked of the terminal\n\
+    is no more among its reports.\n\n\
+    Both new files are created before anything is read, and must not exist. Nothing is written into them\n\
+    where there would be too many chunks or bytes (status 1: E4 TooManyChunks, E5 TooManyBytes).\n\n\
+    Find tells the moments, and page shows what became of it:\n\
+    typetool find 'make: ***' demo.script demo.timing\n\
+    typetool excerpt --from 12.5 --to 60 demo.script demo.timing new.script new.timing\n\
+    typetool page new.script new.timing >new.html\n\n\
     The long form: man typetool";
 
 /// The requests of `session`, and its status.
@@ -188,6 +224,10 @@ const INFO_DETAILS: &str =
 const SCREEN_DETAILS: &str =
     "UTF-8, without the spaces at the ends of lines. With --escaped a text for a terminal, without a\n\
     last line feed, that draws size, characters, renditions and cursor again.\n\n\
+    With --state a text that makes a terminal of this kind and size what it was at the moment, whatever\n\
+    that terminal is and whatever is unfinished in it: besides what --escaped draws a pending wrap, margins,\n\
+    tab stops, modes, character sets, what is saved, LEDs, the bytes of an unfinished sequence, and of xterm\n\
+    both screens and the last character. It asks for no report.\n\n\
     Example: typetool screen --at 12.5 demo.script demo.timing\n\n\
     The long form: man typetool";
 
@@ -236,6 +276,8 @@ pub fn details_of<'a>(subcommand: Subcommand) -> &'a str {
         Subcommand::Page => PAGE_DETAILS,
         Subcommand::Cast => CAST_DETAILS,
         Subcommand::Save => SAVE_DETAILS,
+        Subcommand::Cut => CUT_DETAILS,
+        Subcommand::Excerpt => EXCERPT_DETAILS,
         Subcommand::Mend => MEND_DETAILS,
         Subcommand::Import => IMPORT_DETAILS,
         Subcommand::Redact => REDACT_DETAILS,
@@ -246,11 +288,18 @@ pub fn details_of<'a>(subcommand: Subcommand) -> &'a str {
 /// What help calls the value of an argument.
 pub fn value_name_of<'a>(argument: Argument) -> &'a str {
     match argument {
-        Argument::At | Argument::From | Argument::To | Argument::Until => "SECONDS",
+        Argument::At
+        | Argument::From
+        | Argument::To
+        | Argument::Until
+        | Argument::CutFrom
+        | Argument::CutTo
+        | Argument::KeptFrom
+        | Argument::KeptTo => "SECONDS",
         Argument::Every => "CHUNKS",
         Argument::Profile => "PROFILE",
         Argument::Size => "CxL",
-        Argument::Escaped | Argument::Last | Argument::Headless => "",
+        Argument::Escaped | Argument::State | Argument::Last | Argument::Headless => "",
         Argument::Title | Argument::Sought | Argument::Secret => "TEXT",
         Argument::Script | Argument::Recorded => "SCRIPT",
         Argument::Timing | Argument::AnyTiming | Argument::ItsTiming => "TIMING",
@@ -271,6 +320,13 @@ pub fn help_of<'a>(argument: Argument) -> &'a str {
         Argument::To => "Only chunks that are due by this moment",
         Argument::Until =>
             "Only chunks that are due by this moment; all up to the last, if not given",
+        Argument::CutFrom =>
+            "The moment after which chunks are left out: those that are due at it stay",
+        Argument::CutTo =>
+            "The last moment that is left out: chunks that are due by it go, later ones stay",
+        Argument::KeptFrom =>
+            "The moment after which chunks are kept, and at which the new recording begins; 0, if not given",
+        Argument::KeptTo => "The moment by which chunks are kept; all up to the last, if not given",
         Argument::Every => {
             "A terminal is kept at every so many chunks, from 1 to 1000000 (100 if not given): fewer chunks \
              between terminals take more memory, and more take longer to go back"
@@ -286,6 +342,9 @@ pub fn help_of<'a>(argument: Argument) -> &'a str {
         }
         Argument::Escaped => {
             "Write a text that draws the screen again on a reset terminal, with renditions and sizes"
+        }
+        Argument::State => {
+            "Write a text that makes any terminal of this kind and size what it was, in all that it keeps"
         }
         Argument::Last => {
             "Begin at the last line that begins with 'Script started on ', for a typescript that was appended \

@@ -18,6 +18,8 @@ pub enum Subcommand {
     Page,
     Cast,
     Save,
+    Cut,
+    Excerpt,
     Mend,
     Import,
     Redact,
@@ -35,6 +37,14 @@ pub enum Argument {
     To,
     /// The moment by which they are, where it may be left out.
     Until,
+    /// The moment after which chunks are cut out.
+    CutFrom,
+    /// The moment by which they are.
+    CutTo,
+    /// The moment after which chunks are kept, where it may be left out.
+    KeptFrom,
+    /// The moment by which they are, where it may be left out.
+    KeptTo,
     /// How many chunks lie between stored terminals.
     Every,
     /// Which terminal plays.
@@ -43,6 +53,8 @@ pub enum Argument {
     Size,
     /// A text that draws the screen again is asked for.
     Escaped,
+    /// A text that makes any terminal what it was is asked for.
+    State,
     /// The last session of the typescript is asked for.
     Last,
     /// The typescript has no header.
@@ -72,7 +84,7 @@ pub enum Argument {
 }
 
 /// The subcommands, in the order in which help tells them.
-pub fn subcommands() -> [Subcommand; 16]
+pub fn subcommands() -> [Subcommand; 18]
     ensures { result ≡ subcommands_in_order }
 {
     [
@@ -88,6 +100,8 @@ pub fn subcommands() -> [Subcommand; 16]
         Subcommand::Page,
         Subcommand::Cast,
         Subcommand::Save,
+        Subcommand::Cut,
+        Subcommand::Excerpt,
         Subcommand::Mend,
         Subcommand::Import,
         Subcommand::Redact,
@@ -113,6 +127,8 @@ pub fn name_of<'a>(subcommand: Subcommand) -> &'a str
         Subcommand::Page => "page",
         Subcommand::Cast => "cast",
         Subcommand::Save => "save",
+        Subcommand::Cut => "cut",
+        Subcommand::Excerpt => "excerpt",
         Subcommand::Mend => "mend",
         Subcommand::Import => "import",
         Subcommand::Redact => "redact",
@@ -134,6 +150,7 @@ pub fn flags_of(subcommand: Subcommand) -> &'static [Argument]
         Subcommand::Screen => &[
             Argument::At,
             Argument::Escaped,
+            Argument::State,
             Argument::Profile,
             Argument::Size,
         ],
@@ -146,6 +163,18 @@ pub fn flags_of(subcommand: Subcommand) -> &'static [Argument]
         Subcommand::Transcript | Subcommand::Find => &[
             Argument::From,
             Argument::Until,
+            Argument::Profile,
+            Argument::Size,
+        ],
+        Subcommand::Cut => &[
+            Argument::CutFrom,
+            Argument::CutTo,
+            Argument::Profile,
+            Argument::Size,
+        ],
+        Subcommand::Excerpt => &[
+            Argument::KeptFrom,
+            Argument::KeptTo,
             Argument::Profile,
             Argument::Size,
         ],
@@ -176,7 +205,7 @@ pub fn paths_of(subcommand: Subcommand) -> &'static [Argument]
     ensures { result.now ≡ paths_in subcommand }
 {
     match subcommand {
-        Subcommand::Save | Subcommand::Redact => &[
+        Subcommand::Save | Subcommand::Cut | Subcommand::Excerpt | Subcommand::Redact => &[
             Argument::Script,
             Argument::Timing,
             Argument::NewScript,
@@ -204,12 +233,13 @@ pub fn id_of<'a>(argument: Argument) -> &'a str
 {
     match argument {
         Argument::At => "at",
-        Argument::From => "from",
-        Argument::To | Argument::Until => "to",
+        Argument::From | Argument::CutFrom | Argument::KeptFrom => "from",
+        Argument::To | Argument::Until | Argument::CutTo | Argument::KeptTo => "to",
         Argument::Every => "every",
         Argument::Profile => "profile",
         Argument::Size => "size",
         Argument::Escaped => "escaped",
+        Argument::State => "state",
         Argument::Last => "last",
         Argument::Headless => "headless",
         Argument::Title => "title",

@@ -5,8 +5,8 @@ ghost use Rattle.std.specs.Option.{option_map};
 ghost use Rattle.std.specs.Char.{is_control};
 ghost use Rattle.std.specs.List.{list_all, list_any};
 ghost use Rattle.clap.specs.Words.{first_of, found_of, rows_of};
-ghost use Rattle.command_line.specs.CommandLine.{every_allowed, every_in, every_of, header_in, id_in, is_auto, is_searchable, is_secret, is_today, job_in, player_in, print_by, source_in, unnamed_player, size_cut, size_if, size_named, vt_if, moment_in, moment_given_in, moment_or_last_in, paths_in, profile_named, stem_of, switch_in, text_in, title_in, value_in};
-ghost use Rattle.command_line.specs.declared.words.table.Subcommand.TheVariants.{Find as find, Redact as redact, Screen as screen, Transcript as transcript};
+ghost use Rattle.command_line.specs.CommandLine.{every_allowed, every_in, every_of, header_in, id_in, is_auto, is_searchable, is_secret, is_today, job_in, player_in, print_by, source_in, unnamed_player, size_cut, size_if, size_named, vt_if, moment_in, moment_given_in, moment_or_first_in, moment_or_last_in, paths_in, profile_named, stem_of, switch_in, text_in, title_in, value_in};
+ghost use Rattle.command_line.specs.declared.words.table.Subcommand.TheVariants.{Excerpt as excerpt, Find as find, Redact as redact, Screen as screen, Transcript as transcript};
 
 use super::table::{Argument, Subcommand, id_of, paths_of};
 use crate::job::Job;
@@ -39,6 +39,8 @@ pub enum Unreadable {
     Text,
     /// Which header mending takes: both flags that say it are given.
     Headers,
+    /// How a screen is printed: both flags that ask for a text are given.
+    Prints,
 }
 
 /// The job that a subcommand's values mean.
@@ -77,6 +79,12 @@ pub fn read_job(subcommand: Subcommand, values: &ArgMatches<'_>) -> Result<Job, 
             player: read_player(values)?,
         }),
         Subcommand::Save => Ok(Job::Save),
+        Subcommand::Cut => Ok(Job::Cut {
+            from: read_moment(values, Argument::CutFrom)?,
+            to: read_moment(values, Argument::CutTo)?,
+            player: read_player(values)?,
+        }),
+        Subcommand::Excerpt => read_excerpt(values),
         Subcommand::Mend => Ok(Job::Mend {
             header: read_header(values)?,
         }),
@@ -116,6 +124,14 @@ fn read_moment_or_last(values: &ArgMatches<'_>, flag: Argument) -> Result<u64, U
     Ok(given.unwrap_or(LAST_MOMENT))
 }
 
+/// The moment that a flag gives, in microseconds, and the first moment there is, where it isn't given.
+fn read_moment_or_first(values: &ArgMatches<'_>, flag: Argument) -> Result<u64, Unreadable>
+    ensures { result ≡ moment_or_first_in (id_in flag) (rows_of (found_of values.now)) }
+{
+    let given = read_moment_given(values, flag)?;
+    Ok(given.unwrap_or(0))
+}
+
 /// The job `screen` that the values mean.
 #[tactic(auto, unfolding(crate::specs::CommandLine::job_in))]
 fn read_screen(values: &ArgMatches<'_>) -> Result<Job, Unreadable>
@@ -123,7 +139,8 @@ fn read_screen(values: &ArgMatches<'_>) -> Result<Job, Unreadable>
 {
     let at = read_moment(values, Argument::At)?;
     let player = read_player(values)?;
-    let print = print_by(is_given(values, Argument::Escaped), player);
+    let escaped = is_given(values, Argument::Escaped);
+    let print = print_by(escaped, is_given(values, Argument::State), player)?;
     Ok(Job::Screen { at, print })
 }
 
@@ -154,6 +171,21 @@ fn read_find(values: &ArgMatches<'_>) -> Result<Job, Unreadable>
         return Err(Unreadable::Text);
     }
     Ok(Job::Find { from, to, player })
+}
+
+/// The job `excerpt` that the values mean.
+#[tactic(auto, unfolding(crate::specs::CommandLine::job_in))]
+fn read_excerpt(values: &ArgMatches<'_>) -> Result<Job, Unreadable>
+    ensures { result ≡ job_in excerpt (rows_of (found_of values.now)) }
+{
+    let first = read_moment_or_first(values, Argument::KeptFrom)?;
+    let last = read_moment_given(values, Argument::KeptTo)?;
+    let player = read_player(values)?;
+    Ok(Job::Excerpt {
+        from: first,
+        to: last,
+        player,
+    })
 }
 
 /// The job `redact` that the values mean.
@@ -346,13 +378,14 @@ fn size_cut(text: &[u8], cross: usize) -> Option<Measure>
 }
 
 /// How a screen is printed.
-fn print_by(escaped: bool, player: Player) -> Print
-    ensures { result ≡ print_by escaped player }
+fn print_by(escaped: bool, state: bool, player: Player) -> Result<Print, Unreadable>
+    ensures { result ≡ print_by escaped state player }
 {
-    if escaped {
-        Print::Escaped(player)
-    } else {
-        Print::Plain(player)
+    match (escaped, state) {
+        (false, false) => Ok(Print::Plain(player)),
+        (true, false) => Ok(Print::Escaped(player)),
+        (false, true) => Ok(Print::State(player)),
+        (true, true) => Err(Unreadable::Prints),
     }
 }
 
