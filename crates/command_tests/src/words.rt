@@ -6,6 +6,7 @@ use std::test::Fail;
 use vt_term::Profile;
 
 mod alone;
+mod cuts;
 mod every;
 mod find;
 mod flags;

@@ -1,4 +1,4 @@
-//! The flags `--profile` and `--escaped`, and with which subcommands they go.
+//! The flags `--profile`, `--escaped` and `--state`, and with which subcommands they go.
 use super::{changes, compare_job, compare_left, picture, reports, screen, told, words_of};
 use command_line::{Job, Player, Print};
 use std::test::Fail;
@@ -32,6 +32,70 @@ fn reads_profiles_and_the_escaped_print(rt: HostRuntime) -> Result<(), Fail> {
     ];
     for (line, job) in &rows {
         compare_job(&rt, line, *job)?;
+    }
+    Ok(())
+}
+
+/// The text of a state, of each kind of terminal.
+#[test]
+fn reads_the_state_of_a_screen(rt: HostRuntime) -> Result<(), Fail> {
+    for (line, player) in [
+        (
+            "typetool screen --at=1 --state s t",
+            Player::Vt(Profile::Vt100),
+        ),
+        (
+            "typetool screen --profile=vt102 s --state t --at=1",
+            Player::Vt(Profile::Vt102),
+        ),
+        (
+            "typetool screen --at=1 --profile=xterm --state -- s t",
+            Player::Today(None),
+        ),
+        (
+            "typetool screen --at=1 --profile=auto --state s t",
+            Player::Auto(None),
+        ),
+    ] {
+        let print = Print::State(player);
+        compare_job(
+            &rt,
+            line,
+            Job::Screen {
+                at: 1_000_000,
+                print,
+            },
+        )?;
+    }
+    Ok(())
+}
+
+/// Behind the faults of the moment and of the terminal.
+#[test]
+fn both_texts_of_a_screen_exclude_each_other(rt: HostRuntime) -> Result<(), Fail> {
+    for (flags, wanted) in [
+        (
+            "--at=1 --escaped --state",
+            "--state and --escaped exclude each other",
+        ),
+        (
+            "--state --profile=xterm --at=1 --escaped",
+            "--state and --escaped exclude each other",
+        ),
+        ("--at= --escaped --state", "bad seconds"),
+        (
+            "--at=1 --escaped --state --profile=vt220",
+            "bad profile: vt100, vt102, xterm or auto",
+        ),
+        (
+            "--at=1 --escaped --state --size=80x24",
+            "bad size: 2x1 to 1000x500, with --profile xterm",
+        ),
+    ] {
+        let line = format!(in rt.alloc(); "typetool screen {flags} s t")?;
+        let words = words_of(rt.alloc(), line.as_str())?;
+        let told = told(rt.alloc(), words.as_slice())?;
+        assert_eq!(rt; told.as_str(), wanted, "{line:?}");
     }
     Ok(())
 }
@@ -99,6 +163,13 @@ fn leaves_misplaced_flags_to_clap(rt: HostRuntime) -> Result<(), Fail> {
         "typetool page --escaped s t",
         "typetool session --escaped s t",
         "typetool screen --at=1 --escaped=true s t",
+        "typetool screen --at=1 --state=true s t",
+        "typetool screen --at=1 --state --state s t",
+        "typetool screen --state s t",
+        "typetool changes --to=1 --state s t",
+        "typetool picture --at=1 --state s t",
+        "typetool page --state s t",
+        "typetool session --state s t",
         "typetool screen --at=1 --profile=vt100 --profile=vt100 s t",
     ] {
         compare_left(&rt, line)?;
