@@ -56,35 +56,36 @@ const SAVE_DETAILS: &str =
 
 /// What `cut` does, its use, and what it can't do.
 const CUT_DETAILS: &str =
-    "What is due after --from and by --to is left out. In its place stands, due at --from, a text that makes\n\
-    the terminal what it was at --to (as by screen --state), so that nothing that follows shows the cut: the\n\
-    screen before --from is as it was, and from --from on it is that of --to and later. The other chunks,\n\
-    first line and trailer keep their bytes. Where --to isn't after --from, the same recording is written.\n\n\
-    This holds for the terminal and the size that were asked for. What stood on the screen at --to still\n\
-    stands in that text, so a secret wants redact (and find). What the bytes left out asked of the terminal\n\
-    is no more among its reports. What is due at 0 can't be left out.\n\n\
-    Both new files are created before anything is read, and must not exist. Nothing is written into them\n\
-    where there would be too many chunks or bytes (status 1: E4 TooManyChunks, E5 TooManyBytes).\n\n\
-    Find tells the moments, and page shows what became of it:\n\
-    typetool find 'make: ***' demo.script demo.timing\n\
-    typetool cut --from 12.5 --to 60 demo.script demo.timing new.script new.timing\n\
-    typetool page new.script new.timing >new.html\n\n\
+    "What is due after --from and by --to is left out. In its place stands, due at --from, a text that makes the\n\
+    terminal what it was at --to (as by screen --state), so that the cut doesn't show: before --from the screen\n\
+    is as it was, and from --from on as it was from --to on. The other chunks, the first line and what stands\n\
+    behind the chunks keep their bytes. Where --to isn't after --from, the same recording is written.\n\n\
+    This holds for the terminal and the size that are asked for. What stood on the screen at --to still stands\n\
+    in that text, so a secret wants redact (and find). Among the reports those are missing that the bytes left\n\
+    out asked for. What is due at 0 can't be left out.\n\n\
+    Both new files are created before anything is read, and must not exist. Nothing is written into them where\n\
+    there would be too many chunks or bytes (status 1: E4 TooManyChunks or E5 TooManyBytes is told).\n\n\
+    Find tells the moments, and a page shows what became of it:\n\n\
+    Example: typetool find password: demo.script demo.timing\n\
+    Example: typetool cut --from 12.5 --to 60 demo.script demo.timing new.script new.timing\n\
+    Example: typetool page new.script new.timing >new.html\n\n\
     The long form: man typetool";
 
 /// What `excerpt` does, its use, and what it can't do.
 const EXCERPT_DETAILS: &str =
-    "What is due after --from and by --to is kept. Before it stands, due at 0, a text that makes the terminal\n\
+    "Only what is due after --from and by --to is kept. Before it stands, due at 0, a text that makes the terminal\n\
     what it was at --from (as by screen --state): the new recording shows from its start on what the old one\n\
-    did from --from on, and ends as it was at --to. Kept chunks, first line and trailer keep their bytes.\n\n\
-    This holds for the terminal and the size that were asked for. What stood on the screen at --from still\n\
-    stands in that text, so a secret wants redact (and find). What the bytes left out asked of the terminal\n\
-    is no more among its reports.\n\n\
-    Both new files are created before anything is read, and must not exist. Nothing is written into them\n\
-    where there would be too many chunks or bytes (status 1: E4 TooManyChunks, E5 TooManyBytes).\n\n\
-    Find tells the moments, and page shows what became of it:\n\
-    typetool find 'make: ***' demo.script demo.timing\n\
-    typetool excerpt --from 12.5 --to 60 demo.script demo.timing new.script new.timing\n\
-    typetool page new.script new.timing >new.html\n\n\
+    showed from --from on, and ends as that was at --to. Kept chunks, the first line and what stands behind the\n\
+    chunks keep their bytes.\n\n\
+    This holds for the terminal and the size that are asked for. What stood on the screen at --from still stands\n\
+    in that text, so a secret wants redact (and find). Among the reports those are missing that the bytes left\n\
+    out asked for.\n\n\
+    Both new files are created before anything is read, and must not exist. Nothing is written into them where\n\
+    there would be too many chunks or bytes (status 1: E4 TooManyChunks or E5 TooManyBytes is told).\n\n\
+    Find tells the moments, and a page shows what became of it:\n\n\
+    Example: typetool find 'make test' demo.script demo.timing\n\
+    Example: typetool excerpt --from 12.5 --to 60 demo.script demo.timing new.script new.timing\n\
+    Example: typetool page new.script new.timing >new.html\n\n\
     The long form: man typetool";
 
 /// The requests of `session`, and its status.
@@ -224,10 +225,10 @@ const INFO_DETAILS: &str =
 const SCREEN_DETAILS: &str =
     "UTF-8, without the spaces at the ends of lines. With --escaped a text for a terminal, without a\n\
     last line feed, that draws size, characters, renditions and cursor again.\n\n\
-    With --state a text that makes a terminal of this kind and size what it was at the moment, whatever\n\
-    that terminal is and whatever is unfinished in it: besides what --escaped draws a pending wrap, margins,\n\
-    tab stops, modes, character sets, what is saved, LEDs, the bytes of an unfinished sequence, and of xterm\n\
-    both screens and the last character. It asks for no report.\n\n\
+    With --state a text that makes any terminal of this kind and size what this one was at the moment,\n\
+    whatever it shows and whatever is unfinished in it: besides what --escaped draws also a pending wrap,\n\
+    margins, tab stops, modes, character sets, what is saved, LEDs, an unfinished sequence, and of xterm both\n\
+    screens and the last character. It asks for no report. --state and --escaped exclude each other.\n\n\
     Example: typetool screen --at 12.5 demo.script demo.timing\n\n\
     The long form: man typetool";
 
@@ -320,13 +321,16 @@ pub fn help_of<'a>(argument: Argument) -> &'a str {
         Argument::To => "Only chunks that are due by this moment",
         Argument::Until =>
             "Only chunks that are due by this moment; all up to the last, if not given",
-        Argument::CutFrom =>
-            "The moment after which chunks are left out: those that are due at it stay",
-        Argument::CutTo =>
-            "The last moment that is left out: chunks that are due by it go, later ones stay",
-        Argument::KeptFrom =>
-            "The moment after which chunks are kept, and at which the new recording begins; 0, if not given",
-        Argument::KeptTo => "The moment by which chunks are kept; all up to the last, if not given",
+        Argument::CutFrom => {
+            "The moment at which the cut begins: what is due after it is left out, up to --to"
+        }
+        Argument::CutTo => { "The moment at which the cut ends: what is due at it is left out too" }
+        Argument::KeptFrom => {
+            "The moment at which the new recording begins: what is due after it is kept; 0, if not given"
+        }
+        Argument::KeptTo => {
+            "The moment at which the new recording ends: what is due by it is kept; all up to the last, if not given"
+        }
         Argument::Every => {
             "A terminal is kept at every so many chunks, from 1 to 1000000 (100 if not given): fewer chunks \
              between terminals take more memory, and more take longer to go back"
@@ -344,7 +348,7 @@ pub fn help_of<'a>(argument: Argument) -> &'a str {
             "Write a text that draws the screen again on a reset terminal, with renditions and sizes"
         }
         Argument::State => {
-            "Write a text that makes any terminal of this kind and size what it was, in all that it keeps"
+            "Write a text that makes any terminal of this kind and size what this one was at the moment"
         }
         Argument::Last => {
             "Begin at the last line that begins with 'Script started on ', for a typescript that was appended \
