@@ -64,6 +64,7 @@ test:
 		'tests/fuzz.py bin/typetool 2000' \
 		'tests/today_fuzz.py bin/typetool 1000' \
 		'tests/transcripts.py bin/typetool 1000' \
+		'tests/cuts.py bin/typetool 200' \
 		'tests/today_recordings.py bin/typetool' \
 		'tests/linear.py bin/typetool' \
 		'tests/pictures.py bin/typetool' \
@@ -91,6 +92,7 @@ soak: bin/typetool
 		'tests/fuzz.py bin/typetool 20000' \
 		'tests/today_fuzz.py bin/typetool 10000' \
 		'tests/transcripts.py bin/typetool 3000' \
+		'tests/cuts.py bin/typetool 3000' \
 		'tests/archive.py bin/typetool' -- \
 		tests/refused.py -- \
 		tests/edits.sh

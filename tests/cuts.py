@@ -8,8 +8,8 @@ microsecond before them and a microsecond behind them. The new pair has to be th
 the text that `screen --state` writes; and at each moment at which something may change, a microsecond before it and
 behind it, plain terminals (plain_vt100.py, plain_today.py) that are fed what is due of the new recording have to be
 what they are by the old one at its moment: all that they keep, and what becomes of them by more bytes, since what is
-pending shows only then. `screen --escaped` and `reports` have to tell the same of both. No test runs it yet, since
-the program has none of these commands. The last line is 'N passed, M failed'.
+pending shows only then. `screen --escaped` and `reports` have to tell the same of both. The last line
+is 'N passed, M failed'.
 """
 import concurrent.futures
 import functools

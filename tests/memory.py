@@ -80,6 +80,8 @@ COMMANDS = [
     *(([*words, "s", "t"], b"") for words in commands.reading("99", "line 5") if words != ["session"]),
     (["find", "--profile", "xterm", "line 5", "s", "t"], b""),
     (["save", "s", "t", "s2", "t2"], REQUESTS),
+    (["cut", "--from", "0.1", "--to", "0.3", "s", "t", "s2", "t2"], b""),
+    (["excerpt", "--from", "0.3", "--profile", "xterm", "s", "t", "s2", "t2"], b""),
     (["mend", "s", "t", "s2", "t2"], b""),
     (["import", "r", "s2", "t2"], b""),
     (["redact", "line 5", "s", "t", "s2", "t2"], b""),

@@ -444,6 +444,87 @@ check 'a secret in a damaged pair' 3 '' "typetool: typescript ends inside chunk 
 rm -f new.script new.timing
 check 'a secret with a star' 2 '' 'typetool: bad text\n' redact 'a*' nowhere nowhere none none
 check 'a secret with a star, under xterm' 2 '' 'typetool: bad text\n' redact --profile xterm '*' nowhere nowhere none none
+# made NAME WORD..: the words make new.script and new.timing, and nothing is told.
+made() {
+    rm -f new.script new.timing
+    "$program" "${@:2}" new.script new.timing </dev/null >out.txt 2>err.txt
+    verdict "$1" 0 $? '' ''
+}
+
+# delayed NAME DELAYS: the new chunks have these delays.
+delayed() {
+    cut -d' ' -f1 new.timing >delays
+    holds "$1" delays "$2"
+}
+
+printf '%bab\033[2Jc' "$head" >gone.script
+printf '0 2\n1 4\n1 1\n' >gone.timing
+made 'a cut' cut --from 0.5 --to 1.5 gone.script gone.timing
+delayed 'a cut' '0.000000\n0.500000\n0.500000\n'
+check 'before a cut' 0 "$(screen_of ab)" '' screen --at 0.499999 new.script new.timing
+check 'where a cut stands' 0 "$(screen_of '')" '' screen --at 0.5 new.script new.timing
+check 'behind a cut' 0 "$(screen_of '  c')" '' screen --at 1 new.script new.timing
+check 'what a cut asks for' 0 '\n' '' reports --at 1 new.script new.timing
+made 'a cut in which nothing is due' cut --from 1 --to 1.9 gone.script gone.timing
+holds 'a cut in which nothing is due' new.script "$head"'ab\033[2Jc'
+holds 'a cut in which nothing is due' new.timing '0.000000 2\n1.000000 4\n0.100000 1\n'
+made 'a cut that ends where it begins' cut --from 1 --to 1 --profile xterm gone.script gone.timing
+holds 'a cut that ends where it begins' new.script "$head"'ab\033[2Jc'
+holds 'a cut that ends where it begins' new.timing '0.000000 2\n1.000000 4\n1.000000 1\n'
+made 'an excerpt' excerpt --from 1.5 --profile xterm gone.script gone.timing
+delayed 'an excerpt' '0.000000\n0.500000\n'
+check 'at the end of an excerpt' 0 "$(screen_of '  c')" '' screen --at 0.5 --profile xterm new.script new.timing
+made 'an excerpt of a beginning' excerpt --to 1 gone.script gone.timing
+delayed 'an excerpt of a beginning' '0.000000\n1.000000\n'
+full=$(printf 'A%.0s' $(seq 80))
+printf '%b%s\033[?3h\033[1;132HBC' "$head" "$full" >broad.script
+printf '0 80\n1 5\n1 9\n1 1\n' >broad.timing
+made 'an excerpt of 132 columns' excerpt --from 2.5 broad.script broad.timing
+check 'a wrap that is pending' 0 "$(screen_of "$(printf '%131sB' '')\\nC")" '' screen --at 0.5 new.script new.timing
+"$program" screen --state --at 0 broad.script broad.timing >state.txt 2>err.txt
+got=$?
+: >out.txt
+verdict 'a state' 0 $got '' ''
+{ printf '%b\033[7;31' "$head"; cat state.txt; printf C; } >stated.script
+printf '0 %s\n' $(($(wc -c <state.txt) + 6)) >stated.timing
+check 'a state behind what is pending' 0 "$(screen_of "$full\\nC")" '' screen --at 0 stated.script stated.timing
+check 'both texts of a screen' 2 '' 'typetool: --state and --escaped exclude each other\n' \
+    screen --at 0 --escaped --state nowhere nowhere
+rm -f new.script new.timing
+check 'the note of a cut' 0 '' 'typetool: note: size: recorded at 100x30, played at 80x2 (see typetool check)\n' \
+    cut --from 0 --to 1 --profile xterm --size 80x2 sized.script sized.timing new.script new.timing
+rm -f new.script new.timing
+check 'a cut of a damaged pair' 1 '' "typetool: typescript ends inside chunk 1\n$(hint "$keeps")" \
+    cut --from 0 --to 1 aaa.script secret.timing new.script new.timing
+holds 'a cut of a damaged pair' new.script ''
+rm -f new.script new.timing
+check 'a cut over a script that exists' 3 '' "typetool: cannot create there\n$(hint "$exists")" \
+    cut --from 0 --to 1 ab.script ab.timing there new.timing
+holds 'a cut over a script that exists' there 'kept\n'
+absent 'a cut over a script that exists' new.timing
+"$program" cut --from 0 --to 1 ab.script ab.timing new.script new.timing 0>>there >&- 2>err.txt
+got=$?
+: >out.txt
+verdict 'a cut reads no standard input and writes no standard output' 0 $got '' ''
+chmod 640 gone.script
+chmod 404 gone.timing
+made 'the bits of a cut' cut --from 0 --to 1 gone.script gone.timing
+printf '%s\n' '640 new.script' '404 new.timing' >want.bin
+stat -c '%a %n' new.script new.timing >bits
+same_text 'the bits of a cut' bits
+# The state is one chunk more.
+yes '0.000001 0' | head -n 1000000 >many.timing
+rm -f new.script new.timing
+check 'an excerpt of too many chunks' 1 '' "typetool: E4 TooManyChunks\n$stay" \
+    excerpt empty.script many.timing new.script new.timing
+holds 'an excerpt of too many chunks' new.script ''
+holds 'an excerpt of too many chunks' new.timing ''
+absent 'an excerpt of too many chunks' new.script.part
+absent 'an excerpt of too many chunks' new.timing.part
+rm -f new.script new.timing
+status 'a cut of one file' 2 cut --from 0 --to 1 ab.script
+status 'a cut without its end' 2 cut --from 0 ab.script ab.timing none none
+
 check 'both headers' 2 '' 'typetool: --last and --headless exclude each other\n' mend --last --headless nowhere nowhere none none
 status 'mend with a profile' 2 mend --profile vt100 ab.script ab.timing none none
 rm -f new.script new.timing

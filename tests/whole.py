@@ -53,6 +53,10 @@ def mended(script, timing):
     return mend_reader.mend("", script, timing)[:2]
 
 
+def unchanged(script, timing):
+    return plain.save(plain.read(script, timing), b"")
+
+
 def redacted(script, timing):
     return script.replace(b"started on", b"*" * 10), plain.save(plain.read(script, timing), b"")[1]
 
@@ -66,13 +70,14 @@ def imported(file):
 # A job: its name and flags, what it reads from standard input, and the pair that it makes of the old files.
 JOBS = [
     (["save"], EDITS, saved),
+    (["cut", "--from", "1", "--to", "1"], b"", unchanged),
     (["mend"], b"", mended),
     (["import"], b"", imported),
     (["redact", "started on"], b"", redacted),
     (["redact", "--profile", "xterm", "started on"], b"", redacted),
 ]
 # How many chunks a job is killed over; redact looks at the screen after each byte.
-CHUNKS = {"save": 40_000, "mend": 40_000, "import": 40_000, "redact": 4_000}
+CHUNKS = {"save": 40_000, "cut": 40_000, "mend": 40_000, "import": 40_000, "redact": 4_000}
 # The old files, by how many a job reads.
 OLD = {1: ("old.recording",), 2: ("old.script", "old.timing")}
 
